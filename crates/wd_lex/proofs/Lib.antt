@@ -1,0 +1,14 @@
+pub mod MarkLaws
+pub mod RunFacts
+pub mod QuoteFacts
+pub mod CommentFacts
+pub mod SymbolFacts
+pub mod KindFacts
+pub mod Longest
+pub mod SoundReading
+pub mod CompleteReading
+pub mod TextLaws
+pub mod CommentLaw
+pub mod Boundaries
+pub mod NumberFacts
+pub mod Progress

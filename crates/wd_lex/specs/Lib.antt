@@ -1,0 +1,7 @@
+pub mod Marks
+pub mod Characters
+pub mod Pieces
+pub mod Lexed
+pub mod Causes
+pub mod Reading
+pub mod Laws

@@ -1,0 +1,23 @@
+//! Laws of texts and their tokens, over the definitions alone.
+
+ghost use Rattle.wd_lex.specs.Laws.{HasOneListOfTokens, HasOneAnswer, IsLongestFront, CommentsComeFirst};
+
+/// A text has at most one list of tokens.
+pub fn one_list_of_tokens()
+    ensures { HasOneListOfTokens }
+{}
+
+/// A text has at most one answer: one list of tokens, or one refusal at one place.
+pub fn one_answer()
+    ensures { HasOneAnswer }
+{}
+
+/// A piece is the longest front of what it begins that is a piece.
+pub fn longest_front()
+    ensures { IsLongestFront }
+{}
+
+/// Where `--` or `/*` begins a piece, the piece is a comment.
+pub fn comments_come_first()
+    ensures { CommentsComeFirst }
+{}

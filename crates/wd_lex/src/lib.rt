@@ -1,0 +1,16 @@
+//! Cuts SQL texts into tokens.
+#![tactic(auto)]
+
+mod characters;
+mod error;
+pub mod laws;
+mod lexer;
+mod marks;
+mod pieces;
+#[cfg(test)]
+mod tests;
+mod token;
+
+pub use error::LexError;
+pub use lexer::lex;
+pub use token::{Mark, Span, Token, TokenKind};

@@ -1,0 +1,5 @@
+pub mod Agreeing
+pub mod ChoiceLaws
+pub mod KeyLaws
+pub mod SortLaws
+pub mod Examples

@@ -1,0 +1,28 @@
+use wd_value::{ColumnType, Text};
+
+/// A column of a table.
+#[derive(Debug, Drop)]
+pub struct Column {
+    pub name: Text,
+    pub kind: ColumnType,
+    /// Whether no NULL may stand here. True of the columns of the primary key, too.
+    pub not_null: bool,
+}
+
+/// A key of a table: no two of its rows may be the same on these columns.
+#[derive(Debug, Drop)]
+pub struct Key {
+    /// The numbers of the columns, from 0.
+    pub columns: Vec<u16>,
+    pub primary: bool,
+    /// Whether rows with a NULL in the key are never the same on it.
+    pub nulls_distinct: bool,
+}
+
+/// A table of a schema.
+#[derive(Debug, Drop)]
+pub struct Table {
+    pub name: Text,
+    pub columns: Vec<Column>,
+    pub keys: Vec<Key>,
+}

@@ -1,0 +1,6 @@
+pub mod Fields
+pub mod Data
+pub mod Causes
+pub mod Answers
+pub mod Reading
+pub mod Keys

@@ -1,0 +1,69 @@
+-- Where a reader stands in a CSV text.
+use Rattle.std.specs.Prelude.{◌≡◌, ℕ, zero, suc, ◌+◌, ◌<◌, ◌≤◌, true, false, List, length, map, Option, Some, None}
+use Rattle.std.specs.Borrow.{Bor}
+use Rattle.csv.specs.Reading.{Reached, Ready, default_config, expected_len, is_flexible, reader_config, reader_state, reader_trim, source_of, strip_bom}
+use Rattle.csv.specs.Records.{AllText}
+use Rattle.csv.specs.declared.parser.State.TheVariants as st
+use Rattle.csv.specs.declared.reader.Reader.{Reader}
+use Rattle.csv.specs.declared.reader.Trim.TheVariants as trim
+use Rattle.csv.specs.declared.error.ErrorKind.{ErrorKind}
+use Rattle.csv.specs.declared.error.ErrorKind.TheVariants as kind
+use Rattle.wd_tables.specs.declared.error.DataError.{DataError}
+use Rattle.wd_tables.specs.declared.error.DataError.TheVariants.{Malformed, OutOfMemory}
+use Rattle.wd_value.specs.Rows.{Row, row_at}
+use Rattle.wd_schema.specs.declared.table.Column.{Column}
+use Rattle.wd_schema.specs.Meets.{fits_columns}
+use Rattle.wd_tables.specs.Data.{NamesEachOnce, header_of, place_of, record_at, records_of, values_in}
+
+-- after the first record each further one must have its length
+abbrev pub length_after : List ℕ → ℕ → Option ℕ
+length_after text zero = None
+length_after text (suc n) = Some (length (header_of text))
+
+-- the reader has read so many records of the text, and reads on with the default settings
+pub record HasRead (text : List ℕ) (n : ℕ) (reader : Reader (Bor (List ℕ))) : Type 0 where
+  pub config : reader_config reader ≡ default_config
+  pub trim : reader_trim reader ≡ trim.None
+  pub strict : is_flexible reader ≡ false
+  pub ready : Ready reader
+  pub expected : expected_len reader ≡ length_after text n
+  pub before : List (List (List ℕ))
+  pub count : length before ≡ n
+  pub rest : List ℕ
+  pub source : source_of (λ s. Some s.now) reader ≡ Some rest
+  pub reached : Reached default_config st.StartRecord (strip_bom text) before (reader_state reader) rest
+
+-- the text has a record with this number, which has these fields in UTF-8, as many as the header
+pub record IsRecord (text : List ℕ) (n : ℕ) (fields : List (List ℕ)) : Type 0 where
+  pub within : n < length (records_of text)
+  pub same : record_at text n ≡ fields
+  pub encoded : AllText fields
+  pub even : length fields ≡ length (header_of text)
+
+-- how a failed read of a slice is answered: by 705 for its records, and else as want of memory, since a slice can't fail
+abbrev pub refusal_of : ErrorKind → DataError
+refusal_of (kind.UnequalLengths pos expected len) = Malformed
+refusal_of (kind.Utf8 pos err) = Malformed
+refusal_of (kind.Io e) = OutOfMemory
+refusal_of kind.OutOfMemory = OutOfMemory
+refusal_of (kind.Serialize text) = OutOfMemory
+refusal_of (kind.Deserialize pos err) = OutOfMemory
+
+-- the header names each column once, and the first n records under it hold these rows, which fit the columns
+pub record HoldsFirst (columns : List Column) (text : List ℕ) (n : ℕ) (rows : List Row) : Type 0 where
+  pub names : NamesEachOnce columns (header_of text)
+  pub count : length rows ≡ n
+  pub records : (k : ℕ) → k ≤ n → AllText (record_at text k) × (length (record_at text k) ≡ length (header_of text))
+  pub values : (k : ℕ) → k < n → values_in columns (header_of text) (record_at text (k + 1)) ≡ map (λ v. Some v) (row_at rows k)
+  pub fits : (k : ℕ) → k < n → fits_columns columns (row_at rows k) ≡ true
+
+-- the places at which the header of the text has the names of the columns
+abbrev pub HasPlaces : List Column → List ℕ → List ℕ → Type 0
+HasPlaces columns text places = places ≡ map (λ column. place_of (header_of text) column.name) columns
+
+-- the record with this number holds the row, which fits the columns
+pub record HoldsRecord (columns : List Column) (text : List ℕ) (n : ℕ) (row : Row) : Type 0 where
+  pub fields : List (List ℕ)
+  pub read : IsRecord text n fields
+  pub values : values_in columns (header_of text) fields ≡ map (λ v. Some v) row
+  pub fits : fits_columns columns row ≡ true

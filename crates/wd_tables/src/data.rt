@@ -1,0 +1,120 @@
+ghost use Rattle.std.specs.Prelude.{◌≡◌, ◌+◌, ◌<◌, ℕ, List, [], true, length, All, IfOk, IfErr, MatchOption};
+ghost use Rattle.wd_schema.specs.Meets.{MeetsTable, fits_columns};
+ghost use Rattle.wd_schema.specs.Tables.{table_of};
+ghost use Rattle.wd_tables.specs.Causes.{HasCause};
+ghost use Rattle.wd_tables.specs.Data.{HoldsRows, records_of};
+ghost use Rattle.wd_tables.specs.Reading.{HasPlaces, HasRead, HoldsFirst, HoldsRecord};
+ghost use Rattle.wd_value.specs.Rows.{rows_of};
+
+use crate::error::DataError;
+use crate::header::places_of;
+use crate::key::first_repeat;
+use crate::record::next_record;
+use crate::row::row_of;
+use csv::{Reader, ReaderBuilder, StringRecord};
+use std::alloc::Global;
+use wd_schema::Table;
+use wd_value::Row;
+
+/// The most records that may follow the header.
+const MOST_RECORDS: u64 = 1_000_000;
+
+/// The rows of a table, from CSV text whose first record names each column of the table once, in
+/// any order. A leading byte order mark is passed over. A whole number is digits, with or without
+/// a minus before them, within the range of the column's type; a truth value is `t`, `f`, `true`
+/// or `false` in any ASCII case; an empty field is NULL, and in a NOT NULL column of texts the
+/// empty text. Records are judged in order, fields in the header's order, and the keys last (this
+/// project's choice).
+pub fn load(alloc: Global, table: &Table, text: &[u8]) -> Result<Vec<Row>, DataError>
+    ensures holds { IfOk result (λ v. HoldsRows (table_of table.now) text.now (rows_of v.items)) }
+    ensures meets { IfOk result (λ v. MeetsTable (table_of table.now) (rows_of v.items)) }
+    ensures refused { IfErr result (λ e. HasCause (table_of table.now) text.now e) }
+{
+    let rows = read_rows(alloc, table, text)?;
+    match first_repeat(alloc, &table.keys, &rows)? {
+        Some(position) => Err(DataError::Key {
+            record: position as u64 + 1,
+        }),
+        None => Ok(rows),
+    }
+}
+
+// The rows of a table, which may repeat a key.
+fn read_rows(alloc: Global, table: &Table, text: &[u8]) -> Result<Vec<Row>, DataError>
+    ensures holds { IfOk result (λ v. HoldsRows (table_of table.now) text.now (rows_of v.items)) }
+    ensures fits { IfOk result (λ v. All (λ row. fits_columns table.now.columns.items row ≡ true) (rows_of v.items)) }
+    ensures refused { IfErr result (λ e. HasCause (table_of table.now) text.now e) }
+{
+    let mut reader = ReaderBuilder::new()
+        .has_headers(false)
+        .from_reader(alloc, text);
+    let rows = read_all(alloc, table, &mut reader)?;
+    Ok(rows)
+}
+
+fn read_all(
+    alloc: Global,
+    table: &Table,
+    reader: &mut Reader<&[u8]>,
+) -> Result<Vec<Row>, DataError>
+    ensures holds { (text : List ℕ) → HasRead text 0 reader.old → IfOk result (λ v. HoldsRows (table_of table.now) text (rows_of v.items)) }
+    ensures fits { (text : List ℕ) → HasRead text 0 reader.old → IfOk result (λ v. All (λ row. fits_columns table.now.columns.items row ≡ true) (rows_of v.items)) }
+    ensures refused { (text : List ℕ) → HasRead text 0 reader.old → IfErr result (λ e. HasCause (table_of table.now) text e) }
+{
+    let mut fields = StringRecord::new(alloc);
+    let headed = next_record(reader, &mut fields)?;
+    if !headed {
+        return Err(DataError::Header);
+    }
+    let places = places_of(alloc, &table.columns, &fields)?;
+    let rows = read_data(alloc, table, &places, reader, &mut fields)?;
+    Ok(rows)
+}
+
+// The rows of the records that follow the header.
+fn read_data(
+    alloc: Global,
+    table: &Table,
+    places: &[usize],
+    reader: &mut Reader<&[u8]>,
+    fields: &mut StringRecord,
+) -> Result<Vec<Row>, DataError>
+    requires { length places.now ≡ length table.now.columns.items }
+    ensures holds { (text : List ℕ) → HasRead text 1 reader.old → HasPlaces table.now.columns.items text places.now → HoldsFirst table.now.columns.items text 0 [] → IfOk result (λ v. HoldsRows (table_of table.now) text (rows_of v.items)) }
+    ensures fits { (text : List ℕ) → HasRead text 1 reader.old → HasPlaces table.now.columns.items text places.now → HoldsFirst table.now.columns.items text 0 [] → IfOk result (λ v. All (λ row. fits_columns table.now.columns.items row ≡ true) (rows_of v.items)) }
+    ensures refused { (text : List ℕ) → HasRead text 1 reader.old → HasPlaces table.now.columns.items text places.now → HoldsFirst table.now.columns.items text 0 [] → IfErr result (λ e. HasCause (table_of table.now) text e) }
+{
+    let mut rows = Vec::new(alloc);
+    for before in 0..MOST_RECORDS {
+        match next_row(alloc, table, places, reader, fields, before + 1)? {
+            Some(row) => rows.push(row)?,
+            None => return Ok(rows),
+        }
+    }
+    let more = next_record(reader, fields)?;
+    if more {
+        return Err(DataError::TooManyRecords);
+    }
+    Ok(rows)
+}
+
+// The row of the next record, if there is one. The number is its own.
+fn next_row(
+    alloc: Global,
+    table: &Table,
+    places: &[usize],
+    reader: &mut Reader<&[u8]>,
+    fields: &mut StringRecord,
+    number: u64,
+) -> Result<Option<Row>, DataError>
+    requires { length places.now ≡ length table.now.columns.items }
+    ensures read { (text : List ℕ) → HasRead text number reader.old → HasPlaces table.now.columns.items text places.now → IfOk result (λ o. MatchOption o (length (records_of text) ≡ number) (λ row. HasRead text (number + 1) reader.new × HoldsRecord table.now.columns.items text number row.items)) }
+    ensures refused { (text : List ℕ) → HasRead text number reader.old → HasPlaces table.now.columns.items text places.now → 0 < number → IfErr result (λ e. HasCause (table_of table.now) text e) }
+{
+    let found = next_record(reader, fields)?;
+    if !found {
+        return Ok(None);
+    }
+    let row = row_of(alloc, &table.columns, places, fields, number)?;
+    Ok(Some(row))
+}

@@ -1,0 +1,85 @@
+ghost use Rattle.std.specs.Prelude.{◌≡◌, [], IfOk, option_and_then};
+ghost use Rattle.wd_schema.specs.Meets.{is_of_type};
+ghost use Rattle.wd_tables.specs.Fields as spec;
+ghost use Rattle.wd_value.specs.declared.value.Value.TheVariants as values;
+
+use std::alloc::Global;
+use wd_schema::Column;
+use wd_value::{ColumnType, OutOfMemory, Text, Value};
+
+/// The value that a field denotes in a column, if it denotes one.
+pub fn field_value(
+    alloc: Global,
+    column: &Column,
+    field: &str,
+) -> Result<Option<Value>, OutOfMemory>
+    ensures { IfOk result (λ o. o ≡ spec.field_value column.now field.now) }
+{
+    if field.is_empty() {
+        return Ok(Some(empty_value(alloc, column)?));
+    }
+    let value = match column.kind {
+        ColumnType::Text => Some(Value::Text(Text::from_str(alloc, field)?)),
+        ColumnType::Boolean => truth_value(field).map(Value::Bool),
+        kind => number_value(kind, field),
+    };
+    Ok(value)
+}
+
+// NULL, and in a NOT NULL column of texts the empty text.
+fn empty_value(alloc: Global, column: &Column) -> Result<Value, OutOfMemory>
+    ensures { IfOk result (λ v. Some v ≡ spec.field_value column.now []) }
+{
+    if column.not_null && column.kind == ColumnType::Text {
+        Ok(Value::Text(Text::from_str(alloc, "")?))
+    } else {
+        Ok(Value::Null)
+    }
+}
+
+// `t`, `f`, `true` or `false` in any ASCII case.
+fn truth_value(field: &str) -> Option<bool>
+    ensures { result ≡ spec.truth_value field.now }
+{
+    if field.eq_ignore_ascii_case("t") || field.eq_ignore_ascii_case("true") {
+        Some(true)
+    } else if field.eq_ignore_ascii_case("f") || field.eq_ignore_ascii_case("false") {
+        Some(false)
+    } else {
+        None
+    }
+}
+
+// Digits, with or without a minus before them, that write a number in the type's range.
+fn number_value(kind: ColumnType, field: &str) -> Option<Value>
+    ensures { result ≡ option_and_then (spec.number_in kind) (spec.whole_number field.now) }
+{
+    if field.starts_with('+') {
+        return None;
+    }
+    match field.parse::<i64>() {
+        Ok(number) => number_in(kind, number),
+        Err(_) => None,
+    }
+}
+
+fn number_in(kind: ColumnType, number: i64) -> Option<Value>
+    ensures { result ≡ spec.number_in kind number }
+{
+    if is_in_range(kind, number) {
+        Some(Value::Int(number))
+    } else {
+        None
+    }
+}
+
+fn is_in_range(kind: ColumnType, number: i64) -> bool
+    ensures { result ≡ is_of_type kind (values.Int number) }
+{
+    match kind {
+        ColumnType::SmallInt => i16::MIN as i64 <= number && number <= i16::MAX as i64,
+        ColumnType::Integer => i32::MIN as i64 <= number && number <= i32::MAX as i64,
+        ColumnType::BigInt => true,
+        ColumnType::Text | ColumnType::Boolean => false,
+    }
+}

@@ -1,0 +1,17 @@
+//! The rows of a table from CSV text, and an answer's rows as CSV text.
+#![tactic(auto)]
+
+mod answer;
+mod data;
+mod error;
+mod field;
+mod header;
+mod key;
+mod record;
+mod row;
+#[cfg(test)]
+mod tests;
+
+pub use answer::answer_text;
+pub use data::load;
+pub use error::DataError;

@@ -1,0 +1,44 @@
+ghost use Rattle.std.specs.Prelude.{◌≡◌, ◌+◌, ℕ, List, [], length, slice_index_or, IfOk, IfErr};
+ghost use Rattle.std.specs.Bool.{MatchBool};
+ghost use Rattle.csv.specs.Records.{fields_of};
+ghost use Rattle.wd_schema.specs.Tables.{TableRule};
+ghost use Rattle.wd_tables.specs.Causes.{HasCause};
+ghost use Rattle.wd_tables.specs.Data.{records_of};
+ghost use Rattle.wd_tables.specs.Reading.{HasRead, IsRecord, refusal_of};
+
+use crate::error::DataError;
+use csv::{ErrorKind, Reader, StringRecord};
+
+/// Reads the next record of a text in place of the one before, and says whether there was one.
+pub fn next_record(reader: &mut Reader<&[u8]>, fields: &mut StringRecord) -> Result<bool, DataError>
+    ensures read { (text : List ℕ) (n : ℕ) → HasRead text n reader.old → IfOk result (λ found. MatchBool found (HasRead text (n + 1) reader.new × IsRecord text n (fields_of fields.new)) (length (records_of text) ≡ n)) }
+    ensures refused { (text : List ℕ) (n : ℕ) → HasRead text n reader.old → IfErr result (λ e. (table : TableRule) → HasCause table text e) }
+{
+    match reader.read_record(fields) {
+        Ok(found) => Ok(found),
+        Err(error) => Err(refusal(error.into_kind())),
+    }
+}
+
+// A read of a slice fails for its records or for want of memory alone.
+fn refusal(kind: ErrorKind) -> DataError
+    ensures { result ≡ refusal_of kind }
+{
+    match kind {
+        ErrorKind::UnequalLengths { .. } | ErrorKind::Utf8 { .. } => DataError::Malformed,
+        ErrorKind::Io(_)
+        | ErrorKind::OutOfMemory
+        | ErrorKind::Serialize(_)
+        | ErrorKind::Deserialize { .. } => DataError::OutOfMemory,
+    }
+}
+
+/// The field at a place, and the empty one past the last.
+pub fn field_at(fields: &StringRecord, place: usize) -> &str
+    ensures { result.now ≡ slice_index_or (fields_of fields.now) place [] }
+{
+    match fields.get(place) {
+        Some(field) => field,
+        None => "",
+    }
+}

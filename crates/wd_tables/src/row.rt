@@ -1,0 +1,88 @@
+ghost use Rattle.std.specs.Prelude.{◌≡◌, ℕ, List, true, length, map, Some, IfOk, IfErr};
+ghost use Rattle.csv.specs.Records.{fields_of};
+ghost use Rattle.wd_schema.specs.Meets.{fits_columns, may_hold};
+ghost use Rattle.wd_schema.specs.Meets as meets;
+ghost use Rattle.wd_tables.specs.Causes.{RefusesField, RefusesRecord};
+ghost use Rattle.wd_tables.specs.Data.{place_of, values_in};
+ghost use Rattle.wd_tables.specs.Fields as spec;
+
+use crate::error::DataError;
+use crate::field::field_value;
+use crate::record::field_at;
+use csv::StringRecord;
+use std::alloc::Global;
+use wd_schema::Column;
+use wd_value::{Row, Value};
+
+/// The row of a record, whose field for each column stands at the column's place.
+pub fn row_of(
+    alloc: Global,
+    columns: &[Column],
+    places: &[usize],
+    fields: &StringRecord,
+    number: u64,
+) -> Result<Row, DataError>
+    requires { length places.now ≡ length columns.now }
+    ensures values { (header : List (List ℕ)) → places.now ≡ map (λ column. place_of header column.name) columns.now → IfOk result (λ r. values_in columns.now header (fields_of fields.now) ≡ map (λ v. Some v) r.items) }
+    ensures fits { IfOk result (λ r. fits_columns columns.now r.items ≡ true) }
+    ensures refused { (header : List (List ℕ)) → places.now ≡ map (λ column. place_of header column.name) columns.now → IfErr result (λ e. RefusesRecord columns.now header (fields_of fields.now) number e) }
+{
+    let mut row = Vec::with_capacity(alloc, columns.len())?;
+    for c in 0..columns.len() {
+        match value_of(alloc, &columns[c], field_at(fields, places[c]), number) {
+            Ok(value) => row.push(value)?,
+            Err(refusal) => {
+                refuse_first(alloc, columns, places, fields, number)?;
+                return Err(refusal);
+            }
+        }
+    }
+    Ok(row)
+}
+
+// Refuses a record for the first of its fields that is refused.
+fn refuse_first(
+    alloc: Global,
+    columns: &[Column],
+    places: &[usize],
+    fields: &StringRecord,
+    number: u64,
+) -> Result<(), DataError>
+    requires { length places.now ≡ length columns.now }
+    ensures { (header : List (List ℕ)) → places.now ≡ map (λ column. place_of header column.name) columns.now → IfErr result (λ e. RefusesRecord columns.now header (fields_of fields.now) number e) }
+{
+    for place in 0..fields.len() {
+        for c in 0..columns.len() {
+            if places[c] == place {
+                value_of(alloc, &columns[c], field_at(fields, places[c]), number)?;
+            }
+        }
+    }
+    Ok(())
+}
+
+// The value of a field of a record in a column.
+fn value_of(
+    alloc: Global,
+    column: &Column,
+    field: &str,
+    number: u64,
+) -> Result<Value, DataError>
+    ensures value { IfOk result (λ v. spec.field_value column.now field.now ≡ Some v) }
+    ensures held { IfOk result (λ v. may_hold column.now v ≡ true) }
+    ensures refused { IfErr result (λ e. RefusesField column.now field.now number e) }
+{
+    let Some(value) = field_value(alloc, column, field)? else {
+        return Err(DataError::Value { record: number });
+    };
+    if column.not_null && is_null(&value) {
+        return Err(DataError::Null { record: number });
+    }
+    Ok(value)
+}
+
+fn is_null(value: &Value) -> bool
+    ensures { result ≡ meets.is_null value.now }
+{
+    matches!(value, Value::Null)
+}

@@ -1,0 +1,4 @@
+pub mod Perms
+pub mod SameLaws
+pub mod OrderLaws
+pub mod Bags

@@ -1,0 +1,5 @@
+pub mod Values
+pub mod Order
+pub mod Rows
+pub mod Bags
+pub mod Laws

@@ -1,0 +1,17 @@
+//! SQL values and rows, their order, and lists of rows with each row equally often.
+#![tactic(auto)]
+
+mod bag;
+pub mod laws;
+mod order;
+mod rows;
+#[cfg(test)]
+mod tests;
+mod text;
+mod value;
+
+pub use bag::same_bag;
+pub use order::{SortKey, compare};
+pub use rows::copy_row;
+pub use text::Text;
+pub use value::{ColumnType, Fault, Instance, OutOfMemory, Row, Value, same};

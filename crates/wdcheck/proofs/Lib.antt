@@ -1,0 +1,6 @@
+pub mod EvaluationLemmas
+pub mod SortLemmas
+pub mod SyntaxLemmas
+pub mod FilesLemmas
+pub mod CommandLineLemmas
+pub mod OutputLemmas

@@ -1,0 +1,7 @@
+use Rattle.std.proofs.Common.{◌≡◌, take, map}
+use Rattle.wd_value.specs.Rows.{rows_of}
+use Rattle.wdcheck.specs.Evaluation.{plain_row}
+use Rattle.wdcheck.proofs.evaluate.mapped_rows.Given as goal
+
+abbrev pub invariant-loop-row : goal.invariant-loop-row
+invariant-loop-row l = rows_of l.mapped.items ≡ map (plain_row l.outputs) (rows_of (take l.row-index l.rows))

@@ -1,0 +1,14 @@
+pub mod Evaluation
+pub mod Grammar
+pub mod Meaning
+pub mod Placing
+pub mod Runs
+pub mod Causes
+pub mod Files
+pub mod Machine
+pub mod Memory
+pub mod CommandLine
+pub mod Words
+pub mod Commands
+pub mod Inputs
+pub mod Statuses

@@ -1,0 +1,30 @@
+-- What the words of the command line ask for.
+use Rattle.std.specs.Prelude.{◌≡◌, ◌≢◌, ℕ, List, [], ◌∷◌, ◌++◌, map, codes, All, Contains, ⊤}
+use Rattle.wdcheck.specs.declared.words.RunWords.{RunWords}
+use Rattle.wdcheck.specs.declared.words.Assignment.{Assignment}
+
+-- a word that does not begin with a hyphen
+abbrev pub IsPlain : List ℕ → Type 0
+IsPlain [] = ⊤
+IsPlain (byte ∷ rest) = byte ≢ 45
+
+-- the words of `run`: the paths of the schema and the query, and the words NAME=PATH
+abbrev pub run_line : List ℕ → List ℕ → List (List ℕ) → List (List ℕ)
+run_line schema query tables = codes "run" ∷ schema ∷ query ∷ tables
+
+-- the words are those of `run`, where none begins with a hyphen; others are read as `clap` reads them
+abbrev pub AreWordsOf : List (List ℕ) → RunWords → Type 0
+AreWordsOf words given = All IsPlain words → words ≡ run_line given.schema.now given.query.now (map (λ w. w.now) given.tables.items)
+
+-- the word NAME=PATH
+abbrev pub word_of : List ℕ → List ℕ → List ℕ
+word_of name path = name ++ 61 ∷ path
+
+-- the text has no `=`, so that it is what stands before the first one
+abbrev pub HasNoEquals : List ℕ → Type 0
+HasNoEquals text = ¬ (Contains text 61)
+
+-- the words, each cut at its first `=`
+pub record AreCut (words : List (List ℕ)) (assignments : List Assignment) : Type 0 where
+  pub joined : words ≡ map (λ a. word_of a.name.now a.path.now) assignments
+  pub first : All (λ a. HasNoEquals a.name.now) assignments

@@ -1,0 +1,62 @@
+//! Checks whether a SQL query with window functions has one answer, whatever order the database
+//! gives to rows that tie.
+#![tactic(auto)]
+
+mod command;
+#[cfg(test)]
+mod command_tests;
+mod evaluate;
+mod failure;
+mod files;
+mod inputs;
+mod memory;
+mod query;
+mod run;
+mod schema;
+mod sort;
+mod syntax;
+mod words;
+
+use command::command;
+use failure::{Failure, report};
+use files::MachineFiles;
+use std::alloc::Global;
+use std::env;
+use std::io::ErrorKind;
+use std::process::ExitCode;
+use std::rt::Env;
+
+fn main(rt: HostRuntime) -> ExitCode {
+    let status = match run_program(&rt) {
+        Ok(status) => status,
+        Err(failure) => report(&failure, &mut rt.stderr()),
+    };
+    ExitCode::from(status)
+}
+
+// Runs the program on its words, the machine's files and the standard streams.
+fn run_program(rt: &HostRuntime) -> Result<u8, Failure<'static>> {
+    let arguments = arguments(rt)?;
+    let words = texts(rt.alloc(), arguments.as_slice())?;
+    let mut files = MachineFiles::new(rt);
+    Ok(command(
+        rt.alloc(),
+        words.as_slice(),
+        &mut files,
+        &mut rt.stdout(),
+        &mut rt.stderr(),
+    ))
+}
+
+// The words after the program's own name.
+fn arguments(rt: &(impl Env + AllocGlobal)) -> Result<Vec<String>, Failure<'static>> {
+    match env::args(rt) {
+        Ok(words) => Ok(words.skip(1).collect(rt.alloc())?),
+        Err(error) if error.kind() == ErrorKind::OutOfMemory => Err(Failure::OutOfMemory),
+        Err(_) => Err(Failure::NotText),
+    }
+}
+
+fn texts<'a>(alloc: Global, words: &'a [String]) -> Result<Vec<&'a str>, Failure<'static>> {
+    Ok(words.iter().map(|word| word.as_str()).collect(alloc)?)
+}
