@@ -1,10 +1,10 @@
 -- What `clap` makes of words of which none begins with a hyphen.
-use Rattle.std.proofs.Common.{arith, ◌≡◌, ◌≢◌, ◌∙◌, ◌<◌, ◌==◌, ℕ, Bool, true, false, zero, suc, List, [], ◌∷◌, ◌++◌, map, length, Option, Some, None, codes, refl, sym, ap, ap₂, subst, ne_eqb, append_assoc, append-nil}
+use Rattle.std.proofs.Common.{arith, ◌≡◌, ◌∙◌, ◌==◌, ℕ, Bool, true, false, suc, List, [], ◌∷◌, ◌++◌, Option, Some, None, codes, refl, sym, ap, ap₂, subst, ne_eqb, append_assoc, append-nil}
 use Rattle.std.specs.Prelude.{fold, is_some, slice_get}
 use Rattle.std.specs.List.{All}
 use Rattle.std.specs.Option.{unwrap_or}
 use lib.Pointwise.{bytes_decides}
-use Rattle.clap.specs.Walk.{Held, Names, Row, Rule, Step, Text, Walk, Waiting, action_of, after_step, all_of, finished, first_of, idle, nothing_held, plain_word, positional, reading_by, rows_after, settled, subcommand_met, value, walk, walk_from, walked, word_met}
+use Rattle.clap.specs.Walk.{Held, Names, Row, Rule, Step, Text, Walk, Waiting, after_step, all_of, finished, first_of, idle, nothing_held, plain_word, positional, reading_by, rows_after, settled, subcommand_met, value, walk, walk_from, walked, word_met}
 use Rattle.clap.specs.Lexer.{long_of, short_of}
 use Rattle.std.specs.Str.{bytes_eq}
 use Rattle.clap.specs.Simple.{App, Shape, built, entered, names_of, subcommand_of}

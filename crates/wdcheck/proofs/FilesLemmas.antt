@@ -1,5 +1,5 @@
 -- What was handed over by several reads.
-use Rattle.std.proofs.Common.{◌≡◌, ◌∙◌, ◌++◌, List, [], Option, Some, None, refl, ap, append_assoc, append-nil, sym}
+use Rattle.std.proofs.Common.{◌∙◌, ◌++◌, List, [], Option, Some, None, ap, append_assoc, append-nil, sym}
 use Rattle.wdcheck.specs.Files.{File, HandsOver}
 
 pub HandsOver-trans : (before middle after : Option (List File)) (files more : List File) → HandsOver before middle files → HandsOver middle after more

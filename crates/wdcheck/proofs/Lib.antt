@@ -3,4 +3,3 @@ pub mod SortLemmas
 pub mod SyntaxLemmas
 pub mod FilesLemmas
 pub mod CommandLineLemmas
-pub mod OutputLemmas

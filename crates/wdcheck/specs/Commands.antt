@@ -1,6 +1,7 @@
 -- What the program's output is, for the words of its command line and the files that it was handed.
-use Rattle.std.specs.Prelude.{◌≡◌, ℕ, List, [], ◌∷◌, ◌++◌, map, codes, All, Ok}
+use Rattle.std.specs.Prelude.{◌≡◌, ℕ, List, [], ◌∷◌, ◌++◌, map, codes, All, Ok, Err}
 use Rattle.wd_value.specs.Rows.{Row}
+use Rattle.wd_value.specs.declared.value.Fault.{Fault}
 use Rattle.wd_tables.specs.Answers.{answer_text}
 use Rattle.wdcheck.specs.Files.{File}
 use Rattle.wdcheck.specs.Runs.{IsAnswer}
@@ -46,6 +47,12 @@ pub record IsAnswerText (inputs : Inputs) (text : List ℕ) : Type 0 where
   pub rows : List Row
   pub answer : IsAnswer inputs.schema.1 inputs.query.1 (data_in inputs.tables) names (Ok rows)
   pub spelled : text ≡ answer_text names rows
+
+-- the query faults over the data
+pub record HasFault (inputs : Inputs) : Type 0 where
+  pub names : List (List ℕ)
+  pub fault : Fault
+  pub answer : IsAnswer inputs.schema.1 inputs.query.1 (data_in inputs.tables) names (Err fault)
 
 -- the output for the words of `run`, when these files were handed over
 pub record IsRunOutput (words : List (List ℕ)) (files : List File) (text : List ℕ) : Type 0 where

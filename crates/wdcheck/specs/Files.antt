@@ -1,5 +1,5 @@
 -- What reads of files hand over, and how many of them failed.
-use Rattle.std.specs.Prelude.{◌≡◌, ℕ, List, [], ◌++◌, Option, Some, None, Result, Ok, Err, ⊤}
+use Rattle.std.specs.Prelude.{◌≡◌, ℕ, List, ◌++◌, Option, Some, None, Result, Ok, Err, ⊤}
 use Rattle.wdcheck.specs.declared.files.ReadFault.{ReadFault}
 use Rattle.wdcheck.specs.declared.files.ReadFault.TheVariants.{Failed, OutOfMemory}
 

@@ -1,5 +1,5 @@
 -- How contracts see what the code has read.
-use Rattle.std.specs.Prelude.{ℕ, List, map}
+use Rattle.std.specs.Prelude.{map}
 use Rattle.wdcheck.specs.Commands.{Inputs as InputFiles, TableFile as TableData}
 use Rattle.wdcheck.specs.declared.inputs.Inputs.{Inputs}
 use Rattle.wdcheck.specs.declared.inputs.InputFile.{InputFile}

@@ -1,6 +1,5 @@
 -- What contracts see of files in memory.
-use Rattle.std.specs.Prelude.{ℕ, List, [], map, slice_index_or, Option, Some, None}
-use Rattle.std.specs.Borrow.{Bor}
+use Rattle.std.specs.Prelude.{ℕ, List, [], map, slice_index_or}
 use Rattle.wdcheck.specs.Files.{File}
 use Rattle.wdcheck.specs.Runs.{data_of}
 use Rattle.wdcheck.specs.declared.memory.MemoryFiles.{MemoryFiles}

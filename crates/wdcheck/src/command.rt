@@ -2,11 +2,11 @@
 
 ghost use Rattle.std.specs.Prelude.{◌≡◌, ◌≢◌, ◌-◌, ◌^◌, ◌<◌, ℕ, List, [], map, take, OnOk, IfOk, IfErr, length};
 ghost use Rattle.std.specs.Io.KnownBytes.{Appends};
-ghost use Rattle.wdcheck.specs.Commands.{IsOutput, IsAnswerText, data_in};
+ghost use Rattle.wdcheck.specs.Commands.{HasFault, IsOutput, IsAnswerText, data_in};
 ghost use Rattle.wdcheck.specs.Inputs.{inputs_of, table_of};
 ghost use Rattle.wdcheck.specs.Runs.{data_of};
 ghost use Rattle.wdcheck.specs.Files.{File, HandsOver};
-ghost use Rattle.wdcheck.specs.Statuses.{Fails, Succeeds, status_of};
+ghost use Rattle.wdcheck.specs.Statuses.{EndsInFault, Fails, Succeeds, status_of};
 
 use crate::failure::{Failure, report};
 use crate::files::Files;
@@ -45,7 +45,6 @@ pub fn command<F: Files, O: Write, E: Write>(
         Err(failure) => report(&failure, err),
     }
 }
-
 
 // Writes the output for the words.
 fn write_output<'a, F: Files, O: Write>(
@@ -97,20 +96,22 @@ fn output<'a, F: Files>(
     files: &mut F,
 ) -> Result<Vec<u8>, Failure<'a>>
     requires { F.failures files.old < 2 ^ 64 - 1 }
-    ensures { IfOk result (λ text. (handed : List File) × HandsOver (F.handed files.old) (F.handed files.new) handed
+    ensures ok { IfOk result (λ text. (handed : List File) × HandsOver (F.handed files.old) (F.handed files.new) handed
         × IsOutput (map (λ w. w.now) words.now) handed text.items) }
+    ensures err { IfErr result (λ failure. status_of failure ≡ 4
+        → EndsInFault (map (λ w. w.now) words.now) (F.handed files.old) (F.handed files.new)) }
 {
     if words.is_empty() {
         return Ok(Vec::from_slice(alloc, USAGE.as_bytes())?);
     }
     let inputs = read_inputs(alloc, files, words)?;
-    let text = answer(alloc, &inputs)?;
-    Ok(text)
+    answer(alloc, &inputs)
 }
 
 // The text of the answer to the query over the data.
 fn answer<'a>(alloc: Global, inputs: &Inputs<'a>) -> Result<Vec<u8>, Failure<'a>>
-    ensures { IfOk result (λ text. IsAnswerText (inputs_of inputs.now) text.items) }
+    ensures ok { IfOk result (λ text. IsAnswerText (inputs_of inputs.now) text.items) }
+    ensures err { IfErr result (λ failure. status_of failure ≡ 4 → HasFault (inputs_of inputs.now)) }
 {
     let data = data(alloc, inputs.tables.as_slice())?;
     let schema = inputs.schema.bytes.as_slice();

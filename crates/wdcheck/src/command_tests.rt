@@ -49,7 +49,7 @@ struct Case {
     status: u8,
 }
 
-static CASES: [Case; 6] = [
+static CASES: [Case; 39] = [
     Case {
         words: &[],
         files: &[],
@@ -90,6 +90,400 @@ static CASES: [Case; 6] = [
         files: &[],
         out: "",
         err: "data t: refused 707\n",
+        status: 3,
+    },
+    // least two rows ascending
+    Case {
+        words: &["run", "schema.sql", "query.sql", "t=t.csv"],
+        files: &[
+            ("schema.sql", SCHEMA),
+            ("query.sql", QUERY),
+            ("t.csv", DATA),
+        ],
+        out: "id,v\n4,5\n1,10\n",
+        err: "",
+        status: 0,
+    },
+    // first two rows descending
+    Case {
+        words: &["run", "schema.sql", "query.sql", "t=t.csv"],
+        files: &[
+            ("schema.sql", SCHEMA),
+            ("query.sql", b"SELECT id, v FROM t ORDER BY v DESC FETCH FIRST 2 ROWS ONLY"),
+            ("t.csv", DATA),
+        ],
+        out: "id,v\n2,\n1,10\n",
+        err: "",
+        status: 0,
+    },
+    // fetch first zero rows
+    Case {
+        words: &["run", "schema.sql", "query.sql", "t=t.csv"],
+        files: &[
+            ("schema.sql", SCHEMA),
+            ("query.sql", b"SELECT id, v FROM t ORDER BY v FETCH FIRST 0 ROWS ONLY"),
+            ("t.csv", DATA),
+        ],
+        out: "id,v\n",
+        err: "",
+        status: 0,
+    },
+    // sort key that is not shown
+    Case {
+        words: &["run", "schema.sql", "query.sql", "t=t.csv"],
+        files: &[
+            ("schema.sql", SCHEMA),
+            ("query.sql", b"SELECT v FROM t ORDER BY id DESC FETCH FIRST 2 ROWS ONLY"),
+            ("t.csv", DATA),
+        ],
+        out: "v\n5\n10\n",
+        err: "",
+        status: 0,
+    },
+    // data file is missing
+    Case {
+        words: &["run", "schema.sql", "query.sql", "t=absent.csv"],
+        files: &[
+            ("schema.sql", SCHEMA),
+            ("query.sql", QUERY),
+        ],
+        out: "",
+        err: "cannot read absent.csv\n",
+        status: 5,
+    },
+    // data word is cut at its first equals sign
+    Case {
+        words: &["run", "schema.sql", "query.sql", "t=a=b.csv"],
+        files: &[
+            ("schema.sql", SCHEMA),
+            ("query.sql", QUERY),
+            ("a=b.csv", DATA),
+        ],
+        out: "id,v\n4,5\n1,10\n",
+        err: "",
+        status: 0,
+    },
+    // data for a table twice
+    Case {
+        words: &["run", "schema.sql", "query.sql", "t=t.csv", "t=t.csv"],
+        files: &[
+            ("schema.sql", SCHEMA),
+            ("query.sql", QUERY),
+            ("t.csv", DATA),
+        ],
+        out: "",
+        err: "data t: refused 707\n",
+        status: 3,
+    },
+    // data for no table
+    Case {
+        words: &["run", "schema.sql", "query.sql", "q=t.csv", "t=t.csv"],
+        files: &[
+            ("schema.sql", SCHEMA),
+            ("query.sql", QUERY),
+            ("t.csv", DATA),
+        ],
+        out: "",
+        err: "data q: refused 707\n",
+        status: 3,
+    },
+    // no data for the table
+    Case {
+        words: &["run", "schema.sql", "query.sql"],
+        files: &[
+            ("schema.sql", SCHEMA),
+            ("query.sql", QUERY),
+        ],
+        out: "",
+        err: "data t: refused 707\n",
+        status: 3,
+    },
+    // schema with a column twice
+    Case {
+        words: &["run", "schema.sql", "query.sql", "t=t.csv"],
+        files: &[
+            ("schema.sql", b"CREATE TABLE t (id BIGINT PRIMARY KEY, id TEXT);"),
+            ("query.sql", QUERY),
+            ("t.csv", DATA),
+        ],
+        out: "",
+        err: "schema: refused 302\n",
+        status: 3,
+    },
+    // schema with an empty column list
+    Case {
+        words: &["run", "schema.sql", "query.sql", "t=t.csv"],
+        files: &[
+            ("schema.sql", b"CREATE TABLE t ();"),
+            ("query.sql", QUERY),
+            ("t.csv", DATA),
+        ],
+        out: "",
+        err: "schema: refused 309 at 4\n",
+        status: 3,
+    },
+    // unique is not read yet
+    Case {
+        words: &["run", "schema.sql", "query.sql", "t=t.csv"],
+        files: &[
+            ("schema.sql", b"CREATE TABLE t (id BIGINT UNIQUE, v BIGINT);"),
+            ("query.sql", QUERY),
+            ("t.csv", DATA),
+        ],
+        out: "",
+        err: "schema: refused 309 at 6\n",
+        status: 3,
+    },
+    // second table is not read yet
+    Case {
+        words: &["run", "schema.sql", "query.sql", "t=t.csv"],
+        files: &[
+            ("schema.sql", b"CREATE TABLE t (id BIGINT, v BIGINT); CREATE TABLE s (a BIGINT);"),
+            ("query.sql", QUERY),
+            ("t.csv", DATA),
+        ],
+        out: "",
+        err: "schema: refused 309 at 11\n",
+        status: 3,
+    },
+    // other type is not read yet
+    Case {
+        words: &["run", "schema.sql", "query.sql", "t=t.csv"],
+        files: &[
+            ("schema.sql", b"CREATE TABLE t (id BOOLEAN, v BIGINT);"),
+            ("query.sql", QUERY),
+            ("t.csv", DATA),
+        ],
+        out: "",
+        err: "schema: refused 309 at 5\n",
+        status: 3,
+    },
+    // query without order is not read yet
+    Case {
+        words: &["run", "schema.sql", "query.sql", "t=t.csv"],
+        files: &[
+            ("schema.sql", SCHEMA),
+            ("query.sql", b"SELECT id FROM t"),
+            ("t.csv", DATA),
+        ],
+        out: "",
+        err: "query: refused 201 at 4\n",
+        status: 3,
+    },
+    // row for rows is not read yet
+    Case {
+        words: &["run", "schema.sql", "query.sql", "t=t.csv"],
+        files: &[
+            ("schema.sql", SCHEMA),
+            ("query.sql", b"SELECT id, v FROM t ORDER BY v FETCH FIRST 1 ROW ONLY"),
+            ("t.csv", DATA),
+        ],
+        out: "",
+        err: "query: refused 201 at 12\n",
+        status: 3,
+    },
+    // condition is not read yet
+    Case {
+        words: &["run", "schema.sql", "query.sql", "t=t.csv"],
+        files: &[
+            ("schema.sql", SCHEMA),
+            ("query.sql", b"SELECT id FROM t WHERE v = 10"),
+            ("t.csv", DATA),
+        ],
+        out: "",
+        err: "query: refused 201 at 4\n",
+        status: 3,
+    },
+    // unknown table
+    Case {
+        words: &["run", "schema.sql", "query.sql", "t=t.csv"],
+        files: &[
+            ("schema.sql", SCHEMA),
+            ("query.sql", b"SELECT id, v FROM q ORDER BY v FETCH FIRST 2 ROWS ONLY"),
+            ("t.csv", DATA),
+        ],
+        out: "",
+        err: "query: refused 401\n",
+        status: 3,
+    },
+    // unknown column in the select list
+    Case {
+        words: &["run", "schema.sql", "query.sql", "t=t.csv"],
+        files: &[
+            ("schema.sql", SCHEMA),
+            ("query.sql", b"SELECT id, w FROM t ORDER BY v FETCH FIRST 2 ROWS ONLY"),
+            ("t.csv", DATA),
+        ],
+        out: "",
+        err: "query: refused 402\n",
+        status: 3,
+    },
+    // unknown column as a sort key
+    Case {
+        words: &["run", "schema.sql", "query.sql", "t=t.csv"],
+        files: &[
+            ("schema.sql", SCHEMA),
+            ("query.sql", b"SELECT id, v FROM t ORDER BY w FETCH FIRST 2 ROWS ONLY"),
+            ("t.csv", DATA),
+        ],
+        out: "",
+        err: "query: refused 402\n",
+        status: 3,
+    },
+    // count that is allowed after a minus alone
+    Case {
+        words: &["run", "schema.sql", "query.sql", "t=t.csv"],
+        files: &[
+            ("schema.sql", SCHEMA),
+            ("query.sql", b"SELECT id, v FROM t ORDER BY v FETCH FIRST 9223372036854775808 ROWS ONLY"),
+            ("t.csv", DATA),
+        ],
+        out: "",
+        err: "query: refused 404\n",
+        status: 3,
+    },
+    // number past the largest
+    Case {
+        words: &["run", "schema.sql", "query.sql", "t=t.csv"],
+        files: &[
+            ("schema.sql", SCHEMA),
+            ("query.sql", b"SELECT id, v FROM t ORDER BY v FETCH FIRST 9223372036854775809 ROWS ONLY"),
+            ("t.csv", DATA),
+        ],
+        out: "",
+        err: "query: refused 104 at 43\n",
+        status: 3,
+    },
+    // number followed by a letter
+    Case {
+        words: &["run", "schema.sql", "query.sql", "t=t.csv"],
+        files: &[
+            ("schema.sql", SCHEMA),
+            ("query.sql", b"SELECT id, v FROM t ORDER BY v FETCH FIRST 2x ROWS ONLY"),
+            ("t.csv", DATA),
+        ],
+        out: "",
+        err: "query: refused 104 at 43\n",
+        status: 3,
+    },
+    // character outside the alphabet
+    Case {
+        words: &["run", "schema.sql", "query.sql", "t=t.csv"],
+        files: &[
+            ("schema.sql", SCHEMA),
+            ("query.sql", b"SELECT id, v FROM t ORDER BY v FETCH FIRST 2 ROWS ONLY {"),
+            ("t.csv", DATA),
+        ],
+        out: "",
+        err: "query: refused 101 at 55\n",
+        status: 3,
+    },
+    // query that is not utf8
+    Case {
+        words: &["run", "schema.sql", "query.sql", "t=t.csv"],
+        files: &[
+            ("schema.sql", SCHEMA),
+            ("query.sql", b"SELECT id, v FROM t ORDER BY v FETCH FIRST 2 ROWS ONLY\xff"),
+            ("t.csv", DATA),
+        ],
+        out: "",
+        err: "query: refused 106\n",
+        status: 3,
+    },
+    // data header lacks a column
+    Case {
+        words: &["run", "schema.sql", "query.sql", "t=t.csv"],
+        files: &[
+            ("schema.sql", SCHEMA),
+            ("query.sql", QUERY),
+            ("t.csv", b"id\n1\n"),
+        ],
+        out: "",
+        err: "data t: refused 701\n",
+        status: 3,
+    },
+    // data header in another order
+    Case {
+        words: &["run", "schema.sql", "query.sql", "t=t.csv"],
+        files: &[
+            ("schema.sql", SCHEMA),
+            ("query.sql", QUERY),
+            ("t.csv", b"v,id\n10,1\n,2\n10,3\n5,4\n"),
+        ],
+        out: "id,v\n4,5\n1,10\n",
+        err: "",
+        status: 0,
+    },
+    // data value not of its type
+    Case {
+        words: &["run", "schema.sql", "query.sql", "t=t.csv"],
+        files: &[
+            ("schema.sql", SCHEMA),
+            ("query.sql", QUERY),
+            ("t.csv", b"id,v\n1,10\n2,x\n"),
+        ],
+        out: "",
+        err: "data t: refused 702 at 2\n",
+        status: 3,
+    },
+    // data value out of range
+    Case {
+        words: &["run", "schema.sql", "query.sql", "t=t.csv"],
+        files: &[
+            ("schema.sql", SCHEMA),
+            ("query.sql", QUERY),
+            ("t.csv", b"id,v\n1,9223372036854775808\n"),
+        ],
+        out: "",
+        err: "data t: refused 702 at 1\n",
+        status: 3,
+    },
+    // data key value missing
+    Case {
+        words: &["run", "schema.sql", "query.sql", "t=t.csv"],
+        files: &[
+            ("schema.sql", SCHEMA),
+            ("query.sql", QUERY),
+            ("t.csv", b"id,v\n,10\n"),
+        ],
+        out: "",
+        err: "data t: refused 703 at 1\n",
+        status: 3,
+    },
+    // data key value repeated
+    Case {
+        words: &["run", "schema.sql", "query.sql", "t=t.csv"],
+        files: &[
+            ("schema.sql", SCHEMA),
+            ("query.sql", QUERY),
+            ("t.csv", b"id,v\n1,10\n2,\n1,5\n2,6\n"),
+        ],
+        out: "",
+        err: "data t: refused 704 at 3\n",
+        status: 3,
+    },
+    // data records of unequal lengths
+    Case {
+        words: &["run", "schema.sql", "query.sql", "t=t.csv"],
+        files: &[
+            ("schema.sql", SCHEMA),
+            ("query.sql", QUERY),
+            ("t.csv", b"id,v\n1,10\n2\n"),
+        ],
+        out: "",
+        err: "data t: refused 705\n",
+        status: 3,
+    },
+    // data not utf8
+    Case {
+        words: &["run", "schema.sql", "query.sql", "t=t.csv"],
+        files: &[
+            ("schema.sql", SCHEMA),
+            ("query.sql", QUERY),
+            ("t.csv", b"id,v\n1,1\xff\n"),
+        ],
+        out: "",
+        err: "data t: refused 705\n",
         status: 3,
     },
 ];

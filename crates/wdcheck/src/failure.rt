@@ -1,6 +1,6 @@
 //! Why the program ends without its output.
 
-ghost use Rattle.std.specs.Prelude.{◌≡◌};
+ghost use Rattle.std.specs.Prelude.{◌≡◌, ◌≢◌};
 ghost use Rattle.wdcheck.specs.Statuses.{status_of};
 
 use crate::run::{Origin, RunError};
@@ -80,24 +80,32 @@ impl fmt::Display for Origin<'_> {
 }
 
 impl From<OutOfMemory> for Failure<'_> {
+    ghost from_gives = { λ _ failure. status_of failure ≡ 5 };
+
     fn from(_error: OutOfMemory) -> Self {
         Failure::OutOfMemory
     }
 }
 
 impl From<AllocError> for Failure<'_> {
+    ghost from_gives = { λ _ failure. status_of failure ≡ 5 };
+
     fn from(_error: AllocError) -> Self {
         Failure::OutOfMemory
     }
 }
 
 impl<T: Drop> From<AllocFailed<T>> for Failure<'_> {
+    ghost from_gives = { λ _ failure. status_of failure ≡ 5 };
+
     fn from(_error: AllocFailed<T>) -> Self {
         Failure::OutOfMemory
     }
 }
 
 impl From<clap::Error> for Failure<'_> {
+    ghost from_gives = { λ _ failure. status_of failure ≢ 4 };
+
     fn from(error: clap::Error) -> Self {
         match error.kind() {
             ErrorKind::OutOfMemory => Failure::OutOfMemory,
@@ -107,6 +115,8 @@ impl From<clap::Error> for Failure<'_> {
 }
 
 impl From<RunError> for Failure<'_> {
+    ghost from_gives = { λ _ failure. status_of failure ≢ 4 };
+
     fn from(error: RunError) -> Self {
         match error.number() {
             Some(number) => Failure::Refused { error, number },

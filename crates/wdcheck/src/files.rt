@@ -4,10 +4,8 @@ ghost use Rattle.std.specs.Prelude.{◌≡◌, ◌+◌, ◌-◌, ◌^◌, ◌<�
 ghost use Rattle.wdcheck.specs.Files.{File, HandsOver, failed_reads};
 
 use std::alloc::Global;
-use std::fs;
-use std::io;
 use std::io::Read;
-use std::rt;
+use std::{fs, io, rt};
 
 /// Why a file was not handed over.
 #[derive(Clone, Copy, PartialEq, Eq, Debug)]

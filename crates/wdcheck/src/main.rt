@@ -12,6 +12,8 @@ mod inputs;
 mod memory;
 mod query;
 mod run;
+#[cfg(test)]
+mod run_tests;
 mod schema;
 mod sort;
 mod syntax;

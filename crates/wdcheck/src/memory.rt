@@ -62,7 +62,11 @@ impl Files for MemoryFiles<'_> {
     ghost handed = { λ m. Some (handed_of m) };
 
     fn read(&mut self, alloc: Global, path: &str) -> Result<Vec<u8>, ReadFault> {
-        let found = if self.fails() { None } else { position(self.files, path) };
+        let found = if self.fails() {
+            None
+        } else {
+            position(self.files, path)
+        };
         let Some(i) = found else {
             self.failures += 1;
             return Err(ReadFault::Failed);

@@ -1,7 +1,5 @@
 //! Queries over the data of tables.
 
-use crate::command::command;
-use crate::memory::MemoryFiles;
 use crate::run::{RunError, run};
 use std::alloc::Global;
 use std::test::Fail;
@@ -213,31 +211,6 @@ fn refuses_by_number_and_place(rt: HostRuntime) -> Result<(), Fail> {
                 assert!(rt; error.origin().to_string(alloc)?.as_str() == case.origin);
             }
         }
-    }
-    Ok(())
-}
-
-#[test]
-fn prints_an_answer_and_a_refusal(rt: HostRuntime) -> Result<(), Fail> {
-    let alloc = rt.alloc();
-    let words = ["run", "schema.sql", "query.sql", "t=t.csv"];
-    let texts: [(&str, &str, &str, u8); 2] = [
-        (DATA, "id,v\n4,5\n1,10\n", "", 0),
-        ("id,v\n1,10\n2,x\n", "", "data t: refused 702 at 2\n", 3),
-    ];
-    for (data, printed, told, ends) in texts {
-        let files = [
-            ("schema.sql", SCHEMA.as_bytes()),
-            ("query.sql", QUERY.as_bytes()),
-            ("t.csv", data.as_bytes()),
-        ];
-        let mut out = Vec::new(alloc);
-        let mut err = Vec::new(alloc);
-        let mut files = MemoryFiles::new(alloc, &files);
-        let status = command(alloc, &words, &mut files, &mut out, &mut err);
-        assert_eq!(rt; status, ends);
-        assert!(rt; out.as_slice() == printed.as_bytes());
-        assert!(rt; err.as_slice() == told.as_bytes());
     }
     Ok(())
 }

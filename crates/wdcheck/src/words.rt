@@ -1,12 +1,12 @@
 //! What the words of the command line ask for.
 
-ghost use Rattle.std.specs.Prelude.{◌≡◌, List, map, codes, Some, IfOk, IfSome};
+ghost use Rattle.std.specs.Prelude.{◌≡◌, ◌≢◌, List, map, codes, Some, IfOk, IfErr, IfSome};
 ghost use Rattle.clap.specs.Words.{Row, app_of, subcommand_rows_of};
 ghost use Rattle.wdcheck.specs.CommandLine.{AreInRows, command_line as command_line_app};
+ghost use Rattle.wdcheck.specs.Statuses.{status_of};
 ghost use Rattle.wdcheck.specs.Words.{AreCut, AreWordsOf, HasNoEquals, word_of};
 
 use crate::failure::Failure;
-
 use clap::error::ErrorKind;
 use clap::{Arg, ArgMatches, Command, Error};
 use std::alloc::{AllocError, Global};
@@ -42,9 +42,7 @@ fn command_line<'a>(alloc: Global) -> Result<Command<'a>, AllocError>
     let schema = Arg::new(alloc, "schema")
         .required(true)
         .value_name("SCHEMA");
-    let query = Arg::new(alloc, "query")
-        .required(true)
-        .value_name("QUERY");
+    let query = Arg::new(alloc, "query").required(true).value_name("QUERY");
     let tables = Arg::new(alloc, "tables")
         .num_args(0..)
         .value_name("NAME=PATH");
@@ -74,7 +72,11 @@ fn found<'a>(alloc: Global, matches: &ArgMatches<'a>) -> Result<Option<RunWords<
     };
     let words = run.get_strs("tables").unwrap_or(&[]);
     let tables = Vec::from_slice(alloc, words)?;
-    Ok(Some(RunWords { schema, query, tables }))
+    Ok(Some(RunWords {
+        schema,
+        query,
+        tables,
+    }))
 }
 
 /// A word NAME=PATH.
@@ -85,11 +87,9 @@ pub struct Assignment<'a> {
 }
 
 /// Cuts each word at its first `=`.
-pub fn assignments<'a>(
-    alloc: Global,
-    words: &[&'a str],
-) -> Result<Vec<Assignment<'a>>, Failure<'a>>
-    ensures { IfOk result (λ v. AreCut (map (λ w. w.now) words.now) v.items) }
+pub fn assignments<'a>(alloc: Global, words: &[&'a str]) -> Result<Vec<Assignment<'a>>, Failure<'a>>
+    ensures ok { IfOk result (λ v. AreCut (map (λ w. w.now) words.now) v.items) }
+    ensures err { IfErr result (λ failure. status_of failure ≢ 4) }
 {
     let mut assignments = Vec::with_capacity(alloc, words.len())?;
     for word in words {

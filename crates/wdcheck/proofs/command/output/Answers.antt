@@ -1,14 +1,34 @@
-use Rattle.std.proofs.Common.{◌≡◌, ◌∙◌, sym, refl, rules, map, length, nat_eq, false}
-use Rattle.wdcheck.proofs.OutputLemmas.{output_of_run}
-use Rattle.wdcheck.specs.Commands.{AreInputsOf, IsAnswerText, IsRunOutput, files_of}
+use Rattle.std.proofs.Common.{◌≡◌, ◌∙◌, ◌==◌, List, [], ◌∷◌, ℕ, false, true≢false, length, map, sym, refl, Bor}
+use Rattle.std.proofs.lemmas.Result.{IfErr-weaker, IfOk-weaker}
+use Rattle.wdcheck.specs.Commands.{IsOutput, IsRunOutput, files_of}
+use Rattle.wdcheck.specs.Files.{File}
 use Rattle.wdcheck.specs.Inputs.{inputs_of}
 use Rattle.wdcheck.proofs.command.output.Goals as goal
 
-pub returns : goal.returns
-returns g c =
+-- with words the output is that of `run`
+run_output : (words : List (Bor (List ℕ))) (files : List File) (text : List ℕ) → (length words == 0) ≡ false → IsRunOutput (map (λ w. w.now) words) files text
+    → IsOutput (map (λ w. w.now) words) files text
+run_output [] files text some answered = absurd (true≢false some)
+run_output (word ∷ words) files text some answered = answered
+
+pub returns-clause-ok : goal.returns-clause-ok
+returns-clause-ok g c =
     let inputs = inputs_of c.in_ok-inputs.inputs in
-    let asked : AreInputsOf (map (λ w. w.now) c.args.words.now) inputs = search rules in
-    let answered : IsAnswerText inputs c.in_ok-text.text.items = search rules in
-    let run : IsRunOutput (map (λ w. w.now) c.args.words.now) (files_of inputs) c.in_ok-text.text.items = record { inputs = inputs; asked = asked; read = refl; answered = answered } in
-    let some : nat_eq (length c.args.words.now) 0 ≡ false = sym c.is_empty.ensures ∙ c.if-is_empty.false in
-    (files_of inputs, search rules, output_of_run c.args.words.now (files_of inputs) c.in_ok-text.text.items some run)
+    IfOk-weaker c.answer.result _ _ (λ text answered. (
+      files_of inputs,
+      c.in_ok-inputs.ensures.read,
+      run_output c.args.words.now (files_of inputs) _ (sym c.is_empty.ensures ∙ c.if-is_empty.false) (record {
+        inputs = inputs;
+        asked = c.in_ok-inputs.ensures.asked;
+        read = refl;
+        answered = answered;
+      }),
+    )) c.answer.ensures.ok
+
+pub returns-clause-err : goal.returns-clause-err
+returns-clause-err g c = IfErr-weaker c.answer.result _ _ (λ failure faulted is_fault. record {
+  inputs = inputs_of c.in_ok-inputs.inputs;
+  asked = c.in_ok-inputs.ensures.asked;
+  read = c.in_ok-inputs.ensures.read;
+  faulted = faulted is_fault;
+}) c.answer.ensures.err

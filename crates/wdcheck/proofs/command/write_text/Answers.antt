@@ -1,7 +1,7 @@
-use Rattle.std.proofs.Common.{arith, rules, ◌≡◌, ◌∙◌, ◌+◌, ◌-◌, ◌≤◌, ◌++◌, ℕ, List, length, take, drop, take-add, Option, Result, Ok, Err, IfOk, ap, subst, sym, refl}
+use Rattle.std.proofs.Common.{arith, ◌≡◌, ◌+◌, ◌-◌, ◌++◌, ℕ, List, length, take, drop, take-add, Option, subst, sym}
 use Rattle.std.proofs.lemmas.List.{take_all, length-drop, length-take}
 use Rattle.std.proofs.KnownBytes.{Appends-trans, Appends-kept}
-use Rattle.std.specs.Io.KnownBytes.{Appends, WriteAppends}
+use Rattle.std.specs.Io.KnownBytes.{Appends}
 use Rattle.wdcheck.proofs.command.write_text.Goals as goal
 use Rattle.wdcheck.proofs.command.write_text.Goals.{in-Ok, in-Err+else-ne}
 

@@ -1,12 +1,11 @@
-use Rattle.std.proofs.Common.{arith, ◌≡◌, ◌∙◌, ◌<◌, ℕ, List, [], ◌∷◌, map, length, get_or, ap, sym, subst, Bor}
+use Rattle.std.proofs.Common.{arith, ◌≡◌, ◌∙◌, ◌<◌, ℕ, List, map, length, ap, sym, subst, Bor}
 use Rattle.std.proofs.Math.ListN.{get_or-map, length-map}
 use Rattle.std.proofs.lemmas.Simd.{map-map}
 use Rattle.std.proofs.lemmas.List.Elements.{All-map}
 use Rattle.std.specs.List.{All}
 use Rattle.wdcheck.specs.Commands.{TableFile as TableData}
-use Rattle.wdcheck.specs.Files.{File}
 use Rattle.wdcheck.specs.Inputs.{file_of, table_of}
-use Rattle.wdcheck.specs.Words.{AreCut, HasNoEquals, IsPlain, run_line, word_of}
+use Rattle.wdcheck.specs.Words.{AreCut, HasNoEquals, run_line, word_of}
 use Rattle.wdcheck.specs.declared.inputs.TableFile.{TableFile}
 use Rattle.wdcheck.specs.declared.words.Assignment.{Assignment}
 use Rattle.wdcheck.proofs.FilesLemmas.{HandsOver-trans}
@@ -35,7 +34,7 @@ returns-clause-asked g c =
     let assignments = c.in_ok-assignments.assignments.items in
     let tables = c.in_ok-tables.tables.items in
     let cut : AreCut (map (λ w. w.now) given.tables.items) assignments =
-    subst (λ (words : List (Bor (List ℕ))). AreCut (map (λ w. w.now) words) assignments) c.as_slice.ensures.value c.in_ok-assignments.ensures in
+    subst (λ (words : List (Bor (List ℕ))). AreCut (map (λ w. w.now) words) assignments) c.as_slice.ensures.value c.in_ok-assignments.ensures.ok in
     let words = c.in_ok-tables.ensures.words ∙ ap (map (λ (a : Assignment). word_of a.name.now a.path.now)) c.as_slice-2.ensures.value in
     let names = c.in_ok-tables.ensures.names ∙ ap (map (λ (a : Assignment). a.name.now)) c.as_slice-2.ensures.value in
     let same_words = table_words _ assignments tables cut words in

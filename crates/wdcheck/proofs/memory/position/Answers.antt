@@ -1,4 +1,4 @@
-use Rattle.std.proofs.Common.{◌≡◌, ◌∙◌, ℕ, List, [], ap, sym, Bor}
+use Rattle.std.proofs.Common.{◌∙◌, ℕ, List, [], ap, sym, Bor}
 use Rattle.std.proofs.Math.ListN.{get_or-map}
 use lib.Pointwise.{bytes_decides}
 use Rattle.wdcheck.specs.Files.{File}

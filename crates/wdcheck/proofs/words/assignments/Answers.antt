@@ -1,4 +1,4 @@
-use Rattle.std.proofs.Common.{arith, Bor, List, ℕ, subst, sym}
+use Rattle.std.proofs.Common.{arith}
 use Rattle.std.proofs.lemmas.Grind.{common_steps}
 use Rattle.std.proofs.lemmas.List.Elements.{All-push}
 use Rattle.wdcheck.specs.Words.{HasNoEquals}

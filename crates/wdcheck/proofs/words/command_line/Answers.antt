@@ -4,7 +4,7 @@ use Rattle.clap.specs.Simple.{Shape, app_of_fields, on_top}
 use Rattle.clap.specs.declared.builder.command.Command.{Command}
 use Rattle.clap.specs.declared.builder.command.Command.TheViews.{out-Command}
 use Rattle.clap.specs.declared.builder.command.Command.TheOpen.{Command-F}
-use Rattle.wdcheck.specs.CommandLine.{any_number, command_line, run_command, wanted}
+use Rattle.wdcheck.specs.CommandLine.{any_number, run_command, wanted}
 use Rattle.wdcheck.proofs.words.command_line.Goals as goal
 
 abbrev as_wanted : Rule → Rule

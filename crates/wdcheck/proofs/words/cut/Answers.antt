@@ -1,7 +1,7 @@
-use Rattle.std.proofs.Common.{arith, ◌≡◌, ◌<◌, ◌==◌, ℕ, List, length, take, true, false, true≢false, get_or, lit<}
+use Rattle.std.proofs.Common.{arith, ◌≡◌, ◌<◌, ◌==◌, ℕ, List, false, true≢false, get_or, lit<}
 use Rattle.std.proofs.lemmas.List.{length-take, get_or-take}
 use Rattle.std.proofs.lemmas.List.Sums.{fails_before_first}
-use Rattle.std.specs.List.{before_first, position_or_len, Contains}
+use Rattle.std.specs.List.{before_first, position_or_len}
 use Rattle.wdcheck.specs.Words.{HasNoEquals}
 use Rattle.wdcheck.proofs.words.cut.Goals as goal
 

@@ -1,7 +1,7 @@
 use Rattle.std.proofs.Common.{◌≡◌, ◌∙◌, ℕ, List, [], Option, Some, None, ap, sym, codes, inl, inr, map, refl}
 use Rattle.std.specs.Option.{option_map, unwrap_or}
 use Rattle.std.specs.Borrow.{Bor}
-use Rattle.clap.specs.Words.{Row, all_of, first_of, found_of, first_value, matched_of, raw_values, rows_of, subcommand_rows_of}
+use Rattle.clap.specs.Words.{Row, all_of, first_of, found_of, first_value, matched_of, raw_values, rows_of}
 use Rattle.clap.proofs.WalkLemmas.{first_value-rows, raw_values-rows}
 use Rattle.clap.specs.declared.parser.matches.ArgMatches.{ArgMatches}
 use Rattle.wdcheck.proofs.words.found.Goals as goal
@@ -31,14 +31,15 @@ returns-in_default-get_str c rows met =
     inl (first_text c.in-Some.run'.now rows same (codes "schema") c.get_str.result c.get_str.ensures ∙ ap (option_map (λ (s : Bor (List ℕ)). s.now)) c.in_default-get_str.is)
 
 pub returns-in_default-get_str-2 : goal.returns-in_default-get_str-2
-returns-in_default-get_str-2 c rows met = 
+returns-in_default-get_str-2 c rows met =
     let same = run_rows _ _ rows _ c.in-Some.ensures.rows met in
     inr (first_text c.in-Some.run'.now rows same (codes "query") c.get_str-2.result c.get_str-2.ensures ∙ ap (option_map (λ (s : Bor (List ℕ)). s.now)) c.in_default-get_str-2.is)
 
 pub returns : goal.returns
-returns c rows met = 
-    let same = run_rows _ _ rows _ c.in-Some.ensures.rows met in
-    (first_text c.in-Some.run'.now rows same (codes "schema") c.get_str.result c.get_str.ensures ∙ ap (option_map (λ (s : Bor (List ℕ)). s.now)) c.in-Some-get_str.is,
-    first_text c.in-Some.run'.now rows same (codes "query") c.get_str-2.result c.get_str-2.ensures ∙ ap (option_map (λ (s : Bor (List ℕ)). s.now)) c.in-Some-get_str-2.is,
-    ap (λ (o : Option (List (List ℕ))). unwrap_or o []) (all_texts c.in-Some.run'.now rows same (codes "tables") c.get_strs.result c.get_strs.ensures)
-    ∙ (texts_or_none c.get_strs.result _ c.unwrap_or-words.result refl c.unwrap_or-words.ensures ∙ ap (map (λ (w : Bor (List ℕ)). w.now)) (sym c.in_ok-tables.ensures.items)))
+returns c rows met =
+    let same = run_rows _ _ rows _ c.in-Some.ensures.rows met in (
+      first_text c.in-Some.run'.now rows same (codes "schema") c.get_str.result c.get_str.ensures ∙ ap (option_map (λ (s : Bor (List ℕ)). s.now)) c.in-Some-get_str.is,
+      first_text c.in-Some.run'.now rows same (codes "query") c.get_str-2.result c.get_str-2.ensures ∙ ap (option_map (λ (s : Bor (List ℕ)). s.now)) c.in-Some-get_str-2.is,
+      ap (λ (o : Option (List (List ℕ))). unwrap_or o []) (all_texts c.in-Some.run'.now rows same (codes "tables") c.get_strs.result c.get_strs.ensures)
+          ∙ (texts_or_none c.get_strs.result _ c.unwrap_or-words.result refl c.unwrap_or-words.ensures ∙ ap (map (λ (w : Bor (List ℕ)). w.now)) (sym c.in_ok-tables.ensures.items)),
+    )

@@ -1,4 +1,4 @@
-use Rattle.std.proofs.Common.{◌≡◌, ◌∙◌, List, [], ◌∷◌, map, Option, Some, true, codes, ap, sym, subst, refl}
+use Rattle.std.proofs.Common.{◌≡◌, ◌∙◌, List, [], map, Option, Some, true, ap, sym, subst, refl}
 use Rattle.std.specs.Option.{unwrap_or}
 use Rattle.clap.specs.Words.{App, Text, fault_of, is_simple, is_simple_and_free, subcommand_of}
 use Rattle.clap.proofs.OnLiterals.{clap_on_literals}
@@ -28,6 +28,6 @@ returns-in-Some c plain =
     let met = (parse.ok.2 (ap is_simple same ∙ simple)).1 ∙ (ap (λ (a : App). subcommand_of a words) same ∙ line.met) in
     let given = subst (AreInRows line.rows) c.in-Some.is (c.in_ok-given.ensures line.rows met) in
     line.line ∙ (λ i. run_line
-        (same_some line.schema c.in-Some.given.schema.now _ line.found.schema given.0 i)
-        (same_some line.query c.in-Some.given.query.now _ line.found.query given.1 i)
-        ((sym line.found.tables ∙ given.2) i))
+    (same_some line.schema c.in-Some.given.schema.now _ line.found.schema given.0 i)
+    (same_some line.query c.in-Some.given.query.now _ line.found.query given.1 i)
+    ((sym line.found.tables ∙ given.2) i))
