@@ -1,6 +1,8 @@
 -- How far a text has been read.
-use Rattle.std.proofs.Common.{◌≡◌, ◌≢◌, ℕ, ◌+◌, ◌-◌, ◌<◌, ◌≤◌, true, false, eqb, nat_eq, ◌&&◌, List, [], ◌∷◌, ◌++◌, length, drop, Option, Some, None, Result, Ok, Err, IfOk, IfErr, IsUtf8, ⊎_elim, refl, sym, ap, ap₂, ◌∙◌, subst, arith, append_assoc, append-nil, length-append, length-drop, eqb-true}
-use Rattle.std.proofs.lemmas.Bool.{cases_Bool, and_parts, cond-true, cond-false}
+use Rattle.std.proofs.Common.{◌≡◌, ◌≢◌, ℕ, zero, suc, ◌+◌, ◌-◌, ◌<◌, ◌≤◌, true, false, eqb, nat_eq, ◌&&◌, List, [], ◌∷◌, ◌++◌, length, drop, Option, Some, None, Result, Ok, Err, IfOk, IfErr, IsUtf8, ⊎_elim, refl, sym, ap, ap₂, ◌∙◌, subst, arith, append_assoc, append-nil, length-append, length-drop, eqb-true}
+use Rattle.std.proofs.lemmas.Bool.{cases_Bool, cases_lt, both_ways, and_parts, cond-true, cond-false}
+use Rattle.std.proofs.lemmas.Str.{IsUtf8-from_is_utf8, is_utf8-from_IsUtf8}
+use Rattle.std.specs.Str.{is_utf8}
 use lib.Utf8.{encode}
 use Rattle.std.specs.List.{starts_with}
 use Rattle.wd_lex.specs.declared.error.LexError.{LexError}
@@ -10,8 +12,8 @@ use Rattle.wd_lex.specs.declared.token.Token.{Token}
 use Rattle.wd_lex.specs.declared.token.TokenKind.{TokenKind}
 use Rattle.wd_lex.specs.Pieces.{Piece, spelling, spellings, kind_of, ArePieces}
 use Rattle.wd_lex.specs.Lexed.{byte_order_mark, start_of, token_before, tokens_from, IsCut, IsLexed, AreInOrder}
-use Rattle.wd_lex.specs.Causes.{IsReadable, HasCause, IsAnswer, Gives}
-use Rattle.wd_lex.specs.Causes.{Fails}
+use Rattle.wd_lex.specs.Causes.{most_bytes, IsReadable, HasCause, IsAnswer, Gives, Fails}
+use Rattle.wd_lex.specs.Laws.{HasAnswer}
 use Rattle.wd_lex.specs.Reading.{Reading, piece_at, as_token}
 use Rattle.wd_lex.proofs.KindFacts.{spelling_some}
 use Rattle.wd_lex.proofs.SoundReading.{IsFront, IsRead, piece_at_sound}
@@ -204,3 +206,35 @@ gives_by view text (Err TooLong) readable lexed cause answer is = one_answer tex
 pub order_by : {X : Type 0} (view : X → List Token) (text : List ℕ) (result : Result X LexError) → IfOk result (λ found. IsLexed text (view found)) → IfOk result (λ found. AreInOrder 0 (view found) (length text))
 order_by view text (Ok found) lexed = lexed_in_order text (view found) lexed
 order_by view text (Err refusal) lexed = tt
+
+-- ---- each text has an answer
+
+abbrev Answered : List ℕ → Type 0
+Answered text = (answer : Result (List Token) LexError) × IsAnswer text answer
+
+answered_by : (text : List ℕ) (tokens : List Token) (rest : List ℕ) (place : ℕ) (read : Reading) → IsReadable text → IsReadUpTo text tokens rest → place ≡ length text - length rest → IsRead place rest read
+    → ((more : List Token) (after : List ℕ) → IsReadUpTo text more after → length after < length rest → Answered text) → Answered text
+answered_by text tokens rest place (Ok (piece, after)) readable h there front go_on =
+    let to = length text - length after in
+    go_on (with_token tokens (kind_of piece) (record { start = place; end = to })) after (front_more text tokens piece rest after place to h front there refl)
+    (omega (arith, ap length front.whole, length-append (spelling piece) after, spelling_some piece front.stands.is))
+answered_by text tokens rest place (Err refusal) readable h there refused go_on = (Err refusal, refused_by text tokens rest place (Err refusal) refusal readable h there refused refl)
+
+answered_from : (n : ℕ) (text : List ℕ) (tokens : List Token) (rest : List ℕ) → IsReadable text → IsReadUpTo text tokens rest → length rest ≤ n → Answered text
+answered_from n text tokens [] readable h le = (Ok tokens, (readable, all_read text tokens [] h refl))
+answered_from zero text tokens (b ∷ rest) readable h le = absurd (omega arith)
+answered_from (suc n) text tokens (b ∷ rest) readable h le =
+    let place = length text - length (b ∷ rest) in
+    answered_by text tokens (b ∷ rest) place (piece_at place (b ∷ rest)) readable h refl (piece_at_sound place b rest)
+    (λ more after read shorter. answered_from n text more after readable read (omega arith))
+
+pub has_answer : HasAnswer
+has_answer text = ⊎_elim
+    (λ long. (Err TooLong, long))
+    (λ short. ⊎_elim
+    (λ utf8.
+    let start = drop (start_of text) text in
+    answered_from (length start) text [] start (record { short = short; utf8 = IsUtf8-from_is_utf8 text utf8 }) (none_read text start refl) (omega arith))
+    (λ other. (Err NotUtf8, (short, λ utf8. both_ways (is_utf8 text) other (is_utf8-from_IsUtf8 text utf8))))
+    (cases_Bool (is_utf8 text)))
+    (cases_lt most_bytes (length text))

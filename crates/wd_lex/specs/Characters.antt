@@ -10,9 +10,11 @@ is_blank b = b == 9 || b == 10 || b == 12 || b == 13 || b == 32
 abbrev pub is_line_end : ℕ → Bool
 is_line_end b = b == 10 || b == 13
 
+-- 0 to 9
 abbrev pub is_digit : ℕ → Bool
 is_digit b = is_ascii_digit b
 
+-- the code of `_`
 abbrev pub underscore : ℕ
 underscore = 95
 
@@ -28,8 +30,10 @@ goes_on_word b = is_ascii_alphanumeric b || b == underscore || b == 36
 abbrev pub spoils_number : ℕ → Bool
 spoils_number b = is_ascii_alphabetic b || b == underscore || b == 46
 
+-- the code of `'`
 abbrev pub single_quote : ℕ
 single_quote = 39
 
+-- the code of `"`
 abbrev pub double_quote : ℕ
 double_quote = 34

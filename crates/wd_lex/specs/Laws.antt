@@ -14,6 +14,10 @@ HasOneListOfTokens = (text : List ℕ) (first second : List Token) → IsLexed t
 abbrev pub HasOneAnswer : Type 0
 HasOneAnswer = (text : List ℕ) (first second : Result (List Token) LexError) → IsAnswer text first → IsAnswer text second → first ≡ second
 
+-- Each text has an answer: it is cut into pieces to its end, or up to a cause.
+abbrev pub HasAnswer : Type 0
+HasAnswer = (text : List ℕ) → (answer : Result (List Token) LexError) × IsAnswer text answer
+
 -- No longer front of what a piece begins is a piece.
 abbrev pub IsLongestFront : Type 0
 IsLongestFront = (piece longer : Piece) (rest more : List ℕ) → Stands piece rest → IsPiece longer → spelling piece ++ rest ≡ spelling longer ++ more → length (spelling longer) ≤ length (spelling piece)

@@ -1,4 +1,5 @@
--- Reading a text from left to right, a piece at a time.
+-- Reading a text from left to right, a piece at a time. Contracts of private functions cite it. That it reads just the
+-- pieces, and refuses just where a cause stands, is proved in proofs/SoundReading and proofs/CompleteReading.
 use Rattle.std.specs.Prelude.{ℕ, ◌+◌, ◌-◌, Bool, false, not, ◌&&◌, if◌then◌else◌, ◌==◌, nat_eq, nat_le, codes, List, [], ◌∷◌, ◌++◌, length, take, drop, slice_index, Option, Some, None, is_some, Result, Ok, Err}
 use Rattle.std.specs.List.{prefix_len, take_while, starts_with}
 use Rattle.std.specs.Option.{option_map}
@@ -14,6 +15,7 @@ use Rattle.wd_lex.specs.Characters.{is_blank, is_line_end, is_digit, begins_word
 use Rattle.wd_lex.specs.Marks.{symbols, lookup}
 use Rattle.wd_lex.specs.Pieces.{Piece, Blanks, LineComment, BlockComment, Word, Number, QuotedName, QuotedText, Symbol, kind_of, greatest_number}
 
+-- what a run of a class is made of
 abbrev pub is_in : Class → ℕ → Bool
 is_in class.Blank b = is_blank b
 is_in class.Line b = not (is_line_end b)
@@ -70,6 +72,7 @@ is_spoiled (b ∷ bytes) = spoils_number b
 abbrev pub number_value : List ℕ → Option ℕ
 number_value digits = if nat_le (digits_value 10 digits) greatest_number then Some (digits_value 10 digits) else None
 
+-- whether digits and what follows them are a number
 abbrev pub is_good_number : List ℕ → List ℕ → Bool
 is_good_number digits rest = nat_le (digits_value 10 digits) greatest_number && not (is_spoiled rest)
 
@@ -77,21 +80,26 @@ is_good_number digits rest = nat_le (digits_value 10 digits) greatest_number && 
 abbrev pub Reading : Type 0
 Reading = Result (Piece × List ℕ) LexError
 
+-- a block comment, by the place behind it
 abbrev pub read_comment : ℕ → List ℕ → Option ℕ → Reading
 read_comment place bytes None = Err (CommentNotClosed place)
 read_comment place bytes (Some end) = Ok (BlockComment (drop 2 (take end bytes)), drop end bytes)
 
+-- a quoted name, by what its quotes hold and what follows
 abbrev pub read_name : ℕ → Option (List ℕ × List ℕ) → Reading
 read_name place None = Err (NameNotClosed place)
 read_name place (Some found) = if length found.0 == 0 then Err (NameNotClosed place) else Ok (QuotedName found.0, found.1)
 
+-- a text, by the same
 abbrev pub read_text : ℕ → Option (List ℕ × List ℕ) → Reading
 read_text place None = Err (TextNotClosed place)
 read_text place (Some found) = Ok (QuotedText found.0, found.1)
 
+-- a number, by its digits and what follows
 abbrev pub read_number : ℕ → List ℕ → List ℕ → Reading
 read_number place digits rest = if is_good_number digits rest then Ok (Number digits, rest) else Err (BadNumber place)
 
+-- a symbol, by the longest there
 abbrev pub read_symbol : ℕ → List ℕ → List ℕ → Reading
 read_symbol place front bytes = if is_some (lookup symbols front) then Ok (Symbol front, drop (length front) bytes) else Err (UnknownCharacter place)
 

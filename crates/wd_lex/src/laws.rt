@@ -1,6 +1,6 @@
 //! Laws of texts and their tokens, over the definitions alone.
 
-ghost use Rattle.wd_lex.specs.Laws.{HasOneListOfTokens, HasOneAnswer, IsLongestFront, CommentsComeFirst};
+ghost use Rattle.wd_lex.specs.Laws.{HasOneListOfTokens, HasOneAnswer, HasAnswer, IsLongestFront, CommentsComeFirst};
 
 /// A text has at most one list of tokens.
 pub fn one_list_of_tokens()
@@ -10,6 +10,11 @@ pub fn one_list_of_tokens()
 /// A text has at most one answer: one list of tokens, or one refusal at one place.
 pub fn one_answer()
     ensures { HasOneAnswer }
+{}
+
+/// Each text has an answer: its tokens, or a refusal.
+pub fn has_answer()
+    ensures { HasAnswer }
 {}
 
 /// A piece is the longest front of what it begins that is a piece.

@@ -167,6 +167,7 @@ fn bytes_are_refused(rt: HostRuntime) -> Result<(), Fail> {
 fn laws_hold() {
     laws::one_list_of_tokens();
     laws::one_answer();
+    laws::has_answer();
     laws::longest_front();
     laws::comments_come_first();
 }

@@ -1,5 +1,5 @@
 -- A plan reads the orderings of its own nodes alone, so a choice may be made longer.
-use Rattle.std.proofs.Common.{◌≡◌, ℕ, ◌+◌, ◌<◌, List, [], ◌∷◌, ◌++◌, length, refl, sym, ◌∙◌, ap, subst, arith, Ok, Err}
+use Rattle.std.proofs.Common.{◌≡◌, ℕ, ◌+◌, ◌<◌, List, [], ◌∷◌, ◌++◌, length, refl, sym, ◌∙◌, ap, subst, arith, Ok}
 use Rattle.std.proofs.lemmas.List.{get_or_append_left, length-append}
 use Rattle.std.proofs.Math.Seq.{get_or-append_seam}
 use Rattle.wd_value.specs.Rows.{Row, Instance, rows_at}
@@ -7,7 +7,7 @@ use Rattle.wd_plan.specs.Expressions.{Expression}
 use Rattle.wd_plan.specs.Plans.{PlanTree, Scan, Map, Limit, LimitRule, ordering_count}
 use Rattle.wd_plan.specs.Faults.{and_then}
 use Rattle.wd_plan.specs.Outcomes.{RowsOrFault, outcome, map_outcome, ordering_at, cut}
-use Rattle.wd_plan.specs.Choices.{IsOrderingOf, AreLawful, IsValidChoice, IsAnswerOf}
+use Rattle.wd_plan.specs.Choices.{IsOrderingOf, AreLawful, IsAnswerOf}
 use Rattle.wd_plan.specs.Sorting.{IsOrdering}
 
 ordering_at-append : (choice more : List (List ℕ)) (n : ℕ) → n < length choice → ordering_at (choice ++ more) n ≡ ordering_at choice n
@@ -25,10 +25,11 @@ pub AreLawful-append : (plan : PlanTree) (instance : Instance) (choice more : Li
 AreLawful-append (Scan table columns) instance choice more count e h lawful = tt
 AreLawful-append (Map outputs input) instance choice more count e h lawful = AreLawful-append input instance choice more count e h lawful
 AreLawful-append (Limit rule input) instance choice more count e h lawful =
-    let n : ordering_count input < length choice = omega arith in
-    (AreLawful-append input instance choice more (ordering_count input) refl (omega arith) lawful.0,
-    subst (λ o. IsOrderingOf o [] rule.keys (ordering_at (choice ++ more) (ordering_count input))) (sym (outcome-append input instance choice more (ordering_count input) refl (omega arith)))
-    (subst (λ o. IsOrderingOf (outcome input instance choice) [] rule.keys o) (sym (ordering_at-append choice more (ordering_count input) n)) lawful.1))
+    let n : ordering_count input < length choice = omega arith in (
+      AreLawful-append input instance choice more (ordering_count input) refl (omega arith) lawful.0,
+      subst (λ o. IsOrderingOf o [] rule.keys (ordering_at (choice ++ more) (ordering_count input))) (sym (outcome-append input instance choice more (ordering_count input) refl (omega arith)))
+          (subst (λ o. IsOrderingOf (outcome input instance choice) [] rule.keys o) (sym (ordering_at-append choice more (ordering_count input) n)) lawful.1),
+    )
 
 -- ---- an answer of a node from one of its input
 
@@ -53,8 +54,10 @@ IsAnswerOf-limit rule input instance rows ordering below lawful =
       choice = all;
       valid = record {
         number = length-append choice (ordering ∷ []) ∙ ap (λ n. n + 1) number;
-        lawful = (AreLawful-append input instance choice (ordering ∷ []) (ordering_count input) refl (omega arith) below.valid.lawful,
-          subst (λ o. IsOrderingOf o [] rule.keys (ordering_at all (ordering_count input))) same (subst (λ o. IsOrdering [] rule.keys rows o) own lawful));
+        lawful = (
+          AreLawful-append input instance choice (ordering ∷ []) (ordering_count input) refl (omega arith) below.valid.lawful,
+          subst (λ o. IsOrderingOf o [] rule.keys (ordering_at all (ordering_count input))) same (subst (λ o. IsOrdering [] rule.keys rows o) own lawful),
+        );
       };
       is = (λ i. and_then (same i) (λ rs. Ok (cut rule (rows_at rs (own i)))));
     }

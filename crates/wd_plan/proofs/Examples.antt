@@ -1,8 +1,8 @@
 -- Worked examples, computed from the definitions: the table id, v with the rows 1, 10; 2, NULL; 3, 10; 4, 5.
-use Rattle.std.proofs.Common.{◌≡◌, ℕ, pos, true, false, List, [], ◌∷◌, Ok, Some, refl}
+use Rattle.std.proofs.Common.{◌≡◌, ℕ, pos, true, false, [], ◌∷◌, Ok, Some, refl}
 use Rattle.wd_value.specs.declared.value.Value.{Value}
 use Rattle.wd_value.specs.declared.value.Value.TheVariants.{Null, Int}
-use Rattle.wd_value.specs.Rows.{Row, Instance}
+use Rattle.wd_value.specs.Rows.{Instance}
 use Rattle.wd_plan.specs.declared.plan.OrderItem.{OrderItem}
 use Rattle.wd_plan.specs.Expressions.{Column}
 use Rattle.wd_plan.specs.Plans.{PlanTree, Scan, Map, Limit, ordering_count}

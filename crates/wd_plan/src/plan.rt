@@ -20,9 +20,15 @@ pub struct OrderItem {
 #[derive(Debug, Drop)]
 pub enum Plan {
     /// The rows of the schema's table with this number, which has so many columns.
-    Scan { table: u16, columns: u16 },
+    Scan {
+        table: u16,
+        columns: u16,
+    },
     /// The values of the expressions over each row of the input.
-    Map { input: Box<Plan>, outputs: Vec<Expr> },
+    Map {
+        input: Box<Plan>,
+        outputs: Vec<Expr>,
+    },
     /// The rows of the input as the keys sort them, without the first `offset`, and of those no
     /// more than `count`, where there is a count.
     Limit {

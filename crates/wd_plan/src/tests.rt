@@ -39,7 +39,10 @@ fn counts_an_ordering_for_each_sort(rt: HostRuntime) -> Result<(), Fail> {
     let alloc = rt.alloc();
     assert_eq!(rt; scan().orderings(), 0);
     assert_eq!(rt; map(alloc, limit(alloc, scan())?)?.orderings(), 1);
-    assert_eq!(rt; limit(alloc, map(alloc, limit(alloc, scan())?)?)?.orderings(), 2);
+    assert_eq!(rt;
+        limit(alloc, map(alloc, limit(alloc, scan())?)?)?.orderings(),
+        2
+    );
     agreeing_is_an_equivalence();
     Ok(())
 }

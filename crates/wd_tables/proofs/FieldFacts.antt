@@ -1,6 +1,6 @@
 -- What `parse` reads of a field is the whole number that the field writes.
-use Rattle.std.proofs.Common.{◌≡◌, ◌≢◌, ◌∙◌, ℕ, zero, suc, inl, inr, ◌+◌, ◌^◌, ◌<◌, ◌≤◌, ◌==◌, ◌&&◌, Bool, true, false, List, [], ◌∷◌, length, get_or, drop, Option, Some, None, Result, Ok, Err, option_map, refl, sym, ap, w64, arith, rules, leb}
-use Rattle.std.specs.Prelude.{ℤ, pos, negsuc, neg_ℤ, option_and_then, if◌then◌else◌}
+use Rattle.std.proofs.Common.{◌≡◌, ◌≢◌, ℕ, zero, suc, ◌^◌, ◌<◌, ◌≤◌, ◌&&◌, Bool, true, false, List, [], ◌∷◌, length, get_or, drop, Option, Some, None, Result, Ok, Err, option_map, refl, sym, w64, arith, leb}
+use Rattle.std.specs.Prelude.{ℤ, pos, neg_ℤ, option_and_then, if◌then◌else◌}
 use Rattle.std.specs.Result.{OkIff, result_ok}
 use Rattle.std.specs.Str.{all_ascii_digits}
 use Rattle.std.specs.Str.Parse.{ParsesSigned, digits_value, starts_with_minus}

@@ -88,9 +88,9 @@ module _ (key : KeyRule) (rows : List Row) (order : List ℕ) where
   within_all n o all most short h =
       least_as (ViolatesWithin key rows order n) (ViolatesBefore key rows order) o
       (λ q. within_weaker n (length order) q (λ i l. elim (cases_lt 0 (length order)) [
-          | inl some ↦ let top = most some in omega arith
-          | inr none ↦ absurd (omega arith)
-        ])) (λ q. within_weaker (length order) n q (λ i l. omega arith)) h
+        | inl some ↦ let top = most some in omega arith
+        | inr none ↦ absurd (omega arith)
+      ])) (λ q. within_weaker (length order) n q (λ i l. omega arith)) h
 
 -- ---- over the keys
 

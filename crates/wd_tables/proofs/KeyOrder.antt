@@ -1,14 +1,14 @@
 -- In the order of a key, rows that are the same on it stand side by side.
-use Rattle.std.proofs.Common.{◌≡◌, ◌≢◌, ◌∙◌, ℕ, zero, suc, ◌+◌, ◌-◌, ◌<◌, ◌≤◌, ◌==◌, ◌&&◌, Bool, true, false, cond, not, List, [], ◌∷◌, ◌++◌, get_or, length, refl, sym, ap, arith, add-one, inl, inr, Ordering, Less, Equal, Greater, eqb}
-use Rattle.std.specs.Prelude.{IsPermutation, Contains, nat_eq, nat_lt}
+use Rattle.std.proofs.Common.{◌≡◌, ◌≢◌, ◌∙◌, ℕ, zero, suc, ◌+◌, ◌-◌, ◌<◌, ◌≤◌, ◌&&◌, Bool, true, false, cond, not, List, [], ◌∷◌, get_or, length, refl, sym, arith, add-one, inl, inr, Ordering, Less, Equal, Greater}
+use Rattle.std.specs.Prelude.{Contains, nat_eq, nat_lt}
 use Rattle.std.specs.List.{list_any, range_with_len}
 use Rattle.std.specs.Ordering.{is_lt, nat_cmp, ordering_reverse, ordering_then}
 use Rattle.std.specs.Cmp.{IsStrictWeakOrder, IsTotalOrder}
-use Rattle.std.proofs.lemmas.Bool.{and_parts, cases_lt, eqb-false, eqb-true, eq-eqb, false≢true, lt-ltb, ne_eqb, ltb-false}
+use Rattle.std.proofs.lemmas.Bool.{and_parts, cases_lt, eqb-true, eq-eqb, false≢true, ne_eqb, ltb-false}
 use Rattle.std.proofs.lemmas.Cmp.{nat_cmp_total, on_total, then_total, tied_itself}
 use Rattle.std.proofs.lemmas.List.{get_or_default}
 use Rattle.std.proofs.lemmas.List.FromFn.{get_or-range_with_len, length-range_with_len}
-use Rattle.std.proofs.lemmas.List.Sorted.{Contains-permutation, IsPermutation-sym, length_permutation, ranks_by, sorted_far, sum_by-IsPermutation}
+use Rattle.std.proofs.lemmas.List.Sorted.{Contains-permutation, IsPermutation-sym, ranks_by, sorted_far, sum_by-IsPermutation}
 use Rattle.wd_value.proofs.OrderLaws.{compare-exact, compare_total}
 use Rattle.wd_value.proofs.Perms.{count_by-cons, count_by-no, count_by-yes}
 use Rattle.wd_value.proofs.SameLaws.{same_row-Decides}
@@ -156,9 +156,9 @@ module _ (key : KeyRule) (rows : List Row) (order : List ℕ) (s : IsSortedBy ke
       let i-is : get_or order i 0 ≡ p = get_or_default order i 0 p i-within ∙ i-at in
       let far = sorted_far lt (position_order key.columns rows) order s.sorted in
       let in_turn : i < j = elim (cases_lt i j) [
-          | inl less ↦ less
-          | inr after ↦ let up : lt p q ≡ false = rw (i-is, j-is) at (far j i 0 after i-within) in let no = by_position p q parts.0 up in absurd (omega arith)
-        ] in
+        | inl less ↦ less
+        | inr after ↦ let up : lt p q ≡ false = rw (i-is, j-is) at (far j i 0 after i-within) in let no = by_position p q parts.0 up in absurd (omega arith)
+      ] in
       let k = j - 1 in
       let m = get_or order k 0 in
       let next : k + 1 ≡ j = omega arith in

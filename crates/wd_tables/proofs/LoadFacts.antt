@@ -1,14 +1,14 @@
 -- The rows of a text, record by record, and why a text has none.
-use Rattle.std.proofs.Common.{◌≡◌, ◌∙◌, ℕ, ◌+◌, ◌-◌, ◌<◌, ◌≤◌, true, List, [], ◌∷◌, ◌++◌, get_or, drop, length, map, Option, Some, None, ext_get_or, refl, sym, ap, arith, inl, inr}
+use Rattle.std.proofs.Common.{◌≡◌, ◌∙◌, ℕ, ◌+◌, ◌<◌, ◌≤◌, true, List, [], ◌∷◌, ◌++◌, get_or, length, map, Some, None, ext_get_or, refl, sym, ap, arith, inl, inr}
 use Rattle.std.specs.Prelude.{All}
 use Rattle.std.proofs.lemmas.Bool.{cases_lt}
 use Rattle.std.proofs.lemmas.List.{get_or-drop, get_or-map, get_or_append_left, get_or_at, get_or_default, length-append, length-drop, length-map}
-use Rattle.csv.specs.Records.{AllText}
-use Rattle.wd_value.specs.Rows.{Row, row_at}
+use Rattle.wd_value.specs.Rows.{Row}
 use Rattle.wd_value.specs.declared.value.Value.{Value}
 use Rattle.wd_schema.specs.Meets.{MeetsTable, fits_columns}
 use Rattle.wd_schema.specs.Tables.{KeyRule, TableRule}
-use Rattle.wd_tables.specs.Causes.{HasCause, IsLeast, RefusesHeader, RefusesRecord, Repeats}
+use Rattle.wd_tables.specs.Causes.{HasCause, IsLeast, Repeats}
+use Rattle.wd_tables.specs.Refusals.{RefusesHeader, RefusesRecord}
 use Rattle.wd_tables.specs.Data.{HoldsRows, NamesEachOnce, data_of, header_of, most_records, record_at, records_of, values_in}
 use Rattle.wd_tables.proofs.KeyFacts.{keeps_all}
 use Rattle.wd_tables.specs.Reading.{HoldsFirst, IsRecord}
@@ -57,17 +57,17 @@ holds_more columns text n rows fields row h r values fits = record {
   names = h.names;
   count = length-append rows (row ∷ []) ∙ rw h.count refl;
   records = λ k l. elim (cases_lt k (n + 1)) [
-      | inl before ↦ h.records k (omega arith)
-      | inr after ↦ let last : k ≡ n + 1 = omega arith in rw (last, r.same) (r.encoded, r.even)
-    ];
+    | inl before ↦ h.records k (omega arith)
+    | inr after ↦ let last : k ≡ n + 1 = omega arith in rw (last, r.same) (r.encoded, r.even)
+  ];
   values = λ k l. elim (cases_lt k n) [
-      | inl before ↦ rw (get_or_append_left rows (row ∷ []) [] k (omega (arith, h.count))) (h.values k before)
-      | inr after ↦ let last : k ≡ n = omega arith in rw (get_or_at rows row [] [] k (h.count ∙ sym last), last, r.same) values
-    ];
+    | inl before ↦ rw (get_or_append_left rows (row ∷ []) [] k (omega (arith, h.count))) (h.values k before)
+    | inr after ↦ let last : k ≡ n = omega arith in rw (get_or_at rows row [] [] k (h.count ∙ sym last), last, r.same) values
+  ];
   fits = λ k l. elim (cases_lt k n) [
-      | inl before ↦ rw (get_or_append_left rows (row ∷ []) [] k (omega (arith, h.count))) (h.fits k before)
-      | inr after ↦ let last : k ≡ n = omega arith in rw (get_or_at rows row [] [] k (h.count ∙ sym last)) fits
-    ];
+    | inl before ↦ rw (get_or_append_left rows (row ∷ []) [] k (omega (arith, h.count))) (h.fits k before)
+    | inr after ↦ let last : k ≡ n = omega arith in rw (get_or_at rows row [] [] k (h.count ∙ sym last)) fits
+  ];
 }
 
 -- all of them
@@ -79,13 +79,13 @@ holds_all table text n rows h all few = record {
   encoded = λ k d lt. rw (get_or_default (records_of text) k d [] lt) (h.records k (omega arith)).0;
   few = rw (length-drop 1 (records_of text)) (omega arith);
   values = ext_get_or [] _ _ (length-map (data_of text) (values_in table.columns (header_of text)) ∙ length-drop 1 (records_of text) ∙ rw (all) (omega (arith, h.count, length-map rows (map (λ (v : Value). Some v)))))
-    (λ k lt.
-        let in_data : k < length (data_of text) = rw (length-map (data_of text) (values_in table.columns (header_of text))) at lt in
-        let below : k < n = omega (arith, length-drop 1 (records_of text)) in
-        let next : 1 + k ≡ k + 1 = omega arith in
-        let at : get_or (data_of text) k [] ≡ record_at text (k + 1) = get_or-drop 1 (records_of text) k [] ∙ ap (record_at text) next in
-        get_or-map (values_in table.columns (header_of text)) (data_of text) k [] [] in_data
-        ∙ ap (values_in table.columns (header_of text)) at ∙ h.values k below ∙ sym (get_or-map (map (λ (v : Value). Some v)) rows k [] [] (omega (arith, h.count))));
+      (λ k lt.
+      let in_data : k < length (data_of text) = rw (length-map (data_of text) (values_in table.columns (header_of text))) at lt in
+      let below : k < n = omega (arith, length-drop 1 (records_of text)) in
+      let next : 1 + k ≡ k + 1 = omega arith in
+      let at : get_or (data_of text) k [] ≡ record_at text (k + 1) = get_or-drop 1 (records_of text) k [] ∙ ap (record_at text) next in
+      get_or-map (values_in table.columns (header_of text)) (data_of text) k [] [] in_data
+      ∙ ap (values_in table.columns (header_of text)) at ∙ h.values k below ∙ sym (get_or-map (map (λ (v : Value). Some v)) rows k [] [] (omega (arith, h.count))));
 }
 
 pub fits_all : (columns : List Column) (text : List ℕ) (n : ℕ) (rows : List Row) → HoldsFirst columns text n rows → All (λ row. fits_columns columns row ≡ true) rows

@@ -1,5 +1,5 @@
 -- A row that grows by a value of its next column.
-use Rattle.std.proofs.Common.{◌≡◌, ◌&&◌, Bool, true, false, List, [], ◌∷◌, ◌++◌, refl}
+use Rattle.std.proofs.Common.{◌≡◌, true, List, [], ◌∷◌, ◌++◌, refl}
 use Rattle.std.proofs.lemmas.Bool.{and_parts, false≢true}
 use Rattle.wd_value.specs.Rows.{Row}
 use Rattle.wd_value.specs.declared.value.Value.{Value}

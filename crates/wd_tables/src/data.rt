@@ -52,11 +52,7 @@ fn read_rows(alloc: Global, table: &Table, text: &[u8]) -> Result<Vec<Row>, Data
     Ok(rows)
 }
 
-fn read_all(
-    alloc: Global,
-    table: &Table,
-    reader: &mut Reader<&[u8]>,
-) -> Result<Vec<Row>, DataError>
+fn read_all(alloc: Global, table: &Table, reader: &mut Reader<&[u8]>) -> Result<Vec<Row>, DataError>
     ensures holds { (text : List ℕ) → HasRead text 0 reader.old → IfOk result (λ v. HoldsRows (table_of table.now) text (rows_of v.items)) }
     ensures fits { (text : List ℕ) → HasRead text 0 reader.old → IfOk result (λ v. All (λ row. fits_columns table.now.columns.items row ≡ true) (rows_of v.items)) }
     ensures refused { (text : List ℕ) → HasRead text 0 reader.old → IfErr result (λ e. HasCause (table_of table.now) text e) }

@@ -53,9 +53,8 @@ impl DataError {
         ensures { result ≡ place_of self.now }
     {
         match self {
-            DataError::Value { record }
-            | DataError::Null { record }
-            | DataError::Key { record } => Some(*record),
+            DataError::Value { record } | DataError::Null { record } | DataError::Key { record } =>
+                Some(*record),
             _ => None,
         }
     }

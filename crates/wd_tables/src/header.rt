@@ -2,7 +2,7 @@ ghost use Rattle.std.specs.Prelude.{◌≡◌, map, IfOk, IfErr};
 ghost use Rattle.csv.specs.Records.{fields_of};
 ghost use Rattle.wd_value.specs.Bags.{times};
 ghost use Rattle.std.specs.Str.{bytes_eq};
-ghost use Rattle.wd_tables.specs.Causes.{RefusesHeader};
+ghost use Rattle.wd_tables.specs.Refusals.{RefusesHeader};
 ghost use Rattle.wd_tables.specs.Data.{NamesEachOnce};
 ghost use Rattle.wd_tables.specs.Data as spec;
 

@@ -15,11 +15,7 @@ use wd_schema::Key;
 use wd_value::{OutOfMemory, Row, SortKey, Value, compare, same};
 
 /// The first row that repeats an earlier one in some key.
-pub fn first_repeat(
-    alloc: Global,
-    keys: &[Key],
-    rows: &[Row],
-) -> Result<Option<usize>, OutOfMemory>
+pub fn first_repeat(alloc: Global, keys: &[Key], rows: &[Row]) -> Result<Option<usize>, OutOfMemory>
     ensures { IfOk result (λ o. IsLeast (Repeats (map key_of keys.now) (rows_of rows.now)) o) }
 {
     let mut first = None;

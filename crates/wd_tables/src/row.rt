@@ -2,7 +2,7 @@ ghost use Rattle.std.specs.Prelude.{◌≡◌, ℕ, List, true, length, map, Som
 ghost use Rattle.csv.specs.Records.{fields_of};
 ghost use Rattle.wd_schema.specs.Meets.{fits_columns, may_hold};
 ghost use Rattle.wd_schema.specs.Meets as meets;
-ghost use Rattle.wd_tables.specs.Causes.{RefusesField, RefusesRecord};
+ghost use Rattle.wd_tables.specs.Refusals.{RefusesField, RefusesRecord};
 ghost use Rattle.wd_tables.specs.Data.{place_of, values_in};
 ghost use Rattle.wd_tables.specs.Fields as spec;
 
@@ -62,12 +62,7 @@ fn refuse_first(
 }
 
 // The value of a field of a record in a column.
-fn value_of(
-    alloc: Global,
-    column: &Column,
-    field: &str,
-    number: u64,
-) -> Result<Value, DataError>
+fn value_of(alloc: Global, column: &Column, field: &str, number: u64) -> Result<Value, DataError>
     ensures value { IfOk result (λ v. spec.field_value column.now field.now ≡ Some v) }
     ensures held { IfOk result (λ v. may_hold column.now v ≡ true) }
     ensures refused { IfErr result (λ e. RefusesField column.now field.now number e) }

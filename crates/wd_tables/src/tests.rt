@@ -48,7 +48,7 @@ fn one_column(alloc: Global) -> Result<Table, AllocError> {
     })
 }
 
-// s SMALLINT, i INTEGER NOT NULL, x TEXT, b BOOLEAN, PRIMARY KEY (s, x) but for the NULLs
+// s SMALLINT, i INTEGER NOT NULL, x TEXT, b BOOLEAN, UNIQUE (s, x)
 fn each_type(alloc: Global) -> Result<Table, AllocError> {
     Ok(Table {
         name: Text::from_str(alloc, "t")?,
@@ -98,11 +98,20 @@ fn loaded(alloc: Global, table: &Table, text: &[u8]) -> Result<Vec<u8>, AllocErr
 fn loads_the_worked_table(rt: HostRuntime) -> Result<(), Fail> {
     let table = worked(rt.alloc())?;
     let cases: [(&[u8], &[u8]); 15] = [
-        (b"id,g,v,u\n1,a,10,\n2,b,10,\n3,c,20,\n4,d,,\n", b"id,g,v,u\n1,a,10,\n2,b,10,\n3,c,20,\n4,d,,\n"),
+        (
+            b"id,g,v,u\n1,a,10,\n2,b,10,\n3,c,20,\n4,d,,\n",
+            b"id,g,v,u\n1,a,10,\n2,b,10,\n3,c,20,\n4,d,,\n",
+        ),
         (b"id,g,v,u\n", b"id,g,v,u\n"),
-        (b"id,g,v,u\n1,a,-9223372036854775808,\n", b"id,g,v,u\n1,a,-9223372036854775808,\n"),
+        (
+            b"id,g,v,u\n1,a,-9223372036854775808,\n",
+            b"id,g,v,u\n1,a,-9223372036854775808,\n",
+        ),
         (b"u,v,g,id\n,5,a,1\n", b"id,g,v,u\n1,a,5,\n"),
-        (b"\xEF\xBB\xBFid,g,v,u\r\n1,\"a,\"\"b\n\",,7\r\n\r\n2,,,\r\n", b"id,g,v,u\n1,\"a,\"\"b\n\",,7\n2,,,\n"),
+        (
+            b"\xEF\xBB\xBFid,g,v,u\r\n1,\"a,\"\"b\n\",,7\r\n\r\n2,,,\r\n",
+            b"id,g,v,u\n1,\"a,\"\"b\n\",,7\n2,,,\n",
+        ),
         (b"id,g,v,u\n1,a,,\n1,b,,\n", b"704 at 2"),
         (b"id,g,v\n1,a,\n", b"701"),
         (b"id,g,v,v\n1,a,,\n", b"701"),
@@ -130,7 +139,10 @@ fn judges_in_order(rt: HostRuntime) -> Result<(), Fail> {
         (b"id,g,v,u\n1,a,1,\n2,\xC3,,\n", b"705"),
         (b"v,id,g,u\nx,,a,\n", b"702 at 1"),
         (b"id,v,g,u\n,x,a,\n", b"703 at 1"),
-        (b"id,g,v,u\n1,a,,\n1,a,,\n3,a,9223372036854775808,\n", b"702 at 3"),
+        (
+            b"id,g,v,u\n1,a,,\n1,a,,\n3,a,9223372036854775808,\n",
+            b"702 at 3",
+        ),
         (b"id,g,v,u\n1,a,,7\n2,a,,8\n3,a,,8\n2,a,,9\n", b"704 at 3"),
     ];
     for (text, want) in cases {
@@ -144,8 +156,14 @@ fn judges_in_order(rt: HostRuntime) -> Result<(), Fail> {
 fn reads_each_type(rt: HostRuntime) -> Result<(), Fail> {
     let table = each_type(rt.alloc())?;
     let cases: [(&[u8], &[u8]); 16] = [
-        (b"s,i,x,b\n-32768,2147483647,a,T\n0032767,-2147483648,a,fAlSe\n-0,0,a,TRUE\n", b"s,i,x,b\n-32768,2147483647,a,true\n32767,-2147483648,a,false\n0,0,a,true\n"),
-        (b"b,x,i,s\nf,,1,\nf,,1,\n", b"s,i,x,b\n,1,,false\n,1,,false\n"),
+        (
+            b"s,i,x,b\n-32768,2147483647,a,T\n0032767,-2147483648,a,fAlSe\n-0,0,a,TRUE\n",
+            b"s,i,x,b\n-32768,2147483647,a,true\n32767,-2147483648,a,false\n0,0,a,true\n",
+        ),
+        (
+            b"b,x,i,s\nf,,1,\nf,,1,\n",
+            b"s,i,x,b\n,1,,false\n,1,,false\n",
+        ),
         (b"s,i,x,b\n5,1,,\n5,1,,\n", b"s,i,x,b\n5,1,,\n5,1,,\n"),
         (b"s,i,x,b\n5,1,a,\n5,1,b,\n5,2,b,\n", b"704 at 3"),
         (b"s,i,x,b\n32768,1,,\n", b"702 at 1"),
@@ -187,17 +205,52 @@ fn loads_one_column(rt: HostRuntime) -> Result<(), Fail> {
 #[test]
 fn writes_answers(rt: HostRuntime) -> Result<(), Fail> {
     let alloc = rt.alloc();
-    let names = vec![in alloc; Text::from_str(alloc, "?column?")?, Text::from_str(alloc, "b,c")?]?;
+    let names = vec![in alloc;
+        Text::from_str(alloc, "?column?")?,
+        Text::from_str(alloc, "b,c")?,
+    ]?;
     let rows: Vec<Row> = vec![in alloc;
         vec![in alloc; Value::Null, Value::Text(Text::from_str(alloc, "")?)]?,
-        vec![in alloc; Value::Int(i64::MIN), Value::Text(Text::from_str(alloc, "a,\"\n")?)]?,
+        vec![in alloc;
+            Value::Int(i64::MIN),
+            Value::Text(Text::from_str(alloc, "a,\"\n")?)
+        ]?,
         vec![in alloc; Value::Bool(true), Value::Bool(false)]?,
     ]?;
     let text = answer_text(alloc, &names, &rows).map_err(|_| AllocError)?;
-    assert!(rt; text.as_slice() == b"?column?,\"b,c\"\n,\n-9223372036854775808,\"a,\"\"\n\"\ntrue,false\n".as_slice());
+    assert!(rt;
+        text.as_slice()
+            == b"?column?,\"b,c\"\n,\n-9223372036854775808,\"a,\"\"\n\"\ntrue,false\n".as_slice()
+    );
     let rows: Vec<Row> = vec![in alloc; vec![in alloc; Value::Null]?]?;
     let text = answer_text(alloc, &names[..1], &rows).map_err(|_| AllocError)?;
     assert!(rt; text.as_slice() == b"?column?\n\"\"\n".as_slice());
+    Ok(())
+}
+
+// A header and so many records.
+fn records(alloc: Global, count: u32) -> Result<Vec<u8>, AllocError> {
+    let mut text = Vec::from_slice(alloc, b"id,g,v,u\n")?;
+    for i in 0..count {
+        let line = format!(in alloc; "{i},a,,\n")?;
+        text.extend_from_slice(line.as_bytes())?;
+    }
+    Ok(text)
+}
+
+#[test]
+fn loads_a_million_records(rt: HostRuntime) -> Result<(), Fail> {
+    let table = worked(rt.alloc())?;
+    let text = records(rt.alloc(), 1_000_000)?;
+    match load(rt.alloc(), &table, &text) {
+        Ok(rows) => assert_eq!(rt; rows.len(), 1_000_000),
+        Err(_) => assert!(rt; false),
+    }
+    let text = records(rt.alloc(), 1_000_001)?;
+    match load(rt.alloc(), &table, &text) {
+        Ok(_) => assert!(rt; false),
+        Err(refusal) => assert_eq!(rt; refusal.number(), Some(706)),
+    }
     Ok(())
 }
 

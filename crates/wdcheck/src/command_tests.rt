@@ -1,5 +1,8 @@
 //! The program over files in memory.
 
+ghost use Rattle.std.specs.Prelude.{◌<◌, ◌-◌, ◌^◌};
+ghost use Rattle.wdcheck.specs.Memory.{failures_of};
+
 use crate::command::command;
 use crate::failure::{Failure, report};
 use crate::memory::MemoryFiles;
@@ -32,7 +35,7 @@ struct End {
 }
 
 fn end_of(alloc: Global, words: &[&str], files: &mut MemoryFiles<'_>) -> End
-    requires { files.old.failures < 2 ^ 64 - 1 }
+    requires { failures_of files.old < 2 ^ 64 - 1 }
 {
     let mut out = Vec::new(alloc);
     let mut err = Vec::new(alloc);
@@ -540,18 +543,16 @@ static FILES: [(&str, &[u8]); 3] = [
 fn names_the_file_that_fails(rt: HostRuntime) -> Result<(), Fail> {
     let alloc = rt.alloc();
     let texts = [
-        "cannot read schema.sql\n",
-        "cannot read query.sql\n",
-        "cannot read a=b.csv\n",
+        (0, "cannot read schema.sql\n"),
+        (1, "cannot read query.sql\n"),
+        (2, "cannot read a=b.csv\n"),
     ];
-    let mut reads = 0;
-    for text in texts {
+    for (reads, text) in texts {
         let mut files = MemoryFiles::new(alloc, &FILES).failing_after(reads);
         let end = end_of(alloc, &RUN, &mut files);
         assert_eq!(rt; end.status, 5);
         assert!(rt; end.out.is_empty());
         assert!(rt; end.err.as_slice() == text.as_bytes());
-        reads += 1;
     }
     Ok(())
 }
@@ -591,7 +592,11 @@ fn leaves_a_prefix_where_a_write_fails(rt: HostRuntime) -> Result<(), Fail> {
     for writes in 0..20usize {
         for flushes in [true, false] {
             let bytes = Vec::new(alloc);
-            let mut out = FailingWriter { bytes, writes, flushes };
+            let mut out = FailingWriter {
+                bytes,
+                writes,
+                flushes,
+            };
             let mut err = Vec::new(alloc);
             let mut files = MemoryFiles::new(alloc, &[]);
             let status = command(alloc, &[], &mut files, &mut out, &mut err);
@@ -619,7 +624,10 @@ fn keeps_the_status_where_standard_error_fails(rt: HostRuntime) -> Result<(), Fa
         };
         let mut out = Vec::new(alloc);
         let mut files = MemoryFiles::new(alloc, &[]);
-        assert_eq!(rt; command(alloc, words, &mut files, &mut out, &mut err), status);
+        assert_eq!(rt;
+            command(alloc, words, &mut files, &mut out, &mut err),
+            status
+        );
         assert!(rt; out.is_empty());
     }
     Ok(())
@@ -629,10 +637,22 @@ fn keeps_the_status_where_standard_error_fails(rt: HostRuntime) -> Result<(), Fa
 fn prints_each_failure(rt: HostRuntime) -> Result<(), Fail> {
     let alloc = rt.alloc();
     let failures = [
-        (Failure::NotText, "error: invalid UTF-8 was detected in one or more arguments\n", 3u8),
+        (
+            Failure::NotText,
+            "error: invalid UTF-8 was detected in one or more arguments\n",
+            3u8,
+        ),
         (Failure::Unassigned("t"), "data t: refused 707\n", 3),
-        (Failure::Fault(Fault::DivisionByZero), "fault F1: division by zero\n", 4),
-        (Failure::Fault(Fault::OutOfRange), "fault F2: out of range\n", 4),
+        (
+            Failure::Fault(Fault::DivisionByZero),
+            "fault F1: division by zero\n",
+            4,
+        ),
+        (
+            Failure::Fault(Fault::OutOfRange),
+            "fault F2: out of range\n",
+            4,
+        ),
         (Failure::CannotRead("a b"), "cannot read a b\n", 5),
         (Failure::CannotWrite, "cannot write\n", 5),
         (Failure::OutOfMemory, "out of memory\n", 5),

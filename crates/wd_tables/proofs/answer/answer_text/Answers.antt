@@ -1,8 +1,7 @@
-use Rattle.std.proofs.Common.{◌≡◌, ◌∙◌, ◌+◌, [], ◌∷◌, ◌++◌, length, map, take, refl, sym, ap, arith}
+use Rattle.std.proofs.Common.{◌≡◌, ◌+◌, [], ◌∷◌, ◌++◌, take, refl, arith}
 use Rattle.std.proofs.lemmas.List.{append-nil, map_more}
-use Rattle.csv.specs.Writing.{default_writer, row_text}
 use Rattle.wd_value.specs.Rows.{rows_of}
-use Rattle.wd_tables.specs.Answers.{HasWritten, answer_text, value_text}
+use Rattle.wd_tables.specs.Answers.{HasWritten, answer_text}
 use Rattle.wd_tables.proofs.AnswerFacts.{answer_text-push}
 use Rattle.wd_tables.proofs.answer.answer_text.Goals as goal
 

@@ -1,8 +1,7 @@
-use Rattle.std.proofs.Common.{◌≡◌, ◌∙◌, map, length}
 use Rattle.std.proofs.lemmas.Result.{err_from_is_err_and}
 use Rattle.csv.specs.Records.{fields_of}
 use Rattle.wd_schema.specs.Tables.{table_of}
-use Rattle.wd_tables.specs.Data.{header_of, place_of}
+use Rattle.wd_tables.specs.Data.{header_of}
 use Rattle.wd_tables.proofs.LoadFacts.{record_refused}
 use Rattle.wd_tables.proofs.data.next_row.Goals as goal
 

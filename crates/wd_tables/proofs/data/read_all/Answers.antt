@@ -1,9 +1,8 @@
-use Rattle.std.proofs.Common.{◌≡◌, ◌∙◌, [], length, inl, arith}
+use Rattle.std.proofs.Common.{inl}
 use Rattle.std.proofs.lemmas.Result.{err_from_is_err_and}
-use Rattle.csv.specs.Records.{fields_of}
 use Rattle.wd_schema.specs.Tables.{table_of}
 use Rattle.wd_tables.specs.Data.{records_of}
-use Rattle.wd_tables.specs.Reading.{HasPlaces, HasRead}
+use Rattle.wd_tables.specs.Reading.{HasPlaces}
 use Rattle.wd_tables.proofs.LoadFacts.{header_refused, holds_none, no_records}
 use Rattle.wd_tables.proofs.data.read_all.Goals as goal
 

@@ -1,11 +1,9 @@
-use Rattle.std.proofs.Common.{◌≡◌, ◌∙◌, ◌+◌, ◌<◌, ◌≤◌, [], ◌∷◌, ◌++◌, length, map, refl, sym, ap, arith, subst}
+use Rattle.std.proofs.Common.{◌≡◌, ◌+◌, [], ◌∷◌, ◌++◌, arith}
 use Rattle.std.proofs.lemmas.List.{map-append}
 use Rattle.std.proofs.lemmas.Result.{err_from_is_err_and}
-use Rattle.std.specs.Prelude.{MatchOption}
 use Rattle.wd_schema.specs.Tables.{table_of}
 use Rattle.wd_value.specs.Rows.{rows_of}
 use Rattle.wd_tables.specs.Data.{most_records}
-use Rattle.wd_tables.specs.Reading.{HasRead, HoldsFirst}
 use Rattle.wd_tables.proofs.LoadFacts.{fits_all, holds_all, holds_more, too_many}
 use Rattle.wd_tables.proofs.data.read_data.Goals as goal
 

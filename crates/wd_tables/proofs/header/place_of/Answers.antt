@@ -1,4 +1,4 @@
-use Rattle.std.proofs.Common.{◌≡◌, ◌<◌, ◌≤◌, true, [], length, get_or, sym, arith, rules}
+use Rattle.std.proofs.Common.{◌≡◌, ◌<◌, true, [], length, sym, arith, rules}
 use Rattle.std.specs.Str.{bytes_eq}
 use Rattle.std.proofs.lemmas.List.{get_or_read}
 use Rattle.std.proofs.lemmas.List.Sums.{position_or_len_is}
@@ -9,7 +9,7 @@ returns-then-eq c =
     let within : c.loop-place.place < length c.args.names.now = omega arith in
     let test : bytes_eq c.args.name.now c.index-names-place.result ≡ true = search rules in
     sym (position_or_len_is (bytes_eq c.args.name.now) c.args.names.now c.loop-place.place [] (omega arith) c.loop-place.invariant
-        (λ h. rw (← get_or_read c.args.names.now c.loop-place.place c.index-names-place.result within c.index-names-place.is []) test))
+    (λ h. rw (← get_or_read c.args.names.now c.loop-place.place c.index-names-place.result within c.index-names-place.is []) test))
 
 pub returns : goal.returns
 returns c =

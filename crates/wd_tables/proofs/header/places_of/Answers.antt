@@ -1,4 +1,4 @@
-use Rattle.std.proofs.Common.{◌≡◌, ◌∙◌, ◌<◌, length, map, refl, sym, arith, rules}
+use Rattle.std.proofs.Common.{◌≡◌, ◌∙◌, ◌<◌, length, sym, arith}
 use Rattle.std.specs.Str.{bytes_eq}
 use Rattle.std.proofs.lemmas.List.{get_or_read, map_more}
 use Rattle.std.proofs.lemmas.List.Elements.{AllWithin-more}
@@ -25,5 +25,5 @@ loop-column-preserved c =
     let once : times bytes_eq c.column-item.result.name header ≡ 1 = sym counted ∙ c.if-count_of-ne1.false in (
       rw (c.in_ok-push.ensures.items, c.loop-column.invariant.0, place) (sym more),
       AllWithin-more (λ column. times bytes_eq column.name header ≡ 1) c.args.columns.now 0 c.loop-column.column-index c.loop-column.invariant.1
-        (λ d. rw (← get_or_read c.args.columns.now c.loop-column.column-index c.column-item.result within c.column-item.is d) once),
+          (λ d. rw (← get_or_read c.args.columns.now c.loop-column.column-index c.column-item.result within c.column-item.is d) once),
     )

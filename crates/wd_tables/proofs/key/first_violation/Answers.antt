@@ -1,4 +1,4 @@
-use Rattle.std.proofs.Common.{◌≡◌, ◌∙◌, sym, arith}
+use Rattle.std.proofs.Common.{◌∙◌, sym, arith}
 use Rattle.wd_schema.specs.Tables.{key_of}
 use Rattle.wd_value.specs.Rows.{rows_of}
 use Rattle.wd_tables.proofs.KeyFacts.{none_within, within_all, within_more, within_same}

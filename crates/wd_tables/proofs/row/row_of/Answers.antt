@@ -1,9 +1,9 @@
-use Rattle.std.proofs.Common.{◌≡◌, ◌∙◌, ◌<◌, ◌+◌, ℕ, List, [], ◌∷◌, ◌++◌, Option, Some, get_or, take, length, map, refl, sym, ap, arith}
+use Rattle.std.proofs.Common.{◌≡◌, ◌<◌, ◌+◌, [], ◌∷◌, ◌++◌, Some, get_or, take, length, arith}
 use Rattle.std.proofs.lemmas.List.{get_or-map, map-append, map_more, take_more}
 use Rattle.csv.specs.Records.{fields_of}
 use Rattle.wd_schema.specs.declared.table.Column.{Column}
 use Rattle.wd_value.specs.declared.value.Value.{Value}
-use Rattle.wd_tables.specs.Data.{place_of, value_in, values_in}
+use Rattle.wd_tables.specs.Data.{place_of, value_in}
 use Rattle.wd_tables.proofs.RowFacts.{fits_columns-push}
 use Rattle.wd_tables.proofs.row.row_of.Goals as goal
 

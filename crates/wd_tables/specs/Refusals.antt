@@ -1,0 +1,38 @@
+-- Why a header, a field or a record is refused, whatever text it stands in.
+use Rattle.std.specs.Prelude.{◌≡◌, ℕ, true, List, Some, None, Any, ⊤}
+use Rattle.wd_value.specs.declared.value.Value.TheVariants.{Null}
+use Rattle.wd_schema.specs.declared.table.Column.{Column}
+use Rattle.wd_tables.specs.Fields.{field_value}
+use Rattle.wd_tables.specs.Data.{NamesEachOnce, value_in}
+use Rattle.wd_tables.specs.declared.error.DataError.{DataError}
+use Rattle.wd_tables.specs.declared.error.DataError.TheVariants.{Header, Value, Null as NullValue, Key, Malformed, TooManyRecords, OutOfMemory}
+
+-- why a header is refused
+abbrev pub RefusesHeader : List Column → List (List ℕ) → DataError → Type 0
+RefusesHeader columns header Header = ¬ (NamesEachOnce columns header)
+RefusesHeader columns header OutOfMemory = ⊤
+RefusesHeader columns header (Value n) = ⊥
+RefusesHeader columns header (NullValue n) = ⊥
+RefusesHeader columns header (Key n) = ⊥
+RefusesHeader columns header Malformed = ⊥
+RefusesHeader columns header TooManyRecords = ⊥
+
+-- why a field is refused in a column
+abbrev pub RefusesField : Column → List ℕ → ℕ → DataError → Type 0
+RefusesField column bytes number (Value n) = (n ≡ number) × (field_value column bytes ≡ None)
+RefusesField column bytes number (NullValue n) = (n ≡ number) × (column.not_null ≡ true) × (field_value column bytes ≡ Some Null)
+RefusesField column bytes number OutOfMemory = ⊤
+RefusesField column bytes number Header = ⊥
+RefusesField column bytes number (Key n) = ⊥
+RefusesField column bytes number Malformed = ⊥
+RefusesField column bytes number TooManyRecords = ⊥
+
+-- why a record is refused
+abbrev pub RefusesRecord : List Column → List (List ℕ) → List (List ℕ) → ℕ → DataError → Type 0
+RefusesRecord columns header fields number (Value n) = (n ≡ number) × Any (λ column. value_in header fields column ≡ None) columns
+RefusesRecord columns header fields number (NullValue n) = (n ≡ number) × Any (λ column. (column.not_null ≡ true) × (value_in header fields column ≡ Some Null)) columns
+RefusesRecord columns header fields number OutOfMemory = ⊤
+RefusesRecord columns header fields number Header = ⊥
+RefusesRecord columns header fields number (Key n) = ⊥
+RefusesRecord columns header fields number Malformed = ⊥
+RefusesRecord columns header fields number TooManyRecords = ⊥
