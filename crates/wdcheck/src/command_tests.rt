@@ -112,7 +112,10 @@ static CASES: [Case; 39] = [
         words: &["run", "schema.sql", "query.sql", "t=t.csv"],
         files: &[
             ("schema.sql", SCHEMA),
-            ("query.sql", b"SELECT id, v FROM t ORDER BY v DESC FETCH FIRST 2 ROWS ONLY"),
+            (
+                "query.sql",
+                b"SELECT id, v FROM t ORDER BY v DESC FETCH FIRST 2 ROWS ONLY",
+            ),
             ("t.csv", DATA),
         ],
         out: "id,v\n2,\n1,10\n",
@@ -124,7 +127,10 @@ static CASES: [Case; 39] = [
         words: &["run", "schema.sql", "query.sql", "t=t.csv"],
         files: &[
             ("schema.sql", SCHEMA),
-            ("query.sql", b"SELECT id, v FROM t ORDER BY v FETCH FIRST 0 ROWS ONLY"),
+            (
+                "query.sql",
+                b"SELECT id, v FROM t ORDER BY v FETCH FIRST 0 ROWS ONLY",
+            ),
             ("t.csv", DATA),
         ],
         out: "id,v\n",
@@ -136,7 +142,10 @@ static CASES: [Case; 39] = [
         words: &["run", "schema.sql", "query.sql", "t=t.csv"],
         files: &[
             ("schema.sql", SCHEMA),
-            ("query.sql", b"SELECT v FROM t ORDER BY id DESC FETCH FIRST 2 ROWS ONLY"),
+            (
+                "query.sql",
+                b"SELECT v FROM t ORDER BY id DESC FETCH FIRST 2 ROWS ONLY",
+            ),
             ("t.csv", DATA),
         ],
         out: "v\n5\n10\n",
@@ -146,10 +155,7 @@ static CASES: [Case; 39] = [
     // data file is missing
     Case {
         words: &["run", "schema.sql", "query.sql", "t=absent.csv"],
-        files: &[
-            ("schema.sql", SCHEMA),
-            ("query.sql", QUERY),
-        ],
+        files: &[("schema.sql", SCHEMA), ("query.sql", QUERY)],
         out: "",
         err: "cannot read absent.csv\n",
         status: 5,
@@ -193,10 +199,7 @@ static CASES: [Case; 39] = [
     // no data for the table
     Case {
         words: &["run", "schema.sql", "query.sql"],
-        files: &[
-            ("schema.sql", SCHEMA),
-            ("query.sql", QUERY),
-        ],
+        files: &[("schema.sql", SCHEMA), ("query.sql", QUERY)],
         out: "",
         err: "data t: refused 707\n",
         status: 3,
@@ -205,7 +208,10 @@ static CASES: [Case; 39] = [
     Case {
         words: &["run", "schema.sql", "query.sql", "t=t.csv"],
         files: &[
-            ("schema.sql", b"CREATE TABLE t (id BIGINT PRIMARY KEY, id TEXT);"),
+            (
+                "schema.sql",
+                b"CREATE TABLE t (id BIGINT PRIMARY KEY, id TEXT);",
+            ),
             ("query.sql", QUERY),
             ("t.csv", DATA),
         ],
@@ -229,7 +235,10 @@ static CASES: [Case; 39] = [
     Case {
         words: &["run", "schema.sql", "query.sql", "t=t.csv"],
         files: &[
-            ("schema.sql", b"CREATE TABLE t (id BIGINT UNIQUE, v BIGINT);"),
+            (
+                "schema.sql",
+                b"CREATE TABLE t (id BIGINT UNIQUE, v BIGINT);",
+            ),
             ("query.sql", QUERY),
             ("t.csv", DATA),
         ],
@@ -241,7 +250,10 @@ static CASES: [Case; 39] = [
     Case {
         words: &["run", "schema.sql", "query.sql", "t=t.csv"],
         files: &[
-            ("schema.sql", b"CREATE TABLE t (id BIGINT, v BIGINT); CREATE TABLE s (a BIGINT);"),
+            (
+                "schema.sql",
+                b"CREATE TABLE t (id BIGINT, v BIGINT); CREATE TABLE s (a BIGINT);",
+            ),
             ("query.sql", QUERY),
             ("t.csv", DATA),
         ],
@@ -278,7 +290,10 @@ static CASES: [Case; 39] = [
         words: &["run", "schema.sql", "query.sql", "t=t.csv"],
         files: &[
             ("schema.sql", SCHEMA),
-            ("query.sql", b"SELECT id, v FROM t ORDER BY v FETCH FIRST 1 ROW ONLY"),
+            (
+                "query.sql",
+                b"SELECT id, v FROM t ORDER BY v FETCH FIRST 1 ROW ONLY",
+            ),
             ("t.csv", DATA),
         ],
         out: "",
@@ -302,7 +317,10 @@ static CASES: [Case; 39] = [
         words: &["run", "schema.sql", "query.sql", "t=t.csv"],
         files: &[
             ("schema.sql", SCHEMA),
-            ("query.sql", b"SELECT id, v FROM q ORDER BY v FETCH FIRST 2 ROWS ONLY"),
+            (
+                "query.sql",
+                b"SELECT id, v FROM q ORDER BY v FETCH FIRST 2 ROWS ONLY",
+            ),
             ("t.csv", DATA),
         ],
         out: "",
@@ -314,7 +332,10 @@ static CASES: [Case; 39] = [
         words: &["run", "schema.sql", "query.sql", "t=t.csv"],
         files: &[
             ("schema.sql", SCHEMA),
-            ("query.sql", b"SELECT id, w FROM t ORDER BY v FETCH FIRST 2 ROWS ONLY"),
+            (
+                "query.sql",
+                b"SELECT id, w FROM t ORDER BY v FETCH FIRST 2 ROWS ONLY",
+            ),
             ("t.csv", DATA),
         ],
         out: "",
@@ -326,7 +347,10 @@ static CASES: [Case; 39] = [
         words: &["run", "schema.sql", "query.sql", "t=t.csv"],
         files: &[
             ("schema.sql", SCHEMA),
-            ("query.sql", b"SELECT id, v FROM t ORDER BY w FETCH FIRST 2 ROWS ONLY"),
+            (
+                "query.sql",
+                b"SELECT id, v FROM t ORDER BY w FETCH FIRST 2 ROWS ONLY",
+            ),
             ("t.csv", DATA),
         ],
         out: "",
@@ -338,7 +362,10 @@ static CASES: [Case; 39] = [
         words: &["run", "schema.sql", "query.sql", "t=t.csv"],
         files: &[
             ("schema.sql", SCHEMA),
-            ("query.sql", b"SELECT id, v FROM t ORDER BY v FETCH FIRST 9223372036854775808 ROWS ONLY"),
+            (
+                "query.sql",
+                b"SELECT id, v FROM t ORDER BY v FETCH FIRST 9223372036854775808 ROWS ONLY",
+            ),
             ("t.csv", DATA),
         ],
         out: "",
@@ -350,7 +377,10 @@ static CASES: [Case; 39] = [
         words: &["run", "schema.sql", "query.sql", "t=t.csv"],
         files: &[
             ("schema.sql", SCHEMA),
-            ("query.sql", b"SELECT id, v FROM t ORDER BY v FETCH FIRST 9223372036854775809 ROWS ONLY"),
+            (
+                "query.sql",
+                b"SELECT id, v FROM t ORDER BY v FETCH FIRST 9223372036854775809 ROWS ONLY",
+            ),
             ("t.csv", DATA),
         ],
         out: "",
@@ -362,7 +392,10 @@ static CASES: [Case; 39] = [
         words: &["run", "schema.sql", "query.sql", "t=t.csv"],
         files: &[
             ("schema.sql", SCHEMA),
-            ("query.sql", b"SELECT id, v FROM t ORDER BY v FETCH FIRST 2x ROWS ONLY"),
+            (
+                "query.sql",
+                b"SELECT id, v FROM t ORDER BY v FETCH FIRST 2x ROWS ONLY",
+            ),
             ("t.csv", DATA),
         ],
         out: "",
@@ -374,7 +407,10 @@ static CASES: [Case; 39] = [
         words: &["run", "schema.sql", "query.sql", "t=t.csv"],
         files: &[
             ("schema.sql", SCHEMA),
-            ("query.sql", b"SELECT id, v FROM t ORDER BY v FETCH FIRST 2 ROWS ONLY {"),
+            (
+                "query.sql",
+                b"SELECT id, v FROM t ORDER BY v FETCH FIRST 2 ROWS ONLY {",
+            ),
             ("t.csv", DATA),
         ],
         out: "",
@@ -386,7 +422,10 @@ static CASES: [Case; 39] = [
         words: &["run", "schema.sql", "query.sql", "t=t.csv"],
         files: &[
             ("schema.sql", SCHEMA),
-            ("query.sql", b"SELECT id, v FROM t ORDER BY v FETCH FIRST 2 ROWS ONLY\xff"),
+            (
+                "query.sql",
+                b"SELECT id, v FROM t ORDER BY v FETCH FIRST 2 ROWS ONLY\xff",
+            ),
             ("t.csv", DATA),
         ],
         out: "",

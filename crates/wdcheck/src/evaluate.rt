@@ -104,11 +104,7 @@ fn cut_positions(order: &[u64], offset: u64, count: Option<u64>) -> &[u64]
     }
 }
 
-fn rows_at_positions(
-    alloc: Global,
-    rows: &[Row],
-    order: &[u64],
-) -> Result<Vec<Row>, OutOfMemory>
+fn rows_at_positions(alloc: Global, rows: &[Row], order: &[u64]) -> Result<Vec<Row>, OutOfMemory>
     ensures { IfOk result (λ v. rows_of v.items ≡ rows_at (rows_of rows.now) order.now) }
 {
     let mut picked = Vec::with_capacity(alloc, order.len())?;

@@ -98,11 +98,7 @@ impl<T: Drop> From<AllocFailed<T>> for QueryError {
 }
 
 /// The plan of a query text over a table, and the names of its select list.
-pub fn read_plan(
-    alloc: Global,
-    table: &Table,
-    text: &[u8],
-) -> Result<(Plan, Vec<Text>), QueryError>
+pub fn read_plan(alloc: Global, table: &Table, text: &[u8]) -> Result<(Plan, Vec<Text>), QueryError>
     ensures { IfOk result (λ r. Reads (table_of table.now) text.now (plan_of r.0) r.1.items) }
 {
     let tokens = match lex(alloc, text) {
@@ -132,11 +128,7 @@ fn check_table(read: &Text, known: &Text) -> Result<(), QueryError>
     }
 }
 
-fn plan_query(
-    alloc: Global,
-    columns: &[Column],
-    query: &WrittenQuery,
-) -> Result<Plan, QueryError>
+fn plan_query(alloc: Global, columns: &[Column], query: &WrittenQuery) -> Result<Plan, QueryError>
     ensures { IfOk result (λ plan. IsPlanOf columns.now (query_tree query.now) (plan_of plan)) }
 {
     if columns.len() > MOST_COLUMNS {
@@ -152,11 +144,7 @@ fn plan_query(
 }
 
 /// The columns of the select list.
-fn shown_columns(
-    alloc: Global,
-    columns: &[Column],
-    names: &[Text],
-) -> Result<Vec<u16>, QueryError>
+fn shown_columns(alloc: Global, columns: &[Column], names: &[Text]) -> Result<Vec<u16>, QueryError>
     requires { length columns.now ≤ 1024 }
     ensures found { IfOk result (λ v. map (meaning.column_number columns.now) names.now ≡ map Some v.items) }
     ensures few { IfOk result (λ v. length v.items ≤ 1024) }

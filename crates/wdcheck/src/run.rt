@@ -138,15 +138,13 @@ pub fn run(
 }
 
 /// The rows of the one table, from the data given.
-fn load_data(
-    alloc: Global,
-    table: &Table,
-    tables: &[(&str, &[u8])],
-) -> Result<Vec<Row>, RunError>
+fn load_data(alloc: Global, table: &Table, tables: &[(&str, &[u8])]) -> Result<Vec<Row>, RunError>
     ensures { IfOk result (λ v. HoldsData (table_of table.now) (data_of tables.now) (rows_of v.items)) }
 {
     let Some(((name, text), others)) = tables.split_first() else {
-        return Err(RunError::Given { name: table.name.copy(alloc)? });
+        return Err(RunError::Given {
+            name: table.name.copy(alloc)?,
+        });
     };
     check_name(alloc, table, name)?;
     let rows = match load(alloc, table, text) {
@@ -158,7 +156,9 @@ fn load_data(
     };
     match others.first() {
         None => Ok(rows),
-        Some((other, _)) => Err(RunError::Given { name: Text::from_str(alloc, other)? }),
+        Some((other, _)) => Err(RunError::Given {
+            name: Text::from_str(alloc, other)?,
+        }),
     }
 }
 
@@ -168,5 +168,7 @@ fn check_name(alloc: Global, table: &Table, name: &str) -> Result<(), RunError>
     if name.as_bytes() == table.name.as_bytes() {
         return Ok(());
     }
-    Err(RunError::Given { name: Text::from_str(alloc, name)? })
+    Err(RunError::Given {
+        name: Text::from_str(alloc, name)?,
+    })
 }

@@ -103,7 +103,9 @@ fn refusal(tokens: &[Token], error: ReadError) -> SchemaError {
         ReadError::Unexpected { left } => {
             let place = tokens.len().saturating_sub(left) as u64;
             match second_primary(tokens) {
-                Some(second) => SchemaError::Unexpected { place: place.min(second) },
+                Some(second) => SchemaError::Unexpected {
+                    place: place.min(second),
+                },
                 None => SchemaError::Unexpected { place },
             }
         }

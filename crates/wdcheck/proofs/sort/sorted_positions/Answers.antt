@@ -13,5 +13,5 @@ returns c =
     let keys = c.args.keys.now in
     let compares = always_returns_same _ _ _ (λ a r f h. let e : r ≡ compare_keys keys (row_at rows a.0.now) (row_at rows a.1.0.now) = search rules in (ap is_lt e, search rules)) in
     IsOrdering-from_sort [] keys rows _
-      (rw (length-map, ← c.in_ok-order.ensures) c.in_ok-sort_by.ensures.permutation)
-      (c.in_ok-sort_by.ensures.sorted (stands_before [] keys rows) (stands_before-order [] keys rows) compares)
+    (rw (length-map, ← c.in_ok-order.ensures) c.in_ok-sort_by.ensures.permutation)
+    (c.in_ok-sort_by.ensures.sorted (stands_before [] keys rows) (stands_before-order [] keys rows) compares)

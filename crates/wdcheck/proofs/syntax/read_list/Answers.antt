@@ -18,5 +18,5 @@ loop-preserved g c =
     record {
       some = λ e. push-some before item (sym items ∙ e);
       spelled = c.loop.invariant.spelled ∙ ap (listed spell before) (eaten ∙ ap (λ r. k.Mark m.Comma ∷ r) read)
-        ∙ listed-push spell before item rest c.loop.invariant.some ∙ ap (λ xs. listed spell xs rest) (sym items);
+          ∙ listed-push spell before item rest c.loop.invariant.some ∙ ap (λ xs. listed spell xs rest) (sym items);
     }
