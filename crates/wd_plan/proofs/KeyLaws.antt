@@ -1,10 +1,11 @@
 -- The order of rows under sort keys is total, and rows tie where they are the same on the keys' columns.
-use Rattle.std.proofs.Common.{◌≡◌, List, [], ◌∷◌, Ordering, Less, Equal, Greater, refl, ◌∙◌, ap, subst}
+use Rattle.std.proofs.Common.{◌≡◌, true, List, [], ◌∷◌, Ordering, Less, Equal, Greater, refl, ◌∙◌, ap, subst}
 use Rattle.std.specs.Ordering.{ordering_then}
 use Rattle.std.specs.Cmp.{IsTotalOrder}
 use Rattle.std.proofs.lemmas.Cmp.{on_total, then_total, tied_itself}
 use Rattle.wd_value.specs.Order.{compare}
-use Rattle.wd_value.specs.Rows.{Row, column_of, columns_of}
+use Rattle.wd_value.specs.Rows.{Row, column_of, columns_of, same_row}
+use Rattle.wd_value.proofs.SameLaws.{same_row-Decides}
 use Rattle.wd_value.proofs.OrderLaws.{compare_total, compare-exact}
 use Rattle.wd_plan.specs.declared.plan.OrderItem.{OrderItem}
 use Rattle.wd_plan.specs.Keys.{compare_keys, key_columns}
@@ -37,3 +38,6 @@ compare_keys-ties (item ∷ items) a b e =
     let tail : columns_of (key_columns items) a ≡ columns_of (key_columns items) b = cc in
     let tie : compare item.key (column_of a item.column) (column_of b item.column) ≡ Equal = subst (λ v. compare item.key (column_of a item.column) v ≡ Equal) head (tied_itself (compare_total item.key) (column_of a item.column)) in
     ap (λ o. ordering_then o (compare_keys items a b)) tie ∙ compare_keys-ties items a b tail
+
+pub same_row_self : (a : Row) → same_row a a ≡ true
+same_row_self a = (same_row-Decides a a).1 refl

@@ -12,6 +12,7 @@ use Rattle.wd_value.specs.Rows.{Row, column_of, columns_of, row_at, rows_at}
 use Rattle.wd_value.proofs.SameLaws.{same_row-Decides}
 use Rattle.wd_plan.specs.declared.plan.OrderItem.{OrderItem}
 use Rattle.wd_plan.specs.Keys.{compare_keys, key_columns}
+use Rattle.wd_plan.specs.Plans.{ClassRule}
 use Rattle.wd_plan.specs.Sorting.{same_partition, IsInOrder, IsOrdering}
 use Rattle.wd_plan.proofs.KeyLaws.{compare_keys_total, compare_keys-ties}
 
@@ -23,18 +24,18 @@ abbrev pub ascending : ℕ → OrderItem
 ascending c = record { column = c; key = record { desc = false; nulls_first = false } }
 
 -- by partition, ascending with NULL last, then by the keys
-abbrev pub sort_cmp : List ℕ → List OrderItem → Row → Row → Ordering
-sort_cmp partition keys = then_cmp (compare_keys (map ascending partition)) (compare_keys keys)
+abbrev pub sort_cmp : ClassRule → Row → Row → Ordering
+sort_cmp class = then_cmp (compare_keys (map ascending class.partition)) (compare_keys class.order)
 
 -- whether the row at one position sorts before that at another
-abbrev pub stands_before : List ℕ → List OrderItem → List Row → ℕ → ℕ → Bool
-stands_before partition keys rows p q = is_lt (sort_cmp partition keys (row_at rows p) (row_at rows q))
+abbrev pub stands_before : ClassRule → List Row → ℕ → ℕ → Bool
+stands_before class rows p q = is_lt (sort_cmp class (row_at rows p) (row_at rows q))
 
-pub sort_cmp_total : (partition : List ℕ) (keys : List OrderItem) → IsTotalOrder (sort_cmp partition keys)
-sort_cmp_total partition keys = then_total (compare_keys_total (map ascending partition)) (compare_keys_total keys)
+pub sort_cmp_total : (class : ClassRule) → IsTotalOrder (sort_cmp class)
+sort_cmp_total class = then_total (compare_keys_total (map ascending class.partition)) (compare_keys_total class.order)
 
-pub stands_before-order : (partition : List ℕ) (keys : List OrderItem) (rows : List Row) → IsStrictWeakOrder (stands_before partition keys rows)
-stands_before-order partition keys rows = ranks_by (sort_cmp_total partition keys) (row_at rows)
+pub stands_before-order : (class : ClassRule) (rows : List Row) → IsStrictWeakOrder (stands_before class rows)
+stands_before-order class rows = ranks_by (sort_cmp_total class) (row_at rows)
 
 partition_ties : (cs : List ℕ) (a b : Row) → columns_of cs a ≡ columns_of cs b → columns_of (key_columns (map ascending cs)) a ≡ columns_of (key_columns (map ascending cs)) b
 partition_ties [] a b e = refl
@@ -49,28 +50,28 @@ turned o Equal f g = ap is_gt f
 turned o Greater f g = ap is_gt f
 
 -- an order that does not put b before a lets a stand before b, in one partition
-may_precede : (partition : List ℕ) (keys : List OrderItem) (a b : Row) → is_lt (sort_cmp partition keys b a) ≡ false → same_partition partition a b ≡ true → is_gt (compare_keys keys a b) ≡ false
-may_precede partition keys a b h e =
-    let same : columns_of partition a ≡ columns_of partition b = (same_row-Decides (columns_of partition a) (columns_of partition b)).0 e in
-    let tie : compare_keys (map ascending partition) b a ≡ Equal = compare_keys-ties (map ascending partition) b a (partition_ties partition b a (sym same)) in
-    let later : is_lt (compare_keys keys b a) ≡ false = ap (λ o. is_lt (ordering_then o (compare_keys keys b a))) (sym tie) ∙ h in
-    turned (compare_keys keys a b) (compare_keys keys b a) ((compare_keys_total keys).antisymm a b) later
+may_precede : (class : ClassRule) (a b : Row) → is_lt (sort_cmp class b a) ≡ false → same_partition class a b ≡ true → is_gt (compare_keys class.order a b) ≡ false
+may_precede class a b h e =
+    let same : columns_of class.partition a ≡ columns_of class.partition b = (same_row-Decides (columns_of class.partition a) (columns_of class.partition b)).0 e in
+    let tie : compare_keys (map ascending class.partition) b a ≡ Equal = compare_keys-ties (map ascending class.partition) b a (partition_ties class.partition b a (sym same)) in
+    let later : is_lt (compare_keys class.order b a) ≡ false = ap (λ o. is_lt (ordering_then o (compare_keys class.order b a))) (sym tie) ∙ h in
+    turned (compare_keys class.order a b) (compare_keys class.order b a) ((compare_keys_total class.order).antisymm a b) later
 
-at_each : (partition : List ℕ) (keys : List OrderItem) (r : Row) (xs : List Row) → ((j : ℕ) → j < length xs → same_partition partition r (row_at xs j) ≡ true → is_gt (compare_keys keys r (row_at xs j)) ≡ false) → AllByRecursion (λ q. same_partition partition r q ≡ true → is_gt (compare_keys keys r q) ≡ false) xs
-at_each partition keys r [] g = tt
-at_each partition keys r (x ∷ xs) g = (g 0 (omega arith), at_each partition keys r xs (λ j l. g (suc j) (omega arith)))
+at_each : (class : ClassRule) (r : Row) (xs : List Row) → ((j : ℕ) → j < length xs → same_partition class r (row_at xs j) ≡ true → is_gt (compare_keys class.order r (row_at xs j)) ≡ false) → AllByRecursion (λ q. same_partition class r q ≡ true → is_gt (compare_keys class.order r q) ≡ false) xs
+at_each class r [] g = tt
+at_each class r (x ∷ xs) g = (g 0 (omega arith), at_each class r xs (λ j l. g (suc j) (omega arith)))
 
-in_order_from : (partition : List ℕ) (keys : List OrderItem) (rs : List Row) → ((i j : ℕ) → i < j → j < length rs → is_lt (sort_cmp partition keys (row_at rs j) (row_at rs i)) ≡ false) → IsInOrder partition keys rs
-in_order_from partition keys [] h = tt
-in_order_from partition keys (r ∷ rs) h =
-    (at_each partition keys r rs (λ j l. may_precede partition keys r (row_at rs j) (h 0 (suc j) (omega arith) (omega arith))), in_order_from partition keys rs (λ i j k l. h (suc i) (suc j) (omega arith) (omega arith)))
+in_order_from : (class : ClassRule) (rs : List Row) → ((i j : ℕ) → i < j → j < length rs → is_lt (sort_cmp class (row_at rs j) (row_at rs i)) ≡ false) → IsInOrder class rs
+in_order_from class [] h = tt
+in_order_from class (r ∷ rs) h =
+    (at_each class r rs (λ j l. may_precede class r (row_at rs j) (h 0 (suc j) (omega arith) (omega arith))), in_order_from class rs (λ i j k l. h (suc i) (suc j) (omega arith) (omega arith)))
 
 -- positions sorted by their rows are a lawful ordering
-pub IsOrdering-from_sort : (partition : List ℕ) (keys : List OrderItem) (rows : List Row) (ordering : List ℕ) → IsPermutation (positions (length rows)) ordering → IsSortedBy (stands_before partition keys rows) ordering → IsOrdering partition keys rows ordering
-IsOrdering-from_sort partition keys rows ordering perm sorted = record {
+pub IsOrdering-from_sort : (class : ClassRule) (rows : List Row) (ordering : List ℕ) → IsPermutation (positions (length rows)) ordering → IsSortedBy (stands_before class rows) ordering → IsOrdering class rows ordering
+IsOrdering-from_sort class rows ordering perm sorted = record {
   once = EachOnce-from_IsPermutation (length rows) ordering perm;
-  in_order = in_order_from partition keys (rows_at rows ordering) (λ i j k l.
+  in_order = in_order_from class (rows_at rows ordering) (λ i j k l.
       let n : j < length ordering = subst (λ m. j < m) (length-map ordering (row_at rows)) l in
-      let far = sorted_far (stands_before partition keys rows) (stands_before-order partition keys rows) ordering sorted i j 0 (omega arith) n in
-      (λ m. is_lt (sort_cmp partition keys (get_or-map (row_at rows) ordering j 0 [] n m) (get_or-map (row_at rows) ordering i 0 [] (lt_trans k n) m))) ∙ far);
+      let far = sorted_far (stands_before class rows) (stands_before-order class rows) ordering sorted i j 0 (omega arith) n in
+      (λ m. is_lt (sort_cmp class (get_or-map (row_at rows) ordering j 0 [] n m) (get_or-map (row_at rows) ordering i 0 [] (lt_trans k n) m))) ∙ far);
 }

@@ -1,8 +1,95 @@
 -- Laws over the definitions.
-use Rattle.wd_plan.specs.Outcomes.{RowsOrFault, Agree}
+use Rattle.std.specs.Prelude.{◌≡◌, ◌⊎◌, ℕ, pos, ◌+◌, ◌<◌, List, map, length, slice_index_or, Ok}
+use Rattle.std.specs.List.{AllByRecursion}
+use Rattle.wd_value.specs.Bags.{SameBag, EachOnce, positions}
+use Rattle.wd_value.specs.Rows.{Row, Instance, same_row, row_at, rows_at, table_at}
+use Rattle.wd_plan.specs.declared.window.Frame.{Frame}
+use Rattle.wd_plan.specs.declared.window.Function.{Function}
+use Rattle.wd_plan.specs.declared.window.Function.TheVariants.{RowNumber}
+use Rattle.wd_value.specs.declared.value.Value.TheVariants.{Int}
+use Rattle.wd_plan.specs.Calls.{value_at}
+use Rattle.wd_plan.specs.Choices.{AreOrderings, IsValidChoice}
+use Rattle.wd_plan.specs.Facts.{GivesAll, HasWidth}
+use Rattle.wd_plan.specs.Faults.{all_ok}
+use Rattle.wd_plan.specs.Justified.{IsByRow, IsJustified, IsJustifiedLimit, IsJustifiedPlan, NamesClasses}
+use Rattle.wd_plan.specs.Outcomes.{RowsOrFault, Agree, outcome, window_outcome, extended, cut}
+use Rattle.wd_plan.specs.Partitions.{members, partition_of, group_of}
+use Rattle.wd_plan.specs.Plans.{ClassRule, WindowRule, LimitRule, PlanTree}
+use Rattle.wd_plan.specs.Sorting.{IsOrdering, class_columns, limit_class}
 
 -- agreeing is reflexive, symmetric and transitive
 pub record AgreeingIsAnEquivalence : Type 0 where
   pub itself : (a : RowsOrFault) → Agree a a
   pub back : (a b : RowsOrFault) → Agree a b → Agree b a
   pub on : (a b c : RowsOrFault) → Agree a b → Agree b c → Agree a c
+
+-- The local calls law: the value or fault of a call that goes by the row is a function of the row's columns and of the rows of
+-- the input, in any order and under any lawful orderings.
+abbrev pub ValuesGoByRows : Type 0
+ValuesGoByRows = (class : ClassRule) (frame : Frame) (function : Function) (rows others : List Row) (o1 o2 : List ℕ) (p q : ℕ)
+    → IsByRow class frame function rows → SameBag same_row rows others → IsOrdering class rows o1 → IsOrdering class others o2
+    → p < length rows → q < length others → row_at rows p ≡ row_at others q
+    → value_at class frame function rows o1 p ≡ value_at class frame function others o2 q
+
+-- the exchange law: two orderings of a class that gives every column put the same rows at each place of each partition
+abbrev pub SameRowsAtPlaces : Type 0
+SameRowsAtPlaces = (class : ClassRule) (width : ℕ) (rows : List Row) (o1 o2 : List ℕ) (p : ℕ)
+    → HasWidth width rows → GivesAll rows width (class_columns class) → IsOrdering class rows o1 → IsOrdering class rows o2
+    → partition_of class rows o1 p ≡ partition_of class rows o2 p
+
+-- a Window whose calls are justified, at most one class of them by exchange, has one outcome over rearranged rows
+abbrev pub WindowHasOne : Type 0
+WindowHasOne = (w : WindowRule) (exchange width : ℕ) (rows others : List Row) (os1 os2 : List (List ℕ))
+    → SameBag same_row rows others → AreOrderings w rows os1 → AreOrderings w others os2 → HasWidth width rows → NamesClasses w
+    → AllByRecursion (IsJustified w exchange width rows) w.calls → Agree (window_outcome w rows os1) (window_outcome w others os2)
+
+-- the limit law: a justified limit cuts the same rows under every ordering
+abbrev pub LimitHasOne : Type 0
+LimitHasOne = (limit : LimitRule) (width : ℕ) (rows others : List Row) (o1 o2 : List ℕ)
+    → SameBag same_row rows others → IsOrdering (limit_class limit) rows o1 → IsOrdering (limit_class limit) others o2
+    → HasWidth width rows → IsJustifiedLimit limit width rows → SameBag same_row (cut limit (rows_at rows o1)) (cut limit (rows_at others o2))
+
+-- the tables of one instance are rearrangements of the other's
+abbrev pub SameTables : Instance → Instance → Type 0
+SameTables instance other = (table : ℕ) → SameBag same_row (table_at instance table) (table_at other table)
+
+-- The composition law: a plan that is justified under one valid choice has outcomes that agree under every valid choice, over
+-- the same tables in any row order, faults included.
+abbrev pub PlanHasOne : Type 0
+PlanHasOne = (plan : PlanTree) (instance other : Instance) (c1 c2 : List (List ℕ))
+    → SameTables instance other → IsValidChoice plan instance c1 → IsValidChoice plan other c2 → IsJustifiedPlan plan instance c1
+    → Agree (outcome plan instance c1) (outcome plan other c2)
+
+-- the position that stands at a place of a rearrangement; past its end, one that names no row
+abbrev pub renamed : List Row → List ℕ → ℕ → ℕ
+renamed rows ps q = slice_index_or ps q (length rows)
+
+-- over rearranged rows a Window gives the rearranged rows of the renamed orderings, which are lawful too
+pub record Commutes (w : WindowRule) (rows : List Row) (ps : List ℕ) (os : List (List ℕ)) : Type 0 where
+  pub valid : AreOrderings w rows (map (map (renamed rows ps)) os)
+  pub same_rows : window_outcome w (rows_at rows ps) os ≡ all_ok (map (extended w rows (map (map (renamed rows ps)) os)) ps)
+
+-- the renaming law of a Window
+abbrev pub WindowCommutes : Type 0
+WindowCommutes = (w : WindowRule) (rows : List Row) (ps : List ℕ) (os : List (List ℕ)) → EachOnce (length rows) ps → AreOrderings w (rows_at rows ps) os → Commutes w rows ps os
+
+-- ROW_NUMBER over the members of a partition, in their ordering, gives 1 to as many as there are
+abbrev pub RowNumbersCount : Type 0
+RowNumbersCount = (class : ClassRule) (frame : Frame) (rows : List Row) (ordering : List ℕ) (p : ℕ)
+    → IsOrdering class rows ordering
+    → let part = members class rows ordering p in
+    map (value_at class frame RowNumber rows ordering) part ≡ map (λ i. Ok (Int (pos (i + 1)))) (positions (length part))
+
+-- along a partition list under a lawful ordering, the first peer group number is 0, and each is that before it or one more
+pub record GroupsRise (class : ClassRule) (partition : List Row) : Type 0 where
+  pub first : 0 < length partition → group_of class partition (row_at partition 0) ≡ 0
+  pub next : (i : ℕ) → i + 1 < length partition
+      → (group_of class partition (row_at partition (i + 1)) ≡ group_of class partition (row_at partition i))
+      ⊎ (group_of class partition (row_at partition (i + 1)) ≡ group_of class partition (row_at partition i) + 1)
+
+abbrev pub PeerGroupsRise : Type 0
+PeerGroupsRise = (class : ClassRule) (rows : List Row) (ordering : List ℕ) (p : ℕ) → IsOrdering class rows ordering → GroupsRise class (partition_of class rows ordering p)
+
+-- every instance has a valid choice for each plan
+abbrev pub HasValidChoice : Type 0
+HasValidChoice = (plan : PlanTree) (instance : Instance) → (choice : List (List ℕ)) × IsValidChoice plan instance choice

@@ -1,8 +1,15 @@
 pub mod Keys
-pub mod Expressions
 pub mod Faults
+pub mod Expressions
 pub mod Plans
 pub mod Sorting
+pub mod Partitions
+pub mod Frames
+pub mod Calls
 pub mod Outcomes
 pub mod Choices
+pub mod Facts
+pub mod Justified
+pub mod Fits
 pub mod Laws
+pub mod examples

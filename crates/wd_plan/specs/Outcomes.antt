@@ -1,13 +1,19 @@
 -- What a plan gives over an instance under a choice of orderings, and when two outcomes agree.
-use Rattle.std.specs.Prelude.{◌≡◌, ℕ, List, [], map, take, drop, Option, Some, None, Result, Ok, Err, slice_index_or}
+use Rattle.std.specs.Prelude.{◌≡◌, ℕ, zero, suc, Bool, false, not, List, [], ◌∷◌, ◌++◌, map, filter, flat_map, length, take, drop, take_while, Option, Some, None, Result, Ok, Err, slice_index_or, if◌then◌else◌}
+use Rattle.std.specs.Ordering.{is_eq}
+use Rattle.wd_value.specs.declared.value.Value.{Value}
 use Rattle.wd_value.specs.declared.value.Fault.{Fault as StepFault}
-use Rattle.wd_value.specs.Bags.{SameBag}
-use Rattle.wd_value.specs.Rows.{Row, Instance, same_row, rows_of, rows_at, table_at}
+use Rattle.wd_value.specs.Bags.{SameBag, positions}
+use Rattle.wd_value.specs.Rows.{Row, Instance, same_row, rows_of, row_at, rows_at, table_at}
+use Rattle.wd_plan.specs.declared.plan.OrderItem.{OrderItem}
 use Rattle.wd_plan.specs.declared.plan.Outcome.{Outcome}
 use Rattle.wd_plan.specs.declared.plan.Outcome.TheVariants.{Rows, Fault}
-use Rattle.wd_plan.specs.Expressions.{Expression, value_of}
-use Rattle.wd_plan.specs.Faults.{all_ok, and_then}
-use Rattle.wd_plan.specs.Plans.{LimitRule, PlanTree, Scan, Map, Limit, ordering_count}
+use Rattle.wd_plan.specs.declared.window.Call.{Call}
+use Rattle.wd_plan.specs.Calls.{value_at}
+use Rattle.wd_plan.specs.Expressions.{Expression, value_of, is_true}
+use Rattle.wd_plan.specs.Faults.{all_ok, and_then, least_fault, unless}
+use Rattle.wd_plan.specs.Keys.{compare_keys}
+use Rattle.wd_plan.specs.Plans.{ClassRule, WindowRule, LimitRule, PlanTree, Scan, Join, Filter, Map, Window, Distinct, Limit, ordering_count}
 
 -- an outcome: rows as a list, or a fault
 abbrev pub RowsOrFault : Type 0
@@ -18,28 +24,89 @@ abbrev pub outcome_of : Outcome → RowsOrFault
 outcome_of (Rows v) = Ok (rows_of v.items)
 outcome_of (Fault fault) = Err fault
 
+-- ---- rows under a condition, expressions over rows
+
+-- a row passes where the condition is true: not where it is false, NULL or a fault
+abbrev pub passes : Result Value StepFault → Bool
+passes (Ok v) = is_true v
+passes (Err fault) = false
+
+-- the rows that pass, or the least fault of the step
+abbrev pub filter_outcome : Expression → List Row → RowsOrFault
+filter_outcome condition rows = unless (least_fault (map (value_of condition) rows)) (filter (λ row. passes (value_of condition row)) rows)
+
+-- without a condition all rows pass
+abbrev pub join_outcome : Option Expression → List Row → RowsOrFault
+join_outcome None rows = Ok rows
+join_outcome (Some condition) rows = filter_outcome condition rows
+
 -- the values of the expressions over each row, or the least fault of the step
 abbrev pub map_outcome : List Expression → List Row → RowsOrFault
 map_outcome outputs rows = all_ok (map (λ row. all_ok (map (λ output. value_of output row) outputs)) rows)
 
--- the first rows, where there is a count
-abbrev pub first_rows : Option ℕ → List Row → List Row
-first_rows None rows = rows
-first_rows (Some n) rows = take n rows
+-- all pairs, the left row outermost
+abbrev pub pairs : List Row → List Row → List Row
+pairs left right = flat_map (λ l. map (λ r. l ++ r) right) left
 
--- what a Limit keeps of rows that stand in its ordering
-abbrev pub cut : LimitRule → List Row → List Row
-cut rule rows = first_rows rule.count (drop rule.offset rows)
+-- first occurrences
+abbrev pub distinct : List Row → List Row
+distinct [] = []
+distinct (r ∷ rs) = r ∷ filter (λ q. not (same_row r q)) (distinct rs)
 
--- the ordering of a choice with this number, and the empty one past the last
+-- ---- windows
+
+-- the class with this number, and one without columns past the last
+abbrev pub class_at : WindowRule → ℕ → ClassRule
+class_at w n = slice_index_or w.classes n (record { partition = []; order = [] })
+
+-- the ordering with this number, and the empty one past the last
 abbrev pub ordering_at : List (List ℕ) → ℕ → List ℕ
-ordering_at choice n = slice_index_or choice n []
+ordering_at orderings n = slice_index_or orderings n []
 
--- the outcome of a plan under a choice: a node's orderings stand behind those of the nodes below it
+abbrev pub call_at : WindowRule → List Row → List (List ℕ) → ℕ → Call → Result Value StepFault
+call_at w rows orderings r call = value_at (class_at w call.class) call.frame call.function rows (ordering_at orderings call.class) r
+
+-- the row at position r and the values of its calls
+abbrev pub extended : WindowRule → List Row → List (List ℕ) → ℕ → Result Row StepFault
+extended w rows orderings r = and_then (all_ok (map (call_at w rows orderings r) w.calls)) (λ values. Ok (row_at rows r ++ values))
+
+-- each row with the values of its calls, in the input's order, or the least fault of the step
+abbrev pub window_outcome : WindowRule → List Row → List (List ℕ) → RowsOrFault
+window_outcome w rows orderings = all_ok (map (extended w rows orderings) (positions (length rows)))
+
+-- ---- limits
+
+-- rows that tie on all sort keys
+abbrev pub peers : List OrderItem → Row → Row → Bool
+peers keys r q = is_eq (compare_keys keys r q)
+
+-- the first n rows, and with ties those that follow and are peers of the last of them; no row where n is 0
+abbrev pub first_rows : List OrderItem → Bool → ℕ → List Row → List Row
+first_rows keys ties zero rows = []
+first_rows keys ties (suc n) [] = []
+first_rows keys ties (suc zero) (r ∷ rows) = r ∷ (if ties then take_while (peers keys r) rows else [])
+first_rows keys ties (suc (suc n)) (r ∷ rows) = r ∷ first_rows keys ties (suc n) rows
+
+-- what a Limit keeps of rows that stand in its ordering: those behind the offset, and where there is a count the first of them
+abbrev pub cut : LimitRule → List Row → List Row
+cut limit rows = by_count limit.count
+  where
+    by_count : Option ℕ → List Row
+    by_count None = drop limit.offset rows
+    by_count (Some n) = first_rows limit.keys limit.ties n (drop limit.offset rows)
+
+-- ---- plans
+
+-- The outcome of a plan under a choice. A node's orderings stand behind those of the nodes below it, a Join's right side's
+-- behind the left side's; what stands behind them is not read.
 abbrev pub outcome : PlanTree → Instance → List (List ℕ) → RowsOrFault
 outcome (Scan table columns) instance choice = Ok (table_at instance table)
+outcome (Join condition left right) instance choice = and_then (outcome left instance choice) (λ ls. and_then (outcome right instance (drop (ordering_count left) choice)) (λ rs. join_outcome condition (pairs ls rs)))
+outcome (Filter condition input) instance choice = and_then (outcome input instance choice) (filter_outcome condition)
 outcome (Map outputs input) instance choice = and_then (outcome input instance choice) (map_outcome outputs)
-outcome (Limit rule input) instance choice = and_then (outcome input instance choice) (λ rows. Ok (cut rule (rows_at rows (ordering_at choice (ordering_count input)))))
+outcome (Window w input) instance choice = and_then (outcome input instance choice) (λ rows. window_outcome w rows (take (length w.classes) (drop (ordering_count input) choice)))
+outcome (Distinct input) instance choice = and_then (outcome input instance choice) (λ rows. Ok (distinct rows))
+outcome (Limit limit input) instance choice = and_then (outcome input instance choice) (λ rows. Ok (cut limit (rows_at rows (ordering_at choice (ordering_count input)))))
 
 -- outcomes agree where they are the same fault, or lists with each row equally often
 abbrev pub Agree : RowsOrFault → RowsOrFault → Type 0

@@ -1,23 +1,34 @@
--- The orderings of a list of rows that a partition and its sort keys allow.
-use Rattle.std.specs.Prelude.{◌≡◌, ℕ, Bool, true, false, List, [], ◌∷◌, length, ⊤}
+-- The orderings of a list of rows that a class allows (SQL, window clause; PG, Window Function Calls).
+use Rattle.std.specs.Prelude.{◌≡◌, ℕ, Bool, true, false, List, [], ◌∷◌, ◌++◌, length, ⊤}
 use Rattle.std.specs.List.{AllByRecursion}
 use Rattle.std.specs.Ordering.{is_gt}
 use Rattle.wd_value.specs.Bags.{EachOnce}
 use Rattle.wd_value.specs.Rows.{Row, columns_of, same_row, rows_at}
-use Rattle.wd_plan.specs.declared.plan.OrderItem.{OrderItem}
-use Rattle.wd_plan.specs.Keys.{compare_keys}
+use Rattle.wd_plan.specs.Keys.{compare_keys, key_columns}
+use Rattle.wd_plan.specs.Plans.{ClassRule, LimitRule}
+
+abbrev pub order_columns : ClassRule → List ℕ
+order_columns class = key_columns class.order
+
+-- the columns of a class: those of its partition and of its sort keys
+abbrev pub class_columns : ClassRule → List ℕ
+class_columns class = class.partition ++ order_columns class
+
+-- the class of a Limit's ordering: one partition
+abbrev pub limit_class : LimitRule → ClassRule
+limit_class rule = record { partition = []; order = rule.keys }
 
 -- not distinct on any of the partition's columns
-abbrev pub same_partition : List ℕ → Row → Row → Bool
-same_partition partition a b = same_row (columns_of partition a) (columns_of partition b)
+abbrev pub same_partition : ClassRule → Row → Row → Bool
+same_partition class a b = same_row (columns_of class.partition a) (columns_of class.partition b)
 
 -- a row that stands before a row of the same partition has no greater key
-abbrev pub IsInOrder : List ℕ → List OrderItem → List Row → Type 0
-IsInOrder partition keys [] = ⊤
-IsInOrder partition keys (r ∷ rs) = AllByRecursion (λ q. same_partition partition r q ≡ true → is_gt (compare_keys keys r q) ≡ false) rs × IsInOrder partition keys rs
+abbrev pub IsInOrder : ClassRule → List Row → Type 0
+IsInOrder class [] = ⊤
+IsInOrder class (r ∷ rs) = AllByRecursion (λ q. same_partition class r q ≡ true → is_gt (compare_keys class.order r q) ≡ false) rs × IsInOrder class rs
 
 -- a lawful ordering: each position of the rows once, and within each partition the rows sorted by the keys;
 -- rows of one partition that tie on all keys may stand in any order
-pub record IsOrdering (partition : List ℕ) (keys : List OrderItem) (rows : List Row) (ordering : List ℕ) : Type 0 where
+pub record IsOrdering (class : ClassRule) (rows : List Row) (ordering : List ℕ) : Type 0 where
   pub once : EachOnce (length rows) ordering
-  pub in_order : IsInOrder partition keys (rows_at rows ordering)
+  pub in_order : IsInOrder class (rows_at rows ordering)

@@ -1,9 +1,15 @@
 //! Plans of queries, and what a plan gives over an instance under a choice of orderings.
 #![tactic(auto)]
 
+mod examples;
+mod expression;
+mod fits;
 pub mod laws;
 mod plan;
 #[cfg(test)]
 mod tests;
+mod window;
 
-pub use plan::{Choice, Expr, OrderItem, Outcome, Plan};
+pub use expression::{ArithmeticOp, ComparisonOp, Expr, ValueKind};
+pub use plan::{Choice, OrderItem, Outcome, Plan};
+pub use window::{Bound, Call, Class, Exclusion, Frame, FrameMode, Function};

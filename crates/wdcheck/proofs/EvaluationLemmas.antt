@@ -1,25 +1,32 @@
--- How the rows of a Map grow by one, plain columns have no fault, and what a Limit cuts.
-use Rattle.std.proofs.Common.{◌≡◌, ℕ, ◌+◌, ◌<◌, Bool, true, false, List, [], ◌∷◌, ◌++◌, map, take, drop, length, get_or, Option, Some, None, Result, Ok, Err, refl, sym, ap, ◌∙◌}
+-- How the rows of a Map grow by one, plain columns have no fault, and what a Limit without ties cuts.
+use Rattle.std.proofs.Common.{◌≡◌, ℕ, zero, suc, ◌+◌, ◌<◌, false, List, [], ◌∷◌, ◌++◌, map, take, length, get_or, Some, Result, Ok, refl, sym, subst, arith, ap, ◌∙◌}
 use Rattle.std.specs.declared.alloc.Global.{Global}
 use Rattle.std.specs.declared.vec.Vec.{Vec}
 use Rattle.std.specs.List.{list_any}
-use Rattle.std.proofs.lemmas.List.{take_more, map_push, take-map, drop-map}
+use Rattle.std.proofs.lemmas.List.{take_more, map_push, take-map}
 use Rattle.wd_value.specs.declared.value.Value.{Value}
 use Rattle.wd_value.specs.declared.value.Fault.{Fault}
 use Rattle.wd_value.specs.declared.value.Fault.TheVariants.{DivisionByZero, OutOfRange}
-use Rattle.wd_value.specs.Rows.{Row, rows_of, rows_at, row_at}
-use Rattle.wd_plan.specs.declared.plan.Expr.{Expr}
-use Rattle.wd_plan.specs.declared.plan.Expr.TheVariants as code
-use Rattle.wd_plan.specs.Expressions.{expression_of, value_of}
-use Rattle.wd_plan.specs.Faults.{has_fault, values_among, all_ok, least_fault, unless}
+use Rattle.wd_value.specs.Bags.{positions}
+use Rattle.wd_value.specs.Rows.{Row, Instance, rows_of, rows_at, row_at, column_of, columns_of}
+use Rattle.wd_plan.specs.declared.plan.OrderItem.{OrderItem}
+use Rattle.wd_plan.specs.Choices.{IsAnswerOf}
+use Rattle.wd_plan.specs.Sorting.{IsOrdering}
+use Rattle.wd_plan.proofs.ChoiceLaws.{IsAnswerOf-scan, IsAnswerOf-map, IsAnswerOf-limit}
+use Rattle.wd_plan.specs.Expressions.{Column, value_of}
+use Rattle.wd_plan.specs.Faults.{has_fault, values_among, all_ok}
 use Rattle.wd_plan.specs.Outcomes.{map_outcome, first_rows, cut}
-use Rattle.wd_plan.specs.Plans.{LimitRule}
-use Rattle.wdcheck.specs.Evaluation.{plain_value, plain_row, first_positions}
+use Rattle.wd_plan.specs.Plans.{PlanTree, Scan, Map, Limit, LimitRule}
+use Rattle.wdcheck.specs.Meaning.{without_hidden}
+use Rattle.wdcheck.proofs.SortLemmas.{positions_push}
 
 pub mapped_more : (f : Row → Row) (rows : List (Vec Value Global)) (i : ℕ) (r : Vec Value Global) → i < length rows → r ≡ get_or rows i r → map f (rows_of (take (i + 1) rows)) ≡ map f (rows_of (take i rows)) ++ f r.items ∷ []
 mapped_more f rows i r within is =
     ap (λ rs. map f (rows_of rs)) (take_more rows i r within ∙ ap (λ x. take i rows ++ x ∷ []) (sym is))
     ∙ ap (map f) (map_push (λ v. v.items) (take i rows) r) ∙ map_push f (rows_of (take i rows)) r.items
+
+pub columns_more : (row : Row) (i : ℕ) → columns_of (positions (i + 1)) row ≡ columns_of (positions i) row ++ column_of row i ∷ []
+columns_more row i = ap (map (column_of row)) (positions_push i) ∙ map_push (column_of row) (positions i) i
 
 -- ---- results without a fault
 
@@ -38,21 +45,49 @@ all_values f (x ∷ xs) = ap (λ ys. f x ∷ ys) (all_values f xs)
 all_ok-oks : {X Y : Type 0} (f : X → Y) (xs : List X) → all_ok (oks f xs) ≡ Ok (map f xs)
 all_ok-oks f xs = rw (no_fault DivisionByZero f xs, no_fault OutOfRange f xs, all_values f xs) refl
 
-plain_values : (outputs : List Expr) (row : Row) → map (λ output. value_of output row) (map expression_of outputs) ≡ oks (λ output. plain_value output row) outputs
-plain_values [] row = refl
-plain_values (code.Column c ∷ outputs) row = ap (λ rs. value_of (expression_of (code.Column c)) row ∷ rs) (plain_values outputs row)
+column_values : (columns : List ℕ) (row : Row) → map (λ output. value_of output row) (map Column columns) ≡ oks (column_of row) columns
+column_values [] row = refl
+column_values (c ∷ columns) row = ap (λ rs. Ok (column_of row c) ∷ rs) (column_values columns row)
 
 -- a Map over plain columns has no fault
-pub map_outcome-plain : (outputs : List Expr) (rows : List Row) → map_outcome (map expression_of outputs) rows ≡ Ok (map (plain_row outputs) rows)
-map_outcome-plain outputs rows =
-    ap (λ f. all_ok (map f rows)) (λ i row. (ap all_ok (plain_values outputs row) ∙ all_ok-oks (λ output. plain_value output row) outputs) i)
-    ∙ all_ok-oks (plain_row outputs) rows
+pub map_outcome-columns : (columns : List ℕ) (rows : List Row) → map_outcome (map Column columns) rows ≡ Ok (map (columns_of columns) rows)
+map_outcome-columns columns rows =
+    ap (λ f. all_ok (map f rows)) (λ i row. (ap all_ok (column_values columns row) ∙ all_ok-oks (column_of row) columns) i)
+    ∙ all_ok-oks (columns_of columns) rows
 
--- ---- a Limit
+-- ---- a Limit without offset and ties
 
-pub cut-rows_at : (rule : LimitRule) (rows : List Row) (ordering : List ℕ) → rows_at rows (first_positions rule.count (drop rule.offset ordering)) ≡ cut rule (rows_at rows ordering)
-cut-rows_at rule rows ordering = by_count rule.count ∙ ap (first_rows rule.count) (sym (drop-map (row_at rows) rule.offset ordering))
-  where
-    by_count : (count : Option ℕ) → rows_at rows (first_positions count (drop rule.offset ordering)) ≡ first_rows count (rows_at rows (drop rule.offset ordering))
-    by_count None = refl
-    by_count (Some n) = sym (take-map (row_at rows) n (drop rule.offset ordering))
+first_rows-take : (keys : List OrderItem) (n : ℕ) (rows : List Row) → first_rows keys false n rows ≡ take n rows
+first_rows-take keys zero rows = refl
+first_rows-take keys (suc n) [] = refl
+first_rows-take keys (suc zero) (r ∷ rows) = refl
+first_rows-take keys (suc (suc n)) (r ∷ rows) = ap (λ rs. r ∷ rs) (first_rows-take keys (suc n) rows)
+
+pub rows_at-take : (keys : List OrderItem) (n : ℕ) (rows : List Row) (ordering : List ℕ) → rows_at rows (take n ordering) ≡ cut (record { keys = keys; offset = 0; count = Some n; ties = false }) (rows_at rows ordering)
+rows_at-take keys n rows ordering = sym (take-map (row_at rows) n ordering) ∙ sym (first_rows-take keys n (rows_at rows ordering))
+
+-- ---- the plan of a query
+
+-- the first rows of a table's columns in a lawful ordering are an answer of a Limit over them
+pub limited_answer : (width count : ℕ) (columns : List ℕ) (keys : List OrderItem) (rows wide kept : List Row) (ordering : List ℕ)
+    → wide ≡ map (columns_of columns) rows
+    → IsOrdering (record { partition = []; order = keys }) wide ordering
+    → kept ≡ rows_at wide (take count ordering)
+    → IsAnswerOf (Limit (record { keys = keys; offset = 0; count = Some count; ties = false }) (Map (map Column columns) (Scan 0 width))) (rows ∷ []) (Ok kept)
+limited_answer width count columns keys rows wide kept ordering mapped lawful are =
+    let rule : LimitRule = record { keys = keys; offset = 0; count = Some count; ties = false } in
+    let scan : IsAnswerOf (Scan 0 width) (rows ∷ []) (Ok rows) = IsAnswerOf-scan 0 width (rows ∷ []) in
+    let below : IsAnswerOf (Map (map Column columns) (Scan 0 width)) (rows ∷ []) (Ok wide) =
+    IsAnswerOf-map (map Column columns) (Scan 0 width) (rows ∷ []) rows (Ok wide) scan (ap Ok mapped ∙ sym (map_outcome-columns columns rows)) in
+    subst (λ rs. IsAnswerOf (Limit rule (Map (map Column columns) (Scan 0 width))) (rows ∷ []) (Ok rs)) (sym (are ∙ rows_at-take keys count wide ordering)) (IsAnswerOf-limit rule (Map (map Column columns) (Scan 0 width)) (rows ∷ []) wide ordering below lawful)
+
+-- without hidden columns the answer stays
+pub whole_answer : (outputs hidden : ℕ) (plan : PlanTree) (instance : Instance) (kept : List Row) → hidden ≡ 0 → IsAnswerOf plan instance (Ok kept) → IsAnswerOf (without_hidden outputs hidden plan) instance (Ok kept)
+whole_answer outputs zero plan instance kept e answer = answer
+whole_answer outputs (suc hidden) plan instance kept e answer = absurd (omega arith)
+
+-- and with some its rows lose them
+pub narrow_answer : (outputs hidden : ℕ) (plan : PlanTree) (instance : Instance) (kept narrow : List Row) → (hidden ≡ 0 → ⊥) → narrow ≡ map (columns_of (positions outputs)) kept → IsAnswerOf plan instance (Ok kept) → IsAnswerOf (without_hidden outputs hidden plan) instance (Ok narrow)
+narrow_answer outputs zero plan instance kept narrow some are answer = absurd (some refl)
+narrow_answer outputs (suc hidden) plan instance kept narrow some are answer =
+    IsAnswerOf-map (map Column (positions outputs)) plan instance kept (Ok narrow) answer (ap Ok are ∙ sym (map_outcome-columns (positions outputs) kept))

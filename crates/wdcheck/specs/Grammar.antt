@@ -1,5 +1,5 @@
 -- The schema and the query that are read so far, as they are written in tokens.
-use Rattle.std.specs.Prelude.{◌≡◌, ◌≢◌, ℕ, ◌≤◌, Bool, true, false, codes, List, [], ◌∷◌, if◌then◌else◌, length, count_by, AllPairs}
+use Rattle.std.specs.Prelude.{◌≢◌, ℕ, ◌≤◌, Bool, true, false, codes, List, [], ◌∷◌, length, count_by, AllPairs}
 use Rattle.wd_lex.specs.declared.token.Mark.TheVariants as m
 use Rattle.wd_lex.specs.declared.token.TokenKind.{TokenKind}
 use Rattle.wd_lex.specs.declared.token.TokenKind.TheVariants as k

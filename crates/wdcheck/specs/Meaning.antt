@@ -85,7 +85,7 @@ without_hidden outputs (suc hidden) plan = Map (map expressions.Column (range_wi
 abbrev pub built_plan : ℕ → List ℕ → List ℕ → List OrderItem → ℕ → PlanTree
 built_plan width shown hidden items count =
     without_hidden (length shown) (length hidden)
-    (Limit (record { keys = items; offset = 0; count = Some count }) (Map (map expressions.Column (shown ++ hidden)) (Scan 0 width)))
+    (Limit (record { keys = items; offset = 0; count = Some count; ties = false }) (Map (map expressions.Column (shown ++ hidden)) (Scan 0 width)))
 
 -- the plan reads the query: each name stands for the column that carries it
 pub record IsPlanOf (columns : List Column) (query : QueryTree) (plan : PlanTree) : Type 0 where

@@ -1,107 +1,37 @@
-//! The evaluation of plans.
+//! The evaluation of a query that sorts a table and keeps its first rows.
 
-ghost use Rattle.std.specs.Prelude.{◌≡◌, Ok, IfOk, drop, map};
-ghost use Rattle.wd_value.specs.Rows.{rows_of, rows_at, instance_of, table_at};
+ghost use Rattle.std.specs.Prelude.{◌≡◌, [], ◌∷◌, ◌++◌, map, take, IfOk, OnOk, Ok};
+ghost use Rattle.wd_value.specs.Bags.{positions};
+ghost use Rattle.wd_value.specs.Rows.{rows_of, rows_at, column_of, columns_of};
 ghost use Rattle.wd_plan.specs.Choices.{IsAnswerOf};
-ghost use Rattle.wd_plan.specs.Expressions.{expression_of};
-ghost use Rattle.wd_plan.specs.Outcomes.{map_outcome, outcome_of};
-ghost use Rattle.wd_plan.specs.Plans.{plan_of};
-ghost use Rattle.wdcheck.specs.Evaluation.{shown_rows, first_positions, plain_value, plain_row};
+ghost use Rattle.wdcheck.specs.Evaluation.{sorted_plan};
 
+use crate::query::SortedQuery;
 use crate::sort::{row_in, sorted_positions};
 use std::alloc::Global;
-use wd_plan::{Expr, Outcome, Plan};
 use wd_value::{OutOfMemory, Row, Value, copy_row};
 
-/// The rows of a step: those of a table as they stand there, or rows of its own.
-#[derive(Drop)]
-enum StepRows<'a> {
-    Table(&'a [Row]),
-    Own(Vec<Row>),
+/// What the plan of a query gives over the rows of its table. The sort keeps rows that tie as they
+/// came, so the rows are those under a valid choice.
+pub fn evaluate(alloc: Global, query: &SortedQuery, rows: &[Row]) -> Result<Vec<Row>, OutOfMemory>
+    ensures { IfOk result (λ v. IsAnswerOf (sorted_plan query.now) (rows_of rows.now ∷ []) (Ok (rows_of v.items))) }
+{
+    let wide = mapped_rows(alloc, &query.shown, &query.hidden, rows)?;
+    let order = sorted_positions(alloc, &wide, &query.keys)?;
+    let kept = rows_at_positions(alloc, &wide, first_positions(&order, query.count))?;
+    if query.hidden.is_empty() {
+        return Ok(kept);
+    }
+    let shown = narrow_rows(alloc, &kept, query.shown.len())?;
+    Ok(shown)
 }
 
-/// What a plan gives over the tables of an instance. Each sort keeps rows that tie as they came,
-/// so the outcome is that under a valid choice.
-pub fn evaluate(alloc: Global, plan: &Plan, tables: &[Vec<Row>]) -> Result<Outcome, OutOfMemory>
-    ensures { IfOk result (λ o. IsAnswerOf (plan_of plan.now) (instance_of tables.now) (outcome_of o)) }
+/// The first positions, as many as a query asks for.
+fn first_positions(order: &[u64], count: u64) -> &[u64]
+    ensures { result.now ≡ take count order.now }
 {
-    match step_rows(alloc, plan, tables)? {
-        StepRows::Own(rows) => Ok(Outcome::Rows(rows)),
-        StepRows::Table(rows) => Ok(Outcome::Rows(copy_rows(alloc, rows)?)),
-    }
-}
-
-fn step_rows<'a>(
-    alloc: Global,
-    plan: &Plan,
-    tables: &'a [Vec<Row>],
-) -> Result<StepRows<'a>, OutOfMemory>
-    ensures { IfOk result (λ s. IsAnswerOf (plan_of plan.now) (instance_of tables.now) (Ok (shown_rows s))) }
-{
-    match plan {
-        Plan::Scan { table, .. } => Ok(StepRows::Table(table_rows(tables, *table))),
-        Plan::Map { input, outputs } => {
-            let rows = step_rows(alloc, input, tables)?;
-            let mapped = mapped_rows(alloc, outputs, as_slice(&rows))?;
-            Ok(StepRows::Own(mapped))
-        }
-        Plan::Limit {
-            input,
-            keys,
-            offset,
-            count,
-        } => {
-            let rows = step_rows(alloc, input, tables)?;
-            let rows = as_slice(&rows);
-            let order = sorted_positions(alloc, rows, keys)?;
-            let kept = rows_at_positions(alloc, rows, cut_positions(&order, *offset, *count))?;
-            Ok(StepRows::Own(kept))
-        }
-    }
-}
-
-fn as_slice<'a>(step: &'a StepRows<'_>) -> &'a [Row]
-    ensures { rows_of result.now ≡ shown_rows step.now }
-{
-    match step {
-        StepRows::Table(rows) => rows,
-        StepRows::Own(rows) => rows,
-    }
-}
-
-/// The rows of a table of the instance, and none past the last table.
-fn table_rows(tables: &[Vec<Row>], at: u16) -> &[Row]
-    ensures { rows_of result.now ≡ table_at (instance_of tables.now) at }
-{
-    match tables.get(at as usize) {
-        Some(table) => table,
-        None => &[],
-    }
-}
-
-fn copy_rows(alloc: Global, rows: &[Row]) -> Result<Vec<Row>, OutOfMemory>
-    ensures { IfOk result (λ v. rows_of v.items ≡ rows_of rows.now) }
-{
-    let mut copied = Vec::with_capacity(alloc, rows.len())?;
-    for row in rows {
-        copied.push(copy_row(alloc, row)?)?;
-    }
-    Ok(copied)
-}
-
-/// The positions that a limit keeps of those in its ordering.
-fn cut_positions(order: &[u64], offset: u64, count: Option<u64>) -> &[u64]
-    ensures { result.now ≡ first_positions count (drop offset order.now) }
-{
-    let start = (offset as usize).min(order.len());
-    let rest = &order[start..];
-    match count {
-        None => rest,
-        Some(count) => {
-            let end = (count as usize).min(rest.len());
-            &rest[..end]
-        }
-    }
+    let end = (count as usize).min(order.len());
+    &order[..end]
 }
 
 fn rows_at_positions(alloc: Global, rows: &[Row], order: &[u64]) -> Result<Vec<Row>, OutOfMemory>
@@ -114,35 +44,81 @@ fn rows_at_positions(alloc: Global, rows: &[Row], order: &[u64]) -> Result<Vec<R
     Ok(picked)
 }
 
+/// The rows with the columns of two lists, one behind the other.
 #[tactic(auto, using(crate::proofs::EvaluationLemmas::mapped_more))]
-fn mapped_rows(alloc: Global, outputs: &[Expr], rows: &[Row]) -> Result<Vec<Row>, OutOfMemory>
-    ensures { IfOk result (λ v. rows_of v.items ≡ map (plain_row outputs.now) (rows_of rows.now)) }
+fn mapped_rows(
+    alloc: Global,
+    shown: &[u16],
+    hidden: &[u16],
+    rows: &[Row],
+) -> Result<Vec<Row>, OutOfMemory>
+    ensures { IfOk result (λ v. rows_of v.items ≡ map (columns_of (shown.now ++ hidden.now)) (rows_of rows.now)) }
 {
     let mut mapped = Vec::with_capacity(alloc, rows.len())?;
     for row in rows {
-        mapped.push(mapped_row(alloc, outputs, row)?)?;
+        mapped.push(mapped_row(alloc, shown, hidden, row)?)?;
     }
     Ok(mapped)
 }
 
-fn mapped_row(alloc: Global, outputs: &[Expr], row: &[Value]) -> Result<Row, OutOfMemory>
-    ensures { IfOk result (λ r. r.items ≡ plain_row outputs.now row.now) }
+fn mapped_row(
+    alloc: Global,
+    shown: &[u16],
+    hidden: &[u16],
+    row: &[Value],
+) -> Result<Row, OutOfMemory>
+    ensures { IfOk result (λ r. r.items ≡ columns_of (shown.now ++ hidden.now) row.now) }
 {
-    let mut values = Vec::with_capacity(alloc, outputs.len())?;
-    for output in outputs {
-        values.push(value_of(alloc, output, row)?)?;
-    }
+    let mut values = Vec::with_capacity(alloc, shown.len())?;
+    push_columns(alloc, &mut values, shown, row)?;
+    push_columns(alloc, &mut values, hidden, row)?;
     Ok(values)
 }
 
-/// The value of an expression over a row.
-fn value_of(alloc: Global, output: &Expr, row: &[Value]) -> Result<Value, OutOfMemory>
-    ensures { IfOk result (λ v. v ≡ plain_value output.now row.now) }
+fn push_columns(
+    alloc: Global,
+    values: &mut Row,
+    columns: &[u16],
+    row: &[Value],
+) -> Result<(), OutOfMemory>
+    ensures { OnOk result (values.new.items ≡ values.old.items ++ columns_of columns.now row.now) }
 {
-    match output {
-        Expr::Column(at) => match row.get(*at as usize) {
-            Some(value) => value.copy(alloc),
-            None => Ok(Value::Null),
-        },
+    for column in columns {
+        values.push(value_in(alloc, row, *column as usize)?)?;
     }
+    Ok(())
+}
+
+/// A copy of the value in a column, and NULL past the last.
+fn value_in(alloc: Global, row: &[Value], column: usize) -> Result<Value, OutOfMemory>
+    ensures { IfOk result (λ v. v ≡ column_of row.now column) }
+{
+    match row.get(column) {
+        Some(value) => value.copy(alloc),
+        None => Ok(Value::Null),
+    }
+}
+
+/// The rows without what stands behind their first columns.
+#[tactic(auto, using(crate::proofs::EvaluationLemmas::mapped_more))]
+fn narrow_rows(alloc: Global, rows: &[Row], count: usize) -> Result<Vec<Row>, OutOfMemory>
+    ensures { IfOk result (λ v. rows_of v.items ≡ map (columns_of (positions count)) (rows_of rows.now)) }
+{
+    let mut narrow = Vec::with_capacity(alloc, rows.len())?;
+    for row in rows {
+        narrow.push(narrow_row(alloc, row, count)?)?;
+    }
+    Ok(narrow)
+}
+
+/// The first columns of a row, with NULL past its last.
+#[tactic(auto, using(crate::proofs::EvaluationLemmas::columns_more))]
+fn narrow_row(alloc: Global, row: &[Value], count: usize) -> Result<Row, OutOfMemory>
+    ensures { IfOk result (λ r. r.items ≡ columns_of (positions count) row.now) }
+{
+    let mut values = Vec::with_capacity(alloc, count)?;
+    for i in 0..count {
+        values.push(value_in(alloc, row, i)?)?;
+    }
+    Ok(values)
 }

@@ -1,11 +1,8 @@
 //! Reads the one form of query, and makes its plan.
 
 ghost use Rattle.std.specs.Prelude.{◌≡◌, ◌<◌, ◌≤◌, ◌+◌, ◌++◌, [], ◌∷◌, Some, List, length, map, IfOk, IfSome, OnOk};
-ghost use Rattle.std.specs.List.{range_with_len};
 ghost use Rattle.wd_schema.specs.Tables.{table_of};
-ghost use Rattle.wd_plan.specs.Expressions.{expression_of};
-ghost use Rattle.wd_plan.specs.Expressions as expressions;
-ghost use Rattle.wd_plan.specs.Plans.{plan_of};
+ghost use Rattle.wdcheck.specs.Evaluation.{sorted_plan};
 ghost use Rattle.wdcheck.specs.Causes.{query_number, query_place};
 ghost use Rattle.wdcheck.specs.Grammar.{query_tree};
 ghost use Rattle.wdcheck.specs.Meaning.{IsPlanOf, Reads, hidden_names, order_items};
@@ -17,7 +14,7 @@ use crate::syntax::{ReadError, WrittenKey, WrittenQuery, read_query};
 use std::alloc::{AllocError, AllocFailed, Global};
 use thiserror::Error;
 use wd_lex::{LexError, lex};
-use wd_plan::{Expr, OrderItem, Plan};
+use wd_plan::OrderItem;
 use wd_schema::{Column, Table};
 use wd_value::{SortKey, Text};
 
@@ -97,9 +94,25 @@ impl<T: Drop> From<AllocFailed<T>> for QueryError {
     }
 }
 
-/// The plan of a query text over a table, and the names of its select list.
-pub fn read_plan(alloc: Global, table: &Table, text: &[u8]) -> Result<(Plan, Vec<Text>), QueryError>
-    ensures { IfOk result (λ r. Reads (table_of table.now) text.now (plan_of r.0) r.1.items) }
+/// A query over one table: the table's columns that it shows and those that it only sorts by, the
+/// sort keys over both, one behind the other, and how many rows it asks for.
+#[derive(Debug, Drop)]
+pub struct SortedQuery {
+    /// How many columns the table has.
+    pub width: u16,
+    pub shown: Vec<u16>,
+    pub hidden: Vec<u16>,
+    pub keys: Vec<OrderItem>,
+    pub count: u64,
+}
+
+/// The query that a text spells over a table, and the names of its select list.
+pub fn read_plan(
+    alloc: Global,
+    table: &Table,
+    text: &[u8],
+) -> Result<(SortedQuery, Vec<Text>), QueryError>
+    ensures { IfOk result (λ r. Reads (table_of table.now) text.now (sorted_plan r.0) r.1.items) }
 {
     let tokens = match lex(alloc, text) {
         Ok(tokens) => tokens,
@@ -114,8 +127,8 @@ pub fn read_plan(alloc: Global, table: &Table, text: &[u8]) -> Result<(Plan, Vec
         Err(ReadError::OutOfMemory) => return Err(QueryError::OutOfMemory),
     };
     check_table(&query.table, &table.name)?;
-    let plan = plan_query(alloc, &table.columns, &query)?;
-    Ok((plan, query.shown))
+    let sorted = plan_query(alloc, &table.columns, &query)?;
+    Ok((sorted, query.shown))
 }
 
 fn check_table(read: &Text, known: &Text) -> Result<(), QueryError>
@@ -128,8 +141,12 @@ fn check_table(read: &Text, known: &Text) -> Result<(), QueryError>
     }
 }
 
-fn plan_query(alloc: Global, columns: &[Column], query: &WrittenQuery) -> Result<Plan, QueryError>
-    ensures { IfOk result (λ plan. IsPlanOf columns.now (query_tree query.now) (plan_of plan)) }
+fn plan_query(
+    alloc: Global,
+    columns: &[Column],
+    query: &WrittenQuery,
+) -> Result<SortedQuery, QueryError>
+    ensures { IfOk result (λ sorted. IsPlanOf columns.now (query_tree query.now) (sorted_plan sorted)) }
 {
     if columns.len() > MOST_COLUMNS {
         return Err(QueryError::TooManyColumns);
@@ -139,8 +156,13 @@ fn plan_query(alloc: Global, columns: &[Column], query: &WrittenQuery) -> Result
     if query.count > GREATEST_COUNT {
         return Err(QueryError::NumberTooLarge);
     }
-    let plan = build_plan(alloc, columns.len() as u16, &shown, keys, query.count)?;
-    Ok(plan)
+    Ok(SortedQuery {
+        width: columns.len() as u16,
+        shown,
+        hidden: keys.hidden,
+        keys: keys.items,
+        count: query.count,
+    })
 }
 
 /// The columns of the select list.
@@ -249,69 +271,4 @@ fn order_item(column: u16, key: &WrittenKey) -> OrderItem
             nulls_first: desc,
         },
     }
-}
-
-fn build_plan(
-    alloc: Global,
-    width: u16,
-    shown: &[u16],
-    keys: SortKeys,
-    count: u64,
-) -> Result<Plan, QueryError>
-    requires { length shown.now ≤ 1024 }
-    ensures { IfOk result (λ plan. plan_of plan ≡ meaning.built_plan width shown.now keys.hidden.items keys.items.items count) }
-{
-    let SortKeys { items, hidden } = keys;
-    let scan = Plan::Scan {
-        table: 0,
-        columns: width,
-    };
-    let map = Plan::Map {
-        input: Box::new(alloc, scan)?,
-        outputs: plain_columns(alloc, shown, &hidden)?,
-    };
-    let limit = Plan::Limit {
-        input: Box::new(alloc, map)?,
-        keys: items,
-        offset: 0,
-        count: Some(count),
-    };
-    if hidden.is_empty() {
-        return Ok(limit);
-    }
-    Ok(Plan::Map {
-        input: Box::new(alloc, limit)?,
-        outputs: first_columns(alloc, shown.len())?,
-    })
-}
-
-/// The plain columns of two lists, one behind the other.
-fn plain_columns(alloc: Global, shown: &[u16], hidden: &[u16]) -> Result<Vec<Expr>, AllocError>
-    ensures { IfOk result (λ v. map expression_of v.items ≡ map expressions.Column (shown.now ++ hidden.now)) }
-{
-    let mut outputs = Vec::new(alloc);
-    push_columns(&mut outputs, shown)?;
-    push_columns(&mut outputs, hidden)?;
-    Ok(outputs)
-}
-
-fn push_columns(outputs: &mut Vec<Expr>, columns: &[u16]) -> Result<(), AllocError>
-    ensures { OnOk result (map expression_of outputs.new.items ≡ map expression_of outputs.old.items ++ map expressions.Column columns.now) }
-{
-    for column in columns {
-        outputs.push(Expr::Column(*column))?;
-    }
-    Ok(())
-}
-
-/// The first columns, as many as there are.
-fn first_columns(alloc: Global, count: usize) -> Result<Vec<Expr>, AllocError>
-    requires { count ≤ 1024 }
-    ensures { IfOk result (λ v. map expression_of v.items ≡ map expressions.Column (range_with_len 0 count)) }
-{
-    let mut outputs = Vec::with_capacity(alloc, count)?;
-    for i in 0..count {
-        outputs.push(Expr::Column(i as u16))?;
-    }
-    Ok(outputs)
 }

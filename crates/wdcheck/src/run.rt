@@ -127,14 +127,13 @@ pub fn run(
         Ok(table) => table,
         Err(error) => return Err(RunError::Schema(error)),
     };
-    let (plan, names) = match read_plan(alloc, &table, query) {
+    let (sorted, names) = match read_plan(alloc, &table, query) {
         Ok(found) => found,
         Err(error) => return Err(RunError::Query(error)),
     };
     let rows = load_data(alloc, &table, tables)?;
-    let instance = vec![in alloc; rows]?;
-    let outcome = evaluate(alloc, &plan, &instance)?;
-    Ok((names, outcome))
+    let answer = evaluate(alloc, &sorted, &rows)?;
+    Ok((names, Outcome::Rows(answer)))
 }
 
 /// The rows of the one table, from the data given.

@@ -19,7 +19,7 @@ pub fn sorted_positions(
     rows: &[Row],
     keys: &[OrderItem],
 ) -> Result<Vec<u64>, OutOfMemory>
-    ensures { IfOk result (λ v. IsOrdering [] keys.now (rows_of rows.now) v.items) }
+    ensures { IfOk result (λ v. IsOrdering (record { partition = []; order = keys.now }) (rows_of rows.now) v.items) }
 {
     let mut order = all_positions(alloc, rows.len())?;
     order.sort_by(|a, b| compare_positions(rows, keys, *a, *b))?;

@@ -1,7 +1,6 @@
-use Rattle.std.proofs.Common.{◌≡◌, take, map}
-use Rattle.wd_value.specs.Rows.{rows_of}
-use Rattle.wdcheck.specs.Evaluation.{plain_row}
+use Rattle.std.proofs.Common.{◌≡◌, ◌++◌, take, map}
+use Rattle.wd_value.specs.Rows.{rows_of, columns_of}
 use Rattle.wdcheck.proofs.evaluate.mapped_rows.Given as goal
 
 abbrev pub invariant-loop-row : goal.invariant-loop-row
-invariant-loop-row l = rows_of l.mapped.items ≡ map (plain_row l.outputs) (rows_of (take l.row-index l.rows))
+invariant-loop-row l = rows_of l.mapped.items ≡ map (columns_of (l.shown ++ l.hidden)) (rows_of (take l.row-index l.rows))

@@ -1,6 +1,6 @@
 use Rattle.std.proofs.Common.{◌≡◌, refl, rules}
 use Rattle.wd_lex.specs.Lexed.{kinds_of}
-use Rattle.wdcheck.specs.Grammar.{QueryTree, IsQuery, query_tree, spell_query}
+use Rattle.wdcheck.specs.Grammar.{QueryTree, query_tree, spell_query}
 use Rattle.wdcheck.proofs.query.read_plan.Goals as goal
 
 pub returns : goal.returns

@@ -1,4 +1,4 @@
-use Rattle.std.proofs.Common.{◌≡◌, ◌≢◌, ℕ, ◌<◌, ◌≤◌, slice_index_or}
+use Rattle.std.proofs.Common.{◌≢◌, ℕ, ◌<◌, ◌≤◌, slice_index_or}
 use Rattle.wdcheck.specs.declared.syntax.WrittenColumn.{WrittenColumn}
 use Rattle.wdcheck.proofs.schema.check_columns.Given as goal
 

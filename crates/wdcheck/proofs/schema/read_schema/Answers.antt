@@ -1,5 +1,5 @@
 use Rattle.std.proofs.Common.{◌≡◌, rules}
-use Rattle.wd_lex.specs.Lexed.{IsLexed, kinds_of}
+use Rattle.wd_lex.specs.Lexed.{kinds_of}
 use Rattle.wdcheck.specs.Grammar.{SchemaTree, IsSchema, schema_tree, spell_schema}
 use Rattle.wdcheck.proofs.schema.read_schema.Goals as goal
 

@@ -1,0 +1,24 @@
+-- A node over inputs that fit: whether it fits is what its own rule says.
+use Rattle.std.proofs.Common.{◌≡◌, ◌+◌, ◌∙◌, sym, ap, Bool, true, ◌&&◌, List, Option}
+use Rattle.wd_schema.specs.Tables.{TableRule}
+use Rattle.wd_plan.specs.Expressions.{Expression}
+use Rattle.wd_plan.specs.Fits.{fits, kinds_of, width, is_join, is_condition, are_outputs, is_window}
+use Rattle.wd_plan.specs.Plans.{PlanTree, WindowRule, Join, Filter, Map, Window}
+
+-- a first answer that is true leaves the second
+second : (a b r : Bool) → a ≡ true → r ≡ b → r ≡ (a && b)
+second a b r first e = e ∙ ap (λ t. t && b) (sym first)
+
+pub fits-filter : (tables : List TableRule) (plan input : PlanTree) (e : Expression) (r : Bool) → plan ≡ Filter e input → fits tables input ≡ true → r ≡ is_condition (kinds_of tables input) e → r ≡ fits tables plan
+fits-filter tables plan input e r is h own = second (fits tables input) (is_condition (kinds_of tables input) e) r h own ∙ ap (fits tables) (sym is)
+
+pub fits-map : (tables : List TableRule) (plan input : PlanTree) (outputs : List Expression) (r : Bool) → plan ≡ Map outputs input → fits tables input ≡ true → r ≡ are_outputs (kinds_of tables input) outputs → r ≡ fits tables plan
+fits-map tables plan input outputs r is h own = second (fits tables input) (are_outputs (kinds_of tables input) outputs) r h own ∙ ap (fits tables) (sym is)
+
+pub fits-window : (tables : List TableRule) (plan input : PlanTree) (w : WindowRule) (r : Bool) → plan ≡ Window w input → fits tables input ≡ true → r ≡ is_window (kinds_of tables input) (width input) w → r ≡ fits tables plan
+fits-window tables plan input w r is h own = second (fits tables input) (is_window (kinds_of tables input) (width input) w) r h own ∙ ap (fits tables) (sym is)
+
+pub fits-join : (tables : List TableRule) (plan left right : PlanTree) (condition : Option Expression) (r : Bool) → plan ≡ Join condition left right → fits tables left ≡ true → fits tables right ≡ true → r ≡ is_join (kinds_of tables plan) (width plan) condition → r ≡ fits tables plan
+fits-join tables plan left right condition r is h k own =
+    let own' : r ≡ is_join (kinds_of tables (Join condition left right)) (width left + width right) condition = own ∙ ap (λ p. is_join (kinds_of tables p) (width p) condition) is in
+    second (fits tables left && fits tables right) (is_join (kinds_of tables (Join condition left right)) (width left + width right) condition) r (sym (second (fits tables left) (fits tables right) true h (sym k))) own' ∙ ap (fits tables) (sym is)

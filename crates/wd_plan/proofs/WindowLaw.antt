@@ -1,0 +1,204 @@
+-- A Window keeps outcomes that agree.
+use Rattle.std.proofs.Common.{◌≡◌, ℕ, ◌<◌, ◌≤◌, Bool, true, List, [], ◌∷◌, ◌++◌, map, length, filter, get_or, refl, sym, ◌∙◌, ap, subst, arith, le_trans, ext_get_or, ◌⊎◌, inl, inr, eqb, Ok, Result}
+use Rattle.std.specs.List.{AllByRecursion}
+use Rattle.std.proofs.lemmas.List.{length-map, get_or-map, same_lists}
+use Rattle.std.proofs.lemmas.List.Elements.{filter_passes, All-from_recursion}
+use Rattle.wd_plan.proofs.Calls.{by_peers, by_unique, by_values, same_members, stands_once}
+use Rattle.wd_plan.proofs.Grouped.{Matches, Perm-from_matches, place-get_or, range-times, times-filter-le, times-get_or}
+use Rattle.wd_plan.proofs.Outcomes.{Alike, Alike-all_ok}
+use Rattle.wd_plan.proofs.Parts.{LooksBy, Perm-ordered, Perm-ordering, map_filter, ordered, rows_at_positions, same_partition_is, same_rows_at_places}
+use Rattle.wd_plan.specs.Calls.{call_value, value_at}
+use Rattle.wd_plan.specs.Choices.{AreOrderings}
+use Rattle.wd_plan.specs.Facts.{Gives, GivesAll, GivesRow, HasWidth}
+use Rattle.wd_plan.specs.Faults.{all_ok, and_then}
+use Rattle.wd_plan.specs.Justified.{IsByValues, IsJustified, NamesClasses, is_by_peers}
+use Rattle.wd_plan.specs.Outcomes.{call_at, class_at, extended, ordering_at, window_outcome}
+use Rattle.wd_plan.specs.Partitions.{members, place_of}
+use Rattle.wd_plan.specs.Plans.{ClassRule, WindowRule}
+use Rattle.wd_plan.specs.Sorting.{IsOrdering, class_columns, same_partition}
+use Rattle.wd_plan.specs.declared.window.Call.{Call}
+use Rattle.wd_plan.specs.declared.window.Frame.{Frame}
+use Rattle.wd_plan.specs.declared.window.Function.{Function}
+use Rattle.wd_value.proofs.Perms.{Perm, Perm-filter, Perm-length, Perm-map, Perm-sym, both}
+use Rattle.wd_value.proofs.SameLaws.{same_row-Decides}
+use Rattle.wd_value.specs.Bags.{EachOnce, positions, times}
+use Rattle.wd_value.specs.Rows.{Row, columns_of, row_at, same_row}
+use Rattle.wd_value.specs.declared.value.Fault.{Fault}
+use Rattle.wd_value.specs.declared.value.Value.TheVariants.{Null}
+
+-- lists that show the same at each place show the same
+pub same_shows : {A B Z : Type 0} (f : A → Z) (g : B → Z) (as' : List A) (bs : List B) (a : A) (b : B) → length as' ≡ length bs → ((i : ℕ) → i < length as' → f (get_or as' i a) ≡ g (get_or bs i b)) → map f as' ≡ map g bs
+same_shows f g as' bs a b l h = same_lists (map f as') (map g bs) (length-map as' f ∙ l ∙ sym (length-map bs g))
+    (λ k d m. let n : k < length as' = subst (λ x. k < x) (length-map as' f) m in let n' : k < length bs = omega arith in get_or-map f as' k a d n ∙ h k n ∙ sym (get_or-map g bs k b d n'))
+
+-- ---- `exchange`
+
+-- what stands in a filter of an ordering is a position
+below_filter : (rows : List Row) (ordering : List ℕ) (t : ℕ → Bool) (i : ℕ) → EachOnce (length rows) ordering → i < length (filter t ordering) → get_or (filter t ordering) i 0 < length rows
+below_filter rows ordering t i once h =
+    let q = get_or (filter t ordering) i 0 in
+    let a : 0 < times eqb q (filter t ordering) = times-get_or (filter t ordering) i 0 h in
+    let b : times eqb q (filter t ordering) ≤ times eqb q ordering = times-filter-le eqb t q ordering in
+    let c : times eqb q (positions (length rows)) ≡ times eqb q ordering = once q in
+    let d = range-times q 0 (length rows) (omega arith) in
+    omega arith
+
+-- the value of a call at the member at place i of the partition of x
+value_at_place : (class : ClassRule) (frame : Frame) (function : Function) (rows : List Row) (ordering : List ℕ) (x : Row) (i : ℕ) → EachOnce (length rows) ordering → i < length (filter (λ q. same_partition class x (row_at rows q)) ordering) →
+    value_at class frame function rows ordering (get_or (filter (λ q. same_partition class x (row_at rows q)) ordering) i 0) ≡ call_value class frame function (map (row_at rows) (filter (λ q. same_partition class x (row_at rows q)) ordering)) i
+value_at_place class frame function rows ordering x i once h =
+    let t = λ (q : ℕ). same_partition class x (row_at rows q) in
+    let us = filter t ordering in
+    let u = get_or us i 0 in
+    let passes : same_partition class x (row_at rows u) ≡ true = filter_passes t ordering i 0 h in
+    let ms : members class rows ordering u ≡ us = same_members class rows ordering x u (same_partition_is class x (row_at rows u) passes) in
+    let at_i : place_of us u ≡ i = place-get_or us i 0 h (le_trans (times-filter-le eqb t u ordering) (stands_once rows ordering u once)) in
+    (λ k. call_value class frame function (map (row_at rows) (ms k)) (place_of (ms k) u)) ∙ ap (call_value class frame function (map (row_at rows) us)) at_i
+
+-- two orderings of an exchange class put the same rows at each place of each partition
+pub exchange_places : (class : ClassRule) (rows others : List Row) (o1 o2 : List ℕ) (x : Row) → LooksBy class rows (λ r. r) → Perm Row rows others → IsOrdering class rows o1 → IsOrdering class others o2 → map (row_at rows) (filter (λ q. same_partition class x (row_at rows q)) o1) ≡ map (row_at others) (filter (λ q. same_partition class x (row_at others q)) o2)
+exchange_places class rows others o1 o2 x looks perm v1 v2 =
+    map_filter (row_at rows) (same_partition class x) o1
+    ∙ same_rows_at_places class rows looks x (ordered rows o1) (ordered others o2) (Perm-ordered rows o1 v1.once) (both perm (Perm-ordered others o2 v2.once)) v1.in_order v2.in_order
+    ∙ sym (map_filter (row_at others) (same_partition class x) o2)
+
+-- the class's columns give every column: rows that are the same on them are the same
+pub gives_all_looks : (class : ClassRule) (rows : List Row) (width : ℕ) → HasWidth width rows → GivesAll rows width (class_columns class) → LooksBy class rows (λ r. r)
+gives_all_looks class rows width wide h a b m n e =
+    let at_p : length (row_at rows m.0) ≡ width = All-at m.0 m.1 in
+    let at_q : length (row_at rows n.0) ≡ width = All-at n.0 n.1 in
+    let key : columns_of (class_columns class) (row_at rows m.0) ≡ columns_of (class_columns class) (row_at rows n.0) = ap (columns_of (class_columns class)) m.2 ∙ e ∙ sym (ap (columns_of (class_columns class)) n.2) in
+    let same : row_at rows m.0 ≡ row_at rows n.0 = ext_get_or Null (row_at rows m.0) (row_at rows n.0) (at_p ∙ sym at_q) (λ c l. h c (omega arith) m.0 n.0 m.1 n.1 key) in
+    sym m.2 ∙ same ∙ n.2
+  where
+    All-at : (p : ℕ) → p < length rows → length (row_at rows p) ≡ width
+    All-at p l = All-from_recursion (λ (r : Row). length r ≡ width) rows wide p [] l
+
+-- ---- a row with the values of its calls
+
+map_agrees : {X Y : Type 0} (f g : X → Y) (xs : List X) → AllByRecursion (λ x. f x ≡ g x) xs → map f xs ≡ map g xs
+map_agrees f g [] a = refl
+map_agrees f g (x ∷ xs) a = λ i. a.0 i ∷ map_agrees f g xs a.1 i
+
+all_weaker : {X : Type 0} (P Q : X → Type 0) → ((x : X) → P x → Q x) → (xs : List X) → AllByRecursion P xs → AllByRecursion Q xs
+all_weaker P Q f [] a = tt
+all_weaker P Q f (x ∷ xs) a = (f x a.0, all_weaker P Q f xs a.1)
+
+pub extended_agrees : (w : WindowRule) (rows others : List Row) (os1 os2 : List (List ℕ)) (p q : ℕ) → row_at rows p ≡ row_at others q → AllByRecursion (λ call. call_at w rows os1 p call ≡ call_at w others os2 q call) w.calls → extended w rows os1 p ≡ extended w others os2 q
+extended_agrees w rows others os1 os2 p q e a = λ i. and_then (all_ok (map_agrees (call_at w rows os1 p) (call_at w others os2 q) w.calls a i)) (λ values. Ok (e i ++ values))
+
+-- a call whose value is a function of the row and of the rows
+abbrev pub IsByRow : WindowRule → List Row → Call → Type 0
+IsByRow w rows call = (is_by_peers call.frame call.function ≡ true) ⊎ (GivesRow rows (class_columns (class_at w call.class)) ⊎ ((c : ℕ) × IsByValues call.frame call.function c × Gives rows (class_columns (class_at w call.class)) c))
+
+module _ (w : WindowRule) (rows others : List Row) (os1 os2 : List (List ℕ)) (perm : Perm Row rows others) (v1 : AreOrderings w rows os1) (v2 : AreOrderings w others os2) where
+  pub call_by_row : (call : Call) → call.class < length w.classes → IsByRow w rows call → (p q : ℕ) → p < length rows → q < length others → row_at rows p ≡ row_at others q → call_at w rows os1 p call ≡ call_at w others os2 q call
+  call_by_row call n (inl h) p q k l e = by_peers (class_at w call.class) call.frame call.function rows others (ordering_at os1 call.class) (ordering_at os2 call.class) p q h perm (v1.each call.class n).once (v2.each call.class n).once k l e
+  call_by_row call n (inr (inl h)) p q k l e = by_unique (class_at w call.class) call.frame call.function rows others (ordering_at os1 call.class) (ordering_at os2 call.class) p q h perm (v1.each call.class n) (v2.each call.class n) k l e
+  call_by_row call n (inr (inr h)) p q k l e = by_values (class_at w call.class) call.frame call.function h.0 rows others (ordering_at os1 call.class) (ordering_at os2 call.class) p q h.1 h.2 perm (v1.each call.class n) (v2.each call.class n) k l e
+
+  same_length : length rows ≡ length others
+  same_length = Perm-length perm
+
+  -- every call is by the row: a row shows the same wherever it stands
+  pub rows_by_row : AllByRecursion (λ call. (call.class < length w.classes) × IsByRow w rows call) w.calls → Perm (Result Row Fault) (map (extended w rows os1) (positions (length rows))) (map (extended w others os2) (positions (length others)))
+  rows_by_row h = Perm-from_matches same_row same_row-Decides (λ (r : Row). r) (row_at rows) (row_at others) (extended w rows os1) (extended w others os2) (positions (length rows)) (positions (length others)) matches
+    where
+      once1 : EachOnce (length rows) (positions (length rows))
+      once1 x = refl
+
+      once2 : EachOnce (length others) (positions (length others))
+      once2 x = refl
+
+      matches : Matches same_row same_row-Decides (λ (r : Row). r) (row_at rows) (row_at others) (extended w rows os1) (extended w others os2) (positions (length rows)) (positions (length others))
+      matches x =
+          let t = λ (p : ℕ). same_row x (row_at rows p) in
+          let s = λ (q : ℕ). same_row x (row_at others q) in
+          let us = filter t (positions (length rows)) in
+          let vs = filter s (positions (length others)) in
+          let long1 : length us ≡ length (filter (same_row x) rows) = sym (length-map us (row_at rows)) ∙ ap length (map_filter (row_at rows) (same_row x) (positions (length rows)) ∙ ap (filter (same_row x)) (rows_at_positions rows)) in
+          let long2 : length vs ≡ length (filter (same_row x) others) = sym (length-map vs (row_at others)) ∙ ap length (map_filter (row_at others) (same_row x) (positions (length others)) ∙ ap (filter (same_row x)) (rows_at_positions others)) in
+          let long : length us ≡ length vs = long1 ∙ Perm-length (Perm-filter (same_row x) perm) ∙ sym long2 in
+          same_shows (extended w rows os1) (extended w others os2) us vs 0 0 long (λ i l.
+          let l' : i < length vs = omega arith in
+          let u = get_or us i 0 in
+          let v = get_or vs i 0 in
+          let e : row_at rows u ≡ row_at others v = sym ((same_row-Decides x (row_at rows u)).0 (filter_passes t (positions (length rows)) i 0 l)) ∙ (same_row-Decides x (row_at others v)).0 (filter_passes s (positions (length others)) i 0 l') in
+          extended_agrees w rows others os1 os2 u v e (all_weaker (λ call. (call.class < length w.classes) × IsByRow w rows call) (λ call. call_at w rows os1 u call ≡ call_at w others os2 v call)
+          (λ call j. call_by_row call j.0 j.1 u v (below_filter rows (positions (length rows)) t i once1 l) (below_filter others (positions (length others)) s i once2 l') e) w.calls h))
+
+  -- one class gives every column, and each other call is by the row
+  module _ (e : ℕ) (range_asks : e < length w.classes) (looks : LooksBy (class_at w e) rows (λ r. r)) where
+    at_partition : (x : Row) (calls : List Call) → AllByRecursion (λ call. (call.class < length w.classes) × (IsByRow w rows call ⊎ (call.class ≡ e))) calls → (i : ℕ)
+        → i < length (filter (λ q. same_partition (class_at w e) x (row_at rows q)) (ordering_at os1 e))
+        → i < length (filter (λ q. same_partition (class_at w e) x (row_at others q)) (ordering_at os2 e))
+        → row_at rows (get_or (filter (λ q. same_partition (class_at w e) x (row_at rows q)) (ordering_at os1 e)) i 0) ≡ row_at others (get_or (filter (λ q. same_partition (class_at w e) x (row_at others q)) (ordering_at os2 e)) i 0)
+        → AllByRecursion (λ call. call_at w rows os1 (get_or (filter (λ q. same_partition (class_at w e) x (row_at rows q)) (ordering_at os1 e)) i 0) call ≡ call_at w others os2 (get_or (filter (λ q. same_partition (class_at w e) x (row_at others q)) (ordering_at os2 e)) i 0) call) calls
+    at_partition x [] a i k l same = tt
+    at_partition x (call ∷ calls) a i k l same = (one a.0.1, at_partition x calls a.1 i k l same)
+      where
+        u : ℕ
+        u = get_or (filter (λ q. same_partition (class_at w e) x (row_at rows q)) (ordering_at os1 e)) i 0
+
+        v : ℕ
+        v = get_or (filter (λ q. same_partition (class_at w e) x (row_at others q)) (ordering_at os2 e)) i 0
+
+        one : IsByRow w rows call ⊎ (call.class ≡ e) → call_at w rows os1 u call ≡ call_at w others os2 v call
+        one (inl by_row) = call_by_row call a.0.0 by_row u v
+            (below_filter rows (ordering_at os1 e) (λ q. same_partition (class_at w e) x (row_at rows q)) i (v1.each e range_asks).once k)
+            (below_filter others (ordering_at os2 e) (λ q. same_partition (class_at w e) x (row_at others q)) i (v2.each e range_asks).once l) same
+        one (inr is_e) =
+            let class = class_at w e in
+            let lists = exchange_places class rows others (ordering_at os1 e) (ordering_at os2 e) x looks perm (v1.each e range_asks) (v2.each e range_asks) in
+            let here = value_at_place class call.frame call.function rows (ordering_at os1 e) x i (v1.each e range_asks).once k in
+            let there = value_at_place class call.frame call.function others (ordering_at os2 e) x i (v2.each e range_asks).once l in
+            ap (λ n. value_at (class_at w n) call.frame call.function rows (ordering_at os1 n) u) is_e
+            ∙ here ∙ ap (λ part. call_value class call.frame call.function part i) lists ∙ sym there
+            ∙ sym (ap (λ n. value_at (class_at w n) call.frame call.function others (ordering_at os2 n) v) is_e)
+
+    pub rows_by_exchange : AllByRecursion (λ call. (call.class < length w.classes) × (IsByRow w rows call ⊎ (call.class ≡ e))) w.calls → Perm (Result Row Fault) (map (extended w rows os1) (ordering_at os1 e)) (map (extended w others os2) (ordering_at os2 e))
+    rows_by_exchange h = Perm-from_matches same_row same_row-Decides (columns_of (class_at w e).partition) (row_at rows) (row_at others) (extended w rows os1) (extended w others os2) (ordering_at os1 e) (ordering_at os2 e) (λ x.
+        let us = filter (λ q. same_partition (class_at w e) x (row_at rows q)) (ordering_at os1 e) in
+        let vs = filter (λ q. same_partition (class_at w e) x (row_at others q)) (ordering_at os2 e) in
+        let lists = exchange_places (class_at w e) rows others (ordering_at os1 e) (ordering_at os2 e) x looks perm (v1.each e range_asks) (v2.each e range_asks) in
+        let long : length us ≡ length vs = sym (length-map us (row_at rows)) ∙ ap length lists ∙ length-map vs (row_at others) in
+        same_shows (extended w rows os1) (extended w others os2) us vs 0 0 long (λ i l.
+        let l' : i < length vs = omega arith in
+        let same : row_at rows (get_or us i 0) ≡ row_at others (get_or vs i 0) = sym (get_or-map (row_at rows) us i 0 [] l) ∙ ap (λ (rs : List Row). row_at rs i) lists ∙ get_or-map (row_at others) vs i 0 [] l' in
+        extended_agrees w rows others os1 os2 (get_or us i 0) (get_or vs i 0) same (at_partition x w.calls h i l l' same)))
+
+-- ---- the law
+
+-- every call is by the row, or the exchange class is a class and gives every column
+sorts_out : (w : WindowRule) (e width : ℕ) (rows : List Row) (calls : List Call) → AllByRecursion (λ (call : Call). call.class < length w.classes) calls → AllByRecursion (IsJustified w e width rows) calls →
+    AllByRecursion (λ call. (call.class < length w.classes) × IsByRow w rows call) calls ⊎ ((e < length w.classes) × GivesAll rows width (class_columns (class_at w e)))
+sorts_out w e width rows [] n a = inl tt
+sorts_out w e width rows (call ∷ calls) n a = with_rest a.0 (sorts_out w e width rows calls n.1 a.1)
+  where
+    with_rest : IsJustified w e width rows call → AllByRecursion (λ call'. (call'.class < length w.classes) × IsByRow w rows call') calls ⊎ ((e < length w.classes) × GivesAll rows width (class_columns (class_at w e))) →
+        AllByRecursion (λ call'. (call'.class < length w.classes) × IsByRow w rows call') (call ∷ calls) ⊎ ((e < length w.classes) × GivesAll rows width (class_columns (class_at w e)))
+    with_rest j (inr r) = inr r
+    with_rest (inl peers) (inl r) = inl ((n.0, inl peers), r)
+    with_rest (inr (inl unique)) (inl r) = inl ((n.0, inr (inl unique)), r)
+    with_rest (inr (inr (inl values))) (inl r) = inl ((n.0, inr (inr values)), r)
+    with_rest (inr (inr (inr exchange))) (inl r) = inr (subst (λ c. c < length w.classes) exchange.0 n.0, subst (λ c. GivesAll rows width (class_columns (class_at w c))) exchange.0 exchange.1)
+
+by_row_or_exchange : (w : WindowRule) (e width : ℕ) (rows : List Row) (call : Call) → IsJustified w e width rows call → IsByRow w rows call ⊎ (call.class ≡ e)
+by_row_or_exchange w e width rows call (inl h) = inl (inl h)
+by_row_or_exchange w e width rows call (inr (inl h)) = inl (inr (inl h))
+by_row_or_exchange w e width rows call (inr (inr (inl h))) = inl (inr (inr h))
+by_row_or_exchange w e width rows call (inr (inr (inr h))) = inr h.0
+
+all_both : {X : Type 0} (P Q R : X → Type 0) → ((x : X) → P x → Q x → R x) → (xs : List X) → AllByRecursion P xs → AllByRecursion Q xs → AllByRecursion R xs
+all_both P Q R f [] a b = tt
+all_both P Q R f (x ∷ xs) a b = (f x a.0 b.0, all_both P Q R f xs a.1 b.1)
+
+pub Alike-window : (w : WindowRule) (e width : ℕ) (rows others : List Row) (os1 os2 : List (List ℕ)) → Perm Row rows others → AreOrderings w rows os1 → AreOrderings w others os2 → HasWidth width rows → NamesClasses w → AllByRecursion (IsJustified w e width rows) w.calls → Alike (window_outcome w rows os1) (window_outcome w others os2)
+Alike-window w e width rows others os1 os2 perm v1 v2 wide n a = by_cases (sorts_out w e width rows w.calls n a)
+  where
+    by_cases : AllByRecursion (λ call. (call.class < length w.classes) × IsByRow w rows call) w.calls ⊎ ((e < length w.classes) × GivesAll rows width (class_columns (class_at w e))) → Alike (window_outcome w rows os1) (window_outcome w others os2)
+    by_cases (inl h) = Alike-all_ok _ _ (rows_by_row w rows others os1 os2 perm v1 v2 h)
+    by_cases (inr h) =
+        let p = rows_by_exchange w rows others os1 os2 perm v1 v2 e h.0 (gives_all_looks (class_at w e) rows width wide h.1)
+        (all_both (λ (call : Call). call.class < length w.classes) (IsJustified w e width rows) (λ call. (call.class < length w.classes) × (IsByRow w rows call ⊎ (call.class ≡ e))) (λ call k j. (k, by_row_or_exchange w e width rows call j)) w.calls n a) in
+        Alike-all_ok _ _ (both (Perm-map (extended w rows os1) (Perm-ordering rows (ordering_at os1 e) (v1.each e h.0).once)) (both p (Perm-sym (Perm-map (extended w others os2) (Perm-ordering others (ordering_at os2 e) (v2.each e h.0).once)))))

@@ -1,0 +1,77 @@
+-- The values of window calls (SQL, window function; PG, Window Functions).
+use Rattle.std.specs.Prelude.{ℕ, zero, suc, ◌+◌, ◌-◌, ◌*◌, ◌/◌, ◌%◌, min, ℤ, pos, ◌+ℤ◌, true, false, not, List, [], ◌∷◌, map, reverse, length, count_by, nat_lt, nat_le, slice_index_or, if◌then◌else◌, Result, Ok, Err}
+use Rattle.std.specs.List.{list_any}
+use Rattle.std.specs.Ordering.{is_gt}
+use Rattle.wd_value.specs.declared.value.Value.{Value}
+use Rattle.wd_value.specs.declared.value.Value.TheVariants.{Null, Int, Text, Bool as Truth}
+use Rattle.wd_value.specs.declared.value.Fault.{Fault}
+use Rattle.wd_value.specs.declared.value.Fault.TheVariants.{OutOfRange}
+use Rattle.wd_value.specs.declared.order.SortKey.{SortKey}
+use Rattle.wd_value.specs.Order.{compare}
+use Rattle.wd_value.specs.Rows.{Row, column_of, row_at}
+use Rattle.wd_plan.specs.declared.window.Frame.{Frame}
+use Rattle.wd_plan.specs.declared.window.Function.{Function}
+use Rattle.wd_plan.specs.declared.window.Function.TheVariants.{RowNumber, Rank, DenseRank, Ntile, Lag, Lead, FirstValue, LastValue, NthValue, CountRows, Count, Sum, Min, Max}
+use Rattle.wd_plan.specs.Expressions.{fits_64, is_null}
+use Rattle.wd_plan.specs.Frames.{frame_of}
+use Rattle.wd_plan.specs.Partitions.{members, partition_of, place_of, group_of}
+use Rattle.wd_plan.specs.Plans.{ClassRule}
+
+-- the first bucket from b on that reaches past a place, where members are dealt to n buckets as evenly as possible,
+-- the larger ones first: the first b buckets hold b times the smaller size, and one more each where they are larger
+abbrev pub bucket_from : ℕ → ℕ → ℕ → ℕ → ℕ → ℕ
+bucket_from zero b n members place = b
+bucket_from (suc more) b n members place = if nat_lt place (b * (members / n) + min b (members % n)) then b else bucket_from more (b + 1) n members place
+
+-- the bucket of a place among so many members, from 1
+abbrev pub bucket : ℕ → ℕ → ℕ → ℕ
+bucket n members place = bucket_from n 1 n members place
+
+-- the exact total of the whole numbers, over unbounded whole numbers
+abbrev pub total : List Value → ℤ
+total [] = pos 0
+total (Int n ∷ vs) = n +ℤ total vs
+total (Text t ∷ vs) = total vs
+total (Truth b ∷ vs) = total vs
+total (Null ∷ vs) = total vs
+
+-- NULL over no value; a total that 64 bits don't hold is a fault, and no running total is (own)
+abbrev pub sum_of : List Value → Result Value Fault
+sum_of vs = if list_any (λ v. not (is_null v)) vs then (if fits_64 (total vs) then Ok (Int (total vs)) else Err OutOfRange) else Ok Null
+
+-- the value that stands first under a sort key, or NULL over no value
+abbrev pub first_by : SortKey → List Value → Value
+first_by key [] = Null
+first_by key (v ∷ vs) = let w = first_by key vs in if is_gt (compare key v w) then w else v
+
+-- NULL stands last under both keys, so it is taken only where there is no other
+abbrev pub least : List Value → Value
+least vs = first_by (record { desc = false; nulls_first = false }) vs
+
+abbrev pub greatest : List Value → Value
+greatest vs = first_by (record { desc = true; nulls_first = false }) vs
+
+-- the values of a column over a frame
+abbrev pub frame_values : ClassRule → Frame → List Row → ℕ → ℕ → List Value
+frame_values class frame partition i c = map (λ r. column_of r c) (frame_of class frame partition i)
+
+-- the value of a call at place i of a partition list
+abbrev pub call_value : ClassRule → Frame → Function → List Row → ℕ → Result Value Fault
+call_value class frame RowNumber partition i = Ok (Int (pos (i + 1)))
+call_value class frame Rank partition i = Ok (Int (pos (1 + count_by (λ q. nat_lt (group_of class partition q) (group_of class partition (row_at partition i))) partition)))
+call_value class frame DenseRank partition i = Ok (Int (pos (group_of class partition (row_at partition i) + 1)))
+call_value class frame (Ntile n) partition i = Ok (Int (pos (bucket n (length partition) i)))
+call_value class frame (Lag c k default) partition i = Ok (if nat_le k i then column_of (row_at partition (i - k)) c else default)
+call_value class frame (Lead c k default) partition i = Ok (if nat_lt (i + k) (length partition) then column_of (row_at partition (i + k)) c else default)
+call_value class frame (FirstValue c) partition i = Ok (slice_index_or (frame_values class frame partition i c) 0 Null)
+call_value class frame (LastValue c) partition i = Ok (slice_index_or (reverse (frame_values class frame partition i c)) 0 Null)
+call_value class frame (NthValue c n) partition i = Ok (slice_index_or (frame_values class frame partition i c) (n - 1) Null)
+call_value class frame CountRows partition i = Ok (Int (pos (length (frame_of class frame partition i))))
+call_value class frame (Count c) partition i = Ok (Int (pos (count_by (λ r. not (is_null (column_of r c))) (frame_of class frame partition i))))
+call_value class frame (Sum c) partition i = sum_of (frame_values class frame partition i c)
+call_value class frame (Min c) partition i = Ok (least (frame_values class frame partition i c))
+call_value class frame (Max c) partition i = Ok (greatest (frame_values class frame partition i c))
+
+-- the value of a call at the row at position r, under an ordering
+abbrev pub value_at : ClassRule → Frame → Function → List Row → List ℕ → ℕ → Result Value Fault
+value_at class frame function rows ordering r = call_value class frame function (partition_of class rows ordering r) (place_of (members class rows ordering r) r)

@@ -1,0 +1,9 @@
+pub mod Literals
+pub mod Functions
+pub mod Frames
+pub mod Values
+pub mod Joins
+pub mod Limits
+pub mod Faults
+pub mod Choosing
+pub mod Agreeing

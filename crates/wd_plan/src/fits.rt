@@ -1,0 +1,504 @@
+//! Whether a plan fits a schema.
+
+ghost use Rattle.std.specs.Prelude.{◌≡◌, ◌-◌, ◌^◌, min, map, option_map, slice_get};
+ghost use Rattle.std.specs.List.{list_all};
+ghost use Rattle.wd_schema.specs.Schemas.{schema_of};
+ghost use Rattle.wd_plan.specs.Expressions.{expression_of};
+ghost use Rattle.wd_plan.specs.Fits as spec;
+ghost use Rattle.wd_plan.specs.Plans.{class_of, plan_of};
+
+use crate::expression::{Expr, ValueKind};
+use crate::plan::{OrderItem, Plan, capped};
+use crate::window::{Bound, Call, Class, Frame, FrameMode, Function};
+use wd_schema::Schema;
+use wd_value::{ColumnType, Value};
+
+/// The largest number of columns of a node.
+const MAX_COLUMNS: u32 = 1024;
+
+/// What gives the kind of an expression's values: a column of the input, or the expression itself.
+#[derive(Clone, Copy, PartialEq, Eq, Debug)]
+pub enum KindSource {
+    OfColumn(u16),
+    Always(ValueKind),
+}
+
+impl Plan {
+    /// Whether the plan fits the schema: its numbers of tables, columns and classes name something
+    /// there, each operand has the type that its place asks for, and no node has more than 1,024
+    /// columns. Takes no memory.
+    pub fn fits(&self, schema: &Schema) -> bool
+        ensures { result ≡ spec.fits (schema_of schema.now) (plan_of self.now) }
+    {
+        match self {
+            Plan::Scan { table, columns } => is_narrow(u32::from(*columns))
+                && has_table(schema, *table, *columns),
+            Plan::Join {
+                left,
+                right,
+                condition,
+            } => { left.fits(schema) && right.fits(schema) && is_join(condition, self, schema) }
+            Plan::Filter { input, condition } => input.fits(schema)
+                && condition.is_condition(input, schema),
+            Plan::Map { input, outputs } => input.fits(schema)
+                && are_outputs(outputs, input, schema),
+            Plan::Window {
+                input,
+                classes,
+                calls,
+            } => input.fits(schema) && is_window(classes, calls, input, schema),
+            Plan::Distinct { input } => input.fits(schema),
+            Plan::Limit {
+                input,
+                keys,
+                ties,
+                ..
+            } => input.fits(schema) && is_limit(keys, *ties, input, schema),
+        }
+    }
+
+    /// The number of columns of the node's rows; `u32::MAX` where there are more.
+    fn width(&self) -> u32
+        ensures { result ≡ min (spec.width (plan_of self.now)) (2 ^ 32 - 1) }
+    {
+        match self {
+            Plan::Scan { columns, .. } => u32::from(*columns),
+            Plan::Join { left, right, .. } => left.width().saturating_add(right.width()),
+            Plan::Filter { input, .. } => input.width(),
+            Plan::Map { outputs, .. } => capped(outputs.len()),
+            Plan::Window { input, calls, .. } => input.width().saturating_add(capped(calls.len())),
+            Plan::Distinct { input } => input.width(),
+            Plan::Limit { input, .. } => input.width(),
+        }
+    }
+
+    /// The kind of a column of the node's rows; None past the last column.
+    fn kind(&self, column: u16, schema: &Schema) -> Option<ValueKind>
+        ensures { result ≡ spec.kinds_of (schema_of schema.now) (plan_of self.now) column }
+    {
+        match self {
+            Plan::Scan { table, .. } => table_kind(schema, *table, column),
+            Plan::Join { left, right, .. } => {
+                let width = left.width();
+                if u32::from(column) < width {
+                    left.kind(column, schema)
+                } else {
+                    right.kind((u32::from(column) - width) as u16, schema)
+                }
+            }
+            Plan::Filter { input, .. } => input.kind(column, schema),
+            Plan::Map { input, outputs } => match output_source(outputs, column)? {
+                KindSource::OfColumn(c) => input.kind(c, schema),
+                KindSource::Always(kind) => Some(kind),
+            },
+            Plan::Window { input, calls, .. } => {
+                let width = input.width();
+                if u32::from(column) < width {
+                    return input.kind(column, schema);
+                }
+                match call_source(calls, (u32::from(column) - width) as u16)? {
+                    KindSource::OfColumn(c) => input.kind(c, schema),
+                    KindSource::Always(kind) => Some(kind),
+                }
+            }
+            Plan::Distinct { input } => input.kind(column, schema),
+            Plan::Limit { input, .. } => input.kind(column, schema),
+        }
+    }
+}
+
+fn is_narrow(columns: u32) -> bool
+    ensures { result ≡ spec.is_narrow columns }
+{
+    columns <= MAX_COLUMNS
+}
+
+/// Whether the schema has a table of this number, with so many columns.
+fn has_table(schema: &Schema, table: u16, columns: u16) -> bool
+    ensures { result ≡ spec.has_table (schema_of schema.now) table columns }
+{
+    match schema.tables.get_index(usize::from(table)) {
+        Some((_, table)) => table.columns.len() == usize::from(columns),
+        None => false,
+    }
+}
+
+/// The kind of a table's column.
+fn table_kind(schema: &Schema, table: u16, column: u16) -> Option<ValueKind>
+    ensures { result ≡ spec.table_kind (schema_of schema.now) table column }
+{
+    let (_, table) = schema.tables.get_index(usize::from(table))?;
+    let column = table.columns.get(usize::from(column))?;
+    Some(kind_of_type(column.kind))
+}
+
+fn kind_of_type(kind: ColumnType) -> ValueKind
+    ensures { result ≡ spec.kind_of_type kind }
+{
+    match kind {
+        ColumnType::SmallInt | ColumnType::Integer | ColumnType::BigInt => ValueKind::Number,
+        ColumnType::Text => ValueKind::Text,
+        ColumnType::Boolean => ValueKind::Truth,
+    }
+}
+
+/// What gives the kind of the output with this number.
+fn output_source(outputs: &[Expr], number: u16) -> Option<KindSource>
+    ensures { result ≡ option_map spec.source_of (slice_get (map expression_of outputs.now) number) }
+{
+    let output = outputs.get(usize::from(number))?;
+    Some(output.source())
+}
+
+/// What gives the kind of the call with this number.
+fn call_source(calls: &[Call], number: u16) -> Option<KindSource>
+    ensures { result ≡ option_map spec.source_of_call_at (slice_get calls.now number) }
+{
+    let call = calls.get(usize::from(number))?;
+    Some(call.function.source())
+}
+
+impl KindSource {
+    /// The kind that the source gives over the rows of a node.
+    fn kind(self, input: &Plan, schema: &Schema) -> Option<ValueKind>
+        ensures { result ≡ spec.kind_from (spec.kinds_of (schema_of schema.now) (plan_of input.now)) self }
+    {
+        match self {
+            KindSource::OfColumn(c) => input.kind(c, schema),
+            KindSource::Always(kind) => Some(kind),
+        }
+    }
+}
+
+fn is_kind(kind: ValueKind, other: Option<ValueKind>) -> bool
+    ensures { result ≡ spec.is_kind kind other }
+{
+    match (kind, other) {
+        (ValueKind::Number, Some(ValueKind::Number)) => true,
+        (ValueKind::Text, Some(ValueKind::Text)) => true,
+        (ValueKind::Truth, Some(ValueKind::Truth)) => true,
+        _ => false,
+    }
+}
+
+fn are_alike(kind: Option<ValueKind>, other: Option<ValueKind>) -> bool
+    ensures { result ≡ spec.are_alike kind other }
+{
+    match kind {
+        Some(kind) => is_kind(kind, other),
+        None => false,
+    }
+}
+
+/// Whether a value is NULL or of the kind.
+fn is_of_kind(kind: ValueKind, value: &Value) -> bool
+    ensures { result ≡ spec.is_of_kind kind value.now }
+{
+    match (kind, value) {
+        (_, Value::Null) => true,
+        (ValueKind::Number, Value::Int(_)) => true,
+        (ValueKind::Text, Value::Text(_)) => true,
+        (ValueKind::Truth, Value::Bool(_)) => true,
+        _ => false,
+    }
+}
+
+impl Expr {
+    /// What gives the kind of the expression's values.
+    fn source(&self) -> KindSource
+        ensures { result ≡ spec.source_of (expression_of self.now) }
+    {
+        match self {
+            Expr::Column(c) => KindSource::OfColumn(*c),
+            Expr::Literal(_, kind) => KindSource::Always(*kind),
+            Expr::Negate(_) | Expr::Arithmetic(_, _, _) => KindSource::Always(ValueKind::Number),
+            Expr::Case(_, chosen, _) => chosen.source(),
+            _ => KindSource::Always(ValueKind::Truth),
+        }
+    }
+
+    fn kind(&self, input: &Plan, schema: &Schema) -> Option<ValueKind>
+        ensures { result ≡ spec.kind_of (spec.kinds_of (schema_of schema.now) (plan_of input.now)) (expression_of self.now) }
+    {
+        self.source().kind(input, schema)
+    }
+
+    /// Whether each operand is of the kind that its place asks for.
+    fn is_typed(&self, input: &Plan, schema: &Schema) -> bool
+        ensures { result ≡ spec.is_typed (spec.kinds_of (schema_of schema.now) (plan_of input.now)) (expression_of self.now) }
+    {
+        match self {
+            Expr::Column(c) => input.kind(*c, schema).is_some(),
+            Expr::Literal(value, kind) => is_of_kind(*kind, value),
+            Expr::Negate(a) => a.is_typed(input, schema)
+                && a.is_of(ValueKind::Number, input, schema),
+            Expr::Arithmetic(_, a, b) => {
+                a.is_typed(input, schema)
+                    && a.is_of(ValueKind::Number, input, schema)
+                    && b.is_typed(input, schema)
+                    && b.is_of(ValueKind::Number, input, schema)
+            }
+            Expr::Compare(_, a, b) => {
+                a.is_typed(input, schema)
+                    && b.is_typed(input, schema)
+                    && a.is_like(b, input, schema)
+            }
+            Expr::Not(a) => a.is_typed(input, schema) && a.is_of(ValueKind::Truth, input, schema),
+            Expr::And(a, b) | Expr::Or(a, b) => {
+                a.is_typed(input, schema)
+                    && a.is_of(ValueKind::Truth, input, schema)
+                    && b.is_typed(input, schema)
+                    && b.is_of(ValueKind::Truth, input, schema)
+            }
+            Expr::IsNull(a) | Expr::IsNotNull(a) => a.is_typed(input, schema),
+            Expr::Case(a, b, c) => {
+                a.is_typed(input, schema)
+                    && a.is_of(ValueKind::Truth, input, schema)
+                    && b.is_typed(input, schema)
+                    && c.is_typed(input, schema)
+                    && b.is_like(c, input, schema)
+            }
+        }
+    }
+
+    fn is_of(&self, kind: ValueKind, input: &Plan, schema: &Schema) -> bool
+        ensures { result ≡ spec.is_kind kind (spec.kind_of (spec.kinds_of (schema_of schema.now) (plan_of input.now)) (expression_of self.now)) }
+    {
+        is_kind(kind, self.kind(input, schema))
+    }
+
+    fn is_like(&self, other: &Expr, input: &Plan, schema: &Schema) -> bool
+        ensures { let kinds = spec.kind_of (spec.kinds_of (schema_of schema.now) (plan_of input.now)) in result ≡ spec.are_alike (kinds (expression_of self.now)) (kinds (expression_of other.now)) }
+    {
+        are_alike(self.kind(input, schema), other.kind(input, schema))
+    }
+
+    fn is_condition(&self, input: &Plan, schema: &Schema) -> bool
+        ensures { result ≡ spec.is_condition (spec.kinds_of (schema_of schema.now) (plan_of input.now)) (expression_of self.now) }
+    {
+        self.is_typed(input, schema) && self.is_of(ValueKind::Truth, input, schema)
+    }
+}
+
+fn is_join(condition: &Option<Expr>, join: &Plan, schema: &Schema) -> bool
+    ensures { let tree = plan_of join.now in result ≡ spec.is_join (spec.kinds_of (schema_of schema.now) tree) (spec.width tree) (option_map expression_of condition.now) }
+{
+    is_narrow(join.width()) && may_join(condition, join, schema)
+}
+
+fn may_join(condition: &Option<Expr>, join: &Plan, schema: &Schema) -> bool
+    ensures { result ≡ spec.may_join (spec.kinds_of (schema_of schema.now) (plan_of join.now)) (option_map expression_of condition.now) }
+{
+    match condition {
+        Some(condition) => condition.is_condition(join, schema),
+        None => true,
+    }
+}
+
+fn are_outputs(outputs: &[Expr], input: &Plan, schema: &Schema) -> bool
+    ensures { result ≡ spec.are_outputs (spec.kinds_of (schema_of schema.now) (plan_of input.now)) (map expression_of outputs.now) }
+{
+    is_narrow(capped(outputs.len())) && are_typed(outputs, input, schema)
+}
+
+fn are_typed(outputs: &[Expr], input: &Plan, schema: &Schema) -> bool
+    ensures { result ≡ list_all (spec.is_typed (spec.kinds_of (schema_of schema.now) (plan_of input.now))) (map expression_of outputs.now) }
+{
+    for output in outputs {
+        if !output.is_typed(input, schema) {
+            return false;
+        }
+    }
+    true
+}
+
+impl Function {
+    /// What gives the kind of the call's values.
+    fn source(&self) -> KindSource
+        ensures { result ≡ spec.source_of_call self.now }
+    {
+        match self {
+            Function::Lag { argument, .. } | Function::Lead { argument, .. } =>
+                KindSource::OfColumn(*argument),
+            Function::FirstValue(c) | Function::LastValue(c) | Function::NthValue(c, _) =>
+                KindSource::OfColumn(*c),
+            Function::Min(c) | Function::Max(c) => KindSource::OfColumn(*c),
+            _ => KindSource::Always(ValueKind::Number),
+        }
+    }
+
+    /// Whether the arguments are such as the function takes.
+    fn takes(&self, input: &Plan, schema: &Schema) -> bool
+        ensures { result ≡ spec.takes (spec.kinds_of (schema_of schema.now) (plan_of input.now)) self.now }
+    {
+        match self {
+            Function::RowNumber | Function::Rank | Function::DenseRank | Function::CountRows =>
+                true,
+            Function::Ntile(n) => 1 <= *n,
+            Function::Lag {
+                argument,
+                default,
+                ..
+            }
+            | Function::Lead {
+                argument,
+                default,
+                ..
+            } => { is_default(input.kind(*argument, schema), default) }
+            Function::FirstValue(c) | Function::LastValue(c) | Function::Count(c) => input
+                .kind(*c, schema)
+                .is_some(),
+            Function::NthValue(c, n) => input.kind(*c, schema).is_some() && 1 <= *n,
+            Function::Sum(c) => is_kind(ValueKind::Number, input.kind(*c, schema)),
+            Function::Min(c) | Function::Max(c) => has_extremes(input.kind(*c, schema)),
+        }
+    }
+}
+
+fn is_default(kind: Option<ValueKind>, value: &Value) -> bool
+    ensures { result ≡ spec.is_default kind value.now }
+{
+    match kind {
+        Some(kind) => is_of_kind(kind, value),
+        None => false,
+    }
+}
+
+fn has_extremes(kind: Option<ValueKind>) -> bool
+    ensures { result ≡ spec.has_extremes kind }
+{
+    is_kind(ValueKind::Number, kind) || is_kind(ValueKind::Text, kind)
+}
+
+impl Bound {
+    /// Bounds may follow one another in this order.
+    fn place(self) -> u32
+        ensures { result ≡ spec.bound_place self }
+    {
+        match self {
+            Bound::UnboundedPreceding => 0,
+            Bound::Preceding(_) => 1,
+            Bound::CurrentRow => 2,
+            Bound::Following(_) => 3,
+            Bound::UnboundedFollowing => 4,
+        }
+    }
+
+    fn has_offset(self) -> bool
+        ensures { result ≡ spec.has_offset self }
+    {
+        match self {
+            Bound::Preceding(_) | Bound::Following(_) => true,
+            _ => false,
+        }
+    }
+}
+
+fn are_bounds(start: Bound, end: Bound) -> bool
+    ensures { result ≡ spec.are_bounds start end }
+{
+    start.place() < 4 && 0 < end.place() && start.place() <= end.place()
+}
+
+/// Whether the sort keys are such as the frame needs.
+fn has_keys_for(keys: &[OrderItem], frame: Frame, input: &Plan, schema: &Schema) -> bool
+    ensures { result ≡ spec.has_keys_for (spec.kinds_of (schema_of schema.now) (plan_of input.now)) keys.now frame }
+{
+    match frame.mode {
+        FrameMode::Rows => true,
+        FrameMode::Range => {
+            !(frame.start.has_offset() || frame.end.has_offset())
+                || is_one_number(keys, input, schema)
+        }
+        FrameMode::Groups => !keys.is_empty(),
+    }
+}
+
+/// Whether there is exactly one key, of whole numbers.
+fn is_one_number(keys: &[OrderItem], input: &Plan, schema: &Schema) -> bool
+    ensures { result ≡ spec.is_one_number (spec.kinds_of (schema_of schema.now) (plan_of input.now)) keys.now }
+{
+    match keys {
+        [item] => is_kind(ValueKind::Number, input.kind(item.column, schema)),
+        _ => false,
+    }
+}
+
+/// Whether the node has these columns.
+fn has_columns(columns: &[u16], input: &Plan, schema: &Schema) -> bool
+    ensures { result ≡ spec.has_columns (spec.kinds_of (schema_of schema.now) (plan_of input.now)) columns.now }
+{
+    for column in columns {
+        if input.kind(*column, schema).is_none() {
+            return false;
+        }
+    }
+    true
+}
+
+/// Whether the node has the columns of these sort keys.
+fn has_keys(keys: &[OrderItem], input: &Plan, schema: &Schema) -> bool
+    ensures { result ≡ spec.has_keys (spec.kinds_of (schema_of schema.now) (plan_of input.now)) keys.now }
+{
+    for item in keys {
+        if input.kind(item.column, schema).is_none() {
+            return false;
+        }
+    }
+    true
+}
+
+fn is_window(classes: &[Class], calls: &[Call], input: &Plan, schema: &Schema) -> bool
+    ensures { let tree = plan_of input.now in result ≡ spec.is_window (spec.kinds_of (schema_of schema.now) tree) (spec.width tree) (record { classes = map class_of classes.now; calls = calls.now }) }
+{
+    is_narrow(input.width().saturating_add(capped(calls.len())))
+        && has_classes(classes, input, schema)
+        && are_calls(calls, classes, input, schema)
+}
+
+fn is_limit(keys: &[OrderItem], ties: bool, input: &Plan, schema: &Schema) -> bool
+    ensures { result ≡ spec.is_limit (spec.kinds_of (schema_of schema.now) (plan_of input.now)) keys.now ties }
+{
+    has_keys(keys, input, schema) && (!ties || !keys.is_empty())
+}
+
+fn has_classes(classes: &[Class], input: &Plan, schema: &Schema) -> bool
+    ensures { result ≡ list_all (spec.has_class (spec.kinds_of (schema_of schema.now) (plan_of input.now))) (map class_of classes.now) }
+{
+    for class in classes {
+        if !has_class(class, input, schema) {
+            return false;
+        }
+    }
+    true
+}
+
+fn has_class(class: &Class, input: &Plan, schema: &Schema) -> bool
+    ensures { result ≡ spec.has_class (spec.kinds_of (schema_of schema.now) (plan_of input.now)) (class_of class.now) }
+{
+    has_columns(&class.partition, input, schema) && has_keys(&class.order, input, schema)
+}
+
+fn are_calls(calls: &[Call], classes: &[Class], input: &Plan, schema: &Schema) -> bool
+    ensures { result ≡ list_all (spec.is_call (spec.kinds_of (schema_of schema.now) (plan_of input.now)) (map class_of classes.now)) calls.now }
+{
+    for call in calls {
+        if !is_call(call, classes, input, schema) {
+            return false;
+        }
+    }
+    true
+}
+
+fn is_call(call: &Call, classes: &[Class], input: &Plan, schema: &Schema) -> bool
+    ensures { result ≡ spec.is_call (spec.kinds_of (schema_of schema.now) (plan_of input.now)) (map class_of classes.now) call.now }
+{
+    match classes.get(usize::from(call.class)) {
+        Some(class) => {
+            call.function.takes(input, schema)
+                && are_bounds(call.frame.start, call.frame.end)
+                && has_keys_for(&class.order, call.frame, input, schema)
+        }
+        None => false,
+    }
+}

@@ -1,0 +1,8 @@
+-- Schemas as pure data, and how contracts see those of the code.
+use Rattle.std.specs.Prelude.{List, map}
+use Rattle.wd_schema.specs.declared.schema.Schema.{Schema}
+use Rattle.wd_schema.specs.Tables.{TableRule, table_of}
+
+-- the tables of a schema, in order of declaration
+abbrev pub schema_of : Schema → List TableRule
+schema_of s = map (λ e. table_of e.1) s.tables.entries
