@@ -1,22 +1,13 @@
 -- The least position that repeats an earlier one, over neighbours and over keys.
-use Rattle.std.proofs.Common.{◌≡◌, ◌∙◌, ◌⊎◌, ℕ, zero, suc, ◌+◌, ◌-◌, ◌<◌, ◌≤◌, Bool, true, false, List, [], ◌∷◌, ◌++◌, get_or, length, Option, Some, None, refl, sym, ap, subst, arith, add-one, inl, inr}
+use Rattle.std.proofs.Common.{◌≡◌, ◌∙◌, ◌⊎◌, ℕ, ◌+◌, ◌-◌, ◌<◌, ◌≤◌, Bool, true, false, List, [], ◌∷◌, ◌++◌, get_or, length, Option, Some, None, refl, sym, subst, arith, inl, inr}
 use Rattle.std.specs.Prelude.{All, Any, nat_lt}
-use Rattle.std.specs.List.{range_with_len}
 use Rattle.std.proofs.lemmas.Bool.{cases_lt, false_from_ne_true, false≢true, ltb-false, ltb-true}
 use Rattle.std.proofs.lemmas.List.{get_or_append_left, get_or_at, get_or_default, length-append}
-use Rattle.wd_value.specs.Bags.{positions}
 use Rattle.wd_value.specs.Rows.{Row, row_at}
 use Rattle.wd_schema.specs.Meets.{KeepsKey, violates}
 use Rattle.wd_schema.specs.Tables.{KeyRule}
 use Rattle.wd_tables.specs.Causes.{IsLeast, Repeats, RepeatsIn}
 use Rattle.wd_tables.specs.Keys.{ViolatesBefore, least}
-
-range_with_len_push : (a n : ℕ) → range_with_len a (suc n) ≡ range_with_len a n ++ (a + n) ∷ []
-range_with_len_push a zero = ap (λ k. k ∷ []) (omega arith)
-range_with_len_push a (suc n) = ap (λ ks. a ∷ ks) (range_with_len_push (a + 1) n ∙ ap (λ k. range_with_len (a + 1) n ++ k ∷ []) (omega arith))
-
-pub positions_push : (n : ℕ) → positions (n + 1) ≡ positions n ++ n ∷ []
-positions_push n = rw (add-one, range_with_len_push 0 n) (ap (λ k. positions n ++ k ∷ []) (omega arith))
 
 -- ---- the least number with a property
 

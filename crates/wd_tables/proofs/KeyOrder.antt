@@ -3,27 +3,25 @@ use Rattle.std.proofs.Common.{◌≡◌, ◌≢◌, ◌∙◌, ℕ, zero, suc, �
 use Rattle.std.specs.Prelude.{Contains, nat_eq, nat_lt}
 use Rattle.std.specs.List.{list_any, range_with_len}
 use Rattle.std.specs.Ordering.{is_lt, nat_cmp, ordering_reverse, ordering_then}
-use Rattle.std.specs.Cmp.{IsStrictWeakOrder, IsTotalOrder}
 use Rattle.std.proofs.lemmas.Bool.{and_parts, cases_lt, eqb-true, eq-eqb, false≢true, ne_eqb, ltb-false}
-use Rattle.std.proofs.lemmas.Cmp.{nat_cmp_total, on_total, then_total, tied_itself}
+use Rattle.std.proofs.lemmas.Cmp.{tied_itself}
 use Rattle.std.proofs.lemmas.List.{get_or_default}
 use Rattle.std.proofs.lemmas.List.FromFn.{get_or-range_with_len, length-range_with_len}
-use Rattle.std.proofs.lemmas.List.Sorted.{Contains-permutation, IsPermutation-sym, ranks_by, sorted_far, sum_by-IsPermutation}
+use Rattle.std.proofs.lemmas.List.Sorted.{Contains-permutation, IsPermutation-sym, sorted_far, sum_by-IsPermutation}
 use Rattle.wd_value.proofs.OrderLaws.{compare-exact, compare_total}
 use Rattle.wd_value.proofs.Perms.{count_by-cons, count_by-no, count_by-yes}
 use Rattle.wd_value.proofs.SameLaws.{same_row-Decides}
 use Rattle.wd_value.specs.Bags.{positions, times}
+use Rattle.wd_value.specs.Order.{compare}
 use Rattle.wd_value.specs.Rows.{Row, column_of, columns_of, row_at, same_row}
 use Rattle.wd_schema.specs.Meets.{is_null, violates}
 use Rattle.wd_schema.specs.Tables.{KeyRule}
 use Rattle.wd_tables.specs.Causes.{RepeatsIn}
-use Rattle.wd_tables.specs.Keys.{IsSortedBy, ViolatesBefore, ascending, column_cmp, position_cmp, row_cmp}
+use Rattle.wd_sort.specs.Sorting.{IsSortOf, compare_positions, compare_rows}
+use Rattle.wd_sort.proofs.Order.{compare_rows_total, positions_order}
+use Rattle.wd_tables.specs.Keys.{ViolatesBefore, ascending, sort_columns}
 
 -- ---- the order of rows by columns
-
-pub row_cmp_total : (columns : List ℕ) → IsTotalOrder (row_cmp columns)
-row_cmp_total [] = record { antisymm = λ a b. refl; trans = λ a b c p q. p; congr = λ a b c p. refl }
-row_cmp_total (column ∷ columns) = then_total (on_total (λ row. column_of row column) (compare_total ascending)) (row_cmp_total columns)
 
 then_equal : (o p : Ordering) → ordering_then o p ≡ Equal → (o ≡ Equal) × (p ≡ Equal)
 then_equal Less p e = absurd (cc e)
@@ -31,24 +29,21 @@ then_equal Equal p e = (refl, e)
 then_equal Greater p e = absurd (cc e)
 
 -- rows that tie are the same on the columns
-row_cmp-exact : (columns : List ℕ) (a b : Row) → row_cmp columns a b ≡ Equal → columns_of columns a ≡ columns_of columns b
-row_cmp-exact [] a b e = refl
-row_cmp-exact (column ∷ columns) a b e =
-    let parts = then_equal (column_cmp column a b) (row_cmp columns a b) e in
+compare_columns-exact : (columns : List ℕ) (a b : Row) → compare_rows (sort_columns columns) a b ≡ Equal → columns_of columns a ≡ columns_of columns b
+compare_columns-exact [] a b e = refl
+compare_columns-exact (column ∷ columns) a b e =
+    let parts = then_equal (compare ascending (column_of a column) (column_of b column)) (compare_rows (sort_columns columns) a b) e in
     let head : column_of a column ≡ column_of b column = compare-exact ascending _ _ parts.0 in
-    let tail : columns_of columns a ≡ columns_of columns b = row_cmp-exact columns a b parts.1 in
+    let tail : columns_of columns a ≡ columns_of columns b = compare_columns-exact columns a b parts.1 in
     λ i. head i ∷ tail i
 
 -- and the other way round
-row_cmp-tie : (columns : List ℕ) (a b : Row) → columns_of columns a ≡ columns_of columns b → row_cmp columns a b ≡ Equal
-row_cmp-tie [] a b e = refl
-row_cmp-tie (column ∷ columns) a b e =
+compare_columns-tie : (columns : List ℕ) (a b : Row) → columns_of columns a ≡ columns_of columns b → compare_rows (sort_columns columns) a b ≡ Equal
+compare_columns-tie [] a b e = refl
+compare_columns-tie (column ∷ columns) a b e =
     let head : column_of a column ≡ column_of b column = cc in
     let tail : columns_of columns a ≡ columns_of columns b = cc in
-    rw (head, tied_itself (compare_total ascending) (column_of b column)) (row_cmp-tie columns a b tail)
-
-pub position_order : (columns : List ℕ) (rows : List Row) → IsStrictWeakOrder (λ p q. is_lt (position_cmp columns rows p q))
-position_order columns rows = ranks_by (then_total (on_total (row_at rows) (row_cmp_total columns)) nat_cmp_total) (λ p. p)
+    rw (head, tied_itself (compare_total ascending) (column_of b column)) (compare_columns-tie columns a b tail)
 
 not_less : (o p : Ordering) → is_lt (ordering_then o p) ≡ false → o ≢ Less
 not_less o p h e = absurd (false≢true (sym (rw e at h)))
@@ -104,9 +99,9 @@ twice q (x ∷ xs) (suc i) h a b =
 
 -- ---- what neighbours tell
 
-module _ (key : KeyRule) (rows : List Row) (order : List ℕ) (s : IsSortedBy key.columns rows order) where
+module _ (key : KeyRule) (rows : List Row) (order : List ℕ) (s : IsSortOf (sort_columns key.columns) rows order) where
   abbrev lt : ℕ → ℕ → Bool
-  lt p q = is_lt (position_cmp key.columns rows p q)
+  lt p q = is_lt (compare_positions (sort_columns key.columns) rows p q)
 
   -- a position that stands in the order is one of the rows'
   is_position : (q : ℕ) → Contains order q → q < length rows
@@ -130,7 +125,7 @@ module _ (key : KeyRule) (rows : List Row) (order : List ℕ) (s : IsSortedBy ke
   -- of rows that are the same on the columns the lesser position stands first
   by_position : (p q : ℕ) → columns_of key.columns (row_at rows p) ≡ columns_of key.columns (row_at rows q) → lt p q ≡ false → q ≤ p
   by_position p q same later =
-      let tie = row_cmp-tie key.columns (row_at rows p) (row_at rows q) same in
+      let tie = compare_columns-tie key.columns (row_at rows p) (row_at rows q) same in
       not_below p q (rw tie at later)
 
   -- a row right after one with which it violates the key repeats that one
@@ -154,7 +149,7 @@ module _ (key : KeyRule) (rows : List Row) (order : List ℕ) (s : IsSortedBy ke
       let (i, i-within, i-at) = stands p (omega arith) in
       let j-is : get_or order j 0 ≡ q = get_or_default order j 0 q j-within ∙ j-at in
       let i-is : get_or order i 0 ≡ p = get_or_default order i 0 p i-within ∙ i-at in
-      let far = sorted_far lt (position_order key.columns rows) order s.sorted in
+      let far = sorted_far lt (positions_order (sort_columns key.columns) rows) order s.sorted in
       let in_turn : i < j = elim (cases_lt i j) [
         | inl less ↦ less
         | inr after ↦ let up : lt p q ≡ false = rw (i-is, j-is) at (far j i 0 after i-within) in let no = by_position p q parts.0 up in absurd (omega arith)
@@ -164,8 +159,8 @@ module _ (key : KeyRule) (rows : List Row) (order : List ℕ) (s : IsSortedBy ke
       let next : k + 1 ≡ j = omega arith in
       let from_p : lt m p ≡ false = rw i-is at (far i k 0 (omega arith) (omega arith)) in
       let to_q : lt q m ≡ false = rw j-is at (far k j 0 (omega arith) j-within) in
-      let total = row_cmp_total key.columns in
-      let alike = total.congr (row_at rows q) (row_at rows p) (row_at rows m) (row_cmp-tie key.columns (row_at rows q) (row_at rows p) (sym parts.0)) in
-      let tie = tie_from (row_cmp key.columns (row_at rows p) (row_at rows m)) (row_cmp key.columns (row_at rows m) (row_at rows p)) (total.antisymm (row_at rows p) (row_at rows m)) (λ e. not_less _ _ to_q (alike ∙ e)) (not_less _ _ from_p) in
-      let same = row_cmp-exact key.columns (row_at rows p) (row_at rows m) tie in
+      let total = compare_rows_total (sort_columns key.columns) in
+      let alike = total.congr (row_at rows q) (row_at rows p) (row_at rows m) (compare_columns-tie key.columns (row_at rows q) (row_at rows p) (sym parts.0)) in
+      let tie = tie_from (compare_rows (sort_columns key.columns) (row_at rows p) (row_at rows m)) (compare_rows (sort_columns key.columns) (row_at rows m) (row_at rows p)) (total.antisymm (row_at rows p) (row_at rows m)) (λ e. not_less _ _ to_q (alike ∙ e)) (not_less _ _ from_p) in
+      let same = compare_columns-exact key.columns (row_at rows p) (row_at rows m) tie in
       (k, rw next j-within, rw next j-is, rw same at bad)

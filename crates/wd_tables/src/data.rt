@@ -33,7 +33,7 @@ pub fn load(alloc: Global, table: &Table, text: &[u8]) -> Result<Vec<Row>, DataE
     let rows = read_rows(alloc, table, text)?;
     match first_repeat(alloc, &table.keys, &rows)? {
         Some(position) => Err(DataError::Key {
-            record: position as u64 + 1,
+            record: position + 1,
         }),
         None => Ok(rows),
     }

@@ -4,18 +4,17 @@ ghost use Rattle.wd_schema.specs.Meets as meets;
 ghost use Rattle.wd_schema.specs.Tables.{key_of};
 ghost use Rattle.wd_tables.specs.Causes.{IsLeast, Repeats, RepeatsIn};
 ghost use Rattle.wd_tables.specs.Keys as spec;
-ghost use Rattle.wd_value.specs.Bags as bags;
 ghost use Rattle.wd_value.specs.Rows as values;
 ghost use Rattle.wd_value.specs.Values.{same as same_values};
 ghost use Rattle.wd_value.specs.Rows.{rows_of};
 
 use std::alloc::Global;
-use std::cmp::Ordering;
 use wd_schema::Key;
-use wd_value::{OutOfMemory, Row, SortKey, Value, compare, same};
+use wd_sort::{SortColumn, sorted_positions};
+use wd_value::{OutOfMemory, Row, SortKey, Value, same};
 
 /// The first row that repeats an earlier one in some key.
-pub fn first_repeat(alloc: Global, keys: &[Key], rows: &[Row]) -> Result<Option<usize>, OutOfMemory>
+pub fn first_repeat(alloc: Global, keys: &[Key], rows: &[Row]) -> Result<Option<u64>, OutOfMemory>
     ensures { IfOk result (λ o. IsLeast (Repeats (map key_of keys.now) (rows_of rows.now)) o) }
 {
     let mut first = None;
@@ -25,7 +24,7 @@ pub fn first_repeat(alloc: Global, keys: &[Key], rows: &[Row]) -> Result<Option<
     Ok(first)
 }
 
-fn least(a: Option<usize>, b: Option<usize>) -> Option<usize>
+fn least(a: Option<u64>, b: Option<u64>) -> Option<u64>
     ensures { result ≡ spec.least a b }
 {
     match (a, b) {
@@ -36,15 +35,33 @@ fn least(a: Option<usize>, b: Option<usize>) -> Option<usize>
 }
 
 // Rows that are the same on the key stand side by side once they are sorted by it.
-fn first_repeat_in(alloc: Global, key: &Key, rows: &[Row]) -> Result<Option<usize>, OutOfMemory>
+fn first_repeat_in(alloc: Global, key: &Key, rows: &[Row]) -> Result<Option<u64>, OutOfMemory>
     ensures { IfOk result (λ o. IsLeast (RepeatsIn (key_of key.now) (rows_of rows.now)) o) }
 {
-    let order = sorted_positions(alloc, &key.columns, rows)?;
+    let columns = sort_columns(alloc, &key.columns)?;
+    let order = sorted_positions(alloc, rows, &columns)?;
     Ok(first_violation(key, rows, &order))
 }
 
+fn sort_columns(alloc: Global, columns: &[u16]) -> Result<Vec<SortColumn>, OutOfMemory>
+    ensures { IfOk result (λ v. v.items ≡ spec.sort_columns columns.now) }
+{
+    let key = SortKey {
+        desc: false,
+        nulls_first: false,
+    };
+    let mut sorted = Vec::with_capacity(alloc, columns.len())?;
+    for column in columns {
+        sorted.push(SortColumn {
+            column: *column,
+            key,
+        })?;
+    }
+    Ok(sorted)
+}
+
 // The least position whose row violates the key with the row before it in the order.
-fn first_violation(key: &Key, rows: &[Row], order: &[usize]) -> Option<usize>
+fn first_violation(key: &Key, rows: &[Row], order: &[u64]) -> Option<u64>
     ensures { IsLeast (spec.ViolatesBefore (key_of key.now) (rows_of rows.now) order.now) result }
 {
     let mut first = None;
@@ -54,59 +71,6 @@ fn first_violation(key: &Key, rows: &[Row], order: &[usize]) -> Option<usize>
         }
     }
     first
-}
-
-// The positions of the rows, sorted by the key's columns and then by position.
-fn sorted_positions(alloc: Global, columns: &[u16], rows: &[Row]) -> Result<Vec<usize>, OutOfMemory>
-    ensures { IfOk result (λ v. spec.IsSortedBy columns.now (rows_of rows.now) v.items) }
-{
-    let mut order = positions(alloc, rows.len())?;
-    order.sort_unstable_by(|a, b| compare_positions(columns, rows, *a, *b));
-    Ok(order)
-}
-
-#[tactic(auto, using(crate::proofs::KeyFacts::positions_push))]
-fn positions(alloc: Global, count: usize) -> Result<Vec<usize>, OutOfMemory>
-    ensures { IfOk result (λ v. v.items ≡ bags.positions count) }
-{
-    let mut all = Vec::with_capacity(alloc, count)?;
-    for i in 0..count {
-        all.push(i)?;
-    }
-    Ok(all)
-}
-
-fn compare_positions(columns: &[u16], rows: &[Row], a: usize, b: usize) -> Ordering
-    ensures { result ≡ spec.position_cmp columns.now (rows_of rows.now) a b }
-{
-    compare_rows(columns, row_at(rows, a), row_at(rows, b)).then(a.cmp(&b))
-}
-
-fn compare_rows(columns: &[u16], a: &[Value], b: &[Value]) -> Ordering
-    ensures { result ≡ spec.row_cmp columns.now a.now b.now }
-{
-    for column in columns {
-        match compare_at(*column, a, b) {
-            Ordering::Equal => {}
-            found => return found,
-        }
-    }
-    Ordering::Equal
-}
-
-fn compare_at(column: u16, a: &[Value], b: &[Value]) -> Ordering
-    ensures { result ≡ spec.column_cmp column a.now b.now }
-{
-    let null = Value::Null;
-    let ascending = SortKey {
-        desc: false,
-        nulls_first: false,
-    };
-    compare(
-        a.get(column as usize).unwrap_or(&null),
-        b.get(column as usize).unwrap_or(&null),
-        ascending,
-    )
 }
 
 // Whether two rows may not both stand in a table with this key.
@@ -158,10 +122,10 @@ fn is_null_at(column: u16, a: &[Value]) -> bool
 }
 
 // The row at a position, and the empty row past the last.
-fn row_at(rows: &[Row], position: usize) -> &[Value]
+fn row_at(rows: &[Row], position: u64) -> &[Value]
     ensures { result.now ≡ values.row_at (rows_of rows.now) position }
 {
-    match rows.get(position) {
+    match rows.get(position as usize) {
         Some(row) => row,
         None => &[],
     }

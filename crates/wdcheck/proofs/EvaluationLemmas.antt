@@ -18,7 +18,7 @@ use Rattle.wd_plan.specs.Faults.{has_fault, values_among, all_ok}
 use Rattle.wd_plan.specs.Outcomes.{map_outcome, first_rows, cut}
 use Rattle.wd_plan.specs.Plans.{PlanTree, Scan, Map, Limit, LimitRule}
 use Rattle.wdcheck.specs.Meaning.{without_hidden}
-use Rattle.wdcheck.proofs.SortLemmas.{positions_push}
+use Rattle.wd_sort.proofs.Positions.{positions_push}
 
 pub mapped_more : (f : Row → Row) (rows : List (Vec Value Global)) (i : ℕ) (r : Vec Value Global) → i < length rows → r ≡ get_or rows i r → map f (rows_of (take (i + 1) rows)) ≡ map f (rows_of (take i rows)) ++ f r.items ∷ []
 mapped_more f rows i r within is =

@@ -2,12 +2,12 @@
 
 ghost use Rattle.std.specs.Prelude.{◌≡◌, [], ◌∷◌, ◌++◌, map, take, IfOk, OnOk, Ok};
 ghost use Rattle.wd_value.specs.Bags.{positions};
-ghost use Rattle.wd_value.specs.Rows.{rows_of, rows_at, column_of, columns_of};
+ghost use Rattle.wd_value.specs.Rows.{rows_of, row_at, rows_at, column_of, columns_of};
 ghost use Rattle.wd_plan.specs.Choices.{IsAnswerOf};
 ghost use Rattle.wdcheck.specs.Evaluation.{sorted_plan};
 
 use crate::query::SortedQuery;
-use crate::sort::{row_in, sorted_positions};
+use crate::sort::sorted_positions;
 use std::alloc::Global;
 use wd_value::{OutOfMemory, Row, Value, copy_row};
 
@@ -42,6 +42,16 @@ fn rows_at_positions(alloc: Global, rows: &[Row], order: &[u64]) -> Result<Vec<R
         picked.push(copy_row(alloc, row_in(rows, *position))?)?;
     }
     Ok(picked)
+}
+
+/// The row at a position, and the empty row past the last.
+fn row_in(rows: &[Row], at: u64) -> &[Value]
+    ensures { result.now ≡ row_at (rows_of rows.now) at }
+{
+    match rows.get(at as usize) {
+        Some(row) => row,
+        None => &[],
+    }
 }
 
 /// The rows with the columns of two lists, one behind the other.

@@ -1,0 +1,3 @@
+pub mod Sorting
+pub mod Leads
+pub mod Placing

@@ -1,0 +1,212 @@
+ghost use Rattle.std.specs.Prelude.{◌≡◌, IfOk, map};
+ghost use Rattle.wd_sort.specs.Leads as leads;
+ghost use Rattle.wd_sort.specs.Placing as spec;
+ghost use Rattle.wd_sort.specs.Sorting as sorting;
+ghost use Rattle.wd_sort.specs.Sorting.{IsSortOf};
+ghost use Rattle.wd_value.specs.Bags.{positions};
+ghost use Rattle.wd_value.specs.Order as order;
+ghost use Rattle.wd_value.specs.Rows as table;
+ghost use Rattle.wd_value.specs.Rows.{rows_of, column_of};
+
+use crate::lead::lead_of;
+use std::alloc::Global;
+use std::cmp::Ordering;
+use wd_value::{OutOfMemory, Row, SortKey, Value, compare};
+
+/// A column to sort by: its number, from 0, and the direction and where NULL stands. Past a row's
+/// last column it holds NULL.
+#[derive(Clone, Copy, PartialEq, Eq, Debug)]
+pub struct SortColumn {
+    pub column: u16,
+    pub key: SortKey,
+}
+
+/// The position of a row, and the lead of its value in the first column to sort by: most
+/// comparisons end there, without a look at the row.
+#[derive(Drop)]
+struct Placed {
+    lead: Value,
+    position: u64,
+}
+
+/// The positions of the rows, sorted by the first column and, where rows tie, by the next one; rows
+/// that tie on all of them stay as they were (a stable sort). Takes n log n comparisons, and time
+/// that goes with n for rows that are sorted already.
+pub fn sorted_positions(
+    alloc: Global,
+    rows: &[Row],
+    columns: &[SortColumn],
+) -> Result<Vec<u64>, OutOfMemory>
+    ensures { IfOk result (λ v. IsSortOf columns.now (rows_of rows.now) v.items) }
+{
+    match columns.split_first() {
+        None => {
+            let order = all_positions(alloc, rows.len())?;
+            Ok(order)
+        }
+        Some((first, others)) => {
+            let places = sorted_places(alloc, rows, *first, others)?;
+            let order = positions_of(alloc, &places)?;
+            Ok(order)
+        }
+    }
+}
+
+#[tactic(auto, using(crate::proofs::Positions::positions_push))]
+fn all_positions(alloc: Global, count: usize) -> Result<Vec<u64>, OutOfMemory>
+    ensures { IfOk result (λ v. v.items ≡ positions count) }
+{
+    let mut all = Vec::with_capacity(alloc, count)?;
+    for i in 0..count {
+        all.push(i as u64)?;
+    }
+    Ok(all)
+}
+
+fn sorted_places(
+    alloc: Global,
+    rows: &[Row],
+    first: SortColumn,
+    others: &[SortColumn],
+) -> Result<Vec<Placed>, OutOfMemory>
+    ensures { IfOk result (λ v. spec.AreSorted first others.now (rows_of rows.now) v.items) }
+{
+    let mut places = placed_rows(alloc, rows, first)?;
+    places.sort_unstable_by(|a, b| compare_placed(rows, first, others, a, b));
+    Ok(places)
+}
+
+/// Each row's place, in the order of the rows.
+#[tactic(auto, using(crate::proofs::Positions::placed_push))]
+fn placed_rows(alloc: Global, rows: &[Row], first: SortColumn) -> Result<Vec<Placed>, OutOfMemory>
+    ensures { IfOk result (λ v. v.items ≡ spec.placed_rows first (rows_of rows.now)) }
+{
+    let mut places = Vec::with_capacity(alloc, rows.len())?;
+    for i in 0..rows.len() {
+        places.push(placed_row(alloc, rows, first, i as u64))?;
+    }
+    Ok(places)
+}
+
+fn placed_row(alloc: Global, rows: &[Row], first: SortColumn, position: u64) -> Placed
+    ensures { result ≡ spec.placed first (rows_of rows.now) position }
+{
+    let null = Value::Null;
+    let lead = lead_of(alloc, value_in(row_in(rows, position), first.column, &null));
+    Placed { lead, position }
+}
+
+/// The positions alone.
+fn positions_of(alloc: Global, places: &[Placed]) -> Result<Vec<u64>, OutOfMemory>
+    ensures { IfOk result (λ v. v.items ≡ map (λ p. p.position) places.now) }
+{
+    let mut positions = Vec::with_capacity(alloc, places.len())?;
+    for place in places {
+        positions.push(place.position)?;
+    }
+    Ok(positions)
+}
+
+/// By the leads, then by what they leave open, then by position.
+fn compare_placed(
+    rows: &[Row],
+    first: SortColumn,
+    others: &[SortColumn],
+    a: &Placed,
+    b: &Placed,
+) -> Ordering
+    ensures { result ≡ spec.compare_placed first others.now (rows_of rows.now) a.now b.now }
+{
+    match compare(&a.lead, &b.lead, first.key) {
+        Ordering::Equal => compare_tied(rows, first, others, a, b),
+        found => found,
+    }
+}
+
+fn compare_tied(
+    rows: &[Row],
+    first: SortColumn,
+    others: &[SortColumn],
+    a: &Placed,
+    b: &Placed,
+) -> Ordering
+    ensures { result ≡ spec.compare_tied first others.now (rows_of rows.now) a.now b.now }
+{
+    compare_texts(rows, first, a, b)
+        .then(compare_others(rows, others, a.position, b.position))
+        .then(a.position.cmp(&b.position))
+}
+
+/// The texts of the first column, where the leads are texts.
+fn compare_texts(rows: &[Row], first: SortColumn, a: &Placed, b: &Placed) -> Ordering
+    ensures { result ≡ spec.compare_texts first (rows_of rows.now) a.now b.now }
+{
+    let null = Value::Null;
+    compare(
+        text_in(rows, first.column, a, &null),
+        text_in(rows, first.column, b, &null),
+        first.key,
+    )
+}
+
+/// The value in a column where the lead is a text, else `null`.
+fn text_in<'a>(rows: &'a [Row], column: u16, place: &Placed, null: &'a Value) -> &'a Value
+    requires { null.now ≡ leads.null }
+    ensures { result.now ≡ leads.text_part place.now.lead (column_of (table.row_at (rows_of rows.now) place.now.position) column) }
+{
+    match place.lead {
+        Value::Text(_) => value_in(row_in(rows, place.position), column, null),
+        _ => null,
+    }
+}
+
+/// The rows at two positions by the columns behind the first; without such no row is looked at.
+fn compare_others(rows: &[Row], others: &[SortColumn], p: u64, q: u64) -> Ordering
+    ensures { result ≡ sorting.compare_rows others.now (table.row_at (rows_of rows.now) p) (table.row_at (rows_of rows.now) q) }
+{
+    if others.is_empty() {
+        return Ordering::Equal;
+    }
+    compare_rows(row_in(rows, p), row_in(rows, q), others)
+}
+
+fn compare_rows(a: &[Value], b: &[Value], columns: &[SortColumn]) -> Ordering
+    ensures { result ≡ sorting.compare_rows columns.now a.now b.now }
+{
+    for column in columns {
+        match compare_at(a, b, *column) {
+            Ordering::Equal => {}
+            found => return found,
+        }
+    }
+    Ordering::Equal
+}
+
+fn compare_at(a: &[Value], b: &[Value], column: SortColumn) -> Ordering
+    ensures { result ≡ order.compare column.key (column_of a.now column.column) (column_of b.now column.column) }
+{
+    let null = Value::Null;
+    compare(
+        value_in(a, column.column, &null),
+        value_in(b, column.column, &null),
+        column.key,
+    )
+}
+
+/// The value in a column, and `null` past the last.
+fn value_in<'a>(row: &'a [Value], column: u16, null: &'a Value) -> &'a Value
+    requires { null.now ≡ leads.null }
+    ensures { result.now ≡ column_of row.now column }
+{
+    row.get(column as usize).unwrap_or(null)
+}
+
+/// The row at a position, and the empty row past the last.
+fn row_in(rows: &[Row], position: u64) -> &[Value]
+    ensures { result.now ≡ table.row_at (rows_of rows.now) position }
+{
+    match rows.get(position as usize) {
+        Some(row) => row,
+        None => &[],
+    }
+}
