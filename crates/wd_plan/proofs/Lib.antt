@@ -20,3 +20,7 @@ pub mod ChoiceLaws
 pub mod SomeChoice
 pub mod FitsNodes
 pub mod SortLaws
+pub mod NodesCommute
+pub mod PlanCommutes
+pub mod Stretches
+pub mod Contiguous

@@ -1,18 +1,22 @@
 -- Laws over the definitions.
-use Rattle.std.specs.Prelude.{◌≡◌, ◌⊎◌, ℕ, pos, ◌+◌, ◌<◌, List, map, length, slice_index_or, Ok}
+use Rattle.std.specs.Prelude.{◌≡◌, ◌⊎◌, ℕ, pos, ◌+◌, ◌<◌, Bool, true, List, map, length, take, drop, slice_index_or, Option, Ok}
 use Rattle.std.specs.List.{AllByRecursion}
 use Rattle.wd_value.specs.Bags.{SameBag, EachOnce, positions}
 use Rattle.wd_value.specs.Rows.{Row, Instance, same_row, row_at, rows_at, table_at}
+use Rattle.wd_plan.specs.declared.window.Bound.TheVariants.{UnboundedFollowing, UnboundedPreceding}
+use Rattle.wd_plan.specs.declared.window.Exclusion.TheVariants.{NoOthers}
 use Rattle.wd_plan.specs.declared.window.Frame.{Frame}
 use Rattle.wd_plan.specs.declared.window.Function.{Function}
 use Rattle.wd_plan.specs.declared.window.Function.TheVariants.{RowNumber}
 use Rattle.wd_value.specs.declared.value.Value.TheVariants.{Int}
 use Rattle.wd_plan.specs.Calls.{value_at}
-use Rattle.wd_plan.specs.Choices.{AreOrderings, IsValidChoice}
+use Rattle.wd_plan.specs.Choices.{AreOrderings, IsAnswerOf, IsValidChoice}
+use Rattle.wd_plan.specs.Expressions.{Expression}
 use Rattle.wd_plan.specs.Facts.{GivesAll, HasWidth}
 use Rattle.wd_plan.specs.Faults.{all_ok}
+use Rattle.wd_plan.specs.Frames.{frame_of, in_frame}
 use Rattle.wd_plan.specs.Justified.{IsByRow, IsJustified, IsJustifiedLimit, IsJustifiedPlan, NamesClasses}
-use Rattle.wd_plan.specs.Outcomes.{RowsOrFault, Agree, outcome, window_outcome, extended, cut}
+use Rattle.wd_plan.specs.Outcomes.{RowsOrFault, Agree, outcome, filter_outcome, map_outcome, join_outcome, pairs, distinct, window_outcome, extended, cut}
 use Rattle.wd_plan.specs.Partitions.{members, partition_of, group_of}
 use Rattle.wd_plan.specs.Plans.{ClassRule, WindowRule, LimitRule, PlanTree}
 use Rattle.wd_plan.specs.Sorting.{IsOrdering, class_columns, limit_class}
@@ -93,3 +97,47 @@ PeerGroupsRise = (class : ClassRule) (rows : List Row) (ordering : List ℕ) (p 
 -- every instance has a valid choice for each plan
 abbrev pub HasValidChoice : Type 0
 HasValidChoice = (plan : PlanTree) (instance : Instance) → (choice : List (List ℕ)) × IsValidChoice plan instance choice
+
+-- rearranged rows, on both sides of a Join, have rearranged outcomes under a Filter, a Map, a Join and a Distinct, faults included
+pub record StepsCommute : Type 0 where
+  pub filter : (condition : Expression) (rows others : List Row) → SameBag same_row rows others → Agree (filter_outcome condition rows) (filter_outcome condition others)
+  pub map : (outputs : List Expression) (rows others : List Row) → SameBag same_row rows others → Agree (map_outcome outputs rows) (map_outcome outputs others)
+  pub join : (condition : Option Expression) (left others right more : List Row) → SameBag same_row left others → SameBag same_row right more
+      → Agree (join_outcome condition (pairs left right)) (join_outcome condition (pairs others more))
+  pub distinct : (rows others : List Row) → SameBag same_row rows others → SameBag same_row (distinct rows) (distinct others)
+
+-- over rearranged rows a Limit keeps the very list that it keeps under the renamed ordering, which is lawful too
+pub record CutCommutes (limit : LimitRule) (rows : List Row) (ps ordering : List ℕ) : Type 0 where
+  pub valid : IsOrdering (limit_class limit) rows (map (renamed rows ps) ordering)
+  pub same_rows : cut limit (rows_at (rows_at rows ps) ordering) ≡ cut limit (rows_at rows (map (renamed rows ps) ordering))
+
+-- the renaming law of a Limit
+abbrev pub LimitCommutes : Type 0
+LimitCommutes = (limit : LimitRule) (rows : List Row) (ps ordering : List ℕ)
+    → EachOnce (length rows) ps → IsOrdering (limit_class limit) (rows_at rows ps) ordering → CutCommutes limit rows ps ordering
+
+-- The renaming law of a plan: over rearranged tables it has no other answers, faults included, but for the order of their rows.
+abbrev pub PlanCommutes : Type 0
+PlanCommutes = (plan : PlanTree) (instance other : Instance) (answer : RowsOrFault) → SameTables instance other → IsAnswerOf plan other answer
+    → (same : RowsOrFault) × IsAnswerOf plan instance same × Agree same answer
+
+-- whether the frame of the member at place m of a partition list takes the one at place n
+abbrev pub frame_takes : ClassRule → Frame → List Row → ℕ → ℕ → Bool
+frame_takes class frame partition m n = in_frame class frame (group_of class partition) m (row_at partition m) n (row_at partition n)
+
+-- The frame of the member at place m of a partition list has no gap: it takes each member between two that it takes, up to
+-- UNBOUNDED FOLLOWING each one behind, from UNBOUNDED PRECEDING each one before, and so its rows are a stretch of the list.
+pub record IsContiguous (class : ClassRule) (frame : Frame) (partition : List Row) (m : ℕ) : Type 0 where
+  pub between : (i j k : ℕ) → i < j → j < k → k < length partition
+      → frame_takes class frame partition m i ≡ true → frame_takes class frame partition m k ≡ true → frame_takes class frame partition m j ≡ true
+  pub behind : frame.end ≡ UnboundedFollowing → (i j : ℕ) → i < j → j < length partition
+      → frame_takes class frame partition m i ≡ true → frame_takes class frame partition m j ≡ true
+  pub before : frame.start ≡ UnboundedPreceding → (i j : ℕ) → i < j → j < length partition
+      → frame_takes class frame partition m j ≡ true → frame_takes class frame partition m i ≡ true
+  pub stretch : (start : ℕ) × (count : ℕ) × (frame_of class frame partition m ≡ take count (drop start partition))
+
+-- along a partition list under a lawful ordering, a frame without exclusion is contiguous
+abbrev pub FramesAreContiguous : Type 0
+FramesAreContiguous = (class : ClassRule) (frame : Frame) (rows : List Row) (ordering : List ℕ) (p m : ℕ)
+    → IsOrdering class rows ordering → frame.exclusion ≡ NoOthers → m < length (partition_of class rows ordering p)
+    → IsContiguous class frame (partition_of class rows ordering p) m

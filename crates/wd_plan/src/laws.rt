@@ -1,6 +1,6 @@
 //! Laws over the definitions alone: no choice changes what they speak of.
 
-ghost use Rattle.wd_plan.specs.Laws.{AgreeingIsAnEquivalence, ValuesGoByRows, SameRowsAtPlaces, WindowHasOne, LimitHasOne, PlanHasOne, WindowCommutes, HasValidChoice, PeerGroupsRise, RowNumbersCount};
+ghost use Rattle.wd_plan.specs.Laws.{AgreeingIsAnEquivalence, ValuesGoByRows, SameRowsAtPlaces, WindowHasOne, LimitHasOne, PlanHasOne, WindowCommutes, HasValidChoice, PeerGroupsRise, RowNumbersCount, StepsCommute, LimitCommutes, PlanCommutes, FramesAreContiguous};
 
 pub use crate::examples::{
     agreeing_comes_out, choices_come_out, faults_come_out, frames_come_out, functions_come_out,
@@ -58,4 +58,25 @@ pub fn peer_groups_rise()
 /// ROW_NUMBER over a partition of n members gives 1 to n.
 pub fn row_numbers_count()
     ensures { RowNumbersCount }
+{}
+
+/// Over rearranged rows a Filter, a Map, a Join and a Distinct have rearranged outcomes, faults
+/// included.
+pub fn steps_commute()
+    ensures { StepsCommute }
+{}
+
+/// Over rearranged rows a Limit keeps the rows of the renamed ordering, in the same order.
+pub fn limit_commutes()
+    ensures { LimitCommutes }
+{}
+
+/// A plan has the same answers over the same tables in any row order, faults included.
+pub fn plan_commutes()
+    ensures { PlanCommutes }
+{}
+
+/// A frame without exclusion is contiguous along its partition list.
+pub fn frames_are_contiguous()
+    ensures { FramesAreContiguous }
 {}
