@@ -1,11 +1,11 @@
 -- When the rows of a table meet what its declaration asks (SQL:2003 part 2: column and unique constraints).
-use Rattle.std.specs.Prelude.{◌≡◌, ℕ, ◌^◌, ◌-◌, ◌&&◌, Bool, true, false, not, List, [], ◌∷◌, All, AllPairs, ℤ, pos, negsuc, int_le}
-use Rattle.std.specs.List.{list_any}
+use Rattle.std.specs.Prelude.{◌≡◌, ℕ, ◌^◌, ◌-◌, ◌&&◌, Bool, true, false, not, List, [], ◌∷◌, All, AllPairs, length, slice_get, Some, ℤ, pos, negsuc, int_le}
+use Rattle.std.specs.List.{list_any, list_all}
 use Rattle.wd_value.specs.declared.value.Value.{Value}
 use Rattle.wd_value.specs.declared.value.Value.TheVariants.{Null, Int, Text, Bool as Truth}
 use Rattle.wd_value.specs.declared.value.ColumnType.{ColumnType}
 use Rattle.wd_value.specs.declared.value.ColumnType.TheVariants.{SmallInt, Integer, BigInt, Text as TextType, Boolean}
-use Rattle.wd_value.specs.Rows.{Row, columns_of, same_row}
+use Rattle.wd_value.specs.Rows.{Row, Instance, columns_of, same_row, table_at}
 use Rattle.wd_schema.specs.declared.table.Column.{Column}
 use Rattle.wd_schema.specs.Tables.{KeyRule, TableRule}
 
@@ -50,3 +50,21 @@ KeepsKey rows key = AllPairs (λ a b. violates key a b ≡ false) rows
 pub record MeetsTable (table : TableRule) (rows : List Row) : Type 0 where
   pub values : All (λ row. fits_columns table.columns row ≡ true) rows
   pub keys : All (KeepsKey rows) table.keys
+
+-- the list of rows at each place meets the table there
+abbrev pub EachMeets : List TableRule → Instance → Type 0
+EachMeets schema instance = (t : ℕ) (table : TableRule) → slice_get schema t ≡ Some table → MeetsTable table (table_at instance t)
+
+-- the instance meets the schema: for each table, in order of declaration, a list of rows that meets it, and no further list
+pub record Meets (schema : List TableRule) (instance : Instance) : Type 0 where
+  pub lists : length instance ≡ length schema
+  pub tables : EachMeets schema instance
+
+-- the test that decides whether the rows keep a key
+abbrev pub is_kept : List Row → KeyRule → Bool
+is_kept [] key = true
+is_kept (row ∷ rows) key = not (list_any (violates key row) rows) && is_kept rows key
+
+-- the test that decides whether the rows meet a table
+abbrev pub is_met : TableRule → List Row → Bool
+is_met table rows = list_all (fits_columns table.columns) rows && list_all (is_kept rows) table.keys

@@ -1,8 +1,18 @@
-//! Schemas: tables, their columns and their keys.
+//! Schemas: tables, their columns and their keys, and the instances that meet them.
 #![tactic(auto)]
 
+mod declare;
+mod error;
+pub mod laws;
+mod reader;
 mod schema;
+mod syntax;
 mod table;
+#[cfg(test)]
+mod tests;
+mod text;
 
-pub use schema::Schema;
+pub use error::SchemaError;
+pub use schema::{Schema, Violation, meets};
 pub use table::{Column, Key, Table};
+pub use text::read_schema;

@@ -1,5 +1,2 @@
-pub mod EvaluationLemmas
-pub mod SortLemmas
-pub mod SyntaxLemmas
 pub mod FilesLemmas
 pub mod CommandLineLemmas

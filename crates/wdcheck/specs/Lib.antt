@@ -1,7 +1,3 @@
-pub mod Evaluation
-pub mod Grammar
-pub mod Meaning
-pub mod Placing
 pub mod Runs
 pub mod Causes
 pub mod Files

@@ -7,7 +7,7 @@ use Rattle.wd_plan.specs.Choices.{IsAnswerOf}
 use Rattle.wd_plan.specs.Outcomes.{RowsOrFault}
 use Rattle.wd_plan.specs.Plans.{PlanTree}
 use Rattle.wd_tables.specs.Data.{HoldsRows}
-use Rattle.wdcheck.specs.Meaning.{Declares, Reads}
+use Rattle.wd_simple.specs.Meaning.{Declares, Reads}
 
 -- the names and the texts that a slice of pairs shows
 abbrev pub data_of : List (Bor (List ℕ) × Bor (List ℕ)) → List (List ℕ × List ℕ)

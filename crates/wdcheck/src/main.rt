@@ -5,18 +5,13 @@
 mod command;
 #[cfg(test)]
 mod command_tests;
-mod evaluate;
 mod failure;
 mod files;
 mod inputs;
 mod memory;
-mod query;
 mod run;
 #[cfg(test)]
 mod run_tests;
-mod schema;
-mod sort;
-mod syntax;
 mod words;
 
 use command::command;

@@ -8,13 +8,11 @@ ghost use Rattle.wdcheck.specs.Causes.{ComesFrom, run_number, run_place};
 ghost use Rattle.wdcheck.specs.Runs.{HoldsData, IsAnswer, data_of};
 ghost use Rattle.wdcheck.specs.declared.run.RunError.TheVariants as error;
 
-use crate::evaluate::evaluate;
-use crate::query::{QueryError, read_plan};
-use crate::schema::{SchemaError, read_schema};
 use std::alloc::{AllocError, AllocFailed, Global};
 use thiserror::Error;
 use wd_plan::Outcome;
 use wd_schema::Table;
+use wd_simple::{QueryError, SchemaError, evaluate, read_plan, read_schema};
 use wd_tables::{DataError, load};
 use wd_value::{OutOfMemory, Row, Text};
 

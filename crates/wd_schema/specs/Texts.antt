@@ -1,0 +1,58 @@
+-- Schema texts: the schema that a text declares, and why a text is refused.
+use Rattle.std.specs.Prelude.{◌≡◌, ◌≢◌, ℕ, suc, ◌≤◌, List, map, take, length}
+use Rattle.wd_lex.specs.Lexed.{IsLexed, kinds_of}
+use Rattle.wd_lex.specs.Causes as tokens
+use Rattle.wd_lex.specs.declared.token.Token.{Token}
+use Rattle.wd_lex.specs.declared.token.TokenKind.{TokenKind}
+use Rattle.wd_schema.specs.declared.error.SchemaError.{SchemaError}
+use Rattle.wd_schema.specs.declared.error.SchemaError.TheVariants.{Tokens, TableTwice, ColumnTwice, UnknownColumn, SecondPrimaryKey, KeyColumnTwice, TooMany, UnknownType, NullForbidden, Unexpected, OutOfMemory}
+use Rattle.wd_schema.specs.declared.schema.Schema.{Schema}
+use Rattle.wd_schema.specs.Declares.{AllKeep, table_declared}
+use Rattle.wd_schema.specs.Grammar.{Begins, IsSchema, spell_schema}
+use Rattle.wd_schema.specs.Schemas.{schema_of, names_of}
+use Rattle.wd_schema.specs.Written.{SchemaTree, TableTree, name_text}
+
+-- The text declares the schema: its tokens spell a tree that is refused for nothing, and the tables are those that the tree
+-- declares, under their names.
+pub record Declares (text : List ℕ) (schema : Schema) : Type 0 where
+  pub tokens : List Token
+  pub tree : SchemaTree
+  pub lexed : IsLexed text tokens
+  pub spelled : kinds_of tokens ≡ spell_schema tree
+  pub whole : IsSchema tree
+  pub kept : (refusal : SchemaError) → AllKeep refusal tree.tables
+  pub tables : schema_of schema ≡ map table_declared tree.tables
+  pub names : names_of schema ≡ map (λ table. name_text table.name) tree.tables
+
+-- no schema goes on with the token of that number behind those before it, or ends there, where it is the number of tokens
+pub record IsUnexpected (kinds : List TokenKind) (place : ℕ) : Type 0 where
+  pub within : place ≤ length kinds
+  pub none : (tree : SchemaTree) → IsSchema tree → take (suc place) (spell_schema tree) ≢ take (suc place) kinds
+
+-- the first statements of the text are tables that do not keep what the refusal is about
+pub record Breaks (text : List ℕ) (refusal : SchemaError) : Type 0 where
+  pub tokens : List Token
+  pub tables : List TableTree
+  pub lexed : IsLexed text tokens
+  pub begins : Begins (kinds_of tokens) tables
+  pub broken : ¬ (AllKeep refusal tables)
+
+-- the text has tokens, and no schema goes on at that place
+pub record Stops (text : List ℕ) (place : ℕ) : Type 0 where
+  pub tokens : List Token
+  pub lexed : IsLexed text tokens
+  pub stops : IsUnexpected (kinds_of tokens) place
+
+-- a refusal's cause stands in the text; for want of memory none does
+abbrev pub HasCause : List ℕ → SchemaError → Type 0
+HasCause text (Tokens error) = tokens.HasCause error text
+HasCause text (Unexpected place) = Stops text place
+HasCause text OutOfMemory = ⊥
+HasCause text TableTwice = Breaks text TableTwice
+HasCause text ColumnTwice = Breaks text ColumnTwice
+HasCause text UnknownColumn = Breaks text UnknownColumn
+HasCause text SecondPrimaryKey = Breaks text SecondPrimaryKey
+HasCause text KeyColumnTwice = Breaks text KeyColumnTwice
+HasCause text TooMany = Breaks text TooMany
+HasCause text UnknownType = Breaks text UnknownType
+HasCause text NullForbidden = Breaks text NullForbidden

@@ -1,0 +1,79 @@
+//! Reads schema texts.
+
+ghost use Rattle.std.specs.Prelude.{◌≡◌, ◌≢◌, map, IfOk, IfErr, OnOk};
+ghost use Rattle.wd_schema.specs.Declares.{AllKeep, table_declared};
+ghost use Rattle.wd_schema.specs.Schemas.{names_of, schema_of};
+ghost use Rattle.wd_schema.specs.Texts.{Declares, HasCause};
+ghost use Rattle.wd_schema.specs.Written.{name_text, table_tree};
+ghost use Rattle.wd_schema.specs.declared.error.SchemaError.{SchemaError as Refusal};
+
+use crate::declare::declare;
+use crate::error::SchemaError;
+use crate::reader::read_statements;
+use crate::schema::Schema;
+use crate::syntax::WrittenTable;
+use indexmap::IndexMap;
+use std::alloc::Global;
+use wd_lex::{LexError, lex};
+
+/// The most tables of a schema.
+const MOST_TABLES: usize = 64;
+
+/// The schema that a text declares.
+///
+/// The first refusal in the text is answered; 309 of a statement comes before its others.
+pub fn read_schema(alloc: Global, text: &[u8]) -> Result<Schema, SchemaError>
+    // The schema is the one that the text's tokens spell.
+    ensures schema { IfOk result (Declares text.now) }
+
+    // A refusal comes only where its cause stands in the text.
+    ensures cause { IfErr result (λ refusal. refusal ≢ SchemaError.OutOfMemory → HasCause text.now refusal) }
+
+    // Where a cause stands, the text is refused.
+    ensures refused { OnOk result ((refusal : Refusal) → HasCause text.now refusal → ⊥) }
+{
+    let tokens = match lex(alloc, text) {
+        Ok(tokens) => tokens,
+        Err(error) => return Err(lexer_refusal(error)),
+    };
+    let Ok(statements) = read_statements(alloc, &tokens) else {
+        return Err(SchemaError::OutOfMemory);
+    };
+    let schema = declared_schema(alloc, &statements.tables)?;
+    match statements.unexpected {
+        Some(place) => Err(SchemaError::Unexpected { place }),
+        None => Ok(schema),
+    }
+}
+
+/// The refusal of a text that has no tokens.
+fn lexer_refusal(error: LexError) -> SchemaError
+    ensures { result ≢ SchemaError.OutOfMemory → (error ≢ LexError.OutOfMemory) × (result ≡ SchemaError.Tokens error) }
+{
+    match error {
+        LexError::OutOfMemory => SchemaError::OutOfMemory,
+        _ => SchemaError::Tokens(error),
+    }
+}
+
+/// The schema of these tables.
+fn declared_schema(alloc: Global, tables: &[WrittenTable]) -> Result<Schema, SchemaError>
+    ensures tables { IfOk result (λ schema. schema_of schema ≡ map table_declared (map table_tree tables.now)) }
+    ensures names { IfOk result (λ schema. names_of schema ≡ map (λ table. name_text table.name) (map table_tree tables.now)) }
+    ensures kept { OnOk result ((refusal : Refusal) → AllKeep refusal (map table_tree tables.now)) }
+    ensures refused { IfErr result (λ refusal. refusal ≢ SchemaError.OutOfMemory → AllKeep refusal (map table_tree tables.now) → ⊥) }
+{
+    let mut schema = IndexMap::new(alloc);
+    for (t, table) in tables.iter().enumerate() {
+        let name = table.name.text();
+        if schema.contains_key(name.as_str()) {
+            return Err(SchemaError::TableTwice);
+        }
+        if t >= MOST_TABLES {
+            return Err(SchemaError::TooMany);
+        }
+        let declared = declare(alloc, table)?;
+        schema.insert(name.copy(alloc)?.into_string(), declared)?;
+    }
+    Ok(Schema { tables: schema })
+}

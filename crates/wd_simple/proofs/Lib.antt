@@ -1,0 +1,3 @@
+pub mod EvaluationLemmas
+pub mod SortLemmas
+pub mod SyntaxLemmas
