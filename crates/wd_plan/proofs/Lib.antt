@@ -7,6 +7,7 @@ pub mod Frames
 pub mod Peers
 pub mod Calls
 pub mod Outcomes
+pub mod Exchange
 pub mod WindowLaw
 pub mod LimitLaw
 pub mod PlanLaw

@@ -7,10 +7,10 @@ use Rattle.std.proofs.lemmas.List.Sums.{take_while-cons}
 use Rattle.std.proofs.lemmas.List.Elements.{All-from_recursion}
 use Rattle.std.proofs.lemmas.Bool.{cases_lt}
 use Rattle.std.proofs.lemmas.Cmp.{tied_itself, alike_right, upto}
+use Rattle.wd_plan.proofs.Exchange.{gives_all_looks}
 use Rattle.wd_plan.proofs.KeyLaws.{compare_keys-ties, compare_keys_total}
 use Rattle.wd_plan.proofs.Parts.{NotAfter, Perm-ordered, ordered, part, rising_part, same_parts, same_rows_at_places}
 use Rattle.wd_plan.proofs.Sorted.{Rising}
-use Rattle.wd_plan.proofs.WindowLaw.{gives_all_looks}
 use Rattle.wd_plan.specs.Facts.{GivesAll, HasWidth}
 use Rattle.wd_plan.specs.Justified.{IsJustifiedLimit}
 use Rattle.wd_plan.specs.Keys.{compare_keys}

@@ -13,7 +13,7 @@ use Rattle.wd_plan.specs.Sorting.{same_partition}
 use Rattle.wd_plan.proofs.Calls.{place_member, same_members}
 use Rattle.wd_plan.proofs.Grouped.{filter_passes_at}
 use Rattle.wd_plan.proofs.Parts.{same_partition_is}
-use Rattle.wd_plan.proofs.WindowLaw.{same_shows}
+use Rattle.wd_plan.proofs.Exchange.{same_shows}
 
 -- the place of each member is where it stands
 own_place : (class : ClassRule) (rows : List Row) (ordering : List ℕ) (p i : ℕ) → EachOnce (length rows) ordering → i < length (members class rows ordering p) → let q = get_or (members class rows ordering p) i 0 in place_of (members class rows ordering q) q ≡ i

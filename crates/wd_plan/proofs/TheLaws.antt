@@ -1,10 +1,11 @@
 -- The laws as they are stated, by counts of rows.
 use Rattle.std.proofs.Common.{◌≡◌, ℕ, ◌<◌, List, length, ap, inl, inr}
 use Rattle.wd_plan.proofs.Calls.{by_peers, by_unique, by_values, same_partition_rows}
+use Rattle.wd_plan.proofs.Exchange.{gives_all_looks}
 use Rattle.wd_plan.proofs.LimitLaw.{Perm-cut}
 use Rattle.wd_plan.proofs.Outcomes.{Agree-from_Alike}
 use Rattle.wd_plan.proofs.PlanLaw.{one_outcome}
-use Rattle.wd_plan.proofs.WindowLaw.{Alike-window, gives_all_looks}
+use Rattle.wd_plan.proofs.WindowLaw.{Alike-window}
 use Rattle.wd_plan.specs.Calls.{value_at}
 use Rattle.wd_plan.specs.Justified.{IsByRow}
 use Rattle.wd_plan.specs.Laws.{LimitHasOne, PlanHasOne, SameRowsAtPlaces, ValuesGoByRows, WindowHasOne}

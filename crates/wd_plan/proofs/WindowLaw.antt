@@ -1,78 +1,27 @@
 -- A Window keeps outcomes that agree.
-use Rattle.std.proofs.Common.{◌≡◌, ℕ, ◌<◌, ◌≤◌, Bool, true, List, [], ◌∷◌, ◌++◌, map, length, filter, get_or, refl, sym, ◌∙◌, ap, subst, arith, le_trans, ext_get_or, ◌⊎◌, inl, inr, eqb, Ok, Result}
+use Rattle.std.proofs.Common.{◌≡◌, ℕ, ◌<◌, true, List, [], ◌∷◌, ◌++◌, map, length, filter, get_or, refl, sym, ◌∙◌, ap, subst, arith, ◌⊎◌, inl, inr, Ok, Result}
 use Rattle.std.specs.List.{AllByRecursion}
-use Rattle.std.proofs.lemmas.List.{length-map, get_or-map, same_lists}
-use Rattle.std.proofs.lemmas.List.Elements.{filter_passes, All-from_recursion}
-use Rattle.wd_plan.proofs.Calls.{by_peers, by_unique, by_values, same_members, stands_once}
-use Rattle.wd_plan.proofs.Grouped.{Matches, Perm-from_matches, place-get_or, range-times, times-filter-le, times-get_or}
+use Rattle.std.proofs.lemmas.List.{length-map}
+use Rattle.std.proofs.lemmas.List.Elements.{filter_passes}
+use Rattle.wd_plan.proofs.Calls.{by_peers, by_unique, by_values}
+use Rattle.wd_plan.proofs.Exchange.{SamePlace, below_filter, by_places, gives_all_looks, same_shows}
+use Rattle.wd_plan.proofs.Grouped.{Matches, Perm-from_matches}
 use Rattle.wd_plan.proofs.Outcomes.{Alike, Alike-all_ok}
-use Rattle.wd_plan.proofs.Parts.{LooksBy, Perm-ordered, Perm-ordering, map_filter, ordered, rows_at_positions, same_partition_is, same_rows_at_places}
+use Rattle.wd_plan.proofs.Parts.{LooksBy, map_filter, rows_at_positions}
 use Rattle.wd_plan.specs.Calls.{call_value, value_at}
 use Rattle.wd_plan.specs.Choices.{AreOrderings}
 use Rattle.wd_plan.specs.Facts.{Gives, GivesAll, GivesRow, HasWidth}
 use Rattle.wd_plan.specs.Faults.{all_ok, and_then}
 use Rattle.wd_plan.specs.Justified.{IsByValues, IsJustified, NamesClasses, is_by_peers}
 use Rattle.wd_plan.specs.Outcomes.{call_at, class_at, extended, ordering_at, window_outcome}
-use Rattle.wd_plan.specs.Partitions.{members, place_of}
-use Rattle.wd_plan.specs.Plans.{ClassRule, WindowRule}
-use Rattle.wd_plan.specs.Sorting.{IsOrdering, class_columns, same_partition}
+use Rattle.wd_plan.specs.Plans.{WindowRule}
+use Rattle.wd_plan.specs.Sorting.{class_columns}
 use Rattle.wd_plan.specs.declared.window.Call.{Call}
-use Rattle.wd_plan.specs.declared.window.Frame.{Frame}
-use Rattle.wd_plan.specs.declared.window.Function.{Function}
-use Rattle.wd_value.proofs.Perms.{Perm, Perm-filter, Perm-length, Perm-map, Perm-sym, both}
+use Rattle.wd_value.proofs.Perms.{Perm, Perm-filter, Perm-length}
 use Rattle.wd_value.proofs.SameLaws.{same_row-Decides}
-use Rattle.wd_value.specs.Bags.{EachOnce, positions, times}
-use Rattle.wd_value.specs.Rows.{Row, columns_of, row_at, same_row}
+use Rattle.wd_value.specs.Bags.{EachOnce, positions}
+use Rattle.wd_value.specs.Rows.{Row, row_at, same_row}
 use Rattle.wd_value.specs.declared.value.Fault.{Fault}
-use Rattle.wd_value.specs.declared.value.Value.TheVariants.{Null}
-
--- lists that show the same at each place show the same
-pub same_shows : {A B Z : Type 0} (f : A → Z) (g : B → Z) (as' : List A) (bs : List B) (a : A) (b : B) → length as' ≡ length bs → ((i : ℕ) → i < length as' → f (get_or as' i a) ≡ g (get_or bs i b)) → map f as' ≡ map g bs
-same_shows f g as' bs a b l h = same_lists (map f as') (map g bs) (length-map as' f ∙ l ∙ sym (length-map bs g))
-    (λ k d m. let n : k < length as' = subst (λ x. k < x) (length-map as' f) m in let n' : k < length bs = omega arith in get_or-map f as' k a d n ∙ h k n ∙ sym (get_or-map g bs k b d n'))
-
--- ---- `exchange`
-
--- what stands in a filter of an ordering is a position
-below_filter : (rows : List Row) (ordering : List ℕ) (t : ℕ → Bool) (i : ℕ) → EachOnce (length rows) ordering → i < length (filter t ordering) → get_or (filter t ordering) i 0 < length rows
-below_filter rows ordering t i once h =
-    let q = get_or (filter t ordering) i 0 in
-    let a : 0 < times eqb q (filter t ordering) = times-get_or (filter t ordering) i 0 h in
-    let b : times eqb q (filter t ordering) ≤ times eqb q ordering = times-filter-le eqb t q ordering in
-    let c : times eqb q (positions (length rows)) ≡ times eqb q ordering = once q in
-    let d = range-times q 0 (length rows) (omega arith) in
-    omega arith
-
--- the value of a call at the member at place i of the partition of x
-value_at_place : (class : ClassRule) (frame : Frame) (function : Function) (rows : List Row) (ordering : List ℕ) (x : Row) (i : ℕ) → EachOnce (length rows) ordering → i < length (filter (λ q. same_partition class x (row_at rows q)) ordering) →
-    value_at class frame function rows ordering (get_or (filter (λ q. same_partition class x (row_at rows q)) ordering) i 0) ≡ call_value class frame function (map (row_at rows) (filter (λ q. same_partition class x (row_at rows q)) ordering)) i
-value_at_place class frame function rows ordering x i once h =
-    let t = λ (q : ℕ). same_partition class x (row_at rows q) in
-    let us = filter t ordering in
-    let u = get_or us i 0 in
-    let passes : same_partition class x (row_at rows u) ≡ true = filter_passes t ordering i 0 h in
-    let ms : members class rows ordering u ≡ us = same_members class rows ordering x u (same_partition_is class x (row_at rows u) passes) in
-    let at_i : place_of us u ≡ i = place-get_or us i 0 h (le_trans (times-filter-le eqb t u ordering) (stands_once rows ordering u once)) in
-    (λ k. call_value class frame function (map (row_at rows) (ms k)) (place_of (ms k) u)) ∙ ap (call_value class frame function (map (row_at rows) us)) at_i
-
--- two orderings of an exchange class put the same rows at each place of each partition
-pub exchange_places : (class : ClassRule) (rows others : List Row) (o1 o2 : List ℕ) (x : Row) → LooksBy class rows (λ r. r) → Perm Row rows others → IsOrdering class rows o1 → IsOrdering class others o2 → map (row_at rows) (filter (λ q. same_partition class x (row_at rows q)) o1) ≡ map (row_at others) (filter (λ q. same_partition class x (row_at others q)) o2)
-exchange_places class rows others o1 o2 x looks perm v1 v2 =
-    map_filter (row_at rows) (same_partition class x) o1
-    ∙ same_rows_at_places class rows looks x (ordered rows o1) (ordered others o2) (Perm-ordered rows o1 v1.once) (both perm (Perm-ordered others o2 v2.once)) v1.in_order v2.in_order
-    ∙ sym (map_filter (row_at others) (same_partition class x) o2)
-
--- the class's columns give every column: rows that are the same on them are the same
-pub gives_all_looks : (class : ClassRule) (rows : List Row) (width : ℕ) → HasWidth width rows → GivesAll rows width (class_columns class) → LooksBy class rows (λ r. r)
-gives_all_looks class rows width wide h a b m n e =
-    let at_p : length (row_at rows m.0) ≡ width = All-at m.0 m.1 in
-    let at_q : length (row_at rows n.0) ≡ width = All-at n.0 n.1 in
-    let key : columns_of (class_columns class) (row_at rows m.0) ≡ columns_of (class_columns class) (row_at rows n.0) = ap (columns_of (class_columns class)) m.2 ∙ e ∙ sym (ap (columns_of (class_columns class)) n.2) in
-    let same : row_at rows m.0 ≡ row_at rows n.0 = ext_get_or Null (row_at rows m.0) (row_at rows n.0) (at_p ∙ sym at_q) (λ c l. h c (omega arith) m.0 n.0 m.1 n.1 key) in
-    sym m.2 ∙ same ∙ n.2
-  where
-    All-at : (p : ℕ) → p < length rows → length (row_at rows p) ≡ width
-    All-at p l = All-from_recursion (λ (r : Row). length r ≡ width) rows wide p [] l
 
 -- ---- a row with the values of its calls
 
@@ -129,43 +78,16 @@ module _ (w : WindowRule) (rows others : List Row) (os1 os2 : List (List ℕ)) (
 
   -- one class gives every column, and each other call is by the row
   module _ (e : ℕ) (range_asks : e < length w.classes) (looks : LooksBy (class_at w e) rows (λ r. r)) where
-    at_partition : (x : Row) (calls : List Call) → AllByRecursion (λ call. (call.class < length w.classes) × (IsByRow w rows call ⊎ (call.class ≡ e))) calls → (i : ℕ)
-        → i < length (filter (λ q. same_partition (class_at w e) x (row_at rows q)) (ordering_at os1 e))
-        → i < length (filter (λ q. same_partition (class_at w e) x (row_at others q)) (ordering_at os2 e))
-        → row_at rows (get_or (filter (λ q. same_partition (class_at w e) x (row_at rows q)) (ordering_at os1 e)) i 0) ≡ row_at others (get_or (filter (λ q. same_partition (class_at w e) x (row_at others q)) (ordering_at os2 e)) i 0)
-        → AllByRecursion (λ call. call_at w rows os1 (get_or (filter (λ q. same_partition (class_at w e) x (row_at rows q)) (ordering_at os1 e)) i 0) call ≡ call_at w others os2 (get_or (filter (λ q. same_partition (class_at w e) x (row_at others q)) (ordering_at os2 e)) i 0) call) calls
-    at_partition x [] a i k l same = tt
-    at_partition x (call ∷ calls) a i k l same = (one a.0.1, at_partition x calls a.1 i k l same)
-      where
-        u : ℕ
-        u = get_or (filter (λ q. same_partition (class_at w e) x (row_at rows q)) (ordering_at os1 e)) i 0
+    at_same_place : (u v : ℕ) → SamePlace (class_at w e) rows others (ordering_at os1 e) (ordering_at os2 e) u v → (call : Call) → (call.class < length w.classes) × (IsByRow w rows call ⊎ (call.class ≡ e)) → call_at w rows os1 u call ≡ call_at w others os2 v call
+    at_same_place u v s call (n, inl by_row) = call_by_row call n by_row u v s.here s.there s.row
+    at_same_place u v s call (n, inr is_e) =
+        ap (λ c. value_at (class_at w c) call.frame call.function rows (ordering_at os1 c) u) is_e
+        ∙ (λ i. call_value (class_at w e) call.frame call.function (s.partition i) (s.place i))
+        ∙ sym (ap (λ c. value_at (class_at w c) call.frame call.function others (ordering_at os2 c) v) is_e)
 
-        v : ℕ
-        v = get_or (filter (λ q. same_partition (class_at w e) x (row_at others q)) (ordering_at os2 e)) i 0
-
-        one : IsByRow w rows call ⊎ (call.class ≡ e) → call_at w rows os1 u call ≡ call_at w others os2 v call
-        one (inl by_row) = call_by_row call a.0.0 by_row u v
-            (below_filter rows (ordering_at os1 e) (λ q. same_partition (class_at w e) x (row_at rows q)) i (v1.each e range_asks).once k)
-            (below_filter others (ordering_at os2 e) (λ q. same_partition (class_at w e) x (row_at others q)) i (v2.each e range_asks).once l) same
-        one (inr is_e) =
-            let class = class_at w e in
-            let lists = exchange_places class rows others (ordering_at os1 e) (ordering_at os2 e) x looks perm (v1.each e range_asks) (v2.each e range_asks) in
-            let here = value_at_place class call.frame call.function rows (ordering_at os1 e) x i (v1.each e range_asks).once k in
-            let there = value_at_place class call.frame call.function others (ordering_at os2 e) x i (v2.each e range_asks).once l in
-            ap (λ n. value_at (class_at w n) call.frame call.function rows (ordering_at os1 n) u) is_e
-            ∙ here ∙ ap (λ part. call_value class call.frame call.function part i) lists ∙ sym there
-            ∙ sym (ap (λ n. value_at (class_at w n) call.frame call.function others (ordering_at os2 n) v) is_e)
-
-    pub rows_by_exchange : AllByRecursion (λ call. (call.class < length w.classes) × (IsByRow w rows call ⊎ (call.class ≡ e))) w.calls → Perm (Result Row Fault) (map (extended w rows os1) (ordering_at os1 e)) (map (extended w others os2) (ordering_at os2 e))
-    rows_by_exchange h = Perm-from_matches same_row same_row-Decides (columns_of (class_at w e).partition) (row_at rows) (row_at others) (extended w rows os1) (extended w others os2) (ordering_at os1 e) (ordering_at os2 e) (λ x.
-        let us = filter (λ q. same_partition (class_at w e) x (row_at rows q)) (ordering_at os1 e) in
-        let vs = filter (λ q. same_partition (class_at w e) x (row_at others q)) (ordering_at os2 e) in
-        let lists = exchange_places (class_at w e) rows others (ordering_at os1 e) (ordering_at os2 e) x looks perm (v1.each e range_asks) (v2.each e range_asks) in
-        let long : length us ≡ length vs = sym (length-map us (row_at rows)) ∙ ap length lists ∙ length-map vs (row_at others) in
-        same_shows (extended w rows os1) (extended w others os2) us vs 0 0 long (λ i l.
-        let l' : i < length vs = omega arith in
-        let same : row_at rows (get_or us i 0) ≡ row_at others (get_or vs i 0) = sym (get_or-map (row_at rows) us i 0 [] l) ∙ ap (λ (rs : List Row). row_at rs i) lists ∙ get_or-map (row_at others) vs i 0 [] l' in
-        extended_agrees w rows others os1 os2 (get_or us i 0) (get_or vs i 0) same (at_partition x w.calls h i l l' same)))
+    pub rows_by_exchange : AllByRecursion (λ call. (call.class < length w.classes) × (IsByRow w rows call ⊎ (call.class ≡ e))) w.calls → Perm (Result Row Fault) (map (extended w rows os1) (positions (length rows))) (map (extended w others os2) (positions (length others)))
+    rows_by_exchange h = by_places (class_at w e) rows others (ordering_at os1 e) (ordering_at os2 e) looks perm (v1.each e range_asks) (v2.each e range_asks) (extended w rows os1) (extended w others os2) (λ u v s.
+        extended_agrees w rows others os1 os2 u v s.row (all_weaker (λ call. (call.class < length w.classes) × (IsByRow w rows call ⊎ (call.class ≡ e))) (λ call. call_at w rows os1 u call ≡ call_at w others os2 v call) (at_same_place u v s) w.calls h))
 
 -- ---- the law
 
@@ -201,4 +123,4 @@ Alike-window w e width rows others os1 os2 perm v1 v2 wide n a = by_cases (sorts
     by_cases (inr h) =
         let p = rows_by_exchange w rows others os1 os2 perm v1 v2 e h.0 (gives_all_looks (class_at w e) rows width wide h.1)
         (all_both (λ (call : Call). call.class < length w.classes) (IsJustified w e width rows) (λ call. (call.class < length w.classes) × (IsByRow w rows call ⊎ (call.class ≡ e))) (λ call k j. (k, by_row_or_exchange w e width rows call j)) w.calls n a) in
-        Alike-all_ok _ _ (both (Perm-map (extended w rows os1) (Perm-ordering rows (ordering_at os1 e) (v1.each e h.0).once)) (both p (Perm-sym (Perm-map (extended w others os2) (Perm-ordering others (ordering_at os2 e) (v2.each e h.0).once)))))
+        Alike-all_ok _ _ p

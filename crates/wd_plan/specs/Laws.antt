@@ -1,5 +1,5 @@
 -- Laws over the definitions.
-use Rattle.std.specs.Prelude.{◌≡◌, ◌⊎◌, ℕ, pos, ◌+◌, ◌<◌, Bool, true, List, map, length, take, drop, slice_index_or, Option, Ok}
+use Rattle.std.specs.Prelude.{◌≡◌, ◌⊎◌, ℕ, pos, ◌+◌, ◌<◌, Bool, true, List, map, length, take, drop, count_by, slice_index_or, Option, Result, Ok}
 use Rattle.std.specs.List.{AllByRecursion}
 use Rattle.wd_value.specs.Bags.{SameBag, EachOnce, positions}
 use Rattle.wd_value.specs.Rows.{Row, Instance, same_row, row_at, rows_at, table_at}
@@ -8,6 +8,8 @@ use Rattle.wd_plan.specs.declared.window.Exclusion.TheVariants.{NoOthers}
 use Rattle.wd_plan.specs.declared.window.Frame.{Frame}
 use Rattle.wd_plan.specs.declared.window.Function.{Function}
 use Rattle.wd_plan.specs.declared.window.Function.TheVariants.{RowNumber}
+use Rattle.wd_value.specs.declared.value.Fault.{Fault}
+use Rattle.wd_value.specs.declared.value.Value.{Value}
 use Rattle.wd_value.specs.declared.value.Value.TheVariants.{Int}
 use Rattle.wd_plan.specs.Calls.{value_at}
 use Rattle.wd_plan.specs.Choices.{AreOrderings, IsAnswerOf, IsValidChoice}
@@ -40,6 +42,18 @@ abbrev pub SameRowsAtPlaces : Type 0
 SameRowsAtPlaces = (class : ClassRule) (width : ℕ) (rows : List Row) (o1 o2 : List ℕ) (p : ℕ)
     → HasWidth width rows → GivesAll rows width (class_columns class) → IsOrdering class rows o1 → IsOrdering class rows o2
     → partition_of class rows o1 p ≡ partition_of class rows o2 p
+
+-- a row with the results of calls of a class: their values, or their faults
+abbrev pub with_results : ClassRule → List (Frame × Function) → List Row → List ℕ → ℕ → Row × List (Result Value Fault)
+with_results class calls rows ordering r = (row_at rows r, map (λ call. value_at class call.0 call.1 rows ordering r) calls)
+
+-- The exchange law's other half: under two orderings of a class that gives every column, each row with its results stands
+-- equally often, faults included: any test finds as many of them.
+abbrev pub SameResults : Type 0
+SameResults = (class : ClassRule) (calls : List (Frame × Function)) (width : ℕ) (rows : List Row) (o1 o2 : List ℕ) (test : Row × List (Result Value Fault) → Bool)
+    → HasWidth width rows → GivesAll rows width (class_columns class) → IsOrdering class rows o1 → IsOrdering class rows o2
+    → let all = positions (length rows) in
+    count_by test (map (with_results class calls rows o1) all) ≡ count_by test (map (with_results class calls rows o2) all)
 
 -- a Window whose calls are justified, at most one class of them by exchange, has one outcome over rearranged rows
 abbrev pub WindowHasOne : Type 0

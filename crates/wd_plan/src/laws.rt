@@ -1,6 +1,6 @@
 //! Laws over the definitions alone: no choice changes what they speak of.
 
-ghost use Rattle.wd_plan.specs.Laws.{AgreeingIsAnEquivalence, ValuesGoByRows, SameRowsAtPlaces, WindowHasOne, LimitHasOne, PlanHasOne, WindowCommutes, HasValidChoice, PeerGroupsRise, RowNumbersCount, StepsCommute, LimitCommutes, PlanCommutes, FramesAreContiguous};
+ghost use Rattle.wd_plan.specs.Laws.{AgreeingIsAnEquivalence, ValuesGoByRows, SameRowsAtPlaces, SameResults, WindowHasOne, LimitHasOne, PlanHasOne, WindowCommutes, HasValidChoice, PeerGroupsRise, RowNumbersCount, StepsCommute, LimitCommutes, PlanCommutes, FramesAreContiguous};
 
 pub use crate::examples::{
     agreeing_comes_out, choices_come_out, faults_come_out, frames_come_out, functions_come_out,
@@ -22,6 +22,12 @@ pub fn values_go_by_rows()
 /// of each partition.
 pub fn same_rows_at_places()
     ensures { SameRowsAtPlaces }
+{}
+
+/// Under two lawful orderings of a class whose columns give every column each row stands equally
+/// often with the same results of the class's calls, values or faults.
+pub fn same_results()
+    ensures { SameResults }
 {}
 
 /// A Window with justified calls has outcomes that agree over rearranged rows, under any orderings.

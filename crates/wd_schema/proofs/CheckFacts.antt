@@ -34,3 +34,10 @@ repeat_found names i x within is some differ =
 -- what holds of each image holds of that of an element
 pub at_image : {X Y : Type 0} (P : Y → Type 0) (f : X → Y) (xs : List X) (i : ℕ) (x : X) → i < length xs → x ≡ get_or xs i x → All P (map f xs) → P (f x)
 at_image P f xs i x within is all = subst P (get_or-map f xs i x (f x) within ∙ ap f (sym is)) (all i (f x) (rw length-map within))
+
+-- what holds of each two holds of each two among the first
+pub pairs_take : {X : Type 0} (R : X → X → Type 0) (n : ℕ) (xs : List X) → AllPairs R xs → AllPairs R (take n xs)
+pairs_take R n xs pairs = λ i j d lt within.
+    let below : j < n = omega (arith, length-take n xs) in
+    let whole : j < length xs = omega (arith, length-take n xs) in
+    rw (get_or-take n xs i d (omega arith), get_or-take n xs j d below) (pairs i j d lt whole)

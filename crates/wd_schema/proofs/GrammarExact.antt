@@ -20,7 +20,7 @@ use Rattle.wd_schema.specs.declared.syntax.ColumnRule.{ColumnRule}
 use Rattle.wd_schema.specs.Grammar.{HasColumns, IsTable, listed, spell_column, spell_constraint, spell_element, spell_key, spell_name, spell_nulls, spell_rule, spell_rules, spell_stop, spell_table, spell_words, token_of}
 use Rattle.wd_schema.specs.Reading.{Reading, ◌>>=◌, is_mark, eat, eat_word, expect, expect_word, name_of, name_at, nulls_at, words_at, rule_at, constraint_at, column_rule_at, ends_column, rules_at, more_at, list_at, column_at, key_at, begins_key, element_at, table_at, stop_at, statement_at}
 use Rattle.wd_schema.specs.Written.{ColumnTree, KeyTree, ElementTree, Column, Key, TableTree}
-use Rattle.wd_schema.proofs.Exactness.{Agree, Exact, Without, choose_exact, done_exact, empty_exact, eats_mark, eats_word, expect_exact, narrow_exact, then_exact}
+use Rattle.wd_schema.proofs.Exactness.{Agree, Exact, Without, before_first, choose_exact, done_exact, empty_exact, eats_mark, eats_word, expect_exact, narrow_exact, then_exact}
 
 abbrev Any : {A : Type 0} → A → Type 0
 Any x = ⊤
@@ -56,20 +56,22 @@ name_first (k.Word text) kinds = record {
   whole = tt;
   shorter = omega arith;
   same = λ left x after w may lt agree. (name_is x text agree.0, agree.1 lt);
+  carries = λ left after before. λ le. (refl, before);
 }
 name_first (k.Quoted text) kinds = record {
   spelled = refl;
   whole = tt;
   shorter = omega arith;
   same = λ left x after w may lt agree. (quoted_is x text agree.0, agree.1 lt);
+  carries = λ left after before. λ le. (refl, before);
 }
-name_first (k.Mark y) kinds = record { within = omega arith; none = λ x after w may agree. no_name_mark x y agree.0 }
-name_first (k.Literal y) kinds = record { within = omega arith; none = λ x after w may agree. no_name_literal x y agree.0 }
-name_first (k.Number y) kinds = record { within = omega arith; none = λ x after w may agree. no_name_number x y agree.0 }
+name_first (k.Mark y) kinds = record { within = omega arith; none = λ x after w may agree. no_name_mark x y agree.0; near = (Unquoted [], tt, λ after. before_first (spell_name (Unquoted []) after) (k.Mark y ∷ kinds)) }
+name_first (k.Literal y) kinds = record { within = omega arith; none = λ x after w may agree. no_name_literal x y agree.0; near = (Unquoted [], tt, λ after. before_first (spell_name (Unquoted []) after) (k.Literal y ∷ kinds)) }
+name_first (k.Number y) kinds = record { within = omega arith; none = λ x after w may agree. no_name_number x y agree.0; near = (Unquoted [], tt, λ after. before_first (spell_name (Unquoted []) after) (k.Number y ∷ kinds)) }
 
 pub name_exact : (kinds : List TokenKind) → Exact spell_name Any Ever kinds (name_at kinds)
 unfolding name_at
-name_exact [] = record { within = omega arith; none = λ x after w may agree. agree }
+name_exact [] = record { within = omega arith; none = λ x after w may agree. agree; near = (Unquoted [], tt, λ after. tt) }
 name_exact (y ∷ kinds) = name_first y kinds
 
 -- ---- NULLS [NOT] DISTINCT
@@ -122,9 +124,9 @@ nulls_exact kinds =
     (λ y after w is may. λ rest e. distinct_not rest after (sym (ap (λ z. behind_nulls z after) is) ∙ e))
     nulls _ _
     (λ not at'. expect_exact (k.Mark m.Distinct) (eat m.Distinct) (eats_mark m.Distinct) (λ y after. k.Mark m.Distinct ∷ after) (λ y. (Any y × IsSaid y) × (y ≡ NotDistinct)) MayNulls (λ y after. after)
-    (λ y after w. refl) not _ (λ rest. done_exact (λ y. (Any y × IsSaid y) × (y ≡ NotDistinct)) MayNulls NotDistinct rest ((tt, tt), refl) (λ y w. w.1)))
+    (λ y after w. refl) (NotDistinct, ((tt, tt), refl)) not _ (λ rest. done_exact (λ y. (Any y × IsSaid y) × (y ≡ NotDistinct)) MayNulls NotDistinct rest ((tt, tt), refl) (λ y w. w.1)))
     (expect_exact (k.Mark m.Distinct) (eat m.Distinct) (eats_mark m.Distinct) behind_nulls (λ y. (Any y × IsSaid y) × (y ≡ Distinct)) MayNulls (λ y after. after)
-    (λ y after w. ap (λ z. behind_nulls z after) w.1) nulls _ (λ rest. done_exact (λ y. (Any y × IsSaid y) × (y ≡ Distinct)) MayNulls Distinct rest ((tt, tt), refl) (λ y w. w.1))))
+    (λ y after w. ap (λ z. behind_nulls z after) w.1) (Distinct, ((tt, tt), refl)) nulls _ (λ rest. done_exact (λ y. (Any y × IsSaid y) × (y ≡ Distinct)) MayNulls Distinct rest ((tt, tt), refl) (λ y w. w.1))))
     (empty_exact spell_nulls (λ y. Any y × (y ≡ Unsaid)) MayNulls Unsaid kinds (λ after. refl) (tt, refl) (λ y w. w.1))
 
 -- ---- the words of a key
@@ -161,11 +163,11 @@ words_exact kinds =
     (λ y after w is may. λ rest e. unique_not_primary (spell_nulls (nulls_in y) after) rest (sym (unique_is y after is) ∙ e))
     kinds _ _
     (λ primary at. expect_exact (k.Word (codes "key")) (eat_word (codes "key")) (eats_word (codes "key")) (λ y after. k.Word (codes "key") ∷ after) (λ y. Any y × (y ≡ Primary)) MayNulls (λ y after. after)
-    (λ y after w. refl) primary _ (λ rest. done_exact (λ y. Any y × (y ≡ Primary)) MayNulls Primary rest (tt, refl) (λ y w. w.1)))
+    (λ y after w. refl) (Primary, (tt, refl)) primary _ (λ rest. done_exact (λ y. Any y × (y ≡ Primary)) MayNulls Primary rest (tt, refl) (λ y w. w.1)))
     (expect_exact (k.Mark m.Unique) (eat m.Unique) (eats_mark m.Unique) spell_words (λ y. Any y × IsUnique y) MayNulls (λ y after. spell_nulls (nulls_in y) after)
-    (λ y after w. unique_is y after w.1) kinds _
+    (λ y after w. unique_is y after w.1) (Unique Unsaid, (tt, tt)) kinds _
     (λ unique. then_exact spell_nulls Any MayNulls (λ y after. spell_nulls (nulls_in y) after) (λ y. Any y × IsUnique y) MayNulls nulls_in (λ y after. after)
-    (λ y after w. refl) (λ y w. tt) (λ y after w may. may) unique _ _ (nulls_exact unique)
+    (λ y after w. refl) (λ y w. tt) (λ y after w may. may) (λ nulls w. (Unique nulls, (tt, tt), refl)) unique _ _ (nulls_exact unique)
     (λ nulls rest w e le. done_exact (λ y. (Any y × IsUnique y) × (nulls_in y ≡ nulls)) MayNulls (Unique nulls) rest ((tt, tt), refl) (λ y h. unique_of y nulls h.0.1 h.1))))
 
 -- ---- a rule for a column
@@ -221,14 +223,14 @@ rule_exact kinds =
     (λ y w. not_null_or_other y) (λ y after w is. ap (λ z. spell_rule z after) is) (λ y after w is may. other_not y after is)
     kinds _ _
     (λ not at. expect_exact (k.Mark m.Null) (eat m.Null) (eats_mark m.Null) (λ y after. k.Mark m.Null ∷ after) (λ y. Any y × (y ≡ rule.NotNull)) MayNulls (λ y after. after)
-    (λ y after w. refl) not _ (λ rest. done_exact (λ y. Any y × (y ≡ rule.NotNull)) MayNulls rule.NotNull rest (tt, refl) (λ y w. w.1)))
+    (λ y after w. refl) (rule.NotNull, (tt, refl)) not _ (λ rest. done_exact (λ y. Any y × (y ≡ rule.NotNull)) MayNulls rule.NotNull rest (tt, refl) (λ y w. w.1)))
     (choose_exact (k.Mark m.Null) (eat m.Null) (eats_mark m.Null) spell_rule (λ y. Any y × IsOther y) MayNulls (λ y after. after) (λ y. y ≡ rule.Null) IsKeyRule
     (λ y w. null_or_key y w.1) (λ y after w is. ap (λ z. spell_rule z after) is)
     (λ y after w is may. λ rest e. (words_not (words_in y) after).1 rest (sym (key_rule_is y after is) ∙ e))
     kinds _ _
     (λ rest at. done_exact (λ y. (Any y × IsOther y) × (y ≡ rule.Null)) MayNulls rule.Null rest ((tt, tt), refl) (λ y w. w.1))
     (then_exact spell_words Any MayNulls spell_rule (λ y. (Any y × IsOther y) × IsKeyRule y) MayNulls words_in (λ y after. after)
-    (λ y after w. key_rule_is y after w.1) (λ y w. tt) (λ y after w may. may) kinds _ _ (words_exact kinds)
+    (λ y after w. key_rule_is y after w.1) (λ y w. tt) (λ y after w may. may) (λ words w. (rule.Key words, ((tt, tt), tt), refl)) kinds _ _ (words_exact kinds)
     (λ words rest w e le. done_exact (λ y. ((Any y × IsOther y) × IsKeyRule y) × (words_in y ≡ words)) MayNulls (rule.Key words) rest (((tt, tt), tt), refl) (λ y h. key_rule_of y words h.0.1 h.1))))
 
 -- ---- [CONSTRAINT name]
@@ -263,7 +265,7 @@ constraint_exact kinds =
     (λ y w. has_name_or_not y) (λ y after w is. constraint_is y after is) (λ y after w is may. λ rest e. may rest (sym (ap (λ z. spell_constraint z after) is) ∙ e))
     kinds _ _
     (λ named at. then_exact spell_name Any Ever (λ y after. spell_name (name_in y) after) (λ y. Any y × HasName y) MayConstraint name_in (λ y after. after)
-    (λ y after w. refl) (λ y w. tt) (λ y after w may. tt) named _ _ (name_exact named)
+    (λ y after w. refl) (λ y w. tt) (λ y after w may. tt) (λ name w. (Some name, (tt, tt), refl)) named _ _ (name_exact named)
     (λ name rest w e le. done_exact (λ y. (Any y × HasName y) × (name_in y ≡ name)) MayConstraint (Some name) rest ((tt, tt), refl) (λ y h. constraint_of y name h.0.1 h.1)))
     (empty_exact spell_constraint (λ y. Any y × (y ≡ None)) MayConstraint None kinds (λ after. refl) (tt, refl) (λ y w. w.1))
 
@@ -284,9 +286,9 @@ pub column_rule_exact : (kinds : List TokenKind) → Exact spell_column_rule Any
 unfolding column_rule_at
 column_rule_exact kinds =
     then_exact spell_constraint Any MayConstraint spell_column_rule Any MayNulls (λ y. y.constraint) (λ y after. spell_rule y.rule after)
-    (λ y after w. refl) (λ y w. tt) (λ y after w may. rule_not_constraint y.rule after) kinds _ _ (constraint_exact kinds)
+    (λ y after w. refl) (λ y w. tt) (λ y after w may. rule_not_constraint y.rule after) (λ name w. (record { constraint = name; rule = rule.Null }, tt, refl)) kinds _ _ (constraint_exact kinds)
     (λ name others w e le. then_exact spell_rule Any MayNulls (λ y after. spell_rule y.rule after) (λ y. Any y × (y.constraint ≡ name)) MayNulls (λ y. y.rule) (λ y after. after)
-    (λ y after w. refl) (λ y w. tt) (λ y after w may. may) others _ _ (rule_exact others)
+    (λ y after w. refl) (λ y w. tt) (λ y after w may. may) (λ r w. (record { constraint = name; rule = r }, (tt, refl), refl)) others _ _ (rule_exact others)
     (λ r rest w e le. done_exact (λ y. (Any y × (y.constraint ≡ name)) × (y.rule ≡ r)) MayNulls (record { constraint = name; rule = r }) rest ((tt, refl), refl) (λ y h. column_rule_of y name r h.0.1 h.1)))
 
 -- ---- lists with a first item
@@ -425,9 +427,9 @@ rules_exact (suc n) kinds le = by (ends_column kinds) refl (rules_exact n)
     by false e others =
         narrow_exact spell_rules Any IsCons MayEnd kinds (column_rule_at kinds >>= λ r. rules_at n r.1 >>= λ rs. Ok (r.0 ∷ rs.0, rs.1)) (λ left y after w may agree. some_where_goes kinds e left y after may agree) (λ y w. tt)
         (then_exact spell_column_rule Any MayNulls spell_rules IsCons MayEnd (head_or no_rule) (λ y after. spell_rules (tail_of y) after)
-        (λ y after w. rules_is y after w) (λ y w. tt) (λ y after w may. rules_not_nulls (tail_of y) after may) kinds _ _ (column_rule_exact kinds)
+        (λ y after w. rules_is y after w) (λ y w. tt) (λ y after w may. rules_not_nulls (tail_of y) after may) (λ r w. (r ∷ [], tt, refl)) kinds _ _ (column_rule_exact kinds)
         (λ r rest w at le'. then_exact spell_rules Any MayEnd (λ y after. spell_rules (tail_of y) after) (λ y. IsCons y × (head_or no_rule y ≡ r)) MayEnd tail_of (λ y after. after)
-        (λ y after w. refl) (λ y w. tt) (λ y after w may. may) rest _ _
+        (λ y after w. refl) (λ y w. tt) (λ y after w may. may) (λ rs w. (r ∷ rs, (tt, refl), refl)) rest _ _
         (others rest (let n : length kinds ≡ length (spell_column_rule r rest) = ap length at in let lt : length rest < length (spell_column_rule r rest) = longer_by r.constraint r.rule rest in omega arith))
         (λ rs last w at le'. done_exact (λ y. (IsCons y × (head_or no_rule y ≡ r)) × (tail_of y ≡ rs)) MayEnd (r ∷ rs) last ((tt, refl), refl) (λ y h. cons_of no_rule y r rs h.0.0 h.0.1 h.1))))
 
@@ -487,9 +489,9 @@ module _ {A : Type 0} (d : A) (item : List TokenKind → Reading A) (spell : A �
       (λ y w. cons_or_not y) (λ y after w is. more_is y after is) (λ y after w is may. λ rest e. may.0 rest (sym (ap (λ z. spell_more spell z after) is) ∙ e))
       kinds _ _
       (λ rest at. then_exact spell Whole May (λ y after. spell (head_or d y) (spell_more spell (tail_of y) after)) (λ y. EachIs Whole y × IsCons y) MayMore (head_or d) (λ y after. spell_more spell (tail_of y) after)
-      (λ y after w. refl) (λ y w. head_whole y w.0 w.1) (λ y after w may. may_item (head_or d y) (tail_of y) after may) rest _ _ (exact rest)
+      (λ y after w. refl) (λ y w. head_whole y w.0 w.1) (λ y after w may. may_item (head_or d y) (tail_of y) after may) (λ x w. (x ∷ [], ((w, tt), tt), refl)) rest _ _ (exact rest)
       (λ x last w e le'. then_exact (spell_more spell) (EachIs Whole) MayMore (λ y after. spell_more spell (tail_of y) after) (λ y. (EachIs Whole y × IsCons y) × (head_or d y ≡ x)) MayMore tail_of (λ y after. after)
-      (λ y after w. refl) (λ y w. tail_whole y w.0.0) (λ y after w may. may) last _ _ (more_exact n last (let n : length kinds ≡ suc (length rest) = ap length at in omega arith))
+      (λ y after w. refl) (λ y w. tail_whole y w.0.0) (λ y after w may. may) (λ xs ws. (x ∷ xs, (((w, ws), tt), refl), refl)) last _ _ (more_exact n last (let n : length kinds ≡ suc (length rest) = ap length at in omega arith))
       (λ xs end ws e le''. done_exact (λ y. ((EachIs Whole y × IsCons y) × (head_or d y ≡ x)) × (tail_of y ≡ xs)) MayMore (x ∷ xs) end ((((w, ws), tt), refl), refl) (λ y h. cons_of d y x xs h.0.0.1 h.0.1 h.1))))
       (empty_exact (spell_more spell) (λ y. EachIs Whole y × (y ≡ [])) MayMore [] kinds (λ after. refl) (tt, refl) (λ y w. w.1))
 
@@ -497,9 +499,9 @@ module _ {A : Type 0} (d : A) (item : List TokenKind → Reading A) (spell : A �
   unfolding list_at
   list_exact kinds =
       then_exact spell Whole May (listed m.Comma spell) (λ y. EachIs Whole y × IsCons y) MayMore (head_or d) (λ y after. spell_more spell (tail_of y) after)
-      (λ y after w. listed_is y after w.1) (λ y w. head_whole y w.0 w.1) (λ y after w may. may_item (head_or d y) (tail_of y) after may) kinds _ _ (exact kinds)
+      (λ y after w. listed_is y after w.1) (λ y w. head_whole y w.0 w.1) (λ y after w may. may_item (head_or d y) (tail_of y) after may) (λ x w. (x ∷ [], ((w, tt), tt), refl)) kinds _ _ (exact kinds)
       (λ x rest w e le. then_exact (spell_more spell) (EachIs Whole) MayMore (λ y after. spell_more spell (tail_of y) after) (λ y. (EachIs Whole y × IsCons y) × (head_or d y ≡ x)) MayMore tail_of (λ y after. after)
-      (λ y after w. refl) (λ y w. tail_whole y w.0.0) (λ y after w may. may) rest _ _ (more_exact (length kinds) rest le)
+      (λ y after w. refl) (λ y w. tail_whole y w.0.0) (λ y after w may. may) (λ xs ws. (x ∷ xs, (((w, ws), tt), refl), refl)) rest _ _ (more_exact (length kinds) rest le)
       (λ xs end ws e le''. done_exact (λ y. ((EachIs Whole y × IsCons y) × (head_or d y ≡ x)) × (tail_of y ≡ xs)) MayMore (x ∷ xs) end ((((w, ws), tt), refl), refl) (λ y h. cons_of d y x xs h.0.0.1 h.0.1 h.1)))
 
 -- ---- a column
@@ -513,11 +515,11 @@ pub column_exact : (kinds : List TokenKind) → Exact spell_column Any MayEnd ki
 unfolding column_at
 column_exact kinds =
     then_exact spell_name Any Ever spell_column Any MayEnd (λ y. y.name) (λ y after. spell_name y.kind (spell_rules y.rules after))
-    (λ y after w. refl) (λ y w. tt) (λ y after w may. tt) kinds _ _ (name_exact kinds)
+    (λ y after w. refl) (λ y w. tt) (λ y after w may. tt) (λ name w. (record { name = name; kind = name; rules = [] }, tt, refl)) kinds _ _ (name_exact kinds)
     (λ name others w e le. then_exact spell_name Any Ever (λ y after. spell_name y.kind (spell_rules y.rules after)) (λ y. Any y × (y.name ≡ name)) MayEnd (λ y. y.kind) (λ y after. spell_rules y.rules after)
-    (λ y after w. refl) (λ y w. tt) (λ y after w may. tt) others _ _ (name_exact others)
+    (λ y after w. refl) (λ y w. tt) (λ y after w may. tt) (λ kind w. (record { name = name; kind = kind; rules = [] }, (tt, refl), refl)) others _ _ (name_exact others)
     (λ kind more w e le. then_exact spell_rules Any MayEnd (λ y after. spell_rules y.rules after) (λ y. (Any y × (y.name ≡ name)) × (y.kind ≡ kind)) MayEnd (λ y. y.rules) (λ y after. after)
-    (λ y after w. refl) (λ y w. tt) (λ y after w may. may) more _ _ (rules_exact (length more) more (omega arith))
+    (λ y after w. refl) (λ y w. tt) (λ y after w may. may) (λ rules w. (record { name = name; kind = kind; rules = rules }, ((tt, refl), refl), refl)) more _ _ (rules_exact (length more) more (omega arith))
     (λ rules rest w e le. done_exact (λ y. ((Any y × (y.name ≡ name)) × (y.kind ≡ kind)) × (y.rules ≡ rules)) MayEnd (record { name = name; kind = kind; rules = rules }) rest (((tt, refl), refl), refl)
     (λ y h. column_of y name kind rules h.0.0.1 h.0.1 h.1))))
 
@@ -548,20 +550,27 @@ bracket_not_comma after = λ rest e. cc
 abbrev spell_names : KeyTree → List TokenKind → List TokenKind
 spell_names y after = listed m.Comma spell_name y.columns (k.Mark m.RightBracket ∷ after)
 
+a_name : List Name
+a_name = Unquoted [] ∷ []
+
+has_a_name : a_name ≢ []
+unfolding a_name
+has_a_name = λ e. cc
+
 pub key_exact : (kinds : List TokenKind) → Exact spell_key HasNames Ever kinds (key_at kinds)
 unfolding key_at expect
 key_exact kinds =
     then_exact spell_constraint Any MayConstraint spell_key HasNames Ever (λ y. y.constraint) (λ y after. spell_words y.words (k.Mark m.LeftBracket ∷ spell_names y after))
-    (λ y after w. refl) (λ y w. tt) (λ y after w may. (words_not y.words (k.Mark m.LeftBracket ∷ spell_names y after)).2) kinds _ _ (constraint_exact kinds)
+    (λ y after w. refl) (λ y w. tt) (λ y after w may. (words_not y.words (k.Mark m.LeftBracket ∷ spell_names y after)).2) (λ name w. (record { constraint = name; words = Primary; columns = a_name }, has_a_name, refl)) kinds _ _ (constraint_exact kinds)
     (λ name others w e le. then_exact spell_words Any MayNulls (λ y after. spell_words y.words (k.Mark m.LeftBracket ∷ spell_names y after)) (λ y. HasNames y × (y.constraint ≡ name)) Ever (λ y. y.words) (λ y after. k.Mark m.LeftBracket ∷ spell_names y after)
-    (λ y after w. refl) (λ y w. tt) (λ y after w may. bracket_not_nulls (spell_names y after)) others _ _ (words_exact others)
+    (λ y after w. refl) (λ y w. tt) (λ y after w may. bracket_not_nulls (spell_names y after)) (λ words w. (record { constraint = name; words = words; columns = a_name }, (has_a_name, refl), refl)) others _ _ (words_exact others)
     (λ words more w e le. expect_exact (k.Mark m.LeftBracket) (eat m.LeftBracket) (eats_mark m.LeftBracket) (λ y after. k.Mark m.LeftBracket ∷ spell_names y after) (λ y. (HasNames y × (y.constraint ≡ name)) × (y.words ≡ words)) Ever spell_names
-    (λ y after w. refl) more _
+    (λ y after w. refl) (record { constraint = name; words = words; columns = a_name }, ((has_a_name, refl), refl)) more _
     (λ bracket. then_exact (listed m.Comma spell_name) (λ y. EachIs Any y × IsCons y) MayNames spell_names (λ y. (HasNames y × (y.constraint ≡ name)) × (y.words ≡ words)) Ever (λ y. y.columns) (λ y after. k.Mark m.RightBracket ∷ after)
-    (λ y after w. refl) (λ y w. (any_each y.columns, cons_from y.columns w.0.0)) (λ y after w may. (bracket_not_comma after, λ x. tt)) bracket _ _
+    (λ y after w. refl) (λ y w. (any_each y.columns, cons_from y.columns w.0.0)) (λ y after w may. (bracket_not_comma after, λ x. tt)) (λ columns w. (record { constraint = name; words = words; columns = columns }, ((some_from columns w.1, refl), refl), refl)) bracket _ _
     (list_exact (Unquoted []) name_at spell_name Any Ever name_exact (λ y after. tt) bracket)
     (λ columns last some e le. expect_exact (k.Mark m.RightBracket) (eat m.RightBracket) (eats_mark m.RightBracket) (λ y after. k.Mark m.RightBracket ∷ after) (λ y. ((HasNames y × (y.constraint ≡ name)) × (y.words ≡ words)) × (y.columns ≡ columns)) Ever (λ y after. after)
-    (λ y after w. refl) last _
+    (λ y after w. refl) (record { constraint = name; words = words; columns = columns }, (((some_from columns some.1, refl), refl), refl)) last _
     (λ rest. done_exact (λ y. ((HasNames y × (y.constraint ≡ name)) × (y.words ≡ words)) × (y.columns ≡ columns)) Ever (record { constraint = name; words = words; columns = columns }) rest
     (((some_from columns some.1, refl), refl), refl) (λ y h. key_is y name words columns h.0.0.1 h.0.1 h.1))))))
 
@@ -648,12 +657,12 @@ element_exact kinds = by (begins_key kinds) refl
     by true e =
         narrow_exact spell_element HasColumns (λ y. HasColumns y × IsKey y) MayEnd kinds (key_at kinds >>= λ key. Ok (Key key.0, key.1)) (λ left y after w may agree. (w, key_where_begins kinds e left y after agree)) (λ y w. w.0)
         (then_exact spell_key HasNames Ever spell_element (λ y. HasColumns y × IsKey y) MayEnd key_in (λ y after. after)
-        (λ y after w. key_element_is y after w.1) (λ y w. key_whole y w.0 w.1) (λ y after w may. tt) kinds _ _ (key_exact kinds)
+        (λ y after w. key_element_is y after w.1) (λ y w. key_whole y w.0 w.1) (λ y after w may. tt) (λ key w. (Key key, (w, tt), refl)) kinds _ _ (key_exact kinds)
         (λ key rest some e le. done_exact (λ y. (HasColumns y × IsKey y) × (key_in y ≡ key)) MayEnd (Key key) rest ((some, tt), refl) (λ y h. key_element_of y key h.0.1 h.1)))
     by false e =
         narrow_exact spell_element HasColumns (λ y. HasColumns y × IsColumn y) MayEnd kinds (column_at kinds >>= λ column. Ok (Column column.0, column.1)) (λ left y after w may agree. (w, column_where_not kinds e left y after agree)) (λ y w. w.0)
         (then_exact spell_column Any MayEnd spell_element (λ y. HasColumns y × IsColumn y) MayEnd column_in (λ y after. after)
-        (λ y after w. column_element_is y after w.1) (λ y w. tt) (λ y after w may. may) kinds _ _ (column_exact kinds)
+        (λ y after w. column_element_is y after w.1) (λ y w. tt) (λ y after w may. may) (λ column w. (Column column, (tt, tt), refl)) kinds _ _ (column_exact kinds)
         (λ column rest w e le. done_exact (λ y. (HasColumns y × IsColumn y) × (column_in y ≡ column)) MayEnd (Column column) rest ((tt, tt), refl) (λ y h. column_element_of y column h.0.1 h.1)))
 
 -- ---- a table
@@ -680,22 +689,29 @@ table_of y name elements e f = ap (λ x. let z : TableTree = record { name = x; 
 abbrev spell_elements : TableTree → List TokenKind → List TokenKind
 spell_elements y after = listed m.Comma spell_element y.elements (k.Mark m.RightBracket ∷ after)
 
+some_elements : List ElementTree
+some_elements = Column no_column ∷ []
+
+a_table : (name : Name) → IsTable (record { name = name; elements = some_elements })
+unfolding some_elements
+a_table name = record { some = λ e. cc; each = all_from_each (Column no_column ∷ []) (tt, tt) }
+
 pub table_exact : (kinds : List TokenKind) → Exact spell_table IsTable Ever kinds (table_at kinds)
 unfolding table_at expect
 table_exact kinds =
-    expect_exact (k.Mark m.Create) (eat m.Create) (eats_mark m.Create) spell_table IsTable Ever (λ y after. k.Mark m.Table ∷ token_of y.name ∷ k.Mark m.LeftBracket ∷ spell_elements y after) (λ y after w. refl) kinds _
+    expect_exact (k.Mark m.Create) (eat m.Create) (eats_mark m.Create) spell_table IsTable Ever (λ y after. k.Mark m.Table ∷ token_of y.name ∷ k.Mark m.LeftBracket ∷ spell_elements y after) (λ y after w. refl) (record { name = Unquoted []; elements = some_elements }, a_table (Unquoted [])) kinds _
     (λ create. expect_exact (k.Mark m.Table) (eat m.Table) (eats_mark m.Table) (λ y after. k.Mark m.Table ∷ token_of y.name ∷ k.Mark m.LeftBracket ∷ spell_elements y after) IsTable Ever (λ y after. spell_name y.name (k.Mark m.LeftBracket ∷ spell_elements y after))
-    (λ y after w. refl) create _
+    (λ y after w. refl) (record { name = Unquoted []; elements = some_elements }, a_table (Unquoted [])) create _
     (λ word. then_exact spell_name Any Ever (λ y after. spell_name y.name (k.Mark m.LeftBracket ∷ spell_elements y after)) IsTable Ever (λ y. y.name) (λ y after. k.Mark m.LeftBracket ∷ spell_elements y after)
-    (λ y after w. refl) (λ y w. tt) (λ y after w may. tt) word _ _ (name_exact word)
+    (λ y after w. refl) (λ y w. tt) (λ y after w may. tt) (λ name w. (record { name = name; elements = some_elements }, a_table name, refl)) word _ _ (name_exact word)
     (λ name others w e le. expect_exact (k.Mark m.LeftBracket) (eat m.LeftBracket) (eats_mark m.LeftBracket) (λ y after. k.Mark m.LeftBracket ∷ spell_elements y after) (λ y. IsTable y × (y.name ≡ name)) Ever spell_elements
-    (λ y after w. refl) others _
+    (λ y after w. refl) (record { name = name; elements = some_elements }, (a_table name, refl)) others _
     (λ bracket. then_exact (listed m.Comma spell_element) (λ y. EachIs HasColumns y × IsCons y) (MayMore (Column no_column) element_at spell_element HasColumns MayEnd element_exact comma_ends)
     spell_elements (λ y. IsTable y × (y.name ≡ name)) Ever (λ y. y.elements) (λ y after. k.Mark m.RightBracket ∷ after)
-    (λ y after w. refl) (λ y w. (each_from_all y.elements w.0.each, cons_from y.elements w.0.some)) (λ y after w may. (bracket_not_comma after, λ x. bracket_ends after)) bracket _ _
+    (λ y after w. refl) (λ y w. (each_from_all y.elements w.0.each, cons_from y.elements w.0.some)) (λ y after w may. (bracket_not_comma after, λ x. bracket_ends after)) (λ elements w. (record { name = name; elements = elements }, (record { some = some_from elements w.1; each = all_from_each elements w.0 }, refl), refl)) bracket _ _
     (list_exact (Column no_column) element_at spell_element HasColumns MayEnd element_exact comma_ends bracket)
     (λ elements last some e le. expect_exact (k.Mark m.RightBracket) (eat m.RightBracket) (eats_mark m.RightBracket) (λ y after. k.Mark m.RightBracket ∷ after) (λ y. (IsTable y × (y.name ≡ name)) × (y.elements ≡ elements)) Ever (λ y after. after)
-    (λ y after w. refl) last _
+    (λ y after w. refl) (record { name = name; elements = elements }, ((record { some = some_from elements some.1; each = all_from_each elements some.0 }, refl), refl)) last _
     (λ rest. done_exact (λ y. (IsTable y × (y.name ≡ name)) × (y.elements ≡ elements)) Ever (record { name = name; elements = elements }) rest
     ((record { some = some_from elements some.1; each = all_from_each elements some.0 }, refl), refl) (λ y h. table_of y name elements h.0.1 h.1)))))))
 
@@ -719,7 +735,7 @@ stop_exact [] =
     (empty_exact spell_stop (λ y. y ≡ false) MayStop false [] (λ after. refl) refl (λ y e. e))
 stop_exact (x ∷ kinds) =
     narrow_exact spell_stop Any (λ y. y ≡ true) MayStop (x ∷ kinds) (expect m.Semicolon (x ∷ kinds) >>= λ rest. Ok (true, rest)) (λ left y after w may agree. a_stop left y after x kinds may agree) (λ y e. tt)
-    (expect_exact (k.Mark m.Semicolon) (eat m.Semicolon) (eats_mark m.Semicolon) spell_stop (λ y. y ≡ true) MayStop (λ y after. after) (λ y after w. ap (λ z. spell_stop z after) w) (x ∷ kinds) _
+    (expect_exact (k.Mark m.Semicolon) (eat m.Semicolon) (eats_mark m.Semicolon) spell_stop (λ y. y ≡ true) MayStop (λ y after. after) (λ y after w. ap (λ z. spell_stop z after) w) (true, refl) (x ∷ kinds) _
     (λ rest. done_exact (λ y. y ≡ true) MayStop true rest refl (λ y e. e)))
 
 -- ---- a statement
@@ -740,7 +756,7 @@ pub statement_exact : (kinds : List TokenKind) → Exact spell_statement WholeSt
 unfolding statement_at
 statement_exact kinds =
     then_exact spell_table IsTable Ever spell_statement WholeStatement MayStatement (λ y. y.0) (λ y after. spell_stop y.1 after)
-    (λ y after w. refl) (λ y w. w) (λ y after w may. tt) kinds _ _ (table_exact kinds)
+    (λ y after w. refl) (λ y w. w) (λ y after w may. tt) (λ table w. ((table, false), w, refl)) kinds _ _ (table_exact kinds)
     (λ table others whole e le. then_exact spell_stop Any MayStop (λ y after. spell_stop y.1 after) (λ y. WholeStatement y × (y.0 ≡ table)) MayStatement (λ y. y.1) (λ y after. after)
-    (λ y after w. refl) (λ y w. tt) (λ y after w may. may) others _ _ (stop_exact others)
+    (λ y after w. refl) (λ y w. tt) (λ y after w may. may) (λ stop w. ((table, stop), (whole, refl), refl)) others _ _ (stop_exact others)
     (λ stop rest w e le. done_exact (λ y. (WholeStatement y × (y.0 ≡ table)) × (y.1 ≡ stop)) MayStatement (table, stop) rest ((whole, refl), refl) (λ y h. statement_of y table stop h.0.1 h.1)))

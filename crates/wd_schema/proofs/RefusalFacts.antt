@@ -19,10 +19,10 @@ use Rattle.wd_schema.proofs.MeetsFacts.{all_from_test, test_from_all}
 abbrev pub Judges : TableTree → Type 0 → Option Refusal → Type 0
 Judges table F found = MatchOption found F (λ r. Keeps r.error table → ⊥)
 
-pub judge_at : (table : TableTree) (error : SchemaError) (place : Option Place) (found : Option Refusal) → (found ≡ None → place ≡ None) → IfSome found (λ r. (place ≢ None) × (r.error ≡ error)) → IfNone place (Keeps error table) → IfSome place (λ _. Keeps error table → ⊥) → Judges table (Keeps error table) found
-judge_at table error place None none some is isnt = subst (λ p. IfNone p (Keeps error table)) (none refl) is
-judge_at table error None (Some r) none some is isnt = absurd (some.0 refl)
-judge_at table error (Some p) (Some r) none some is isnt = λ keeps. isnt (subst (λ e. Keeps e table) some.1 keeps)
+pub judge_at : (table : TableTree) (F : Type 0) (error : SchemaError) (place : Option Place) (found : Option Refusal) → (found ≡ None → place ≡ None) → IfSome found (λ r. (place ≢ None) × (r.error ≡ error)) → IfNone place F → IfSome place (λ _. Keeps error table → ⊥) → Judges table F found
+judge_at table F error place None none some is isnt = subst (λ p. IfNone p F) (none refl) is
+judge_at table F error None (Some r) none some is isnt = absurd (some.0 refl)
+judge_at table F error (Some p) (Some r) none some is isnt = λ keeps. isnt (subst (λ e. Keeps e table) some.1 keeps)
 
 pub judge_both : (table : TableTree) (F G : Type 0) (one other found : Option Refusal) → Judges table F one → Judges table G other → MatchOption found ((one ≡ None) × (other ≡ None)) (λ r. (one ≡ Some r) ⊎ (other ≡ Some r)) → Judges table (F × G) found
 judge_both table F G one other None first second is = (subst (Judges table F) is.0 first, subst (Judges table G) is.1 second)

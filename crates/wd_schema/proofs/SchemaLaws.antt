@@ -1,8 +1,8 @@
 -- Token lists and the schemas that they spell.
-use Rattle.std.proofs.Common.{◌≡◌, ◌≢◌, ◌∙◌, ℕ, zero, suc, ◌+◌, ◌-◌, ◌<◌, ◌≤◌, sym, ap, subst, List, [], ◌∷◌, ◌++◌, length, Bool, true, false, Option, Some, None, Ok, Err, refl, arith, take}
+use Rattle.std.proofs.Common.{inl, inr, ◌≡◌, ◌≢◌, ◌∙◌, ℕ, zero, suc, ◌+◌, ◌-◌, ◌<◌, ◌≤◌, sym, ap, subst, List, [], ◌∷◌, ◌++◌, length, Bool, true, false, Option, Some, None, Ok, Err, refl, arith, take}
 use Rattle.std.specs.Prelude.{⊤, ◌==◌}
-use Rattle.std.proofs.lemmas.Bool.{true≢false}
-use Rattle.std.proofs.lemmas.List.Elements.{All-head, All-tail}
+use Rattle.std.proofs.lemmas.Bool.{cases_order, true≢false}
+use Rattle.std.proofs.lemmas.List.Elements.{All-head, All-push, All-tail}
 use Rattle.std.specs.List.{All}
 use Rattle.wd_lex.specs.Lexed.{kinds_of}
 use Rattle.wd_lex.specs.declared.token.Token.{Token}
@@ -16,9 +16,11 @@ use Rattle.wd_schema.specs.declared.syntax.Name.{Name}
 use Rattle.wd_schema.specs.declared.syntax.Nulls.TheVariants.{Unsaid, Distinct, NotDistinct}
 use Rattle.wd_schema.specs.Grammar.{IsEnd, IsSchema, IsTable, listed, spell_constraint, spell_element, spell_key, spell_name, spell_rule, spell_rules, spell_schema, spell_stop, spell_table, spell_tables, spell_words}
 use Rattle.wd_schema.specs.Reading.{Reading, ◌>>=◌, some_or, eat, expect, statement_at, stop_at, table_at}
+use Rattle.wd_schema.specs.Laws.{HasOnePlace}
 use Rattle.wd_schema.specs.Texts.{IsUnexpected}
 use Rattle.wd_schema.specs.Written.{ElementTree, Column, Key, SchemaTree, TableTree}
-use Rattle.wd_schema.proofs.Exactness.{Agree, Exact, IsRead, IsRefused}
+use Rattle.wd_schema.proofs.Exactness.{Agree, Before, Exact, IsRead, IsRefused}
+use Rattle.wd_schema.proofs.ReaderFacts.{push-some, tables-push}
 use Rattle.wd_schema.proofs.GrammarExact.{MayStatement, WholeStatement, longer_by, spell_statement, statement_exact}
 
 -- ---- lists that agree
@@ -50,6 +52,14 @@ agree_at place left [] (y ∷ ys) sum e = absurd (cons_nil y (take place ys) (sy
 agree_at zero left (x ∷ xs) (y ∷ ys) sum e = (head_same x y [] [] e, λ le. absurd (omega arith))
 agree_at (suc place) left (x ∷ xs) (y ∷ ys) sum e =
     (head_same x y (take (suc place) xs) (take (suc place) ys) e, λ le. agree_at place left xs ys (omega arith) (tail_same x y (take (suc place) xs) (take (suc place) ys) e))
+
+-- the same before a place
+before_at : (place left : ℕ) (xs ys : List TokenKind) → place + left ≡ length ys → Before left xs ys → take place xs ≡ take place ys
+before_at zero left xs ys sum before = refl
+before_at (suc place) left xs [] sum before = absurd (omega arith)
+before_at (suc place) left [] (y ∷ ys) sum before = absurd (before (omega arith))
+before_at (suc place) left (x ∷ xs) (y ∷ ys) sum before =
+    let both = before (omega arith) in ap (λ z. z ∷ take place xs) both.0 ∙ ap (λ zs. y ∷ zs) (before_at place left xs ys (omega arith) both.1)
 
 -- ---- one statement
 
@@ -228,13 +238,15 @@ read_longer kinds x after e = rw (read_is kinds x after e).spelled (statement_lo
 
 -- ---- how far the tokens are those of a schema
 
--- Each schema that is spelled like the tokens, past those read so far, goes on as a schema.
-pub record IsSettled (kinds rest : List TokenKind) : Type 0 where
+-- Tables have been read. Each schema that is spelled like the tokens, past those read so far, goes on as a schema; what goes
+-- on behind the tables like the tokens that are left is like the tokens from the first on.
+pub record IsSettled (kinds : List TokenKind) (tables : List TableTree) (ended : Bool) (rest : List TokenKind) : Type 0 where
   pub shorter : length rest ≤ length kinds
   pub goes : (left : ℕ) (tree : SchemaTree) → IsSchema tree → left ≤ length rest → Agree left (spell_schema tree) kinds → (next : SchemaTree) × IsSchema next × Agree left (spell_schema next) rest
+  pub carries : (left : ℕ) (after : List TokenKind) → Before left after rest → Before left (spell_tables tables (spell_stop ended after)) kinds
 
-pub settled_first : (kinds : List TokenKind) → IsSettled kinds kinds
-settled_first kinds = record { shorter = omega arith; goes = λ left tree whole le agree. (tree, whole, agree) }
+pub settled_first : (kinds : List TokenKind) → IsSettled kinds [] false kinds
+settled_first kinds = record { shorter = omega arith; goes = λ left tree whole le agree. (tree, whole, agree); carries = λ left after before. before }
 
 nothing_left : (left : ℕ) (rest : List TokenKind) → rest ≢ [] → Agree left [] rest → ⊥
 nothing_left left [] some agree = some refl
@@ -248,13 +260,24 @@ settled_step left (t ∷ ts) ended rest x after some whole e le agree =
     (subst (λ ks. Agree left ks rest) (first_is t ts ended) agree) in
     (schema_of ts (next_ended ts ended), next_whole t ts ended whole.tables, both.1)
 
-pub settled_more : (kinds rest : List TokenKind) (x : TableTree × Bool) (after : List TokenKind) → rest ≢ [] → statement_at rest ≡ Ok (x, after) → IsSettled kinds rest → IsSettled kinds after
-settled_more kinds rest x after some e settled = record {
+-- a semicolon stands behind the tables, or there are none
+abbrev pub MayGoOn : List TableTree → Bool → List TokenKind → Type 0
+MayGoOn tables ended rest = (tables ≢ [] → ended ≡ false → rest ≡ []) × (tables ≡ [] → ended ≡ false)
+
+-- a further statement behind the tables
+push_is : (tables : List TableTree) (ended : Bool) (rest : List TokenKind) (x : TableTree × Bool) (after : List TokenKind) → rest ≢ [] → MayGoOn tables ended rest → spell_tables tables (spell_stop ended (spell_statement x after)) ≡ spell_tables (tables ++ x.0 ∷ []) (spell_stop x.1 after)
+push_is tables ended rest x after some may =
+    tables-push tables x.0 ended (spell_statement x after) (spell_stop x.1 after) (λ others none. absurd (some (may.0 others none))) may.1 refl
+
+pub settled_more : (kinds : List TokenKind) (tables : List TableTree) (ended : Bool) (rest : List TokenKind) (x : TableTree × Bool) (after : List TokenKind) → rest ≢ [] → MayGoOn tables ended rest → statement_at rest ≡ Ok (x, after) → IsSettled kinds tables ended rest → IsSettled kinds (tables ++ x.0 ∷ []) x.1 after
+settled_more kinds tables ended rest x after some may e settled = record {
   shorter = let lt : length after < length rest = read_longer rest x after e in omega (arith, settled.shorter);
   goes = λ left tree whole le agree.
       let lt : length after < length rest = read_longer rest x after e in
       let next = settled.goes left tree whole (omega arith) agree in
       settled_step left next.0.tables next.0.ended rest x after some next.1 e le next.2;
+  carries = λ left others before.
+      subst (λ ks. Before left ks kinds) (push_is tables ended rest x others some may) (settled.carries left (spell_statement x others) ((read_is rest x after e).carries left others before));
 }
 
 refused_step : (left : ℕ) (tables : List TableTree) (ended : Bool) (rest : List TokenKind) → rest ≢ [] → IsSchema (schema_of tables ended) → IsRefused spell_statement WholeStatement MayStatement rest left → Agree left (spell_schema (schema_of tables ended)) rest → ⊥
@@ -262,16 +285,41 @@ refused_step left [] ended rest some whole refused agree = nothing_left left res
 refused_step left (t ∷ ts) ended rest some whole refused agree =
     refused.none (t, first_stop ts ended) (spell_schema (schema_of ts (next_ended ts ended))) (All-head IsTable t ts whole.tables) (first_may t ts ended) (subst (λ ks. Agree left ks rest) (first_is t ts ended) agree)
 
-pub settled_stops : (kinds rest : List TokenKind) (left : ℕ) → rest ≢ [] → statement_at rest ≡ Err left → IsSettled kinds rest → IsUnexpected kinds (length kinds - left)
-settled_stops kinds rest left some e settled =
+pub settled_stops : (kinds : List TokenKind) (tables : List TableTree) (ended : Bool) (rest : List TokenKind) (left : ℕ) → rest ≢ [] → MayGoOn tables ended rest → All IsTable tables → statement_at rest ≡ Err left → IsSettled kinds tables ended rest → IsUnexpected kinds (length kinds - left)
+settled_stops kinds tables ended rest left some may each e settled =
     let refused : IsRefused spell_statement WholeStatement MayStatement rest left = subst (Exact spell_statement WholeStatement MayStatement rest) e (statement_exact rest) in
     let within : left ≤ length kinds = omega (arith, refused.within, settled.shorter) in
+    let near = refused.near.0 in
+    let tree : SchemaTree = schema_of (tables ++ near.0 ∷ []) near.1 in
+    let whole : IsSchema tree = record { tables = All-push IsTable tables near.0 each refused.near.1; ended = λ h. absurd (push-some tables near.0 h) } in
+    let before : Before left (spell_schema tree) kinds = subst (λ ks. Before left ks kinds) (push_is tables ended rest near [] some may) (settled.carries left (spell_statement near []) (refused.near.2 [])) in
     record {
       within = omega arith;
-      none = λ tree whole same.
-          let next = settled.goes left tree whole refused.within (agree_at (length kinds - left) left (spell_schema tree) kinds (omega arith) same) in
+      before = (tree, whole, before_at (length kinds - left) left (spell_schema tree) kinds (omega arith) before);
+      none = λ other is same.
+          let next = settled.goes left other is refused.within (agree_at (length kinds - left) left (spell_schema other) kinds (omega arith) same) in
           refused_step left next.0.tables next.0.ended rest some next.1 refused next.2;
     }
+
+-- ---- no schema goes on at one place alone
+
+take_take : (n m : ℕ) (xs : List TokenKind) → n ≤ m → take n (take m xs) ≡ take n xs
+take_take zero m xs le = refl
+take_take (suc n) zero xs le = absurd (omega arith)
+take_take (suc n) (suc m) [] le = refl
+take_take (suc n) (suc m) (x ∷ xs) le = ap (λ zs. x ∷ zs) (take_take n m xs (omega arith))
+
+none_later : (kinds : List TokenKind) (p q : ℕ) → p < q → IsUnexpected kinds p → IsUnexpected kinds q → ⊥
+none_later kinds p q lt first second =
+    let tree = second.before.0 in
+    first.none tree second.before.1 (sym (take_take (suc p) q (spell_schema tree) lt) ∙ ap (take (suc p)) second.before.2 ∙ take_take (suc p) q kinds lt)
+
+pub one_place : HasOnePlace
+one_place kinds p q first second = elim (cases_order p q) [
+  | inl e ↦ e
+  | inr (inl lt) ↦ absurd (none_later kinds p q lt first second)
+  | inr (inr lt) ↦ absurd (none_later kinds q p lt second first)
+]
 
 pub kinds_some : (tokens : List Token) → (length tokens == 0) ≡ false → kinds_of tokens ≢ []
 kinds_some [] h = absurd (true≢false h)

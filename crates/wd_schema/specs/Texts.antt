@@ -24,9 +24,11 @@ pub record Declares (text : List ℕ) (schema : Schema) : Type 0 where
   pub tables : schema_of schema ≡ map table_declared tree.tables
   pub names : names_of schema ≡ map (λ table. name_text table.name) tree.tables
 
--- no schema goes on with the token of that number behind those before it, or ends there, where it is the number of tokens
+-- The first place where no schema goes on: some schema has the tokens before it, and none has the token there behind them,
+-- or ends there, where it is the number of tokens.
 pub record IsUnexpected (kinds : List TokenKind) (place : ℕ) : Type 0 where
   pub within : place ≤ length kinds
+  pub before : (tree : SchemaTree) × IsSchema tree × (take place (spell_schema tree) ≡ take place kinds)
   pub none : (tree : SchemaTree) → IsSchema tree → take (suc place) (spell_schema tree) ≢ take (suc place) kinds
 
 -- the first statements of the text are tables that do not keep what the refusal is about

@@ -380,13 +380,16 @@ fn place_of_column(elements: &[Element], number: usize) -> Place {
     }
 }
 
-/// 302: the first column with the name of an earlier one.
+/// 302: the first column with the name of an earlier one, up to the one that is too many.
 fn column_twice(columns: &[Text], elements: &[Element]) -> Option<Place>
-    ensures differ { IfNone result (AllPairs (λ a b. a ≢ b) columns.now) }
+    ensures differ { IfNone result (length columns.now ≤ 256 → AllPairs (λ a b. a ≢ b) columns.now) }
     ensures twice { IfSome result (λ _. AllPairs (λ a b. a ≢ b) columns.now → ⊥) }
 {
-    let number = first_repeat(columns)?;
-    Some(place_of_column(elements, number))
+    let first = &columns[..columns.len().min(MOST_COLUMNS + 1)];
+    match first_repeat(first) {
+        Some(number) => Some(place_of_column(elements, number)),
+        None => None,
+    }
 }
 
 /// A refusal, and where its cause stands.

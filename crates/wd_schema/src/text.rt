@@ -19,9 +19,10 @@ use wd_lex::{LexError, lex};
 /// The most tables of a schema.
 const MOST_TABLES: usize = 64;
 
-/// The schema that a text declares.
+/// The schema that a text declares: its tables in order of declaration.
 ///
-/// The first refusal in the text is answered; 309 of a statement comes before its others.
+/// The first refusal in the text is answered; 309 of a statement comes before its others. A statement's names are compared
+/// one with another, so the time goes at most with the square of their number, in a text of at most 65,536 bytes.
 pub fn read_schema(alloc: Global, text: &[u8]) -> Result<Schema, SchemaError>
     // The schema is the one that the text's tokens spell.
     ensures schema { IfOk result (Declares text.now) }

@@ -1,11 +1,11 @@
-use Rattle.std.proofs.Common.{◌≡◌, ◌≢◌, ◌∙◌, ◌<◌, sym, ap, [], ◌∷◌, ◌++◌, List, map, length, arith}
+use Rattle.std.proofs.Common.{◌≡◌, ◌≢◌, ◌∙◌, ◌<◌, sym, ap, subst, [], ◌∷◌, ◌++◌, List, map, length, arith}
 use Rattle.std.proofs.lemmas.List.{length-map, map_push}
 use Rattle.std.proofs.lemmas.List.Elements.{All-push, All-same}
 use Rattle.wd_lex.specs.Lexed.{kinds_of}
 use Rattle.wd_schema.specs.Grammar.{IsTable, spell_tables, spell_stop}
 use Rattle.wd_schema.specs.Written.{TableTree, table_tree}
 use Rattle.wd_schema.proofs.ReaderFacts.{tables-push, push-some}
-use Rattle.wd_schema.proofs.SchemaLaws.{kinds_some, read_is, read_last, read_longer, settled_more, settled_stops}
+use Rattle.wd_schema.proofs.SchemaLaws.{IsSettled, kinds_some, read_is, read_last, read_longer, settled_more, settled_stops}
 use Rattle.wd_schema.proofs.reader.read_statements.Goals as goal
 
 pub loop-rest-smaller : goal.loop-rest-smaller
@@ -31,11 +31,12 @@ loop-rest-preserved c =
           ∙ ap (λ xs. spell_tables xs (spell_stop ended rest)) (sym items);
       over = λ _ e. read_last kinds (table, ended) rest c.in-Ok.ensures e;
       fresh = λ e. absurd (push-some before table (sym items ∙ e));
-      settled = settled_more (kinds_of c.args.tokens.now) kinds (table, ended) rest some c.in-Ok.ensures c.loop-rest.invariant.settled;
+      settled = subst (λ xs. IsSettled (kinds_of c.args.tokens.now) xs ended rest) (sym items)
+          (settled_more (kinds_of c.args.tokens.now) before c.loop-rest.ended kinds (table, ended) rest some (c.loop-rest.invariant.over, c.loop-rest.invariant.fresh) c.in-Ok.ensures c.loop-rest.invariant.settled);
     }
 
 pub returns-in-Err-Unexpected-clause-unexpected : goal.returns-in-Err-Unexpected-clause-unexpected
 returns-in-Err-Unexpected-clause-unexpected c =
     let kinds = kinds_of c.loop-rest.rest.now in
     let some : kinds ≢ [] = kinds_some c.loop-rest.rest.now (sym c.is_empty.ensures ∙ c.loop-rest-test.true) in
-    rw (c.place_of.ensures, c.in-Err-Unexpected.left-is) (settled_stops (kinds_of c.args.tokens.now) kinds c.in-Err-Unexpected.left some (rw c.in-Err-Unexpected.field-0-is at c.in-Err-Unexpected.ensures) c.loop-rest.invariant.settled)
+    rw (c.place_of.ensures, c.in-Err-Unexpected.left-is) (settled_stops (kinds_of c.args.tokens.now) (map table_tree c.loop-rest.tables.items) c.loop-rest.ended kinds c.in-Err-Unexpected.left some (c.loop-rest.invariant.over, c.loop-rest.invariant.fresh) c.loop-rest.invariant.each (rw c.in-Err-Unexpected.field-0-is at c.in-Err-Unexpected.ensures) c.loop-rest.invariant.settled)

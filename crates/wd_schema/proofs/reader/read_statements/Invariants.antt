@@ -12,7 +12,7 @@ invariant-loop-rest l = record {
   spelled : kinds_of l.fn.tokens ≡ spell_tables (map table_tree l.tables.items) (spell_stop l.ended (kinds_of l.rest));
   over : map table_tree l.tables.items ≢ [] → l.ended ≡ false → kinds_of l.rest ≡ [];
   fresh : map table_tree l.tables.items ≡ [] → l.ended ≡ false;
-  settled : IsSettled (kinds_of l.fn.tokens) (kinds_of l.rest);
+  settled : IsSettled (kinds_of l.fn.tokens) (map table_tree l.tables.items) l.ended (kinds_of l.rest);
 }
 
 abbrev pub decreases-loop-rest : goal.decreases-loop-rest

@@ -1,0 +1,53 @@
+-- What a whole reading says of the trees that the tokens spell.
+use Rattle.std.proofs.Common.{◌≡◌, ℕ, ◌≤◌, List, [], Result, Ok, Err, refl, sym, ap, subst, ◌∙◌, arith}
+use Rattle.std.specs.Prelude.{IfOk, IfErr}
+use Rattle.wd_syntax.specs.declared.query.Query.{Query}
+use Rattle.wd_syntax.specs.Tokens.{Kinds}
+use Rattle.wd_syntax.specs.Tree.{QueryTree}
+use Rattle.wd_syntax.specs.View.{view_query}
+use Rattle.wd_syntax.specs.Spelling.{spell}
+use Rattle.wd_syntax.specs.Limits.{KeepsLimits}
+use Rattle.wd_syntax.specs.Laws.{IsTreeOf}
+use Rattle.wd_syntax.specs.Reading.{Fault, whole, Limit as PastLimits, Unexpected as NoTree}
+use Rattle.wd_syntax.proofs.SoundPieces.{Holds}
+use Rattle.wd_syntax.proofs.SoundQuery.{IsQuery, whole_holds}
+use Rattle.wd_syntax.proofs.CompleteQuery.{Answers as Reads, whole_answers}
+use Rattle.wd_parse.specs.declared.error.ParseError.{ParseError}
+use Rattle.wd_parse.specs.declared.error.ParseError.TheVariants.{Unexpected, PastLimit, OutOfMemory}
+use Rattle.wd_parse.specs.Causes.{Answers, HasCause, GivesTree, IsPastLimit}
+
+-- what is read is a query of the tokens
+read_is : (ts : Kinds) (q : QueryTree) → whole 200 32 ts ≡ Ok q → IsQuery 200 32 ts q
+read_is ts q e = subst (Holds (IsQuery 200 32 ts)) e (whole_holds 200 32 ts (omega arith))
+
+-- the tree of the tokens is read, or passes a limit
+tree_reads : (ts : Kinds) (tree : QueryTree) → IsTreeOf ts tree → (r : Result QueryTree Fault) → whole 200 32 ts ≡ r → Reads 200 32 tree r
+tree_reads ts tree t r e = subst (Reads 200 32 tree) (ap (whole 200 32) t.1 ∙ e) (whole_answers 200 32 tree t.0)
+
+pub tree_is : (ts : Kinds) (r : Result Query ParseError) → Answers r ts → IfOk r (λ query. IsTreeOf ts (view_query query))
+tree_is ts (Ok query) a = let h = read_is ts (view_query query) a in (h.0, h.1)
+tree_is ts (Err e) a = tt
+
+pub limits_kept : (ts : Kinds) (r : Result Query ParseError) → Answers r ts → IfOk r (λ query. KeepsLimits (view_query query))
+limits_kept ts (Ok query) a = (read_is ts (view_query query) a).2
+limits_kept ts (Err e) a = tt
+
+pub cause_is : (ts : Kinds) (r : Result Query ParseError) → Answers r ts → IfErr r (λ refusal. HasCause refusal ts)
+cause_is ts (Ok query) a = tt
+cause_is ts (Err (Unexpected place)) a = λ tree t. tree_reads ts tree t (Err NoTree) a
+cause_is ts (Err (PastLimit place)) a = λ tree t. tree_reads ts tree t (Err PastLimits) a
+cause_is ts (Err OutOfMemory) a = tt
+
+pub tree_given : (ts : Kinds) (r : Result Query ParseError) → Answers r ts → (tree : QueryTree) → IsTreeOf ts tree → KeepsLimits tree → GivesTree tree r
+tree_given ts (Ok query) a tree t k = tree_reads ts tree t (Ok (view_query query)) a
+tree_given ts (Err (Unexpected place)) a tree t k = tree_reads ts tree t (Err NoTree) a
+tree_given ts (Err (PastLimit place)) a tree t k = tree_reads ts tree t (Err PastLimits) a k
+tree_given ts (Err OutOfMemory) a tree t k = tt
+
+pub past_limit : (ts : Kinds) (r : Result Query ParseError) → Answers r ts → (tree : QueryTree) → IsTreeOf ts tree → (KeepsLimits tree → ⊥) → IsPastLimit r
+past_limit ts (Ok query) a tree t k =
+    let same : view_query query ≡ tree = tree_reads ts tree t (Ok (view_query query)) a in
+    k (subst KeepsLimits same (read_is ts (view_query query) a).2)
+past_limit ts (Err (Unexpected place)) a tree t k = tree_reads ts tree t (Err NoTree) a
+past_limit ts (Err (PastLimit place)) a tree t k = tt
+past_limit ts (Err OutOfMemory) a tree t k = tt

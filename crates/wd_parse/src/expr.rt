@@ -1,0 +1,585 @@
+//! Expressions and windows.
+//!
+//! A height says how loosely an expression binds: 0 a primary expression, 1 a sign, 2 `* / %`, 3 `+ -`, 4 a comparison,
+//! 5 a test for NULL, 6 NOT, 7 AND, 8 OR.
+
+ghost use Rattle.std.specs.Prelude.{◌≡◌, ◌≤◌, ◌-◌, map};
+ghost use Rattle.wd_lex.specs.Lexed.{kinds_of};
+ghost use Rattle.wd_lex.specs.declared.token.Mark.TheVariants as m;
+ghost use Rattle.wd_syntax.specs.Tree.{Tree, trees_of, arms_of, keys_of, window};
+ghost use Rattle.wd_syntax.specs.View.{view, view_arm, view_key, view_window, view_over_option, view_else_option};
+ghost use Rattle.wd_syntax.specs.Reading.{read, levels, deeper_of, links, compared, tests, null_at, primary, primary_by_mark, named_at, bracket_at, call_of, call_at, arguments_at, over_at, list_at, case_at, arm_at, else_at, key_at, partition_at, order_at, base_at, window_at};
+ghost use Rattle.wd_parse.specs.Given.{Gives, MayRead, MakesDeeper, IsLoopHeight, view_arguments};
+
+use crate::error::Refusal;
+use crate::frame::{direction_at, frame_at, nulls_at};
+use crate::tokens::{eat, eat_name, expect, name_at, operator_at, sign_at};
+use std::alloc::Global;
+use wd_lex::{Mark, Token, TokenKind};
+use wd_syntax::{Arm, Expr, Frame, Literal, Name, Over, SortKey, Window};
+
+/// The most operators of one chain.
+const MAX_OPERATORS: u32 = 200;
+
+/// The height of a whole expression.
+pub const WHOLE: u8 = 8;
+
+/// One level fewer, if one is left for the first of the `left` last tokens to open.
+#[tactic(auto, unfolding(wd_syntax::specs::Reading::deeper_of))]
+pub fn deeper(depth: u8, left: usize) -> Result<u8, Refusal>
+    ensures { MakesDeeper result depth }
+{
+    if depth == 0 {
+        return Err(Refusal::PastLimit { left });
+    }
+    Ok(depth - 1)
+}
+
+/// An expression no looser than the height.
+#[tactic(auto, unfolding(wd_syntax::specs::Reading::levels), using(crate::proofs::Loops::read_chain))]
+#[cycle(expr)]
+pub fn at(
+    alloc: Global,
+    height: u8,
+    depth: u8,
+    tokens: &[Token],
+) -> Result<(Box<Expr>, &[Token]), Refusal>
+    requires { height ≤ 8 }
+    ensures { Gives (λ x. (view x.0.value, kinds_of x.1.now)) result (read 200 depth height (kinds_of tokens.now)) }
+{
+    match height {
+        0 => primary(alloc, depth, tokens),
+        1 => signed(alloc, depth, tokens),
+        4 => comparison(alloc, depth, tokens),
+        5 => tested(alloc, depth, tokens),
+        6 => negated(alloc, depth, tokens),
+        _ => chain(alloc, height, depth, tokens),
+    }
+}
+
+/// A chain of operators of that height.
+#[tactic(auto, using(crate::proofs::Loops::read_chain))]
+#[cycle(expr)]
+fn chain(
+    alloc: Global,
+    height: u8,
+    depth: u8,
+    tokens: &[Token],
+) -> Result<(Box<Expr>, &[Token]), Refusal>
+    requires { IsLoopHeight height }
+    ensures { Gives (λ x. (view x.0.value, kinds_of x.1.now)) result (read 200 depth height (kinds_of tokens.now)) }
+{
+    let (first, rest) = at(alloc, height - 1, depth, tokens)?;
+    links(alloc, height, depth, first, rest)
+}
+
+/// What follows the first operand of a chain.
+#[tactic(auto, unfolding(wd_syntax::specs::Reading::links))]
+#[cycle(expr)]
+fn links(
+    alloc: Global,
+    height: u8,
+    depth: u8,
+    first: Box<Expr>,
+    tokens: &[Token],
+) -> Result<(Box<Expr>, &[Token]), Refusal>
+    requires { IsLoopHeight height }
+    ensures { Gives (λ x. (view x.0.value, kinds_of x.1.now)) result (links (read 200 depth (height - 1)) height 200 (view first.value) (kinds_of tokens.now)) }
+{
+    let mut left = first;
+    let mut rest = tokens;
+    for _ in 0..MAX_OPERATORS {
+        let Some((operator, after)) = operator_at(rest, height) else {
+            return Ok((left, rest));
+        };
+        let (right, after) = at(alloc, height - 1, depth, after)?;
+        left = Box::new(alloc, Expr::Binary(operator, left, right))?;
+        rest = after;
+    }
+    match operator_at(rest, height) {
+        Some(_) => Err(Refusal::PastLimit { left: rest.len() }),
+        None => Ok((left, rest)),
+    }
+}
+
+/// One comparison at most.
+#[tactic(auto, unfolding(wd_syntax::specs::Reading::levels, wd_syntax::specs::Reading::compared))]
+#[cycle(expr)]
+fn comparison(alloc: Global, depth: u8, tokens: &[Token]) -> Result<(Box<Expr>, &[Token]), Refusal>
+    ensures { Gives (λ x. (view x.0.value, kinds_of x.1.now)) result (read 200 depth 4 (kinds_of tokens.now)) }
+{
+    let (left, rest) = at(alloc, 3, depth, tokens)?;
+    match operator_at(rest, 4) {
+        Some((operator, rest)) => {
+            let (right, rest) = at(alloc, 3, depth, rest)?;
+            Ok((Box::new(alloc, Expr::Binary(operator, left, right))?, rest))
+        }
+        None => Ok((left, rest)),
+    }
+}
+
+#[tactic(auto, unfolding(wd_syntax::specs::Reading::levels))]
+#[cycle(expr)]
+fn tested(alloc: Global, depth: u8, tokens: &[Token]) -> Result<(Box<Expr>, &[Token]), Refusal>
+    ensures { Gives (λ x. (view x.0.value, kinds_of x.1.now)) result (read 200 depth 5 (kinds_of tokens.now)) }
+{
+    let (operand, rest) = at(alloc, 4, depth, tokens)?;
+    tests(alloc, operand, rest)
+}
+
+/// `[NOT] NULL`: whether NOT is written.
+#[tactic(auto, unfolding(wd_syntax::specs::Reading::null_at))]
+fn null_at(tokens: &[Token]) -> Result<(bool, &[Token]), Refusal>
+    ensures { Gives (λ x. (x.0, kinds_of x.1.now)) result (null_at (kinds_of tokens.now)) }
+{
+    match eat(tokens, Mark::Not) {
+        Some(rest) => Ok((true, expect(rest, Mark::Null)?)),
+        None => Ok((false, expect(tokens, Mark::Null)?)),
+    }
+}
+
+/// Tests for NULL.
+#[tactic(auto, unfolding(wd_syntax::specs::Reading::tests))]
+fn tests(
+    alloc: Global,
+    operand: Box<Expr>,
+    tokens: &[Token],
+) -> Result<(Box<Expr>, &[Token]), Refusal>
+    ensures { Gives (λ x. (view x.0.value, kinds_of x.1.now)) result (tests 200 (view operand.value) (kinds_of tokens.now)) }
+{
+    let mut tested = operand;
+    let mut rest = tokens;
+    for _ in 0..MAX_OPERATORS {
+        let Some(after) = eat(rest, Mark::Is) else {
+            return Ok((tested, rest));
+        };
+        let (not, after) = null_at(after)?;
+        tested = Box::new(alloc, Expr::IsNull(tested, not))?;
+        rest = after;
+    }
+    match eat(rest, Mark::Is) {
+        Some(_) => Err(Refusal::PastLimit { left: rest.len() }),
+        None => Ok((tested, rest)),
+    }
+}
+
+#[tactic(auto, unfolding(wd_syntax::specs::Reading::levels))]
+#[cycle(expr)]
+fn negated(alloc: Global, depth: u8, tokens: &[Token]) -> Result<(Box<Expr>, &[Token]), Refusal>
+    ensures { Gives (λ x. (view x.0.value, kinds_of x.1.now)) result (read 200 depth 6 (kinds_of tokens.now)) }
+{
+    match eat(tokens, Mark::Not) {
+        Some(rest) => {
+            let inside = deeper(depth, tokens.len())?;
+            let (operand, rest) = at(alloc, 6, inside, rest)?;
+            Ok((Box::new(alloc, Expr::Not(operand))?, rest))
+        }
+        None => at(alloc, 5, depth, tokens),
+    }
+}
+
+#[tactic(auto, unfolding(wd_syntax::specs::Reading::levels))]
+#[cycle(expr)]
+fn signed(alloc: Global, depth: u8, tokens: &[Token]) -> Result<(Box<Expr>, &[Token]), Refusal>
+    ensures { Gives (λ x. (view x.0.value, kinds_of x.1.now)) result (read 200 depth 1 (kinds_of tokens.now)) }
+{
+    match sign_at(tokens) {
+        Some((sign, rest)) => {
+            let inside = deeper(depth, tokens.len())?;
+            let (operand, rest) = at(alloc, 1, inside, rest)?;
+            Ok((Box::new(alloc, Expr::Signed(sign, operand))?, rest))
+        }
+        None => at(alloc, 0, depth, tokens),
+    }
+}
+
+#[tactic(auto, unfolding(wd_syntax::specs::Reading::primary))]
+#[cycle(expr)]
+fn primary(alloc: Global, depth: u8, tokens: &[Token]) -> Result<(Box<Expr>, &[Token]), Refusal>
+    ensures { Gives (λ x. (view x.0.value, kinds_of x.1.now)) result (primary (deeper_of 200 depth) (kinds_of tokens.now)) }
+{
+    let [first, rest @ ..] = tokens else {
+        return Err(Refusal::Unexpected { left: 0 });
+    };
+    match &first.kind {
+        TokenKind::Number(number) => {
+            let literal = Literal::Number(*number);
+            Ok((Box::new(alloc, Expr::Literal(literal))?, rest))
+        }
+        TokenKind::Literal(text) => {
+            let literal = Literal::Text(text.copy(alloc)?);
+            Ok((Box::new(alloc, Expr::Literal(literal))?, rest))
+        }
+        TokenKind::Word(text) => {
+            let text = text.copy(alloc)?;
+            named(
+                alloc,
+                depth,
+                Name {
+                    text,
+                    quoted: false,
+                },
+                rest,
+            )
+        }
+        TokenKind::Quoted(text) => {
+            let text = text.copy(alloc)?;
+            named(alloc, depth, Name { text, quoted: true }, rest)
+        }
+        TokenKind::Mark(mark) => marked(alloc, depth, *mark, rest),
+    }
+}
+
+/// A primary expression that begins with a mark, after the mark.
+#[cycle(expr)]
+fn marked(
+    alloc: Global,
+    depth: u8,
+    mark: Mark,
+    rest: &[Token],
+) -> Result<(Box<Expr>, &[Token]), Refusal>
+    ensures { Gives (λ x. (view x.0.value, kinds_of x.1.now)) result (primary_by_mark (deeper_of 200 depth) mark (kinds_of rest.now)) }
+{
+    match mark {
+        Mark::True => Ok((Box::new(alloc, Expr::Literal(Literal::Truth(true)))?, rest)),
+        Mark::False => Ok((Box::new(alloc, Expr::Literal(Literal::Truth(false)))?, rest)),
+        Mark::Null => Ok((Box::new(alloc, Expr::Literal(Literal::Null))?, rest)),
+        Mark::LeftBracket => {
+            let inside = deeper(depth, rest.len() + 1)?;
+            bracket(alloc, inside, rest)
+        }
+        Mark::Case => {
+            let inside = deeper(depth, rest.len() + 1)?;
+            case(alloc, inside, rest)
+        }
+        _ => Err(Refusal::Unexpected {
+            left: rest.len() + 1,
+        }),
+    }
+}
+
+/// After an opening bracket.
+#[tactic(auto, unfolding(wd_syntax::specs::Reading::bracket_at))]
+#[cycle(expr)]
+fn bracket(alloc: Global, depth: u8, tokens: &[Token]) -> Result<(Box<Expr>, &[Token]), Refusal>
+    ensures { Gives (λ x. (view x.0.value, kinds_of x.1.now)) result (bracket_at (read 200 depth 8) (kinds_of tokens.now)) }
+{
+    let (inside, rest) = at(alloc, WHOLE, depth, tokens)?;
+    let rest = expect(rest, Mark::RightBracket)?;
+    Ok((Box::new(alloc, Expr::Bracket(inside))?, rest))
+}
+
+/// A name, and what may follow it.
+#[tactic(auto, unfolding(wd_syntax::specs::Reading::named_at))]
+#[cycle(expr)]
+fn named(
+    alloc: Global,
+    depth: u8,
+    name: Name,
+    tokens: &[Token],
+) -> Result<(Box<Expr>, &[Token]), Refusal>
+    ensures { Gives (λ x. (view x.0.value, kinds_of x.1.now)) result (named_at (deeper_of 200 depth) name (kinds_of tokens.now)) }
+{
+    if let Some(rest) = eat(tokens, Mark::Dot) {
+        let (column, rest) = name_at(alloc, rest)?;
+        return Ok((Box::new(alloc, Expr::Qualified(name, column))?, rest));
+    }
+    match eat(tokens, Mark::LeftBracket) {
+        Some(rest) => call(alloc, depth, name, rest),
+        None => Ok((Box::new(alloc, Expr::Column(name))?, tokens)),
+    }
+}
+
+// A Vec inside the tree is a row there: these say once what it holds.
+fn call_of(name: Name, arguments: Option<Vec<Expr>>, over: Option<Box<Over>>) -> Expr
+    ensures { view result ≡ call_of name (view_arguments arguments) (view_over_option over) }
+{
+    match arguments {
+        Some(arguments) => Expr::Call(name, arguments, over),
+        None => Expr::CallAll(name, over),
+    }
+}
+
+fn case_of(arms: Vec<Arm>, other: Option<Box<Expr>>) -> Expr
+    ensures { view result ≡ Tree.Case (arms_of (map view_arm arms.items)) (view_else_option other) }
+{
+    Expr::Case(arms, other)
+}
+
+fn window_of(
+    base: Option<Name>,
+    partition: Vec<Expr>,
+    order: Vec<SortKey>,
+    frame: Option<Frame>,
+) -> Window
+    ensures { view_window result ≡ window base (trees_of (map view partition.items)) (keys_of (map view_key order.items)) frame }
+{
+    Window {
+        base,
+        partition,
+        order,
+        frame,
+    }
+}
+
+/// A call, after its opening bracket.
+#[tactic(auto, unfolding(wd_syntax::specs::Reading::call_at))]
+#[cycle(expr)]
+fn call(
+    alloc: Global,
+    depth: u8,
+    name: Name,
+    tokens: &[Token],
+) -> Result<(Box<Expr>, &[Token]), Refusal>
+    ensures { Gives (λ x. (view x.0.value, kinds_of x.1.now)) result (call_at (deeper_of 200 depth) name (kinds_of tokens.now)) }
+{
+    let inside = deeper(depth, tokens.len() + 1)?;
+    let (arguments, rest) = arguments(alloc, inside, tokens)?;
+    let (over, rest) = over(alloc, depth, rest)?;
+    Ok((Box::new(alloc, call_of(name, arguments, over))?, rest))
+}
+
+/// `* )`, where it gives `None`, or `[expr {, expr}] )`.
+#[tactic(auto, unfolding(wd_syntax::specs::Reading::arguments_at))]
+#[cycle(expr)]
+fn arguments(
+    alloc: Global,
+    depth: u8,
+    tokens: &[Token],
+) -> Result<(Option<Vec<Expr>>, &[Token]), Refusal>
+    ensures { Gives (λ x. (view_arguments x.0, kinds_of x.1.now)) result (arguments_at (read 200 depth 8) (kinds_of tokens.now)) }
+{
+    if let Some(rest) = eat(tokens, Mark::Star) {
+        let rest = expect(rest, Mark::RightBracket)?;
+        return Ok((None, rest));
+    }
+    if let Some(rest) = eat(tokens, Mark::RightBracket) {
+        return Ok((Some(Vec::new(alloc)), rest));
+    }
+    let (arguments, rest) = list(alloc, depth, tokens)?;
+    let rest = expect(rest, Mark::RightBracket)?;
+    Ok((Some(arguments), rest))
+}
+
+/// `[OVER (name | ( .. ))]`
+#[tactic(auto, unfolding(wd_syntax::specs::Reading::over_at))]
+#[cycle(expr)]
+fn over(
+    alloc: Global,
+    depth: u8,
+    tokens: &[Token],
+) -> Result<(Option<Box<Over>>, &[Token]), Refusal>
+    ensures { Gives (λ x. (view_over_option x.0, kinds_of x.1.now)) result (over_at (deeper_of 200 depth) (kinds_of tokens.now)) }
+{
+    let Some(rest) = eat(tokens, Mark::Over) else {
+        return Ok((None, tokens));
+    };
+    match eat(rest, Mark::LeftBracket) {
+        Some(after) => {
+            let inside = deeper(depth, rest.len())?;
+            let (window, after) = window(alloc, inside, after)?;
+            Ok((Some(Box::new(alloc, Over::Window(window))?), after))
+        }
+        None => {
+            let (name, rest) = name_at(alloc, rest)?;
+            Ok((Some(Box::new(alloc, Over::Name(name))?), rest))
+        }
+    }
+}
+
+/// `expr {, expr}`
+#[tactic(auto, unfolding(wd_syntax::specs::Reading::list_at))]
+#[cycle(expr)]
+fn list(alloc: Global, depth: u8, tokens: &[Token]) -> Result<(Vec<Expr>, &[Token]), Refusal>
+    ensures { Gives (λ x. (map view x.0.items, kinds_of x.1.now)) result (list_at m.Comma (read 200 depth 8) (kinds_of tokens.now)) }
+{
+    let (first, mut rest) = at(alloc, WHOLE, depth, tokens)?;
+    let mut items = Vec::new(alloc);
+    items.push(Box::into_inner(first))?;
+    for _ in 0..rest.len() {
+        let Some(after) = eat(rest, Mark::Comma) else {
+            return Ok((items, rest));
+        };
+        let (item, after) = at(alloc, WHOLE, depth, after)?;
+        items.push(Box::into_inner(item))?;
+        rest = after;
+    }
+    match eat(rest, Mark::Comma) {
+        Some(_) => Err(Refusal::Unexpected { left: rest.len() }),
+        None => Ok((items, rest)),
+    }
+}
+
+/// `expr THEN expr`
+#[tactic(auto, unfolding(wd_syntax::specs::Reading::arm_at))]
+#[cycle(expr)]
+fn arm(alloc: Global, depth: u8, tokens: &[Token]) -> Result<(Arm, &[Token]), Refusal>
+    ensures { Gives (λ x. (view_arm x.0, kinds_of x.1.now)) result (arm_at (read 200 depth 8) (kinds_of tokens.now)) }
+{
+    let (when, rest) = at(alloc, WHOLE, depth, tokens)?;
+    let rest = expect(rest, Mark::Then)?;
+    let (gives, rest) = at(alloc, WHOLE, depth, rest)?;
+    Ok((
+        Arm {
+            when: Box::into_inner(when),
+            gives: Box::into_inner(gives),
+        },
+        rest,
+    ))
+}
+
+/// `arm {WHEN arm}`
+#[tactic(auto, unfolding(wd_syntax::specs::Reading::list_at))]
+#[cycle(expr)]
+fn arms(alloc: Global, depth: u8, tokens: &[Token]) -> Result<(Vec<Arm>, &[Token]), Refusal>
+    ensures { Gives (λ x. (map view_arm x.0.items, kinds_of x.1.now)) result (list_at m.When (arm_at (read 200 depth 8)) (kinds_of tokens.now)) }
+{
+    let (first, mut rest) = arm(alloc, depth, tokens)?;
+    let mut items = Vec::new(alloc);
+    items.push(first)?;
+    for _ in 0..rest.len() {
+        let Some(after) = eat(rest, Mark::When) else {
+            return Ok((items, rest));
+        };
+        let (item, after) = arm(alloc, depth, after)?;
+        items.push(item)?;
+        rest = after;
+    }
+    match eat(rest, Mark::When) {
+        Some(_) => Err(Refusal::Unexpected { left: rest.len() }),
+        None => Ok((items, rest)),
+    }
+}
+
+/// `[ELSE expr]`
+#[tactic(auto, unfolding(wd_syntax::specs::Reading::else_at))]
+#[cycle(expr)]
+fn otherwise(
+    alloc: Global,
+    depth: u8,
+    tokens: &[Token],
+) -> Result<(Option<Box<Expr>>, &[Token]), Refusal>
+    ensures { Gives (λ x. (view_else_option x.0, kinds_of x.1.now)) result (else_at (read 200 depth 8) (kinds_of tokens.now)) }
+{
+    match eat(tokens, Mark::Else) {
+        Some(rest) => {
+            let (other, rest) = at(alloc, WHOLE, depth, rest)?;
+            Ok((Some(other), rest))
+        }
+        None => Ok((None, tokens)),
+    }
+}
+
+/// After `CASE`.
+#[tactic(auto, unfolding(wd_syntax::specs::Reading::case_at))]
+#[cycle(expr)]
+fn case(alloc: Global, depth: u8, tokens: &[Token]) -> Result<(Box<Expr>, &[Token]), Refusal>
+    ensures { Gives (λ x. (view x.0.value, kinds_of x.1.now)) result (case_at (read 200 depth 8) (kinds_of tokens.now)) }
+{
+    let rest = expect(tokens, Mark::When)?;
+    let (arms, rest) = arms(alloc, depth, rest)?;
+    let (other, rest) = otherwise(alloc, depth, rest)?;
+    let rest = expect(rest, Mark::End)?;
+    Ok((Box::new(alloc, case_of(arms, other))?, rest))
+}
+
+/// `expr [ASC|DESC] [NULLS (FIRST|LAST)]`
+#[tactic(auto, unfolding(wd_syntax::specs::Reading::key_at))]
+#[cycle(expr)]
+fn key(alloc: Global, depth: u8, tokens: &[Token]) -> Result<(SortKey, &[Token]), Refusal>
+    ensures { Gives (λ x. (view_key x.0, kinds_of x.1.now)) result (key_at (read 200 depth 8) (kinds_of tokens.now)) }
+{
+    let (expr, rest) = at(alloc, WHOLE, depth, tokens)?;
+    let (direction, rest) = direction_at(rest);
+    let (nulls, rest) = nulls_at(rest)?;
+    Ok((
+        SortKey {
+            expr: Box::into_inner(expr),
+            direction,
+            nulls,
+        },
+        rest,
+    ))
+}
+
+/// `key {, key}`
+#[tactic(auto, unfolding(wd_syntax::specs::Reading::list_at))]
+#[cycle(expr)]
+fn keys(alloc: Global, depth: u8, tokens: &[Token]) -> Result<(Vec<SortKey>, &[Token]), Refusal>
+    ensures { Gives (λ x. (map view_key x.0.items, kinds_of x.1.now)) result (list_at m.Comma (key_at (read 200 depth 8)) (kinds_of tokens.now)) }
+{
+    let (first, mut rest) = key(alloc, depth, tokens)?;
+    let mut items = Vec::new(alloc);
+    items.push(first)?;
+    for _ in 0..rest.len() {
+        let Some(after) = eat(rest, Mark::Comma) else {
+            return Ok((items, rest));
+        };
+        let (item, after) = key(alloc, depth, after)?;
+        items.push(item)?;
+        rest = after;
+    }
+    match eat(rest, Mark::Comma) {
+        Some(_) => Err(Refusal::Unexpected { left: rest.len() }),
+        None => Ok((items, rest)),
+    }
+}
+
+/// `[ORDER BY key {, key}]`
+#[tactic(auto, unfolding(wd_syntax::specs::Reading::order_at))]
+#[cycle(expr)]
+pub fn order(
+    alloc: Global,
+    depth: u8,
+    tokens: &[Token],
+) -> Result<(Vec<SortKey>, &[Token]), Refusal>
+    ensures { Gives (λ x. (map view_key x.0.items, kinds_of x.1.now)) result (order_at (read 200 depth 8) (kinds_of tokens.now)) }
+{
+    match eat(tokens, Mark::Order) {
+        Some(rest) => {
+            let rest = expect(rest, Mark::By)?;
+            keys(alloc, depth, rest)
+        }
+        None => Ok((Vec::new(alloc), tokens)),
+    }
+}
+
+/// `[PARTITION BY expr {, expr}]`
+#[tactic(auto, unfolding(wd_syntax::specs::Reading::partition_at))]
+#[cycle(expr)]
+fn partition(alloc: Global, depth: u8, tokens: &[Token]) -> Result<(Vec<Expr>, &[Token]), Refusal>
+    ensures { Gives (λ x. (map view x.0.items, kinds_of x.1.now)) result (partition_at (read 200 depth 8) (kinds_of tokens.now)) }
+{
+    match eat(tokens, Mark::Partition) {
+        Some(rest) => {
+            let rest = expect(rest, Mark::By)?;
+            list(alloc, depth, rest)
+        }
+        None => Ok((Vec::new(alloc), tokens)),
+    }
+}
+
+/// `[name]`
+#[tactic(auto, unfolding(wd_syntax::specs::Reading::base_at))]
+fn base_at(alloc: Global, tokens: &[Token]) -> Result<(Option<Name>, &[Token]), Refusal>
+    ensures { MayRead (λ x. (x.0, kinds_of x.1.now)) result (base_at (kinds_of tokens.now)) }
+{
+    match eat_name(alloc, tokens)? {
+        Some((name, rest)) => Ok((Some(name), rest)),
+        None => Ok((None, tokens)),
+    }
+}
+
+/// A window specification, after its opening bracket.
+#[tactic(auto, unfolding(wd_syntax::specs::Reading::window_at))]
+#[cycle(expr)]
+pub fn window(alloc: Global, depth: u8, tokens: &[Token]) -> Result<(Window, &[Token]), Refusal>
+    ensures { Gives (λ x. (view_window x.0, kinds_of x.1.now)) result (window_at (read 200 depth 8) (kinds_of tokens.now)) }
+{
+    let (base, rest) = base_at(alloc, tokens)?;
+    let (partition, rest) = partition(alloc, depth, rest)?;
+    let (order, rest) = order(alloc, depth, rest)?;
+    let (frame, rest) = frame_at(rest)?;
+    let rest = expect(rest, Mark::RightBracket)?;
+    Ok((window_of(base, partition, order, frame), rest))
+}

@@ -1,0 +1,388 @@
+//! Selects.
+
+ghost use Rattle.std.specs.Prelude.{◌≡◌, length, map};
+ghost use Rattle.wd_lex.specs.Lexed.{kinds_of};
+ghost use Rattle.wd_lex.specs.declared.token.Mark.TheVariants as m;
+ghost use Rattle.wd_syntax.specs.Tree.{joins_of, derived, query};
+ghost use Rattle.wd_syntax.specs.View.{view_item, view_option, view_named_window, view_table, view_joined, view_select, view_query};
+ghost use Rattle.wd_syntax.specs.Reading.{read, deeper_of, inside_of, selects, list_at, quantifier_at, given_at, alias_at, star_at, item_at, filter_at, named_window_at, windows_at, table_at, inner_at, join_at, begins_join, from_at, many, if_last, whole};
+ghost use Rattle.wd_parse.specs.Given.{Gives, MayFind, MayGive, view_from};
+
+use crate::error::Refusal;
+use crate::expr;
+use crate::expr::deeper;
+use crate::limits::limits_at;
+use crate::tokens::{eat, eat_name, expect, name_at};
+use std::alloc::Global;
+use wd_lex::{Mark, Token};
+use wd_syntax::{
+    Alias, Expr, From, Item, Joined, Name, NamedWindow, Quantifier, Query, Select, Table,
+};
+
+/// The most levels that are open at once.
+const MAX_LEVELS: u8 = 32;
+
+/// `[ALL|DISTINCT]`
+#[tactic(auto, unfolding(wd_syntax::specs::Reading::quantifier_at))]
+fn quantifier_at(tokens: &[Token]) -> (Option<Quantifier>, &[Token])
+    ensures { quantifier_at (kinds_of tokens.now) ≡ (result.0, kinds_of result.1.now) }
+{
+    if let Some(rest) = eat(tokens, Mark::All) {
+        return (Some(Quantifier::All), rest);
+    }
+    match eat(tokens, Mark::Distinct) {
+        Some(rest) => (Some(Quantifier::Distinct), rest),
+        None => (None, tokens),
+    }
+}
+
+/// `[AS] name`
+#[tactic(auto, unfolding(wd_syntax::specs::Reading::given_at))]
+fn given_at(alloc: Global, tokens: &[Token]) -> Result<(Alias, &[Token]), Refusal>
+    ensures { Gives (λ x. (x.0, kinds_of x.1.now)) result (given_at (kinds_of tokens.now)) }
+{
+    match eat(tokens, Mark::As) {
+        Some(rest) => {
+            let (name, rest) = name_at(alloc, rest)?;
+            Ok((
+                Alias {
+                    with_as: true,
+                    name,
+                },
+                rest,
+            ))
+        }
+        None => {
+            let (name, rest) = name_at(alloc, tokens)?;
+            Ok((
+                Alias {
+                    with_as: false,
+                    name,
+                },
+                rest,
+            ))
+        }
+    }
+}
+
+/// `[[AS] name]`
+#[tactic(auto, unfolding(wd_syntax::specs::Reading::alias_at))]
+fn alias_at(alloc: Global, tokens: &[Token]) -> Result<(Option<Alias>, &[Token]), Refusal>
+    ensures { Gives (λ x. (x.0, kinds_of x.1.now)) result (alias_at (kinds_of tokens.now)) }
+{
+    if let Some(rest) = eat(tokens, Mark::As) {
+        let (name, rest) = name_at(alloc, rest)?;
+        return Ok((
+            Some(Alias {
+                with_as: true,
+                name,
+            }),
+            rest,
+        ));
+    }
+    match eat_name(alloc, tokens)? {
+        Some((name, rest)) => Ok((
+            Some(Alias {
+                with_as: false,
+                name,
+            }),
+            rest,
+        )),
+        None => Ok((None, tokens)),
+    }
+}
+
+/// `name . *`, where it stands first.
+#[tactic(auto, unfolding(wd_syntax::specs::Reading::star_at))]
+fn star_at(alloc: Global, tokens: &[Token]) -> Result<Option<(Name, &[Token])>, Refusal>
+    ensures { MayFind (λ x. (x.0, kinds_of x.1.now)) result (star_at (kinds_of tokens.now)) }
+{
+    let Some((name, rest)) = eat_name(alloc, tokens)? else {
+        return Ok(None);
+    };
+    let Some(rest) = eat(rest, Mark::Dot) else {
+        return Ok(None);
+    };
+    match eat(rest, Mark::Star) {
+        Some(rest) => Ok(Some((name, rest))),
+        None => Ok(None),
+    }
+}
+
+/// A member of a select list.
+#[tactic(auto, unfolding(wd_syntax::specs::Reading::item_at))]
+fn item(alloc: Global, depth: u8, tokens: &[Token]) -> Result<(Item, &[Token]), Refusal>
+    ensures { Gives (λ x. (view_item x.0, kinds_of x.1.now)) result (item_at (read 200 depth 8) (kinds_of tokens.now)) }
+{
+    if let Some(rest) = eat(tokens, Mark::Star) {
+        return Ok((Item::All, rest));
+    }
+    if let Some((name, rest)) = star_at(alloc, tokens)? {
+        return Ok((Item::AllOf(name), rest));
+    }
+    let (expr, rest) = expr::at(alloc, expr::WHOLE, depth, tokens)?;
+    let (alias, rest) = alias_at(alloc, rest)?;
+    Ok((Item::Expr(Box::into_inner(expr), alias), rest))
+}
+
+/// `item {, item}`
+#[tactic(auto, unfolding(wd_syntax::specs::Reading::list_at))]
+fn items(alloc: Global, depth: u8, tokens: &[Token]) -> Result<(Vec<Item>, &[Token]), Refusal>
+    ensures { Gives (λ x. (map view_item x.0.items, kinds_of x.1.now)) result (list_at m.Comma (item_at (read 200 depth 8)) (kinds_of tokens.now)) }
+{
+    let (first, mut rest) = item(alloc, depth, tokens)?;
+    let mut items = Vec::new(alloc);
+    items.push(first)?;
+    for _ in 0..rest.len() {
+        let Some(after) = eat(rest, Mark::Comma) else {
+            return Ok((items, rest));
+        };
+        let (item, after) = item(alloc, depth, after)?;
+        items.push(item)?;
+        rest = after;
+    }
+    match eat(rest, Mark::Comma) {
+        Some(_) => Err(Refusal::Unexpected { left: rest.len() }),
+        None => Ok((items, rest)),
+    }
+}
+
+/// `[WHERE expr]`
+#[tactic(auto, unfolding(wd_syntax::specs::Reading::filter_at))]
+fn filter(alloc: Global, depth: u8, tokens: &[Token]) -> Result<(Option<Expr>, &[Token]), Refusal>
+    ensures { Gives (λ x. (view_option x.0, kinds_of x.1.now)) result (filter_at (read 200 depth 8) (kinds_of tokens.now)) }
+{
+    match eat(tokens, Mark::Where) {
+        Some(rest) => {
+            let (expr, rest) = expr::at(alloc, expr::WHOLE, depth, rest)?;
+            Ok((Some(Box::into_inner(expr)), rest))
+        }
+        None => Ok((None, tokens)),
+    }
+}
+
+/// `name AS ( .. )`
+#[tactic(auto, unfolding(wd_syntax::specs::Reading::named_window_at))]
+fn named_window(
+    alloc: Global,
+    depth: u8,
+    tokens: &[Token],
+) -> Result<(NamedWindow, &[Token]), Refusal>
+    ensures { Gives (λ x. (view_named_window x.0, kinds_of x.1.now)) result (named_window_at (deeper_of 200 depth) (kinds_of tokens.now)) }
+{
+    let (name, rest) = name_at(alloc, tokens)?;
+    let bracket = expect(rest, Mark::As)?;
+    let rest = expect(bracket, Mark::LeftBracket)?;
+    let inside = deeper(depth, bracket.len())?;
+    let (window, rest) = expr::window(alloc, inside, rest)?;
+    Ok((NamedWindow { name, window }, rest))
+}
+
+/// `window {, window}`
+#[tactic(auto, unfolding(wd_syntax::specs::Reading::list_at))]
+fn named_windows(
+    alloc: Global,
+    depth: u8,
+    tokens: &[Token],
+) -> Result<(Vec<NamedWindow>, &[Token]), Refusal>
+    ensures { Gives (λ x. (map view_named_window x.0.items, kinds_of x.1.now)) result (list_at m.Comma (named_window_at (deeper_of 200 depth)) (kinds_of tokens.now)) }
+{
+    let (first, mut rest) = named_window(alloc, depth, tokens)?;
+    let mut items = Vec::new(alloc);
+    items.push(first)?;
+    for _ in 0..rest.len() {
+        let Some(after) = eat(rest, Mark::Comma) else {
+            return Ok((items, rest));
+        };
+        let (item, after) = named_window(alloc, depth, after)?;
+        items.push(item)?;
+        rest = after;
+    }
+    match eat(rest, Mark::Comma) {
+        Some(_) => Err(Refusal::Unexpected { left: rest.len() }),
+        None => Ok((items, rest)),
+    }
+}
+
+/// `[WINDOW window {, window}]`
+#[tactic(auto, unfolding(wd_syntax::specs::Reading::windows_at))]
+fn windows(
+    alloc: Global,
+    depth: u8,
+    tokens: &[Token],
+) -> Result<(Vec<NamedWindow>, &[Token]), Refusal>
+    ensures { Gives (λ x. (map view_named_window x.0.items, kinds_of x.1.now)) result (windows_at (deeper_of 200 depth) (kinds_of tokens.now)) }
+{
+    match eat(tokens, Mark::Window) {
+        Some(rest) => named_windows(alloc, depth, rest),
+        None => Ok((Vec::new(alloc), tokens)),
+    }
+}
+
+// A Vec inside the tree is a row there: this says once what it holds.
+fn derived_of(select: Box<Select>, alias: Alias) -> Table
+    ensures { view_table result ≡ derived (view_select select.value) alias }
+{
+    Table::Derived(select, alias)
+}
+
+/// A table of FROM.
+#[tactic(auto, unfolding(wd_syntax::specs::Reading::table_at))]
+#[cycle(select)]
+fn table(alloc: Global, depth: u8, tokens: &[Token]) -> Result<(Table, &[Token]), Refusal>
+    ensures { Gives (λ x. (view_table x.0, kinds_of x.1.now)) result (table_at (inside_of 200 depth) (kinds_of tokens.now)) }
+{
+    match eat(tokens, Mark::LeftBracket) {
+        Some(rest) => {
+            let inside = deeper(depth, tokens.len())?;
+            let (select, rest) = select(alloc, inside, rest)?;
+            let rest = expect(rest, Mark::RightBracket)?;
+            let (alias, rest) = given_at(alloc, rest)?;
+            Ok((derived_of(select, alias), rest))
+        }
+        None => {
+            let (name, rest) = name_at(alloc, tokens)?;
+            let (alias, rest) = alias_at(alloc, rest)?;
+            Ok((Table::Named(name, alias), rest))
+        }
+    }
+}
+
+/// `table ON expr`, after `JOIN`.
+#[tactic(auto, unfolding(wd_syntax::specs::Reading::inner_at))]
+#[cycle(select)]
+fn inner(
+    alloc: Global,
+    depth: u8,
+    with_inner: bool,
+    tokens: &[Token],
+) -> Result<(Joined, &[Token]), Refusal>
+    ensures { Gives (λ x. (view_joined x.0, kinds_of x.1.now)) result (inner_at (inside_of 200 depth) (read 200 depth 8) with_inner (kinds_of tokens.now)) }
+{
+    let (table, rest) = table(alloc, depth, tokens)?;
+    let rest = expect(rest, Mark::On)?;
+    let (on, rest) = expr::at(alloc, expr::WHOLE, depth, rest)?;
+    Ok((Joined::Inner(with_inner, table, Box::into_inner(on)), rest))
+}
+
+/// A table and how it is joined, if one begins here.
+#[tactic(auto, unfolding(wd_syntax::specs::Reading::join_at))]
+#[cycle(select)]
+fn joined(alloc: Global, depth: u8, tokens: &[Token]) -> Result<Option<(Joined, &[Token])>, Refusal>
+    ensures { MayGive (λ x. (view_joined x.0, kinds_of x.1.now)) result (join_at (inside_of 200 depth) (read 200 depth 8) (kinds_of tokens.now)) }
+{
+    if let Some(rest) = eat(tokens, Mark::Comma) {
+        let (table, rest) = table(alloc, depth, rest)?;
+        return Ok(Some((Joined::Comma(table), rest)));
+    }
+    if let Some(rest) = eat(tokens, Mark::Cross) {
+        let rest = expect(rest, Mark::Join)?;
+        let (table, rest) = table(alloc, depth, rest)?;
+        return Ok(Some((Joined::Cross(table), rest)));
+    }
+    if let Some(rest) = eat(tokens, Mark::Inner) {
+        let rest = expect(rest, Mark::Join)?;
+        let (joined, rest) = inner(alloc, depth, true, rest)?;
+        return Ok(Some((joined, rest)));
+    }
+    match eat(tokens, Mark::Join) {
+        Some(rest) => {
+            let (joined, rest) = inner(alloc, depth, false, rest)?;
+            Ok(Some((joined, rest)))
+        }
+        None => Ok(None),
+    }
+}
+
+#[tactic(auto, unfolding(wd_syntax::specs::Reading::begins_join))]
+fn begins_join(tokens: &[Token]) -> bool
+    ensures { result ≡ begins_join (kinds_of tokens.now) }
+{
+    eat(tokens, Mark::Comma).is_some()
+        || eat(tokens, Mark::Cross).is_some()
+        || eat(tokens, Mark::Inner).is_some()
+        || eat(tokens, Mark::Join).is_some()
+}
+
+/// The tables after the first.
+#[cycle(select)]
+fn joins(alloc: Global, depth: u8, tokens: &[Token]) -> Result<(Vec<Joined>, &[Token]), Refusal>
+    ensures { Gives (λ x. (map view_joined x.0.items, kinds_of x.1.now)) result (many (join_at (inside_of 200 depth) (read 200 depth 8)) (length (kinds_of tokens.now)) (kinds_of tokens.now)) }
+{
+    let mut items = Vec::new(alloc);
+    let mut rest = tokens;
+    for _ in 0..tokens.len() {
+        let Some((item, after)) = joined(alloc, depth, rest)? else {
+            return Ok((items, rest));
+        };
+        items.push(item)?;
+        rest = after;
+    }
+    if begins_join(rest) {
+        return Err(Refusal::Unexpected { left: rest.len() });
+    }
+    Ok((items, rest))
+}
+
+/// After `FROM`.
+#[tactic(auto, unfolding(wd_syntax::specs::Reading::from_at))]
+#[cycle(select)]
+fn from(alloc: Global, depth: u8, tokens: &[Token]) -> Result<(From, &[Token]), Refusal>
+    ensures { Gives (λ x. (view_from x.0, kinds_of x.1.now)) result (from_at (inside_of 200 depth) (read 200 depth 8) (kinds_of tokens.now)) }
+{
+    let (first, rest) = table(alloc, depth, tokens)?;
+    let (joined, rest) = joins(alloc, depth, rest)?;
+    Ok((From { first, joined }, rest))
+}
+
+/// A select, up to its limits.
+#[tactic(auto, unfolding(wd_syntax::specs::Reading::select_at), using(crate::proofs::Loops::selects_at))]
+#[cycle(select)]
+fn select(alloc: Global, depth: u8, tokens: &[Token]) -> Result<(Box<Select>, &[Token]), Refusal>
+    ensures { Gives (λ x. (view_select x.0.value, kinds_of x.1.now)) result (selects 200 depth (kinds_of tokens.now)) }
+{
+    let rest = expect(tokens, Mark::Select)?;
+    let (quantifier, rest) = quantifier_at(rest);
+    let (items, rest) = items(alloc, depth, rest)?;
+    let rest = expect(rest, Mark::From)?;
+    let (from, rest) = from(alloc, depth, rest)?;
+    let (filter, rest) = filter(alloc, depth, rest)?;
+    let (windows, rest) = windows(alloc, depth, rest)?;
+    let (order, rest) = expr::order(alloc, depth, rest)?;
+    let (limits, rest) = limits_at(rest)?;
+    let select = Select {
+        quantifier,
+        items,
+        from,
+        filter,
+        windows,
+        order,
+        limits,
+    };
+    Ok((Box::new(alloc, select)?, rest))
+}
+
+/// The query, if no token is left.
+fn ended(select: Box<Select>, semicolon: bool, rest: &[Token]) -> Result<Query, Refusal>
+    ensures { Gives view_query result (if_last (query (view_select select.value) semicolon) (kinds_of rest.now)) }
+{
+    match rest {
+        [] => Ok(Query {
+            select: Box::into_inner(select),
+            semicolon,
+        }),
+        _ => Err(Refusal::Unexpected { left: rest.len() }),
+    }
+}
+
+/// `select [;]`, and nothing more.
+#[tactic(auto, unfolding(wd_syntax::specs::Reading::whole))]
+pub fn whole(alloc: Global, tokens: &[Token]) -> Result<Query, Refusal>
+    ensures { Gives view_query result (whole 200 32 (kinds_of tokens.now)) }
+{
+    let (select, rest) = select(alloc, MAX_LEVELS, tokens)?;
+    match eat(rest, Mark::Semicolon) {
+        Some(rest) => ended(select, true, rest),
+        None => ended(select, false, rest),
+    }
+}

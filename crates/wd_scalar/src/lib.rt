@@ -1,0 +1,11 @@
+//! The value of an expression over a row.
+#![tactic(auto)]
+
+mod arithmetic;
+mod expression;
+#[cfg(test)]
+mod tests;
+mod truth;
+
+pub use expression::{has_arithmetic, value_of};
+pub use truth::is_true;

@@ -1,0 +1,5 @@
+pub mod Results
+pub mod Filtering
+pub mod Cutting
+pub mod Joining
+pub mod Occurrences

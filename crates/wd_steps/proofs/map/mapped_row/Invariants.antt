@@ -1,0 +1,7 @@
+use Rattle.std.proofs.Common.{take, map}
+use Rattle.wd_plan.specs.Expressions.{expression_of, value_of}
+use Rattle.wd_steps.proofs.Results.{IsGathered}
+use Rattle.wd_steps.proofs.map.mapped_row.Given as goal
+
+abbrev pub invariant-loop-output : goal.invariant-loop-output
+invariant-loop-output l = IsGathered (map (λ e. value_of e l.row) (map expression_of (take l.output-index l.outputs))) l.values.items l.fault

@@ -1,0 +1,4 @@
+pub mod Faults
+pub mod Gathered
+pub mod Joins
+pub mod Repeats

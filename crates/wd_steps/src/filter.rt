@@ -1,0 +1,45 @@
+//! The rows for which a condition is true.
+
+ghost use Rattle.std.specs.Prelude.{◌≡◌, IfOk};
+ghost use Rattle.wd_plan.specs.Expressions.{expression_of};
+ghost use Rattle.wd_plan.specs.Outcomes as spec;
+ghost use Rattle.wd_plan.specs.Outcomes.{outcome_of};
+ghost use Rattle.wd_value.specs.Rows.{rows_of};
+
+use crate::fault::{rows_or_fault, with_value};
+use std::alloc::Global;
+use wd_plan::{Expr, Outcome};
+use wd_scalar::{is_true, value_of};
+use wd_value::{Fault, OutOfMemory, Row, Value};
+
+/// The rows for which the condition is true, in their order, or the least fault among all rows.
+pub fn filter_rows(
+    alloc: Global,
+    condition: &Expr,
+    mut rows: Vec<Row>,
+) -> Result<Outcome, OutOfMemory>
+    ensures { IfOk result (λ o. outcome_of o ≡ spec.filter_outcome (expression_of condition.now) (rows_of rows.items)) }
+{
+    let mut kept = 0;
+    let mut fault = None;
+    for i in 0..rows.len() {
+        let value = value_of(alloc, condition, &rows[i])?;
+        fault = with_value(fault, &value);
+        if passes(&value) {
+            rows.swap(kept, i);
+            kept += 1;
+        }
+    }
+    rows.truncate(kept);
+    Ok(rows_or_fault(rows, fault))
+}
+
+/// Whether a condition is true: not where it is false, NULL or a fault.
+pub(crate) fn passes(value: &Result<Value, Fault>) -> bool
+    ensures { result ≡ spec.passes value.now }
+{
+    match value {
+        Ok(value) => is_true(value),
+        Err(_) => false,
+    }
+}

@@ -1,0 +1,130 @@
+//! Pairs of rows for which a condition is true.
+
+ghost use Rattle.std.specs.Prelude.{◌≡◌, ◌++◌, IfOk, OnOk, Err, true, false, length, nat_lt};
+ghost use Rattle.wd_plan.specs.Expressions.{expression_of};
+ghost use Rattle.wd_plan.specs.Outcomes as spec;
+ghost use Rattle.wd_plan.specs.Outcomes.{outcome_of, join_outcome};
+ghost use Rattle.wd_steps.specs.Joins as joins;
+ghost use Rattle.wd_steps.specs.Joins.{AreKept, condition_of, has_more_rows};
+ghost use Rattle.wd_steps.specs.declared.join.JoinError.TheVariants as error;
+ghost use Rattle.wd_value.specs.Rows.{rows_of};
+
+use crate::fault::with_value;
+use crate::filter::passes;
+use crate::pairs::{all_pairs, joined_row};
+use std::alloc::Global;
+use wd_plan::{Expr, Outcome};
+use wd_scalar::{has_arithmetic, value_of};
+use wd_value::{Fault, OutOfMemory, Row, Value};
+
+/// Why a join gives no outcome.
+#[derive(Clone, Copy, PartialEq, Eq, Debug)]
+pub enum JoinError {
+    /// It has more rows than the caller allows.
+    TooManyRows,
+    OutOfMemory,
+}
+
+impl From<OutOfMemory> for JoinError {
+    ghost from_gives = { λ _ e. e ≡ error.OutOfMemory };
+
+    fn from(_error: OutOfMemory) -> JoinError {
+        JoinError::OutOfMemory
+    }
+}
+
+/// Rows of a join, and the least fault of its condition.
+#[derive(Drop)]
+struct Kept {
+    rows: Vec<Row>,
+    fault: Option<Fault>,
+}
+
+/// All pairs of a left and a right row, the left one outermost, for which the condition is true, or
+/// the least fault among all pairs. Where there are more than `most` rows they are not built.
+pub fn join_rows(
+    alloc: Global,
+    condition: Option<&Expr>,
+    left: &[Row],
+    right: &[Row],
+    most: u64,
+) -> Result<Outcome, JoinError>
+    ensures outcome { IfOk result (λ o. outcome_of o ≡ join_outcome (condition_of condition.entry) (spec.pairs (rows_of left.now) (rows_of right.now))) }
+    ensures within { IfOk result (λ o. has_more_rows most (outcome_of o) ≡ false) }
+    ensures too_many { result ≡ Err error.TooManyRows → has_more_rows most (join_outcome (condition_of condition.entry) (spec.pairs (rows_of left.now) (rows_of right.now))) ≡ true }
+{
+    match condition {
+        None => if has_more_pairs(left, right, most) {
+            Err(JoinError::TooManyRows)
+        } else {
+            Ok(Outcome::Rows(all_pairs(alloc, left, right)?))
+        },
+        Some(condition) => {
+            let kept = pairs_where(alloc, condition, left, right, most)?;
+            outcome_within(kept, most)
+        }
+    }
+}
+
+/// The first rows for which the condition is true, one more than `most` of them, and the least
+/// fault among all pairs. Where no pair can fault, no more of them are looked at than needed.
+fn pairs_where(
+    alloc: Global,
+    condition: &Expr,
+    left: &[Row],
+    right: &[Row],
+    most: u64,
+) -> Result<Kept, OutOfMemory>
+    ensures { IfOk result (λ k. AreKept (expression_of condition.now) most (spec.pairs (rows_of left.now) (rows_of right.now)) (rows_of k.rows.items) k.fault) }
+{
+    let faultless = !has_arithmetic(condition);
+    let mut rows = Vec::new(alloc);
+    let mut fault = None;
+    for first in left {
+        if faultless && rows.len() as u64 > most {
+            return Ok(Kept { rows, fault });
+        }
+        for second in right {
+            let row = joined_row(alloc, first, second)?;
+            let value = value_of(alloc, condition, &row)?;
+            fault = with_value(fault, &value);
+            keep_row(&mut rows, row, passes(&value), most)?;
+        }
+    }
+    Ok(Kept { rows, fault })
+}
+
+/// Adds a row that passes where there are not more than `most` yet.
+fn keep_row(rows: &mut Vec<Row>, row: Row, passes: bool, most: u64) -> Result<(), OutOfMemory>
+    ensures { OnOk result (rows_of rows.new.items ≡ joins.with_row most passes (rows_of rows.old.items) row.items) }
+{
+    if passes && rows.len() as u64 <= most {
+        rows.push(row)?;
+    }
+    Ok(())
+}
+
+/// The fault where there is one, else the rows where there are not more than `most`.
+fn outcome_within(kept: Kept, most: u64) -> Result<Outcome, JoinError>
+    ensures { joins.result_of result ≡ joins.within most (rows_of kept.rows.items) kept.fault }
+{
+    let Kept { rows, fault } = kept;
+    match fault {
+        Some(fault) => Ok(Outcome::Fault(fault)),
+        None => if rows.len() as u64 > most {
+            Err(JoinError::TooManyRows)
+        } else {
+            Ok(Outcome::Rows(rows))
+        },
+    }
+}
+
+/// Whether there are more than `most` pairs.
+fn has_more_pairs(left: &[Row], right: &[Row], most: u64) -> bool
+    ensures { result ≡ nat_lt most (length (spec.pairs (rows_of left.now) (rows_of right.now))) }
+{
+    match left.len().checked_mul(right.len()) {
+        Some(count) => count as u64 > most,
+        None => true,
+    }
+}

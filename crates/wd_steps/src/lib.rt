@@ -1,0 +1,20 @@
+//! The steps of a plan over lists of rows.
+#![tactic(auto)]
+
+mod cut;
+mod distinct;
+mod fault;
+mod filter;
+mod join;
+mod map;
+mod pairs;
+mod peers;
+mod rows;
+#[cfg(test)]
+mod tests;
+
+pub use cut::cut_rows;
+pub use distinct::distinct_rows;
+pub use filter::filter_rows;
+pub use join::{JoinError, join_rows};
+pub use map::map_rows;

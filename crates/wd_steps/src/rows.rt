@@ -1,0 +1,32 @@
+//! Rows at positions.
+
+ghost use Rattle.std.specs.Prelude.{◌≡◌, IfOk};
+ghost use Rattle.wd_value.specs.Rows.{rows_of, row_at, rows_at};
+
+use std::alloc::Global;
+use wd_value::{OutOfMemory, Row, Value, copy_row};
+
+/// Copies of the rows at these positions, in their order.
+pub(crate) fn rows_in(
+    alloc: Global,
+    rows: &[Row],
+    positions: &[u64],
+) -> Result<Vec<Row>, OutOfMemory>
+    ensures { IfOk result (λ v. rows_of v.items ≡ rows_at (rows_of rows.now) positions.now) }
+{
+    let mut picked = Vec::with_capacity(alloc, positions.len())?;
+    for position in positions {
+        picked.push(copy_row(alloc, row_in(rows, *position))?)?;
+    }
+    Ok(picked)
+}
+
+/// The row at a position, and the empty row past the last.
+pub(crate) fn row_in(rows: &[Row], position: u64) -> &[Value]
+    ensures { result.now ≡ row_at (rows_of rows.now) position }
+{
+    match rows.get(position as usize) {
+        Some(row) => row,
+        None => &[],
+    }
+}

@@ -1,0 +1,9 @@
+pub mod Marking
+pub mod Pieces
+pub mod Complete
+pub mod CompleteQuery
+pub mod SoundPieces
+pub mod Sound
+pub mod SoundQuery
+pub mod Unique
+pub mod Rows

@@ -1,0 +1,98 @@
+-- What tokens say: marks, words that are key words in their place, names and literals.
+use Rattle.std.specs.Prelude.{ℕ, codes, Bool, true, false, List, [], ◌∷◌, Option, Some, None, ◌==◌, if◌then◌else◌}
+use Rattle.std.specs.Str.{bytes_eq}
+use Rattle.wd_lex.specs.declared.token.Mark.{Mark}
+use Rattle.wd_lex.specs.declared.token.Mark.TheVariants as m
+use Rattle.wd_lex.specs.declared.token.TokenKind.{TokenKind}
+use Rattle.wd_lex.specs.declared.token.TokenKind.TheVariants as t
+use Rattle.wd_lex.specs.Marks.{mark_code}
+use Rattle.wd_syntax.specs.declared.name.Name.{Name}
+use Rattle.wd_syntax.specs.declared.expression.Operator.{Operator}
+use Rattle.wd_syntax.specs.declared.expression.Operator.TheVariants as o
+use Rattle.wd_syntax.specs.declared.expression.Sign.{Sign}
+use Rattle.wd_syntax.specs.declared.expression.Sign.TheVariants as s
+use Rattle.wd_syntax.specs.declared.expression.Literal.{Literal}
+use Rattle.wd_syntax.specs.declared.expression.Literal.TheVariants as l
+use Rattle.wd_syntax.specs.declared.words.KeyWord.{KeyWord}
+use Rattle.wd_syntax.specs.declared.words.KeyWord.TheVariants as k
+
+abbrev pub Kinds : Type 0
+Kinds = List TokenKind
+
+-- a mark, and the tokens after it
+infixr 20 ◌▸◌
+abbrev pub ◌▸◌ : Mark → Kinds → Kinds
+x ▸ ts = t.Mark x ∷ ts
+
+-- how a word that is a key word in its place is spelled
+abbrev pub letters : KeyWord → List ℕ
+letters k.Between = codes "between"
+letters k.Current = codes "current"
+letters k.Exclude = codes "exclude"
+letters k.First = codes "first"
+letters k.Following = codes "following"
+letters k.Last = codes "last"
+letters k.Next = codes "next"
+letters k.No = codes "no"
+letters k.Nulls = codes "nulls"
+letters k.Only = codes "only"
+letters k.Others = codes "others"
+letters k.Preceding = codes "preceding"
+letters k.Row = codes "row"
+letters k.Ties = codes "ties"
+letters k.Unbounded = codes "unbounded"
+
+-- such a word, and the tokens after it
+infixr 20 ◌▹◌
+abbrev pub ◌▹◌ : KeyWord → Kinds → Kinds
+x ▹ ts = t.Word (letters x) ∷ ts
+
+-- a name is a word, or it stands in quotes
+abbrev pub written : Bool → List ℕ → TokenKind
+written true text = t.Quoted text
+written false text = t.Word text
+
+abbrev pub name_kind : Name → TokenKind
+name_kind n = written n.quoted n.text
+
+abbrev pub literal_kind : Literal → TokenKind
+literal_kind (l.Number n) = t.Number n
+literal_kind (l.Text text) = t.Literal text
+literal_kind (l.Truth true) = t.Mark m.True
+literal_kind (l.Truth false) = t.Mark m.False
+literal_kind l.Null = t.Mark m.Null
+
+abbrev pub operator_mark : Operator → Mark
+operator_mark o.Or = m.Or
+operator_mark o.And = m.And
+operator_mark o.Equal = m.Equals
+operator_mark o.NotEqual = m.NotEquals
+operator_mark o.Less = m.Less
+operator_mark o.LessOrEqual = m.LessOrEqual
+operator_mark o.Greater = m.Greater
+operator_mark o.GreaterOrEqual = m.GreaterOrEqual
+operator_mark o.Add = m.Plus
+operator_mark o.Subtract = m.Minus
+operator_mark o.Multiply = m.Star
+operator_mark o.Divide = m.Slash
+operator_mark o.Remainder = m.Percent
+
+abbrev pub sign_mark : Sign → Mark
+sign_mark s.Plus = m.Plus
+sign_mark s.Minus = m.Minus
+
+-- How loosely an operator binds: a primary expression has height 0, a sign 1, a test for NULL 5 and NOT 6.
+abbrev pub operator_height : Operator → ℕ
+operator_height o.Or = 8
+operator_height o.And = 7
+operator_height o.Equal = 4
+operator_height o.NotEqual = 4
+operator_height o.Less = 4
+operator_height o.LessOrEqual = 4
+operator_height o.Greater = 4
+operator_height o.GreaterOrEqual = 4
+operator_height o.Add = 3
+operator_height o.Subtract = 3
+operator_height o.Multiply = 2
+operator_height o.Divide = 2
+operator_height o.Remainder = 2

@@ -1,0 +1,107 @@
+-- Queries as pure data, without where they lie in memory.
+use Rattle.std.specs.Prelude.{ℕ, List, [], ◌∷◌, Bool, Option}
+use Rattle.wd_syntax.specs.declared.name.Name.{Name}
+use Rattle.wd_syntax.specs.declared.frame.Frame.{Frame}
+use Rattle.wd_syntax.specs.declared.expression.Operator.{Operator}
+use Rattle.wd_syntax.specs.declared.expression.Sign.{Sign}
+use Rattle.wd_syntax.specs.declared.expression.Literal.{Literal}
+use Rattle.wd_syntax.specs.declared.expression.SortDirection.{SortDirection}
+use Rattle.wd_syntax.specs.declared.expression.NullsPlace.{NullsPlace}
+use Rattle.wd_syntax.specs.declared.query.Alias.{Alias}
+use Rattle.wd_syntax.specs.declared.query.Quantifier.{Quantifier}
+use Rattle.wd_syntax.specs.declared.query.Limits.{Limits}
+
+mutual
+  -- an expression
+  pub data Tree : Type 0 where
+    Constant : Literal → Tree
+    Column : Name → Tree
+    Qualified : Name → Name → Tree
+    CallAll : Name → OverTree → Tree
+    Call : Name → Trees → OverTree → Tree
+    Case : Arms → Otherwise → Tree
+    Bracket : Tree → Tree
+    Signed : Sign → Tree → Tree
+    Binary : Operator → Tree → Tree → Tree
+    IsNull : Tree → Bool → Tree
+    Negated : Tree → Tree
+
+  pub data Trees : Type 0 where
+    no_trees : Trees
+    more_trees : Tree → Trees → Trees
+
+  -- WHEN .. THEN ..
+  pub data Arms : Type 0 where
+    no_arms : Arms
+    more_arms : (when gives : Tree) → Arms → Arms
+
+  -- ELSE ..
+  pub data Otherwise : Type 0 where
+    no_else : Otherwise
+    or_else : Tree → Otherwise
+
+  -- OVER ..
+  pub data OverTree : Type 0 where
+    no_over : OverTree
+    over_name : Name → OverTree
+    over_window : WindowTree → OverTree
+
+  pub data WindowTree : Type 0 where
+    window : (base : Option Name) (partition : Trees) (order : Keys) (frame : Option Frame) → WindowTree
+
+  -- the expressions that rows are sorted by
+  pub data Keys : Type 0 where
+    no_keys : Keys
+    more_keys : Tree → Option SortDirection → Option NullsPlace → Keys → Keys
+
+-- a member of a select list
+pub data ItemTree : Type 0 where
+  all_columns : ItemTree
+  all_of : Name → ItemTree
+  shown : Tree → Option Alias → ItemTree
+
+mutual
+  pub data TableTree : Type 0 where
+    named : Name → Option Alias → TableTree
+    derived : SelectTree → Alias → TableTree
+
+  pub data JoinTree : Type 0 where
+    comma : TableTree → JoinTree
+    cross : TableTree → JoinTree
+    inner : Bool → TableTree → Tree → JoinTree
+
+  pub data Joins : Type 0 where
+    no_joins : Joins
+    more_joins : JoinTree → Joins → Joins
+
+  pub data SelectTree : Type 0 where
+    select : (quantifier : Option Quantifier) (items : List ItemTree) (first : TableTree) (joins : Joins) (filter : Option Tree) (windows : List (Name × WindowTree)) (order : Keys) (limits : Option Limits) → SelectTree
+
+-- a select, and whether a semicolon ends it
+pub data QueryTree : Type 0 where
+  query : SelectTree → Bool → QueryTree
+
+-- rows of one kind
+abbrev pub Key : Type 0
+Key = Tree × Option SortDirection × Option NullsPlace
+
+abbrev pub trees_of : List Tree → Trees
+trees_of [] = no_trees
+trees_of (a ∷ xs) = more_trees a (trees_of xs)
+
+abbrev pub arms_of : List (Tree × Tree) → Arms
+arms_of [] = no_arms
+arms_of (a ∷ xs) = more_arms a.0 a.1 (arms_of xs)
+
+abbrev pub keys_of : List Key → Keys
+keys_of [] = no_keys
+keys_of (a ∷ xs) = more_keys a.0 a.1 a.2 (keys_of xs)
+
+abbrev pub joins_of : List JoinTree → Joins
+joins_of [] = no_joins
+joins_of (a ∷ xs) = more_joins a (joins_of xs)
+
+-- what holds of each
+abbrev pub Each : {A : Type 0} → (A → Type 0) → List A → Type 0
+Each P [] = Unit {0}
+Each P (a ∷ xs) = P a × Each P xs

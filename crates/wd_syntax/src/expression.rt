@@ -1,0 +1,113 @@
+//! Expressions, as they are written.
+
+use crate::frame::Frame;
+use crate::name::Name;
+use wd_value::Text;
+
+/// An operator between two operands.
+#[derive(Clone, Copy, Debug, PartialEq, Eq)]
+pub enum Operator {
+    Or,
+    And,
+    Equal,
+    NotEqual,
+    Less,
+    LessOrEqual,
+    Greater,
+    GreaterOrEqual,
+    Add,
+    Subtract,
+    Multiply,
+    Divide,
+    Remainder,
+}
+
+#[derive(Clone, Copy, Debug, PartialEq, Eq)]
+pub enum Sign {
+    Plus,
+    Minus,
+}
+
+#[derive(Debug, Drop)]
+pub enum Literal {
+    /// At most 9223372036854775808.
+    Number(u64),
+    Text(Text),
+    Truth(bool),
+    Null,
+}
+
+/// `ASC` or `DESC`.
+#[derive(Clone, Copy, Debug, PartialEq, Eq)]
+pub enum SortDirection {
+    Ascending,
+    Descending,
+}
+
+/// `NULLS FIRST` or `NULLS LAST`.
+#[derive(Clone, Copy, Debug, PartialEq, Eq)]
+pub enum NullsPlace {
+    First,
+    Last,
+}
+
+/// An expression. Brackets are nodes of the tree, and chains of an operator lean to the left.
+#[cycle(tree)]
+#[derive(Drop)]
+pub enum Expr {
+    Literal(Literal),
+    /// `name`
+    Column(Name),
+    /// `name . name`
+    Qualified(Name, Name),
+    /// `name ( * )`
+    CallAll(Name, Option<Box<Over>>),
+    /// `name ( [expr {, expr}] )`
+    Call(Name, Vec<Expr>, Option<Box<Over>>),
+    /// `CASE WHEN .. [ELSE ..] END`
+    Case(Vec<Arm>, Option<Box<Expr>>),
+    Bracket(Box<Expr>),
+    Signed(Sign, Box<Expr>),
+    Binary(Operator, Box<Expr>, Box<Expr>),
+    /// `IS NULL`, or `IS NOT NULL` where the second is true.
+    IsNull(Box<Expr>, bool),
+    Not(Box<Expr>),
+}
+
+/// `WHEN expr THEN expr`
+#[cycle(tree)]
+#[derive(Drop)]
+pub struct Arm {
+    pub when: Expr,
+    pub gives: Expr,
+}
+
+/// What stands after `OVER`.
+#[cycle(tree)]
+#[derive(Drop)]
+pub enum Over {
+    Name(Name),
+    Window(Window),
+}
+
+/// A window specification, between its brackets.
+#[cycle(tree)]
+#[derive(Drop)]
+pub struct Window {
+    /// The window that it copies.
+    pub base: Option<Name>,
+    /// Empty where `PARTITION BY` is not written.
+    pub partition: Vec<Expr>,
+    /// Empty where `ORDER BY` is not written.
+    pub order: Vec<SortKey>,
+    pub frame: Option<Frame>,
+}
+
+/// An expression to sort by. What is not written is `None`.
+#[cycle(tree)]
+#[derive(Drop)]
+pub struct SortKey {
+    pub expr: Expr,
+    pub direction: Option<SortDirection>,
+    pub nulls: Option<NullsPlace>,
+}
