@@ -1,21 +1,24 @@
 -- Steps of the code's loops, and rows of the code's trees.
-use Rattle.std.proofs.Common.{◌≡◌, ◌≢◌, ℕ, zero, suc, ◌+◌, ◌-◌, ◌<◌, ◌≤◌, List, [], ◌∷◌, ◌++◌, length, map, Option, Some, None, Result, Ok, Err, refl, sym, ap, subst, ◌∙◌, arith, rules, append_assoc}
-use Rattle.std.proofs.Common.{Bool, true, false, Vec, Global}
-use Rattle.std.specs.Global.{Box}
-use mathlib.Core.Former.{Count}
+use Rattle.std.proofs.Common.{◌≡◌, ◌≢◌, ℕ, zero, suc, ◌+◌, ◌-◌, ◌<◌, ◌≤◌, List, [], ◌∷◌, ◌++◌, length, map, Option, Some, None, Ok, Err, refl, sym, ap, subst, ◌∙◌, arith}
+use Rattle.std.proofs.Common.{Bool, true, false}
+use Rattle.wd_lex.specs.Lexed.{kinds_of}
+use Rattle.wd_lex.specs.declared.token.Token.{Token}
 use Rattle.wd_lex.specs.declared.token.Mark.{Mark}
 use Rattle.wd_lex.specs.declared.token.Mark.TheVariants as m
-use Rattle.wd_syntax.specs.declared.name.Name.{Name}
-use Rattle.wd_syntax.specs.declared.frame.Frame.{Frame}
 use Rattle.wd_syntax.specs.declared.expression.Operator.{Operator}
 use Rattle.wd_syntax.specs.Tokens.{Kinds}
 use Rattle.wd_syntax.specs.Tree.{Tree, Binary, IsNull, JoinTree}
-use Rattle.wd_syntax.specs.Reading.{◌>>=◌, Fault, Unexpected, Limit, Reads, Parser, Chance, choose, eat, operator_at, null_at, tests, links, many, after, list_at, read, levels, deeper_of, goes_on, Inner, join_at, begins_join, inside_of, selects, select_at, expect, table_at, inner_at}
+use Rattle.wd_syntax.specs.Reading.{◌>>=◌, Unexpected, Limit, Reads, Parser, Chance, choose, eat, operator_at, null_at, tests, links, many, after, read, Inner, join_at, begins_join, inside_of, selects, select_at}
 use Rattle.wd_syntax.proofs.Complete.{operand_first}
 use Rattle.wd_syntax.proofs.CompleteQuery.{selects_are}
 use Rattle.wd_parse.specs.declared.error.Refusal.{Refusal}
 use Rattle.wd_parse.specs.declared.error.Refusal.TheVariants as r
 use Rattle.wd_parse.specs.Given.{Fails, MayFail, IsLoopHeight, with_front}
+
+-- tokens and what they say are as many
+pub length_kinds : (tokens : List Token) → length (kinds_of tokens) ≡ length tokens
+length_kinds [] = refl
+length_kinds (x ∷ tokens) = let h = length_kinds tokens in omega (arith, h)
 
 read_suc : (g d : ℕ) (ts : Kinds) → suc g ≤ 8 → g ≢ 0 → g ≢ 3 → g ≢ 4 → g ≢ 5 → read 200 d (suc g) ts ≡ read 200 d g ts >>= λ a. links (read 200 d g) (suc g) 200 a.0 a.1
 read_suc zero d ts le n0 n3 n4 n5 = absurd (n0 refl)
@@ -47,14 +50,14 @@ links_fail (r.Unexpected left) p h i a ts o behind total lt eo ep so_far =
     sym so_far ∙ one
 links_fail (r.PastLimit left) p h i a ts o behind total lt eo ep so_far =
     let k : 200 - i ≡ suc (200 - (i + 1)) = omega arith in
-    let one : links p h (200 - i) a ts ≡ Err Limit = rw (k, eo, ep) refl in
+    let one : links p h (200 - i) a ts ≡ Err (Limit left) = rw (k, eo, ep) refl in
     sym so_far ∙ one
 
-pub links_full : (p : Parser Tree) (h i : ℕ) (a : Tree) (ts : Kinds) (x : Operator × Kinds) (total : Reads Tree) → 200 ≤ i → operator_at h ts ≡ Some x → links p h (200 - i) a ts ≡ total → total ≡ Err Limit
+pub links_full : (p : Parser Tree) (h i : ℕ) (a : Tree) (ts : Kinds) (x : Operator × Kinds) (n : ℕ) (total : Reads Tree) → length ts ≡ n → 200 ≤ i → operator_at h ts ≡ Some x → links p h (200 - i) a ts ≡ total → total ≡ Err (Limit n)
 unfolding links
-links_full p h i a ts x total le eo so_far =
+links_full p h i a ts x n total en le eo so_far =
     let k : 200 - i ≡ 0 = omega arith in
-    let one : links p h (200 - i) a ts ≡ Err Limit = rw (k, eo) refl in
+    let one : links p h (200 - i) a ts ≡ Err (Limit n) = rw (k, eo, en) refl in
     sym so_far ∙ one
 
 -- ---- tests for NULL
@@ -75,14 +78,14 @@ tests_fail (r.Unexpected left) i a ts behind total lt eo ep so_far =
     sym so_far ∙ one
 tests_fail (r.PastLimit left) i a ts behind total lt eo ep so_far =
     let k : 200 - i ≡ suc (200 - (i + 1)) = omega arith in
-    let one : tests (200 - i) a ts ≡ Err Limit = rw (k, eo, ep) refl in
+    let one : tests (200 - i) a ts ≡ Err (Limit left) = rw (k, eo, ep) refl in
     sym so_far ∙ one
 
-pub tests_full : (i : ℕ) (a : Tree) (ts behind : Kinds) (total : Reads Tree) → 200 ≤ i → eat m.Is ts ≡ Some behind → tests (200 - i) a ts ≡ total → total ≡ Err Limit
+pub tests_full : (i : ℕ) (a : Tree) (ts behind : Kinds) (n : ℕ) (total : Reads Tree) → length ts ≡ n → 200 ≤ i → eat m.Is ts ≡ Some behind → tests (200 - i) a ts ≡ total → total ≡ Err (Limit n)
 unfolding tests
-tests_full i a ts behind total le eo so_far =
+tests_full i a ts behind n total en le eo so_far =
     let k : 200 - i ≡ 0 = omega arith in
-    let one : tests (200 - i) a ts ≡ Err Limit = rw (k, eo) refl in
+    let one : tests (200 - i) a ts ≡ Err (Limit n) = rw (k, eo, en) refl in
     sym so_far ∙ one
 
 -- ---- lists
@@ -127,7 +130,7 @@ many_fail {A} (r.Unexpected left) item n i front ts read total lt e h so_far =
     sym so_far ∙ one
 many_fail {A} (r.PastLimit left) item n i front ts read total lt e h so_far =
     let k : n - i ≡ suc (n - (i + 1)) = omega arith in
-    let one : with_front front (many item (n - i) ts) ≡ Err Limit = rw (k, e, h) refl in
+    let one : with_front front (many item (n - i) ts) ≡ Err (Limit left) = rw (k, e, h) refl in
     sym so_far ∙ one
 
 pub many_end : {A : Type 0} (item : Chance A) (n : ℕ) (front : List A) (ts : Kinds) (total : Reads (List A)) → item ts ≡ None → with_front front (many item n ts) ≡ total → total ≡ Ok (front, ts)
@@ -188,4 +191,4 @@ join_absent deeper item ts e = subst (λ b. Begins b (join_at deeper item ts)) e
 pub may_fail : {A : Type 0} (e : Refusal) (item : Chance A) (n i : ℕ) (front : List A) (ts : Kinds) (total : Reads (List A)) → i < n → MayFail e (item ts) → with_front front (many item (n - i) ts) ≡ total → Fails e total
 may_fail r.OutOfMemory item n i front ts total lt h so_far = tt
 may_fail (r.Unexpected left) item n i front ts total lt h so_far = many_fail (r.Unexpected left) item n i front ts (Err Unexpected) total lt h refl so_far
-may_fail (r.PastLimit left) item n i front ts total lt h so_far = many_fail (r.PastLimit left) item n i front ts (Err Limit) total lt h refl so_far
+may_fail (r.PastLimit left) item n i front ts total lt h so_far = many_fail (r.PastLimit left) item n i front ts (Err (Limit left)) total lt h refl so_far

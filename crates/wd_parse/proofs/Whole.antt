@@ -1,13 +1,15 @@
 -- What a whole reading says of the trees that the tokens spell.
-use Rattle.std.proofs.Common.{◌≡◌, ℕ, ◌≤◌, List, [], Result, Ok, Err, refl, sym, ap, subst, ◌∙◌, arith}
+use Rattle.std.proofs.Common.{◌≡◌, ℕ, suc, ◌+◌, ◌-◌, length, length-append, ◌∷◌, Result, Ok, Err, ap, subst, ◌∙◌, arith}
 use Rattle.std.specs.Prelude.{IfOk, IfErr}
 use Rattle.wd_syntax.specs.declared.query.Query.{Query}
 use Rattle.wd_syntax.specs.Tokens.{Kinds}
 use Rattle.wd_syntax.specs.Tree.{QueryTree}
 use Rattle.wd_syntax.specs.View.{view_query}
-use Rattle.wd_syntax.specs.Spelling.{spell}
 use Rattle.wd_syntax.specs.Limits.{KeepsLimits}
 use Rattle.wd_syntax.specs.Laws.{IsTreeOf}
+use Rattle.wd_syntax.specs.Passing.{PassesLimitAt}
+use Rattle.wd_syntax.proofs.CutPieces.{CutBy}
+use Rattle.wd_syntax.proofs.CutQuery.{Passed, whole_cuts}
 use Rattle.wd_syntax.specs.Reading.{Fault, whole, Limit as PastLimits, Unexpected as NoTree}
 use Rattle.wd_syntax.proofs.SoundPieces.{Holds}
 use Rattle.wd_syntax.proofs.SoundQuery.{IsQuery, whole_holds}
@@ -32,16 +34,22 @@ pub limits_kept : (ts : Kinds) (r : Result Query ParseError) → Answers r ts �
 limits_kept ts (Ok query) a = (read_is ts (view_query query) a).2
 limits_kept ts (Err e) a = tt
 
+-- the place is before what is left
+passed_at : (ts : Kinds) (place left : ℕ) → place ≡ length ts - left → Passed 200 32 ts left → PassesLimitAt ts place
+passed_at ts place left e p =
+    let total : length ts ≡ length p.0 + suc (length p.2) = ap length p.6 ∙ length-append p.0 (p.1 ∷ p.2) in
+    (p.0, p.1, p.2, p.3, p.4, omega (arith, total, p.5), p.6, p.7, p.8, p.9)
+
 pub cause_is : (ts : Kinds) (r : Result Query ParseError) → Answers r ts → IfErr r (λ refusal. HasCause refusal ts)
 cause_is ts (Ok query) a = tt
 cause_is ts (Err (Unexpected place)) a = λ tree t. tree_reads ts tree t (Err NoTree) a
-cause_is ts (Err (PastLimit place)) a = λ tree t. tree_reads ts tree t (Err PastLimits) a
+cause_is ts (Err (PastLimit place)) a = (passed_at ts place a.0 a.2 (subst (CutBy (Passed 200 32 ts)) a.1 (whole_cuts 200 32 ts (omega arith))), λ tree t. tree_reads ts tree t (Err (PastLimits a.0)) a.1)
 cause_is ts (Err OutOfMemory) a = tt
 
 pub tree_given : (ts : Kinds) (r : Result Query ParseError) → Answers r ts → (tree : QueryTree) → IsTreeOf ts tree → KeepsLimits tree → GivesTree tree r
 tree_given ts (Ok query) a tree t k = tree_reads ts tree t (Ok (view_query query)) a
 tree_given ts (Err (Unexpected place)) a tree t k = tree_reads ts tree t (Err NoTree) a
-tree_given ts (Err (PastLimit place)) a tree t k = tree_reads ts tree t (Err PastLimits) a k
+tree_given ts (Err (PastLimit place)) a tree t k = tree_reads ts tree t (Err (PastLimits a.0)) a.1 k
 tree_given ts (Err OutOfMemory) a tree t k = tt
 
 pub past_limit : (ts : Kinds) (r : Result Query ParseError) → Answers r ts → (tree : QueryTree) → IsTreeOf ts tree → (KeepsLimits tree → ⊥) → IsPastLimit r

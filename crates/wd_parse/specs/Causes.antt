@@ -1,11 +1,12 @@
 -- Refusals: their numbers and places, and what stands in the tokens where they are answered.
-use Rattle.std.specs.Prelude.{◌≡◌, ℕ, Option, Some, None, Result, Ok, Err}
+use Rattle.std.specs.Prelude.{◌≡◌, ◌-◌, ℕ, length, Option, Some, None, Result, Ok, Err}
 use Rattle.wd_syntax.specs.declared.query.Query.{Query}
 use Rattle.wd_syntax.specs.Tokens.{Kinds}
 use Rattle.wd_syntax.specs.Tree.{QueryTree}
 use Rattle.wd_syntax.specs.View.{view_query}
 use Rattle.wd_syntax.specs.Limits.{KeepsLimits}
 use Rattle.wd_syntax.specs.Laws.{IsTreeOf}
+use Rattle.wd_syntax.specs.Passing.{PassesLimitAt}
 use Rattle.wd_syntax.specs.Reading.{whole, Limit as PastLimits, Unexpected as NoTree}
 use Rattle.wd_parse.specs.declared.error.ParseError.{ParseError}
 use Rattle.wd_parse.specs.declared.error.ParseError.TheVariants.{Unexpected, PastLimit, OutOfMemory}
@@ -20,10 +21,10 @@ place_of (Unexpected place) = Some place
 place_of (PastLimit place) = Some place
 place_of OutOfMemory = None
 
--- No well-levelled tree spells the tokens; or one that does passes a limit.
+-- No well-levelled tree spells the tokens; or a limit is passed at the place, and by each tree that spells the tokens.
 abbrev pub HasCause : ParseError → Kinds → Type 0
 HasCause (Unexpected place) ts = (tree : QueryTree) → IsTreeOf ts tree → ⊥
-HasCause (PastLimit place) ts = (tree : QueryTree) → IsTreeOf ts tree → KeepsLimits tree → ⊥
+HasCause (PastLimit place) ts = PassesLimitAt ts place × ((tree : QueryTree) → IsTreeOf ts tree → KeepsLimits tree → ⊥)
 HasCause OutOfMemory ts = Unit {0}
 
 -- The answer is that tree, or memory ran out.
@@ -44,5 +45,5 @@ IsPastLimit (Err OutOfMemory) = Unit {0}
 abbrev pub Answers : Result Query ParseError → Kinds → Type 0
 Answers (Ok query) ts = whole 200 32 ts ≡ Ok (view_query query)
 Answers (Err (Unexpected place)) ts = whole 200 32 ts ≡ Err NoTree
-Answers (Err (PastLimit place)) ts = whole 200 32 ts ≡ Err PastLimits
+Answers (Err (PastLimit place)) ts = (left : ℕ) × (whole 200 32 ts ≡ Err (PastLimits left)) × (place ≡ length ts - left)
 Answers (Err OutOfMemory) ts = Unit {0}

@@ -9,11 +9,11 @@ use Rattle.wd_syntax.specs.Reading.{◌>>=◌, Fault, Unexpected, Limit, Reads, 
 use Rattle.wd_parse.specs.declared.error.Refusal.{Refusal}
 use Rattle.wd_parse.specs.declared.error.Refusal.TheVariants as r
 
--- The refusal is that of reading, unless memory ran out. How many tokens were left is not told.
+-- The refusal is that of reading, unless memory ran out. After an unexpected token it is not told how many are left.
 abbrev pub Fails : {Y : Type 0} → Refusal → Result Y Fault → Type 0
 Fails r.OutOfMemory read = Unit {0}
 Fails (r.Unexpected left) read = read ≡ Err Unexpected
-Fails (r.PastLimit left) read = read ≡ Err Limit
+Fails (r.PastLimit left) read = read ≡ Err (Limit left)
 
 -- What a function returned, seen by view, is what reading gives, unless memory ran out.
 abbrev pub Gives : {X Y : Type 0} → (X → Y) → Result X Refusal → Result Y Fault → Type 0
@@ -33,7 +33,7 @@ MayFind view (Err e) found = e ≡ r.OutOfMemory
 abbrev pub MayFail : {Y : Type 0} → Refusal → Option (Result Y Fault) → Type 0
 MayFail r.OutOfMemory read = Unit {0}
 MayFail (r.Unexpected left) read = read ≡ Some (Err Unexpected)
-MayFail (r.PastLimit left) read = read ≡ Some (Err Limit)
+MayFail (r.PastLimit left) read = read ≡ Some (Err (Limit left))
 
 -- What a function read, if it began here.
 abbrev pub MayGive : {X Y : Type 0} → (X → Y) → Result (Option X) Refusal → Option (Result Y Fault) → Type 0
@@ -47,11 +47,11 @@ MayRead view (Ok x) read = read ≡ view x
 MayRead view (Err e) read = e ≡ r.OutOfMemory
 
 -- One level fewer, if one is left.
-abbrev pub MakesDeeper : Result ℕ Refusal → ℕ → Type 0
-MakesDeeper (Ok inside) depth = (deeper_of 200 depth ≡ Some (read 200 inside)) × (inside_of 200 depth ≡ Some (selects 200 inside)) × (inside < depth)
-MakesDeeper (Err r.OutOfMemory) depth = ⊥
-MakesDeeper (Err (r.Unexpected left)) depth = ⊥
-MakesDeeper (Err (r.PastLimit left)) depth = (deeper_of 200 depth ≡ None) × (inside_of 200 depth ≡ None)
+abbrev pub MakesDeeper : Result ℕ Refusal → ℕ → ℕ → Type 0
+MakesDeeper (Ok inside) depth left = (deeper_of 200 depth ≡ Some (read 200 inside)) × (inside_of 200 depth ≡ Some (selects 200 inside)) × (inside < depth)
+MakesDeeper (Err r.OutOfMemory) depth left = ⊥
+MakesDeeper (Err (r.Unexpected n)) depth left = ⊥
+MakesDeeper (Err (r.PastLimit n)) depth left = (deeper_of 200 depth ≡ None) × (inside_of 200 depth ≡ None) × (n ≡ left)
 
 -- the heights of chains
 abbrev pub IsLoopHeight : ℕ → Type 0

@@ -27,7 +27,7 @@ pub const WHOLE: u8 = 8;
 /// One level fewer, if one is left for the first of the `left` last tokens to open.
 #[tactic(auto, unfolding(wd_syntax::specs::Reading::deeper_of))]
 pub fn deeper(depth: u8, left: usize) -> Result<u8, Refusal>
-    ensures { MakesDeeper result depth }
+    ensures { MakesDeeper result depth left }
 {
     if depth == 0 {
         return Err(Refusal::PastLimit { left });
@@ -163,7 +163,7 @@ fn tests(
     }
 }
 
-#[tactic(auto, unfolding(wd_syntax::specs::Reading::levels))]
+#[tactic(auto, unfolding(wd_syntax::specs::Reading::levels), using(crate::proofs::Loops::length_kinds))]
 #[cycle(expr)]
 fn negated(alloc: Global, depth: u8, tokens: &[Token]) -> Result<(Box<Expr>, &[Token]), Refusal>
     ensures { Gives (λ x. (view x.0.value, kinds_of x.1.now)) result (read 200 depth 6 (kinds_of tokens.now)) }
@@ -178,7 +178,7 @@ fn negated(alloc: Global, depth: u8, tokens: &[Token]) -> Result<(Box<Expr>, &[T
     }
 }
 
-#[tactic(auto, unfolding(wd_syntax::specs::Reading::levels))]
+#[tactic(auto, unfolding(wd_syntax::specs::Reading::levels), using(crate::proofs::Loops::length_kinds))]
 #[cycle(expr)]
 fn signed(alloc: Global, depth: u8, tokens: &[Token]) -> Result<(Box<Expr>, &[Token]), Refusal>
     ensures { Gives (λ x. (view x.0.value, kinds_of x.1.now)) result (read 200 depth 1 (kinds_of tokens.now)) }
@@ -231,6 +231,7 @@ fn primary(alloc: Global, depth: u8, tokens: &[Token]) -> Result<(Box<Expr>, &[T
 }
 
 /// A primary expression that begins with a mark, after the mark.
+#[tactic(auto, using(crate::proofs::Loops::length_kinds))]
 #[cycle(expr)]
 fn marked(
     alloc: Global,
@@ -323,7 +324,7 @@ fn window_of(
 }
 
 /// A call, after its opening bracket.
-#[tactic(auto, unfolding(wd_syntax::specs::Reading::call_at))]
+#[tactic(auto, unfolding(wd_syntax::specs::Reading::call_at), using(crate::proofs::Loops::length_kinds))]
 #[cycle(expr)]
 fn call(
     alloc: Global,
@@ -362,7 +363,7 @@ fn arguments(
 }
 
 /// `[OVER (name | ( .. ))]`
-#[tactic(auto, unfolding(wd_syntax::specs::Reading::over_at))]
+#[tactic(auto, unfolding(wd_syntax::specs::Reading::over_at), using(crate::proofs::Loops::length_kinds))]
 #[cycle(expr)]
 fn over(
     alloc: Global,

@@ -1,11 +1,9 @@
 //! The tree of a list of tokens.
 
-ghost use Rattle.std.specs.Prelude.{◌≡◌, ◌≤◌, length, IfOk, IfErr, IfSome};
+ghost use Rattle.std.specs.Prelude.{◌≡◌, ◌≤◌, ◌-◌, length, IfOk, IfErr, IfSome};
 ghost use Rattle.wd_lex.specs.Lexed.{kinds_of};
 ghost use Rattle.wd_syntax.specs.Tree.{QueryTree};
 ghost use Rattle.wd_syntax.specs.View.{view_query};
-ghost use Rattle.wd_syntax.specs.Spelling.{spell};
-ghost use Rattle.wd_syntax.specs.Levels.{IsWellLevelled};
 ghost use Rattle.wd_syntax.specs.Limits.{KeepsLimits};
 ghost use Rattle.wd_syntax.specs.Laws.{IsTreeOf};
 ghost use Rattle.wd_parse.specs.Causes.{HasCause, GivesTree, IsPastLimit, place_of, Answers};
@@ -18,7 +16,7 @@ use wd_syntax::Query;
 
 /// The number of the first of the last `left` of so many tokens.
 fn place_of(count: usize, left: usize) -> u64
-    ensures { result ≤ count }
+    ensures { result ≡ count - left }
 {
     count.saturating_sub(left) as u64
 }
@@ -53,7 +51,8 @@ pub fn parse(alloc: Global, tokens: &[Token]) -> Result<Query, ParseError>
     // It keeps the limits.
     ensures limits { IfOk result (λ query. KeepsLimits (view_query query)) }
 
-    // 201 comes only where no well-levelled tree spells the tokens; where one does after 202, it passes a limit.
+    // 201 comes only where no well-levelled tree spells the tokens. 202 comes only where a limit is passed at that place:
+    // some well-levelled tree begins with the tokens up to and with the refused one, and passes the limit there.
     ensures cause { IfErr result (λ refusal. HasCause refusal (kinds_of tokens.now)) }
 
     // Where a tree that keeps the limits spells the tokens, it is given, unless memory runs out.

@@ -162,7 +162,7 @@ fn filter(alloc: Global, depth: u8, tokens: &[Token]) -> Result<(Option<Expr>, &
 }
 
 /// `name AS ( .. )`
-#[tactic(auto, unfolding(wd_syntax::specs::Reading::named_window_at))]
+#[tactic(auto, unfolding(wd_syntax::specs::Reading::named_window_at), using(crate::proofs::Loops::length_kinds))]
 fn named_window(
     alloc: Global,
     depth: u8,
@@ -227,7 +227,7 @@ fn derived_of(select: Box<Select>, alias: Alias) -> Table
 }
 
 /// A table of FROM.
-#[tactic(auto, unfolding(wd_syntax::specs::Reading::table_at))]
+#[tactic(auto, unfolding(wd_syntax::specs::Reading::table_at), using(crate::proofs::Loops::length_kinds))]
 #[cycle(select)]
 fn table(alloc: Global, depth: u8, tokens: &[Token]) -> Result<(Table, &[Token]), Refusal>
     ensures { Gives (λ x. (view_table x.0, kinds_of x.1.now)) result (table_at (inside_of 200 depth) (kinds_of tokens.now)) }

@@ -1,16 +1,15 @@
 -- Rows that are the same stand side by side in the order of their values; first occurrences, one row on.
-use Rattle.std.proofs.Common.{◌≡◌, ◌≢◌, ◌∙◌, ℕ, zero, suc, ◌+◌, ◌-◌, ◌<◌, ◌≤◌, Bool, true, false, cond, not, ◌||◌, ◌&&◌, List, [], ◌∷◌, ◌++◌, map, filter, take, drop, set, get_or, length, refl, sym, ap, subst, arith, add-one, inl, inr, ◌⊎◌, Ordering, Less, Equal, Greater, IsPermutation, min, Decides}
+use Rattle.std.proofs.Common.{◌≡◌, ◌≢◌, ◌∙◌, ℕ, zero, suc, ◌+◌, ◌-◌, ◌<◌, ◌≤◌, Bool, true, false, cond, not, ◌||◌, List, [], ◌∷◌, ◌++◌, filter, take, drop, set, get_or, length, refl, sym, ap, arith, add-one, inl, inr, Ordering, Less, Equal, Greater, min, Decides}
 use Rattle.std.specs.Prelude.{Contains, nat_eq, nat_lt}
-use Rattle.std.specs.List.{list_any, range_with_len, SwappedAt}
+use Rattle.std.specs.List.{list_any, SwappedAt}
 use Rattle.std.specs.Cmp.{IsStrictWeakOrder, IsTotalOrder, nat_cmp_is}
-use Rattle.std.specs.Cmp.Lexicographic.{slice_cmp}
 use Rattle.std.specs.Ordering.{is_lt, is_eq, nat_cmp, ordering_reverse, ordering_then}
-use Rattle.std.proofs.lemmas.Bool.{cases_lt, eq-eqb, false≢true, false_from_ne_true, ltb-false}
+use Rattle.std.proofs.lemmas.Bool.{cases_lt, eq-eqb, false≢true, ltb-false}
 use Rattle.std.proofs.lemmas.Cmp.{tied_itself, lists_total, nat_cmp_total, on_total, then_total}
 use Rattle.std.proofs.lemmas.List.{append-nil, drop-drop, drop-set-lt, get_or-map, get_or_default, length-set, map_push, take-map, take-set-le, take_all, take_more_set}
 use Rattle.std.proofs.lemmas.List.FromFn.{get_or-range_with_len, length-range_with_len}
 use Rattle.std.proofs.lemmas.List.Elements.{filter-append}
-use Rattle.std.proofs.lemmas.List.Sorted.{Contains-permutation, IsPermutation-sym, sorted_far, sum_by-IsPermutation, ranks_by}
+use Rattle.std.proofs.lemmas.List.Sorted.{Contains-permutation, sorted_far, sum_by-IsPermutation, ranks_by}
 use Rattle.wd_value.proofs.OrderLaws.{compare-exact, compare_total}
 use Rattle.wd_value.proofs.Perms.{count_by-cons, count_by-yes}
 use Rattle.wd_value.proofs.SameLaws.{same_row-Decides}

@@ -1,13 +1,9 @@
 -- What a well-levelled expression spells is read as that expression, or passes a limit that the expression passes.
-use Rattle.std.proofs.Common.{◌≡◌, ◌≢◌, ℕ, zero, suc, ◌+◌, ◌<◌, ◌≤◌, ◌⊎◌, inl, inr, Bool, true, false, cond, eqb, List, [], ◌∷◌, length, Option, Some, None, Result, Ok, Err, refl, sym, ap, subst, ◌∙◌, arith, rules, ⊎_elim}
+use Rattle.std.proofs.Common.{◌≡◌, ◌≢◌, ℕ, zero, suc, ◌+◌, ◌<◌, ◌≤◌, ◌⊎◌, inl, inr, Bool, true, false, List, [], ◌∷◌, length, Option, Some, None, Ok, Err, refl, sym, ap, subst, ◌∙◌, arith, ⊎_elim}
 use Rattle.std.proofs.lemmas.Bool.{cases_lt}
 use Rattle.wd_lex.specs.declared.token.Mark.{Mark}
 use Rattle.wd_lex.specs.declared.token.Mark.TheVariants as m
-use Rattle.wd_lex.specs.declared.token.TokenKind.{TokenKind}
 use Rattle.wd_lex.specs.declared.token.TokenKind.TheVariants as t
-use Rattle.wd_lex.specs.Marks.{mark_code}
-use Rattle.wd_syntax.specs.declared.words.KeyWord.{KeyWord}
-use Rattle.wd_syntax.specs.declared.words.KeyWord.TheVariants as k
 use Rattle.wd_syntax.specs.declared.name.Name.{Name}
 use Rattle.wd_syntax.specs.declared.frame.Frame.{Frame}
 use Rattle.wd_syntax.specs.declared.frame.FrameMode.{FrameMode}
@@ -28,36 +24,24 @@ use Rattle.wd_syntax.specs.declared.expression.SortDirection.{SortDirection}
 use Rattle.wd_syntax.specs.declared.expression.SortDirection.TheVariants.{Ascending, Descending}
 use Rattle.wd_syntax.specs.declared.expression.NullsPlace.{NullsPlace}
 use Rattle.wd_syntax.specs.declared.expression.NullsPlace.TheVariants as p
-use Rattle.wd_syntax.specs.declared.query.Alias.{Alias}
-use Rattle.wd_syntax.specs.declared.query.Quantifier.{Quantifier}
-use Rattle.wd_syntax.specs.declared.query.Quantifier.TheVariants as q
-use Rattle.wd_syntax.specs.declared.query.RowWord.{RowWord}
-use Rattle.wd_syntax.specs.declared.query.RowWord.TheVariants as w
-use Rattle.wd_syntax.specs.declared.query.FetchWord.{FetchWord}
-use Rattle.wd_syntax.specs.declared.query.FetchWord.TheVariants as f
-use Rattle.wd_syntax.specs.declared.query.Offset.{Offset}
-use Rattle.wd_syntax.specs.declared.query.Count.{Count}
-use Rattle.wd_syntax.specs.declared.query.Count.TheVariants as c
-use Rattle.wd_syntax.specs.declared.query.Limits.{Limits}
-use Rattle.wd_syntax.specs.declared.query.Limits.TheVariants.{OffsetFirst, CountFirst}
-use Rattle.wd_syntax.specs.Tokens.{Kinds, ◌▸◌, ◌▹◌, letters, written, name_kind, literal_kind, operator_mark, sign_mark, operator_height}
-use Rattle.wd_syntax.specs.Tree.{Tree, Constant, Column, Qualified, CallAll, Call, Case, Bracket, Signed, Binary, IsNull, Negated, Trees, no_trees, more_trees, Arms, no_arms, more_arms, Otherwise, no_else, or_else, OverTree, no_over, over_name, over_window, WindowTree, window, Keys, no_keys, more_keys, ItemTree, all_columns, all_of, shown, TableTree, named, derived, JoinTree, comma, cross, inner, Joins, no_joins, more_joins, SelectTree, select, QueryTree, query, Key, trees_of, arms_of, keys_of, joins_of, Each}
-use Rattle.wd_syntax.specs.Spelling.{mode_onto, bound_onto, extent_onto, excluded_onto, exclusion_onto, frame_onto, direction_onto, nulls_onto, not_onto, base_onto, onto, list_onto, more_onto, arms_onto, else_onto, over_onto, window_onto, partition_onto, order_onto, more_keys_onto, quantifier_onto, as_onto, given_onto, alias_onto, item_onto, more_items_onto, items_onto, filter_onto, named_window_onto, more_windows_onto, windows_onto, row_onto, row_option_onto, offset_onto, fetch_onto, number_onto, ties_onto, count_onto, offset_option_onto, count_option_onto, limits_onto, tail_onto, table_onto, join_onto, joins_onto, select_onto, end_onto, spell}
-use Rattle.wd_syntax.specs.Levels.{height, left_height, IsSomeArm, IsLevelled, AreLevelled, ArmsLevelled, ElseLevelled, OverLevelled, WindowLevelled, KeysLevelled, ItemLevelled, IsSomeItem, OptionLevelled, TableLevelled, JoinLevelled, JoinsLevelled, SelectLevelled, IsWellLevelled}
-use Rattle.wd_syntax.specs.Limits.{operators, Below, Fits, AllFit, ArmsFit, ElseFits, OverFits, WindowFits, KeysFit, ItemFits, OptionFits, TableFits, JoinFits, JoinsFit, SelectFits, QueryFits, KeepsLimits}
-use Rattle.wd_syntax.specs.Reading.{Fault, Unexpected, Limit, ◌>>=◌, Reads, Parser, Chance, choose, eat, expect, eat_word, expect_word, name_of, with_rest, eat_name, name_at, number_at, operator_of, operator_if, operator_at, sign_of, sign_at, some_or_unexpected, if_begun, many, after, list_at, try, optional, mode_if, mode_at, side_at, unbounded, away, bound_at, extent_at, excluded_at, exclusion_at, frame_if, frame_at, direction_at, nulls_at, key_at, partition_at, order_at, base_if, base_at, window_at, link, ended, links, compared, null_at, tests, arguments_at, call_of, enter, Deeper, over_at, call_at, named_at, arm_at, else_at, case_at, bracket_at, primary_by_mark, primary, signed_by, goes_on, step, levels, deeper_of, read, quantifier_at, given_at, bare_if, alias_at, star_if, star_at, item_if, item_at, filter_at, named_window_at, windows_at, row_at, row_if, offset_at, fetch_word_at, number_if, number_option_at, ties_at, fetch_at, limit_at, count_if, offset_if, limits_at, Inner, table_at, inner_at, join_at, from_at, select_at, selects, inside_of, if_last, whole}
-use Rattle.wd_syntax.proofs.Marking.{eat_same, expect_same, eat_word_same, expect_word_same, eat_name_same, name_at_same, eat_name_kind, sign_name_kind, grip, grips, grips_name, eat_other, grip_stops, eqb-differ, eqb-same, eqb-below, not_same, operator_stops, operator_same, operator_grip, operator_bounds, sign_same, clause, clauses, clause_stops, clause_grips, clause_no_name, clause_no_word}
+use Rattle.wd_syntax.specs.Tokens.{Kinds, ◌▸◌, written, name_kind, literal_kind, operator_mark, sign_mark, operator_height}
+use Rattle.wd_syntax.specs.Tree.{Tree, Constant, Column, Qualified, CallAll, Call, Case, Bracket, Signed, Binary, IsNull, Negated, Trees, no_trees, more_trees, Arms, no_arms, more_arms, Otherwise, no_else, or_else, OverTree, no_over, over_name, over_window, WindowTree, window, Keys, no_keys, more_keys, Key, trees_of, arms_of, keys_of, Each}
+use Rattle.wd_syntax.specs.Spelling.{mode_onto, bound_onto, extent_onto, exclusion_onto, frame_onto, direction_onto, nulls_onto, not_onto, base_onto, onto, list_onto, more_onto, arms_onto, else_onto, over_onto, window_onto, partition_onto, order_onto, more_keys_onto}
+use Rattle.wd_syntax.specs.Levels.{height, left_height, IsLevelled, AreLevelled, ArmsLevelled, ElseLevelled, OverLevelled, WindowLevelled, KeysLevelled}
+use Rattle.wd_syntax.specs.Limits.{operators, Below, Fits, AllFit, ArmsFit, ElseFits, OverFits, WindowFits, KeysFit}
+use Rattle.wd_syntax.specs.Reading.{Unexpected, Limit, ◌>>=◌, Reads, Parser, Chance, eat, expect, eat_name, operator_at, sign_at, many, after, list_at, frame_at, direction_at, nulls_at, key_at, partition_at, order_at, window_at, links, compared, null_at, tests, arguments_at, call_of, enter, over_at, call_at, named_at, arm_at, else_at, case_at, bracket_at, primary, goes_on, levels, deeper_of, star_at}
+use Rattle.wd_syntax.proofs.Marking.{eat_same, expect_same, eat_name_same, name_at_same, eat_name_kind, sign_name_kind, grips, eat_other, grip_stops, eqb-same, eqb-below, operator_stops, operator_same, operator_grip, operator_bounds, sign_same, clauses, clause_stops, clause_grips}
 use Rattle.wd_syntax.proofs.Pieces.{frame_same, frame_clause, direction_same, nulls_same, nulls_begins, base_same}
 
 -- a value and the tokens after it; a limit is met only where F fails
 abbrev pub Yields : {A : Type 0} → Type 0 → A × Kinds → Reads A → Type 0
 Yields F x (Ok y) = y ≡ x
-Yields F x (Err Limit) = F → ⊥
+Yields F x (Err (Limit n')) = F → ⊥
 Yields F x (Err Unexpected) = ⊥
 
 pub then_yields : {A B : Type 0} (F G : Type 0) (x : A × Kinds) (y : B × Kinds) (r : Reads A) (f : A × Kinds → Reads B) → (G → F) → Yields F x r → Yields G y (f x) → Yields G y (r >>= f)
 then_yields F G x y (Ok z) f k h i = subst (λ w. Yields G y (f w)) (sym h) i
-then_yields F G x y (Err Limit) f k h i = λ g. h (k g)
+then_yields F G x y (Err (Limit n')) f k h i = λ g. h (k g)
 then_yields F G x y (Err Unexpected) f k h i = absurd h
 
 -- what is read before something that is read exactly
@@ -66,7 +50,7 @@ then_exactly F G x y r f k h e = then_yields F G x y r f k h (subst (Yields G y)
 
 pub yields_weaker : {A : Type 0} (F G : Type 0) (x : A × Kinds) (r : Reads A) → (G → F) → Yields F x r → Yields G x r
 yields_weaker F G x (Ok z) k h = h
-yields_weaker F G x (Err Limit) k h = λ g. h (k g)
+yields_weaker F G x (Err (Limit n')) k h = λ g. h (k g)
 yields_weaker F G x (Err Unexpected) k h = absurd h
 
 -- ---- lists
@@ -473,7 +457,7 @@ module _ (c : ℕ) where
 
   -- a loop that has come to the tree: with n operators left, or past the limit as the tree is
   abbrev Leads : ℕ → ℕ → Tree → Kinds → Reads Tree → Type 0
-  Leads g d a rest r = ((n : ℕ) × (n + operators (suc g) a ≡ c) × (r ≡ goes_on g (level d g) n a rest)) ⊎ ((r ≡ Err Limit) × (Fits c d a → ⊥))
+  Leads g d a rest r = ((n : ℕ) × (n + operators (suc g) a ≡ c) × (r ≡ goes_on g (level d g) n a rest)) ⊎ ((n : ℕ) × (r ≡ Err (Limit n)) × (Fits c d a → ⊥))
 
   abbrev Goes : ℕ → Tree → Type 0
   Goes d a = (g : ℕ) (rest : Kinds) → g ≢ 0 → g ≢ 3 → g ≢ 5 → height a ≤ suc g → g < grips rest → Leads g d a rest (level d (suc g) (onto a rest))
@@ -491,7 +475,7 @@ module _ (c : ℕ) where
 
   leads_from_yields : (g d : ℕ) (a : Tree) (rest : Kinds) (r : Reads Tree) → height a ≤ g → Yields (Fits c d a) (a, rest) r → Leads g d a rest (r >>= λ x. goes_on g (level d g) c x.0 x.1)
   leads_from_yields g d a rest (Ok z) le y = inl (c, omega (arith, operators_zero a (suc g) (omega arith)), ap (λ (x : Tree × Kinds). goes_on g (level d g) c x.0 x.1) y)
-  leads_from_yields g d a rest (Err Limit) le y = inr (refl, y)
+  leads_from_yields g d a rest (Err (Limit n')) le y = inr (n', refl, y)
   leads_from_yields g d a rest (Err Unexpected) le y = absurd y
 
   goes_from_reads : (a : Tree) (d : ℕ) → ReadsAt d a → (g : ℕ) (rest : Kinds) → g ≢ 0 → g ≢ 5 → height a ≤ g → g < grips rest → Leads g d a rest (level d (suc g) (onto a rest))
@@ -508,7 +492,7 @@ module _ (c : ℕ) where
   yields_from_leads g d a rest r lt l =
       ⊎_elim
       (λ k. subst (Yields (Fits c d a) (a, rest)) (sym (k.2 ∙ stops g (level d g) k.0 a rest lt)) refl)
-      (λ k. subst (Yields (Fits c d a) (a, rest)) (sym k.0) k.1)
+      (λ k. subst (Yields (Fits c d a) (a, rest)) (sym k.1) k.2)
       l
 
   -- a tree that a loop makes
@@ -540,7 +524,7 @@ module _ (c : ℕ) where
   operator_here : (h : ℕ) (o : Operator) (ts : Kinds) → operator_height o ≡ h → operator_at h (operator_mark o ▸ ts) ≡ Some (o, ts)
   operator_here h o ts e = subst (λ k. operator_at k (operator_mark o ▸ ts) ≡ Some (o, ts)) e (operator_same o ts)
 
-  link_full : (p : Parser Tree) (h : ℕ) (o : Operator) (a : Tree) (ts : Kinds) → operator_height o ≡ h → links p h 0 a (operator_mark o ▸ ts) ≡ Err Limit
+  link_full : (p : Parser Tree) (h : ℕ) (o : Operator) (a : Tree) (ts : Kinds) → operator_height o ≡ h → links p h 0 a (operator_mark o ▸ ts) ≡ Err (Limit (length (operator_mark o ▸ ts)))
   unfolding links
   link_full p h o a ts e = rw (operator_here h o ts e) refl
 
@@ -550,12 +534,12 @@ module _ (c : ℕ) where
 
   chain_operand : (g d n : ℕ) (o : Operator) (a b : Tree) (rest : Kinds) → IsChain g o → suc n + operators (suc g) a ≡ c → (r : Reads Tree) → Yields (Fits c d b) (b, rest) r → Leads g d (Binary o a b) rest (r >>= λ x. links (level d g) (suc g) n (Binary o a x.0) x.1)
   chain_operand g d n o a b rest ch e (Ok z) y = inl (n, omega (arith, operators_more o a b (suc g) ch.op), ap (λ (x : Tree × Kinds). links (level d g) (suc g) n (Binary o a x.0) x.1) y ∙ sym (ch.goes (level d g) n (Binary o a b) rest))
-  chain_operand g d n o a b rest ch e (Err Limit) y = inr (refl, λ f. y f.1)
+  chain_operand g d n o a b rest ch e (Err (Limit n')) y = inr (n', refl, λ f. y f.1)
   chain_operand g d n o a b rest ch e (Err Unexpected) y = absurd y
 
   chain_on : (g d n : ℕ) (o : Operator) (a b : Tree) (rest : Kinds) (r : Reads Tree) → IsChain g o → n + operators (suc g) a ≡ c → r ≡ goes_on g (level d g) n a (operator_mark o ▸ onto b rest) → Yields (Fits c d b) (b, rest) (level d g (onto b rest)) → Leads g d (Binary o a b) rest r
   chain_on g d zero o a b rest r ch e er y =
-      inr (er ∙ ch.goes (level d g) 0 a (operator_mark o ▸ onto b rest) ∙ link_full (level d g) (suc g) o a (onto b rest) ch.op, λ f. let q : operators (suc g) (Binary o a b) ≤ c = subst (λ k. operators k (Binary o a b) ≤ c) ch.op f.2 in omega (arith, operators_more o a b (suc g) ch.op, q))
+      inr (length (operator_mark o ▸ onto b rest), er ∙ ch.goes (level d g) 0 a (operator_mark o ▸ onto b rest) ∙ link_full (level d g) (suc g) o a (onto b rest) ch.op, λ f. let q : operators (suc g) (Binary o a b) ≤ c = subst (λ k. operators k (Binary o a b) ≤ c) ch.op f.2 in omega (arith, operators_more o a b (suc g) ch.op, q))
   chain_on g d (suc n) o a b rest r ch e er y =
       subst (Leads g d (Binary o a b) rest) (sym (er ∙ ch.goes (level d g) (suc n) a (operator_mark o ▸ onto b rest) ∙ link_one (level d g) (suc g) n o a (onto b rest) ch.op)) (chain_operand g d n o a b rest ch e (level d g (onto b rest)) y)
 
@@ -566,14 +550,14 @@ module _ (c : ℕ) where
       let next : g < grips (operator_mark o ▸ onto b rest) = omega (arith, operator_grip o, ch.op) in
       ⊎_elim
       (λ k. chain_on g d k.0 o a b rest (level d (suc g) (onto a (operator_mark o ▸ onto b rest))) ch k.1 k.2 y)
-      (λ k. inr (k.0, λ f. k.1 f.0))
+      (λ k. inr (k.0, k.1, λ f. k.2 f.0))
       (ka.1 g (operator_mark o ▸ onto b rest) ch.n0 ch.n3 ch.n5 (omega (arith, wl.1, ch.left)) next))
 
   -- ---- one comparison
 
   compare_operand : (d : ℕ) (o : Operator) (a b : Tree) (rest : Kinds) (r : Reads Tree) → Yields (Fits c d b) (b, rest) r → Yields (Fits c d (Binary o a b)) (Binary o a b, rest) (r >>= λ x. Ok (Binary o a x.0, x.1))
   compare_operand d o a b rest (Ok z) y = ap (λ (x : Tree × Kinds). let w : Tree × Kinds = (Binary o a x.0, x.1) in w) y
-  compare_operand d o a b rest (Err Limit) y = λ f. y f.1
+  compare_operand d o a b rest (Err (Limit n')) y = λ f. y f.1
   compare_operand d o a b rest (Err Unexpected) y = absurd y
 
   compared_one : (p : Parser Tree) (o : Operator) (a : Tree) (ts : Kinds) → operator_height o ≡ 4 → compared p a (operator_mark o ▸ ts) ≡ p ts >>= λ b. Ok (Binary o a b.0, b.1)
@@ -597,7 +581,7 @@ module _ (c : ℕ) where
   null_same true ts = rw (eat_same m.Not (m.Null ▸ ts), expect_same m.Null ts) refl
   null_same false ts = rw (let e : eat m.Not (m.Null ▸ ts) ≡ None = (other_marks ts).0 in e, expect_same m.Null ts) refl
 
-  test_full : (a : Tree) (not : Bool) (ts : Kinds) → tests 0 a (m.Is ▸ not_onto not (m.Null ▸ ts)) ≡ Err Limit
+  test_full : (a : Tree) (not : Bool) (ts : Kinds) → tests 0 a (m.Is ▸ not_onto not (m.Null ▸ ts)) ≡ Err (Limit (length (m.Is ▸ not_onto not (m.Null ▸ ts))))
   unfolding tests
   test_full a not ts = rw (eat_same m.Is (not_onto not (m.Null ▸ ts))) refl
 
@@ -606,7 +590,7 @@ module _ (c : ℕ) where
   test_one n a not ts = rw (eat_same m.Is (not_onto not (m.Null ▸ ts)), null_same not ts) refl
 
   test_on : (d n : ℕ) (a : Tree) (not : Bool) (rest : Kinds) (r : Reads Tree) → n + operators 5 a ≡ c → r ≡ tests n a (m.Is ▸ not_onto not (m.Null ▸ rest)) → Leads 4 d (IsNull a not) rest r
-  test_on d zero a not rest r e er = inr (er ∙ test_full a not rest, λ f. omega (arith, f.1))
+  test_on d zero a not rest r e er = inr (length (m.Is ▸ not_onto not (m.Null ▸ rest)), er ∙ test_full a not rest, λ f. omega (arith, f.1))
   test_on d (suc n) a not rest r e er = inl (n, omega arith, er ∙ test_one n a not rest)
 
   tested : (a : Tree) (not : Bool) (d : ℕ) → IsLevelled (IsNull a not) → Known d a → Known d (IsNull a not)
@@ -614,27 +598,27 @@ module _ (c : ℕ) where
       looped 4 (IsNull a not) d wl refl (omega arith) (omega arith) (λ rest lt.
       ⊎_elim
       (λ k. test_on d k.0 a not rest (level d 5 (onto a (m.Is ▸ not_onto not (m.Null ▸ rest)))) k.1 k.2)
-      (λ k. inr (k.0, λ f. k.1 f.0))
+      (λ k. inr (k.0, k.1, λ f. k.2 f.0))
       (ka.1 4 (m.Is ▸ not_onto not (m.Null ▸ rest)) (omega arith) (omega arith) (omega arith) wl.1 (omega arith)))
 
   -- ---- what opens a level
 
-  pub enter_yields : {B : Type 0} (d : ℕ) (F : ℕ → Type 0) (y : B × Kinds) (f : (ℕ → Parser Tree) → Reads B) → ((k : ℕ) → Yields (F k) y (f (levels c (deeper_of c k)))) → Yields (Below d F) y (enter (deeper_of c d) f)
+  pub enter_yields : {B : Type 0} (left d : ℕ) (F : ℕ → Type 0) (y : B × Kinds) (f : (ℕ → Parser Tree) → Reads B) → ((k : ℕ) → Yields (F k) y (f (levels c (deeper_of c k)))) → Yields (Below d F) y (enter left (deeper_of c d) f)
   unfolding deeper_of
-  enter_yields zero F y f h = λ x. x
-  enter_yields (suc d) F y f h = h d
+  enter_yields left zero F y f h = λ x. x
+  enter_yields left (suc d) F y f h = h d
 
   signed : (s : Sign) (a : Tree) (d : ℕ) → IsLevelled (Signed s a) → ((k : ℕ) → Known k a) → Known d (Signed s a)
   unfolding levels
   signed s a d wl ka =
       plain (Signed s a) d wl (λ g n0 n3 n5 le. omega arith) (λ rest lt.
-      rw (sign_same s (onto a rest)) (enter_yields d (λ k. Fits c k a) (Signed s a, rest) (λ p. p 1 (onto a rest) >>= λ x. Ok (Signed s x.0, x.1)) (λ k. then_yields (Fits c k a) (Fits c k a) (a, rest) (Signed s a, rest) (level k 1 (onto a rest)) (λ x. Ok (Signed s x.0, x.1)) (λ f. f) ((ka k).0 1 rest wl.1 lt) refl)))
+      rw (sign_same s (onto a rest)) (enter_yields (length (sign_mark s ▸ onto a rest)) d (λ k. Fits c k a) (Signed s a, rest) (λ p. p 1 (onto a rest) >>= λ x. Ok (Signed s x.0, x.1)) (λ k. then_yields (Fits c k a) (Fits c k a) (a, rest) (Signed s a, rest) (level k 1 (onto a rest)) (λ x. Ok (Signed s x.0, x.1)) (λ f. f) ((ka k).0 1 rest wl.1 lt) refl)))
 
   negated : (a : Tree) (d : ℕ) → IsLevelled (Negated a) → ((k : ℕ) → Known k a) → Known d (Negated a)
   unfolding levels
   negated a d wl ka =
       plain (Negated a) d wl (λ g n0 n3 n5 le. omega arith) (λ rest lt.
-      rw (eat_same m.Not (onto a rest)) (enter_yields d (λ k. Fits c k a) (Negated a, rest) (λ p. p 6 (onto a rest) >>= λ x. Ok (Negated x.0, x.1)) (λ k. then_yields (Fits c k a) (Fits c k a) (a, rest) (Negated a, rest) (level k 6 (onto a rest)) (λ x. Ok (Negated x.0, x.1)) (λ f. f) ((ka k).0 6 rest wl.1 lt) refl)))
+      rw (eat_same m.Not (onto a rest)) (enter_yields (length (m.Not ▸ onto a rest)) d (λ k. Fits c k a) (Negated a, rest) (λ p. p 6 (onto a rest) >>= λ x. Ok (Negated x.0, x.1)) (λ k. then_yields (Fits c k a) (Fits c k a) (a, rest) (Negated a, rest) (level k 6 (onto a rest)) (λ x. Ok (Negated x.0, x.1)) (λ f. f) ((ka k).0 6 rest wl.1 lt) refl)))
 
   -- an item, whole, before what ends it
   pub item : (a : Tree) (k : ℕ) (ts : Kinds) → Known k a → 8 < grips ts → Yields (Fits c k a) (a, ts) (level k 8 (onto a ts))
@@ -644,7 +628,7 @@ module _ (c : ℕ) where
   unfolding levels primary bracket_at
   bracket a d wl ka =
       plain (Bracket a) d wl (λ g n0 n3 n5 le. omega arith) (λ rest lt.
-      enter_yields d (λ k. Fits c k a) (Bracket a, rest) (λ p. bracket_at (p 8) (onto a (m.RightBracket ▸ rest))) (λ k.
+      enter_yields (suc (length (onto a (m.RightBracket ▸ rest)))) d (λ k. Fits c k a) (Bracket a, rest) (λ p. bracket_at (p 8) (onto a (m.RightBracket ▸ rest))) (λ k.
       then_yields (Fits c k a) (Fits c k a) (a, m.RightBracket ▸ rest) (Bracket a, rest) (level k 8 (onto a (m.RightBracket ▸ rest))) (λ x. expect m.RightBracket x.1 >>= λ r. Ok (Bracket x.0, r)) (λ f. f) (item a k (m.RightBracket ▸ rest) (ka k) (omega arith)) (rw (expect_same m.RightBracket rest) refl)))
 
   -- ---- lists
@@ -754,7 +738,7 @@ module _ (c : ℕ) where
   over_windowed d w kw rest lt =
       let inside : Kinds = window_onto w (m.RightBracket ▸ rest) in
       rw (eat_same m.Over (m.LeftBracket ▸ inside)) (rw (eat_same m.LeftBracket inside)
-      (enter_yields d (λ k. WindowFits c k w) (over_window w, rest) (λ p. window_at (p 8) inside >>= λ x. Ok (over_window x.0, x.1)) (λ k.
+      (enter_yields (length (m.LeftBracket ▸ inside)) d (λ k. WindowFits c k w) (over_window w, rest) (λ p. window_at (p 8) inside >>= λ x. Ok (over_window x.0, x.1)) (λ k.
       then_yields (WindowFits c k w) (WindowFits c k w) (w, rest) (over_window w, rest) (window_at (level k 8) inside) (λ x. Ok (over_window x.0, x.1)) (λ f. f) (kw k rest) refl)))
 
   -- the arguments, between the brackets
@@ -795,7 +779,7 @@ module _ (c : ℕ) where
       let G : Type 0 = Below d F × OverFits c d over in
       let y : Tree × Kinds = (call_of f arguments over, rest) in
       subst (Yields G y) (sym (name_first d f (m.LeftBracket ▸ inside) ∙ call_first d f inside))
-      (then_yields (Below d F) G (arguments, over_onto over rest) y (enter (deeper_of c d) (λ p. arguments_at (p 8) inside)) (λ bs. over_at (deeper_of c d) bs.1 >>= λ x. Ok (call_of f bs.0 x.0, x.1)) (λ f. f.0) (enter_yields d F (arguments, over_onto over rest) (λ p. arguments_at (p 8) inside) h)
+      (then_yields (Below d F) G (arguments, over_onto over rest) y (enter (suc (length inside)) (deeper_of c d) (λ p. arguments_at (p 8) inside)) (λ bs. over_at (deeper_of c d) bs.1 >>= λ x. Ok (call_of f bs.0 x.0, x.1)) (λ f. f.0) (enter_yields (suc (length inside)) d F (arguments, over_onto over rest) (λ p. arguments_at (p 8) inside) h)
       (then_yields (OverFits c d over) G (over, rest) y (over_at (deeper_of c d) (over_onto over rest)) (λ x. Ok (call_of f arguments x.0, x.1)) (λ f. f.1) (ko rest lt) refl))
 
   call_all : (d : ℕ) (f : Name) (over : OverTree) → OverLevelled over → OverReads d over → Known d (CallAll f over)
@@ -884,7 +868,7 @@ module _ (c : ℕ) where
   cased when gives arms other d wl kw kg ka ko =
       let all : Arms = more_arms when gives arms in
       plain (Case all other) d wl (λ g n0 n3 n5 le. omega arith) (λ rest lt.
-      enter_yields d (λ k. ArmsFit c k all × ElseFits c k other) (Case all other, rest) (λ p. case_at (p 8) (arms_onto all (else_onto other (m.End ▸ rest)))) (λ k. case_inside k when gives arms other rest (kw k) (kg k) (ka k) (ko k)))
+      enter_yields (suc (length (arms_onto all (else_onto other (m.End ▸ rest))))) d (λ k. ArmsFit c k all × ElseFits c k other) (Case all other, rest) (λ p. case_at (p 8) (arms_onto all (else_onto other (m.End ▸ rest)))) (λ k. case_inside k when gives arms other rest (kw k) (kg k) (ka k) (ko k)))
 
   -- ---- each tree
 

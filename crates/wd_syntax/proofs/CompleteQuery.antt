@@ -1,33 +1,8 @@
 -- What a well-levelled query spells is read as that query, or passes a limit that the query passes.
-use Rattle.std.proofs.Common.{◌≡◌, ◌≢◌, ℕ, zero, suc, ◌+◌, ◌<◌, ◌≤◌, ◌⊎◌, inl, inr, Bool, true, false, cond, eqb, List, [], ◌∷◌, length, Option, Some, None, Result, Ok, Err, refl, sym, ap, subst, ◌∙◌, arith, rules, ⊎_elim}
-use Rattle.std.proofs.lemmas.Bool.{cases_lt}
+use Rattle.std.proofs.Common.{◌≡◌, ℕ, zero, suc, ◌<◌, ◌≤◌, Bool, true, false, List, [], ◌∷◌, length, Option, Some, None, Result, Ok, Err, refl, sym, ap, subst, arith}
 use Rattle.wd_lex.specs.declared.token.Mark.{Mark}
 use Rattle.wd_lex.specs.declared.token.Mark.TheVariants as m
-use Rattle.wd_lex.specs.declared.token.TokenKind.{TokenKind}
-use Rattle.wd_lex.specs.declared.token.TokenKind.TheVariants as t
-use Rattle.wd_lex.specs.Marks.{mark_code}
-use Rattle.wd_syntax.specs.declared.words.KeyWord.{KeyWord}
-use Rattle.wd_syntax.specs.declared.words.KeyWord.TheVariants as k
 use Rattle.wd_syntax.specs.declared.name.Name.{Name}
-use Rattle.wd_syntax.specs.declared.frame.Frame.{Frame}
-use Rattle.wd_syntax.specs.declared.frame.FrameMode.{FrameMode}
-use Rattle.wd_syntax.specs.declared.frame.FrameMode.TheVariants.{Rows, Range, Groups}
-use Rattle.wd_syntax.specs.declared.frame.Bound.{Bound}
-use Rattle.wd_syntax.specs.declared.frame.Bound.TheVariants.{UnboundedPreceding, Preceding, CurrentRow, Following, UnboundedFollowing}
-use Rattle.wd_syntax.specs.declared.frame.Extent.{Extent}
-use Rattle.wd_syntax.specs.declared.frame.Extent.TheVariants.{Start, Between}
-use Rattle.wd_syntax.specs.declared.frame.Exclusion.{Exclusion}
-use Rattle.wd_syntax.specs.declared.frame.Exclusion.TheVariants as x
-use Rattle.wd_syntax.specs.declared.expression.Operator.{Operator}
-use Rattle.wd_syntax.specs.declared.expression.Operator.TheVariants as o
-use Rattle.wd_syntax.specs.declared.expression.Sign.{Sign}
-use Rattle.wd_syntax.specs.declared.expression.Sign.TheVariants as s
-use Rattle.wd_syntax.specs.declared.expression.Literal.{Literal}
-use Rattle.wd_syntax.specs.declared.expression.Literal.TheVariants as l
-use Rattle.wd_syntax.specs.declared.expression.SortDirection.{SortDirection}
-use Rattle.wd_syntax.specs.declared.expression.SortDirection.TheVariants.{Ascending, Descending}
-use Rattle.wd_syntax.specs.declared.expression.NullsPlace.{NullsPlace}
-use Rattle.wd_syntax.specs.declared.expression.NullsPlace.TheVariants as p
 use Rattle.wd_syntax.specs.declared.query.Alias.{Alias}
 use Rattle.wd_syntax.specs.declared.query.Quantifier.{Quantifier}
 use Rattle.wd_syntax.specs.declared.query.Quantifier.TheVariants as q
@@ -35,18 +10,17 @@ use Rattle.wd_syntax.specs.declared.query.RowWord.{RowWord}
 use Rattle.wd_syntax.specs.declared.query.RowWord.TheVariants as w
 use Rattle.wd_syntax.specs.declared.query.FetchWord.{FetchWord}
 use Rattle.wd_syntax.specs.declared.query.FetchWord.TheVariants as f
-use Rattle.wd_syntax.specs.declared.query.Offset.{Offset}
 use Rattle.wd_syntax.specs.declared.query.Count.{Count}
 use Rattle.wd_syntax.specs.declared.query.Count.TheVariants as c
 use Rattle.wd_syntax.specs.declared.query.Limits.{Limits}
 use Rattle.wd_syntax.specs.declared.query.Limits.TheVariants.{OffsetFirst, CountFirst}
-use Rattle.wd_syntax.specs.Tokens.{Kinds, ◌▸◌, ◌▹◌, letters, written, name_kind, literal_kind, operator_mark, sign_mark, operator_height}
-use Rattle.wd_syntax.specs.Tree.{Tree, Constant, Column, Qualified, CallAll, Call, Case, Bracket, Signed, Binary, IsNull, Negated, Trees, no_trees, more_trees, Arms, no_arms, more_arms, Otherwise, no_else, or_else, OverTree, no_over, over_name, over_window, WindowTree, window, Keys, no_keys, more_keys, ItemTree, all_columns, all_of, shown, TableTree, named, derived, JoinTree, comma, cross, inner, Joins, no_joins, more_joins, SelectTree, select, QueryTree, query, Key, trees_of, arms_of, keys_of, joins_of, Each}
-use Rattle.wd_syntax.specs.Spelling.{mode_onto, bound_onto, extent_onto, excluded_onto, exclusion_onto, frame_onto, direction_onto, nulls_onto, not_onto, base_onto, onto, list_onto, more_onto, arms_onto, else_onto, over_onto, window_onto, partition_onto, order_onto, more_keys_onto, quantifier_onto, as_onto, given_onto, alias_onto, item_onto, more_items_onto, items_onto, filter_onto, named_window_onto, more_windows_onto, windows_onto, row_onto, row_option_onto, offset_onto, fetch_onto, number_onto, ties_onto, count_onto, offset_option_onto, count_option_onto, limits_onto, tail_onto, table_onto, join_onto, joins_onto, select_onto, end_onto, spell}
-use Rattle.wd_syntax.specs.Levels.{height, left_height, IsSomeArm, IsLevelled, AreLevelled, ArmsLevelled, ElseLevelled, OverLevelled, WindowLevelled, KeysLevelled, ItemLevelled, IsSomeItem, OptionLevelled, TableLevelled, JoinLevelled, JoinsLevelled, SelectLevelled, IsWellLevelled}
-use Rattle.wd_syntax.specs.Limits.{operators, Below, Fits, AllFit, ArmsFit, ElseFits, OverFits, WindowFits, KeysFit, ItemFits, OptionFits, TableFits, JoinFits, JoinsFit, SelectFits, QueryFits, KeepsLimits}
-use Rattle.wd_syntax.specs.Reading.{Fault, Unexpected, Limit, ◌>>=◌, Reads, Parser, Chance, choose, eat, expect, eat_word, expect_word, name_of, with_rest, eat_name, name_at, number_at, operator_of, operator_if, operator_at, sign_of, sign_at, some_or_unexpected, if_begun, many, after, list_at, try, optional, mode_if, mode_at, side_at, unbounded, away, bound_at, extent_at, excluded_at, exclusion_at, frame_if, frame_at, direction_at, nulls_at, key_at, partition_at, order_at, base_if, base_at, window_at, link, ended, links, compared, null_at, tests, arguments_at, call_of, enter, Deeper, over_at, call_at, named_at, arm_at, else_at, case_at, bracket_at, primary_by_mark, primary, signed_by, goes_on, step, levels, deeper_of, read, quantifier_at, given_at, bare_if, alias_at, star_if, star_at, item_if, item_at, filter_at, named_window_at, windows_at, row_at, row_if, offset_at, fetch_word_at, number_if, number_option_at, ties_at, fetch_at, limit_at, count_if, offset_if, limits_at, Inner, table_at, inner_at, join_at, from_at, select_at, selects, inside_of, if_last, whole}
-use Rattle.wd_syntax.proofs.Marking.{eat_same, expect_same, name_at_same, eat_name_kind, grips, grips_name, clause, clauses, clause_stops, clause_grips}
+use Rattle.wd_syntax.specs.Tokens.{Kinds, ◌▸◌, name_kind}
+use Rattle.wd_syntax.specs.Tree.{Tree, WindowTree, Keys, ItemTree, all_columns, all_of, shown, TableTree, named, derived, JoinTree, comma, cross, inner, Joins, no_joins, more_joins, SelectTree, select, QueryTree, query, keys_of, joins_of, Each}
+use Rattle.wd_syntax.specs.Spelling.{onto, window_onto, order_onto, quantifier_onto, as_onto, given_onto, alias_onto, item_onto, more_items_onto, items_onto, filter_onto, named_window_onto, more_windows_onto, windows_onto, row_onto, row_option_onto, offset_onto, fetch_onto, number_onto, ties_onto, count_onto, limits_onto, tail_onto, table_onto, join_onto, joins_onto, select_onto, end_onto, spell}
+use Rattle.wd_syntax.specs.Levels.{IsLevelled, WindowLevelled, ItemLevelled, OptionLevelled, TableLevelled, JoinLevelled, JoinsLevelled, SelectLevelled, IsWellLevelled}
+use Rattle.wd_syntax.specs.Limits.{Below, Fits, WindowFits, KeysFit, ItemFits, OptionFits, TableFits, JoinFits, JoinsFit, SelectFits, QueryFits}
+use Rattle.wd_syntax.specs.Reading.{Fault, Unexpected, Limit, ◌>>=◌, Reads, Parser, Chance, choose, eat, expect, many, after, list_at, order_at, window_at, enter, deeper_of, given_at, alias_at, item_at, filter_at, named_window_at, windows_at, limits_at, Inner, table_at, inner_at, join_at, from_at, select_at, selects, inside_of, if_last, whole}
+use Rattle.wd_syntax.proofs.Marking.{eat_same, expect_same, name_at_same, eat_name_kind, grips, grips_name, clauses, clause_stops, clause_grips}
 use Rattle.wd_syntax.proofs.Pieces.{quantifier_same, given_same, alias_same, star_same, limits_same, limits_clause}
 use Rattle.wd_syntax.proofs.Complete.{Yields, then_yields, then_exactly, Turns, turns_longer, many_yields, after_same, after_none, list_yields, key_items, keys_back, begun, begun_stops, star_stops, longer, window_longer, order_longer, order_clause, level, enter_yields, item, known, window_known, order_known}
 
@@ -247,7 +221,7 @@ module _ (c : ℕ) where
   named_window_reads d w rest wl =
       let inside : Kinds = window_onto w.1 (m.RightBracket ▸ rest) in
       rw (name_at_same w.0 (m.As ▸ m.LeftBracket ▸ inside)) (rw (expect_same m.As (m.LeftBracket ▸ inside)) (rw (expect_same m.LeftBracket inside)
-      (then_yields (WindowBelow d w) (WindowBelow d w) (w.1, rest) (w, rest) (enter (deeper_of c d) (λ p. window_at (p 8) inside)) (λ x. Ok ((w.0, x.0), x.1)) (λ f. f) (enter_yields c d (λ k. WindowFits c k w.1) (w.1, rest) (λ p. window_at (p 8) inside) (λ k. window_known c w.1 wl k rest)) refl)))
+      (then_yields (WindowBelow d w) (WindowBelow d w) (w.1, rest) (w, rest) (enter (length (m.LeftBracket ▸ inside)) (deeper_of c d) (λ p. window_at (p 8) inside)) (λ x. Ok ((w.0, x.0), x.1)) (λ f. f) (enter_yields c (length (m.LeftBracket ▸ inside)) d (λ k. WindowFits c k w.1) (w.1, rest) (λ p. window_at (p 8) inside) (λ k. window_known c w.1 wl k rest)) refl)))
 
   window_turns : (d : ℕ) (windows : List (Name × WindowTree)) (rest : Kinds) → Each (λ w. WindowLevelled w.1) windows → 1 < clauses rest → Turns (WindowBelow d) (after m.Comma (named_window_at (deeper_of c d))) windows (more_windows_onto windows rest) rest
   window_turns d [] rest wl lt = (refl, after_none m.Comma (named_window_at (deeper_of c d)) rest (clause_stops m.Comma rest lt))
@@ -275,9 +249,9 @@ module _ (c : ℕ) where
   unfolding table_at
   table_named d n alias rest lt = rw (eat_name_kind m.LeftBracket n (alias_onto alias rest)) (rw (name_at_same n (alias_onto alias rest)) (rw (alias_same alias rest lt) refl))
 
-  inside_yields : (d : ℕ) (F : ℕ → Type 0) (y : SelectTree × Kinds) (ts : Kinds) → ((k : ℕ) → Yields (F k) y (selects c k ts)) → Yields (Below d F) y (enter (inside_of c d) (λ p. p ts))
-  inside_yields zero F y ts h = λ x. x
-  inside_yields (suc d) F y ts h = h d
+  inside_yields : (left d : ℕ) (F : ℕ → Type 0) (y : SelectTree × Kinds) (ts : Kinds) → ((k : ℕ) → Yields (F k) y (selects c k ts)) → Yields (Below d F) y (enter left (inside_of c d) (λ p. p ts))
+  inside_yields left zero F y ts h = λ x. x
+  inside_yields left (suc d) F y ts h = h d
 
   table_derived : (d : ℕ) (s : SelectTree) (alias : Alias) → ((k : ℕ) → SelectReads k s) → TableReads d (derived s alias)
   unfolding table_at
@@ -285,7 +259,7 @@ module _ (c : ℕ) where
       let close : Kinds = m.RightBracket ▸ given_onto alias rest in
       let F : Type 0 = Below d (λ k. SelectFits c k s) in
       rw (eat_same m.LeftBracket (select_onto s close))
-      (then_exactly F F (s, close) (derived s alias, rest) (enter (inside_of c d) (λ p. p (select_onto s close))) (λ s. expect m.RightBracket s.1 >>= λ r. given_at r >>= λ x. Ok (derived s.0 x.0, x.1)) (λ f. f) (inside_yields d (λ k. SelectFits c k s) (s, close) (select_onto s close) (λ k. ks k close (omega arith)))
+      (then_exactly F F (s, close) (derived s alias, rest) (enter (length (m.LeftBracket ▸ select_onto s close)) (inside_of c d) (λ p. p (select_onto s close))) (λ s. expect m.RightBracket s.1 >>= λ r. given_at r >>= λ x. Ok (derived s.0 x.0, x.1)) (λ f. f) (inside_yields (length (m.LeftBracket ▸ select_onto s close)) d (λ k. SelectFits c k s) (s, close) (select_onto s close) (λ k. ks k close (omega arith)))
       (rw (expect_same m.RightBracket (given_onto alias rest)) (rw (given_same alias rest) refl)))
 
   abbrev JoinReads : ℕ → JoinTree → Type 0
@@ -406,7 +380,7 @@ module _ (c : ℕ) where
   -- the query, or the limit that it passes
   abbrev pub Answers : ℕ → QueryTree → Result QueryTree Fault → Type 0
   Answers d q (Ok r) = r ≡ q
-  Answers d q (Err Limit) = QueryFits c d q → ⊥
+  Answers d q (Err (Limit n')) = QueryFits c d q → ⊥
   Answers d q (Err Unexpected) = ⊥
 
   ends : SelectTree × Kinds → Result QueryTree Fault
@@ -419,7 +393,7 @@ module _ (c : ℕ) where
 
   then_answers : (d : ℕ) (s : SelectTree) (b : Bool) (r : Reads SelectTree) → Yields (SelectFits c d s) (s, end_onto b) r → Answers d (query s b) (r >>= ends)
   then_answers d s b (Ok x) h = subst (λ (y : SelectTree × Kinds). Answers d (query s b) (ends y)) (sym h) (subst (Answers d (query s b)) (sym (ended_by s b)) refl)
-  then_answers d s b (Err Limit) h = h
+  then_answers d s b (Err (Limit n')) h = h
   then_answers d s b (Err Unexpected) h = absurd h
 
   end_clause : (b : Bool) → 5 < clauses (end_onto b)

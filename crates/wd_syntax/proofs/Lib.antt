@@ -7,3 +7,6 @@ pub mod Sound
 pub mod SoundQuery
 pub mod Unique
 pub mod Rows
+pub mod CutPieces
+pub mod Cut
+pub mod CutQuery

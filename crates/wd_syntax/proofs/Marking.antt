@@ -1,16 +1,14 @@
 -- Tokens that are eaten, and tokens that end what is read.
-use Rattle.std.proofs.Common.{◌≡◌, ◌≢◌, ℕ, zero, suc, ◌+◌, ◌<◌, ◌≤◌, Bool, true, false, cond, eqb, List, [], ◌∷◌, length, Option, Some, None, Result, Ok, Err, refl, sym, ap, subst, ◌∙◌, arith, rules}
-use Rattle.std.proofs.lemmas.Bool.{eqb-true, eq-eqb}
+use Rattle.std.proofs.Common.{◌≡◌, ◌≢◌, ℕ, ◌<◌, ◌≤◌, Bool, true, false, cond, eqb, List, [], ◌∷◌, Option, Some, None, Ok, refl, ap, arith, rules}
+use Rattle.std.proofs.lemmas.Bool.{eqb-true}
 use Rattle.std.proofs.lemmas.Slice.Eq.{bytes_eq-Decides}
 use Rattle.std.specs.Str.{bytes_eq}
 use Rattle.wd_lex.specs.declared.token.Mark.{Mark}
 use Rattle.wd_lex.specs.declared.token.Mark.TheVariants as m
-use Rattle.wd_lex.specs.declared.token.TokenKind.{TokenKind}
 use Rattle.wd_lex.specs.declared.token.TokenKind.TheVariants as t
 use Rattle.wd_lex.specs.Marks.{mark_code}
 use Rattle.wd_lex.proofs.MarkLaws.{same_mark}
 use Rattle.wd_syntax.specs.declared.words.KeyWord.{KeyWord}
-use Rattle.wd_syntax.specs.declared.words.KeyWord.TheVariants as k
 use Rattle.wd_syntax.specs.declared.name.Name.{Name}
 use Rattle.wd_syntax.specs.declared.expression.Operator.{Operator}
 use Rattle.wd_syntax.specs.declared.expression.Operator.TheVariants as o
@@ -18,7 +16,7 @@ use Rattle.wd_syntax.specs.declared.expression.Sign.{Sign}
 use Rattle.wd_syntax.specs.declared.expression.Sign.TheVariants as s
 use Rattle.wd_syntax.specs.Tokens.{Kinds, ◌▸◌, ◌▹◌, letters, written, name_kind, operator_mark, sign_mark, operator_height}
 use Rattle.wd_syntax.specs.Levels.{left_height}
-use Rattle.wd_syntax.specs.Reading.{Fault, Unexpected, eat, expect, is_mark, is_word, eat_word, expect_word, name_of, eat_name, name_at, number_at, operator_of, operator_at, operator_if, sign_at, some_or_unexpected}
+use Rattle.wd_syntax.specs.Reading.{eat, expect, eat_word, expect_word, name_of, eat_name, name_at, operator_of, operator_at, operator_if, sign_at}
 
 pub eqb-same : (n : ℕ) → eqb n n ≡ true
 eqb-same n = search rules

@@ -1,12 +1,8 @@
 -- What the parts that hold no expression spell is read as those parts.
-use Rattle.std.proofs.Common.{◌≡◌, ◌≢◌, ℕ, zero, suc, ◌+◌, ◌<◌, ◌≤◌, ◌⊎◌, inl, inr, Bool, true, false, cond, eqb, List, [], ◌∷◌, length, Option, Some, None, Result, Ok, Err, refl, sym, ap, subst, ◌∙◌, arith, rules, ⊎_elim}
-use Rattle.std.proofs.lemmas.Bool.{cases_lt}
+use Rattle.std.proofs.Common.{◌≡◌, ℕ, ◌<◌, Bool, true, false, [], ◌∷◌, Option, Some, None, Ok, refl, arith}
 use Rattle.wd_lex.specs.declared.token.Mark.{Mark}
 use Rattle.wd_lex.specs.declared.token.Mark.TheVariants as m
-use Rattle.wd_lex.specs.declared.token.TokenKind.{TokenKind}
 use Rattle.wd_lex.specs.declared.token.TokenKind.TheVariants as t
-use Rattle.wd_lex.specs.Marks.{mark_code}
-use Rattle.wd_syntax.specs.declared.words.KeyWord.{KeyWord}
 use Rattle.wd_syntax.specs.declared.words.KeyWord.TheVariants as k
 use Rattle.wd_syntax.specs.declared.name.Name.{Name}
 use Rattle.wd_syntax.specs.declared.frame.Frame.{Frame}
@@ -18,12 +14,6 @@ use Rattle.wd_syntax.specs.declared.frame.Extent.{Extent}
 use Rattle.wd_syntax.specs.declared.frame.Extent.TheVariants.{Start, Between}
 use Rattle.wd_syntax.specs.declared.frame.Exclusion.{Exclusion}
 use Rattle.wd_syntax.specs.declared.frame.Exclusion.TheVariants as x
-use Rattle.wd_syntax.specs.declared.expression.Operator.{Operator}
-use Rattle.wd_syntax.specs.declared.expression.Operator.TheVariants as o
-use Rattle.wd_syntax.specs.declared.expression.Sign.{Sign}
-use Rattle.wd_syntax.specs.declared.expression.Sign.TheVariants as s
-use Rattle.wd_syntax.specs.declared.expression.Literal.{Literal}
-use Rattle.wd_syntax.specs.declared.expression.Literal.TheVariants as l
 use Rattle.wd_syntax.specs.declared.expression.SortDirection.{SortDirection}
 use Rattle.wd_syntax.specs.declared.expression.SortDirection.TheVariants.{Ascending, Descending}
 use Rattle.wd_syntax.specs.declared.expression.NullsPlace.{NullsPlace}
@@ -40,13 +30,10 @@ use Rattle.wd_syntax.specs.declared.query.Count.{Count}
 use Rattle.wd_syntax.specs.declared.query.Count.TheVariants as c
 use Rattle.wd_syntax.specs.declared.query.Limits.{Limits}
 use Rattle.wd_syntax.specs.declared.query.Limits.TheVariants.{OffsetFirst, CountFirst}
-use Rattle.wd_syntax.specs.Tokens.{Kinds, ◌▸◌, ◌▹◌, letters, written, name_kind, literal_kind, operator_mark, sign_mark, operator_height}
-use Rattle.wd_syntax.specs.Tree.{Tree, Constant, Column, Qualified, CallAll, Call, Case, Bracket, Signed, Binary, IsNull, Negated, Trees, no_trees, more_trees, Arms, no_arms, more_arms, Otherwise, no_else, or_else, OverTree, no_over, over_name, over_window, WindowTree, window, Keys, no_keys, more_keys, ItemTree, all_columns, all_of, shown, TableTree, named, derived, JoinTree, comma, cross, inner, Joins, no_joins, more_joins, SelectTree, select, QueryTree, query, Key, trees_of, arms_of, keys_of, joins_of, Each}
-use Rattle.wd_syntax.specs.Spelling.{mode_onto, bound_onto, extent_onto, excluded_onto, exclusion_onto, frame_onto, direction_onto, nulls_onto, not_onto, base_onto, onto, list_onto, more_onto, arms_onto, else_onto, over_onto, window_onto, partition_onto, order_onto, more_keys_onto, quantifier_onto, as_onto, given_onto, alias_onto, item_onto, more_items_onto, items_onto, filter_onto, named_window_onto, more_windows_onto, windows_onto, row_onto, row_option_onto, offset_onto, fetch_onto, number_onto, ties_onto, count_onto, offset_option_onto, count_option_onto, limits_onto, tail_onto, table_onto, join_onto, joins_onto, select_onto, end_onto, spell}
-use Rattle.wd_syntax.specs.Levels.{height, left_height, IsSomeArm, IsLevelled, AreLevelled, ArmsLevelled, ElseLevelled, OverLevelled, WindowLevelled, KeysLevelled, ItemLevelled, IsSomeItem, OptionLevelled, TableLevelled, JoinLevelled, JoinsLevelled, SelectLevelled, IsWellLevelled}
-use Rattle.wd_syntax.specs.Limits.{operators, Below, Fits, AllFit, ArmsFit, ElseFits, OverFits, WindowFits, KeysFit, ItemFits, OptionFits, TableFits, JoinFits, JoinsFit, SelectFits, QueryFits, KeepsLimits}
-use Rattle.wd_syntax.specs.Reading.{Fault, Unexpected, Limit, ◌>>=◌, Reads, Parser, Chance, choose, eat, expect, eat_word, expect_word, name_of, with_rest, eat_name, name_at, number_at, operator_of, operator_if, operator_at, sign_of, sign_at, some_or_unexpected, if_begun, many, after, list_at, try, optional, mode_if, mode_at, side_at, unbounded, away, bound_at, extent_at, excluded_at, exclusion_at, frame_if, frame_at, direction_at, nulls_at, key_at, partition_at, order_at, base_if, base_at, window_at, link, ended, links, compared, null_at, tests, arguments_at, call_of, enter, Deeper, over_at, call_at, named_at, arm_at, else_at, case_at, bracket_at, primary_by_mark, primary, signed_by, goes_on, step, levels, deeper_of, read, quantifier_at, given_at, bare_if, alias_at, star_if, star_at, item_if, item_at, filter_at, named_window_at, windows_at, row_at, row_if, offset_at, fetch_word_at, number_if, number_option_at, ties_at, fetch_at, limit_at, count_if, offset_if, limits_at, Inner, table_at, inner_at, join_at, from_at, select_at, selects, inside_of, if_last, whole}
-use Rattle.wd_syntax.proofs.Marking.{eat_same, expect_same, eat_word_same, expect_word_same, eat_name_same, name_at_same, eat_name_kind, clause, clauses, clause_stops, clause_no_name, clause_no_word}
+use Rattle.wd_syntax.specs.Tokens.{Kinds, ◌▸◌, name_kind}
+use Rattle.wd_syntax.specs.Spelling.{mode_onto, bound_onto, extent_onto, excluded_onto, exclusion_onto, frame_onto, direction_onto, nulls_onto, base_onto, quantifier_onto, as_onto, given_onto, alias_onto, row_onto, row_option_onto, offset_onto, fetch_onto, number_onto, ties_onto, count_onto, offset_option_onto, count_option_onto, limits_onto}
+use Rattle.wd_syntax.specs.Reading.{eat, eat_word, expect_word, number_at, optional, mode_if, mode_at, side_at, bound_at, extent_at, excluded_at, exclusion_at, frame_at, direction_at, nulls_at, base_at, quantifier_at, given_at, alias_at, star_at, row_at, offset_at, fetch_word_at, number_option_at, ties_at, fetch_at, limit_at, count_if, offset_if, limits_at}
+use Rattle.wd_syntax.proofs.Marking.{eat_same, expect_same, eat_word_same, eat_name_same, name_at_same, eat_name_kind, clause, clauses, clause_stops, clause_no_name, clause_no_word}
 
 -- ---- frames
 

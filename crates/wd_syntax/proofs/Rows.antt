@@ -1,5 +1,5 @@
 -- What the trees of the code show of their vectors.
-use Rattle.std.proofs.Common.{◌≡◌, List, [], ◌∷◌, map, Option, Some, None, refl, ap, ◌∙◌, Vec, Global}
+use Rattle.std.proofs.Common.{◌≡◌, List, map, Option, Some, None, refl, ap, ◌∙◌, Vec, Global}
 use Rattle.std.specs.Global.{Box}
 use mathlib.Core.Former.{Count}
 use Rattle.wd_syntax.specs.declared.name.Name.{Name}
@@ -10,7 +10,7 @@ use Rattle.wd_syntax.specs.declared.expression.Over.{Over}
 use Rattle.wd_syntax.specs.declared.expression.Arm.{Arm}
 use Rattle.wd_syntax.specs.declared.expression.SortKey.{SortKey}
 use Rattle.wd_syntax.specs.declared.expression.Window.{Window, Window', Row_of-SortKey, end_of-SortKey, more_of-SortKey, items-the_row-SortKey, items_hidden-the_row-SortKey-2, roll-Window}
-use Rattle.wd_syntax.specs.Tree.{Tree, CallAll, Call, Case, Trees, more_trees, Arms, more_arms, Keys, more_keys, WindowTree, window, trees_of, arms_of, keys_of}
+use Rattle.wd_syntax.specs.Tree.{CallAll, Call, Case, Trees, more_trees, Arms, more_arms, Keys, more_keys, window, trees_of, arms_of, keys_of}
 use Rattle.wd_syntax.specs.declared.query.Alias.{Alias}
 use Rattle.wd_syntax.specs.declared.query.Select.{Select}
 use Rattle.wd_syntax.specs.declared.query.Joined.{Joined}

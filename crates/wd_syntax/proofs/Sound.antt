@@ -1,51 +1,17 @@
 -- What is read of an expression is spelled so, is well-levelled and keeps the limits.
-use Rattle.std.proofs.Common.{◌≡◌, ◌≢◌, ℕ, zero, suc, ◌+◌, ◌<◌, ◌≤◌, ◌⊎◌, inl, inr, Bool, true, false, cond, eqb, List, [], ◌∷◌, length, Option, Some, None, Result, Ok, Err, refl, sym, ap, subst, ◌∙◌, arith, rules, ⊎_elim}
-use Rattle.std.proofs.lemmas.Bool.{cases_lt}
+use Rattle.std.proofs.Common.{◌≡◌, ◌≢◌, ℕ, zero, suc, ◌+◌, ◌≤◌, Bool, true, false, cond, eqb, List, [], ◌∷◌, length, Option, Some, None, Result, Ok, Err, refl, sym, ap, subst, ◌∙◌, arith}
 use Rattle.wd_lex.specs.declared.token.Mark.{Mark}
 use Rattle.wd_lex.specs.declared.token.Mark.TheVariants as m
-use Rattle.wd_lex.specs.declared.token.TokenKind.{TokenKind}
 use Rattle.wd_lex.specs.declared.token.TokenKind.TheVariants as t
-use Rattle.wd_lex.specs.Marks.{mark_code}
-use Rattle.wd_syntax.specs.declared.words.KeyWord.{KeyWord}
-use Rattle.wd_syntax.specs.declared.words.KeyWord.TheVariants as k
 use Rattle.wd_syntax.specs.declared.name.Name.{Name}
-use Rattle.wd_syntax.specs.declared.frame.Frame.{Frame}
-use Rattle.wd_syntax.specs.declared.frame.FrameMode.{FrameMode}
-use Rattle.wd_syntax.specs.declared.frame.FrameMode.TheVariants.{Rows, Range, Groups}
-use Rattle.wd_syntax.specs.declared.frame.Bound.{Bound}
-use Rattle.wd_syntax.specs.declared.frame.Bound.TheVariants.{UnboundedPreceding, Preceding, CurrentRow, Following, UnboundedFollowing}
-use Rattle.wd_syntax.specs.declared.frame.Extent.{Extent}
-use Rattle.wd_syntax.specs.declared.frame.Extent.TheVariants.{Start, Between}
-use Rattle.wd_syntax.specs.declared.frame.Exclusion.{Exclusion}
-use Rattle.wd_syntax.specs.declared.frame.Exclusion.TheVariants as x
 use Rattle.wd_syntax.specs.declared.expression.Operator.{Operator}
-use Rattle.wd_syntax.specs.declared.expression.Operator.TheVariants as o
 use Rattle.wd_syntax.specs.declared.expression.Sign.{Sign}
-use Rattle.wd_syntax.specs.declared.expression.Sign.TheVariants as s
-use Rattle.wd_syntax.specs.declared.expression.Literal.{Literal}
-use Rattle.wd_syntax.specs.declared.expression.Literal.TheVariants as l
-use Rattle.wd_syntax.specs.declared.expression.SortDirection.{SortDirection}
-use Rattle.wd_syntax.specs.declared.expression.SortDirection.TheVariants.{Ascending, Descending}
-use Rattle.wd_syntax.specs.declared.expression.NullsPlace.{NullsPlace}
-use Rattle.wd_syntax.specs.declared.expression.NullsPlace.TheVariants as p
-use Rattle.wd_syntax.specs.declared.query.Alias.{Alias}
-use Rattle.wd_syntax.specs.declared.query.Quantifier.{Quantifier}
-use Rattle.wd_syntax.specs.declared.query.Quantifier.TheVariants as q
-use Rattle.wd_syntax.specs.declared.query.RowWord.{RowWord}
-use Rattle.wd_syntax.specs.declared.query.RowWord.TheVariants as w
-use Rattle.wd_syntax.specs.declared.query.FetchWord.{FetchWord}
-use Rattle.wd_syntax.specs.declared.query.FetchWord.TheVariants as f
-use Rattle.wd_syntax.specs.declared.query.Offset.{Offset}
-use Rattle.wd_syntax.specs.declared.query.Count.{Count}
-use Rattle.wd_syntax.specs.declared.query.Count.TheVariants as c
-use Rattle.wd_syntax.specs.declared.query.Limits.{Limits}
-use Rattle.wd_syntax.specs.declared.query.Limits.TheVariants.{OffsetFirst, CountFirst}
-use Rattle.wd_syntax.specs.Tokens.{Kinds, ◌▸◌, ◌▹◌, letters, written, name_kind, literal_kind, operator_mark, sign_mark, operator_height}
-use Rattle.wd_syntax.specs.Tree.{Tree, Constant, Column, Qualified, CallAll, Call, Case, Bracket, Signed, Binary, IsNull, Negated, Trees, no_trees, more_trees, Arms, no_arms, more_arms, Otherwise, no_else, or_else, OverTree, no_over, over_name, over_window, WindowTree, window, Keys, no_keys, more_keys, ItemTree, all_columns, all_of, shown, TableTree, named, derived, JoinTree, comma, cross, inner, Joins, no_joins, more_joins, SelectTree, select, QueryTree, query, Key, trees_of, arms_of, keys_of, joins_of, Each}
-use Rattle.wd_syntax.specs.Spelling.{mode_onto, bound_onto, extent_onto, excluded_onto, exclusion_onto, frame_onto, direction_onto, nulls_onto, not_onto, base_onto, onto, list_onto, more_onto, arms_onto, else_onto, over_onto, window_onto, partition_onto, order_onto, more_keys_onto, quantifier_onto, as_onto, given_onto, alias_onto, item_onto, more_items_onto, items_onto, filter_onto, named_window_onto, more_windows_onto, windows_onto, row_onto, row_option_onto, offset_onto, fetch_onto, number_onto, ties_onto, count_onto, offset_option_onto, count_option_onto, limits_onto, tail_onto, table_onto, join_onto, joins_onto, select_onto, end_onto, spell}
-use Rattle.wd_syntax.specs.Levels.{height, left_height, IsSomeArm, IsLevelled, AreLevelled, ArmsLevelled, ElseLevelled, OverLevelled, WindowLevelled, KeysLevelled, ItemLevelled, IsSomeItem, OptionLevelled, TableLevelled, JoinLevelled, JoinsLevelled, SelectLevelled, IsWellLevelled}
-use Rattle.wd_syntax.specs.Limits.{operators, Below, Fits, AllFit, ArmsFit, ElseFits, OverFits, WindowFits, KeysFit, ItemFits, OptionFits, TableFits, JoinFits, JoinsFit, SelectFits, QueryFits, KeepsLimits}
-use Rattle.wd_syntax.specs.Reading.{Fault, Unexpected, Limit, ◌>>=◌, Reads, Parser, Chance, choose, eat, expect, eat_word, expect_word, name_of, with_rest, eat_name, name_at, number_at, operator_of, operator_if, operator_at, sign_of, sign_at, some_or_unexpected, if_begun, many, after, list_at, try, optional, mode_if, mode_at, side_at, unbounded, away, bound_at, extent_at, excluded_at, exclusion_at, frame_if, frame_at, direction_at, nulls_at, key_at, partition_at, order_at, base_if, base_at, window_at, link, ended, links, compared, null_at, tests, arguments_at, call_of, enter, Deeper, over_at, call_at, named_at, arm_at, else_at, case_at, bracket_at, primary_by_mark, primary, signed_by, goes_on, step, levels, deeper_of, read, quantifier_at, given_at, bare_if, alias_at, star_if, star_at, item_if, item_at, filter_at, named_window_at, windows_at, row_at, row_if, offset_at, fetch_word_at, number_if, number_option_at, ties_at, fetch_at, limit_at, count_if, offset_if, limits_at, Inner, table_at, inner_at, join_at, from_at, select_at, selects, inside_of, if_last, whole}
+use Rattle.wd_syntax.specs.Tokens.{Kinds, ◌▸◌, name_kind, operator_mark, sign_mark, operator_height}
+use Rattle.wd_syntax.specs.Tree.{Tree, Column, Qualified, Case, Bracket, Signed, Binary, IsNull, Negated, Trees, Otherwise, no_else, or_else, OverTree, no_over, over_name, over_window, WindowTree, window, Key, trees_of, arms_of, keys_of, Each}
+use Rattle.wd_syntax.specs.Spelling.{frame_onto, direction_onto, nulls_onto, not_onto, base_onto, onto, list_onto, more_onto, arms_onto, else_onto, over_onto, window_onto, partition_onto, order_onto, more_keys_onto}
+use Rattle.wd_syntax.specs.Levels.{height, left_height, IsLevelled, AreLevelled, ArmsLevelled, ElseLevelled, OverLevelled, WindowLevelled, KeysLevelled}
+use Rattle.wd_syntax.specs.Limits.{operators, Below, Fits, AllFit, ArmsFit, ElseFits, OverFits, WindowFits, KeysFit}
+use Rattle.wd_syntax.specs.Reading.{Fault, Limit, ◌>>=◌, Reads, Parser, choose, eat, expect, with_rest, name_at, operator_of, operator_if, operator_at, sign_of, sign_at, list_at, frame_at, direction_at, nulls_at, key_at, partition_at, order_at, base_at, window_at, link, ended, links, compared, null_at, tests, arguments_at, call_of, enter, over_at, call_at, named_at, arm_at, else_at, case_at, bracket_at, primary_by_mark, primary, signed_by, goes_on, levels, deeper_of}
 use Rattle.std.proofs.lemmas.Bool.{eqb-true}
 use Rattle.wd_syntax.proofs.Marking.{eqb-same, not_same}
 use Rattle.wd_syntax.proofs.SoundPieces.{Kept, Holds, then_holds, at_mark, past_mark, past_name, IsPart, Spelled, all_onto, marked, IsListed, list_holds, frame_is, direction_is, nulls_is, base_is, looser_holds}
@@ -69,7 +35,7 @@ operator_of_is m.Slash = refl
 operator_of_is m.Percent = refl
 operator_of_is _ = tt
 
-abbrev IsOperator : ℕ → Kinds → Operator × Kinds → Type 0
+abbrev pub IsOperator : ℕ → Kinds → Operator × Kinds → Type 0
 IsOperator h ts x = (ts ≡ operator_mark x.0 ▸ x.1) × (operator_height x.0 ≡ h)
 
 kept_when : {A : Type 0} (P : A → Type 0) (b : Bool) (x : A) → (b ≡ true → P x) → Kept P (cond b (Some x) None)
@@ -80,7 +46,7 @@ operator_if_is : (h : ℕ) (x : Mark) (ts : Kinds) (o : Option Operator) → Kep
 operator_if_is h x ts None k = tt
 operator_if_is h x ts (Some o) k = kept_when (IsOperator h (x ▸ ts)) (eqb (operator_height o) h) (o, ts) (λ e. (ap (λ (z : Mark). z ▸ ts) k, eqb-true (operator_height o) h e))
 
-operator_at_is : (h : ℕ) (ts : Kinds) → Kept (IsOperator h ts) (operator_at h ts)
+pub operator_at_is : (h : ℕ) (ts : Kinds) → Kept (IsOperator h ts) (operator_at h ts)
 unfolding operator_at
 operator_at_is h [] = tt
 operator_at_is h (t.Mark x ∷ ts) = operator_if_is h x ts (operator_of x) (operator_of_is x)
@@ -94,7 +60,7 @@ sign_is_at m.Plus ts = refl
 sign_is_at m.Minus ts = refl
 sign_is_at _ ts = tt
 
-sign_is : (ts : Kinds) → Kept (λ y. ts ≡ sign_mark y.0 ▸ y.1) (sign_at ts)
+pub sign_is : (ts : Kinds) → Kept (λ y. ts ≡ sign_mark y.0 ▸ y.1) (sign_at ts)
 unfolding sign_at
 sign_is [] = tt
 sign_is (t.Mark x ∷ ts) = sign_is_at x ts
@@ -103,7 +69,7 @@ sign_is (t.Quoted text ∷ ts) = tt
 sign_is (t.Literal text ∷ ts) = tt
 sign_is (t.Number n ∷ ts) = tt
 
-null_is : (ts : Kinds) → Holds (λ x. ts ≡ not_onto x.0 (m.Null ▸ x.1)) (null_at ts)
+pub null_is : (ts : Kinds) → Holds (λ x. ts ≡ not_onto x.0 (m.Null ▸ x.1)) (null_at ts)
 unfolding null_at
 null_is ts =
     let Q : Bool × Kinds → Type 0 = λ x. ts ≡ not_onto x.0 (m.Null ▸ x.1) in
@@ -111,11 +77,11 @@ null_is ts =
     (λ r e. past_mark Q m.Null r (λ q. Ok (true, q)) (λ q f. e ∙ ap (λ (z : Kinds). m.Not ▸ z) f))
     (past_mark Q m.Null ts (λ q. Ok (false, q)) (λ q f. f))
 
-each_left : {A : Type 0} (P Q : A → Type 0) (xs : List A) → Each (λ a. P a × Q a) xs → Each P xs
+pub each_left : {A : Type 0} (P Q : A → Type 0) (xs : List A) → Each (λ a. P a × Q a) xs → Each P xs
 each_left P Q [] h = tt
 each_left P Q (a ∷ xs) h = (h.0.0, each_left P Q xs h.1)
 
-each_right : {A : Type 0} (P Q : A → Type 0) (xs : List A) → Each (λ a. P a × Q a) xs → Each Q xs
+pub each_right : {A : Type 0} (P Q : A → Type 0) (xs : List A) → Each (λ a. P a × Q a) xs → Each Q xs
 each_right P Q [] h = tt
 each_right P Q (a ∷ xs) h = (h.0.1, each_right P Q xs h.1)
 
@@ -124,18 +90,18 @@ each_right P Q (a ∷ xs) h = (h.0.1, each_right P Q xs h.1)
 abbrev pub key_onto : Key → Kinds → Kinds
 key_onto key ts = onto key.0 (direction_onto key.1 (nulls_onto key.2 ts))
 
-abbrev arm_onto : Tree × Tree → Kinds → Kinds
+abbrev pub arm_onto : Tree × Tree → Kinds → Kinds
 arm_onto arm ts = onto arm.0 (m.Then ▸ onto arm.1 ts)
 
-trees_spelled : (xs : List Tree) (ts : Kinds) → all_onto (marked m.Comma onto) xs ts ≡ more_onto (trees_of xs) ts
+pub trees_spelled : (xs : List Tree) (ts : Kinds) → all_onto (marked m.Comma onto) xs ts ≡ more_onto (trees_of xs) ts
 trees_spelled [] ts = refl
 trees_spelled (a ∷ xs) ts = ap (λ (z : Kinds). m.Comma ▸ onto a z) (trees_spelled xs ts)
 
-keys_spelled : (xs : List Key) (ts : Kinds) → all_onto (marked m.Comma key_onto) xs ts ≡ more_keys_onto (keys_of xs) ts
+pub keys_spelled : (xs : List Key) (ts : Kinds) → all_onto (marked m.Comma key_onto) xs ts ≡ more_keys_onto (keys_of xs) ts
 keys_spelled [] ts = refl
 keys_spelled (a ∷ xs) ts = ap (λ (z : Kinds). m.Comma ▸ key_onto a z) (keys_spelled xs ts)
 
-arms_spelled : (xs : List (Tree × Tree)) (ts : Kinds) → all_onto (marked m.When arm_onto) xs ts ≡ arms_onto (arms_of xs) ts
+pub arms_spelled : (xs : List (Tree × Tree)) (ts : Kinds) → all_onto (marked m.When arm_onto) xs ts ≡ arms_onto (arms_of xs) ts
 arms_spelled [] ts = refl
 arms_spelled (a ∷ xs) ts = ap (λ (z : Kinds). m.When ▸ arm_onto a z) (arms_spelled xs ts)
 
@@ -143,10 +109,10 @@ module _ (c : ℕ) where
   abbrev pub Good : ℕ → Tree → Type 0
   Good d a = IsLevelled a × Fits c d a
 
-  abbrev GoodKey : ℕ → Key → Type 0
+  abbrev pub GoodKey : ℕ → Key → Type 0
   GoodKey d key = IsLevelled key.0 × Fits c d key.0
 
-  abbrev GoodArm : ℕ → Tree × Tree → Type 0
+  abbrev pub GoodArm : ℕ → Tree × Tree → Type 0
   GoodArm d arm = (IsLevelled arm.0 × IsLevelled arm.1) × (Fits c d arm.0 × Fits c d arm.1)
 
   -- what is read, of a height and within the limits
@@ -170,10 +136,10 @@ module _ (c : ℕ) where
   pub whole_expression : (d : ℕ) → Sound d → Whole d (levels c (deeper_of c d) 8)
   whole_expression d sound ts = looser_holds (IsRead 8 d ts) (IsPart onto (Good d) ts) (levels c (deeper_of c d) 8 ts) (sound 8 ts) (λ x i. record { parts = i.parts; good = (i.levelled, i.fits) })
 
-  pub enter_holds : {A : Type 0} (Q : ℕ → A → Type 0) (f : (ℕ → Parser Tree) → Result A Fault) → ((k : ℕ) → Sound k → Holds (Q (suc k)) (f (levels c (deeper_of c k)))) → (d : ℕ) → Within d → Holds (Q d) (enter (deeper_of c d) f)
+  pub enter_holds : {A : Type 0} (left : ℕ) (Q : ℕ → A → Type 0) (f : (ℕ → Parser Tree) → Result A Fault) → ((k : ℕ) → Sound k → Holds (Q (suc k)) (f (levels c (deeper_of c k)))) → (d : ℕ) → Within d → Holds (Q d) (enter left (deeper_of c d) f)
   unfolding deeper_of
-  enter_holds Q f h zero lower = tt
-  enter_holds Q f h (suc k) lower = h k lower
+  enter_holds left Q f h zero lower = tt
+  enter_holds left Q f h (suc k) lower = h k lower
 
   -- ---- loops
 
@@ -217,7 +183,7 @@ module _ (c : ℕ) where
 
   tests_hold : (d n : ℕ) (a : Tree) (ts : Kinds) → n + operators 5 a ≡ c → IsRead 5 d (onto a ts) (a, ts) → Holds (IsRead 5 d (onto a ts)) (tests n a ts)
   unfolding tests
-  tests_hold d zero a ts e i = at_mark (Holds (IsRead 5 d (onto a ts))) m.Is ts (λ r. Err Limit) (Ok (a, ts)) (λ r k. tt) i
+  tests_hold d zero a ts e i = at_mark (Holds (IsRead 5 d (onto a ts))) m.Is ts (λ r. Err (Limit (length ts))) (Ok (a, ts)) (λ r k. tt) i
   tests_hold d (suc n) a ts e i =
       at_mark (Holds (IsRead 5 d (onto a ts))) m.Is ts (λ r. null_at r >>= λ x. tests n (IsNull a x.0) x.1) (Ok (a, ts))
       (λ r k. then_holds (λ x. r ≡ not_onto x.0 (m.Null ▸ x.1)) (IsRead 5 d (onto a ts)) (null_at r) (λ x. tests n (IsNull a x.0) x.1) (null_is r) (λ x q.
@@ -267,7 +233,7 @@ module _ (c : ℕ) where
 
   -- ---- windows
 
-  key_holds : (d : ℕ) (item : Parser Tree) (ts : Kinds) → Whole d item → Holds (IsPart key_onto (GoodKey d) ts) (key_at item ts)
+  pub key_holds : (d : ℕ) (item : Parser Tree) (ts : Kinds) → Whole d item → Holds (IsPart key_onto (GoodKey d) ts) (key_at item ts)
   unfolding key_at
   key_holds d item ts op =
       let Q : Key × Kinds → Type 0 = IsPart key_onto (GoodKey d) ts in
@@ -275,10 +241,10 @@ module _ (c : ℕ) where
       then_holds (λ n. (direction_at a.1).1 ≡ nulls_onto n.0 n.1) Q (nulls_at (direction_at a.1).1) (λ n. Ok ((a.0, (direction_at a.1).0, n.0), n.1)) (nulls_is (direction_at a.1).1) (λ n e.
       record { parts = i.parts ∙ ap (onto a.0) (direction_is a.1 ∙ ap (direction_onto (direction_at a.1).0) e); good = i.good }))
 
-  abbrev trees_onto : (Trees → Kinds → Kinds) → List Tree → Kinds → Kinds
+  abbrev pub trees_onto : (Trees → Kinds → Kinds) → List Tree → Kinds → Kinds
   trees_onto f xs ts = f (trees_of xs) ts
 
-  abbrev GoodTrees : ℕ → List Tree → Type 0
+  abbrev pub GoodTrees : ℕ → List Tree → Type 0
   GoodTrees d xs = AreLevelled (trees_of xs) × AllFit c d (trees_of xs)
 
   abbrev pub GoodKeys : ℕ → List Key → Type 0
@@ -291,7 +257,7 @@ module _ (c : ℕ) where
   partition_listed d ts us rest [] e h = absurd h
   partition_listed d ts us rest (a ∷ xs) e h = record { parts = e ∙ ap (λ (z : Kinds). m.Partition ▸ m.By ▸ z) (h.0 ∙ ap (onto a) (trees_spelled xs rest)); good = ((h.1.0, trees_levelled d xs h.2), (h.1.1, trees_fit d xs h.2)) }
 
-  partition_holds : (d : ℕ) (item : Parser Tree) (ts : Kinds) → Whole d item → Holds (IsPart (trees_onto partition_onto) (GoodTrees d) ts) (partition_at item ts)
+  pub partition_holds : (d : ℕ) (item : Parser Tree) (ts : Kinds) → Whole d item → Holds (IsPart (trees_onto partition_onto) (GoodTrees d) ts) (partition_at item ts)
   unfolding partition_at
   partition_holds d item ts op =
       let Q : List Tree × Kinds → Type 0 = IsPart (trees_onto partition_onto) (GoodTrees d) ts in
@@ -333,22 +299,22 @@ module _ (c : ℕ) where
 
   -- ---- calls
 
-  abbrev GoodOver : ℕ → OverTree → Type 0
+  abbrev pub GoodOver : ℕ → OverTree → Type 0
   GoodOver d over = OverLevelled over × OverFits c d over
 
-  over_holds : (d : ℕ) (ts : Kinds) → Within d → Holds (IsPart over_onto (GoodOver d) ts) (over_at (deeper_of c d) ts)
+  pub over_holds : (d : ℕ) (ts : Kinds) → Within d → Holds (IsPart over_onto (GoodOver d) ts) (over_at (deeper_of c d) ts)
   unfolding over_at
   over_holds d ts lower =
       let Q : ℕ → OverTree × Kinds → Type 0 = λ k. IsPart over_onto (GoodOver k) ts in
-      at_mark (Holds (Q d)) m.Over ts (λ r. choose (eat m.LeftBracket r) (λ r. enter (deeper_of c d) (λ p. window_at (p 8) r >>= λ w. Ok (over_window w.0, w.1))) (name_at r >>= λ n. Ok (over_name n.0, n.1))) (Ok (no_over, ts))
-      (λ r e. at_mark (Holds (Q d)) m.LeftBracket r (λ r. enter (deeper_of c d) (λ p. window_at (p 8) r >>= λ w. Ok (over_window w.0, w.1))) (name_at r >>= λ n. Ok (over_name n.0, n.1))
-      (λ q f. enter_holds Q (λ p. window_at (p 8) q >>= λ w. Ok (over_window w.0, w.1)) (λ k sound.
+      at_mark (Holds (Q d)) m.Over ts (λ r. choose (eat m.LeftBracket r) (λ q. enter (length r) (deeper_of c d) (λ p. window_at (p 8) q >>= λ w. Ok (over_window w.0, w.1))) (name_at r >>= λ n. Ok (over_name n.0, n.1))) (Ok (no_over, ts))
+      (λ r e. at_mark (Holds (Q d)) m.LeftBracket r (λ q. enter (length r) (deeper_of c d) (λ p. window_at (p 8) q >>= λ w. Ok (over_window w.0, w.1))) (name_at r >>= λ n. Ok (over_name n.0, n.1))
+      (λ q f. enter_holds (length r) Q (λ p. window_at (p 8) q >>= λ w. Ok (over_window w.0, w.1)) (λ k sound.
       then_holds (IsPart window_closed (GoodWindow k) q) (Q (suc k)) (window_at (levels c (deeper_of c k) 8) q) (λ w. Ok (over_window w.0, w.1)) (window_holds k (levels c (deeper_of c k) 8) q (whole_expression k sound)) (λ w i.
       record { parts = e ∙ ap (λ (z : Kinds). m.Over ▸ z) (f ∙ ap (λ (z : Kinds). m.LeftBracket ▸ z) i.parts); good = (i.good.0, i.good.1) })) d lower)
       (past_name (Q d) r (λ n. Ok (over_name n.0, n.1)) (λ n f. record { parts = e ∙ ap (λ (z : Kinds). m.Over ▸ z) f; good = (tt, tt) })))
       (record { parts = refl; good = (tt, tt) })
 
-  abbrev arguments_closed : Option (List Tree) → Kinds → Kinds
+  abbrev pub arguments_closed : Option (List Tree) → Kinds → Kinds
   arguments_closed None ts = m.Star ▸ m.RightBracket ▸ ts
   arguments_closed (Some xs) ts = list_onto (trees_of xs) (m.RightBracket ▸ ts)
 
@@ -360,14 +326,14 @@ module _ (c : ℕ) where
   ArgumentsFit d None = Unit {0}
   ArgumentsFit d (Some xs) = AllFit c d (trees_of xs)
 
-  abbrev GoodArguments : ℕ → Option (List Tree) → Type 0
+  abbrev pub GoodArguments : ℕ → Option (List Tree) → Type 0
   GoodArguments d arguments = ArgumentsLevelled arguments × ArgumentsFit d arguments
 
   arguments_listed : (d : ℕ) (ts mid rest : Kinds) (xs : List Tree) → IsListed m.Comma onto (Good d) ts xs mid → mid ≡ m.RightBracket ▸ rest → IsPart arguments_closed (GoodArguments d) ts (Some xs, rest)
   arguments_listed d ts mid rest [] h e = absurd h
   arguments_listed d ts mid rest (a ∷ xs) h e = record { parts = h.0 ∙ ap (onto a) (trees_spelled xs mid ∙ ap (more_onto (trees_of xs)) e); good = ((h.1.0, trees_levelled d xs h.2), (h.1.1, trees_fit d xs h.2)) }
 
-  arguments_hold : (d : ℕ) (item : Parser Tree) (ts : Kinds) → Whole d item → Holds (IsPart arguments_closed (GoodArguments d) ts) (arguments_at item ts)
+  pub arguments_hold : (d : ℕ) (item : Parser Tree) (ts : Kinds) → Whole d item → Holds (IsPart arguments_closed (GoodArguments d) ts) (arguments_at item ts)
   unfolding arguments_at
   arguments_hold d item ts op =
       let Q : Option (List Tree) × Kinds → Type 0 = IsPart arguments_closed (GoodArguments d) ts in
@@ -378,19 +344,24 @@ module _ (c : ℕ) where
       (then_holds (λ y. IsListed m.Comma onto (Good d) ts y.0 y.1) Q (list_at m.Comma item ts) (λ bs. expect m.RightBracket bs.1 >>= λ r. Ok (Some bs.0, r)) (list_holds m.Comma onto (Good d) item ts op) (λ bs h.
       past_mark Q m.RightBracket bs.1 (λ r. Ok (Some bs.0, r)) (λ q f. arguments_listed d ts bs.1 q bs.0 h f))))
 
-  abbrev ArgumentsBelow : ℕ → Option (List Tree) → Type 0
+  abbrev pub ArgumentsBelow : ℕ → Option (List Tree) → Type 0
   ArgumentsBelow d arguments = ArgumentsLevelled arguments × Below d (λ k. ArgumentsFit k arguments)
 
   call_is : (d : ℕ) (f : Name) (ts mid rest : Kinds) (arguments : Option (List Tree)) (over : OverTree) → ts ≡ arguments_closed arguments mid → ArgumentsBelow d arguments → mid ≡ over_onto over rest → GoodOver d over → IsRead 0 d (name_kind f ∷ (m.LeftBracket ▸ ts)) (call_of f arguments over, rest)
   call_is d f ts mid rest None over e ga h go = record { parts = ap (λ (z : Kinds). name_kind f ∷ (m.LeftBracket ▸ z)) (e ∙ ap (λ (z : Kinds). m.Star ▸ m.RightBracket ▸ z) h); levelled = go.0; tight = omega arith; fits = (ga.1, go.1) }
   call_is d f ts mid rest (Some xs) over e ga h go = record { parts = ap (λ (z : Kinds). name_kind f ∷ (m.LeftBracket ▸ z)) (e ∙ ap (λ (z : Kinds). list_onto (trees_of xs) (m.RightBracket ▸ z)) h); levelled = (ga.0, go.0); tight = omega arith; fits = (ga.1, go.1) }
 
+  pub arguments_below : (d : ℕ) (ts : Kinds) → Within d → Holds (IsPart arguments_closed (ArgumentsBelow d) ts) (enter (suc (length ts)) (deeper_of c d) (λ p. arguments_at (p 8) ts))
+  arguments_below d ts lower =
+      enter_holds (suc (length ts)) (λ k. IsPart arguments_closed (ArgumentsBelow k) ts) (λ p. arguments_at (p 8) ts) (λ k sound.
+      looser_holds (IsPart arguments_closed (GoodArguments k) ts) (IsPart arguments_closed (ArgumentsBelow (suc k)) ts) (arguments_at (levels c (deeper_of c k) 8) ts) (arguments_hold k (levels c (deeper_of c k) 8) ts (whole_expression k sound)) (λ x i. record { parts = i.parts; good = (i.good.0, i.good.1) })) d lower
+
   call_holds : (d : ℕ) (f : Name) (ts : Kinds) → Within d → Holds (IsRead 0 d (name_kind f ∷ (m.LeftBracket ▸ ts))) (call_at (deeper_of c d) f ts)
   unfolding call_at
   call_holds d f ts lower =
       let Q : Tree × Kinds → Type 0 = IsRead 0 d (name_kind f ∷ (m.LeftBracket ▸ ts)) in
-      then_holds (IsPart arguments_closed (ArgumentsBelow d) ts) Q (enter (deeper_of c d) (λ p. arguments_at (p 8) ts)) (λ bs. over_at (deeper_of c d) bs.1 >>= λ over. Ok (call_of f bs.0 over.0, over.1))
-      (enter_holds (λ k. IsPart arguments_closed (ArgumentsBelow k) ts) (λ p. arguments_at (p 8) ts) (λ k sound.
+      then_holds (IsPart arguments_closed (ArgumentsBelow d) ts) Q (enter (suc (length ts)) (deeper_of c d) (λ p. arguments_at (p 8) ts)) (λ bs. over_at (deeper_of c d) bs.1 >>= λ over. Ok (call_of f bs.0 over.0, over.1))
+      (enter_holds (suc (length ts)) (λ k. IsPart arguments_closed (ArgumentsBelow k) ts) (λ p. arguments_at (p 8) ts) (λ k sound.
       looser_holds (IsPart arguments_closed (GoodArguments k) ts) (IsPart arguments_closed (ArgumentsBelow (suc k)) ts) (arguments_at (levels c (deeper_of c k) 8) ts) (arguments_hold k (levels c (deeper_of c k) 8) ts (whole_expression k sound)) (λ x i. record { parts = i.parts; good = (i.good.0, i.good.1) })) d lower)
       (λ bs i. then_holds (IsPart over_onto (GoodOver d) bs.1) Q (over_at (deeper_of c d) bs.1) (λ over. Ok (call_of f bs.0 over.0, over.1)) (over_holds d bs.1 lower) (λ over j.
       call_is d f ts bs.1 over.1 bs.0 over.0 i.parts i.good j.parts j.good))
@@ -407,7 +378,7 @@ module _ (c : ℕ) where
 
   -- ---- CASE and brackets
 
-  arm_holds : (d : ℕ) (item : Parser Tree) (ts : Kinds) → Whole d item → Holds (IsPart arm_onto (GoodArm d) ts) (arm_at item ts)
+  pub arm_holds : (d : ℕ) (item : Parser Tree) (ts : Kinds) → Whole d item → Holds (IsPart arm_onto (GoodArm d) ts) (arm_at item ts)
   unfolding arm_at
   arm_holds d item ts op =
       let Q : (Tree × Tree) × Kinds → Type 0 = IsPart arm_onto (GoodArm d) ts in
@@ -416,10 +387,10 @@ module _ (c : ℕ) where
       then_holds (IsPart onto (Good d) r) Q (item r) (λ b. Ok ((a.0, b.0), b.1)) (op r) (λ b j.
       record { parts = i.parts ∙ ap (onto a.0) (e ∙ ap (λ (z : Kinds). m.Then ▸ z) j.parts); good = ((i.good.0, j.good.0), (i.good.1, j.good.1)) })))
 
-  abbrev GoodElse : ℕ → Otherwise → Type 0
+  abbrev pub GoodElse : ℕ → Otherwise → Type 0
   GoodElse d other = ElseLevelled other × ElseFits c d other
 
-  else_holds : (d : ℕ) (item : Parser Tree) (ts : Kinds) → Whole d item → Holds (IsPart else_onto (GoodElse d) ts) (else_at item ts)
+  pub else_holds : (d : ℕ) (item : Parser Tree) (ts : Kinds) → Whole d item → Holds (IsPart else_onto (GoodElse d) ts) (else_at item ts)
   unfolding else_at
   else_holds d item ts op =
       let Q : Otherwise × Kinds → Type 0 = IsPart else_onto (GoodElse d) ts in
@@ -458,8 +429,8 @@ module _ (c : ℕ) where
   primary_by_mark_holds d m.True ts lower = record { parts = refl; levelled = tt; tight = omega arith; fits = tt }
   primary_by_mark_holds d m.False ts lower = record { parts = refl; levelled = tt; tight = omega arith; fits = tt }
   primary_by_mark_holds d m.Null ts lower = record { parts = refl; levelled = tt; tight = omega arith; fits = tt }
-  primary_by_mark_holds d m.LeftBracket ts lower = enter_holds (λ j. IsRead 0 j (m.LeftBracket ▸ ts)) (λ p. bracket_at (p 8) ts) (λ k. bracket_holds k ts) d lower
-  primary_by_mark_holds d m.Case ts lower = enter_holds (λ j. IsRead 0 j (m.Case ▸ ts)) (λ p. case_at (p 8) ts) (λ k. case_holds k ts) d lower
+  primary_by_mark_holds d m.LeftBracket ts lower = enter_holds (suc (length ts)) (λ j. IsRead 0 j (m.LeftBracket ▸ ts)) (λ p. bracket_at (p 8) ts) (λ k. bracket_holds k ts) d lower
+  primary_by_mark_holds d m.Case ts lower = enter_holds (suc (length ts)) (λ j. IsRead 0 j (m.Case ▸ ts)) (λ p. case_at (p 8) ts) (λ k. case_holds k ts) d lower
   primary_by_mark_holds d _ ts lower = tt
 
   primary_holds : (d : ℕ) (ts : Kinds) → Within d → Holds (IsRead 0 d ts) (primary (deeper_of c d) ts)
@@ -474,13 +445,13 @@ module _ (c : ℕ) where
   signed_holds : (d : ℕ) (ts : Kinds) (o : Option (Sign × Kinds)) (p : Parser Tree) → Within d → Operand 0 d p → Kept (λ y. ts ≡ sign_mark y.0 ▸ y.1) o → Holds (IsRead 1 d ts) (signed_by o (deeper_of c d) p ts)
   signed_holds d ts None p lower op k = looser 0 d ts (p ts) (op ts)
   signed_holds d ts (Some x) p lower op k =
-      enter_holds (λ j. IsRead 1 j ts) (λ p. p 1 x.1 >>= λ a. Ok (Signed x.0 a.0, a.1)) (λ k' sound.
+      enter_holds (length ts) (λ j. IsRead 1 j ts) (λ p. p 1 x.1 >>= λ a. Ok (Signed x.0 a.0, a.1)) (λ k' sound.
       then_holds (IsRead 1 k' x.1) (IsRead 1 (suc k') ts) (levels c (deeper_of c k') 1 x.1) (λ a. Ok (Signed x.0 a.0, a.1)) (sound 1 x.1) (λ a i. record { parts = k ∙ ap (λ (z : Kinds). sign_mark x.0 ▸ z) i.parts; levelled = (i.levelled, i.tight); tight = omega arith; fits = i.fits })) d lower
 
-  negated_holds : (d : ℕ) (ts : Kinds) (p : Parser Tree) → Within d → Operand 5 d p → Holds (IsRead 6 d ts) (choose (eat m.Not ts) (λ r. enter (deeper_of c d) (λ p. p 6 r >>= λ a. Ok (Negated a.0, a.1))) (p ts))
+  negated_holds : (d : ℕ) (ts : Kinds) (p : Parser Tree) → Within d → Operand 5 d p → Holds (IsRead 6 d ts) (choose (eat m.Not ts) (λ r. enter (length ts) (deeper_of c d) (λ p. p 6 r >>= λ a. Ok (Negated a.0, a.1))) (p ts))
   negated_holds d ts p lower op =
-      at_mark (Holds (IsRead 6 d ts)) m.Not ts (λ r. enter (deeper_of c d) (λ p. p 6 r >>= λ a. Ok (Negated a.0, a.1))) (p ts)
-      (λ r e. enter_holds (λ j. IsRead 6 j ts) (λ p. p 6 r >>= λ a. Ok (Negated a.0, a.1)) (λ k sound.
+      at_mark (Holds (IsRead 6 d ts)) m.Not ts (λ r. enter (length ts) (deeper_of c d) (λ p. p 6 r >>= λ a. Ok (Negated a.0, a.1))) (p ts)
+      (λ r e. enter_holds (length ts) (λ j. IsRead 6 j ts) (λ p. p 6 r >>= λ a. Ok (Negated a.0, a.1)) (λ k sound.
       then_holds (IsRead 6 k r) (IsRead 6 (suc k) ts) (levels c (deeper_of c k) 6 r) (λ a. Ok (Negated a.0, a.1)) (sound 6 r) (λ a i. record { parts = e ∙ ap (λ (z : Kinds). m.Not ▸ z) i.parts; levelled = (i.levelled, i.tight); tight = omega arith; fits = i.fits })) d lower)
       (looser 5 d ts (p ts) (op ts))
 

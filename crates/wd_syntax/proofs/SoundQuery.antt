@@ -1,71 +1,35 @@
 -- What is read of a query is spelled so, is well-levelled and keeps the limits.
-use Rattle.std.proofs.Common.{◌≡◌, ◌≢◌, ℕ, zero, suc, ◌+◌, ◌<◌, ◌≤◌, ◌⊎◌, inl, inr, Bool, true, false, cond, eqb, List, [], ◌∷◌, length, Option, Some, None, Result, Ok, Err, refl, sym, ap, subst, ◌∙◌, arith, rules, ⊎_elim}
-use Rattle.std.proofs.lemmas.Bool.{cases_lt}
-use Rattle.wd_lex.specs.declared.token.Mark.{Mark}
+use Rattle.std.proofs.Common.{◌≡◌, ℕ, zero, suc, ◌≤◌, Bool, true, false, List, [], ◌∷◌, length, Option, Some, None, Ok, refl, sym, ap, ◌∙◌}
 use Rattle.wd_lex.specs.declared.token.Mark.TheVariants as m
-use Rattle.wd_lex.specs.declared.token.TokenKind.{TokenKind}
-use Rattle.wd_lex.specs.declared.token.TokenKind.TheVariants as t
-use Rattle.wd_lex.specs.Marks.{mark_code}
-use Rattle.wd_syntax.specs.declared.words.KeyWord.{KeyWord}
-use Rattle.wd_syntax.specs.declared.words.KeyWord.TheVariants as k
 use Rattle.wd_syntax.specs.declared.name.Name.{Name}
-use Rattle.wd_syntax.specs.declared.frame.Frame.{Frame}
-use Rattle.wd_syntax.specs.declared.frame.FrameMode.{FrameMode}
-use Rattle.wd_syntax.specs.declared.frame.FrameMode.TheVariants.{Rows, Range, Groups}
-use Rattle.wd_syntax.specs.declared.frame.Bound.{Bound}
-use Rattle.wd_syntax.specs.declared.frame.Bound.TheVariants.{UnboundedPreceding, Preceding, CurrentRow, Following, UnboundedFollowing}
-use Rattle.wd_syntax.specs.declared.frame.Extent.{Extent}
-use Rattle.wd_syntax.specs.declared.frame.Extent.TheVariants.{Start, Between}
-use Rattle.wd_syntax.specs.declared.frame.Exclusion.{Exclusion}
-use Rattle.wd_syntax.specs.declared.frame.Exclusion.TheVariants as x
-use Rattle.wd_syntax.specs.declared.expression.Operator.{Operator}
-use Rattle.wd_syntax.specs.declared.expression.Operator.TheVariants as o
-use Rattle.wd_syntax.specs.declared.expression.Sign.{Sign}
-use Rattle.wd_syntax.specs.declared.expression.Sign.TheVariants as s
-use Rattle.wd_syntax.specs.declared.expression.Literal.{Literal}
-use Rattle.wd_syntax.specs.declared.expression.Literal.TheVariants as l
-use Rattle.wd_syntax.specs.declared.expression.SortDirection.{SortDirection}
-use Rattle.wd_syntax.specs.declared.expression.SortDirection.TheVariants.{Ascending, Descending}
-use Rattle.wd_syntax.specs.declared.expression.NullsPlace.{NullsPlace}
-use Rattle.wd_syntax.specs.declared.expression.NullsPlace.TheVariants as p
-use Rattle.wd_syntax.specs.declared.query.Alias.{Alias}
 use Rattle.wd_syntax.specs.declared.query.Quantifier.{Quantifier}
-use Rattle.wd_syntax.specs.declared.query.Quantifier.TheVariants as q
-use Rattle.wd_syntax.specs.declared.query.RowWord.{RowWord}
-use Rattle.wd_syntax.specs.declared.query.RowWord.TheVariants as w
-use Rattle.wd_syntax.specs.declared.query.FetchWord.{FetchWord}
-use Rattle.wd_syntax.specs.declared.query.FetchWord.TheVariants as f
-use Rattle.wd_syntax.specs.declared.query.Offset.{Offset}
-use Rattle.wd_syntax.specs.declared.query.Count.{Count}
-use Rattle.wd_syntax.specs.declared.query.Count.TheVariants as c
 use Rattle.wd_syntax.specs.declared.query.Limits.{Limits}
-use Rattle.wd_syntax.specs.declared.query.Limits.TheVariants.{OffsetFirst, CountFirst}
-use Rattle.wd_syntax.specs.Tokens.{Kinds, ◌▸◌, ◌▹◌, letters, written, name_kind, literal_kind, operator_mark, sign_mark, operator_height}
-use Rattle.wd_syntax.specs.Tree.{Tree, Constant, Column, Qualified, CallAll, Call, Case, Bracket, Signed, Binary, IsNull, Negated, Trees, no_trees, more_trees, Arms, no_arms, more_arms, Otherwise, no_else, or_else, OverTree, no_over, over_name, over_window, WindowTree, window, Keys, no_keys, more_keys, ItemTree, all_columns, all_of, shown, TableTree, named, derived, JoinTree, comma, cross, inner, Joins, no_joins, more_joins, SelectTree, select, QueryTree, query, Key, trees_of, arms_of, keys_of, joins_of, Each}
-use Rattle.wd_syntax.specs.Spelling.{mode_onto, bound_onto, extent_onto, excluded_onto, exclusion_onto, frame_onto, direction_onto, nulls_onto, not_onto, base_onto, onto, list_onto, more_onto, arms_onto, else_onto, over_onto, window_onto, partition_onto, order_onto, more_keys_onto, quantifier_onto, as_onto, given_onto, alias_onto, item_onto, more_items_onto, items_onto, filter_onto, named_window_onto, more_windows_onto, windows_onto, row_onto, row_option_onto, offset_onto, fetch_onto, number_onto, ties_onto, count_onto, offset_option_onto, count_option_onto, limits_onto, tail_onto, table_onto, join_onto, joins_onto, select_onto, end_onto, spell}
-use Rattle.wd_syntax.specs.Levels.{height, left_height, IsSomeArm, IsLevelled, AreLevelled, ArmsLevelled, ElseLevelled, OverLevelled, WindowLevelled, KeysLevelled, ItemLevelled, IsSomeItem, OptionLevelled, TableLevelled, JoinLevelled, JoinsLevelled, SelectLevelled, IsWellLevelled}
-use Rattle.wd_syntax.specs.Limits.{operators, Below, Fits, AllFit, ArmsFit, ElseFits, OverFits, WindowFits, KeysFit, ItemFits, OptionFits, TableFits, JoinFits, JoinsFit, SelectFits, QueryFits, KeepsLimits}
-use Rattle.wd_syntax.specs.Reading.{Fault, Unexpected, Limit, ◌>>=◌, Reads, Parser, Chance, choose, eat, expect, eat_word, expect_word, name_of, with_rest, eat_name, name_at, number_at, operator_of, operator_if, operator_at, sign_of, sign_at, some_or_unexpected, if_begun, many, after, list_at, try, optional, mode_if, mode_at, side_at, unbounded, away, bound_at, extent_at, excluded_at, exclusion_at, frame_if, frame_at, direction_at, nulls_at, key_at, partition_at, order_at, base_if, base_at, window_at, link, ended, links, compared, null_at, tests, arguments_at, call_of, enter, Deeper, over_at, call_at, named_at, arm_at, else_at, case_at, bracket_at, primary_by_mark, primary, signed_by, goes_on, step, levels, deeper_of, read, quantifier_at, given_at, bare_if, alias_at, star_if, star_at, item_if, item_at, filter_at, named_window_at, windows_at, row_at, row_if, offset_at, fetch_word_at, number_if, number_option_at, ties_at, fetch_at, limit_at, count_if, offset_if, limits_at, Inner, table_at, inner_at, join_at, from_at, select_at, selects, inside_of, if_last, whole}
+use Rattle.wd_syntax.specs.Tokens.{Kinds, ◌▸◌, name_kind}
+use Rattle.wd_syntax.specs.Tree.{Tree, WindowTree, Keys, ItemTree, all_columns, shown, TableTree, named, derived, JoinTree, comma, cross, inner, Joins, SelectTree, select, QueryTree, query, keys_of, joins_of, Each}
+use Rattle.wd_syntax.specs.Spelling.{onto, order_onto, quantifier_onto, given_onto, alias_onto, item_onto, more_items_onto, filter_onto, named_window_onto, more_windows_onto, windows_onto, limits_onto, table_onto, join_onto, joins_onto, select_onto, spell}
+use Rattle.wd_syntax.specs.Levels.{WindowLevelled, KeysLevelled, ItemLevelled, OptionLevelled, TableLevelled, JoinLevelled, JoinsLevelled, SelectLevelled, IsWellLevelled}
+use Rattle.wd_syntax.specs.Limits.{Below, WindowFits, KeysFit, ItemFits, OptionFits, TableFits, JoinFits, JoinsFit, SelectFits, QueryFits}
+use Rattle.wd_syntax.specs.Reading.{◌>>=◌, Reads, Parser, choose, eat, expect, name_at, many, list_at, order_at, window_at, enter, levels, deeper_of, read, quantifier_at, given_at, alias_at, star_at, item_if, item_at, filter_at, named_window_at, windows_at, limits_at, Inner, table_at, inner_at, join_at, from_at, select_at, selects, inside_of, if_last, whole}
 use Rattle.wd_syntax.proofs.SoundPieces.{Kept, Holds, MayHold, then_holds, at_mark, past_mark, past_name, IsPart, Spelled, all_onto, marked, IsListed, list_holds, many_hold, quantifier_is, given_is, alias_is, star_is, limits_is, looser_holds}
-use Rattle.wd_syntax.proofs.Sound.{Good, Whole, whole_expression, Sound, Within, enter_holds, GoodKeys, keys_row_onto, order_holds, window_closed, GoodWindow, window_holds, sound, within}
+use Rattle.wd_syntax.proofs.Sound.{Good, Whole, whole_expression, Within, enter_holds, GoodKeys, keys_row_onto, order_holds, window_closed, GoodWindow, window_holds, sound, within}
 
-items_spelled : (xs : List ItemTree) (ts : Kinds) → all_onto (marked m.Comma item_onto) xs ts ≡ more_items_onto xs ts
+pub items_spelled : (xs : List ItemTree) (ts : Kinds) → all_onto (marked m.Comma item_onto) xs ts ≡ more_items_onto xs ts
 items_spelled [] ts = refl
 items_spelled (a ∷ xs) ts = ap (λ (z : Kinds). m.Comma ▸ item_onto a z) (items_spelled xs ts)
 
-windows_spelled : (xs : List (Name × WindowTree)) (ts : Kinds) → all_onto (marked m.Comma named_window_onto) xs ts ≡ more_windows_onto xs ts
+pub windows_spelled : (xs : List (Name × WindowTree)) (ts : Kinds) → all_onto (marked m.Comma named_window_onto) xs ts ≡ more_windows_onto xs ts
 windows_spelled [] ts = refl
 windows_spelled (a ∷ xs) ts = ap (λ (z : Kinds). m.Comma ▸ named_window_onto a z) (windows_spelled xs ts)
 
-joins_spelled : (xs : List JoinTree) (ts : Kinds) → all_onto join_onto xs ts ≡ joins_onto (joins_of xs) ts
+pub joins_spelled : (xs : List JoinTree) (ts : Kinds) → all_onto join_onto xs ts ≡ joins_onto (joins_of xs) ts
 joins_spelled [] ts = refl
 joins_spelled (a ∷ xs) ts = ap (join_onto a) (joins_spelled xs ts)
 
-each_first : {A : Type 0} (P Q : A → Type 0) (xs : List A) → Each (λ a. P a × Q a) xs → Each P xs
+pub each_first : {A : Type 0} (P Q : A → Type 0) (xs : List A) → Each (λ a. P a × Q a) xs → Each P xs
 each_first P Q [] h = tt
 each_first P Q (a ∷ xs) h = (h.0.0, each_first P Q xs h.1)
 
-each_second : {A : Type 0} (P Q : A → Type 0) (xs : List A) → Each (λ a. P a × Q a) xs → Each Q xs
+pub each_second : {A : Type 0} (P Q : A → Type 0) (xs : List A) → Each (λ a. P a × Q a) xs → Each Q xs
 each_second P Q [] h = tt
 each_second P Q (a ∷ xs) h = (h.0.1, each_second P Q xs h.1)
 
@@ -74,22 +38,22 @@ may_then : {A B : Type 0} (P : A × Kinds → Type 0) (Q : B × Kinds → Type 0
 may_then P Q r f h k = then_holds P Q r f h k
 
 module _ (c : ℕ) where
-  abbrev GoodItem : ℕ → ItemTree → Type 0
+  abbrev pub GoodItem : ℕ → ItemTree → Type 0
   GoodItem d a = ItemLevelled a × ItemFits c d a
 
-  abbrev GoodNamed : ℕ → Name × WindowTree → Type 0
+  abbrev pub GoodNamed : ℕ → Name × WindowTree → Type 0
   GoodNamed d w = WindowLevelled w.1 × Below d (λ k. WindowFits c k w.1)
 
-  abbrev GoodTable : ℕ → TableTree → Type 0
+  abbrev pub GoodTable : ℕ → TableTree → Type 0
   GoodTable d table = TableLevelled table × TableFits c d table
 
-  abbrev GoodJoin : ℕ → JoinTree → Type 0
+  abbrev pub GoodJoin : ℕ → JoinTree → Type 0
   GoodJoin d join = JoinLevelled join × JoinFits c d join
 
   abbrev pub GoodSelect : ℕ → SelectTree → Type 0
   GoodSelect d s = SelectLevelled s × SelectFits c d s
 
-  abbrev GoodFilter : ℕ → Option Tree → Type 0
+  abbrev pub GoodFilter : ℕ → Option Tree → Type 0
   GoodFilter d filter = OptionLevelled filter × OptionFits c d filter
 
   -- ---- the select list
@@ -98,7 +62,7 @@ module _ (c : ℕ) where
   item_else d ts None other k h = h
   item_else d ts (Some n) other k h = record { parts = k; good = (tt, tt) }
 
-  item_holds : (d : ℕ) (item : Parser Tree) (ts : Kinds) → Whole c d item → Holds (IsPart item_onto (GoodItem d) ts) (item_at item ts)
+  pub item_holds : (d : ℕ) (item : Parser Tree) (ts : Kinds) → Whole c d item → Holds (IsPart item_onto (GoodItem d) ts) (item_at item ts)
   unfolding item_at
   item_holds d item ts op =
       let Q : ItemTree × Kinds → Type 0 = IsPart item_onto (GoodItem d) ts in
@@ -111,7 +75,7 @@ module _ (c : ℕ) where
 
   -- ---- WHERE and WINDOW
 
-  filter_holds : (d : ℕ) (item : Parser Tree) (ts : Kinds) → Whole c d item → Holds (IsPart filter_onto (GoodFilter d) ts) (filter_at item ts)
+  pub filter_holds : (d : ℕ) (item : Parser Tree) (ts : Kinds) → Whole c d item → Holds (IsPart filter_onto (GoodFilter d) ts) (filter_at item ts)
   unfolding filter_at
   filter_holds d item ts op =
       let Q : Option Tree × Kinds → Type 0 = IsPart filter_onto (GoodFilter d) ts in
@@ -119,26 +83,26 @@ module _ (c : ℕ) where
       (λ r e. then_holds (IsPart onto (Good c d) r) Q (item r) (λ a. Ok (Some a.0, a.1)) (op r) (λ a i. record { parts = e ∙ ap (λ (z : Kinds). m.Where ▸ z) i.parts; good = i.good }))
       (record { parts = refl; good = (tt, tt) })
 
-  named_window_holds : (d : ℕ) (ts : Kinds) → Within c d → Holds (IsPart named_window_onto (GoodNamed d) ts) (named_window_at (deeper_of c d) ts)
+  pub named_window_holds : (d : ℕ) (ts : Kinds) → Within c d → Holds (IsPart named_window_onto (GoodNamed d) ts) (named_window_at (deeper_of c d) ts)
   unfolding named_window_at
   named_window_holds d ts lower =
       let R : (Name × WindowTree) × Kinds → Type 0 = IsPart named_window_onto (GoodNamed d) ts in
-      past_name R ts (λ n. expect m.As n.1 >>= λ r. expect m.LeftBracket r >>= λ r. enter (deeper_of c d) (λ p. window_at (p 8) r) >>= λ w. Ok ((n.0, w.0), w.1)) (λ n e.
-      past_mark R m.As n.1 (λ r. expect m.LeftBracket r >>= λ r. enter (deeper_of c d) (λ p. window_at (p 8) r) >>= λ w. Ok ((n.0, w.0), w.1)) (λ r f.
-      past_mark R m.LeftBracket r (λ r. enter (deeper_of c d) (λ p. window_at (p 8) r) >>= λ w. Ok ((n.0, w.0), w.1)) (λ us g.
-      then_holds (IsPart (window_closed c) (λ w. WindowLevelled w × Below d (λ k. WindowFits c k w)) us) R (enter (deeper_of c d) (λ p. window_at (p 8) us)) (λ w. Ok ((n.0, w.0), w.1))
-      (enter_holds c (λ j. IsPart (window_closed c) (λ w. WindowLevelled w × Below j (λ k. WindowFits c k w)) us) (λ p. window_at (p 8) us) (λ k sound.
+      past_name R ts (λ n. expect m.As n.1 >>= λ r. expect m.LeftBracket r >>= λ q. enter (length r) (deeper_of c d) (λ p. window_at (p 8) q) >>= λ w. Ok ((n.0, w.0), w.1)) (λ n e.
+      past_mark R m.As n.1 (λ r. expect m.LeftBracket r >>= λ q. enter (length r) (deeper_of c d) (λ p. window_at (p 8) q) >>= λ w. Ok ((n.0, w.0), w.1)) (λ r f.
+      past_mark R m.LeftBracket r (λ q. enter (length r) (deeper_of c d) (λ p. window_at (p 8) q) >>= λ w. Ok ((n.0, w.0), w.1)) (λ us g.
+      then_holds (IsPart (window_closed c) (λ w. WindowLevelled w × Below d (λ k. WindowFits c k w)) us) R (enter (length r) (deeper_of c d) (λ p. window_at (p 8) us)) (λ w. Ok ((n.0, w.0), w.1))
+      (enter_holds c (length r) (λ j. IsPart (window_closed c) (λ w. WindowLevelled w × Below j (λ k. WindowFits c k w)) us) (λ p. window_at (p 8) us) (λ k sound.
       looser_holds (IsPart (window_closed c) (GoodWindow c k) us) (IsPart (window_closed c) (λ w. WindowLevelled w × Below (suc k) (λ k. WindowFits c k w)) us) (window_at (levels c (deeper_of c k) 8) us) (window_holds c k (levels c (deeper_of c k) 8) us (whole_expression c k sound)) (λ x i. record { parts = i.parts; good = (i.good.0, i.good.1) })) d lower)
       (λ w i. record { parts = e ∙ ap (λ (z : Kinds). name_kind n.0 ∷ z) (f ∙ ap (λ (z : Kinds). m.As ▸ z) (g ∙ ap (λ (z : Kinds). m.LeftBracket ▸ z) i.parts)); good = i.good }))))
 
-  abbrev GoodWindows : ℕ → List (Name × WindowTree) → Type 0
+  abbrev pub GoodWindows : ℕ → List (Name × WindowTree) → Type 0
   GoodWindows d windows = Each (λ w. WindowLevelled w.1) windows × Each (λ w. Below d (λ k. WindowFits c k w.1)) windows
 
   windows_listed : (d : ℕ) (ts us rest : Kinds) (xs : List (Name × WindowTree)) → ts ≡ m.Window ▸ us → IsListed m.Comma named_window_onto (GoodNamed d) us xs rest → IsPart windows_onto (GoodWindows d) ts (xs, rest)
   windows_listed d ts us rest [] e h = absurd h
   windows_listed d ts us rest (a ∷ xs) e h = record { parts = e ∙ ap (λ (z : Kinds). m.Window ▸ z) (h.0 ∙ ap (named_window_onto a) (windows_spelled xs rest)); good = ((h.1.0, each_first (λ w. WindowLevelled w.1) (λ w. Below d (λ k. WindowFits c k w.1)) xs h.2), (h.1.1, each_second (λ w. WindowLevelled w.1) (λ w. Below d (λ k. WindowFits c k w.1)) xs h.2)) }
 
-  windows_hold : (d : ℕ) (ts : Kinds) → Within c d → Holds (IsPart windows_onto (GoodWindows d) ts) (windows_at (deeper_of c d) ts)
+  pub windows_hold : (d : ℕ) (ts : Kinds) → Within c d → Holds (IsPart windows_onto (GoodWindows d) ts) (windows_at (deeper_of c d) ts)
   unfolding windows_at
   windows_hold d ts lower =
       let Q : List (Name × WindowTree) × Kinds → Type 0 = IsPart windows_onto (GoodWindows d) ts in
@@ -151,22 +115,22 @@ module _ (c : ℕ) where
   abbrev Selects : ℕ → Type 0
   Selects d = (ts : Kinds) → Holds (IsPart select_onto (GoodSelect d) ts) (selects c d ts)
 
-  abbrev Inside : ℕ → Type 0
+  abbrev pub Inside : ℕ → Type 0
   Inside zero = Unit {0}
   Inside (suc k) = Selects k
 
-  inside_holds : (Q : ℕ → SelectTree × Kinds → Type 0) (ts : Kinds) → ((k : ℕ) → Selects k → Holds (Q (suc k)) (selects c k ts)) → (d : ℕ) → Inside d → Holds (Q d) (enter (inside_of c d) (λ p. p ts))
-  inside_holds Q ts h zero lower = tt
-  inside_holds Q ts h (suc k) lower = h k lower
+  inside_holds : (left : ℕ) (Q : ℕ → SelectTree × Kinds → Type 0) (ts : Kinds) → ((k : ℕ) → Selects k → Holds (Q (suc k)) (selects c k ts)) → (d : ℕ) → Inside d → Holds (Q d) (enter left (inside_of c d) (λ p. p ts))
+  inside_holds left Q ts h zero lower = tt
+  inside_holds left Q ts h (suc k) lower = h k lower
 
-  table_holds : (d : ℕ) (ts : Kinds) → Inside d → Holds (IsPart table_onto (GoodTable d) ts) (table_at (inside_of c d) ts)
+  pub table_holds : (d : ℕ) (ts : Kinds) → Inside d → Holds (IsPart table_onto (GoodTable d) ts) (table_at (inside_of c d) ts)
   unfolding table_at
   table_holds d ts lower =
       let Q : TableTree × Kinds → Type 0 = IsPart table_onto (GoodTable d) ts in
       let Below-select : ℕ → SelectTree → Type 0 = λ j s. SelectLevelled s × Below j (λ k. SelectFits c k s) in
-      at_mark (Holds Q) m.LeftBracket ts (λ r. enter (inside_of c d) (λ p. p r) >>= λ s. expect m.RightBracket s.1 >>= λ r. given_at r >>= λ alias. Ok (derived s.0 alias.0, alias.1)) (name_at ts >>= λ n. alias_at n.1 >>= λ alias. Ok (named n.0 alias.0, alias.1))
-      (λ r e. then_holds (IsPart select_onto (Below-select d) r) Q (enter (inside_of c d) (λ p. p r)) (λ s. expect m.RightBracket s.1 >>= λ r. given_at r >>= λ alias. Ok (derived s.0 alias.0, alias.1))
-      (inside_holds (λ j. IsPart select_onto (Below-select j) r) r (λ k all.
+      at_mark (Holds Q) m.LeftBracket ts (λ r. enter (length ts) (inside_of c d) (λ p. p r) >>= λ s. expect m.RightBracket s.1 >>= λ r. given_at r >>= λ alias. Ok (derived s.0 alias.0, alias.1)) (name_at ts >>= λ n. alias_at n.1 >>= λ alias. Ok (named n.0 alias.0, alias.1))
+      (λ r e. then_holds (IsPart select_onto (Below-select d) r) Q (enter (length ts) (inside_of c d) (λ p. p r)) (λ s. expect m.RightBracket s.1 >>= λ r. given_at r >>= λ alias. Ok (derived s.0 alias.0, alias.1))
+      (inside_holds (length ts) (λ j. IsPart select_onto (Below-select j) r) r (λ k all.
       looser_holds (IsPart select_onto (GoodSelect k) r) (IsPart select_onto (Below-select (suc k)) r) (selects c k r) (all r) (λ x i. record { parts = i.parts; good = (i.good.0, i.good.1) })) d lower)
       (λ s i. past_mark Q m.RightBracket s.1 (λ r. given_at r >>= λ alias. Ok (derived s.0 alias.0, alias.1)) (λ q f.
       then_holds (Spelled given_onto q) Q (given_at q) (λ alias. Ok (derived s.0 alias.0, alias.1)) (given_is q) (λ alias g.
@@ -194,7 +158,7 @@ module _ (c : ℕ) where
   no_falsehood : false ≡ true → ⊥
   no_falsehood e = cc
 
-  join_holds : (d : ℕ) (item : Parser Tree) (ts : Kinds) → Whole c d item → Inside d → MayHold (IsPart join_onto (GoodJoin d) ts) (join_at (inside_of c d) item ts)
+  pub join_holds : (d : ℕ) (item : Parser Tree) (ts : Kinds) → Whole c d item → Inside d → MayHold (IsPart join_onto (GoodJoin d) ts) (join_at (inside_of c d) item ts)
   unfolding join_at
   join_holds d item ts op lower =
       let Q : JoinTree × Kinds → Type 0 = IsPart join_onto (GoodJoin d) ts in
@@ -223,13 +187,13 @@ module _ (c : ℕ) where
   abbrev Tables : Type 0
   Tables = TableTree × List JoinTree
 
-  abbrev from_onto : Tables → Kinds → Kinds
+  abbrev pub from_onto : Tables → Kinds → Kinds
   from_onto tables ts = table_onto tables.0 (joins_onto (joins_of tables.1) ts)
 
-  abbrev GoodTables : ℕ → Tables → Type 0
+  abbrev pub GoodTables : ℕ → Tables → Type 0
   GoodTables d tables = (TableLevelled tables.0 × JoinsLevelled (joins_of tables.1)) × (TableFits c d tables.0 × JoinsFit c d (joins_of tables.1))
 
-  from_holds : (d : ℕ) (item : Parser Tree) (ts : Kinds) → Whole c d item → Inside d → Holds (IsPart from_onto (GoodTables d) ts) (from_at (inside_of c d) item ts)
+  pub from_holds : (d : ℕ) (item : Parser Tree) (ts : Kinds) → Whole c d item → Inside d → Holds (IsPart from_onto (GoodTables d) ts) (from_at (inside_of c d) item ts)
   unfolding from_at
   from_holds d item ts op lower =
       let Q : Tables × Kinds → Type 0 = IsPart from_onto (GoodTables d) ts in
@@ -268,7 +232,7 @@ module _ (c : ℕ) where
       then_holds (Spelled limits_onto order.1) Q (limits_at order.1) (λ limits. Ok (select quantifier items.0 tables.0.0 (joins_of tables.0.1) filter.0 windows.0 (keys_of order.0) limits.0, limits.1)) (limits_is order.1) (λ limits el.
       select_is d ts us limits.1 tables.1 filter.1 windows.1 order.1 quantifier items.0 tables.0.0 (joins_of tables.0.1) filter.0 windows.0 (keys_of order.0) limits.0 items.1 (e ∙ ap (λ (z : Kinds). m.Select ▸ z) (quantifier_is r)) h (f ∙ ap (λ (z : Kinds). m.From ▸ z) it.parts) iw.parts is.parts io.parts el it.good iw.good is.good io.good))))))))
 
-  selects_hold : (d : ℕ) → 1 ≤ c → Selects d
+  pub selects_hold : (d : ℕ) → 1 ≤ c → Selects d
   unfolding selects
   selects_hold zero one ts = select_holds zero ts one tt
   selects_hold (suc d) one ts = select_holds (suc d) ts one (selects_hold d one)

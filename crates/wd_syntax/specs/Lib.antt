@@ -6,3 +6,4 @@ pub mod Levels
 pub mod Limits
 pub mod Reading
 pub mod Laws
+pub mod Passing

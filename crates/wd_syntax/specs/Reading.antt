@@ -1,5 +1,5 @@
 -- Reading tokens from left to right.
-use Rattle.std.specs.Prelude.{◌≡◌, ◌≢◌, ◌<◌, ◌≤◌, ℕ, zero, suc, ◌==◌, if◌then◌else◌, List, [], ◌∷◌, length, Bool, true, false, Option, Some, None, Result, Ok, Err}
+use Rattle.std.specs.Prelude.{ℕ, zero, suc, ◌==◌, if◌then◌else◌, List, [], ◌∷◌, length, Bool, true, false, Option, Some, None, Result, Ok, Err}
 use Rattle.std.specs.Str.{bytes_eq}
 use Rattle.wd_lex.specs.declared.token.Mark.{Mark}
 use Rattle.wd_lex.specs.declared.token.Mark.TheVariants as m
@@ -40,12 +40,13 @@ use Rattle.wd_syntax.specs.declared.query.Count.TheVariants as c
 use Rattle.wd_syntax.specs.declared.query.Limits.{Limits}
 use Rattle.wd_syntax.specs.declared.query.Limits.TheVariants.{OffsetFirst, CountFirst}
 use Rattle.wd_syntax.specs.Tokens.{Kinds, letters, operator_height}
-use Rattle.wd_syntax.specs.Tree.{Tree, Constant, Column, Qualified, CallAll, Call, Case, Bracket, Signed, Binary, IsNull, Negated, Trees, no_trees, more_trees, Arms, no_arms, more_arms, Otherwise, no_else, or_else, OverTree, no_over, over_name, over_window, WindowTree, window, Keys, no_keys, more_keys, ItemTree, all_columns, all_of, shown, TableTree, named, derived, JoinTree, comma, cross, inner, Joins, no_joins, more_joins, SelectTree, select, QueryTree, query, Key, trees_of, arms_of, keys_of, joins_of}
+use Rattle.wd_syntax.specs.Tree.{Tree, Constant, Column, Qualified, CallAll, Call, Case, Bracket, Signed, Binary, IsNull, Negated, Otherwise, no_else, or_else, OverTree, no_over, over_name, over_window, WindowTree, window, ItemTree, all_columns, all_of, shown, TableTree, named, derived, JoinTree, comma, cross, inner, SelectTree, select, QueryTree, query, Key, trees_of, arms_of, keys_of, joins_of}
 
 -- why tokens are not read
 pub data Fault : Type 0 where
   Unexpected : Fault
-  Limit : Fault
+  -- and how many tokens there are from the refused one on
+  Limit : ℕ → Fault
 
 infixl 10 ◌>>=◌
 abbrev pub ◌>>=◌ : {A B : Type 0} → Result A Fault → (A → Result B Fault) → Result B Fault
@@ -274,7 +275,7 @@ link (Some x) operand a ts next = operand x.1 >>= λ b. next (Binary x.0 a b.0) 
 
 abbrev pub ended : Option (Operator × Kinds) → Tree → Parser Tree
 ended None a ts = Ok (a, ts)
-ended (Some x) a ts = Err Limit
+ended (Some x) a ts = Err (Limit (length ts))
 
 -- A chain goes on from its left side, with at most so many operators.
 unfoldable pub links : Parser Tree → ℕ → ℕ → Tree → Parser Tree
@@ -291,7 +292,7 @@ null_at ts = choose (eat m.Not ts) (λ r. expect m.Null r >>= λ r. Ok (true, r)
 
 -- tests for NULL, at most so many
 unfoldable pub tests : ℕ → Tree → Parser Tree
-tests zero a ts = choose (eat m.Is ts) (λ r. Err Limit) (Ok (a, ts))
+tests zero a ts = choose (eat m.Is ts) (λ r. Err (Limit (length ts))) (Ok (a, ts))
 tests (suc n) a ts = choose (eat m.Is ts) (λ r. null_at r >>= λ x. tests n (IsNull a x.0) x.1) (Ok (a, ts))
 
 -- the arguments after the opening bracket, or `*`
@@ -306,9 +307,9 @@ call_of f None over = CallAll f over
 call_of f (Some bs) over = Call f (trees_of bs) over
 
 -- What reads one level deeper, if a level is left.
-abbrev pub enter : {A B : Type 0} → Option A → (A → Result B Fault) → Result B Fault
-enter None f = Err Limit
-enter (Some p) f = f p
+abbrev pub enter : {A B : Type 0} → ℕ → Option A → (A → Result B Fault) → Result B Fault
+enter left None f = Err (Limit left)
+enter left (Some p) f = f p
 
 -- by height
 abbrev pub Deeper : Type 0
@@ -317,12 +318,12 @@ Deeper = Option (ℕ → Parser Tree)
 unfoldable pub over_at : Deeper → Parser OverTree
 over_at deeper ts =
     choose (eat m.Over ts)
-    (λ r. choose (eat m.LeftBracket r) (λ r. enter deeper (λ p. window_at (p 8) r >>= λ w. Ok (over_window w.0, w.1))) (name_at r >>= λ n. Ok (over_name n.0, n.1)))
+    (λ r. choose (eat m.LeftBracket r) (λ q. enter (length r) deeper (λ p. window_at (p 8) q >>= λ w. Ok (over_window w.0, w.1))) (name_at r >>= λ n. Ok (over_name n.0, n.1)))
     (Ok (no_over, ts))
 
 -- after the opening bracket
 unfoldable pub call_at : Deeper → Name → Parser Tree
-call_at deeper f ts = enter deeper (λ p. arguments_at (p 8) ts) >>= λ bs. over_at deeper bs.1 >>= λ over. Ok (call_of f bs.0 over.0, over.1)
+call_at deeper f ts = enter (suc (length ts)) deeper (λ p. arguments_at (p 8) ts) >>= λ bs. over_at deeper bs.1 >>= λ over. Ok (call_of f bs.0 over.0, over.1)
 
 unfoldable pub named_at : Deeper → Name → Parser Tree
 named_at deeper a ts =
@@ -348,8 +349,8 @@ abbrev pub primary_by_mark : Deeper → Mark → Parser Tree
 primary_by_mark deeper m.True ts = Ok (Constant (l.Truth true), ts)
 primary_by_mark deeper m.False ts = Ok (Constant (l.Truth false), ts)
 primary_by_mark deeper m.Null ts = Ok (Constant l.Null, ts)
-primary_by_mark deeper m.LeftBracket ts = enter deeper (λ p. bracket_at (p 8) ts)
-primary_by_mark deeper m.Case ts = enter deeper (λ p. case_at (p 8) ts)
+primary_by_mark deeper m.LeftBracket ts = enter (suc (length ts)) deeper (λ p. bracket_at (p 8) ts)
+primary_by_mark deeper m.Case ts = enter (suc (length ts)) deeper (λ p. case_at (p 8) ts)
 primary_by_mark deeper _ ts = Err Unexpected
 
 unfoldable pub primary : Deeper → Parser Tree
@@ -362,7 +363,7 @@ primary deeper (t.Mark x ∷ ts) = primary_by_mark deeper x ts
 
 abbrev pub signed_by : Option (Sign × Kinds) → Deeper → Parser Tree → Parser Tree
 signed_by None deeper tighter ts = tighter ts
-signed_by (Some x) deeper tighter ts = enter deeper (λ p. p 1 x.1 >>= λ a. Ok (Signed x.0 a.0, a.1))
+signed_by (Some x) deeper tighter ts = enter (length ts) deeper (λ p. p 1 x.1 >>= λ a. Ok (Signed x.0 a.0, a.1))
 
 -- what a height does after its first operand
 abbrev pub goes_on : ℕ → Parser Tree → ℕ → Tree → Parser Tree
@@ -373,7 +374,7 @@ goes_on h operand n = links operand (suc h) n
 -- one height above what is read tighter
 abbrev pub step : ℕ → Deeper → ℕ → Parser Tree → Parser Tree
 step limit deeper zero tighter ts = signed_by (sign_at ts) deeper tighter ts
-step limit deeper (suc (suc (suc (suc (suc zero))))) tighter ts = choose (eat m.Not ts) (λ r. enter deeper (λ p. p 6 r >>= λ a. Ok (Negated a.0, a.1))) (tighter ts)
+step limit deeper (suc (suc (suc (suc (suc zero))))) tighter ts = choose (eat m.Not ts) (λ r. enter (length ts) deeper (λ p. p 6 r >>= λ a. Ok (Negated a.0, a.1))) (tighter ts)
 step limit deeper h tighter ts = tighter ts >>= λ a. goes_on h tighter limit a.0 a.1
 
 -- an expression no looser than the height
@@ -431,7 +432,7 @@ unfoldable pub filter_at : Parser Tree → Parser (Option Tree)
 filter_at item ts = choose (eat m.Where ts) (λ r. item r >>= λ a. Ok (Some a.0, a.1)) (Ok (None, ts))
 
 unfoldable pub named_window_at : Deeper → Parser (Name × WindowTree)
-named_window_at deeper ts = name_at ts >>= λ n. expect m.As n.1 >>= λ r. expect m.LeftBracket r >>= λ r. enter deeper (λ p. window_at (p 8) r) >>= λ w. Ok ((n.0, w.0), w.1)
+named_window_at deeper ts = name_at ts >>= λ n. expect m.As n.1 >>= λ r. expect m.LeftBracket r >>= λ q. enter (length r) deeper (λ p. window_at (p 8) q) >>= λ w. Ok ((n.0, w.0), w.1)
 
 unfoldable pub windows_at : Deeper → Parser (List (Name × WindowTree))
 windows_at deeper ts = choose (eat m.Window ts) (λ r. list_at m.Comma (named_window_at deeper) r) (Ok ([], ts))
@@ -486,7 +487,7 @@ Inner = Option (Parser SelectTree)
 
 unfoldable pub table_at : Inner → Parser TableTree
 table_at deeper ts =
-    choose (eat m.LeftBracket ts) (λ r. enter deeper (λ p. p r) >>= λ s. expect m.RightBracket s.1 >>= λ r. given_at r >>= λ alias. Ok (derived s.0 alias.0, alias.1))
+    choose (eat m.LeftBracket ts) (λ r. enter (length ts) deeper (λ p. p r) >>= λ s. expect m.RightBracket s.1 >>= λ r. given_at r >>= λ alias. Ok (derived s.0 alias.0, alias.1))
     (name_at ts >>= λ n. alias_at n.1 >>= λ alias. Ok (named n.0 alias.0, alias.1))
 
 -- after JOIN

@@ -1,5 +1,5 @@
 -- What the trees of the code show.
-use Rattle.std.specs.Prelude.{ℕ, List, [], ◌∷◌, Bool, Option, Some, None, map}
+use Rattle.std.specs.Prelude.{Option, Some, None, map}
 use Rattle.std.specs.Global.{Box}
 use Rattle.wd_syntax.specs.declared.expression.Expr.{Expr, Row_of-Expr, end_of-Expr, more_of-Expr, Row_of-Arm, end_of-Arm, more_of-Arm, Held-Expr-Case-1, Held-Expr-CallAll-1, Expr-Case-1-Some', Expr-Case-1-None', Expr-CallAll-1-Some', Expr-CallAll-1-None'}
 use Rattle.wd_syntax.specs.declared.expression.Expr.TheVariants as e
@@ -8,7 +8,7 @@ use Rattle.wd_syntax.specs.declared.expression.Over.TheVariants as v
 use Rattle.wd_syntax.specs.declared.expression.Arm.{Arm}
 use Rattle.wd_syntax.specs.declared.expression.Window.{Window, Window', Row_of-SortKey, end_of-SortKey, more_of-SortKey}
 use Rattle.wd_syntax.specs.declared.expression.SortKey.{SortKey}
-use Rattle.wd_syntax.specs.Tree.{Tree, Constant, Column, Qualified, CallAll, Call, Case, Bracket, Signed, Binary, IsNull, Negated, Trees, no_trees, more_trees, Arms, no_arms, more_arms, Otherwise, no_else, or_else, OverTree, no_over, over_name, over_window, WindowTree, window, Keys, no_keys, more_keys, Key, trees_of, arms_of, keys_of, joins_of, ItemTree, all_columns, all_of, shown, TableTree, named, derived, JoinTree, comma, cross, inner, Joins, no_joins, more_joins, SelectTree, select, QueryTree, query}
+use Rattle.wd_syntax.specs.Tree.{Tree, Constant, Column, Qualified, CallAll, Call, Case, Bracket, Signed, Binary, IsNull, Negated, Trees, no_trees, more_trees, Arms, no_arms, more_arms, Otherwise, no_else, or_else, OverTree, no_over, over_name, over_window, WindowTree, window, Keys, no_keys, more_keys, Key, keys_of, joins_of, ItemTree, all_columns, all_of, shown, TableTree, named, derived, JoinTree, comma, cross, inner, Joins, no_joins, more_joins, SelectTree, select, QueryTree, query}
 use Rattle.wd_syntax.specs.declared.name.Name.{Name}
 use Rattle.wd_syntax.specs.declared.query.Item.{Item}
 use Rattle.wd_syntax.specs.declared.query.Item.TheVariants as i
@@ -17,7 +17,6 @@ use Rattle.wd_syntax.specs.declared.query.Table.{Table, Row_of-Joined, end_of-Jo
 use Rattle.wd_syntax.specs.declared.query.Table.TheVariants as b
 use Rattle.wd_syntax.specs.declared.query.Joined.{Joined}
 use Rattle.wd_syntax.specs.declared.query.Joined.TheVariants as j
-use Rattle.wd_syntax.specs.declared.query.From.{From}
 use Rattle.wd_syntax.specs.declared.query.Select.{Select}
 use Rattle.wd_syntax.specs.declared.query.Query.{Query}
 

@@ -6,6 +6,8 @@ mod frame;
 pub mod laws;
 mod name;
 mod query;
+#[cfg(test)]
+mod tests;
 mod words;
 
 pub use expression::{

@@ -1,10 +1,10 @@
-use Rattle.std.proofs.Common.{◌≡◌, ◌-◌, ◌++◌, ◌∷◌, [], ap, sym, length, map}
+use Rattle.std.proofs.Common.{◌-◌, length, map}
 use Rattle.std.proofs.lemmas.Result.{err_from_is_err_and}
 use Rattle.wd_lex.specs.Lexed.{kinds_of}
 use Rattle.wd_lex.specs.declared.token.Mark.TheVariants as m
 use Rattle.wd_syntax.specs.View.{view, view_arm, view_key}
 use Rattle.wd_syntax.specs.Reading.{read, links, list_at, arm_at, key_at}
-use Rattle.wd_parse.proofs.Loops.{links_more, links_fail, links_full, list_more, list_fail, list_end, list_full}
+use Rattle.wd_parse.proofs.Loops.{links_more, links_fail, links_full, length_kinds, list_more, list_fail, list_end, list_full}
 use Rattle.wd_parse.proofs.expr.+expr.Goals as goal
 
 pub links-returns-in_err-right : goal.links-returns-in_err-right
@@ -18,7 +18,7 @@ links-loop-preserved t c =
 
 pub links-returns-in-Some-operator_at : goal.links-returns-in-Some-operator_at
 links-returns-in-Some-operator_at t c =
-    links_full (read 200 c.args.depth (c.args.height - 1)) c.args.height c.loop.counter (view c.loop.left.value) (kinds_of c.loop.rest.now) (c.in-Some-operator_at.field-0.0, kinds_of c.in-Some-operator_at.field-0.1.now) (links (read 200 c.args.depth (c.args.height - 1)) c.args.height 200 (view c.args.first.value) (kinds_of c.args.tokens.now)) c.loop-test.false c.in-Some-operator_at.ensures c.loop.invariant
+    links_full (read 200 c.args.depth (c.args.height - 1)) c.args.height c.loop.counter (view c.loop.left.value) (kinds_of c.loop.rest.now) (c.in-Some-operator_at.field-0.0, kinds_of c.in-Some-operator_at.field-0.1.now) (length c.loop.rest.now) (links (read 200 c.args.depth (c.args.height - 1)) c.args.height 200 (view c.args.first.value) (kinds_of c.args.tokens.now)) (length_kinds c.loop.rest.now) c.loop-test.false c.in-Some-operator_at.ensures c.loop.invariant
 
 pub list-returns-in_default : goal.list-returns-in_default
 list-returns-in_default t c =

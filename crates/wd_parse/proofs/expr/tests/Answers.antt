@@ -1,9 +1,9 @@
-use Rattle.std.proofs.Common.{ap, sym}
+use Rattle.std.proofs.Common.{length}
 use Rattle.std.proofs.lemmas.Result.{err_from_is_err_and}
 use Rattle.wd_lex.specs.Lexed.{kinds_of}
 use Rattle.wd_syntax.specs.View.{view}
 use Rattle.wd_syntax.specs.Reading.{tests}
-use Rattle.wd_parse.proofs.Loops.{tests_more, tests_fail, tests_full}
+use Rattle.wd_parse.proofs.Loops.{tests_more, tests_fail, tests_full, length_kinds}
 use Rattle.wd_parse.proofs.expr.tests.Goals as goal
 
 pub returns-in_err-not : goal.returns-in_err-not
@@ -18,4 +18,4 @@ loop-preserved c =
 
 pub returns-in-Some-eat : goal.returns-in-Some-eat
 returns-in-Some-eat c =
-    tests_full c.loop.counter (view c.loop.tested.value) (kinds_of c.loop.rest.now) (kinds_of c.in-Some-eat.field-0.now) (tests 200 (view c.args.operand.value) (kinds_of c.args.tokens.now)) c.loop-test.false c.in-Some-eat.ensures c.loop.invariant
+    tests_full c.loop.counter (view c.loop.tested.value) (kinds_of c.loop.rest.now) (kinds_of c.in-Some-eat.field-0.now) (length c.loop.rest.now) (tests 200 (view c.args.operand.value) (kinds_of c.args.tokens.now)) (length_kinds c.loop.rest.now) c.loop-test.false c.in-Some-eat.ensures c.loop.invariant

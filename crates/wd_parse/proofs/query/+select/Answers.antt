@@ -1,8 +1,8 @@
-use Rattle.std.proofs.Common.{◌≡◌, ◌-◌, ◌++◌, ◌∷◌, [], ap, sym, ◌∙◌, length, map, None}
+use Rattle.std.proofs.Common.{◌-◌, sym, ◌∙◌, length, map}
 use Rattle.std.proofs.lemmas.Result.{err_from_is_err_and}
 use Rattle.wd_lex.specs.Lexed.{kinds_of}
 use Rattle.wd_syntax.specs.View.{view_joined}
-use Rattle.wd_syntax.specs.Reading.{read, inside_of, many, join_at, begins_join}
+use Rattle.wd_syntax.specs.Reading.{read, inside_of, many, join_at}
 use Rattle.wd_parse.proofs.Loops.{may_fail, many_end, many_more, many_full, join_there, join_absent}
 use Rattle.wd_parse.proofs.query.+select.Goals as goal
 

@@ -1,4 +1,4 @@
-use Rattle.std.proofs.Common.{◌≡◌, sym, ◌∙◌}
+use Rattle.std.proofs.Common.{◌∙◌}
 use Rattle.wd_parse.proofs.TokenFacts.{same_codes}
 use Rattle.wd_parse.proofs.tokens.is_mark.Goals as goal
 

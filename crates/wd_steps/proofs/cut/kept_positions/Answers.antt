@@ -1,4 +1,4 @@
-use Rattle.std.proofs.Common.{◌≡◌, ◌-◌, ◌∙◌, ap, sym, drop, length, take, rules, Some, None}
+use Rattle.std.proofs.Common.{◌∙◌, ap}
 use Rattle.std.proofs.lemmas.List.{take_rest}
 use Rattle.wd_value.specs.Rows.{rows_of, rows_at}
 use Rattle.wd_plan.specs.Outcomes.{first_rows}

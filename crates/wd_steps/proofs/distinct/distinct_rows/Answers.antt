@@ -1,4 +1,4 @@
-use Rattle.std.proofs.Common.{◌≡◌, ◌∙◌, ◌<◌, ◌≤◌, Bool, true, false, length, sym, ap, arith, rules, get_or}
+use Rattle.std.proofs.Common.{◌≡◌, ◌∙◌, ◌<◌, false, length, sym, arith, rules}
 use Rattle.wd_value.specs.Rows.{rows_of}
 use Rattle.wd_steps.specs.Repeats.{AreRepeats, repeats}
 use Rattle.std.proofs.lemmas.List.{get_or_default, length-map}

@@ -1,4 +1,4 @@
-use Rattle.std.proofs.Common.{◌≡◌, ◌≤◌, ◌+◌, length}
+use Rattle.std.proofs.Common.{◌≤◌, ◌+◌, length}
 use Rattle.wd_value.specs.Rows.{rows_of}
 use Rattle.wd_steps.specs.Repeats.{AreMarked}
 use Rattle.wd_steps.proofs.distinct.marked_neighbours.Given as goal

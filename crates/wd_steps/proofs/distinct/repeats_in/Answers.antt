@@ -1,4 +1,4 @@
-use Rattle.std.proofs.Common.{◌≡◌, length, rules}
+use Rattle.std.proofs.Common.{length, rules}
 use Rattle.wd_value.specs.Rows.{rows_of}
 use Rattle.wd_steps.specs.Repeats.{AreMarked, IsRowSort}
 use Rattle.wd_steps.proofs.Occurrences.{repeats_from_marks}

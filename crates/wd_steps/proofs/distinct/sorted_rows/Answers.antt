@@ -1,8 +1,7 @@
-use Rattle.std.proofs.Common.{◌≡◌, ◌∙◌, ap, sym, rules, length}
+use Rattle.std.proofs.Common.{◌≡◌, ap, rules}
 use Rattle.std.proofs.lemmas.Fn.{always_returns_same}
 use Rattle.std.proofs.lemmas.List.{length-map}
 use Rattle.std.specs.Ordering.{is_lt}
-use Rattle.wd_value.specs.Bags.{positions}
 use Rattle.wd_value.specs.Rows.{rows_of}
 use Rattle.wd_steps.specs.Repeats.{compare_positions}
 use Rattle.wd_steps.proofs.Occurrences.{positions_order}

@@ -1,4 +1,4 @@
-use Rattle.std.proofs.Common.{◌≡◌, ◌<◌, ◌≤◌, Bool, true, false, length, take, arith, rules, ap, ◌∙◌, sym}
+use Rattle.std.proofs.Common.{◌≡◌, ◌<◌, ◌≤◌, length, arith, rules, ap, ◌∙◌, sym}
 use Rattle.wd_value.specs.Rows.{rows_of}
 use Rattle.wd_plan.specs.Expressions.{expression_of, value_of}
 use Rattle.wd_plan.specs.Faults.{unless}

@@ -1,4 +1,4 @@
-use Rattle.std.proofs.Common.{◌≡◌, ◌*◌, ◌<◌, ◌≤◌, ◌^◌, ◌∙◌, ap, sym, true, nat_lt, length, rules, arith}
+use Rattle.std.proofs.Common.{◌≡◌, ◌*◌, ◌<◌, ◌∙◌, ap, sym, nat_lt, length, rules, arith}
 use Rattle.std.proofs.lemmas.Bool.{lt-ltb}
 use Rattle.wd_steps.proofs.Joining.{length-rows_pairs}
 use Rattle.wd_steps.proofs.join.has_more_pairs.Goals as goal

@@ -1,6 +1,6 @@
-use Rattle.std.proofs.Common.{◌≡◌, [], ◌∷◌, ◌++◌, ◌∙◌, ◌<◌, ◌≤◌, Bool, true, false, cond, length, take, sym, ap, subst, rules, arith}
+use Rattle.std.proofs.Common.{◌≡◌, [], ◌∷◌, ◌++◌, ◌∙◌, ◌<◌, ◌≤◌, false, length, take, sym, ap, subst, rules, arith}
 use Rattle.std.proofs.lemmas.List.{length-map, take-map}
-use Rattle.wd_value.specs.Rows.{Row, rows_of}
+use Rattle.wd_value.specs.Rows.{rows_of}
 use Rattle.wd_plan.specs.Expressions.{expression_of, value_of}
 use Rattle.wd_plan.specs.Outcomes.{pairs, passes}
 use Rattle.wd_scalar.specs.Arithmetic.{has_arithmetic}
@@ -8,7 +8,6 @@ use Rattle.wd_steps.specs.Faults.{with_result}
 use Rattle.wd_steps.specs.Joins.{AreKept, with_row}
 use Rattle.wd_steps.proofs.Filtering.{items}
 use Rattle.wd_steps.proofs.Joining.{AreKept-enough, AreKept-more, pairs_more, pairs_next, pairs_with}
-use Rattle.wd_steps.proofs.Results.{map_more}
 use Rattle.wd_steps.proofs.join.pairs_where.Goals as goal
 
 pub returns-then-len-most : goal.returns-then-len-most

@@ -1,4 +1,4 @@
-use Rattle.std.proofs.Common.{◌≡◌, ◌++◌, take, map}
+use Rattle.std.proofs.Common.{◌++◌, take, map}
 use Rattle.wd_value.specs.Rows.{Row, rows_of}
 use Rattle.wd_plan.specs.Expressions.{expression_of}
 use Rattle.wd_plan.specs.Outcomes.{pairs}

@@ -1,11 +1,10 @@
-use Rattle.std.proofs.Common.{◌≡◌, ◌<◌, length, map, take, arith, rules, Result, Ok, Err, ap, ◌∙◌, sym}
+use Rattle.std.proofs.Common.{◌≡◌, ◌<◌, length, map, arith, rules, Ok, Err, ap, ◌∙◌}
 use Rattle.std.specs.declared.alloc.Global.{Global}
 use Rattle.std.specs.declared.vec.Vec.{Vec}
 use Rattle.std.proofs.lemmas.List.{map_push}
 use Rattle.wd_value.specs.declared.value.Value.{Value}
-use Rattle.wd_value.specs.declared.value.Fault.{Fault}
 use Rattle.wd_value.specs.Rows.{Row, rows_of}
-use Rattle.wd_plan.specs.Expressions.{Expression, expression_of, value_of}
+use Rattle.wd_plan.specs.Expressions.{expression_of, value_of}
 use Rattle.wd_plan.specs.Faults.{all_ok}
 use Rattle.wd_steps.proofs.Results.{map-map_more, IsGathered-more_ok, IsGathered-more_err}
 use Rattle.wd_steps.proofs.map.map_rows.Goals as goal

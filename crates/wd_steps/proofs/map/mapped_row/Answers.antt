@@ -1,4 +1,4 @@
-use Rattle.std.proofs.Common.{◌≡◌, ◌<◌, length, map, take, arith, rules, Ok, Err, ap, ◌∙◌, sym}
+use Rattle.std.proofs.Common.{◌≡◌, ◌<◌, length, arith, rules, Ok, Err, ap, ◌∙◌}
 use Rattle.wd_plan.specs.Expressions.{Expression, expression_of, value_of}
 use Rattle.wd_steps.proofs.Results.{map-map_more, IsGathered-more_ok, IsGathered-more_err}
 use Rattle.wd_steps.proofs.map.mapped_row.Goals as goal

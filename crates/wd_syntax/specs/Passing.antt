@@ -1,0 +1,107 @@
+-- The token at which a tree passes a limit: it opens a level where none is left, or is one operator too many of its chain.
+use Rattle.std.specs.Prelude.{◌≡◌, ◌⊎◌, ◌++◌, ℕ, zero, suc, List, [], ◌∷◌, length, Option, Some, None}
+use Rattle.wd_lex.specs.declared.token.Mark.TheVariants as m
+use Rattle.wd_lex.specs.declared.token.TokenKind.{TokenKind}
+use Rattle.wd_syntax.specs.declared.name.Name.{Name}
+use Rattle.wd_syntax.specs.Tokens.{Kinds, ◌▸◌, operator_mark, sign_mark, operator_height}
+use Rattle.wd_syntax.specs.Tree.{Tree, Constant, Column, Qualified, CallAll, Call, Case, Bracket, Signed, Binary, IsNull, Negated, Trees, no_trees, more_trees, Arms, no_arms, more_arms, Otherwise, no_else, or_else, OverTree, no_over, over_name, over_window, WindowTree, window, Keys, no_keys, more_keys, ItemTree, all_columns, all_of, shown, TableTree, named, derived, JoinTree, comma, cross, inner, Joins, no_joins, more_joins, SelectTree, select, QueryTree, query}
+use Rattle.wd_syntax.specs.Spelling.{frame_onto, direction_onto, nulls_onto, not_onto, onto, list_onto, more_onto, arms_onto, else_onto, over_onto, window_onto, order_onto, more_keys_onto, given_onto, alias_onto, more_items_onto, more_windows_onto, windows_onto, limits_onto, tail_onto, table_onto, joins_onto, select_onto, end_onto, spell}
+use Rattle.wd_syntax.specs.Levels.{IsWellLevelled}
+use Rattle.wd_syntax.specs.Limits.{operators}
+
+-- `here` begins with a token that opens a level: it passes the limit where no level is left, and else something within.
+abbrev pub Opens : ℕ → (ℕ → Type 0) → Kinds → Kinds → Type 0
+Opens zero P here rest = rest ≡ here
+Opens (suc d) P here rest = P d
+
+-- In a tree that stands before ts, the token that begins `rest` passes a limit.
+abbrev mutual
+  pub Passes : ℕ → ℕ → Tree → Kinds → Kinds → Type 0
+  Passes c d (Constant l) ts rest = ⊥
+  Passes c d (Column a) ts rest = ⊥
+  Passes c d (Qualified a b) ts rest = ⊥
+  Passes c d (CallAll f over) ts rest = Opens d (λ k. ⊥) (m.LeftBracket ▸ m.Star ▸ m.RightBracket ▸ over_onto over ts) rest ⊎ OverPasses c d over ts rest
+  Passes c d (Call f bs over) ts rest = Opens d (λ k. OnePasses c k bs (m.RightBracket ▸ over_onto over ts) rest) (m.LeftBracket ▸ list_onto bs (m.RightBracket ▸ over_onto over ts)) rest ⊎ OverPasses c d over ts rest
+  Passes c d (Case arms other) ts rest = Opens d (λ k. ArmPasses c k arms (else_onto other (m.End ▸ ts)) rest ⊎ ElsePasses c k other (m.End ▸ ts) rest) (m.Case ▸ arms_onto arms (else_onto other (m.End ▸ ts))) rest
+  Passes c d (Bracket a) ts rest = Opens d (λ k. Passes c k a (m.RightBracket ▸ ts) rest) (m.LeftBracket ▸ onto a (m.RightBracket ▸ ts)) rest
+  Passes c d (Signed s a) ts rest = Opens d (λ k. Passes c k a ts rest) (sign_mark s ▸ onto a ts) rest
+  Passes c d (Binary o a b) ts rest = Passes c d a (operator_mark o ▸ onto b ts) rest ⊎ (Passes c d b ts rest ⊎ ((operators (operator_height o) (Binary o a b) ≡ suc c) × (rest ≡ operator_mark o ▸ onto b ts)))
+  Passes c d (IsNull a not) ts rest = Passes c d a (m.Is ▸ not_onto not (m.Null ▸ ts)) rest ⊎ ((operators 5 (IsNull a not) ≡ suc c) × (rest ≡ m.Is ▸ not_onto not (m.Null ▸ ts)))
+  Passes c d (Negated a) ts rest = Opens d (λ k. Passes c k a ts rest) (m.Not ▸ onto a ts) rest
+
+  pub OnePasses : ℕ → ℕ → Trees → Kinds → Kinds → Type 0
+  OnePasses c d no_trees ts rest = ⊥
+  OnePasses c d (more_trees a bs) ts rest = Passes c d a (more_onto bs ts) rest ⊎ OnePasses c d bs ts rest
+
+  pub ArmPasses : ℕ → ℕ → Arms → Kinds → Kinds → Type 0
+  ArmPasses c d no_arms ts rest = ⊥
+  ArmPasses c d (more_arms when gives arms) ts rest = (Passes c d when (m.Then ▸ onto gives (arms_onto arms ts)) rest ⊎ Passes c d gives (arms_onto arms ts) rest) ⊎ ArmPasses c d arms ts rest
+
+  pub ElsePasses : ℕ → ℕ → Otherwise → Kinds → Kinds → Type 0
+  ElsePasses c d no_else ts rest = ⊥
+  ElsePasses c d (or_else a) ts rest = Passes c d a ts rest
+
+  pub OverPasses : ℕ → ℕ → OverTree → Kinds → Kinds → Type 0
+  OverPasses c d no_over ts rest = ⊥
+  OverPasses c d (over_name n) ts rest = ⊥
+  OverPasses c d (over_window w) ts rest = Opens d (λ k. WindowPasses c k w (m.RightBracket ▸ ts) rest) (m.LeftBracket ▸ window_onto w (m.RightBracket ▸ ts)) rest
+
+  pub WindowPasses : ℕ → ℕ → WindowTree → Kinds → Kinds → Type 0
+  WindowPasses c d (window base partition order frame) ts rest = OnePasses c d partition (order_onto order (frame_onto frame ts)) rest ⊎ KeyPasses c d order (frame_onto frame ts) rest
+
+  pub KeyPasses : ℕ → ℕ → Keys → Kinds → Kinds → Type 0
+  KeyPasses c d no_keys ts rest = ⊥
+  KeyPasses c d (more_keys a direction nulls keys) ts rest = Passes c d a (direction_onto direction (nulls_onto nulls (more_keys_onto keys ts))) rest ⊎ KeyPasses c d keys ts rest
+
+-- ---- selects
+
+abbrev pub ItemPasses : ℕ → ℕ → ItemTree → Kinds → Kinds → Type 0
+ItemPasses c d all_columns ts rest = ⊥
+ItemPasses c d (all_of n) ts rest = ⊥
+ItemPasses c d (shown a alias) ts rest = Passes c d a (alias_onto alias ts) rest
+
+abbrev pub OneItemPasses : ℕ → ℕ → List ItemTree → Kinds → Kinds → Type 0
+OneItemPasses c d [] ts rest = ⊥
+OneItemPasses c d (a ∷ items) ts rest = ItemPasses c d a (more_items_onto items ts) rest ⊎ OneItemPasses c d items ts rest
+
+abbrev pub FilterPasses : ℕ → ℕ → Option Tree → Kinds → Kinds → Type 0
+FilterPasses c d None ts rest = ⊥
+FilterPasses c d (Some a) ts rest = Passes c d a ts rest
+
+abbrev pub NamedPasses : ℕ → ℕ → Name × WindowTree → Kinds → Kinds → Type 0
+NamedPasses c d w ts rest = Opens d (λ k. WindowPasses c k w.1 (m.RightBracket ▸ ts) rest) (m.LeftBracket ▸ window_onto w.1 (m.RightBracket ▸ ts)) rest
+
+abbrev pub OneWindowPasses : ℕ → ℕ → List (Name × WindowTree) → Kinds → Kinds → Type 0
+OneWindowPasses c d [] ts rest = ⊥
+OneWindowPasses c d (w ∷ windows) ts rest = NamedPasses c d w (more_windows_onto windows ts) rest ⊎ OneWindowPasses c d windows ts rest
+
+abbrev mutual
+  pub TablePasses : ℕ → ℕ → TableTree → Kinds → Kinds → Type 0
+  TablePasses c d (named n alias) ts rest = ⊥
+  TablePasses c d (derived s alias) ts rest = Opens d (λ k. SelectPasses c k s (m.RightBracket ▸ given_onto alias ts) rest) (m.LeftBracket ▸ select_onto s (m.RightBracket ▸ given_onto alias ts)) rest
+
+  pub JoinPasses : ℕ → ℕ → JoinTree → Kinds → Kinds → Type 0
+  JoinPasses c d (comma table) ts rest = TablePasses c d table ts rest
+  JoinPasses c d (cross table) ts rest = TablePasses c d table ts rest
+  JoinPasses c d (inner with_inner table on) ts rest = TablePasses c d table (m.On ▸ onto on ts) rest ⊎ Passes c d on ts rest
+
+  pub OneJoinPasses : ℕ → ℕ → Joins → Kinds → Kinds → Type 0
+  OneJoinPasses c d no_joins ts rest = ⊥
+  OneJoinPasses c d (more_joins join joins) ts rest = JoinPasses c d join (joins_onto joins ts) rest ⊎ OneJoinPasses c d joins ts rest
+
+  pub SelectPasses : ℕ → ℕ → SelectTree → Kinds → Kinds → Type 0
+  SelectPasses c d (select quantifier items first joins filter windows order limits) ts rest =
+      OneItemPasses c d items (m.From ▸ table_onto first (joins_onto joins (tail_onto filter windows order limits ts))) rest
+      ⊎ (TablePasses c d first (joins_onto joins (tail_onto filter windows order limits ts)) rest
+      ⊎ (OneJoinPasses c d joins (tail_onto filter windows order limits ts) rest
+      ⊎ (FilterPasses c d filter (windows_onto windows (order_onto order (limits_onto limits ts))) rest
+      ⊎ (OneWindowPasses c d windows (order_onto order (limits_onto limits ts)) rest
+      ⊎ KeyPasses c d order (limits_onto limits ts) rest))))
+
+abbrev pub QueryPasses : ℕ → ℕ → QueryTree → Kinds → Type 0
+QueryPasses c d (query s semicolon) rest = SelectPasses c d s (end_onto semicolon) rest
+
+-- At that place of the tokens a limit is passed: a well-levelled query begins with the same tokens, up to and with the one
+-- at the place, and in it this token opens a 33rd level or is the 201st operator of its chain.
+abbrev pub PassesLimitAt : Kinds → ℕ → Type 0
+PassesLimitAt ts place = (front : Kinds) × (token : TokenKind) × (more : Kinds) × (tree : QueryTree) × (behind : Kinds) × (length front ≡ place) × (ts ≡ front ++ token ∷ more) × (spell tree ≡ front ++ token ∷ behind) × IsWellLevelled tree × QueryPasses 200 32 tree (token ∷ behind)

@@ -1,0 +1,6 @@
+use crate::laws;
+
+#[test]
+fn laws_hold() {
+    laws::one_tree();
+}
