@@ -88,7 +88,7 @@ pub(crate) fn or_value(a: &Value, b: &Value) -> Value
     }
 }
 
-/// The value under a condition's other truth.
+/// The order of two values, ascending.
 pub(crate) fn ascending(a: &Value, b: &Value) -> Ordering
     ensures { result ≡ order.compare (record { desc = false; nulls_first = false }) a.now b.now }
 {

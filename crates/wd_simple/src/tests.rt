@@ -9,6 +9,13 @@ fn row(alloc: Global, id: i64, v: Value) -> Result<Row, AllocError> {
     Ok(vec![in alloc; Value::Int(id), v]?)
 }
 
+// Whether these are rows of one column, with these values in turn.
+fn shows(rows: &[Row], values: &[Value]) -> bool {
+    rows.len() == values.len()
+        && rows.iter().zip(values.iter()).all(|(row, value)| row.len() == 1
+            && row.iter().all(|found| same(found, value)))
+}
+
 #[test]
 fn evaluates_a_query(rt: HostRuntime) -> Result<(), Fail> {
     let alloc = rt.alloc();
@@ -16,17 +23,14 @@ fn evaluates_a_query(rt: HostRuntime) -> Result<(), Fail> {
     let query = b"SELECT v FROM t ORDER BY v DESC, id FETCH FIRST 2 ROWS ONLY";
     let (sorted, names) = read_plan(alloc, &table, query.as_slice())?;
     assert_eq!(rt; names.len(), 1);
-    assert_eq!(rt; names[0].as_str(), "v");
+    assert!(rt; names.iter().all(|name| name.as_str() == "v"));
     let rows = vec![in alloc;
         row(alloc, 1, Value::Int(5))?,
         row(alloc, 2, Value::Null)?,
         row(alloc, 3, Value::Int(7))?,
     ]?;
     let answer = evaluate(alloc, &sorted, &rows)?;
-    assert_eq!(rt; answer.len(), 2);
-    assert_eq!(rt; answer[0].len(), 1);
-    assert!(rt; same(&answer[0][0], &Value::Null));
-    assert!(rt; same(&answer[1][0], &Value::Int(7)));
+    assert!(rt; shows(&answer, &[Value::Null, Value::Int(7)]));
     Ok(())
 }
 

@@ -148,7 +148,8 @@ fn joins(rt: HostRuntime) -> Result<(), Fail> {
     let joined = join_rows(alloc, Some(&on_v), &left, &right, 5).map_err(|_| AllocError)?;
     assert!(rt; shows(&joined, 0, &[1, 1, 2, 2, 3]));
     assert!(rt; shows(&joined, 2, &[1, 2, 1, 2, 3]));
-    let crossed = join_rows(alloc, None, &left, &right[..2], 8).map_err(|_| AllocError)?;
+    let few = faulting(alloc, 7, 8)?;
+    let crossed = join_rows(alloc, None, &left, &few, 8).map_err(|_| AllocError)?;
     assert!(rt; shows(&crossed, 0, &[1, 1, 2, 2, 3, 3, 4, 4]));
     assert!(rt; shows(&crossed, 2, &[1, 2, 1, 2, 1, 2, 1, 2]));
     let none = join_rows(alloc, None, &left, &[], 0).map_err(|_| AllocError)?;
