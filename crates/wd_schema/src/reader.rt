@@ -14,6 +14,7 @@ use crate::syntax::{
 };
 use std::alloc::{AllocError, AllocFailed, Global};
 use wd_lex::{Mark, Token, TokenKind};
+use wd_value::OutOfMemory;
 
 /// Why tokens can't be read.
 #[derive(Clone, Copy, Debug, PartialEq, Eq)]
@@ -364,7 +365,7 @@ pub struct Statements {
 }
 
 /// The statements of a schema, up to the first that can't be read.
-pub fn read_statements(alloc: Global, tokens: &[Token]) -> Result<Statements, ReadError>
+pub fn read_statements(alloc: Global, tokens: &[Token]) -> Result<Statements, OutOfMemory>
     ensures begins { IfOk result (λ s. Begins (kinds_of tokens.now) (map table_tree s.tables.items)) }
     ensures schema { IfOk result (λ s. s.unexpected ≡ None → IsSchema (schema_tree s.tables.items s.ended)) }
     ensures spelled { IfOk result (λ s. s.unexpected ≡ None → kinds_of tokens.now ≡ spell_schema (schema_tree s.tables.items s.ended)) }
@@ -389,7 +390,7 @@ pub fn read_statements(alloc: Global, tokens: &[Token]) -> Result<Statements, Re
                     unexpected,
                 });
             }
-            Err(ReadError::OutOfMemory) => return Err(ReadError::OutOfMemory),
+            Err(ReadError::OutOfMemory) => return Err(OutOfMemory),
         }
     }
     Ok(Statements {
