@@ -39,7 +39,7 @@ module _ (f : ℕ → Row) (t : ℕ → Bool) (u : ℕ × Row → Bool) where
 -- ---- the test
 
 -- of two rows of a partition, their keys are as far from each other as the keys at their places
-same_keys : (order : List OrderItem) (partition : List Row) (p q : ℕ) → p < length partition → q < length partition → let keys = key_values order partition in
+pub same_keys : (order : List OrderItem) (partition : List Row) (p q : ℕ) → p < length partition → q < length partition → let keys = key_values order partition in
     value_distance (is_descending order) (get_or keys p Null) (get_or keys q Null) ≡ key_distance order (row_at partition p) (row_at partition q)
 same_keys [] partition p q k l = refl
 same_keys (item ∷ []) partition p q k l =

@@ -1,8 +1,9 @@
 //! Expressions, kind by kind.
 
-ghost use Rattle.std.specs.Prelude.{◌≡◌, IfOk};
+ghost use Rattle.std.specs.Prelude.{◌≡◌, IfOk, Ok};
 ghost use Rattle.wd_plan.specs.Expressions as spec;
 ghost use Rattle.wd_plan.specs.Expressions.{expression_of};
+ghost use Rattle.wd_scalar.specs.Operands as operands;
 ghost use Rattle.wd_scalar.specs.Arithmetic as faults;
 ghost use Rattle.wd_value.specs.Rows.{column_of};
 
@@ -14,6 +15,10 @@ use wd_value::{Fault, OutOfMemory, Value};
 
 /// The value of an expression over a row, or its fault: operands are evaluated left first, and the
 /// left one's fault is the expression's. A column past the row's last is NULL.
+///
+/// Operators nest to the left as deep as their chains are long, so this function, which goes down
+/// there, keeps its frame on the stack small.
+#[cycle(value_of)]
 pub fn value_of(
     alloc: Global,
     expression: &Expr,
@@ -22,40 +27,89 @@ pub fn value_of(
     ensures { IfOk result (λ r. r ≡ spec.value_of (expression_of expression.now) row.now) }
 {
     match expression {
-        Expr::Column(column) => Ok(Ok(value_in(alloc, row, *column)?)),
-        Expr::Literal(value, _) => Ok(Ok(value.copy(alloc)?)),
-        Expr::Negate(a) => Ok(value_of(alloc, a, row)?.and_then(|value| negated(&value))),
-        Expr::Arithmetic(op, a, b) => match value_of(alloc, a, row)? {
-            Ok(left) => Ok(arithmetic_result(*op, &left, value_of(alloc, b, row)?)),
-            Err(fault) => Ok(Err(fault)),
-        },
-        Expr::Compare(op, a, b) => match value_of(alloc, a, row)? {
-            Ok(left) => Ok(comparison_result(*op, &left, value_of(alloc, b, row)?)),
-            Err(fault) => Ok(Err(fault)),
-        },
-        Expr::Not(a) => Ok(value_of(alloc, a, row)?.map(|value| not_value(&value))),
-        Expr::And(a, b) => match value_of(alloc, a, row)? {
-            Ok(Value::Bool(false)) => Ok(Ok(Value::Bool(false))),
-            Ok(left) => Ok(and_result(&left, value_of(alloc, b, row)?)),
-            Err(fault) => Ok(Err(fault)),
-        },
-        Expr::Or(a, b) => match value_of(alloc, a, row)? {
-            Ok(Value::Bool(true)) => Ok(Ok(Value::Bool(true))),
-            Ok(left) => Ok(or_result(&left, value_of(alloc, b, row)?)),
-            Err(fault) => Ok(Err(fault)),
-        },
-        Expr::IsNull(a) => Ok(value_of(alloc, a, row)?.map(|value| Value::Bool(is_null(&value)))),
-        Expr::IsNotNull(a) => Ok(value_of(alloc, a, row)?.map(|value| Value::Bool(!is_null(
-            &value,
-        )))),
-        Expr::Case(a, b, c) => match value_of(alloc, a, row)? {
+        Expr::Column(column) => column_value(alloc, row, *column),
+        Expr::Literal(value, _) => literal_value(alloc, value),
+        Expr::Case(..) => case_value(alloc, expression, row),
+        Expr::Negate(a)
+        | Expr::Not(a)
+        | Expr::IsNull(a)
+        | Expr::IsNotNull(a)
+        | Expr::Arithmetic(_, a, _)
+        | Expr::Compare(_, a, _)
+        | Expr::And(a, _)
+        | Expr::Or(a, _) => {
+            let first = value_of(alloc, a, row)?;
+            applied(alloc, expression, first, row)
+        }
+    }
+}
+
+/// The value of a CASE, of which only what is reached is evaluated.
+#[cycle(value_of)]
+#[inline(never)]
+fn case_value(
+    alloc: Global,
+    expression: &Expr,
+    row: &[Value],
+) -> Result<Result<Value, Fault>, OutOfMemory>
+    ensures { IfOk result (λ r. r ≡ operands.case_value (expression_of expression.now) row.now) }
+{
+    match expression {
+        Expr::Case(condition, then, otherwise) => match value_of(alloc, condition, row)? {
             Ok(test) => if is_true(&test) {
-                value_of(alloc, b, row)
+                value_of(alloc, then, row)
             } else {
-                value_of(alloc, c, row)
+                value_of(alloc, otherwise, row)
             },
             Err(fault) => Ok(Err(fault)),
         },
+        _ => Ok(Ok(Value::Null)),
+    }
+}
+
+/// The value of an expression, from the result of its first operand.
+#[cycle(value_of)]
+#[inline(never)]
+fn applied(
+    alloc: Global,
+    expression: &Expr,
+    first: Result<Value, Fault>,
+    row: &[Value],
+) -> Result<Result<Value, Fault>, OutOfMemory>
+    ensures { IfOk result (λ r. r ≡ operands.applied (expression_of expression.now) row.now first) }
+{
+    match first {
+        Ok(left) => applied_to(alloc, expression, &left, row),
+        Err(fault) => Ok(Err(fault)),
+    }
+}
+
+/// The value of an expression whose first operand has this value.
+#[cycle(value_of)]
+fn applied_to(
+    alloc: Global,
+    expression: &Expr,
+    left: &Value,
+    row: &[Value],
+) -> Result<Result<Value, Fault>, OutOfMemory>
+    ensures { IfOk result (λ r. r ≡ operands.applied_to (expression_of expression.now) row.now left.now) }
+{
+    match expression {
+        Expr::Negate(_) => Ok(negated(left)),
+        Expr::Not(_) => Ok(Ok(not_value(left))),
+        Expr::IsNull(_) => Ok(Ok(Value::Bool(is_null(left)))),
+        Expr::IsNotNull(_) => Ok(Ok(Value::Bool(!is_null(left)))),
+        Expr::Arithmetic(op, _, b) => Ok(arithmetic_result(*op, left, value_of(alloc, b, row)?)),
+        Expr::Compare(op, _, b) => Ok(comparison_result(*op, left, value_of(alloc, b, row)?)),
+        Expr::And(_, b) => match left {
+            Value::Bool(false) => Ok(Ok(Value::Bool(false))),
+            _ => Ok(and_result(left, value_of(alloc, b, row)?)),
+        },
+        Expr::Or(_, b) => match left {
+            Value::Bool(true) => Ok(Ok(Value::Bool(true))),
+            _ => Ok(or_result(left, value_of(alloc, b, row)?)),
+        },
+        Expr::Column(_) | Expr::Literal(..) | Expr::Case(..) => Ok(Ok(Value::Null)),
     }
 }
 
@@ -75,11 +129,23 @@ pub fn has_arithmetic(expression: &Expr) -> bool
 }
 
 /// A copy of the value in a column, and NULL past the last.
-fn value_in(alloc: Global, row: &[Value], column: u16) -> Result<Value, OutOfMemory>
-    ensures { IfOk result (λ v. v ≡ column_of row.now column) }
+fn column_value(
+    alloc: Global,
+    row: &[Value],
+    column: u16,
+) -> Result<Result<Value, Fault>, OutOfMemory>
+    ensures { IfOk result (λ r. r ≡ Ok (column_of row.now column)) }
 {
     match row.get(column as usize) {
-        Some(value) => value.copy(alloc),
-        None => Ok(Value::Null),
+        Some(value) => literal_value(alloc, value),
+        None => Ok(Ok(Value::Null)),
     }
+}
+
+/// A copy of a value.
+#[inline(never)]
+fn literal_value(alloc: Global, value: &Value) -> Result<Result<Value, Fault>, OutOfMemory>
+    ensures { IfOk result (λ r. r ≡ Ok value.now) }
+{
+    Ok(Ok(value.copy(alloc)?))
 }

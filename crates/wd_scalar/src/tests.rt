@@ -187,3 +187,51 @@ fn finds_arithmetic(rt: HostRuntime) -> Result<(), Fail> {
     assert!(rt; !has_arithmetic(&Expr::Not(Box::new(alloc, equal)?)));
     Ok(())
 }
+
+// FALSE OR FALSE OR .. OR TRUE OR FALSE .., the TRUE innermost.
+fn long_or(alloc: Global, operators: u64) -> Result<Expr, AllocError> {
+    let mut chain = truth(Value::Bool(true));
+    for _ in 0..operators {
+        chain = Expr::Or(
+            Box::new(alloc, chain)?,
+            Box::new(alloc, truth(Value::Bool(false)))?,
+        );
+    }
+    Ok(chain)
+}
+
+// 1 + 1 + ..
+fn long_sum(alloc: Global, operators: u64) -> Result<Expr, AllocError> {
+    let mut sum = number(1);
+    for _ in 0..operators {
+        sum = arithmetic(alloc, ArithmeticOp::Add, sum, number(1))?;
+    }
+    Ok(sum)
+}
+
+// CASE WHEN FALSE THEN 1 WHEN FALSE THEN 1 .. ELSE 2 END
+fn long_case(alloc: Global, branches: u64) -> Result<Expr, AllocError> {
+    let mut rest = number(2);
+    for _ in 0..branches {
+        rest = Expr::Case(
+            Box::new(alloc, truth(Value::Bool(false)))?,
+            Box::new(alloc, number(1))?,
+            Box::new(alloc, rest)?,
+        );
+    }
+    Ok(rest)
+}
+
+// A query's text can nest some 20,000 operators to the left, and some 5,000 branches of a CASE.
+#[test]
+fn evaluates_deep_expressions(rt: HostRuntime) -> Result<(), Fail> {
+    let alloc = rt.alloc();
+    let sum = long_sum(alloc, 21_000)?;
+    assert_eq!(rt; computed(alloc, &sum)?, Ok(Some(21_001)));
+    let case = long_case(alloc, 6_000)?;
+    assert_eq!(rt; computed(alloc, &case)?, Ok(Some(2)));
+    let chain = long_or(alloc, 21_000)?;
+    assert!(rt; gives(alloc, &chain, &Value::Bool(true))?);
+    assert!(rt; !has_arithmetic(&chain));
+    Ok(())
+}
