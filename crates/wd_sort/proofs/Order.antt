@@ -1,14 +1,15 @@
--- The orders of rows and of places are total, and places are in the order of their positions' rows.
-use Rattle.std.proofs.Common.{◌≡◌, ◌∙◌, ℕ, ◌+◌, ◌<◌, Bool, true, false, cond, List, [], ◌∷◌, map, get_or, length, refl, sym, ap, subst, arith, Ordering, Less, Equal, Greater, IsPermutation}
-use Rattle.std.specs.Prelude.{All}
-use Rattle.std.specs.Ordering.{is_lt, nat_cmp, ordering_then}
+-- The orders of rows and of places are total, and sorted places are a stable sort of their positions.
+use Rattle.std.proofs.Common.{◌≡◌, ◌∙◌, ℕ, ◌+◌, ◌<◌, Bool, true, false, cond, not, ◌&&◌, List, [], ◌∷◌, map, filter, get_or, length, refl, sym, ap, subst, arith, Ordering, Less, Equal, Greater, IsPermutation}
+use Rattle.std.specs.Prelude.{IsSorted}
+use Rattle.std.specs.List.Sorted.{IsSortedBy, IsStable, ties}
+use Rattle.std.specs.Ordering.{is_lt, nat_cmp, ordering_reverse, ordering_then}
 use Rattle.std.specs.Cmp.{IsStrictWeakOrder, IsTotalOrder}
 use Rattle.std.proofs.lemmas.Cmp.{nat_cmp_total, on_total, then_total}
 use Rattle.std.specs.Cmp.{nat_cmp_is}
 use Rattle.std.proofs.lemmas.List.{get_or-map, length-map}
-use Rattle.std.proofs.lemmas.List.Elements.{All-from_recursion, All-get_or}
+use Rattle.std.proofs.lemmas.List.Elements.{All-from_recursion, recursion_from_All}
 use Rattle.std.proofs.lemmas.List.FromFn.{get_or-range_with_len, length-range_with_len}
-use Rattle.std.proofs.lemmas.List.Sorted.{All-permutation, IsPermutation-map, IsPermutation-refl, ranks_by}
+use Rattle.std.proofs.lemmas.List.Sorted.{All-permutation, IsPermutation-map, IsPermutation-refl, ranks_by, ties_stay_sorted}
 use Rattle.std.specs.List.{AllByRecursion}
 use Rattle.wd_value.proofs.OrderLaws.{compare_total}
 use Rattle.wd_value.specs.Bags.{positions}
@@ -21,7 +22,7 @@ use Rattle.wd_sort.specs.declared.sort.Placed.{Placed}
 use Rattle.wd_sort.specs.declared.sort.SortColumn.{SortColumn}
 use Rattle.wd_sort.specs.Leads.{lead_of, text_part}
 use Rattle.wd_sort.specs.Placing.{AreSorted, compare_placed, placed, placed_rows}
-use Rattle.wd_sort.specs.Sorting.{IsSortOf, compare_positions, compare_rows}
+use Rattle.wd_sort.specs.Sorting.{IsSortOf, IsStableSortOf, compare_positions, compare_rows, compare_rows_at}
 
 -- ---- total orders
 
@@ -32,16 +33,21 @@ compare_rows_total (first ∷ others) = then_total (on_total (λ row. column_of 
 compare_placed_total : (first : SortColumn) (others : List SortColumn) (rows : List Row) → IsTotalOrder (compare_placed first others rows)
 compare_placed_total first others rows =
     then_total (on_total (λ (p : Placed). p.lead) (compare_total first.key))
-    (then_total
     (then_total (on_total (λ (p : Placed). text_part p.lead (column_of (row_at rows p.position) first.column)) (compare_total first.key))
     (on_total (λ (p : Placed). row_at rows p.position) (compare_rows_total others)))
-    (on_total (λ (p : Placed). p.position) nat_cmp_total))
 
 pub places_order : (first : SortColumn) (others : List SortColumn) (rows : List Row) → IsStrictWeakOrder (λ a b. is_lt (compare_placed first others rows a b))
 places_order first others rows = ranks_by (compare_placed_total first others rows) (λ p. p)
 
 pub positions_order : (columns : List SortColumn) (rows : List Row) → IsStrictWeakOrder (λ p q. is_lt (compare_positions columns rows p q))
 positions_order columns rows = ranks_by (then_total (on_total (row_at rows) (compare_rows_total columns)) nat_cmp_total) (λ p. p)
+
+-- positions by their rows
+pub rows_order : (columns : List SortColumn) (rows : List Row) → IsStrictWeakOrder (λ p q. is_lt (compare_rows_at columns rows p q))
+rows_order columns rows = ranks_by (compare_rows_total columns) (row_at rows)
+
+numbers_order : IsStrictWeakOrder (λ (p : ℕ) (q : ℕ). is_lt (nat_cmp p q))
+numbers_order = ranks_by nat_cmp_total (λ (p : ℕ). p)
 
 -- ---- a value's lead decides, or its text does
 
@@ -91,7 +97,7 @@ in_parts d n (Truth x) (Truth y) = then_none _
 module _ (first : SortColumn) (others : List SortColumn) (rows : List Row) where
   -- a place with its row's own lead
   abbrev IsPlaced : Placed → Type 0
-  IsPlaced p = p ≡ placed first rows p.position
+  IsPlaced p = placed first rows p.position ≡ p
 
   all_placed : (ps : List ℕ) → AllByRecursion IsPlaced (map (placed first rows) ps)
   all_placed [] = tt
@@ -101,53 +107,107 @@ module _ (first : SortColumn) (others : List SortColumn) (rows : List Row) where
   same_positions [] = refl
   same_positions (p ∷ ps) = ap (λ l. p ∷ l) (same_positions ps)
 
+  same_places : (places : List Placed) → AllByRecursion IsPlaced places → map (placed first rows) (map (λ (p : Placed). p.position) places) ≡ places
+  same_places [] a = refl
+  same_places (p ∷ places) a = λ i. a.0 i ∷ same_places places a.1 i
+
   -- such places compare as their positions
-  as_positions : (p q : ℕ) → compare_placed first others rows (placed first rows p) (placed first rows q) ≡ compare_positions (first ∷ others) rows p q
+  as_positions : (p q : ℕ) → compare_placed first others rows (placed first rows p) (placed first rows q) ≡ compare_rows_at (first ∷ others) rows p q
   as_positions p q =
       let a = column_of (row_at rows p) first.column in
       let b = column_of (row_at rows q) first.column in
       let lead = compare first.key (lead_of a) (lead_of b) in
       let text = compare first.key (text_part (lead_of a) a) (text_part (lead_of b) b) in
       let rest = compare_rows others (row_at rows p) (row_at rows q) in
-      sym (then_then lead (ordering_then text rest) (nat_cmp p q))
-      ∙ ap (λ o. ordering_then o (nat_cmp p q)) (sym (then_then lead text rest) ∙ ap (λ o. ordering_then o rest) (sym (in_parts first.key.desc first.key.nulls_first a b)))
+      sym (then_then lead text rest) ∙ ap (λ o. ordering_then o rest) (sym (in_parts first.key.desc first.key.nulls_first a b))
 
-  -- sorted places have sorted positions
-  pub IsSortOf-from_places : (places : List Placed) → AreSorted first others rows places → IsSortOf (first ∷ others) rows (map (λ p. p.position) places)
-  IsSortOf-from_places places s = record {
-    each_once = subst (λ l. IsPermutation l (map (λ (p : Placed). p.position) places)) (same_positions (positions (length rows))) (IsPermutation-map (λ (p : Placed). p.position) (placed_rows first rows) places s.each_once);
+  abbrev less_place : Placed → Placed → Bool
+  less_place a b = is_lt (compare_placed first others rows a b)
+
+  abbrev less_row : ℕ → ℕ → Bool
+  less_row p q = is_lt (compare_rows_at (first ∷ others) rows p q)
+
+  tie_alike : (p q : ℕ) → ties less_place (placed first rows p) (placed first rows q) ≡ ties less_row p q
+  tie_alike p q = λ i. not (is_lt (as_positions p q i)) && not (is_lt (as_positions q p i))
+
+  -- the places that tie with one are those of the positions that tie with its position
+  ties_step : (x p : ℕ) (ps : List ℕ) (b : Bool) → ties less_row x p ≡ b → filter (ties less_place (placed first rows x)) (map (placed first rows) ps) ≡ map (placed first rows) (filter (ties less_row x) ps)
+      → filter (ties less_place (placed first rows x)) (map (placed first rows) (p ∷ ps)) ≡ map (placed first rows) (filter (ties less_row x) (p ∷ ps))
+  ties_step x p ps true e h = rw (tie_alike x p ∙ e, e) (ap (λ l. placed first rows p ∷ l) h)
+  ties_step x p ps false e h = rw (tie_alike x p ∙ e, e) h
+
+  tied_places : (x : ℕ) (ps : List ℕ) → filter (ties less_place (placed first rows x)) (map (placed first rows) ps) ≡ map (placed first rows) (filter (ties less_row x) ps)
+  tied_places x [] = refl
+  tied_places x (p ∷ ps) = ties_step x p ps (ties less_row x p) refl (tied_places x ps)
+
+  -- sorted places of positions are a sort of the positions
+  sorted_of : (given order : List ℕ) → IsPermutation given order → IsSorted (compare_placed first others rows) (map (placed first rows) order)
+      → IsStable (compare_placed first others rows) (map (placed first rows) given) (map (placed first rows) order) → IsStableSortOf (first ∷ others) rows given order
+  sorted_of given order permutation sorted stable = record {
+    rearranged = permutation;
     sorted = λ k d low high. (
-        let long : k + 1 < length places = rw (length-map places (λ (p : Placed). p.position)) at high in
+        let long : k + 1 < length (map (placed first rows) order) = rw (length-map order (placed first rows)) high in
         let none = placed first rows 0 in
-        let all : All IsPlaced places = All-permutation IsPlaced (placed_rows first rows) places s.each_once (All-from_recursion IsPlaced (placed_rows first rows) (all_placed (positions (length rows)))) in
-        let here : IsPlaced (get_or places k none) = All-get_or IsPlaced places k none (omega arith) all in
-        let next : IsPlaced (get_or places (k + 1) none) = All-get_or IsPlaced places (k + 1) none long all in
-        let up : is_lt (compare_placed first others rows (get_or places (k + 1) none) (get_or places k none)) ≡ false = s.sorted k none low long in
-        (λ i. is_lt (compare_positions (first ∷ others) rows (get_or-map (λ (p : Placed). p.position) places (k + 1) none d long i) (get_or-map (λ (p : Placed). p.position) places k none d (omega arith) i)))
-        ∙ ap is_lt (sym (as_positions (get_or places (k + 1) none).position (get_or places k none).position))
-        ∙ (λ i. is_lt (compare_placed first others rows (sym next i) (sym here i))) ∙ up
+        ap is_lt (sym (as_positions (get_or order (k + 1) d) (get_or order k d)))
+        ∙ sym (λ i. is_lt (compare_placed first others rows (get_or-map (placed first rows) order (k + 1) d none high i) (get_or-map (placed first rows) order k d none (omega arith) i)))
+        ∙ sorted k none low long
         );
+    stable = λ x. sym (same_positions (filter (ties less_row x) order))
+        ∙ ap (map (λ (p : Placed). p.position)) (sym (tied_places x order) ∙ stable (placed first rows x) ∙ tied_places x given)
+        ∙ same_positions (filter (ties less_row x) given);
   }
 
--- ---- without columns
+  pub IsStableSortOf-from_places : (given : List ℕ) (places : List Placed) → AreSorted first others rows given places → IsStableSortOf (first ∷ others) rows given (map (λ p. p.position) places)
+  IsStableSortOf-from_places given places s =
+      let all : AllByRecursion IsPlaced places = recursion_from_All IsPlaced places (All-permutation IsPlaced (placed_rows first rows given) places s.rearranged (All-from_recursion IsPlaced (placed_rows first rows given) (all_placed given))) in
+      let is = same_places places all in
+      let order = map (λ (p : Placed). p.position) places in
+      sorted_of given order
+      (subst (λ l. IsPermutation l order) (same_positions given) (IsPermutation-map (λ (p : Placed). p.position) (placed_rows first rows given) places s.rearranged))
+      (subst (IsSorted (compare_placed first others rows)) (sym is) s.sorted)
+      (subst (IsStable (compare_placed first others rows) (placed_rows first rows given)) (sym is) s.stable)
+
+-- ---- without columns, and with a first one
+
+pub IsStableSortOf-given : (columns : List SortColumn) (rows : List Row) (given : List ℕ) → length columns ≡ 0 → IsStableSortOf columns rows given given
+IsStableSortOf-given (first ∷ others) rows given none = absurd (omega arith)
+IsStableSortOf-given [] rows given none = record {
+  rearranged = IsPermutation-refl given;
+  sorted = λ k d low high. refl;
+  stable = λ x. refl;
+}
+
+pub IsStableSortOf-from_first : (columns : List SortColumn) (first : SortColumn) (others : List SortColumn) (rows : List Row) (given : List ℕ) (places : List Placed) (order : List ℕ)
+    → columns ≡ first ∷ others → AreSorted first others rows given places → order ≡ map (λ p. p.position) places → IsStableSortOf columns rows given order
+IsStableSortOf-from_first columns first others rows given places order is sorted positions_are = rw (is, positions_are) (IsStableSortOf-from_places first others rows given places sorted)
+
+-- ---- the stable sort of all positions
 
 -- a greater number is not less
 not_less : (p q : ℕ) → q < p → is_lt (nat_cmp p q) ≡ false
 not_less p q h = ap is_lt (sym (nat_cmp_is p q Greater h))
 
-pub IsSortOf-positions : (columns : List SortColumn) (rows : List Row) → length columns ≡ 0 → IsSortOf columns rows (positions (length rows))
-IsSortOf-positions (first ∷ others) rows none = absurd (omega arith)
-IsSortOf-positions [] rows none = record {
-  each_once = IsPermutation-refl (positions (length rows));
+positions_rise : (n : ℕ) → IsSortedBy (λ p q. is_lt (nat_cmp p q)) (positions n)
+positions_rise n = λ k d low high. (
+    let long : k + 1 < n = rw (length-range_with_len 0 n) at high in
+    let here = get_or-range_with_len 0 n k d (omega arith) in
+    let next = get_or-range_with_len 0 n (k + 1) d long in
+    not_less (get_or (positions n) (k + 1) d) (get_or (positions n) k d) (omega arith)
+    )
+
+then_not_less : (o p q : Ordering) → is_lt o ≡ false → q ≡ ordering_reverse o → (not (is_lt q) && not (is_lt o) ≡ true → is_lt p ≡ false) → is_lt (ordering_then o p) ≡ false
+then_not_less Less p q e r h = cc
+then_not_less Equal p q e r h = h (rw r refl)
+then_not_less Greater p q e r h = refl
+
+pub IsSortOf-from_stable : (columns : List SortColumn) (rows : List Row) (order : List ℕ) → IsStableSortOf columns rows (positions (length rows)) order → IsSortOf columns rows order
+IsSortOf-from_stable columns rows order s = record {
+  each_once = s.rearranged;
   sorted = λ k d low high. (
-      let long : k + 1 < length rows = rw (length-range_with_len 0 (length rows)) at high in
-      let here = get_or-range_with_len 0 (length rows) k d (omega arith) in
-      let next = get_or-range_with_len 0 (length rows) (k + 1) d long in
-      not_less (get_or (positions (length rows)) (k + 1) d) (get_or (positions (length rows)) k d) (omega arith)
+      let p = get_or order k d in
+      let q = get_or order (k + 1) d in
+      then_not_less (compare_rows_at columns rows q p) (nat_cmp q p) (compare_rows_at columns rows p q) (s.sorted k d low high)
+      ((compare_rows_total columns).antisymm (row_at rows p) (row_at rows q))
+      (λ tie. ties_stay_sorted (λ p q. is_lt (nat_cmp p q)) (λ p q. is_lt (compare_rows_at columns rows p q)) numbers_order (rows_order columns rows) (positions (length rows)) order (positions_rise (length rows)) s.stable k d high tie)
       );
 }
-
--- with a first column
-pub IsSortOf-from_first : (columns : List SortColumn) (first : SortColumn) (others : List SortColumn) (rows : List Row) (places : List Placed) (order : List ℕ)
-    → columns ≡ first ∷ others → AreSorted first others rows places → order ≡ map (λ p. p.position) places → IsSortOf columns rows order
-IsSortOf-from_first columns first others rows places order is sorted positions_are = rw (is, positions_are) (IsSortOf-from_places first others rows places sorted)

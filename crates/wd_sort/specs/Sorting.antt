@@ -1,5 +1,6 @@
 -- Rows in the order of columns, and the stable sort of their positions.
 use Rattle.std.specs.Prelude.{ℕ, List, [], ◌∷◌, length, IsPermutation, IsSorted}
+use Rattle.std.specs.List.Sorted.{IsStable}
 use Rattle.std.specs.declared.cmp.Ordering.{Ordering}
 use Rattle.std.specs.declared.cmp.Ordering.TheVariants.{Equal}
 use Rattle.std.specs.Ordering.{nat_cmp, ordering_then}
@@ -21,3 +22,14 @@ compare_positions columns rows p q = ordering_then (compare_rows columns (row_at
 pub record IsSortOf (columns : List SortColumn) (rows : List Row) (order : List ℕ) : Type 0 where
   pub each_once : IsPermutation (positions (length rows)) order
   pub sorted : IsSorted (compare_positions columns rows) order
+
+-- positions compare by their rows alone
+abbrev pub compare_rows_at : List SortColumn → List Row → ℕ → ℕ → Ordering
+compare_rows_at columns rows p q = compare_rows columns (row_at rows p) (row_at rows q)
+
+-- the stable sort of given positions: a rearrangement of them in the order of the columns, in which positions whose rows tie
+-- on all columns stand as they stood
+pub record IsStableSortOf (columns : List SortColumn) (rows : List Row) (given order : List ℕ) : Type 0 where
+  pub rearranged : IsPermutation given order
+  pub sorted : IsSorted (compare_rows_at columns rows) order
+  pub stable : IsStable (compare_rows_at columns rows) given order

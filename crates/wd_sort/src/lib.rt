@@ -6,4 +6,4 @@ mod sort;
 #[cfg(test)]
 mod tests;
 
-pub use sort::{SortColumn, sorted_positions};
+pub use sort::{SortColumn, compare_rows_at, is_sorted, sorted_from, sorted_positions};

@@ -1,8 +1,8 @@
-ghost use Rattle.std.specs.Prelude.{◌≡◌, IfOk, map};
+ghost use Rattle.std.specs.Prelude.{◌≡◌, ◌↔◌, IfOk, IsSorted, IsTrue, map};
 ghost use Rattle.wd_sort.specs.Leads as leads;
 ghost use Rattle.wd_sort.specs.Placing as spec;
 ghost use Rattle.wd_sort.specs.Sorting as sorting;
-ghost use Rattle.wd_sort.specs.Sorting.{IsSortOf};
+ghost use Rattle.wd_sort.specs.Sorting.{IsSortOf, IsStableSortOf};
 ghost use Rattle.wd_value.specs.Bags.{positions};
 ghost use Rattle.wd_value.specs.Order as order;
 ghost use Rattle.wd_value.specs.Rows as table;
@@ -39,17 +39,46 @@ pub fn sorted_positions(
 ) -> Result<Vec<u64>, OutOfMemory>
     ensures { IfOk result (λ v. IsSortOf columns.now (rows_of rows.now) v.items) }
 {
+    let all = all_positions(alloc, rows.len())?;
+    let order = sorted_from(alloc, rows, columns, &all)?;
+    Ok(order)
+}
+
+/// The given positions, each as often as it is given, sorted by the columns of their rows; positions
+/// whose rows tie on all columns stay in the order given (a stable sort). A position past the last
+/// row stands for the row without columns. Takes time as `sorted_positions` does.
+pub fn sorted_from(
+    alloc: Global,
+    rows: &[Row],
+    columns: &[SortColumn],
+    positions: &[u64],
+) -> Result<Vec<u64>, OutOfMemory>
+    ensures { IfOk result (λ v. IsStableSortOf columns.now (rows_of rows.now) positions.now v.items) }
+{
     match columns.split_first() {
         None => {
-            let order = all_positions(alloc, rows.len())?;
+            let order = positions.to_vec(alloc)?;
             Ok(order)
         }
         Some((first, others)) => {
-            let places = sorted_places(alloc, rows, *first, others)?;
+            let places = sorted_places(alloc, rows, *first, others, positions)?;
             let order = positions_of(alloc, &places)?;
             Ok(order)
         }
     }
+}
+
+/// Whether the positions stand in the order of the columns; those whose rows tie may stand in any
+/// order.
+pub fn is_sorted(rows: &[Row], columns: &[SortColumn], positions: &[u64]) -> bool
+    ensures { IsTrue result ↔ IsSorted (sorting.compare_rows_at columns.now (rows_of rows.now)) positions.now }
+{
+    for i in 1..positions.len() {
+        if compare_rows_at(rows, columns, positions[i], positions[i - 1]).is_lt() {
+            return false;
+        }
+    }
+    true
 }
 
 #[tactic(auto, using(crate::proofs::Positions::positions_push))]
@@ -68,22 +97,27 @@ fn sorted_places(
     rows: &[Row],
     first: SortColumn,
     others: &[SortColumn],
+    positions: &[u64],
 ) -> Result<Vec<Placed>, OutOfMemory>
-    ensures { IfOk result (λ v. spec.AreSorted first others.now (rows_of rows.now) v.items) }
+    ensures { IfOk result (λ v. spec.AreSorted first others.now (rows_of rows.now) positions.now v.items) }
 {
-    let mut places = placed_rows(alloc, rows, first)?;
-    places.sort_unstable_by(|a, b| compare_placed(rows, first, others, a, b));
+    let mut places = placed_rows(alloc, rows, first, positions)?;
+    places.sort_by(|a, b| compare_placed(rows, first, others, a, b))?;
     Ok(places)
 }
 
-/// Each row's place, in the order of the rows.
-#[tactic(auto, using(crate::proofs::Positions::placed_push))]
-fn placed_rows(alloc: Global, rows: &[Row], first: SortColumn) -> Result<Vec<Placed>, OutOfMemory>
-    ensures { IfOk result (λ v. v.items ≡ spec.placed_rows first (rows_of rows.now)) }
+/// The place of each position, in the order of the positions.
+fn placed_rows(
+    alloc: Global,
+    rows: &[Row],
+    first: SortColumn,
+    positions: &[u64],
+) -> Result<Vec<Placed>, OutOfMemory>
+    ensures { IfOk result (λ v. v.items ≡ spec.placed_rows first (rows_of rows.now) positions.now) }
 {
-    let mut places = Vec::with_capacity(alloc, rows.len())?;
-    for i in 0..rows.len() {
-        places.push(placed_row(alloc, rows, first, i as u64))?;
+    let mut places = Vec::with_capacity(alloc, positions.len())?;
+    for position in positions {
+        places.push(placed_row(alloc, rows, first, *position))?;
     }
     Ok(places)
 }
@@ -107,7 +141,7 @@ fn positions_of(alloc: Global, places: &[Placed]) -> Result<Vec<u64>, OutOfMemor
     Ok(positions)
 }
 
-/// By the leads, then by what they leave open, then by position.
+/// By the leads, and then by what they leave open.
 fn compare_placed(
     rows: &[Row],
     first: SortColumn,
@@ -132,9 +166,7 @@ fn compare_tied(
 ) -> Ordering
     ensures { result ≡ spec.compare_tied first others.now (rows_of rows.now) a.now b.now }
 {
-    compare_texts(rows, first, a, b)
-        .then(compare_others(rows, others, a.position, b.position))
-        .then(a.position.cmp(&b.position))
+    compare_texts(rows, first, a, b).then(compare_rows_at(rows, others, a.position, b.position))
 }
 
 /// The texts of the first column, where the leads are texts.
@@ -160,14 +192,15 @@ fn text_in<'a>(rows: &'a [Row], column: u16, place: &Placed, null: &'a Value) ->
     }
 }
 
-/// The rows at two positions by the columns behind the first; without such no row is looked at.
-fn compare_others(rows: &[Row], others: &[SortColumn], p: u64, q: u64) -> Ordering
-    ensures { result ≡ sorting.compare_rows others.now (table.row_at (rows_of rows.now) p) (table.row_at (rows_of rows.now) q) }
+/// The rows at two positions by the columns, the first one on which they differ; without columns no
+/// row is looked at.
+pub fn compare_rows_at(rows: &[Row], columns: &[SortColumn], p: u64, q: u64) -> Ordering
+    ensures { result ≡ sorting.compare_rows_at columns.now (rows_of rows.now) p q }
 {
-    if others.is_empty() {
+    if columns.is_empty() {
         return Ordering::Equal;
     }
-    compare_rows(row_in(rows, p), row_in(rows, q), others)
+    compare_rows(row_in(rows, p), row_in(rows, q), columns)
 }
 
 fn compare_rows(a: &[Value], b: &[Value], columns: &[SortColumn]) -> Ordering

@@ -1,5 +1,6 @@
-use crate::{SortColumn, sorted_positions};
+use crate::{SortColumn, compare_rows_at, is_sorted, sorted_from, sorted_positions};
 use std::alloc::{AllocError, Global};
+use std::cmp::Ordering;
 use std::test::Fail;
 use wd_value::{Row, SortKey, Text, Value};
 
@@ -64,5 +65,43 @@ fn leaves_rows_that_tie(rt: HostRuntime) -> Result<(), Fail> {
     assert_eq!(rt; unsorted.as_slice(), [0, 1, 2, 3, 4, 5].as_slice());
     let none = sorted_positions(alloc, &[], &[by(0, ASCENDING)])?;
     assert_eq!(rt; none.len(), 0);
+    Ok(())
+}
+
+#[test]
+fn sorts_given_positions(rt: HostRuntime) -> Result<(), Fail> {
+    let alloc = rt.alloc();
+    let rows = rows(alloc)?;
+    let turned = sorted_from(alloc, &rows, &[by(0, ASCENDING)], &[5, 4, 3, 2, 1, 0])?;
+    assert_eq!(rt; turned.as_slice(), [2, 5, 3, 0, 4, 1].as_slice());
+    let repeated = sorted_from(alloc, &rows, &[by(0, ASCENDING)], &[5, 2, 0, 5, 2])?;
+    assert_eq!(rt; repeated.as_slice(), [2, 2, 5, 0, 5].as_slice());
+    let past_the_last = sorted_from(alloc, &rows, &[by(1, ASCENDING)], &[9, 0, 7, 3])?;
+    assert_eq!(rt; past_the_last.as_slice(), [3, 0, 9, 7].as_slice());
+    let without_columns = sorted_from(alloc, &rows, &[], &[2, 1, 2])?;
+    assert_eq!(rt; without_columns.as_slice(), [2, 1, 2].as_slice());
+    Ok(())
+}
+
+#[test]
+fn tells_sorted_positions(rt: HostRuntime) -> Result<(), Fail> {
+    let alloc = rt.alloc();
+    let rows = rows(alloc)?;
+    assert!(rt; is_sorted(&rows, &[by(0, ASCENDING)], &[2, 5, 3, 0, 4, 1]));
+    assert!(rt; !is_sorted(&rows, &[by(0, ASCENDING)], &[0, 2]));
+    assert!(rt; !is_sorted(&rows, &[by(0, ASCENDING), by(1, ASCENDING)], &[2, 5, 3]));
+    assert!(rt; is_sorted(&rows, &[by(0, ASCENDING)], &[]));
+    assert_eq!(rt;
+        compare_rows_at(&rows, &[by(0, ASCENDING)], 0, 3),
+        Ordering::Equal
+    );
+    assert_eq!(rt;
+        compare_rows_at(&rows, &[by(0, DESCENDING)], 0, 2),
+        Ordering::Less
+    );
+    assert_eq!(rt;
+        compare_rows_at(&rows, &[by(1, ASCENDING)], 4, 0),
+        Ordering::Greater
+    );
     Ok(())
 }

@@ -13,6 +13,7 @@ returns c =
     let others = c.args.others.now in
     let compares = always_returns_same _ _ _ (λ a r f h. let e : r ≡ compare_placed first others rows a.0.now a.1.0.now = search rules in (ap is_lt e, search rules)) in
     record {
-      each_once = rw (← c.in_ok-places.ensures) c.sort_unstable_by.ensures.permutation;
-      sorted = c.sort_unstable_by.ensures.sorted (λ a b. is_lt (compare_placed first others rows a b)) (places_order first others rows) compares;
+      rearranged = rw (← c.in_ok-places.ensures) c.in_ok-sort_by.ensures.permutation;
+      sorted = c.in_ok-sort_by.ensures.sorted (λ a b. is_lt (compare_placed first others rows a b)) (places_order first others rows) compares;
+      stable = rw (← c.in_ok-places.ensures) (c.in_ok-sort_by.ensures.stable (λ a b. is_lt (compare_placed first others rows a b)) (places_order first others rows) compares);
     }

@@ -1,0 +1,41 @@
+use Rattle.std.proofs.Common.{◌≡◌, ◌∙◌, ap, sym, subst, rules, length}
+use Rattle.std.specs.Prelude.{IsSorted, IsTrue}
+use Rattle.std.proofs.lemmas.List.{length-map}
+use Rattle.wd_value.specs.Bags.{EachOnce}
+use Rattle.wd_value.specs.Rows.{rows_of}
+use Rattle.wd_sort.specs.Sorting.{IsStableSortOf, compare_rows_at}
+use Rattle.wd_partition.specs.Columns.{class_by, partition_columns, sort_columns}
+use Rattle.wd_partition.proofs.Grouping.{AreGrouped-from_sorted, sorted_from_lawful}
+use Rattle.wd_partition.proofs.ordering.grouped.Goals as goal
+
+pub returns-then-not-branch : goal.returns-then-not-branch
+returns-then-not-branch c =
+    λ lawful. (
+    let rows = rows_of c.args.rows.now in
+    let once : EachOnce (length c.args.rows.now) c.args.ordering.now = subst (λ n. EachOnce n c.args.ordering.now) (length-map c.args.rows.now (λ r. r.items)) lawful.once in
+    let yes : IsTrue c.in_ok-has_each_once.field-0 = c.in_ok-has_each_once.ensures.1 once in
+    search rules
+    )
+
+pub returns-then-not-is_sorted : goal.returns-then-not-is_sorted
+returns-then-not-is_sorted c =
+    λ lawful. (
+    let rows = rows_of c.args.rows.now in
+    let class = class_by c.args.partition.now c.args.keys.now in
+    let grouped = c.in_ok-positions.positions.items in
+    let sort : IsStableSortOf (partition_columns c.args.partition.now) rows c.args.ordering.now grouped = search rules in
+    let sorted : IsSorted (compare_rows_at (sort_columns class) rows) grouped = sorted_from_lawful class rows c.args.ordering.now grouped lawful sort in
+    search rules
+    )
+
+pub returns : goal.returns
+returns c =
+    let rows = rows_of c.args.rows.now in
+    let class = class_by c.args.partition.now c.args.keys.now in
+    let grouped = c.in_ok-positions.positions.items in
+    let yes : IsTrue c.in_ok-has_each_once.field-0 = search rules in
+    let counted : EachOnce (length c.args.rows.now) c.args.ordering.now = c.in_ok-has_each_once.ensures.0 yes in
+    let once : EachOnce (length rows) c.args.ordering.now = subst (λ n. EachOnce n c.args.ordering.now) (sym (length-map c.args.rows.now (λ r. r.items))) counted in
+    let sort : IsStableSortOf (partition_columns c.args.partition.now) rows c.args.ordering.now grouped = search rules in
+    let sorted : IsSorted (compare_rows_at (sort_columns class) rows) grouped = search rules in
+    AreGrouped-from_sorted class rows c.args.ordering.now grouped once sort sorted

@@ -1,0 +1,81 @@
+-- What an evaluator asks of the row at a position: the members of its partition, their peer groups and keys, and its place.
+use Rattle.std.specs.Prelude.{◌≡◌, ℕ, ◌-◌, ◌<◌, ◌≤◌, Bool, true, false, List, [], ◌∷◌, map, length, take, drop, slice_index_or}
+use Rattle.wd_value.specs.declared.value.Value.{Value}
+use Rattle.wd_value.specs.declared.value.Value.TheVariants.{Null, Int, Text, Bool as Truth}
+use Rattle.wd_value.specs.Bags.{positions}
+use Rattle.wd_value.specs.Rows.{Row, column_of, row_at}
+use Rattle.wd_plan.specs.declared.plan.OrderItem.{OrderItem}
+use Rattle.wd_plan.specs.Partitions.{group_of, members, partition_of, place_of}
+use Rattle.wd_plan.specs.Plans.{ClassRule}
+use Rattle.wd_plan.specs.Sorting.{IsOrdering}
+use Rattle.wd_partition.specs.declared.places.Place.{Place}
+
+-- the members of a partition in their ordering, the peer group number and the key of each, and the place of one of them
+pub record MemberRule : Type 0 where
+  pub positions : List ℕ
+  pub groups : List ℕ
+  pub numbers : List Value
+  pub place : ℕ
+
+-- a whole number, and NULL in place of everything else
+abbrev pub number_of : Value → Value
+number_of Null = Null
+number_of (Int n) = Int n
+number_of (Text bytes) = Null
+number_of (Truth b) = Null
+
+-- the numbers of the only sort key, where they are asked for
+abbrev pub key_numbers : Bool → List OrderItem → List Row → List Value
+key_numbers true (key ∷ []) rows = map (λ r. number_of (column_of r key.column)) rows
+key_numbers true [] rows = []
+key_numbers true (key ∷ other ∷ keys) rows = []
+key_numbers false keys rows = []
+
+-- of the row at p under an ordering
+abbrev pub member_of : ClassRule → Bool → List Row → List ℕ → ℕ → MemberRule
+member_of class numbers rows ordering p =
+    let part = partition_of class rows ordering p in
+    record {
+      positions = members class rows ordering p;
+      groups = map (group_of class part) part;
+      numbers = key_numbers numbers class.order part;
+      place = place_of (members class rows ordering p) p;
+    }
+
+-- the peer group number of the row at p in its own partition
+abbrev pub own_group : ClassRule → List Row → List ℕ → ℕ → ℕ
+own_group class rows ordering p = group_of class (partition_of class rows ordering p) (row_at rows p)
+
+-- of each row
+abbrev pub members_of : ClassRule → Bool → List Row → List ℕ → List MemberRule
+members_of class numbers rows ordering = map (member_of class numbers rows ordering) (positions (length rows))
+
+-- the partitions of a lawful ordering, row by row
+pub record ArePartitions (class : ClassRule) (numbers : Bool) (rows : List Row) (ordering : List ℕ) (members : List MemberRule) : Type 0 where
+  pub lawful : IsOrdering class rows ordering
+  pub each : members ≡ members_of class numbers rows ordering
+
+-- a stretch of a list
+abbrev pub stretch : {X : Type 0} → Place → List X → List X
+stretch {X} place xs = take (place.end - place.start) (drop place.start xs)
+
+-- of a row, by its place among the positions sorted by partition
+abbrev pub member_at : List ℕ → List ℕ → List Value → Place → MemberRule
+member_at grouped groups numbers place = record {
+  positions = stretch place grouped;
+  groups = stretch place groups;
+  numbers = stretch place numbers;
+  place = place.index - place.start;
+}
+
+-- a stretch of a list of n elements, and one of its elements
+pub record IsWithin (n : ℕ) (place : Place) : Type 0 where
+  pub starts : place.start ≤ place.index
+  pub ends : place.start ≤ place.end
+  pub within : place.end ≤ n
+
+-- what the places name is there
+pub record AreWithin (grouped groups : List ℕ) (numbers : List Value) (places : List Place) : Type 0 where
+  pub groups_long : length groups ≡ length grouped
+  pub numbers_long : 0 < length numbers → length numbers ≡ length grouped
+  pub each : (p : ℕ) (d : Place) → p < length places → IsWithin (length grouped) (slice_index_or places p d)

@@ -1,0 +1,20 @@
+//! Orderings of rows under a class, and the partitions of a class.
+#![tactic(auto)]
+
+mod columns;
+mod groups;
+mod listing;
+mod member;
+mod members;
+mod once;
+mod ordering;
+mod places;
+mod placing;
+mod runs;
+#[cfg(test)]
+mod tests;
+
+pub use listing::partitions;
+pub use member::Member;
+pub use members::Partitions;
+pub use ordering::{is_ordering, sorted_ordering};

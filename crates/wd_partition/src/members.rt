@@ -1,0 +1,95 @@
+//! The partitions of an ordering, row by row.
+
+ghost use Rattle.std.specs.Prelude.{◌≡◌, ◌^◌, ◌<◌, ◌≤◌, List, IfOk, length, map, option_map, slice_get};
+ghost use Rattle.wd_partition.specs.Columns.{class_by};
+ghost use Rattle.wd_partition.specs.Members.{AreWithin, MemberRule, member_at, members_of, stretch};
+ghost use Rattle.wd_partition.specs.Orderings.{IsGroupedOrdering};
+ghost use Rattle.wd_partition.specs.Shown.{member_rule};
+ghost use Rattle.wd_value.specs.Rows.{rows_of};
+
+use crate::columns::partition_columns;
+use crate::groups::{group_numbers, key_numbers};
+use crate::member::Member;
+use crate::places::Place;
+use crate::placing::places_of;
+use crate::runs::{partition_ends, partition_starts};
+use std::alloc::Global;
+use std::marker::Model;
+use wd_plan::OrderItem;
+use wd_value::{OutOfMemory, Row, Value};
+
+/// The partitions of an ordering: for each row the members of its partition, their peer group
+/// numbers, and its place there. A few words for each row.
+#[derive(Drop)]
+pub struct Partitions {
+    /// The ordering's positions, one partition after another.
+    sorted: Vec<u64>,
+    groups: Vec<u32>,
+    numbers: Vec<Value>,
+    /// For each row, by its position.
+    places: Vec<Place>,
+}
+
+impl Model for Partitions {
+    ghost Value = { List MemberRule };
+
+    ghost view = { λ p. map (member_at p.sorted.items p.groups.items p.numbers.items) p.places.items };
+
+    ghost invariant = { λ p. AreWithin p.sorted.items p.groups.items p.numbers.items p.places.items };
+}
+
+impl Partitions {
+    /// The partition of the row at a position, and none past the last row. Takes constant time.
+    pub fn member(&self, position: usize) -> Option<Member<'_>>
+        ensures { option_map member_rule result ≡ slice_get self.now position }
+    {
+        match self.places.get(position) {
+            None => None,
+            Some(place) => Some(Member {
+                positions: &self.sorted[place.start..place.end],
+                groups: &self.groups[place.start..place.end],
+                numbers: numbers_at(&self.numbers, *place),
+                place: place.index - place.start,
+            }),
+        }
+    }
+}
+
+/// The numbers of a stretch, where there are numbers.
+fn numbers_at(numbers: &[Value], place: Place) -> &[Value]
+    requires ends { place.start ≤ place.end }
+    requires within { 0 < length numbers.now → place.end ≤ length numbers.now }
+    ensures { result.now ≡ stretch place numbers.now }
+{
+    if numbers.is_empty() {
+        return &[];
+    }
+    &numbers[place.start..place.end]
+}
+
+/// The partitions of positions that are sorted by partition.
+pub fn partitions_of(
+    alloc: Global,
+    rows: &[Row],
+    partition: &[u16],
+    keys: &[OrderItem],
+    sorted: Vec<u64>,
+    asked: bool,
+) -> Result<Partitions, OutOfMemory>
+    requires short { length rows.now < 2 ^ 32 }
+    requires lawful { IsGroupedOrdering (class_by partition.now keys.now) (rows_of rows.now) sorted.items }
+    ensures { IfOk result (λ v. v ≡ members_of (class_by partition.now keys.now) asked (rows_of rows.now) sorted.items) }
+{
+    let by_partition = partition_columns(alloc, partition)?;
+    let starts = partition_starts(alloc, rows, &by_partition, &sorted)?;
+    let ends = partition_ends(alloc, rows, &by_partition, &sorted)?;
+    let places = places_of(alloc, &sorted, &starts, &ends)?;
+    let groups = group_numbers(alloc, rows, partition, keys, &sorted)?;
+    let numbers = key_numbers(alloc, rows, keys, &sorted, asked)?;
+    Ok(Partitions {
+        sorted,
+        groups,
+        numbers,
+        places,
+    })
+}

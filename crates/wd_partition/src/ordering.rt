@@ -1,0 +1,92 @@
+//! Orderings of rows under a class: the sorted one, and the test of a given one.
+
+ghost use Rattle.std.specs.Prelude.{◌≡◌, ◌↔◌, IfOk, IsTrue, MatchOption, length};
+ghost use Rattle.wd_partition.specs.Columns as columns_of_class;
+ghost use Rattle.wd_partition.specs.Columns.{class_by};
+ghost use Rattle.wd_partition.specs.Orderings.{AreGrouped};
+ghost use Rattle.wd_plan.specs.Sorting.{IsOrdering};
+ghost use Rattle.wd_sort.specs.Sorting.{IsStableSortOf};
+ghost use Rattle.wd_value.specs.Rows.{rows_of};
+
+use crate::columns::{partition_columns, sort_columns};
+use crate::once::has_each_once;
+use std::alloc::Global;
+use wd_plan::OrderItem;
+use wd_sort::{is_sorted, sorted_from};
+use wd_value::{OutOfMemory, Row};
+
+/// The ordering that a stable sort gives: the positions of the rows by the partition columns,
+/// ascending with NULL last, and then by the sort keys. Rows that tie on all of these stay as they
+/// are among the rows, or with `flipped` the other way round. It is an ordering that the class
+/// allows (SQL, window clause).
+pub fn sorted_ordering(
+    alloc: Global,
+    rows: &[Row],
+    partition: &[u16],
+    keys: &[OrderItem],
+    flipped: bool,
+) -> Result<Vec<u64>, OutOfMemory>
+    ensures stable { IfOk result (λ v. IsStableSortOf (columns_of_class.sort_columns (class_by partition.now keys.now)) (rows_of rows.now) (columns_of_class.given_positions flipped (length rows.now)) v.items) }
+    ensures lawful { IfOk result (λ v. IsOrdering (class_by partition.now keys.now) (rows_of rows.now) v.items) }
+{
+    let columns = sort_columns(alloc, partition, keys)?;
+    let given = given_positions(alloc, rows.len(), flipped)?;
+    let ordering = sorted_from(alloc, rows, &columns, &given)?;
+    Ok(ordering)
+}
+
+#[tactic(auto, using(wd_sort::proofs::Positions::positions_push))]
+fn given_positions(alloc: Global, count: usize, flipped: bool) -> Result<Vec<u64>, OutOfMemory>
+    ensures { IfOk result (λ v. v.items ≡ columns_of_class.given_positions flipped count) }
+{
+    let mut all = Vec::with_capacity(alloc, count)?;
+    for i in 0..count {
+        all.push(i as u64)?;
+    }
+    if flipped {
+        all.reverse();
+    }
+    Ok(all)
+}
+
+/// Whether the list is an ordering that the class allows: each position of the rows once, and the
+/// rows of each partition sorted by the keys, where rows that tie may stand in any order (SQL,
+/// window clause). Takes n log n comparisons.
+pub fn is_ordering(
+    alloc: Global,
+    rows: &[Row],
+    partition: &[u16],
+    keys: &[OrderItem],
+    ordering: &[u64],
+) -> Result<bool, OutOfMemory>
+    ensures { IfOk result (λ b. IsTrue b ↔ IsOrdering (class_by partition.now keys.now) (rows_of rows.now) ordering.now) }
+{
+    match grouped(alloc, rows, partition, keys, ordering)? {
+        Some(_) => Ok(true),
+        None => Ok(false),
+    }
+}
+
+/// The positions of an ordering, one partition after another and in each as the ordering has them;
+/// none where the list is no ordering of the class. Where each position stands once, the list is
+/// one exactly if its stable sort by partition is sorted by all columns.
+pub fn grouped(
+    alloc: Global,
+    rows: &[Row],
+    partition: &[u16],
+    keys: &[OrderItem],
+    ordering: &[u64],
+) -> Result<Option<Vec<u64>>, OutOfMemory>
+    ensures { IfOk result (λ o. MatchOption o (IsOrdering (class_by partition.now keys.now) (rows_of rows.now) ordering.now → ⊥) (λ v. AreGrouped (class_by partition.now keys.now) (rows_of rows.now) ordering.now v.items)) }
+{
+    if !has_each_once(alloc, rows.len(), ordering)? {
+        return Ok(None);
+    }
+    let by_partition = partition_columns(alloc, partition)?;
+    let positions = sorted_from(alloc, rows, &by_partition, ordering)?;
+    let by_all = sort_columns(alloc, partition, keys)?;
+    if !is_sorted(rows, &by_all, &positions) {
+        return Ok(None);
+    }
+    Ok(Some(positions))
+}

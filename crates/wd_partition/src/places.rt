@@ -1,0 +1,10 @@
+//! Where the row at each position stands among the positions sorted by partition.
+
+/// The stretch of a row's partition among the positions sorted by partition, from `start` up to
+/// `end`, and the place of the row itself there.
+#[derive(Clone, Copy, PartialEq, Eq, Debug)]
+pub struct Place {
+    pub start: usize,
+    pub end: usize,
+    pub index: usize,
+}
