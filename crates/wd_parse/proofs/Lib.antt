@@ -1,3 +1,2 @@
-pub mod TokenFacts
 pub mod Loops
 pub mod Whole

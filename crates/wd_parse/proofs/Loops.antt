@@ -6,14 +6,17 @@ use Rattle.wd_lex.specs.declared.token.Token.{Token}
 use Rattle.wd_lex.specs.declared.token.Mark.{Mark}
 use Rattle.wd_lex.specs.declared.token.Mark.TheVariants as m
 use Rattle.wd_syntax.specs.declared.expression.Operator.{Operator}
+use Rattle.wd_syntax.specs.declared.expression.Link.{Link}
+use Rattle.wd_syntax.specs.View.{view, view_link, chained, tested}
 use Rattle.wd_syntax.specs.Tokens.{Kinds}
 use Rattle.wd_syntax.specs.Tree.{Tree, Binary, IsNull, JoinTree}
 use Rattle.wd_syntax.specs.Reading.{◌>>=◌, Unexpected, Limit, Reads, Parser, Chance, choose, eat, operator_at, null_at, tests, links, many, after, read, Inner, join_at, begins_join, inside_of, selects, select_at}
-use Rattle.wd_syntax.proofs.Complete.{operand_first}
+use Rattle.wd_syntax.proofs.Complete.{after_none, operand_first}
 use Rattle.wd_syntax.proofs.CompleteQuery.{selects_are}
-use Rattle.wd_parse.specs.declared.error.Refusal.{Refusal}
-use Rattle.wd_parse.specs.declared.error.Refusal.TheVariants as r
-use Rattle.wd_parse.specs.Given.{Fails, MayFail, IsLoopHeight, with_front}
+use Rattle.wd_phrase.specs.declared.refusal.Refusal.{Refusal}
+use Rattle.wd_phrase.specs.declared.refusal.Refusal.TheVariants as r
+use Rattle.wd_phrase.specs.Given.{Fails, MayFail}
+use Rattle.wd_parse.specs.Given.{IsLoopHeight, with_front}
 
 -- tokens and what they say are as many
 pub length_kinds : (tokens : List Token) → length (kinds_of tokens) ≡ length tokens
@@ -32,14 +35,28 @@ pub read_chain : (h d : ℕ) (ts : Kinds) → IsLoopHeight h → read 200 d h ts
 read_chain zero d ts h = absurd (omega arith)
 read_chain (suc g) d ts h = let e : suc g - 1 ≡ g = omega arith in rw e (read_suc g d ts (omega arith) (omega arith) (omega arith) (omega arith) (omega arith))
 
+map_end : {X A : Type 0} (view : X → A) (xs : List X) (x : X) → map view (xs ++ x ∷ []) ≡ map view xs ++ view x ∷ []
+map_end view [] x = refl
+map_end {X} {A} view (y ∷ xs) x = ap (λ (z : List A). view y ∷ z) (map_end view xs x)
+
 -- ---- a chain
 
-pub links_more : (p : Parser Tree) (h i : ℕ) (a : Tree) (ts : Kinds) (o : Operator) (behind : Kinds) (b : Tree) (rest : Kinds) (total : Reads Tree) → i < 200 → operator_at h ts ≡ Some (o, behind) → p behind ≡ Ok (b, rest) → links p h (200 - i) a ts ≡ total → links p h (200 - (i + 1)) (Binary o a b) rest ≡ total
+pub chained_end : (a : Tree) (xs : List (Operator × Tree)) (x : Operator × Tree) → chained a (xs ++ x ∷ []) ≡ Binary x.0 (chained a xs) x.1
+chained_end a [] x = refl
+chained_end a (y ∷ xs) x = chained_end (Binary y.0 a y.1) xs x
+
+pub tested_end : (a : Tree) (nots : List Bool) (not : Bool) → tested a (nots ++ not ∷ []) ≡ IsNull (tested a nots) not
+tested_end a [] not = refl
+tested_end a (y ∷ nots) not = tested_end (IsNull a y) nots not
+
+pub links_more : (p : Parser Tree) (h i : ℕ) (a : Tree) (xs : List Link) (x : Link) (ts behind rest : Kinds) (total : Reads Tree) → i < 200 → operator_at h ts ≡ Some (x.operator, behind) → p behind ≡ Ok (view x.operand, rest) → links p h (200 - i) (chained a (map view_link xs)) ts ≡ total → links p h (200 - (i + 1)) (chained a (map view_link (xs ++ x ∷ []))) rest ≡ total
 unfolding links
-links_more p h i a ts o behind b rest total lt eo ep so_far =
+links_more p h i a xs x ts behind rest total lt eo ep so_far =
     let k : 200 - i ≡ suc (200 - (i + 1)) = omega arith in
-    let one : links p h (200 - i) a ts ≡ links p h (200 - (i + 1)) (Binary o a b) rest = rw (k, eo, ep) refl in
-    sym one ∙ so_far
+    let tree = chained a (map view_link xs) in
+    let one : links p h (200 - i) tree ts ≡ links p h (200 - (i + 1)) (Binary x.operator tree (view x.operand)) rest = rw (k, eo, ep) refl in
+    let grown : chained a (map view_link (xs ++ x ∷ [])) ≡ Binary x.operator tree (view x.operand) = ap (chained a) (map_end view_link xs x) ∙ chained_end a (map view_link xs) (view_link x) in
+    ap (λ z. links p h (200 - (i + 1)) z rest) grown ∙ sym one ∙ so_far
 
 pub links_fail : (e : Refusal) (p : Parser Tree) (h i : ℕ) (a : Tree) (ts : Kinds) (o : Operator) (behind : Kinds) (total : Reads Tree) → i < 200 → operator_at h ts ≡ Some (o, behind) → Fails e (p behind) → links p h (200 - i) a ts ≡ total → Fails e total
 unfolding links
@@ -62,12 +79,12 @@ links_full p h i a ts x n total en le eo so_far =
 
 -- ---- tests for NULL
 
-pub tests_more : (i : ℕ) (a : Tree) (ts behind : Kinds) (not : Bool) (rest : Kinds) (total : Reads Tree) → i < 200 → eat m.Is ts ≡ Some behind → null_at behind ≡ Ok (not, rest) → tests (200 - i) a ts ≡ total → tests (200 - (i + 1)) (IsNull a not) rest ≡ total
+pub tests_more : (i : ℕ) (a : Tree) (nots : List Bool) (not : Bool) (ts behind rest : Kinds) (total : Reads Tree) → i < 200 → eat m.Is ts ≡ Some behind → null_at behind ≡ Ok (not, rest) → tests (200 - i) (tested a nots) ts ≡ total → tests (200 - (i + 1)) (tested a (nots ++ not ∷ [])) rest ≡ total
 unfolding tests
-tests_more i a ts behind not rest total lt eo ep so_far =
+tests_more i a nots not ts behind rest total lt eo ep so_far =
     let k : 200 - i ≡ suc (200 - (i + 1)) = omega arith in
-    let one : tests (200 - i) a ts ≡ tests (200 - (i + 1)) (IsNull a not) rest = rw (k, eo, ep) refl in
-    sym one ∙ so_far
+    let one : tests (200 - i) (tested a nots) ts ≡ tests (200 - (i + 1)) (IsNull (tested a nots) not) rest = rw (k, eo, ep) refl in
+    ap (λ z. tests (200 - (i + 1)) z rest) (tested_end a nots not) ∙ sym one ∙ so_far
 
 pub tests_fail : (e : Refusal) (i : ℕ) (a : Tree) (ts behind : Kinds) (total : Reads Tree) → i < 200 → eat m.Is ts ≡ Some behind → Fails e (null_at behind) → tests (200 - i) a ts ≡ total → Fails e total
 unfolding tests
@@ -90,10 +107,6 @@ tests_full i a ts behind n total en le eo so_far =
 
 -- ---- lists
 
-map_end : {X A : Type 0} (view : X → A) (xs : List X) (x : X) → map view (xs ++ x ∷ []) ≡ map view xs ++ view x ∷ []
-map_end view [] x = refl
-map_end {X} {A} view (y ∷ xs) x = ap (λ (z : List A). view y ∷ z) (map_end view xs x)
-
 append_none : {A : Type 0} (xs : List A) → xs ++ [] ≡ xs
 append_none [] = refl
 append_none {A} (x ∷ xs) = ap (λ (z : List A). x ∷ z) (append_none xs)
@@ -109,10 +122,6 @@ regroup front a (Err f) = refl
 pub after_some : {A : Type 0} (x : Mark) (item : Parser A) (ts behind : Kinds) → eat x ts ≡ Some behind → after x item ts ≡ Some (item behind)
 unfolding after
 after_some x item ts behind e = rw e refl
-
-pub after_none : {A : Type 0} (x : Mark) (item : Parser A) (ts : Kinds) → eat x ts ≡ None → after x item ts ≡ None
-unfolding after
-after_none x item ts e = rw e refl
 
 pub many_more : {X A : Type 0} (view : X → A) (item : Chance A) (n i : ℕ) (xs : List X) (x : X) (ts rest : Kinds) (total : Reads (List A)) → i < n → item ts ≡ Some (Ok (view x, rest)) → with_front (map view xs) (many item (n - i) ts) ≡ total → with_front (map view (xs ++ x ∷ [])) (many item (n - (i + 1)) rest) ≡ total
 unfolding many

@@ -1,50 +1,13 @@
--- What a function of the code returned, beside what reading gives.
+-- Levels, and what the code's values show.
 use Rattle.std.specs.Prelude.{◌≡◌, ◌≢◌, ◌<◌, ◌≤◌, ◌++◌, ℕ, List, map, Option, Some, None, Result, Ok, Err}
 use Rattle.std.proofs.Common.{Vec, Global}
 use Rattle.wd_syntax.specs.declared.expression.Expr.{Expr}
 use Rattle.wd_syntax.specs.declared.query.From.{From}
 use Rattle.wd_syntax.specs.Tree.{Tree, TableTree, JoinTree}
 use Rattle.wd_syntax.specs.View.{view, view_table, view_joined}
-use Rattle.wd_syntax.specs.Reading.{◌>>=◌, Fault, Unexpected, Limit, Reads, read, deeper_of, inside_of, selects}
-use Rattle.wd_parse.specs.declared.error.Refusal.{Refusal}
-use Rattle.wd_parse.specs.declared.error.Refusal.TheVariants as r
-
--- The refusal is that of reading, unless memory ran out. After an unexpected token it is not told how many are left.
-abbrev pub Fails : {Y : Type 0} → Refusal → Result Y Fault → Type 0
-Fails r.OutOfMemory read = Unit {0}
-Fails (r.Unexpected left) read = read ≡ Err Unexpected
-Fails (r.PastLimit left) read = read ≡ Err (Limit left)
-
--- What a function returned, seen by view, is what reading gives, unless memory ran out.
-abbrev pub Gives : {X Y : Type 0} → (X → Y) → Result X Refusal → Result Y Fault → Type 0
-Gives view (Ok x) read = read ≡ Ok (view x)
-Gives view (Err e) read = Fails e read
-
--- What a function found, seen by view.
-abbrev pub Finds : {X Y : Type 0} → (X → Y) → Option X → Option Y → Type 0
-Finds view None found = found ≡ None
-Finds view (Some x) found = found ≡ Some (view x)
-
--- The same, unless memory ran out.
-abbrev pub MayFind : {X Y : Type 0} → (X → Y) → Result (Option X) Refusal → Option Y → Type 0
-MayFind view (Ok o) found = Finds view o found
-MayFind view (Err e) found = e ≡ r.OutOfMemory
-
-abbrev pub MayFail : {Y : Type 0} → Refusal → Option (Result Y Fault) → Type 0
-MayFail r.OutOfMemory read = Unit {0}
-MayFail (r.Unexpected left) read = read ≡ Some (Err Unexpected)
-MayFail (r.PastLimit left) read = read ≡ Some (Err (Limit left))
-
--- What a function read, if it began here.
-abbrev pub MayGive : {X Y : Type 0} → (X → Y) → Result (Option X) Refusal → Option (Result Y Fault) → Type 0
-MayGive view (Ok None) read = read ≡ None
-MayGive view (Ok (Some x)) read = read ≡ Some (Ok (view x))
-MayGive view (Err e) read = MayFail e read
-
--- The same, where something is always read.
-abbrev pub MayRead : {X Y : Type 0} → (X → Y) → Result X Refusal → Y → Type 0
-MayRead view (Ok x) read = read ≡ view x
-MayRead view (Err e) read = e ≡ r.OutOfMemory
+use Rattle.wd_syntax.specs.Reading.{◌>>=◌, Reads, read, deeper_of, inside_of, selects}
+use Rattle.wd_phrase.specs.declared.refusal.Refusal.{Refusal}
+use Rattle.wd_phrase.specs.declared.refusal.Refusal.TheVariants as r
 
 -- One level fewer, if one is left.
 abbrev pub MakesDeeper : Result ℕ Refusal → ℕ → ℕ → Type 0

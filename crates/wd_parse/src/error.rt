@@ -2,9 +2,7 @@
 
 ghost use Rattle.std.specs.Prelude.{◌≡◌};
 ghost use Rattle.wd_parse.specs.Causes.{number_of, place_of};
-ghost use Rattle.wd_parse.specs.declared.error.Refusal.TheVariants.{OutOfMemory};
 
-use std::alloc::{AllocError, AllocFailed};
 use thiserror::Error;
 
 /// A refusal of tokens. A place is the number of the refused token, from 0, or the number of tokens where more of them
@@ -41,29 +39,5 @@ impl ParseError {
             ParseError::Unexpected { place } | ParseError::PastLimit { place } => Some(*place),
             ParseError::OutOfMemory => None,
         }
-    }
-}
-
-/// A refusal on the way: `left` counts the tokens from the refused one on.
-#[derive(Clone, Copy, Debug)]
-pub enum Refusal {
-    Unexpected { left: usize },
-    PastLimit { left: usize },
-    OutOfMemory,
-}
-
-impl From<AllocError> for Refusal {
-    ghost from_gives = { λ _ e. e ≡ OutOfMemory };
-
-    fn from(_e: AllocError) -> Refusal {
-        Refusal::OutOfMemory
-    }
-}
-
-impl<T: Drop> From<AllocFailed<T>> for Refusal {
-    ghost from_gives = { λ _ e. e ≡ OutOfMemory };
-
-    fn from(_e: AllocFailed<T>) -> Refusal {
-        Refusal::OutOfMemory
     }
 }

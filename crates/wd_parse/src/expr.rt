@@ -7,16 +7,17 @@ ghost use Rattle.std.specs.Prelude.{◌≡◌, ◌≤◌, ◌-◌, map};
 ghost use Rattle.wd_lex.specs.Lexed.{kinds_of};
 ghost use Rattle.wd_lex.specs.declared.token.Mark.TheVariants as m;
 ghost use Rattle.wd_syntax.specs.Tree.{Tree, trees_of, arms_of, keys_of, window};
-ghost use Rattle.wd_syntax.specs.View.{view, view_arm, view_key, view_window, view_over_option, view_else_option};
+ghost use Rattle.wd_syntax.specs.View.{view, view_link, chained, tested, view_arm, view_key, view_window, view_over_option, view_else_option};
 ghost use Rattle.wd_syntax.specs.Reading.{read, levels, deeper_of, links, compared, tests, null_at, primary, primary_by_mark, named_at, bracket_at, call_of, call_at, arguments_at, over_at, list_at, case_at, arm_at, else_at, key_at, partition_at, order_at, base_at, window_at};
-ghost use Rattle.wd_parse.specs.Given.{Gives, MayRead, MakesDeeper, IsLoopHeight, view_arguments};
+ghost use Rattle.wd_phrase.specs.Given.{Gives, MayRead};
+ghost use Rattle.wd_parse.specs.Given.{MakesDeeper, IsLoopHeight, view_arguments};
 
-use crate::error::Refusal;
-use crate::frame::{direction_at, frame_at, nulls_at};
-use crate::tokens::{eat, eat_name, expect, name_at, operator_at, sign_at};
 use std::alloc::Global;
 use wd_lex::{Mark, Token, TokenKind};
-use wd_syntax::{Arm, Expr, Frame, Literal, Name, Over, SortKey, Window};
+use wd_phrase::{
+    Refusal, direction_at, eat, eat_name, expect, frame_at, name_at, nulls_at, operator_at, sign_at,
+};
+use wd_syntax::{Arm, Expr, Frame, Link, Literal, Name, Over, SortKey, Window};
 
 /// The most operators of one chain.
 const MAX_OPERATORS: u32 = 200;
@@ -73,6 +74,23 @@ fn chain(
     links(alloc, height, depth, first, rest)
 }
 
+// A Vec inside the tree is a row there: this says once what it holds.
+fn linked(first: Box<Expr>, links: Vec<Link>) -> Expr
+    ensures { view result ≡ chained (view first.value) (map view_link links.items) }
+{
+    Expr::Chain(first, links)
+}
+
+/// The first operand, with the links of its chain if there are any.
+fn chain_of(alloc: Global, first: Box<Expr>, links: Vec<Link>) -> Result<Box<Expr>, Refusal>
+    ensures { MayRead (λ b. view b.value) result (chained (view first.value) (map view_link links.items)) }
+{
+    if links.is_empty() {
+        return Ok(first);
+    }
+    Ok(Box::new(alloc, linked(first, links))?)
+}
+
 /// What follows the first operand of a chain.
 #[tactic(auto, unfolding(wd_syntax::specs::Reading::links))]
 #[cycle(expr)]
@@ -86,19 +104,22 @@ fn links(
     requires { IsLoopHeight height }
     ensures { Gives (λ x. (view x.0.value, kinds_of x.1.now)) result (links (read 200 depth (height - 1)) height 200 (view first.value) (kinds_of tokens.now)) }
 {
-    let mut left = first;
+    let mut items = Vec::new(alloc);
     let mut rest = tokens;
     for _ in 0..MAX_OPERATORS {
         let Some((operator, after)) = operator_at(rest, height) else {
-            return Ok((left, rest));
+            return Ok((chain_of(alloc, first, items)?, rest));
         };
         let (right, after) = at(alloc, height - 1, depth, after)?;
-        left = Box::new(alloc, Expr::Binary(operator, left, right))?;
+        items.push(Link {
+            operator,
+            operand: Box::into_inner(right),
+        })?;
         rest = after;
     }
     match operator_at(rest, height) {
         Some(_) => Err(Refusal::PastLimit { left: rest.len() }),
-        None => Ok((left, rest)),
+        None => Ok((chain_of(alloc, first, items)?, rest)),
     }
 }
 
@@ -112,7 +133,7 @@ fn comparison(alloc: Global, depth: u8, tokens: &[Token]) -> Result<(Box<Expr>, 
     match operator_at(rest, 4) {
         Some((operator, rest)) => {
             let (right, rest) = at(alloc, 3, depth, rest)?;
-            Ok((Box::new(alloc, Expr::Binary(operator, left, right))?, rest))
+            Ok((Box::new(alloc, Expr::Compare(operator, left, right))?, rest))
         }
         None => Ok((left, rest)),
     }
@@ -138,6 +159,16 @@ fn null_at(tokens: &[Token]) -> Result<(bool, &[Token]), Refusal>
     }
 }
 
+/// The operand, with its tests for NULL if there are any.
+fn tests_of(alloc: Global, operand: Box<Expr>, nots: Vec<bool>) -> Result<Box<Expr>, Refusal>
+    ensures { MayRead (λ b. view b.value) result (tested (view operand.value) nots.items) }
+{
+    if nots.is_empty() {
+        return Ok(operand);
+    }
+    Ok(Box::new(alloc, Expr::Tests(operand, nots))?)
+}
+
 /// Tests for NULL.
 #[tactic(auto, unfolding(wd_syntax::specs::Reading::tests))]
 fn tests(
@@ -147,19 +178,19 @@ fn tests(
 ) -> Result<(Box<Expr>, &[Token]), Refusal>
     ensures { Gives (λ x. (view x.0.value, kinds_of x.1.now)) result (tests 200 (view operand.value) (kinds_of tokens.now)) }
 {
-    let mut tested = operand;
+    let mut items = Vec::new(alloc);
     let mut rest = tokens;
     for _ in 0..MAX_OPERATORS {
         let Some(after) = eat(rest, Mark::Is) else {
-            return Ok((tested, rest));
+            return Ok((tests_of(alloc, operand, items)?, rest));
         };
         let (not, after) = null_at(after)?;
-        tested = Box::new(alloc, Expr::IsNull(tested, not))?;
+        items.push(not)?;
         rest = after;
     }
     match eat(rest, Mark::Is) {
         Some(_) => Err(Refusal::PastLimit { left: rest.len() }),
-        None => Ok((tested, rest)),
+        None => Ok((tests_of(alloc, operand, items)?, rest)),
     }
 }
 

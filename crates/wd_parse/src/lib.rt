@@ -3,18 +3,15 @@
 
 mod error;
 mod expr;
-mod frame;
-mod limits;
 mod parser;
 mod query;
 #[cfg(test)]
 mod tests;
-mod tokens;
 
 pub use error::ParseError;
 pub use parser::parse;
 pub use wd_syntax::{
     Alias, Arm, Bound, Count, Exclusion, Expr, Extent, FetchWord, Frame, FrameMode, From, Item,
-    Joined, Limits, Literal, Name, NamedWindow, NullsPlace, Offset, Operator, Over, Quantifier,
-    Query, RowWord, Select, Sign, SortDirection, SortKey, Table, Window,
+    Joined, Limits, Link, Literal, Name, NamedWindow, NullsPlace, Offset, Operator, Over,
+    Quantifier, Query, RowWord, Select, Sign, SortDirection, SortKey, Table, Window,
 };

@@ -8,10 +8,11 @@ ghost use Rattle.wd_syntax.specs.Limits.{KeepsLimits};
 ghost use Rattle.wd_syntax.specs.Laws.{IsTreeOf};
 ghost use Rattle.wd_parse.specs.Causes.{HasCause, GivesTree, IsPastLimit, place_of, Answers};
 
-use crate::error::{ParseError, Refusal};
+use crate::error::ParseError;
 use crate::query::whole;
 use std::alloc::Global;
 use wd_lex::Token;
+use wd_phrase::Refusal;
 use wd_syntax::Query;
 
 /// The number of the first of the last `left` of so many tokens.

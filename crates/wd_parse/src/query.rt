@@ -6,15 +6,14 @@ ghost use Rattle.wd_lex.specs.declared.token.Mark.TheVariants as m;
 ghost use Rattle.wd_syntax.specs.Tree.{joins_of, derived, query};
 ghost use Rattle.wd_syntax.specs.View.{view_item, view_option, view_named_window, view_table, view_joined, view_select, view_query};
 ghost use Rattle.wd_syntax.specs.Reading.{read, deeper_of, inside_of, selects, list_at, quantifier_at, given_at, alias_at, star_at, item_at, filter_at, named_window_at, windows_at, table_at, inner_at, join_at, begins_join, from_at, many, if_last, whole};
-ghost use Rattle.wd_parse.specs.Given.{Gives, MayFind, MayGive, view_from};
+ghost use Rattle.wd_phrase.specs.Given.{Gives, MayFind, MayGive};
+ghost use Rattle.wd_parse.specs.Given.{view_from};
 
-use crate::error::Refusal;
 use crate::expr;
 use crate::expr::deeper;
-use crate::limits::limits_at;
-use crate::tokens::{eat, eat_name, expect, name_at};
 use std::alloc::Global;
 use wd_lex::{Mark, Token};
+use wd_phrase::{Refusal, eat, eat_name, expect, limits_at, name_at};
 use wd_syntax::{
     Alias, Expr, From, Item, Joined, Name, NamedWindow, Quantifier, Query, Select, Table,
 };

@@ -248,6 +248,25 @@ fn chains_are_limited(rt: HostRuntime) -> Result<(), Fail> {
     Ok(())
 }
 
+/// Chains on the left of one another, in brackets: as much nesting as fits a text.
+#[test]
+fn deepest_trees_are_read(rt: HostRuntime) -> Result<(), Fail> {
+    for parts in [["*1", "+1", " OR 1"].as_slice(), [" IS NULL"].as_slice()] {
+        let mut text = repeated(rt.alloc(), "SELECT ", "(", 32, "1", "", "")?;
+        for _ in 0..32 {
+            for part in parts {
+                for _ in 0..200 {
+                    text.push_str(part)?;
+                }
+            }
+            text.push(')')?;
+        }
+        text.push_str(" FROM t")?;
+        assert_eq!(rt; refused(rt.alloc(), text.as_str())?, None);
+    }
+    Ok(())
+}
+
 #[test]
 fn earlier_token_decides(rt: HostRuntime) -> Result<(), Fail> {
     let text = repeated(rt.alloc(), "SELECT ", "(", 33, "1", "", " ; FROM t")?;
@@ -263,21 +282,54 @@ fn earlier_token_decides(rt: HostRuntime) -> Result<(), Fail> {
 #[test]
 fn brackets_are_kept(rt: HostRuntime) -> Result<(), Fail> {
     let query = parsed(rt.alloc(), "SELECT 9 - (4 - 2) AS a FROM t")??;
-    let [Item::Expr(Expr::Binary(Operator::Subtract, left, right), Some(alias))] = query
-        .select
-        .items
-        .as_slice()
-    else {
+    let [Item::Expr(Expr::Chain(first, links), Some(alias))] = query.select.items.as_slice() else {
         return Err(Fail::new("another tree"));
     };
-    assert!(rt; matches!(**left, Expr::Literal(Literal::Number(9))));
-    let Expr::Bracket(inside) = &**right else {
+    assert!(rt; matches!(**first, Expr::Literal(Literal::Number(9))));
+    let [
+        Link {
+            operator: Operator::Subtract,
+            operand: Expr::Bracket(inside),
+        },
+    ] = links.as_slice()
+    else {
         return Err(Fail::new("no bracket"));
     };
-    assert!(rt; matches!(**inside, Expr::Binary(Operator::Subtract, _, _)));
+    assert!(rt; matches!(**inside, Expr::Chain(_, _)));
     assert!(rt; alias.with_as && !alias.name.quoted);
     assert_eq!(rt; alias.name.text.as_str(), "a");
     assert!(rt; !query.semicolon && query.select.quantifier.is_none());
+    Ok(())
+}
+
+#[test]
+fn chains_are_one_node(rt: HostRuntime) -> Result<(), Fail> {
+    let query = parsed(rt.alloc(), "SELECT 1 - 2 + 3, a IS NULL IS NOT NULL FROM t")??;
+    let [
+        Item::Expr(Expr::Chain(first, links), None),
+        Item::Expr(Expr::Tests(operand, nots), None),
+    ] = query.select.items.as_slice()
+    else {
+        return Err(Fail::new("other nodes"));
+    };
+    assert!(rt; matches!(**first, Expr::Literal(Literal::Number(1))));
+    assert!(rt;
+        matches!(
+            links.as_slice(),
+            [
+                Link {
+                    operator: Operator::Subtract,
+                    operand: Expr::Literal(Literal::Number(2)),
+                },
+                Link {
+                    operator: Operator::Add,
+                    operand: Expr::Literal(Literal::Number(3)),
+                },
+            ]
+        )
+    );
+    assert!(rt; matches!(**operand, Expr::Column(_)));
+    assert_eq!(rt; nots.as_slice(), [false, true].as_slice());
     Ok(())
 }
 

@@ -518,7 +518,7 @@ module _ (c : ℕ) where
     n3 : g ≢ 3
     n5 : g ≢ 5
 
-  operators_more : (o : Operator) (a b : Tree) (h : ℕ) → operator_height o ≡ h → operators h (Binary o a b) ≡ suc (operators h a)
+  pub operators_more : (o : Operator) (a b : Tree) (h : ℕ) → operator_height o ≡ h → operators h (Binary o a b) ≡ suc (operators h a)
   operators_more o a b h e = rw (e, eqb-same h) refl
 
   operator_here : (h : ℕ) (o : Operator) (ts : Kinds) → operator_height o ≡ h → operator_at h (operator_mark o ▸ ts) ≡ Some (o, ts)

@@ -20,7 +20,7 @@ use Rattle.wd_syntax.specs.Reading.{none_begins}
 use Rattle.wd_syntax.proofs.Marking.{eqb-same, not_same}
 use Rattle.wd_syntax.proofs.Complete.{operand_first, operators_zero}
 use Rattle.wd_syntax.proofs.SoundPieces.{Kept, Holds, MayHold, at_mark, IsPart, all_onto, marked, after_holds, list_holds, expect_holds, base_is, IsListed}
-use Rattle.wd_syntax.proofs.Sound.{key_onto, arm_onto, trees_spelled, keys_spelled, arms_spelled, null_is, operator_at_is, IsOperator, sign_is, IsRead, Sound, Within, whole_expression, Good, Whole, GoodKey, GoodArm, GoodTrees, GoodKeys, arguments_closed, trees_onto, keys_row_onto, key_holds, arm_holds, partition_holds, order_holds, arguments_below, ArgumentsBelow, each_left, sound}
+use Rattle.wd_syntax.proofs.Sound.{left_chain, key_onto, arm_onto, trees_spelled, keys_spelled, arms_spelled, null_is, operator_at_is, IsOperator, sign_is, IsRead, Sound, Within, whole_expression, Good, Whole, GoodKey, GoodArm, GoodTrees, GoodKeys, arguments_closed, trees_onto, keys_row_onto, key_holds, arm_holds, partition_holds, order_holds, arguments_below, ArgumentsBelow, each_left, sound}
 use Rattle.wd_syntax.proofs.CutPieces.{CutBy, MayCut, then_cuts, expect_cuts, name_cuts, on_cuts, frame_cuts, nulls_cuts, null_cuts, IsPre, pre_then, pre_tree, pre_list, pre_arms, pre_partition, pre_key, pre_arm, pre_base}
 
 -- A tree with the same front as the tokens up to and with the refused one, at which it passes a limit.
@@ -200,14 +200,11 @@ module _ (c : ℕ) where
   operators_more : (o : Operator) (a b : Tree) (h : ℕ) → operator_height o ≡ h → operators (operator_height o) (Binary o a b) ≡ suc (operators h a)
   operators_more o a b h e = let q : operators (operator_height o) (Binary o a b) ≡ suc (operators (operator_height o) a) = rw (eqb-same (operator_height o)) refl in q ∙ ap (λ k. suc (operators k a)) e
 
-  left_of : (o : Operator) (h : ℕ) → operator_height o ≡ h → h ≢ 4 → left_height o ≡ h
-  left_of o h e n = rw (e, let q : eqb h 4 ≡ false = not_same h 4 n in q) refl
-
   -- the operator after the last that may stand
   ended_cuts : (g d : ℕ) (o : Option (Operator × Kinds)) (a : Tree) (ts : Kinds) → g ≢ 3 → g ≢ 0 → operators (suc g) a ≡ c → IsLevelled a → height a ≤ suc g → Kept (IsOperator (suc g) ts) o → CutBy (TreeCut (suc g) d (onto a ts)) (ended o a ts)
   ended_cuts g d None a ts n3 n0 e wl le k = tt
   ended_cuts g d (Some x) a ts n3 n0 e wl le k =
-      let left = left_of x.0 (suc g) k.1 (omega arith) in
+      let left = left_chain c x.0 (suc g) k.1 (omega arith) in
       cut_here onto (Tight (suc g)) (Passes c d) (onto a ts) (onto a) (t.Mark (operator_mark x.0)) x.1 (Binary x.0 a nothing) (λ us. t.Mark m.Null ∷ us) (length ts) (pre_tree a) ((wl, omega (arith, left), tt, omega (arith, k.1)), omega (arith, k.1)) (ap (onto a) k.0) (sym (ap length k.0)) (λ us. refl) (λ us. inr (inr (operators_more x.0 a nothing (suc g) k.1 ∙ ap suc e, refl)))
 
   link_cuts : (g h d : ℕ) (a : Tree) (ts : Kinds) (p : Parser Tree) (next : Tree → Parser Tree) (o : Option (Operator × Kinds)) → ((us : Kinds) → CutBy (TreeCut g d us) (p us)) → ((us : Kinds) → Holds (IsRead c g d us) (p us)) → IsLevelled a → ((o : Operator) → operator_height o ≡ suc g → height a ≤ left_height o) → suc g ≤ h → Kept (IsOperator (suc g) ts) o → ((o : Operator) (b : Tree) (rest : Kinds) → operator_height o ≡ suc g → ts ≡ operator_mark o ▸ onto b rest → IsLevelled b → height b ≤ g → CutBy (TreeCut h d (onto a ts)) (next (Binary o a b) rest)) → CutBy (TreeCut h d (onto a ts)) (link o p a ts next)
@@ -221,9 +218,9 @@ module _ (c : ℕ) where
   unfolding links
   links_cut g d zero p a ts n3 n0 cut op e wl le = ended_cuts g d (operator_at (suc g) ts) a ts n3 n0 (omega arith) wl le (operator_at_is (suc g) ts)
   links_cut g d (suc n) p a ts n3 n0 cut op e wl le =
-      link_cuts g (suc g) d a ts p (λ b. links p (suc g) n b) (operator_at (suc g) ts) cut op wl (λ o eo. omega (arith, left_of o (suc g) eo (omega arith))) (omega arith) (operator_at_is (suc g) ts) (λ o b rest eo et wb lb.
+      link_cuts g (suc g) d a ts p (λ b. links p (suc g) n b) (operator_at (suc g) ts) cut op wl (λ o eo. omega (arith, left_chain c o (suc g) eo (omega arith))) (omega arith) (operator_at_is (suc g) ts) (λ o b rest eo et wb lb.
       let more : operators (suc g) (Binary o a b) ≡ suc (operators (suc g) a) = subst (λ k. operators k (Binary o a b) ≡ suc (operators (suc g) a)) eo (operators_more o a b (suc g) eo) in
-      let left = left_of o (suc g) eo (omega arith) in
+      let left = left_chain c o (suc g) eo (omega arith) in
       subst (λ z. CutBy (TreeCut (suc g) d z) (links p (suc g) n (Binary o a b) rest)) (sym (ap (onto a) et)) (links_cut g d n p (Binary o a b) rest n3 n0 cut op (omega (arith, more)) (wl, omega (arith, left), wb, omega (arith, eo, lb)) (omega (arith, eo))))
 
   compared_cuts : (d : ℕ) (p : Parser Tree) (a : Tree) (ts : Kinds) → ((us : Kinds) → CutBy (TreeCut 3 d us) (p us)) → ((us : Kinds) → Holds (IsRead c 3 d us) (p us)) → IsLevelled a → height a ≤ 3 → CutBy (TreeCut 4 d (onto a ts)) (compared p a ts)

@@ -16,8 +16,8 @@ use Rattle.std.proofs.Common.{◌++◌}
 use Rattle.std.specs.Prelude.{codes}
 use Rattle.wd_syntax.specs.Passing.{Passes, WindowPasses, KeyPasses, ItemPasses, OneItemPasses, FilterPasses, NamedPasses, OneWindowPasses, TablePasses, JoinPasses, OneJoinPasses, SelectPasses, QueryPasses}
 use Rattle.wd_syntax.proofs.SoundPieces.{at_mark, IsPart, all_onto, marked, list_holds, IsListed, quantifier_is, name_holds}
-use Rattle.wd_syntax.proofs.Sound.{Whole, whole_expression, Within, sound, within}
-use Rattle.wd_syntax.proofs.SoundQuery.{items_spelled, windows_spelled, joins_spelled, each_first, item_holds, named_window_holds, filter_holds, windows_hold, table_holds, join_holds, from_holds, selects_hold, GoodItem, GoodNamed, GoodTable, GoodJoin, GoodFilter, GoodWindows, Inside, from_onto, GoodTables}
+use Rattle.wd_syntax.proofs.Sound.{each_left, Whole, whole_expression, Within, sound, within}
+use Rattle.wd_syntax.proofs.SoundQuery.{items_spelled, windows_spelled, joins_spelled, item_holds, named_window_holds, filter_holds, windows_hold, table_holds, join_holds, from_holds, selects_hold, GoodItem, GoodNamed, GoodTable, GoodJoin, GoodFilter, GoodWindows, Inside, from_onto, GoodTables}
 use Rattle.wd_syntax.proofs.CutPieces.{CutBy, MayCut, then_cuts, expect_cuts, name_cuts, on_cuts, either_cuts, given_cuts, alias_cuts, limits_cuts, IsPre, pre_then, pre_item, pre_items, pre_quantifier, pre_filter, pre_named, pre_windows, pre_table, pre_join, pre_joins}
 use Rattle.wd_syntax.proofs.Cut.{IsCut, cut_step, cut_here, pre_kind, SomePasses, many_cut, listed, GoodList, ListPasses, list_cut, mark_cuts, mapped_cuts, all_things, nothing, WholeCut, whole_cut, enter_cuts, WithinCut, WindowCut, window_cut, no_window, OrderCut, order_cut, cut, cut_within}
 
@@ -232,7 +232,7 @@ module _ (c : ℕ) where
   -- what the items that were read say of the list
   items_read : (d : ℕ) (us mid : Kinds) (xs : List ItemTree) → IsListed m.Comma item_onto (GoodItem c d) us xs mid → (IsSomeItem xs × Each ItemLevelled xs) × (us ≡ items_onto xs mid)
   items_read d us mid [] h = absurd h
-  items_read d us mid (a ∷ xs) h = ((tt, (h.1.0, each_first ItemLevelled (ItemFits c d) xs h.2)), h.0 ∙ ap (item_onto a) (items_spelled xs mid))
+  items_read d us mid (a ∷ xs) h = ((tt, (h.1.0, each_left ItemLevelled (ItemFits c d) xs h.2)), h.0 ∙ ap (item_onto a) (items_spelled xs mid))
 
   select_cut : (d : ℕ) (ts : Kinds) → 1 ≤ c → InsideCut d → Inside c d → CutBy (SelectCut d ts) (select_at c d (inside_of c d) ts)
   unfolding select_at

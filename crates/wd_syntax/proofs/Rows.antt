@@ -4,13 +4,14 @@ use Rattle.std.specs.Global.{Box}
 use mathlib.Core.Former.{Count}
 use Rattle.wd_syntax.specs.declared.name.Name.{Name}
 use Rattle.wd_syntax.specs.declared.frame.Frame.{Frame}
-use Rattle.wd_syntax.specs.declared.expression.Expr.{Expr, Row_of-Expr, end_of-Expr, more_of-Expr, Row_of-Arm, end_of-Arm, more_of-Arm, items-the_row-Expr, items-the_row-Arm, items_hidden-the_row-Expr-0, items_hidden-the_row-Arm-1}
+use Rattle.wd_syntax.specs.declared.expression.Expr.{Expr, Row_of-Expr, end_of-Expr, more_of-Expr, Row_of-Arm, end_of-Arm, more_of-Arm, items-the_row-Expr, items-the_row-Arm, Row_of-Link, end_of-Link, more_of-Link, items-the_row-Link, items_hidden-the_row-Link-2, items_hidden-the_row-Expr-0, items_hidden-the_row-Arm-1}
 use Rattle.wd_syntax.specs.declared.expression.Expr.TheVariants as e
 use Rattle.wd_syntax.specs.declared.expression.Over.{Over}
 use Rattle.wd_syntax.specs.declared.expression.Arm.{Arm}
+use Rattle.wd_syntax.specs.declared.expression.Link.{Link}
 use Rattle.wd_syntax.specs.declared.expression.SortKey.{SortKey}
-use Rattle.wd_syntax.specs.declared.expression.Window.{Window, Window', Row_of-SortKey, end_of-SortKey, more_of-SortKey, items-the_row-SortKey, items_hidden-the_row-SortKey-2, roll-Window}
-use Rattle.wd_syntax.specs.Tree.{CallAll, Call, Case, Trees, more_trees, Arms, more_arms, Keys, more_keys, window, trees_of, arms_of, keys_of}
+use Rattle.wd_syntax.specs.declared.expression.Window.{Window, Window', Row_of-SortKey, end_of-SortKey, more_of-SortKey, items-the_row-SortKey, items_hidden-the_row-SortKey-3, roll-Window}
+use Rattle.wd_syntax.specs.Tree.{Tree, Binary, CallAll, Call, Case, Trees, more_trees, Arms, more_arms, Keys, more_keys, window, trees_of, arms_of, keys_of}
 use Rattle.wd_syntax.specs.declared.query.Alias.{Alias}
 use Rattle.wd_syntax.specs.declared.query.Select.{Select}
 use Rattle.wd_syntax.specs.declared.query.Joined.{Joined}
@@ -18,7 +19,7 @@ use Rattle.wd_syntax.specs.declared.query.Table.{Table, Row_of-Joined, end_of-Jo
 use Rattle.wd_syntax.specs.declared.query.Table.TheVariants as b
 use Rattle.wd_syntax.specs.Tree.{Joins, more_joins, joins_of, derived, select}
 use Rattle.wd_syntax.specs.View.{view_item, view_option, view_named_window, view_table, view_joined, view_join_row, view_select}
-use Rattle.wd_syntax.specs.View.{view, view_row, view_arm_row, view_key_row, view_arm, view_key, view_window, view_over_option, view_else_option}
+use Rattle.wd_syntax.specs.View.{view_links, view_link, chained, view, view_row, view_arm_row, view_key_row, view_arm, view_key, view_window, view_over_option, view_else_option}
 
 row_trees : (n : _) (row : Row_of-Expr n) → view_row row ≡ trees_of (map view (items-the_row-Expr n row))
 row_trees _ end_of-Expr = refl
@@ -27,6 +28,10 @@ row_trees _ (more_of-Expr a row) = ap (λ (z : Trees). more_trees (view a) z) (r
 row_arms : (n : _) (row : Row_of-Arm n) → view_arm_row row ≡ arms_of (map view_arm (items-the_row-Arm n row))
 row_arms _ end_of-Arm = refl
 row_arms _ (more_of-Arm when gives row) = ap (λ (z : Arms). more_arms (view when) (view gives) z) (row_arms _ row)
+
+row_links : (n : _) (a : Tree) (row : Row_of-Link n) → view_links a row ≡ chained a (map view_link (items-the_row-Link n row))
+row_links _ a end_of-Link = refl
+row_links _ a (more_of-Link o b row) = row_links _ (Binary o a (view b)) row
 
 row_keys : (n : _) (row : Row_of-SortKey n) → view_key_row row ≡ keys_of (map view_key (items-the_row-SortKey n row))
 row_keys _ end_of-SortKey = refl
@@ -39,6 +44,15 @@ arguments_of _ = (_, end_of-Expr)
 abbrev arms_in : Expr → (n : Count) × Row_of-Arm n
 arms_in (e.Case' shape row other) = (_, row)
 arms_in _ = (_, end_of-Arm)
+
+abbrev links_in : Expr → (n : Count) × Row_of-Link n
+links_in (e.Chain' p a shape row) = (_, row)
+links_in _ = (_, end_of-Link)
+
+pub view_chain : (first : Box Expr) (xs : Vec Link Global) → view (e.Chain first xs) ≡ chained (view first.value) (map view_link xs.items)
+view_chain first xs =
+    let row = links_in (e.Chain first xs) in
+    row_links row.0 (view first.value) row.1 ∙ ap (λ (z : List Link). chained (view first.value) (map view_link z)) (items_hidden-the_row-Link-2 xs)
 
 abbrev partition_of : Window → (n : Count) × Row_of-Expr n
 partition_of (Window' base shape partition shape' order frame) = (_, partition)
@@ -73,7 +87,7 @@ view_window_is base partition order frame =
     let first = partition_of w in
     let second = order_of w in
     ap (λ (z : Trees). window base z (view_key_row second.1) frame) (row_trees first.0 first.1 ∙ ap (λ (z : List Expr). trees_of (map view z)) (items_hidden-the_row-Expr-0 partition))
-    ∙ ap (λ (z : Keys). window base (trees_of (map view partition.items)) z frame) (row_keys second.0 second.1 ∙ ap (λ (z : List SortKey). keys_of (map view_key z)) (items_hidden-the_row-SortKey-2 order))
+    ∙ ap (λ (z : Keys). window base (trees_of (map view partition.items)) z frame) (row_keys second.0 second.1 ∙ ap (λ (z : List SortKey). keys_of (map view_key z)) (items_hidden-the_row-SortKey-3 order))
 
 row_joins : (n : _) (row : Row_of-Joined n) → view_join_row row ≡ joins_of (map view_joined (items-the_row-Joined n row))
 row_joins _ end_of-Joined = refl

@@ -14,8 +14,8 @@ use Rattle.wd_syntax.specs.Limits.{operators, Below, Fits, AllFit, ArmsFit, Else
 use Rattle.wd_syntax.specs.Reading.{Fault, Limit, ◌>>=◌, Reads, Parser, choose, eat, expect, with_rest, name_at, operator_of, operator_if, operator_at, sign_of, sign_at, list_at, frame_at, direction_at, nulls_at, key_at, partition_at, order_at, base_at, window_at, link, ended, links, compared, null_at, tests, arguments_at, call_of, enter, over_at, call_at, named_at, arm_at, else_at, case_at, bracket_at, primary_by_mark, primary, signed_by, goes_on, levels, deeper_of}
 use Rattle.std.proofs.lemmas.Bool.{eqb-true}
 use Rattle.wd_syntax.proofs.Marking.{eqb-same, not_same}
-use Rattle.wd_syntax.proofs.SoundPieces.{Kept, Holds, then_holds, at_mark, past_mark, past_name, IsPart, Spelled, all_onto, marked, IsListed, list_holds, frame_is, direction_is, nulls_is, base_is, looser_holds}
-use Rattle.wd_syntax.proofs.Complete.{operand_first, operators_zero}
+use Rattle.wd_syntax.proofs.SoundPieces.{kept_if, Kept, Holds, then_holds, at_mark, past_mark, past_name, IsPart, Spelled, all_onto, marked, IsListed, list_holds, frame_is, direction_is, nulls_is, base_is, looser_holds}
+use Rattle.wd_syntax.proofs.Complete.{operators_more, operand_first, operators_zero}
 
 -- ---- marks of operators
 
@@ -38,13 +38,9 @@ operator_of_is _ = tt
 abbrev pub IsOperator : ℕ → Kinds → Operator × Kinds → Type 0
 IsOperator h ts x = (ts ≡ operator_mark x.0 ▸ x.1) × (operator_height x.0 ≡ h)
 
-kept_when : {A : Type 0} (P : A → Type 0) (b : Bool) (x : A) → (b ≡ true → P x) → Kept P (cond b (Some x) None)
-kept_when P true x h = h refl
-kept_when P false x h = tt
-
 operator_if_is : (h : ℕ) (x : Mark) (ts : Kinds) (o : Option Operator) → Kept (λ o. x ≡ operator_mark o) o → Kept (IsOperator h (x ▸ ts)) (operator_if h ts o)
 operator_if_is h x ts None k = tt
-operator_if_is h x ts (Some o) k = kept_when (IsOperator h (x ▸ ts)) (eqb (operator_height o) h) (o, ts) (λ e. (ap (λ (z : Mark). z ▸ ts) k, eqb-true (operator_height o) h e))
+operator_if_is h x ts (Some o) k = kept_if (IsOperator h (x ▸ ts)) (eqb (operator_height o) h) (o, ts) (λ e. (ap (λ (z : Mark). z ▸ ts) k, eqb-true (operator_height o) h e))
 
 pub operator_at_is : (h : ℕ) (ts : Kinds) → Kept (IsOperator h ts) (operator_at h ts)
 unfolding operator_at
@@ -155,10 +151,7 @@ module _ (c : ℕ) where
   link_holds g h d a ts p next (Some x) op i k n =
       then_holds (IsRead g d x.1) (IsRead h d (onto a ts)) (p x.1) (λ b. next (Binary x.0 a b.0) b.1) (op x.1) (λ b j. n x.0 b.0 b.1 k.1 (k.0 ∙ ap (λ (z : Kinds). operator_mark x.0 ▸ z) j.parts) (record { parts = refl; levelled = j.levelled; tight = j.tight; fits = j.fits }))
 
-  operators_here : (o : Operator) (a b : Tree) (h : ℕ) → operator_height o ≡ h → operators h (Binary o a b) ≡ suc (operators h a)
-  operators_here o a b h e = rw (e, eqb-same h) refl
-
-  left_chain : (o : Operator) (h : ℕ) → operator_height o ≡ h → h ≢ 4 → left_height o ≡ h
+  pub left_chain : (o : Operator) (h : ℕ) → operator_height o ≡ h → h ≢ 4 → left_height o ≡ h
   left_chain o h e n = rw (e, let q : eqb h 4 ≡ false = not_same h 4 n in q) refl
 
   links_hold : (g d n : ℕ) (p : Parser Tree) (a : Tree) (ts : Kinds) → g ≢ 3 → Operand g d p → n + operators (suc g) a ≡ c → IsRead (suc g) d (onto a ts) (a, ts) → Holds (IsRead (suc g) d (onto a ts)) (links p (suc g) n a ts)
@@ -166,7 +159,7 @@ module _ (c : ℕ) where
   links_hold g d zero p a ts n3 op e i = ended_holds (suc g) d (operator_at (suc g) ts) a ts i
   links_hold g d (suc n) p a ts n3 op e i =
       link_holds g (suc g) d a ts p (λ b. links p (suc g) n b) (operator_at (suc g) ts) op i (operator_at_is (suc g) ts) (λ o b rest eo et ib.
-      let more = operators_here o a b (suc g) eo in
+      let more = operators_more c o a b (suc g) eo in
       let enough : operators (operator_height o) (Binary o a b) ≤ c = subst (λ k. operators k (Binary o a b) ≤ c) (sym eo) (omega (arith, more)) in
       let left = left_chain o (suc g) eo (omega arith) in
       let whole : IsRead (suc g) d (onto (Binary o a b) rest) (Binary o a b, rest) = record { parts = refl; levelled = (i.levelled, omega (arith, left, i.tight), ib.levelled, omega (arith, eo, ib.tight)); tight = omega (arith, eo); fits = (i.fits, ib.fits, enough) } in
@@ -177,7 +170,7 @@ module _ (c : ℕ) where
   compared_holds d p a ts one op i =
       link_holds 3 4 d a ts p (λ b r. Ok (b, r)) (operator_at 4 ts) op (record { parts = refl; levelled = i.levelled; tight = omega (arith, i.tight); fits = i.fits }) (operator_at_is 4 ts) (λ o b rest eo et ib.
       let none : operators 4 a ≡ 0 = operators_zero c a 4 (omega (arith, i.tight)) in
-      let enough : operators (operator_height o) (Binary o a b) ≤ c = subst (λ k. operators k (Binary o a b) ≤ c) (sym eo) (omega (arith, operators_here o a b 4 eo, none)) in
+      let enough : operators (operator_height o) (Binary o a b) ≤ c = subst (λ k. operators k (Binary o a b) ≤ c) (sym eo) (omega (arith, operators_more c o a b 4 eo, none)) in
       let left : left_height o ≡ 3 = rw eo refl in
       record { parts = ap (onto a) et; levelled = (i.levelled, omega (arith, left, i.tight), ib.levelled, omega (arith, eo, ib.tight)); tight = omega (arith, eo); fits = (i.fits, ib.fits, enough) })
 

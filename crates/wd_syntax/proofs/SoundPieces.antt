@@ -59,7 +59,7 @@ then_holds P Q (Err e) f h k = tt
 
 -- ---- single tokens
 
-kept_if : {A : Type 0} (P : A → Type 0) (b : Bool) (x : A) → (b ≡ true → P x) → Kept P (cond b (Some x) None)
+pub kept_if : {A : Type 0} (P : A → Type 0) (b : Bool) (x : A) → (b ≡ true → P x) → Kept P (cond b (Some x) None)
 kept_if P true x h = h refl
 kept_if P false x h = tt
 

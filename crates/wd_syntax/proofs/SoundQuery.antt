@@ -11,7 +11,7 @@ use Rattle.wd_syntax.specs.Levels.{WindowLevelled, KeysLevelled, ItemLevelled, O
 use Rattle.wd_syntax.specs.Limits.{Below, WindowFits, KeysFit, ItemFits, OptionFits, TableFits, JoinFits, JoinsFit, SelectFits, QueryFits}
 use Rattle.wd_syntax.specs.Reading.{◌>>=◌, Reads, Parser, choose, eat, expect, name_at, many, list_at, order_at, window_at, enter, levels, deeper_of, read, quantifier_at, given_at, alias_at, star_at, item_if, item_at, filter_at, named_window_at, windows_at, limits_at, Inner, table_at, inner_at, join_at, from_at, select_at, selects, inside_of, if_last, whole}
 use Rattle.wd_syntax.proofs.SoundPieces.{Kept, Holds, MayHold, then_holds, at_mark, past_mark, past_name, IsPart, Spelled, all_onto, marked, IsListed, list_holds, many_hold, quantifier_is, given_is, alias_is, star_is, limits_is, looser_holds}
-use Rattle.wd_syntax.proofs.Sound.{Good, Whole, whole_expression, Within, enter_holds, GoodKeys, keys_row_onto, order_holds, window_closed, GoodWindow, window_holds, sound, within}
+use Rattle.wd_syntax.proofs.Sound.{each_left, each_right, Good, Whole, whole_expression, Within, enter_holds, GoodKeys, keys_row_onto, order_holds, window_closed, GoodWindow, window_holds, sound, within}
 
 pub items_spelled : (xs : List ItemTree) (ts : Kinds) → all_onto (marked m.Comma item_onto) xs ts ≡ more_items_onto xs ts
 items_spelled [] ts = refl
@@ -24,18 +24,6 @@ windows_spelled (a ∷ xs) ts = ap (λ (z : Kinds). m.Comma ▸ named_window_ont
 pub joins_spelled : (xs : List JoinTree) (ts : Kinds) → all_onto join_onto xs ts ≡ joins_onto (joins_of xs) ts
 joins_spelled [] ts = refl
 joins_spelled (a ∷ xs) ts = ap (join_onto a) (joins_spelled xs ts)
-
-pub each_first : {A : Type 0} (P Q : A → Type 0) (xs : List A) → Each (λ a. P a × Q a) xs → Each P xs
-each_first P Q [] h = tt
-each_first P Q (a ∷ xs) h = (h.0.0, each_first P Q xs h.1)
-
-pub each_second : {A : Type 0} (P Q : A → Type 0) (xs : List A) → Each (λ a. P a × Q a) xs → Each Q xs
-each_second P Q [] h = tt
-each_second P Q (a ∷ xs) h = (h.0.1, each_second P Q xs h.1)
-
--- after a mark, with what reads it
-may_then : {A B : Type 0} (P : A × Kinds → Type 0) (Q : B × Kinds → Type 0) (r : Reads A) (f : A × Kinds → Reads B) → Holds P r → ((x : A × Kinds) → P x → Holds Q (f x)) → MayHold Q (Some (r >>= f))
-may_then P Q r f h k = then_holds P Q r f h k
 
 module _ (c : ℕ) where
   abbrev pub GoodItem : ℕ → ItemTree → Type 0
@@ -100,7 +88,7 @@ module _ (c : ℕ) where
 
   windows_listed : (d : ℕ) (ts us rest : Kinds) (xs : List (Name × WindowTree)) → ts ≡ m.Window ▸ us → IsListed m.Comma named_window_onto (GoodNamed d) us xs rest → IsPart windows_onto (GoodWindows d) ts (xs, rest)
   windows_listed d ts us rest [] e h = absurd h
-  windows_listed d ts us rest (a ∷ xs) e h = record { parts = e ∙ ap (λ (z : Kinds). m.Window ▸ z) (h.0 ∙ ap (named_window_onto a) (windows_spelled xs rest)); good = ((h.1.0, each_first (λ w. WindowLevelled w.1) (λ w. Below d (λ k. WindowFits c k w.1)) xs h.2), (h.1.1, each_second (λ w. WindowLevelled w.1) (λ w. Below d (λ k. WindowFits c k w.1)) xs h.2)) }
+  windows_listed d ts us rest (a ∷ xs) e h = record { parts = e ∙ ap (λ (z : Kinds). m.Window ▸ z) (h.0 ∙ ap (named_window_onto a) (windows_spelled xs rest)); good = ((h.1.0, each_left (λ w. WindowLevelled w.1) (λ w. Below d (λ k. WindowFits c k w.1)) xs h.2), (h.1.1, each_right (λ w. WindowLevelled w.1) (λ w. Below d (λ k. WindowFits c k w.1)) xs h.2)) }
 
   pub windows_hold : (d : ℕ) (ts : Kinds) → Within c d → Holds (IsPart windows_onto (GoodWindows d) ts) (windows_at (deeper_of c d) ts)
   unfolding windows_at
@@ -210,7 +198,7 @@ module _ (c : ℕ) where
   select_is d ts us rest t1 t2 t3 t4 quantifier [] first joins filter windows order limits mid e h ef e1 e2 e3 e4 gf gw gs go = absurd h
   select_is d ts us rest t1 t2 t3 t4 quantifier (a ∷ items) first joins filter windows order limits mid e h ef e1 e2 e3 e4 gf gw gs go = record {
     parts = e ∙ ap (λ (z : Kinds). m.Select ▸ quantifier_onto quantifier z) (h.0 ∙ ap (item_onto a) (items_spelled items mid ∙ ap (more_items_onto items) (ef ∙ ap (λ (z : Kinds). m.From ▸ table_onto first (joins_onto joins z)) (e1 ∙ ap (filter_onto filter) (e2 ∙ ap (windows_onto windows) (e3 ∙ ap (order_onto order) e4))))));
-    good = ((tt, (h.1.0, each_first ItemLevelled (ItemFits c d) items h.2), gf.0.0, gf.0.1, gw.0, gs.0, go.0), ((h.1.1, each_second ItemLevelled (ItemFits c d) items h.2), gf.1.0, gf.1.1, gw.1, gs.1, go.1));
+    good = ((tt, (h.1.0, each_left ItemLevelled (ItemFits c d) items h.2), gf.0.0, gf.0.1, gw.0, gs.0, go.0), ((h.1.1, each_right ItemLevelled (ItemFits c d) items h.2), gf.1.0, gf.1.1, gw.1, gs.1, go.1));
   }
 
   select_holds : (d : ℕ) (ts : Kinds) → 1 ≤ c → Inside d → Holds (IsPart select_onto (GoodSelect d) ts) (select_at c d (inside_of c d) ts)

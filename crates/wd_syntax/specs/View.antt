@@ -1,11 +1,13 @@
 -- What the trees of the code show.
-use Rattle.std.specs.Prelude.{Option, Some, None, map}
+use Rattle.std.specs.Prelude.{List, Bool, [], ◌∷◌, Option, Some, None, map}
 use Rattle.std.specs.Global.{Box}
-use Rattle.wd_syntax.specs.declared.expression.Expr.{Expr, Row_of-Expr, end_of-Expr, more_of-Expr, Row_of-Arm, end_of-Arm, more_of-Arm, Held-Expr-Case-1, Held-Expr-CallAll-1, Expr-Case-1-Some', Expr-Case-1-None', Expr-CallAll-1-Some', Expr-CallAll-1-None'}
+use Rattle.wd_syntax.specs.declared.expression.Expr.{Expr, Row_of-Expr, end_of-Expr, more_of-Expr, Row_of-Arm, end_of-Arm, more_of-Arm, Row_of-Link, end_of-Link, more_of-Link, Held-Expr-Case-1, Held-Expr-CallAll-1, Expr-Case-1-Some', Expr-Case-1-None', Expr-CallAll-1-Some', Expr-CallAll-1-None'}
 use Rattle.wd_syntax.specs.declared.expression.Expr.TheVariants as e
 use Rattle.wd_syntax.specs.declared.expression.Over.{Over}
 use Rattle.wd_syntax.specs.declared.expression.Over.TheVariants as v
 use Rattle.wd_syntax.specs.declared.expression.Arm.{Arm}
+use Rattle.wd_syntax.specs.declared.expression.Link.{Link}
+use Rattle.wd_syntax.specs.declared.expression.Operator.{Operator}
 use Rattle.wd_syntax.specs.declared.expression.Window.{Window, Window', Row_of-SortKey, end_of-SortKey, more_of-SortKey}
 use Rattle.wd_syntax.specs.declared.expression.SortKey.{SortKey}
 use Rattle.wd_syntax.specs.Tree.{Tree, Constant, Column, Qualified, CallAll, Call, Case, Bracket, Signed, Binary, IsNull, Negated, Trees, no_trees, more_trees, Arms, no_arms, more_arms, Otherwise, no_else, or_else, OverTree, no_over, over_name, over_window, WindowTree, window, Keys, no_keys, more_keys, Key, keys_of, joins_of, ItemTree, all_columns, all_of, shown, TableTree, named, derived, JoinTree, comma, cross, inner, Joins, no_joins, more_joins, SelectTree, select, QueryTree, query}
@@ -20,6 +22,16 @@ use Rattle.wd_syntax.specs.declared.query.Joined.TheVariants as j
 use Rattle.wd_syntax.specs.declared.query.Select.{Select}
 use Rattle.wd_syntax.specs.declared.query.Query.{Query}
 
+-- tests for NULL, one after another
+abbrev pub tested : Tree → List Bool → Tree
+tested a [] = a
+tested a (not ∷ nots) = tested (IsNull a not) nots
+
+-- operators and their right operands, one after another
+abbrev pub chained : Tree → List (Operator × Tree) → Tree
+chained a [] = a
+chained a (x ∷ xs) = chained (Binary x.0 a x.1) xs
+
 abbrev mutual
   pub view : Expr → Tree
   view (e.Literal x) = Constant x
@@ -30,9 +42,15 @@ abbrev mutual
   view (e.Case' shape row other) = Case (view_arm_row row) (view_else other)
   view (e.Bracket' p a) = Bracket (view a)
   view (e.Signed' s p a) = Signed s (view a)
-  view (e.Binary' o p a q b) = Binary o (view a) (view b)
-  view (e.IsNull' p a not) = IsNull (view a) not
+  view (e.Compare' o p a q b) = Binary o (view a) (view b)
+  view (e.Chain' p a shape row) = view_links (view a) row
+  view (e.Tests' p a nots) = tested (view a) nots.items
   view (e.Not' p a) = Negated (view a)
+
+  -- operators and their right operands, on what stands left of them
+  pub view_links : {m : _} → Tree → Row_of-Link m → Tree
+  view_links a end_of-Link = a
+  view_links a (more_of-Link o b row) = view_links (Binary o a (view b)) row
 
   pub view_row : {m : _} → Row_of-Expr m → Trees
   view_row end_of-Expr = no_trees
@@ -68,6 +86,9 @@ view_over_option (Some b) = view_over b.value
 abbrev pub view_else_option : Option (Box Expr) → Otherwise
 view_else_option None = no_else
 view_else_option (Some b) = or_else (view b.value)
+
+abbrev pub view_link : Link → Operator × Tree
+view_link link = (link.operator, view link.operand)
 
 abbrev pub view_arm : Arm → Tree × Tree
 view_arm arm = (view arm.when, view arm.gives)

@@ -51,7 +51,8 @@ pub enum NullsPlace {
     Last,
 }
 
-/// An expression. Brackets are nodes of the tree, and chains of an operator lean to the left.
+/// An expression. Brackets are nodes of the tree. A chain of operators of one precedence is one node, read from the left, so
+/// that no tree is much deeper than its brackets.
 #[cycle(tree)]
 #[derive(Drop)]
 pub enum Expr {
@@ -68,10 +69,21 @@ pub enum Expr {
     Case(Vec<Arm>, Option<Box<Expr>>),
     Bracket(Box<Expr>),
     Signed(Sign, Box<Expr>),
-    Binary(Operator, Box<Expr>, Box<Expr>),
-    /// `IS NULL`, or `IS NOT NULL` where the second is true.
-    IsNull(Box<Expr>, bool),
+    /// A comparison.
+    Compare(Operator, Box<Expr>, Box<Expr>),
+    /// Operators of one precedence, each with its right operand. What stands left of one is the operand of the next.
+    Chain(Box<Expr>, Vec<Link>),
+    /// Tests for NULL, one after another: `IS NULL`, or `IS NOT NULL` where true.
+    Tests(Box<Expr>, Vec<bool>),
     Not(Box<Expr>),
+}
+
+/// An operator and its right operand.
+#[cycle(tree)]
+#[derive(Drop)]
+pub struct Link {
+    pub operator: Operator,
+    pub operand: Expr,
 }
 
 /// `WHEN expr THEN expr`

@@ -11,7 +11,7 @@ mod tests;
 mod words;
 
 pub use expression::{
-    Arm, Expr, Literal, NullsPlace, Operator, Over, Sign, SortDirection, SortKey, Window,
+    Arm, Expr, Link, Literal, NullsPlace, Operator, Over, Sign, SortDirection, SortKey, Window,
 };
 pub use frame::{Bound, Exclusion, Extent, Frame, FrameMode};
 pub use name::Name;

@@ -1,24 +1,24 @@
-use Rattle.std.proofs.Common.{◌-◌, length, map}
+use Rattle.std.proofs.Common.{◌-◌, length, map, refl}
 use Rattle.std.proofs.lemmas.Result.{err_from_is_err_and}
 use Rattle.wd_lex.specs.Lexed.{kinds_of}
 use Rattle.wd_lex.specs.declared.token.Mark.TheVariants as m
-use Rattle.wd_syntax.specs.View.{view, view_arm, view_key}
+use Rattle.wd_syntax.specs.View.{view, view_link, chained, view_arm, view_key}
 use Rattle.wd_syntax.specs.Reading.{read, links, list_at, arm_at, key_at}
 use Rattle.wd_parse.proofs.Loops.{links_more, links_fail, links_full, length_kinds, list_more, list_fail, list_end, list_full}
 use Rattle.wd_parse.proofs.expr.+expr.Goals as goal
 
 pub links-returns-in_err-right : goal.links-returns-in_err-right
 links-returns-in_err-right t c =
-    let p = err_from_is_err_and c.from_residual.result c.from_residual.ensures.1 in
-    rw (p.1, p.2) (links_fail c.in_err-right.field-0.0 (read 200 c.args.depth (c.args.height - 1)) c.args.height c.loop.counter (view c.loop.left.value) (kinds_of c.loop.rest.now) c.in-Some.operator (kinds_of c.in-Some.after.now) (links (read 200 c.args.depth (c.args.height - 1)) c.args.height 200 (view c.args.first.value) (kinds_of c.args.tokens.now)) c.loop-test.true c.in-Some.ensures c.in_err-right.ensures c.loop.invariant)
+    let p = err_from_is_err_and c.from_residual-in_err-right.result c.from_residual-in_err-right.ensures.1 in
+    rw (p.1, p.2) (links_fail c.in_err-right.field-0.0 (read 200 c.args.depth (c.args.height - 1)) c.args.height c.loop.counter (chained (view c.args.first.value) (map view_link c.loop.items.items)) (kinds_of c.loop.rest.now) c.in-Some.operator (kinds_of c.in-Some.after.now) (links (read 200 c.args.depth (c.args.height - 1)) c.args.height 200 (view c.args.first.value) (kinds_of c.args.tokens.now)) c.loop-test.true c.in-Some.ensures c.in_err-right.ensures c.loop.invariant)
 
 pub links-loop-preserved : goal.links-loop-preserved
 links-loop-preserved t c =
-    rw c.in_ok-left.ensures.ok (links_more (read 200 c.args.depth (c.args.height - 1)) c.args.height c.loop.counter (view c.loop.left.value) (kinds_of c.loop.rest.now) c.in-Some.operator (kinds_of c.in-Some.after.now) (view c.in_ok-right.right.value) (kinds_of c.in_ok-right.after.now) (links (read 200 c.args.depth (c.args.height - 1)) c.args.height 200 (view c.args.first.value) (kinds_of c.args.tokens.now)) c.loop-test.true c.in-Some.ensures c.in_ok-right.ensures c.loop.invariant)
+    rw c.in_ok-push.ensures.items (links_more (read 200 c.args.depth (c.args.height - 1)) c.args.height c.loop.counter (view c.args.first.value) c.loop.items.items (record { operator = c.in-Some.operator; operand = c.into_inner.result }) (kinds_of c.loop.rest.now) (kinds_of c.in-Some.after.now) (kinds_of c.in_ok-right.after.now) (links (read 200 c.args.depth (c.args.height - 1)) c.args.height 200 (view c.args.first.value) (kinds_of c.args.tokens.now)) c.loop-test.true c.in-Some.ensures (rw c.into_inner.ensures c.in_ok-right.ensures) c.loop.invariant)
 
 pub links-returns-in-Some-operator_at : goal.links-returns-in-Some-operator_at
 links-returns-in-Some-operator_at t c =
-    links_full (read 200 c.args.depth (c.args.height - 1)) c.args.height c.loop.counter (view c.loop.left.value) (kinds_of c.loop.rest.now) (c.in-Some-operator_at.field-0.0, kinds_of c.in-Some-operator_at.field-0.1.now) (length c.loop.rest.now) (links (read 200 c.args.depth (c.args.height - 1)) c.args.height 200 (view c.args.first.value) (kinds_of c.args.tokens.now)) (length_kinds c.loop.rest.now) c.loop-test.false c.in-Some-operator_at.ensures c.loop.invariant
+    links_full (read 200 c.args.depth (c.args.height - 1)) c.args.height c.loop.counter (chained (view c.args.first.value) (map view_link c.loop.items.items)) (kinds_of c.loop.rest.now) (c.in-Some-operator_at.field-0.0, kinds_of c.in-Some-operator_at.field-0.1.now) (length c.loop.rest.now) (links (read 200 c.args.depth (c.args.height - 1)) c.args.height 200 (view c.args.first.value) (kinds_of c.args.tokens.now)) (length_kinds c.loop.rest.now) c.loop-test.false c.in-Some-operator_at.ensures c.loop.invariant
 
 pub list-returns-in_default : goal.list-returns-in_default
 list-returns-in_default t c =
@@ -82,3 +82,6 @@ keys-returns-in-Some-eat t c =
 pub keys-returns : goal.keys-returns
 keys-returns t c =
     list_end m.Comma (key_at (read 200 c.args.depth 8)) ((length c.in_ok-first.rest.now) - c.loop.counter) (map view_key c.loop.items.items) (kinds_of c.loop.rest.now) (list_at m.Comma (key_at (read 200 c.args.depth 8)) (kinds_of c.args.tokens.now)) c.in-None.ensures c.loop.invariant
+
+pub links-loop-init : goal.links-loop-init
+links-loop-init t c = rw c.new-items.ensures.items refl

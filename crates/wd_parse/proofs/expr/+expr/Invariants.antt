@@ -1,7 +1,7 @@
 use Rattle.std.proofs.Common.{◌≡◌, ◌-◌, ◌+◌, ◌*◌, map}
 use Rattle.wd_lex.specs.Lexed.{kinds_of}
 use Rattle.wd_lex.specs.declared.token.Mark.TheVariants as m
-use Rattle.wd_syntax.specs.View.{view, view_arm, view_key}
+use Rattle.wd_syntax.specs.View.{view, view_link, chained, view_arm, view_key}
 use Rattle.wd_syntax.specs.Reading.{read, links, many, after, list_at, arm_at, key_at}
 use Rattle.wd_parse.specs.Given.{with_front}
 use Rattle.wd_parse.proofs.expr.+expr.Given as goal
@@ -81,7 +81,7 @@ decreases-window l = 60 * l.depth + 48
 
 -- what is still read, from what was read so far, is what was to be read
 abbrev pub invariant-links-loop : goal.invariant-links-loop
-invariant-links-loop l = links (read 200 l.depth (l.height - 1)) l.height (200 - l.counter) (view l.left.value) (kinds_of l.rest) ≡ links (read 200 l.depth (l.height - 1)) l.height 200 (view l.fn.first.value) (kinds_of l.fn.tokens)
+invariant-links-loop l = links (read 200 l.depth (l.height - 1)) l.height (200 - l.counter) (chained (view l.first.value) (map view_link l.items.items)) (kinds_of l.rest) ≡ links (read 200 l.depth (l.height - 1)) l.height 200 (view l.fn.first.value) (kinds_of l.fn.tokens)
 
 abbrev pub invariant-list-loop : goal.invariant-list-loop
 invariant-list-loop l = with_front (map view l.items.items) (many (after m.Comma (read 200 l.depth 8)) (l.end - l.counter) (kinds_of l.rest)) ≡ list_at m.Comma (read 200 l.depth 8) (kinds_of l.fn.tokens)

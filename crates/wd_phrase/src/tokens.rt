@@ -5,9 +5,9 @@ ghost use Rattle.std.specs.Option.{option_map};
 ghost use Rattle.wd_lex.specs.Lexed.{kinds_of};
 ghost use Rattle.wd_syntax.specs.Tokens.{letters, operator_height};
 ghost use Rattle.wd_syntax.specs.Reading.{is_mark, eat, expect, eat_word, expect_word, eat_name, name_at, number_at, operator_of, operator_at, sign_of, sign_at};
-ghost use Rattle.wd_parse.specs.Given.{Gives, MayFind, Finds};
+ghost use Rattle.wd_phrase.specs.Given.{Gives, MayFind, Finds};
 
-use crate::error::Refusal;
+use crate::refusal::Refusal;
 use std::alloc::Global;
 use wd_lex::{Mark, Token, TokenKind};
 use wd_syntax::{KeyWord, Name, Operator, Sign};
@@ -38,7 +38,7 @@ pub fn eat(tokens: &[Token], mark: Mark) -> Option<&[Token]>
     }
 }
 
-/// The tokens after a mark, which has to stand first.
+/// The tokens after a mark, which has to stand first: else its place is refused as unexpected.
 #[tactic(auto, unfolding(wd_syntax::specs::Reading::expect))]
 pub fn expect(tokens: &[Token], mark: Mark) -> Result<&[Token], Refusal>
     ensures { Gives (λ r. kinds_of r.now) result (expect mark (kinds_of tokens.now)) }
@@ -105,7 +105,7 @@ pub fn expect_word(tokens: &[Token], word: KeyWord) -> Result<&[Token], Refusal>
     }
 }
 
-/// The name that stands first, and the tokens after it.
+/// The name that stands first, quoted or not, and the tokens after it. A reserved word is no name.
 #[tactic(auto, unfolding(wd_syntax::specs::Reading::eat_name))]
 pub fn eat_name(alloc: Global, tokens: &[Token]) -> Result<Option<(Name, &[Token])>, Refusal>
     ensures { MayFind (λ x. (x.0, kinds_of x.1.now)) result (eat_name (kinds_of tokens.now)) }
@@ -141,7 +141,7 @@ pub fn eat_name(alloc: Global, tokens: &[Token]) -> Result<Option<(Name, &[Token
     }
 }
 
-/// The name that has to stand first, and the tokens after it.
+/// The name that has to stand first, and the tokens after it: else its place is refused as unexpected.
 #[tactic(auto, unfolding(wd_syntax::specs::Reading::name_at))]
 pub fn name_at(alloc: Global, tokens: &[Token]) -> Result<(Name, &[Token]), Refusal>
     ensures { Gives (λ x. (x.0, kinds_of x.1.now)) result (name_at (kinds_of tokens.now)) }
@@ -208,7 +208,7 @@ fn operator_height(operator: Operator) -> u8
     }
 }
 
-/// An operator of that height, where one stands first.
+/// An operator of that height, where one stands first: 2 `* / %`, 3 `+ -`, 4 a comparison, 7 AND, 8 OR.
 #[tactic(auto, unfolding(wd_syntax::specs::Reading::operator_at))]
 pub fn operator_at(tokens: &[Token], height: u8) -> Option<(Operator, &[Token])>
     ensures { Finds (λ x. (x.0, kinds_of x.1.now)) result (operator_at height (kinds_of tokens.now)) }
@@ -234,7 +234,7 @@ pub fn operator_at(tokens: &[Token], height: u8) -> Option<(Operator, &[Token])>
     }
 }
 
-/// A sign, where one stands first.
+/// A sign, where one stands first, and the tokens after it.
 #[tactic(auto, unfolding(wd_syntax::specs::Reading::sign_at))]
 pub fn sign_at(tokens: &[Token]) -> Option<(Sign, &[Token])>
     ensures { Finds (λ x. (x.0, kinds_of x.1.now)) result (sign_at (kinds_of tokens.now)) }

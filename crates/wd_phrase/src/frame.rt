@@ -2,10 +2,10 @@
 
 ghost use Rattle.wd_lex.specs.Lexed.{kinds_of};
 ghost use Rattle.wd_syntax.specs.Reading.{mode_if, mode_at, side_at, bound_at, extent_at, excluded_at, exclusion_at, frame_at, direction_at, nulls_at};
-ghost use Rattle.wd_parse.specs.Given.{Gives, Finds};
+ghost use Rattle.wd_phrase.specs.Given.{Gives, Finds};
 ghost use Rattle.std.specs.Prelude.{◌≡◌};
 
-use crate::error::Refusal;
+use crate::refusal::Refusal;
 use crate::tokens::{eat, eat_word, expect, expect_word, number_at};
 use wd_lex::{Mark, Token, TokenKind};
 use wd_syntax::{Bound, Exclusion, Extent, Frame, FrameMode, KeyWord, NullsPlace, SortDirection};
@@ -127,7 +127,9 @@ fn exclusion_at(tokens: &[Token]) -> Result<(Option<Exclusion>, &[Token]), Refus
     }
 }
 
-/// `[frame]`
+/// `[(ROWS|RANGE|GROUPS) extent [EXCLUDE ..]]`, where an extent is a bound or `BETWEEN bound AND bound`.
+///
+/// What follows ROWS, RANGE or GROUPS has to be an extent: else the first token that does not fit is refused.
 #[tactic(auto, unfolding(wd_syntax::specs::Reading::frame_at))]
 pub fn frame_at(tokens: &[Token]) -> Result<(Option<Frame>, &[Token]), Refusal>
     ensures { Gives (λ x. (x.0, kinds_of x.1.now)) result (frame_at (kinds_of tokens.now)) }
@@ -147,7 +149,7 @@ pub fn frame_at(tokens: &[Token]) -> Result<(Option<Frame>, &[Token]), Refusal>
     ))
 }
 
-/// `[ASC|DESC]`
+/// `[ASC|DESC]`, and the tokens after it.
 #[tactic(auto, unfolding(wd_syntax::specs::Reading::direction_at))]
 pub fn direction_at(tokens: &[Token]) -> (Option<SortDirection>, &[Token])
     ensures { direction_at (kinds_of tokens.now) ≡ (result.0, kinds_of result.1.now) }
@@ -161,7 +163,7 @@ pub fn direction_at(tokens: &[Token]) -> (Option<SortDirection>, &[Token])
     }
 }
 
-/// `[NULLS (FIRST|LAST)]`
+/// `[NULLS (FIRST|LAST)]`, and the tokens after it. What follows NULLS has to be one of the two.
 #[tactic(auto, unfolding(wd_syntax::specs::Reading::nulls_at))]
 pub fn nulls_at(tokens: &[Token]) -> Result<(Option<NullsPlace>, &[Token]), Refusal>
     ensures { Gives (λ x. (x.0, kinds_of x.1.now)) result (nulls_at (kinds_of tokens.now)) }

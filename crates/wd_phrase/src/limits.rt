@@ -3,9 +3,9 @@
 ghost use Rattle.std.specs.Prelude.{◌≡◌};
 ghost use Rattle.wd_lex.specs.Lexed.{kinds_of};
 ghost use Rattle.wd_syntax.specs.Reading.{row_at, row_if, offset_at, fetch_word_at, number_option_at, number_if, ties_at, fetch_at, limit_at, count_if, offset_if, limits_at};
-ghost use Rattle.wd_parse.specs.Given.{Gives, Finds, MayGive};
+ghost use Rattle.wd_phrase.specs.Given.{Gives, Finds, MayGive};
 
-use crate::error::Refusal;
+use crate::refusal::Refusal;
 use crate::tokens::{eat, eat_word, expect_word, number_at};
 use wd_lex::{Mark, Token, TokenKind};
 use wd_syntax::{Count, FetchWord, KeyWord, Limits, Offset, RowWord};
@@ -141,7 +141,7 @@ fn offset_if(tokens: &[Token]) -> Result<Option<(Offset, &[Token])>, Refusal>
     }
 }
 
-/// `[limits]`
+/// `[LIMIT .. | FETCH ..]` and `[OFFSET ..]` in either order, each at most once, and the tokens after them.
 #[tactic(auto, unfolding(wd_syntax::specs::Reading::limits_at))]
 pub fn limits_at(tokens: &[Token]) -> Result<(Option<Limits>, &[Token]), Refusal>
     ensures { Gives (λ x. (x.0, kinds_of x.1.now)) result (limits_at (kinds_of tokens.now)) }
