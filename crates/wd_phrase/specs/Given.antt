@@ -1,5 +1,5 @@
 -- What a function of the code returned, beside what reading gives.
-use Rattle.std.specs.Prelude.{◌≡◌, ℕ, Option, Some, None, Result, Ok, Err}
+use Rattle.std.specs.Prelude.{◌≡◌, Option, Some, None, Result, Ok, Err}
 use Rattle.wd_syntax.specs.Reading.{Fault, Unexpected, Limit}
 use Rattle.wd_phrase.specs.declared.refusal.Refusal.{Refusal}
 use Rattle.wd_phrase.specs.declared.refusal.Refusal.TheVariants as r
