@@ -14,7 +14,8 @@ use wd_value::{OutOfMemory, Row};
 
 /// The partitions of an ordering of the rows under a class, with the numbers of its sort key where
 /// they are asked for and it has exactly one; none where the list is no ordering of the class (SQL,
-/// window clause). Takes n log n comparisons.
+/// window clause). Takes fewer than 2^32 rows, since peer group numbers have 32 bits, and n log n
+/// comparisons.
 pub fn partitions(
     alloc: Global,
     rows: &[Row],
