@@ -3,9 +3,10 @@
 
     python3 bench/run.py [PROGRAM]
 
-The keys of the records stand in rising order, as a table is mostly exported, and once more in mixed
-order, where the search for a repeated key has the most to do. Prints the least seconds and the most
-memory of three runs, and what ten times the records cost.
+The keys of the records stand in rising order, as a table is mostly exported, and for the sorted query
+once more in mixed order, where the search for a repeated key has the most to do. The moving frame runs
+over 1,000 and 10,000 records, since the rows of each frame are visited one by one so far. Prints the
+least seconds and the most memory of three runs, and what ten times the records cost.
 PROGRAM is the built program (default: crates/wdcheck/out/wdcheck, which ./wdcheck builds).
 """
 
@@ -17,8 +18,17 @@ import tempfile
 import time
 
 SCHEMA = "CREATE TABLE t (id BIGINT PRIMARY KEY, v BIGINT);\n"
-QUERY = "SELECT id, v FROM t ORDER BY v FETCH FIRST 2 ROWS ONLY\n"
 SIZES = (100_000, 1_000_000)
+FRAME_SIZES = (1_000, 10_000)
+# A query's title, its text, the numbers of records, and whether the keys are mixed.
+QUERIES = (
+    ("first rows, keys rising", "SELECT id, v FROM t ORDER BY v FETCH FIRST 2 ROWS ONLY", SIZES, False),
+    ("first rows, keys mixed", "SELECT id, v FROM t ORDER BY v FETCH FIRST 2 ROWS ONLY", SIZES, True),
+    ("ROW_NUMBER", "SELECT id, ROW_NUMBER() OVER (ORDER BY v, id) AS n FROM t", SIZES, False),
+    ("RANK by partition", "SELECT id, RANK() OVER (PARTITION BY v % 100 ORDER BY v) AS r FROM t", SIZES, False),
+    ("running SUM", "SELECT id, SUM(v) OVER (ORDER BY id ROWS UNBOUNDED PRECEDING) AS s FROM t", FRAME_SIZES, False),
+    ("moving frame", "SELECT id, MAX(v) OVER (ORDER BY id ROWS BETWEEN 50 PRECEDING AND 50 FOLLOWING) AS m FROM t", FRAME_SIZES, False),
+)
 TURNS = 3
 
 
@@ -46,29 +56,33 @@ def measure(words):
     return seconds, usage.ru_maxrss / 1024
 
 
-def measure_sizes(program, folder, mixed):
-    """Measures the tables of each size and prints what comes out."""
+def write_text(path, text):
+    with open(path, "w", encoding="ascii") as file:
+        file.write(text)
+
+
+def measure_query(program, folder, title, text, sizes, mixed):
+    """Measures a query over the tables of each size and prints what comes out."""
     schema, query = os.path.join(folder, "schema.sql"), os.path.join(folder, "query.sql")
+    write_text(schema, SCHEMA)
+    write_text(query, text + "\n")
     least = []
-    for records in SIZES:
+    for records in sizes:
         table = os.path.join(folder, "t.csv")
         write_table(table, records, mixed)
         runs = [measure([program, "run", schema, query, "t=" + table]) for _ in range(TURNS)]
         seconds, memory = min(run[0] for run in runs), max(run[1] for run in runs)
         least.append(seconds)
-        print("%8d records, keys %s: %6.2f s, %4.0f MB at most" % (records, "mixed" if mixed else "rising", seconds, memory))
-    print("ten times the records take %.1f times as long" % (least[1] / least[0]))
+        print("%-24s %8d records: %6.2f s, %4.0f MB at most" % (title, records, seconds, memory))
+    print("%-24s ten times the records take %.1f times as long" % (title, least[1] / least[0]))
 
 
 def main():
     top = os.path.dirname(os.path.dirname(os.path.abspath(__file__)))
     program = sys.argv[1] if len(sys.argv) > 1 else os.path.join(top, "crates/wdcheck/out/wdcheck")
     with tempfile.TemporaryDirectory() as folder:
-        for name, text in (("schema.sql", SCHEMA), ("query.sql", QUERY)):
-            with open(os.path.join(folder, name), "w", encoding="ascii") as file:
-                file.write(text)
-        for mixed in (False, True):
-            measure_sizes(program, folder, mixed)
+        for title, text, sizes, mixed in QUERIES:
+            measure_query(program, folder, title, text, sizes, mixed)
 
 
 if __name__ == "__main__":

@@ -19,10 +19,10 @@ use Rattle.wdcheck.specs.Words.{IsPlain, run_line}
 
 -- ---- plain words
 
-plain_first : (word : Text) (words : List Text) → All IsPlain (word ∷ words) → IsPlain word
+pub plain_first : (word : Text) (words : List Text) → All IsPlain (word ∷ words) → IsPlain word
 plain_first word words plain = plain 0 word (omega arith)
 
-plain_rest : (word : Text) (words : List Text) → All IsPlain (word ∷ words) → All IsPlain words
+pub plain_rest : (word : Text) (words : List Text) → All IsPlain (word ∷ words) → All IsPlain words
 plain_rest word words plain k d below = plain (suc k) d (omega arith)
 
 -- a word that begins with no hyphen is no flag
@@ -37,7 +37,7 @@ no_flag (x ∷ xs) plain =
     let no_hyphen : (x == 45) ≡ false = ne_eqb x 45 plain in
     record { dashes = rw no_hyphen refl; long = rw no_hyphen refl; short = rw no_hyphen refl }
 
-value_met : (c : List Rule) (names : Names) (waiting : Waiting) (position : ℕ) (word : Text) (h : Held) → IsPlain word → subcommand_met names waiting word ≡ None
+pub value_met : (c : List Rule) (names : Names) (waiting : Waiting) (position : ℕ) (word : Text) (h : Held) → IsPlain word → subcommand_met names waiting word ≡ None
     → plain_word c waiting word h ≡ (h, value) → word_met c names false waiting position word h ≡ (h, value)
 value_met c names waiting position word h plain none is =
     let flag = no_flag word plain in
@@ -46,22 +46,22 @@ value_met c names waiting position word h plain none is =
 -- ---- the words of `run`
 
 -- the program's commands and `run`, as they are built
-abbrev app : App
+abbrev pub app : App
 app = built command_line
 
-abbrev run_shape : Shape
+abbrev pub run_shape : Shape
 run_shape = unwrap_or (slice_get app.subs 0) app.top
 
-abbrev rules : List Rule
+abbrev pub rules : List Rule
 rules = run_shape.rules
 
-abbrev rule_at : ℕ → Rule
+abbrev pub rule_at : ℕ → Rule
 rule_at i = Rattle.std.specs.List.slice_index_or rules i (Rattle.clap.specs.Simple.new_rule [])
 
-abbrev row : Rule → List Text → Row
+abbrev pub row : Rule → List Text → Row
 row r values = record { id = r.id; values = values; count = None; source = Some CommandLine; reading = reading_by r }
 
-abbrev after_schema : Text → Walk
+abbrev pub after_schema : Text → Walk
 after_schema s = record {
   held = record { rows = []; pending = Some (codes "schema", s ∷ []); skip = 0 };
   waiting = idle;
@@ -70,7 +70,7 @@ after_schema s = record {
   stopped = None;
 }
 
-abbrev after_query : Text → Text → Walk
+abbrev pub after_query : Text → Text → Walk
 after_query s q = record {
   held = record { rows = row (rule_at 0) (s ∷ []) ∷ []; pending = Some (codes "query", q ∷ []); skip = 0 };
   waiting = idle;
@@ -79,7 +79,7 @@ after_query s q = record {
   stopped = None;
 }
 
-abbrev after_tables : Text → Text → List Text → Walk
+abbrev pub after_tables : Text → Text → List Text → Walk
 after_tables s q tables = record {
   held = record { rows = row (rule_at 0) (s ∷ []) ∷ row (rule_at 1) (q ∷ []) ∷ []; pending = Some (codes "tables", tables); skip = 0 };
   waiting = positional;
@@ -91,33 +91,33 @@ after_tables s q tables = record {
 abbrev stepped : Walk → Text → Held × Step → Walk
 stepped w word met = after_step rules word w met.0 met.1
 
-schema_step : (s : Text) → IsPlain s → walked rules [] (walk_from nothing_held) s ≡ after_schema s
+pub schema_step : (s : Text) → IsPlain s → walked rules [] (walk_from nothing_held) s ≡ after_schema s
 unfolding clap_on_literals
 schema_step s plain = ap (stepped (walk_from nothing_held) s) (value_met rules [] idle 1 s nothing_held plain refl refl)
 
-query_step : (s q : Text) → IsPlain q → walked rules [] (after_schema s) q ≡ after_query s q
+pub query_step : (s q : Text) → IsPlain q → walked rules [] (after_schema s) q ≡ after_query s q
 unfolding clap_on_literals
 query_step s q plain = ap (stepped (after_schema s) q) (value_met rules [] idle 2 q (after_schema s).held plain refl refl)
 
-first_table_step : (s q t : Text) → IsPlain t → walked rules [] (after_query s q) t ≡ after_tables s q (t ∷ [])
+pub first_table_step : (s q t : Text) → IsPlain t → walked rules [] (after_query s q) t ≡ after_tables s q (t ∷ [])
 unfolding clap_on_literals
 first_table_step s q t plain = ap (stepped (after_query s q) t) (value_met rules [] idle 3 t (after_query s q).held plain refl refl)
 
-table_step : (s q : Text) (seen : List Text) (t : Text) → IsPlain t → walked rules [] (after_tables s q seen) t ≡ after_tables s q (seen ++ t ∷ [])
+pub table_step : (s q : Text) (seen : List Text) (t : Text) → IsPlain t → walked rules [] (after_tables s q seen) t ≡ after_tables s q (seen ++ t ∷ [])
 unfolding clap_on_literals
 table_step s q seen t plain = ap (stepped (after_tables s q seen) t) (value_met rules [] positional 3 t (after_tables s q seen).held plain refl refl)
 
-tables_walk : (s q : Text) (seen tables : List Text) → All IsPlain tables → fold (walked rules []) (after_tables s q seen) tables ≡ after_tables s q (seen ++ tables)
+pub tables_walk : (s q : Text) (seen tables : List Text) → All IsPlain tables → fold (walked rules []) (after_tables s q seen) tables ≡ after_tables s q (seen ++ tables)
 tables_walk s q seen [] plain = ap (after_tables s q) (sym (append-nil seen))
 tables_walk s q seen (t ∷ tables) plain =
     ap (λ w. fold (walked rules []) w tables) (table_step s q seen t (plain_first t tables plain))
     ∙ (tables_walk s q (seen ++ t ∷ []) tables (plain_rest t tables plain) ∙ ap (after_tables s q) (append_assoc seen (t ∷ []) tables))
 
 -- the walk over the words of `run`
-abbrev run_walk : List Text → Walk
+abbrev pub run_walk : List Text → Walk
 run_walk words = walk rules [] nothing_held words
 
-query_walk : (s q : Text) (tables : List Text) → IsPlain s → IsPlain q → run_walk (s ∷ q ∷ tables) ≡ fold (walked rules []) (after_query s q) tables
+pub query_walk : (s q : Text) (tables : List Text) → IsPlain s → IsPlain q → run_walk (s ∷ q ∷ tables) ≡ fold (walked rules []) (after_query s q) tables
 query_walk s q tables plain_s plain_q =
     ap (λ w. fold (walked rules []) (walked rules [] w q) tables) (schema_step s plain_s) ∙ ap (λ w. fold (walked rules []) w tables) (query_step s q plain_q)
 
@@ -180,7 +180,7 @@ level_words (s ∷ q ∷ tables) plain none = (s, q, tables, refl)
 abbrev start : Walk
 start = walk_from nothing_held
 
-no_other : (s : Shape) (word : Text) (h : Held) → IsPlain word → other_fault s None word h ≡ []
+pub no_other : (s : Shape) (word : Text) (h : Held) → IsPlain word → other_fault s None word h ≡ []
 no_other s word h plain =
     let flag = no_flag word plain in
     rw (flag.dashes, flag.long, flag.short) refl
@@ -223,7 +223,7 @@ abbrev met_run : Walk
 met_run = record start { stopped = Some (codes "run", []) }
 
 -- the fault of the words after `run` is that of the whole line
-run_fault : (words : List Text) → fault_of command_line (codes "run" ∷ words) ≡ or_else (level_fault run_shape [] nothing_held words false []) []
+pub run_fault : (words : List Text) → fault_of command_line (codes "run" ∷ words) ≡ or_else (level_fault run_shape [] nothing_held words false []) []
 unfolding clap_on_literals
 run_fault words =
     let fault : Kinds → Walk → Kinds = λ first w. or_else first (or_else (entered_fault app w.stopped)

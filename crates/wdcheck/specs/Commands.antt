@@ -3,6 +3,7 @@ use Rattle.std.specs.Prelude.{◌≡◌, ℕ, List, [], ◌∷◌, ◌++◌, map
 use Rattle.wd_value.specs.Rows.{Row}
 use Rattle.wd_value.specs.declared.value.Fault.{Fault}
 use Rattle.wd_tables.specs.Answers.{answer_text}
+use Rattle.wdcheck.specs.Causes.{IsRefused}
 use Rattle.wdcheck.specs.Files.{File}
 use Rattle.wdcheck.specs.Runs.{IsAnswer}
 use Rattle.wdcheck.specs.Words.{IsPlain, HasNoEquals, run_line, word_of}
@@ -53,6 +54,10 @@ pub record HasFault (inputs : Inputs) : Type 0 where
   pub names : List (List ℕ)
   pub fault : Fault
   pub answer : IsAnswer inputs.schema.1 inputs.query.1 (data_in inputs.tables) names (Err fault)
+
+-- the schema, the query or the data is refused by a number
+abbrev pub IsRefusedWith : Inputs → Type 0
+IsRefusedWith inputs = IsRefused inputs.schema.1 inputs.query.1 (data_in inputs.tables)
 
 -- the output for the words of `run`, when these files were handed over
 pub record IsRunOutput (words : List (List ℕ)) (files : List File) (text : List ℕ) : Type 0 where

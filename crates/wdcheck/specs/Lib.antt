@@ -1,5 +1,6 @@
 pub mod Runs
 pub mod Causes
+pub mod Loads
 pub mod Files
 pub mod Machine
 pub mod Memory

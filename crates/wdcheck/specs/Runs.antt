@@ -1,31 +1,82 @@
 -- The answers of a query over the data of tables, from the texts alone.
-use Rattle.std.specs.Prelude.{◌≡◌, ℕ, List, [], ◌∷◌, map}
+use Rattle.std.specs.Prelude.{◌≡◌, ◌≢◌, ℕ, List, [], ◌∷◌, ◌++◌, map, length, nat_eq, slice_get, Some, All, AllPairs, Any, IsTrue}
 use Rattle.std.specs.Borrow.{Bor}
-use Rattle.wd_value.specs.Rows.{Row}
+use Rattle.std.specs.List.{list_any}
+use Rattle.wd_value.specs.Rows.{Row, Instance, table_at}
+use Rattle.wd_schema.specs.Schemas.{schema_of}
 use Rattle.wd_schema.specs.Tables.{TableRule}
 use Rattle.wd_plan.specs.Choices.{IsAnswerOf}
 use Rattle.wd_plan.specs.Outcomes.{RowsOrFault}
-use Rattle.wd_plan.specs.Plans.{PlanTree}
+use Rattle.wd_plan.specs.Plans.{PlanTree, Scan, Join, Filter, Map, Window, Distinct, Limit}
 use Rattle.wd_tables.specs.Data.{HoldsRows}
-use Rattle.wd_simple.specs.Meaning.{Declares, Reads}
+use Rattle.wd_resolve.specs.Answers.{Answer}
+use Rattle.wd_resolve.specs.Laws.{Reads}
 
 -- the names and the texts that a slice of pairs shows
 abbrev pub data_of : List (Bor (List ℕ) × Bor (List ℕ)) → List (List ℕ × List ℕ)
-data_of tables = map (λ t. (t.0.now, t.1.now)) tables
+data_of given = map (λ g. (g.0.now, g.1.now)) given
 
--- the data is one text, for the table, and these are the rows that it holds
-pub record HoldsData (table : TableRule) (tables : List (List ℕ × List ℕ)) (rows : List Row) : Type 0 where
-  pub text : List ℕ
-  pub given : tables ≡ (table.name, text) ∷ []
-  pub holds : HoldsRows table text rows
+-- ---- the data of a schema's tables
 
--- The schema's text declares a table, the query's text reads as a plan over it with these names, the data holds the table's
--- rows, and the answer is one of the plan over them: its outcome under some valid choice of orderings.
-pub record IsAnswer (schema query : List ℕ) (tables : List (List ℕ × List ℕ)) (names : List (List ℕ)) (answer : RowsOrFault) : Type 0 where
+-- the names of tables differ
+abbrev pub NamesDiffer : List TableRule → Type 0
+NamesDiffer tables = AllPairs (λ a b. a.name ≢ b.name) tables
+
+-- the table of that number has the name
+pub record IsNamed (tables : List TableRule) (name : List ℕ) (number : ℕ) : Type 0 where
   pub table : TableRule
-  pub plan : PlanTree
-  pub rows : List Row
-  pub declares : Declares schema table
-  pub reads : Reads table query plan names
-  pub data_holds : HoldsData table tables rows
-  pub answers : IsAnswerOf plan (rows ∷ []) answer
+  pub found : slice_get tables number ≡ Some table
+  pub name_is : table.name ≡ name
+
+-- a text that is given under the table's name holds the rows, and without one there are none
+pub record HoldsTable (table : TableRule) (given : List (List ℕ × List ℕ)) (rows : List Row) : Type 0 where
+  pub held : All (λ g. g.0 ≡ table.name → HoldsRows table g.1 rows) given
+  pub empty : All (λ g. g.0 ≢ table.name) given → rows ≡ []
+
+-- each text is given under the name of a table, no name twice, and the instance has each table's rows
+pub record HoldsData (tables : List TableRule) (given : List (List ℕ × List ℕ)) (instance : Instance) : Type 0 where
+  pub lists : length instance ≡ length tables
+  pub named : All (λ g. (n : ℕ) × IsNamed tables g.0 n) given
+  pub once : AllPairs (λ a b. a.0 ≢ b.0) given
+  pub each : (n : ℕ) (table : TableRule) → slice_get tables n ≡ Some table → HoldsTable table given (table_at instance n)
+
+-- ---- the tables that a plan reads
+
+-- the tables that a plan scans, by their numbers
+abbrev pub tables_read : PlanTree → List ℕ
+tables_read (Scan table columns) = table ∷ []
+tables_read (Join condition left right) = tables_read left ++ tables_read right
+tables_read (Filter condition input) = tables_read input
+tables_read (Map outputs input) = tables_read input
+tables_read (Window w input) = tables_read input
+tables_read (Distinct input) = tables_read input
+tables_read (Limit limit input) = tables_read input
+
+-- the plan scans the table of that number
+abbrev pub ReadsTable : PlanTree → ℕ → Type 0
+ReadsTable plan number = IsTrue (list_any (nat_eq number) (tables_read plan))
+
+-- data is given under the name
+abbrev pub IsGiven : List (List ℕ × List ℕ) → List ℕ → Type 0
+IsGiven given name = Any (λ g. g.0 ≡ name) given
+
+-- the table of that number has data, if the plan scans it
+abbrev pub HasDataAt : List TableRule → List (List ℕ × List ℕ) → PlanTree → ℕ → Type 0
+HasDataAt tables given plan number = (table : TableRule) → slice_get tables number ≡ Some table → ReadsTable plan number → IsGiven given table.name
+
+-- each table that the plan scans has data
+abbrev pub HasData : List TableRule → List (List ℕ × List ℕ) → PlanTree → Type 0
+HasData tables given plan = (number : ℕ) → HasDataAt tables given plan number
+
+-- ---- answers
+
+-- The plan and the names read the schema's text and the query's text, each table that the plan scans has data, the data holds
+-- the instance, and the answer is one of the plan over it: its outcome under some valid choice of orderings.
+pub record IsAnswer (schema query : List ℕ) (given : List (List ℕ × List ℕ)) (names : List (List ℕ)) (answer : RowsOrFault) : Type 0 where
+  pub read : Answer
+  pub reads : Reads schema query read
+  pub instance : Instance
+  pub has_data : HasData (schema_of reads.declared) given read.plan
+  pub data_holds : HoldsData (schema_of reads.declared) given instance
+  pub answers : IsAnswerOf read.plan instance answer
+  pub named : names ≡ read.names

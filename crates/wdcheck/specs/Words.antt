@@ -12,6 +12,15 @@ IsPlain (byte ∷ rest) = byte ≢ 45
 abbrev pub run_line : List ℕ → List ℕ → List (List ℕ) → List (List ℕ)
 run_line schema query tables = codes "run" ∷ schema ∷ query ∷ tables
 
+-- the words are `run SCHEMA QUERY [NAME=PATH]...`, and none begins with a hyphen
+pub record AreRunWords (words : List (List ℕ)) : Type 0 where
+  pub schema : List ℕ
+  pub query : List ℕ
+  pub tables : List (List ℕ)
+  pub line : words ≡ run_line schema query tables
+  pub plain : All IsPlain words
+  pub assigned : All (λ w. Contains w 61) tables
+
 -- the words are those of `run`, where none begins with a hyphen; others are read as `clap` reads them
 abbrev pub AreWordsOf : List (List ℕ) → RunWords → Type 0
 AreWordsOf words given = All IsPlain words → words ≡ run_line given.schema.now given.query.now (map (λ w. w.now) given.tables.items)

@@ -2,11 +2,11 @@
 
 ghost use Rattle.std.specs.Prelude.{◌≡◌, ◌≢◌, ◌-◌, ◌^◌, ◌<◌, ℕ, List, [], map, take, OnOk, IfOk, IfErr, length};
 ghost use Rattle.std.specs.Io.KnownBytes.{Appends};
-ghost use Rattle.wdcheck.specs.Commands.{HasFault, IsOutput, IsAnswerText, data_in};
+ghost use Rattle.wdcheck.specs.Commands.{HasFault, IsOutput, IsAnswerText, IsRefusedWith, data_in};
 ghost use Rattle.wdcheck.specs.Inputs.{inputs_of, table_of};
 ghost use Rattle.wdcheck.specs.Runs.{data_of};
 ghost use Rattle.wdcheck.specs.Files.{File, HandsOver};
-ghost use Rattle.wdcheck.specs.Statuses.{EndsInFault, Fails, Succeeds, status_of};
+ghost use Rattle.wdcheck.specs.Statuses.{EndsInFault, Fails, IsRefusedFor, Succeeds, status_of};
 
 use crate::failure::{Failure, report};
 use crate::files::Files;
@@ -100,6 +100,8 @@ fn output<'a, F: Files>(
         × IsOutput (map (λ w. w.now) words.now) handed text.items) }
     ensures err { IfErr result (λ failure. status_of failure ≡ 4
         → EndsInFault (map (λ w. w.now) words.now) (F.handed files.old) (F.handed files.new)) }
+    ensures refused { IfErr result (λ failure. status_of failure ≡ 3
+        → IsRefusedFor (map (λ w. w.now) words.now) (F.handed files.old) (F.handed files.new)) }
 {
     if words.is_empty() {
         return Ok(Vec::from_slice(alloc, USAGE.as_bytes())?);
@@ -112,6 +114,7 @@ fn output<'a, F: Files>(
 fn answer<'a>(alloc: Global, inputs: &Inputs<'a>) -> Result<Vec<u8>, Failure<'a>>
     ensures ok { IfOk result (λ text. IsAnswerText (inputs_of inputs.now) text.items) }
     ensures err { IfErr result (λ failure. status_of failure ≡ 4 → HasFault (inputs_of inputs.now)) }
+    ensures refused { IfErr result (λ failure. status_of failure ≡ 3 → IsRefusedWith (inputs_of inputs.now)) }
 {
     let data = data(alloc, inputs.tables.as_slice())?;
     let schema = inputs.schema.bytes.as_slice();

@@ -1,6 +1,9 @@
 //! Why the program ends without its output.
 
 ghost use Rattle.std.specs.Prelude.{◌≡◌, ◌≢◌};
+ghost use Rattle.clap.specs.Values.{kind_of};
+ghost use Rattle.clap.specs.declared.error.kind.ErrorKind.TheVariants as kind;
+ghost use Rattle.wdcheck.specs.Causes.{HasNumber};
 ghost use Rattle.wdcheck.specs.Statuses.{status_of};
 
 use crate::run::{Origin, RunError};
@@ -104,7 +107,7 @@ impl<T: Drop> From<AllocFailed<T>> for Failure<'_> {
 }
 
 impl From<clap::Error> for Failure<'_> {
-    ghost from_gives = { λ _ failure. status_of failure ≢ 4 };
+    ghost from_gives = { λ e failure. (status_of failure ≢ 4) × (status_of failure ≡ 3 → kind_of e ≢ kind.OutOfMemory) };
 
     fn from(error: clap::Error) -> Self {
         match error.kind() {
@@ -115,7 +118,7 @@ impl From<clap::Error> for Failure<'_> {
 }
 
 impl From<RunError> for Failure<'_> {
-    ghost from_gives = { λ _ failure. status_of failure ≢ 4 };
+    ghost from_gives = { λ e failure. (status_of failure ≢ 4) × (status_of failure ≡ 3 → HasNumber e) };
 
     fn from(error: RunError) -> Self {
         match error.number() {

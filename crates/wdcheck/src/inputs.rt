@@ -5,7 +5,7 @@ ghost use Rattle.wdcheck.specs.Commands.{AreInputsOf, files_of};
 ghost use Rattle.wdcheck.specs.Files.{HandsOver};
 ghost use Rattle.wdcheck.specs.Inputs.{file_of, inputs_of};
 ghost use Rattle.wdcheck.specs.Statuses.{status_of};
-ghost use Rattle.wdcheck.specs.Words.{word_of};
+ghost use Rattle.wdcheck.specs.Words.{AreRunWords, word_of};
 
 use crate::failure::Failure;
 use crate::files::{Files, ReadFault};
@@ -44,6 +44,7 @@ pub fn read_inputs<'a, F: Files>(
     ensures asked { IfOk result (λ inputs. AreInputsOf (map (λ w. w.now) words.now) (inputs_of inputs)) }
     ensures read { IfOk result (λ inputs. HandsOver (F.handed files.old) (F.handed files.new) (files_of (inputs_of inputs))) }
     ensures err { IfErr result (λ failure. status_of failure ≢ 4) }
+    ensures refused { IfErr result (λ failure. status_of failure ≡ 3 → AreRunWords (map (λ w. w.now) words.now) → ⊥) }
 {
     let given = run_words(alloc, words)?;
     let assignments = assignments(alloc, given.tables.as_slice())?;

@@ -5,10 +5,12 @@
 mod command;
 #[cfg(test)]
 mod command_tests;
+mod data;
 mod failure;
 mod files;
 mod inputs;
 mod memory;
+mod query;
 mod run;
 #[cfg(test)]
 mod run_tests;

@@ -1,20 +1,24 @@
 //! A query's answer over the data of tables, from the texts alone.
 
-ghost use Rattle.std.specs.Prelude.{◌≡◌, IfOk, OnOk};
-ghost use Rattle.wd_schema.specs.Tables.{table_of};
-ghost use Rattle.wd_value.specs.Rows.{rows_of};
+ghost use Rattle.std.specs.Prelude.{◌≡◌, true, IfOk, IfErr};
+ghost use Rattle.wd_plan.specs.Fits.{fits};
 ghost use Rattle.wd_plan.specs.Outcomes.{outcome_of};
-ghost use Rattle.wdcheck.specs.Causes.{ComesFrom, run_number, run_place};
-ghost use Rattle.wdcheck.specs.Runs.{HoldsData, IsAnswer, data_of};
+ghost use Rattle.wd_plan.specs.Plans.{plan_of};
+ghost use Rattle.wd_schema.specs.Schemas.{schema_of};
+ghost use Rattle.wdcheck.specs.Causes.{ComesFrom, HasCause, run_number, run_place};
+ghost use Rattle.wdcheck.specs.Loads.{GivesOutcome, RefusesOutcome};
+ghost use Rattle.wdcheck.specs.Runs.{IsAnswer, NamesDiffer, data_of};
 ghost use Rattle.wdcheck.specs.declared.run.RunError.TheVariants as error;
 
+use crate::data::{check_given, load_data};
+use crate::query::{QueryError, read_query};
 use std::alloc::{AllocError, AllocFailed, Global};
 use thiserror::Error;
-use wd_plan::Outcome;
-use wd_schema::Table;
-use wd_simple::{QueryError, SchemaError, evaluate, read_plan, read_schema};
-use wd_tables::{DataError, load};
-use wd_value::{OutOfMemory, Row, Text};
+use wd_eval::{EvalError, run_plan};
+use wd_plan::{Outcome, Plan};
+use wd_schema::{Schema, SchemaError, read_schema};
+use wd_tables::DataError;
+use wd_value::{OutOfMemory, Text};
 
 /// Why a run is refused.
 #[derive(Debug, Drop, Error)]
@@ -30,6 +34,9 @@ pub enum RunError {
     /// The data of the table with this name is refused.
     #[error("{error}")]
     Data { name: Text, error: DataError },
+    /// 802: a step of the plan has more rows than 10,000,000.
+    #[error(transparent)]
+    Evaluation(EvalError),
     /// The allocator refused a growth.
     #[error("out of memory")]
     OutOfMemory,
@@ -55,6 +62,7 @@ impl RunError {
             RunError::Query(error) => error.number(),
             RunError::Given { .. } => Some(707),
             RunError::Data { error, .. } => error.number(),
+            RunError::Evaluation(error) => error.number(),
             RunError::OutOfMemory => None,
         }
     }
@@ -68,6 +76,7 @@ impl RunError {
             RunError::Query(error) => error.place(),
             RunError::Given { .. } => None,
             RunError::Data { error, .. } => error.place(),
+            RunError::Evaluation(error) => error.place(),
             RunError::OutOfMemory => None,
         }
     }
@@ -81,6 +90,7 @@ impl RunError {
             RunError::Query(_) => Origin::Query,
             RunError::Given { name } => Origin::Data(name.as_str()),
             RunError::Data { name, .. } => Origin::Data(name.as_str()),
+            RunError::Evaluation(_) => Origin::Run,
             RunError::OutOfMemory => Origin::Run,
         }
     }
@@ -110,62 +120,51 @@ impl From<OutOfMemory> for RunError {
     }
 }
 
-/// The names of a query's columns and its outcome over the data of tables, which is given as
-/// pairs of a table's name and its CSV text. The schema is read first, then the query, then the
-/// data in the order given.
+/// The names of a query's columns and its outcome over the data of tables, which is given as pairs of a table's name and its CSV
+/// text: the rows or the fault under some choice among the orders that the query leaves open. The schema is read first, then the
+/// query, then the data in the order given; a table without data is empty, if the query does not read it.
+///
+/// Each refusal comes only where its cause stands: 101 to 107 and 301 to 309 of the schema; 101 to 107, 201, 202 and 401 to 415 of
+/// the query; 701 to 707 of the data under a name; 802 where a step has more than 10,000,000 rows.
 pub fn run(
     alloc: Global,
     schema: &[u8],
     query: &[u8],
     tables: &[(&str, &[u8])],
 ) -> Result<(Vec<Text>, Outcome), RunError>
-    ensures { IfOk result (λ a. IsAnswer schema.now query.now (data_of tables.now) a.0.items (outcome_of a.1)) }
+    ensures answer { IfOk result (λ a. IsAnswer schema.now query.now (data_of tables.now) a.0.items (outcome_of a.1)) }
+    ensures refused { IfErr result (λ e. HasCause schema.now query.now (data_of tables.now) e) }
 {
-    let table = match read_schema(alloc, schema) {
-        Ok(table) => table,
+    let declared = match read_schema(alloc, schema) {
+        Ok(declared) => declared,
         Err(error) => return Err(RunError::Schema(error)),
     };
-    let (sorted, names) = match read_plan(alloc, &table, query) {
-        Ok(found) => found,
+    let resolved = match read_query(alloc, &declared, query) {
+        Ok(resolved) => resolved,
         Err(error) => return Err(RunError::Query(error)),
     };
-    let rows = load_data(alloc, &table, tables)?;
-    let answer = evaluate(alloc, &sorted, &rows)?;
-    Ok((names, Outcome::Rows(answer)))
-}
-
-/// The rows of the one table, from the data given.
-fn load_data(alloc: Global, table: &Table, tables: &[(&str, &[u8])]) -> Result<Vec<Row>, RunError>
-    ensures { IfOk result (λ v. HoldsData (table_of table.now) (data_of tables.now) (rows_of v.items)) }
-{
-    let Some(((name, text), others)) = tables.split_first() else {
-        return Err(RunError::Given {
-            name: table.name.copy(alloc)?,
-        });
-    };
-    check_name(alloc, table, name)?;
-    let rows = match load(alloc, table, text) {
-        Ok(rows) => rows,
-        Err(error) => {
-            let name = Text::from_str(alloc, name)?;
-            return Err(RunError::Data { name, error });
-        }
-    };
-    match others.first() {
-        None => Ok(rows),
-        Some((other, _)) => Err(RunError::Given {
-            name: Text::from_str(alloc, other)?,
-        }),
+    match outcome_over(alloc, &declared, &resolved.plan, tables) {
+        Ok(outcome) => Ok((resolved.names, outcome)),
+        Err(error) => Err(error),
     }
 }
 
-fn check_name(alloc: Global, table: &Table, name: &str) -> Result<(), RunError>
-    ensures { OnOk result (name.now ≡ (table_of table.now).name) }
+/// The outcome of a plan over the data given.
+fn outcome_over(
+    alloc: Global,
+    schema: &Schema,
+    plan: &Plan,
+    tables: &[(&str, &[u8])],
+) -> Result<Outcome, RunError>
+    requires differ { NamesDiffer (schema_of schema.now) }
+    requires fitting { fits (schema_of schema.now) (plan_of plan.now) ≡ true }
+    ensures outcome { IfOk result (λ o. GivesOutcome (schema_of schema.now) (data_of tables.now) (plan_of plan.now) o) }
+    ensures refused { IfErr result (λ e. RefusesOutcome (schema_of schema.now) (data_of tables.now) (plan_of plan.now) e) }
 {
-    if name.as_bytes() == table.name.as_bytes() {
-        return Ok(());
+    let instance = load_data(alloc, schema, tables)?;
+    check_given(alloc, schema, plan, tables)?;
+    match run_plan(alloc, plan, schema, &instance) {
+        Ok(outcome) => Ok(outcome),
+        Err(error) => Err(RunError::Evaluation(error)),
     }
-    Err(RunError::Given {
-        name: Text::from_str(alloc, name)?,
-    })
 }

@@ -1,10 +1,12 @@
 //! What the words of the command line ask for.
 
-ghost use Rattle.std.specs.Prelude.{◌≡◌, ◌≢◌, List, map, codes, Some, IfOk, IfErr, IfSome};
+ghost use Rattle.std.specs.Prelude.{◌≡◌, ◌≢◌, List, map, codes, Any, Some, IfOk, IfErr, IfSome, IfNone};
+ghost use Rattle.clap.specs.Values.{kind_of};
 ghost use Rattle.clap.specs.Words.{Row, app_of, subcommand_rows_of};
+ghost use Rattle.clap.specs.declared.error.kind.ErrorKind.TheVariants as kind;
 ghost use Rattle.wdcheck.specs.CommandLine.{AreInRows, command_line as command_line_app};
 ghost use Rattle.wdcheck.specs.Statuses.{status_of};
-ghost use Rattle.wdcheck.specs.Words.{AreCut, AreWordsOf, HasNoEquals, word_of};
+ghost use Rattle.wdcheck.specs.Words.{AreCut, AreRunWords, AreWordsOf, HasNoEquals, word_of};
 
 use crate::failure::Failure;
 use clap::error::ErrorKind;
@@ -22,7 +24,8 @@ pub struct RunWords<'a> {
 
 /// Reads the words after the program's own name.
 pub fn run_words<'a>(alloc: Global, words: &'a [&'a str]) -> Result<RunWords<'a>, Error>
-    ensures { IfOk result (AreWordsOf (map (λ w. w.now) words.now)) }
+    ensures ok { IfOk result (AreWordsOf (map (λ w. w.now) words.now)) }
+    ensures err { IfErr result (λ e. AreRunWords (map (λ w. w.now) words.now) → kind_of e ≡ kind.OutOfMemory) }
 {
     let mut command = command_line(alloc)?;
     let matches = command.try_get_matches_from_mut(words)?;
@@ -90,6 +93,7 @@ pub struct Assignment<'a> {
 pub fn assignments<'a>(alloc: Global, words: &[&'a str]) -> Result<Vec<Assignment<'a>>, Failure<'a>>
     ensures ok { IfOk result (λ v. AreCut (map (λ w. w.now) words.now) v.items) }
     ensures err { IfErr result (λ failure. status_of failure ≢ 4) }
+    ensures refused { IfErr result (λ failure. status_of failure ≡ 3 → Any HasNoEquals (map (λ w. w.now) words.now)) }
 {
     let mut assignments = Vec::with_capacity(alloc, words.len())?;
     for word in words {
@@ -104,6 +108,7 @@ pub fn assignments<'a>(alloc: Global, words: &[&'a str]) -> Result<Vec<Assignmen
 fn cut<'a>(word: &'a str) -> Option<Assignment<'a>>
     ensures joined { IfSome result (λ a. word.entry.now ≡ word_of a.name.now a.path.now) }
     ensures first { IfSome result (λ a. HasNoEquals a.name.now) }
+    ensures none { IfNone result (HasNoEquals word.entry.now) }
 {
     let (name, path) = word.split_once('=')?;
     Some(Assignment { name, path })

@@ -1,4 +1,6 @@
-use Rattle.std.proofs.Common.{arith}
+use Rattle.std.proofs.Common.{arith, ◌≡◌, ◌<◌, ℕ, zero, suc, List, [], ◌∷◌, length, map, get_or, refl, Bor}
+use Rattle.std.proofs.Math.ListN.{length-map}
+use Rattle.std.specs.List.{Any}
 use Rattle.std.proofs.lemmas.Grind.{common_steps}
 use Rattle.std.proofs.lemmas.List.Elements.{All-push}
 use Rattle.wdcheck.specs.Words.{HasNoEquals}
@@ -13,3 +15,17 @@ loop-word-preserved c = record {
   joined = grind (arith, common_steps);
   first = rw c.in_ok-push.ensures.items (All-push IsNamed _ _ c.loop-word.invariant.first c.in-Some.ensures.first);
 }
+
+at_mapped : (words : List (Bor (List ℕ))) (k : ℕ) (d : Bor (List ℕ)) (e : List ℕ) → k < length words → get_or (map (λ w. w.now) words) k e ≡ (get_or words k d).now
+at_mapped [] k d e below = absurd (omega arith)
+at_mapped (word ∷ words) zero d e below = refl
+at_mapped (word ∷ words) (suc k) d e below = at_mapped words k d e (omega arith)
+
+-- a word without `=` is among the words
+lacking : (words : List (Bor (List ℕ))) (k : ℕ) (d : Bor (List ℕ)) → k < length words → HasNoEquals (get_or words k d).now → Any HasNoEquals (map (λ w. w.now) words)
+lacking words k d below lacks =
+    (k, (get_or words k d).now, omega (arith, below, length-map words (λ w. w.now)), at_mapped words k d (get_or words k d).now below, lacks)
+
+pub returns-in_default-clause-refused : goal.returns-in_default-clause-refused
+returns-in_default-clause-refused c =
+    λ three. lacking c.args.words.now c.loop-word.word-index (record { ref_ptr = (0, 0); now = [] }) c.loop-word-test.true c.in_default.ensures.none

@@ -1,0 +1,12 @@
+pub mod Sizes
+pub mod Nodes
+pub mod Listed
+pub mod Beside
+pub mod Serving
+pub mod Gathered
+pub mod Fitting
+pub mod Stable
+pub mod Tying
+pub mod Putting
+pub mod SomeSort
+pub mod SomeTied

@@ -1,0 +1,229 @@
+-- What a node gives, and why it stops, from what the nodes below it give.
+use Rattle.std.proofs.Common.{◌≡◌, ℕ, ◌+◌, ◌≤◌, Bool, true, false, ◌||◌, List, [], take, drop, length, Option, Ok, refl, sym, ap, ◌∙◌, subst, arith, length-drop, drop-drop}
+use Rattle.std.specs.List.{AllByRecursion}
+use Rattle.std.proofs.lemmas.List.{get_or-drop}
+use Rattle.wd_value.specs.Rows.{Instance, table_at}
+use Rattle.wd_plan.specs.declared.plan.Outcome.{Outcome}
+use Rattle.wd_plan.specs.Choices.{AtRows, AreOrderings, AreLawful}
+use Rattle.wd_plan.specs.Expressions.{Expression}
+use Rattle.wd_plan.specs.Faults.{and_then}
+use Rattle.wd_plan.specs.Outcomes.{RowsOrFault, distinct, filter_outcome, map_outcome, ordering_at, outcome, outcome_of}
+use Rattle.wd_plan.specs.Plans.{PlanTree, Scan, Join, Filter, Map, Window, Distinct, Limit, LimitRule, WindowRule, ordering_count}
+use Rattle.wd_plan.specs.Sorting.{IsOrdering, limit_class}
+use Rattle.wd_steps.specs.Joins.{has_more_rows}
+use Rattle.wd_eval.specs.Steps.{has_large_step, is_large}
+use Rattle.wd_eval.specs.Nodes.{given_of, IsEvaluated, IsStopped, IsSmall, IsLarge, join_over, IsLimitServed, cut_over, IsCut, IsUnserved, IsWindowServed, window_over, IsExtended}
+use Rattle.wd_eval.specs.declared.error.EvalError.{EvalError}
+use Rattle.wd_eval.specs.declared.error.EvalError.TheVariants.{NotValid, TooManyRows, OutOfMemory}
+use Rattle.wd_eval.specs.declared.given.Given.{Given}
+use Rattle.wd_eval.specs.declared.given.Given.TheVariants.{Made}
+use Rattle.wd_eval.specs.declared.node.Evaluated.{Evaluated}
+use Rattle.wd_eval.proofs.Sizes.{fewer_filter, fewer_map, fewer_distinct, fewer_window, fewer_cut}
+
+pub or_left : (a b : Bool) → a ≡ true → (a || b) ≡ true
+or_left a b e = ap (λ x. x || b) e
+
+pub or_right : (a b : Bool) → b ≡ true → (a || b) ≡ true
+or_right true b e = refl
+or_right false b e = e
+
+module _ (most : ℕ) (instance : Instance) (choice : List (List ℕ)) (first : ℕ) where
+  abbrev rest : List (List ℕ)
+  rest = drop first choice
+
+  -- the orderings behind those of a node below
+  behind : (n next : ℕ) → next ≡ first + n → drop next choice ≡ drop n rest
+  behind n next e = ap (λ k. drop k choice) e ∙ sym (drop-drop n first choice)
+
+  long_rest : first ≤ length choice → first + length rest ≡ length choice
+  long_rest h = let d = length-drop first choice in omega arith
+
+  -- ---- Scan
+
+  pub scan_done : (table columns : ℕ) (o : Given) → IsSmall most (Ok (table_at instance table)) (given_of instance o) → IsEvaluated most (Scan table columns) instance choice first (record { outcome = o; next = first })
+  scan_done table columns o s = record { is = s.is; next = omega arith; served = record { present = omega arith; lawful = tt }; small = s.small }
+
+  pub scan_stopped : (table columns : ℕ) (e : EvalError) → IsLarge most (Ok (table_at instance table)) e → IsStopped most (Scan table columns) instance rest e
+  scan_stopped table columns (NotValid p) h = absurd h
+  scan_stopped table columns TooManyRows h = h
+  scan_stopped table columns OutOfMemory h = tt
+
+  -- ---- Filter, Map and Distinct
+
+  module _ (input : PlanTree) (below : Evaluated) (b : IsEvaluated most input instance choice first below) (o : Outcome) where
+    pub filter_done : (condition : Expression) → outcome_of o ≡ and_then (given_of instance below.outcome) (filter_outcome condition) → IsEvaluated most (Filter condition input) instance choice first (record { outcome = Made o; next = below.next })
+    filter_done condition is = record {
+      is = is ∙ ap (λ r. and_then r (filter_outcome condition)) b.is;
+      next = b.next;
+      served = record { present = b.served.present; lawful = b.served.lawful };
+      small = fewer_filter most condition (outcome input instance rest) b.small;
+    }
+
+    pub map_done : (outputs : List Expression) → outcome_of o ≡ and_then (given_of instance below.outcome) (map_outcome outputs) → IsEvaluated most (Map outputs input) instance choice first (record { outcome = Made o; next = below.next })
+    map_done outputs is = record {
+      is = is ∙ ap (λ r. and_then r (map_outcome outputs)) b.is;
+      next = b.next;
+      served = record { present = b.served.present; lawful = b.served.lawful };
+      small = fewer_map most outputs (outcome input instance rest) b.small;
+    }
+
+    pub distinct_done : outcome_of o ≡ and_then (given_of instance below.outcome) (λ rows. Ok (distinct rows)) → IsEvaluated most (Distinct input) instance choice first (record { outcome = Made o; next = below.next })
+    distinct_done is = record {
+      is = is ∙ ap (λ r. and_then r (λ rows. Ok (distinct rows))) b.is;
+      next = b.next;
+      served = record { present = b.served.present; lawful = b.served.lawful };
+      small = fewer_distinct most (outcome input instance rest) b.small;
+    }
+
+  pub filter_stopped : (condition : Expression) (input : PlanTree) (e : EvalError) → IsStopped most input instance rest e → IsStopped most (Filter condition input) instance rest e
+  filter_stopped condition input (NotValid p) h = λ s. h (record { present = s.present; lawful = s.lawful })
+  filter_stopped condition input TooManyRows h = or_left (has_large_step most input instance rest) (is_large most (Filter condition input) instance rest) h
+  filter_stopped condition input OutOfMemory h = tt
+
+  pub map_stopped : (outputs : List Expression) (input : PlanTree) (e : EvalError) → IsStopped most input instance rest e → IsStopped most (Map outputs input) instance rest e
+  map_stopped outputs input (NotValid p) h = λ s. h (record { present = s.present; lawful = s.lawful })
+  map_stopped outputs input TooManyRows h = or_left (has_large_step most input instance rest) (is_large most (Map outputs input) instance rest) h
+  map_stopped outputs input OutOfMemory h = tt
+
+  pub distinct_stopped : (input : PlanTree) (e : EvalError) → IsStopped most input instance rest e → IsStopped most (Distinct input) instance rest e
+  distinct_stopped input (NotValid p) h = λ s. h (record { present = s.present; lawful = s.lawful })
+  distinct_stopped input TooManyRows h = or_left (has_large_step most input instance rest) (is_large most (Distinct input) instance rest) h
+  distinct_stopped input OutOfMemory h = tt
+
+  -- ---- Window
+
+  abbrev own_window : WindowRule → PlanTree → List (List ℕ)
+  own_window w input = take (length w.classes) (drop (ordering_count input) rest)
+
+  abbrev IsLawfulWindow : WindowRule → RowsOrFault → List (List ℕ) → Type 0
+  IsLawfulWindow w input orderings = AtRows input (λ rows. AreOrderings w rows orderings) (AllByRecursion (λ o. o ≡ []) orderings)
+
+  module _ (w : WindowRule) (input : PlanTree) (below : Evaluated) (within : first ≤ length choice) (b : IsEvaluated most input instance choice first below) where
+    own_is : take (length w.classes) (drop below.next choice) ≡ own_window w input
+    own_is = ap (take (length w.classes)) (behind (ordering_count input) below.next b.next)
+
+    pub window_done : (o : Outcome) (next : ℕ) → IsExtended w (given_of instance below.outcome) choice below.next o → next ≡ below.next + length w.classes → IsEvaluated most (Window w input) instance choice first (record { outcome = Made o; next = next })
+    window_done o next x e =
+        let long = long_rest within in
+        let there = x.served.present in
+        let at = b.next in
+        record {
+          is = x.is ∙ (λ i. window_over w (own_is i) (b.is i));
+          next = omega arith;
+          served = record {
+            present = omega arith;
+            lawful = (b.served.lawful, subst (λ (r : RowsOrFault). IsLawfulWindow w r (own_window w input)) b.is (subst (IsLawfulWindow w (given_of instance below.outcome)) own_is x.served.lawful));
+          };
+          small = fewer_window most w (own_window w input) (outcome input instance rest) b.small;
+        }
+
+    pub window_stopped : (e : EvalError) → IsUnserved (IsWindowServed w (given_of instance below.outcome) choice below.next) e → IsStopped most (Window w input) instance rest e
+    window_stopped (NotValid p) h = λ s. (let long = long_rest within in let at = b.next in let there = s.present in
+        h (record {
+          present = omega arith;
+          lawful = subst (IsLawfulWindow w (given_of instance below.outcome)) (sym own_is) (subst (λ (r : RowsOrFault). IsLawfulWindow w r (own_window w input)) (sym b.is) s.lawful.1);
+        }))
+    window_stopped TooManyRows h = absurd h
+    window_stopped OutOfMemory h = tt
+
+  pub window_stopped_below : (w : WindowRule) (input : PlanTree) (e : EvalError) → IsStopped most input instance rest e → IsStopped most (Window w input) instance rest e
+  window_stopped_below w input (NotValid p) h = λ s. (let there = s.present in h (record { present = omega arith; lawful = s.lawful.0 }))
+  window_stopped_below w input TooManyRows h = or_left (has_large_step most input instance rest) (is_large most (Window w input) instance rest) h
+  window_stopped_below w input OutOfMemory h = tt
+
+  -- ---- Limit
+
+  abbrev IsLawfulLimit : LimitRule → RowsOrFault → List ℕ → Type 0
+  IsLawfulLimit limit input ordering = AtRows input (λ rows. IsOrdering (limit_class limit) rows ordering) (ordering ≡ [])
+
+  module _ (limit : LimitRule) (input : PlanTree) (below : Evaluated) (within : first ≤ length choice) (b : IsEvaluated most input instance choice first below) where
+    own_at : ordering_at choice below.next ≡ ordering_at rest (ordering_count input)
+    own_at = ap (ordering_at choice) b.next ∙ sym (get_or-drop first choice (ordering_count input) [])
+
+    lawful_here : IsLawfulLimit limit (given_of instance below.outcome) (ordering_at choice below.next) → IsLawfulLimit limit (outcome input instance rest) (ordering_at rest (ordering_count input))
+    lawful_here h = subst (λ (r : RowsOrFault). IsLawfulLimit limit r (ordering_at rest (ordering_count input))) b.is (subst (IsLawfulLimit limit (given_of instance below.outcome)) own_at h)
+
+    pub limit_done : (o : Outcome) (next : ℕ) → IsCut limit (given_of instance below.outcome) choice below.next o → next ≡ below.next + 1 → IsEvaluated most (Limit limit input) instance choice first (record { outcome = Made o; next = next })
+    limit_done o next x e =
+        let long = long_rest within in
+        let there = x.served.present in
+        let at = b.next in
+        let lawful = lawful_here x.served.lawful in
+        record {
+          is = x.is ∙ (λ i. cut_over limit (own_at i) (b.is i));
+          next = omega arith;
+          served = record { present = omega arith; lawful = (b.served.lawful, lawful) };
+          small = fewer_cut most limit (ordering_at rest (ordering_count input)) (outcome input instance rest) lawful b.small;
+        }
+
+    pub limit_stopped : (e : EvalError) → IsUnserved (IsLimitServed limit (given_of instance below.outcome) choice below.next) e → IsStopped most (Limit limit input) instance rest e
+    limit_stopped (NotValid p) h = λ s. (let long = long_rest within in let at = b.next in let there = s.present in
+        h (record {
+          present = omega arith;
+          lawful = subst (IsLawfulLimit limit (given_of instance below.outcome)) (sym own_at) (subst (λ (r : RowsOrFault). IsLawfulLimit limit r (ordering_at rest (ordering_count input))) (sym b.is) s.lawful.1);
+        }))
+    limit_stopped TooManyRows h = absurd h
+    limit_stopped OutOfMemory h = tt
+
+  pub limit_stopped_below : (limit : LimitRule) (input : PlanTree) (e : EvalError) → IsStopped most input instance rest e → IsStopped most (Limit limit input) instance rest e
+  limit_stopped_below limit input (NotValid p) h = λ s. (let there = s.present in h (record { present = omega arith; lawful = s.lawful.0 }))
+  limit_stopped_below limit input TooManyRows h = or_left (has_large_step most input instance rest) (is_large most (Limit limit input) instance rest) h
+  limit_stopped_below limit input OutOfMemory h = tt
+
+-- ---- Join
+
+module _ (most : ℕ) (instance : Instance) (choice : List (List ℕ)) (first : ℕ) (condition : Option Expression) (left right : PlanTree) where
+  abbrev all : List (List ℕ)
+  all = drop first choice
+
+  abbrev on_right : List (List ℕ)
+  on_right = drop (ordering_count left) all
+
+  pub join_stopped_left : (e : EvalError) → IsStopped most left instance all e → IsStopped most (Join condition left right) instance all e
+  join_stopped_left (NotValid p) h = λ s. (let there = s.present in h (record { present = omega arith; lawful = s.lawful.0 }))
+  join_stopped_left TooManyRows h = or_left (has_large_step most left instance all || has_large_step most right instance on_right) (is_large most (Join condition left right) instance all) (or_left (has_large_step most left instance all) (has_large_step most right instance on_right) h)
+  join_stopped_left OutOfMemory h = tt
+
+  module _ (l : Evaluated) (a : IsEvaluated most left instance choice first l) where
+    right_is : drop l.next choice ≡ on_right
+    right_is = behind most instance choice first (ordering_count left) l.next a.next
+
+    pub join_stopped_right : (e : EvalError) → IsStopped most right instance (drop l.next choice) e → IsStopped most (Join condition left right) instance all e
+    join_stopped_right e h = by e (subst (λ ch. IsStopped most right instance ch e) right_is h)
+      where
+        by : (d : EvalError) → IsStopped most right instance on_right d → IsStopped most (Join condition left right) instance all d
+        by (NotValid p) g = λ s. (let there = s.present in let d = length-drop (ordering_count left) all in g (record { present = omega arith; lawful = s.lawful.1 }))
+        by TooManyRows g = or_left (has_large_step most left instance all || has_large_step most right instance on_right) (is_large most (Join condition left right) instance all) (or_right (has_large_step most left instance all) (has_large_step most right instance on_right) g)
+        by OutOfMemory g = tt
+
+    module _ (r : Evaluated) (b : IsEvaluated most right instance choice l.next r) where
+      abbrev below : RowsOrFault
+      below = join_over condition (given_of instance l.outcome) (given_of instance r.outcome)
+
+      below_is : below ≡ outcome (Join condition left right) instance all
+      below_is = λ i. join_over condition (a.is i) (right_outcome i)
+        where
+          right_outcome : given_of instance r.outcome ≡ outcome right instance on_right
+          right_outcome = b.is ∙ ap (outcome right instance) right_is
+
+      pub join_done : (o : Outcome) → IsSmall most below (outcome_of o) → IsEvaluated most (Join condition left right) instance choice first (record { outcome = Made o; next = r.next })
+      join_done o s =
+          let here = a.next in
+          let there = b.next in
+          let on_left = a.served.present in
+          let d = length-drop (ordering_count left) all in
+          let behind_left : ordering_count right ≤ length on_right = subst (λ ch. ordering_count right ≤ length ch) right_is b.served.present in
+          record {
+            is = s.is ∙ below_is;
+            next = omega arith;
+            served = record {
+              present = omega arith;
+              lawful = (a.served.lawful, subst (AreLawful right instance) right_is b.served.lawful);
+            };
+            small = ap (has_more_rows most) (sym below_is) ∙ s.small;
+          }
+
+      pub join_stopped : (e : EvalError) → IsLarge most below e → IsStopped most (Join condition left right) instance all e
+      join_stopped (NotValid p) h = absurd h
+      join_stopped TooManyRows h = or_right (has_large_step most left instance all || has_large_step most right instance on_right) (is_large most (Join condition left right) instance all) (ap (has_more_rows most) (sym below_is) ∙ h)
+      join_stopped OutOfMemory h = tt

@@ -1,0 +1,106 @@
+-- Sorted orderings put behind those that are there serve a Window, or a Limit, over its input.
+use Rattle.std.proofs.Common.{◌≡◌, ℕ, ◌+◌, ◌<◌, Bool, List, [], ◌∷◌, ◌++◌, map, take, drop, length, get_or, Option, Ok, Err, refl, sym, ap, ◌∙◌, subst, arith, append_assoc, below_more, length-append}
+use Rattle.std.specs.List.{AllByRecursion}
+use Rattle.std.proofs.Math.Seq.{drop-append_seam, get_or-append_seam}
+use Rattle.std.proofs.lemmas.List.{append-nil, get_or-map, get_or_append_left, take_all}
+use Rattle.wd_plan.specs.declared.plan.Outcome.{Outcome}
+use Rattle.wd_plan.specs.declared.window.Class.{Class}
+use Rattle.wd_plan.specs.Choices.{AtRows, AreOrderings}
+use Rattle.wd_plan.specs.Outcomes.{RowsOrFault, class_at, ordering_at}
+use Rattle.wd_plan.specs.Plans.{ClassRule, LimitRule, WindowRule, class_of}
+use Rattle.wd_plan.specs.Sorting.{IsOrdering, limit_class}
+use Rattle.wd_partition.proofs.Grouping.{IsOrdering-from_given}
+use Rattle.wd_eval.specs.Nodes.{IsCut, IsLimitServed, IsUnserved, IsWindowServed}
+use Rattle.wd_eval.specs.Tied.{IsSortedOver, is_flipped}
+use Rattle.wd_eval.specs.Ties.{ArePut, AreSortedOver, IsTiedLimit, IsWantOfMemory}
+use Rattle.wd_eval.specs.Windows.{class_in}
+use Rattle.wd_eval.specs.declared.error.EvalError.{EvalError}
+use Rattle.wd_eval.specs.declared.error.EvalError.TheVariants.{NotValid, TooManyRows, OutOfMemory}
+use Rattle.wd_eval.proofs.Serving.{all_from_each}
+
+-- where the orderings serve, only memory can be wanting
+pub served_memory : (Served : Type 0) (e : EvalError) → Served → IsUnserved Served e → IsWantOfMemory e
+served_memory Served (NotValid p) s h = h s
+served_memory Served TooManyRows s h = h
+served_memory Served OutOfMemory s h = tt
+
+lawful_over : (class : ClassRule) (flipped : Bool) (input : RowsOrFault) (ordering : List ℕ) → IsSortedOver class flipped input ordering → AtRows input (λ rows. IsOrdering class rows ordering) (ordering ≡ [])
+lawful_over class flipped (Ok rows) ordering s = IsOrdering-from_given class rows flipped ordering s
+lawful_over class flipped (Err fault) ordering s = s
+
+-- ---- a Limit
+
+module _ (limit : LimitRule) (input : RowsOrFault) (flipped : Option ℕ) (old new : List (List ℕ)) (own : List ℕ) (number : ℕ) (turned : Bool) (at : number ≡ length old) (grown : new ≡ old ++ own ∷ []) (sorted : IsSortedOver (limit_class limit) turned input own) where
+  own_is : ordering_at new number ≡ own
+  own_is = (λ i. ordering_at (grown i) (at i)) ∙ get_or-append_seam old own [] []
+
+  pub limit_put : IsLimitServed limit input new number
+  limit_put =
+      let long = ap length grown ∙ length-append old (own ∷ []) in
+      record {
+        present = omega arith;
+        lawful = subst (λ (o : List ℕ). AtRows input (λ rows. IsOrdering (limit_class limit) rows o) (o ≡ [])) (sym own_is) (lawful_over (limit_class limit) turned input own sorted);
+      }
+
+  pub limit_tied_from : (o : Outcome) → turned ≡ is_flipped flipped number → IsCut limit input new number o → IsTiedLimit limit input flipped old new o
+  limit_tied_from o e is = record {
+    own = own;
+    grown = grown;
+    sorted = subst (λ (t : Bool). IsSortedOver (limit_class limit) t input own) (e ∙ ap (is_flipped flipped) at) sorted;
+    is = subst (λ (n : ℕ). IsCut limit input new n o) at is;
+  }
+
+-- ---- a Window
+
+lawful_all : (w : WindowRule) (input : RowsOrFault) (flipped : Option ℕ) (first : ℕ) (own : List (List ℕ)) → AreSortedOver w.classes input flipped first (length w.classes) own → AtRows input (λ rows. AreOrderings w rows own) (AllByRecursion (λ o. o ≡ []) own)
+lawful_all w (Ok rows) flipped first own s = record {
+  number = s.long;
+  each = λ k h. IsOrdering-from_given (class_at w k) rows (is_flipped flipped (first + k)) (ordering_at own k) (s.each k h);
+}
+lawful_all w (Err fault) flipped first own s = all_from_each own (λ k h. (let long = s.long in s.each k (omega arith)))
+
+pub window_put : (w : WindowRule) (input : RowsOrFault) (flipped : Option ℕ) (old new : List (List ℕ)) → ArePut w.classes input flipped (length w.classes) old new → IsWindowServed w input new (length old)
+window_put w input flipped old new p =
+    let own = p.own in
+    let size = p.sorted.long in
+    let long = ap length p.grown ∙ length-append old own in
+    let taken : take (length w.classes) (drop (length old) new) ≡ own = ap (λ ch. take (length w.classes) (drop (length old) ch)) p.grown ∙ ap (take (length w.classes)) (drop-append_seam old own) ∙ take_all (length w.classes) own (omega arith) in
+    record {
+      present = omega arith;
+      lawful = subst (λ (os : List (List ℕ)). AtRows input (λ rows. AreOrderings w rows os) (AllByRecursion (λ o. o ≡ []) os)) (sym taken) (lawful_all w input flipped (length old) own p.sorted);
+    }
+
+-- ---- one class after another
+
+pub none_put : (classes : List ClassRule) (input : RowsOrFault) (flipped : Option ℕ) (old : List (List ℕ)) → ArePut classes input flipped 0 old old
+none_put classes input flipped old = record {
+  own = [];
+  grown = sym (append-nil old);
+  sorted = record { long = refl; each = λ k h. absurd (omega arith) };
+}
+
+pub one_put : (classes : List Class) (class : Class) (input : RowsOrFault) (flipped : Option ℕ) (n number : ℕ) (old mid new : List (List ℕ)) (turned : Bool) (ordering : List ℕ) → n < length classes → class ≡ get_or classes n class
+    → ArePut (map class_of classes) input flipped n old mid → number ≡ length mid → turned ≡ is_flipped flipped number → IsSortedOver (class_of class) turned input ordering → new ≡ mid ++ ordering ∷ [] → ArePut (map class_of classes) input flipped (n + 1) old new
+one_put classes class input flipped n number old mid new turned ordering lt is p at turn sorted e =
+    let own = p.own in
+    let size = p.sorted.long in
+    let rules_of = map class_of classes in
+    let all = own ++ ordering ∷ [] in
+    let long = length-append own (ordering ∷ []) in
+    let here_number : number ≡ length old + n = at ∙ ap length p.grown ∙ length-append old own ∙ ap (λ k. length old + k) size in
+    let last : ordering_at all n ≡ ordering = ap (ordering_at all) (sym size) ∙ get_or-append_seam own ordering [] [] in
+    let rule : class_in rules_of n ≡ class_of class = get_or-map class_of classes n class (record { partition = []; order = [] }) lt ∙ ap class_of (sym is) in
+    let earlier : (k : ℕ) → k < n → IsSortedOver (class_in rules_of k) (is_flipped flipped (length old + k)) input (ordering_at all k) =
+    λ k h. subst (IsSortedOver (class_in rules_of k) (is_flipped flipped (length old + k)) input) (sym (get_or_append_left own (ordering ∷ []) [] k (omega arith))) (p.sorted.each k h) in
+    let here : IsSortedOver (class_in rules_of n) (is_flipped flipped (length old + n)) input (ordering_at all n) =
+    subst (IsSortedOver (class_in rules_of n) (is_flipped flipped (length old + n)) input) (sym last)
+    (subst (λ (r : ClassRule). IsSortedOver r (is_flipped flipped (length old + n)) input ordering) (sym rule)
+    (subst (λ (t : Bool). IsSortedOver (class_of class) t input ordering) (turn ∙ ap (is_flipped flipped) here_number) sorted)) in
+    record {
+      own = all;
+      grown = e ∙ ap (λ ch. ch ++ ordering ∷ []) p.grown ∙ append_assoc old own (ordering ∷ []);
+      sorted = record {
+        long = long ∙ ap (λ k. k + 1) size;
+        each = λ k h. below_more (λ i. IsSortedOver (class_in rules_of i) (is_flipped flipped (length old + i)) input (ordering_at all i)) n earlier here k h;
+      };
+    }

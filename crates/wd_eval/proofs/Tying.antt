@@ -1,0 +1,338 @@
+-- What a node gives under its sorted orderings, and why it stops, from what the nodes below it give.
+use Rattle.std.proofs.Common.{◌≡◌, ℕ, ◌+◌, ◌<◌, ◌≤◌, Bool, true, ◌||◌, List, [], ◌∷◌, ◌++◌, take, drop, length, get_or, Option, Ok, Err, refl, sym, ap, ◌∙◌, subst, arith, append_assoc, length-append, length-drop, drop-drop, length-take}
+use Rattle.std.proofs.lemmas.List.{append-nil, drop-append-le, get_or-append-add, get_or-drop, get_or-take, get_or_append_left, ext_get_or}
+use Rattle.wd_value.specs.Rows.{Instance, table_at}
+use Rattle.wd_plan.specs.declared.plan.Outcome.{Outcome}
+use Rattle.wd_plan.specs.Choices.{AreLawful}
+use Rattle.wd_plan.specs.Expressions.{Expression}
+use Rattle.wd_plan.specs.Faults.{and_then}
+use Rattle.wd_plan.specs.Outcomes.{RowsOrFault, class_at, distinct, filter_outcome, map_outcome, ordering_at, outcome, outcome_of}
+use Rattle.wd_plan.specs.Plans.{ClassRule, PlanTree, Scan, Join, Filter, Map, Window, Distinct, Limit, LimitRule, WindowRule, ordering_count}
+use Rattle.wd_plan.specs.Sorting.{limit_class}
+use Rattle.wd_plan.proofs.ChoiceLaws.{AreLawful-append, outcome-append}
+use Rattle.wd_partition.specs.Columns.{given_positions, sort_columns}
+use Rattle.wd_steps.specs.Joins.{has_more_rows}
+use Rattle.wd_eval.specs.Judged.{IsOutcome}
+use Rattle.wd_eval.specs.Nodes.{given_of, IsEvaluated, IsLarge, IsSmall, cut_over, join_over, window_over}
+use Rattle.wd_eval.specs.Steps.{has_large_step, is_large}
+use Rattle.wd_eval.specs.Tied.{AreTied, IsSortedOver, IsValidTiedChoice, is_flipped}
+use Rattle.wd_eval.specs.Ties.{IsTied, IsTiedLimit, IsTiedWindow, IsUntied, IsWantOfMemory}
+use Rattle.wd_eval.specs.declared.error.EvalError.{EvalError}
+use Rattle.wd_eval.specs.declared.error.EvalError.TheVariants.{NotValid, TooManyRows, OutOfMemory}
+use Rattle.wd_eval.specs.declared.given.Given.{Given}
+use Rattle.wd_eval.specs.declared.given.Given.TheVariants.{Made}
+use Rattle.wd_eval.specs.declared.node.Evaluated.{Evaluated}
+use Rattle.wd_eval.proofs.Nodes.{or_left, or_right, scan_done, filter_done, map_done, distinct_done, window_done, limit_done, join_done}
+use Rattle.wd_eval.proofs.Stable.{one_stable_sort}
+
+-- ---- the sorted ordering is the only one
+
+one_sorted : (class : ClassRule) (flipped : Bool) (input : RowsOrFault) (a b : List ℕ) → IsSortedOver class flipped input a → IsSortedOver class flipped input b → a ≡ b
+one_sorted class flipped (Ok rows) a b s t = one_stable_sort (sort_columns class) rows (given_positions flipped (length rows)) a b s t
+one_sorted class flipped (Err fault) a b s t = s ∙ sym t
+
+-- the orderings of a Window in a choice
+own_at : (choice : List (List ℕ)) (c m k : ℕ) → k < m → ordering_at (take m (drop c choice)) k ≡ ordering_at choice (c + k)
+own_at choice c m k h = get_or-take m (drop c choice) k [] h ∙ get_or-drop c choice k []
+
+length_own : (choice : List (List ℕ)) (c m : ℕ) → c + m ≤ length choice → length (take m (drop c choice)) ≡ m
+length_own choice c m h = let a = length-take m (drop c choice) in let b = length-drop c choice in omega arith
+
+module _ (instance : Instance) (flipped : Option ℕ) where
+  pub one_outcome : (plan : PlanTree) (first : ℕ) (a b : List (List ℕ)) → ordering_count plan ≤ length a → ordering_count plan ≤ length b → AreTied plan instance flipped first a → AreTied plan instance flipped first b → outcome plan instance a ≡ outcome plan instance b
+  one_outcome (Scan table columns) first a b h g s t = refl
+  one_outcome (Join condition left right) first a b h g s t =
+      let n = ordering_count left in
+      let long_a = length-drop n a in
+      let long_b = length-drop n b in
+      let on_left = one_outcome left first a b (omega arith) (omega arith) s.0 t.0 in
+      let on_right = one_outcome right (first + n) (drop n a) (drop n b) (omega arith) (omega arith) s.1 t.1 in
+      λ i. join_over condition (on_left i) (on_right i)
+  one_outcome (Filter condition input) first a b h g s t = ap (λ o. and_then o (filter_outcome condition)) (one_outcome input first a b h g s t)
+  one_outcome (Map outputs input) first a b h g s t = ap (λ o. and_then o (map_outcome outputs)) (one_outcome input first a b h g s t)
+  one_outcome (Window w input) first a b h g s t =
+      let n = ordering_count input in
+      let m = length w.classes in
+      let below = one_outcome input first a b (omega arith) (omega arith) s.0 t.0 in
+      let long_a = length_own a n m h in
+      let long_b = length_own b n m g in
+      let same_at : (k : ℕ) → k < m → ordering_at a (n + k) ≡ ordering_at b (n + k) =
+      λ k l. one_sorted (class_at w k) (is_flipped flipped (first + n + k)) (outcome input instance b) (ordering_at a (n + k)) (ordering_at b (n + k))
+      (subst (λ (r : RowsOrFault). IsSortedOver (class_at w k) (is_flipped flipped (first + n + k)) r (ordering_at a (n + k))) below (s.1 k l)) (t.1 k l) in
+      let own : take m (drop n a) ≡ take m (drop n b) =
+      ext_get_or [] (take m (drop n a)) (take m (drop n b)) (long_a ∙ sym long_b) (λ k l. (let small : k < m = omega arith in own_at a n m k small ∙ same_at k small ∙ sym (own_at b n m k small))) in
+      λ i. window_over w (own i) (below i)
+  one_outcome (Distinct input) first a b h g s t = ap (λ o. and_then o (λ rows. Ok (distinct rows))) (one_outcome input first a b h g s t)
+  one_outcome (Limit limit input) first a b h g s t =
+      let n = ordering_count input in
+      let below = one_outcome input first a b (omega arith) (omega arith) s.0 t.0 in
+      let own = one_sorted (limit_class limit) (is_flipped flipped (first + n)) (outcome input instance b) (ordering_at a n) (ordering_at b n)
+      (subst (λ (r : RowsOrFault). IsSortedOver (limit_class limit) (is_flipped flipped (first + n)) r (ordering_at a n)) below s.1) t.1 in
+      λ i. cut_over limit (own i) (below i)
+
+  -- ---- a choice may be made longer
+
+  pub tied_append : (plan : PlanTree) (first : ℕ) (choice more : List (List ℕ)) → ordering_count plan ≤ length choice → AreTied plan instance flipped first choice → AreTied plan instance flipped first (choice ++ more)
+  tied_append (Scan table columns) first choice more h s = tt
+  tied_append (Join condition left right) first choice more h s =
+      let n = ordering_count left in
+      let long = length-drop n choice in (
+        tied_append left first choice more (omega arith) s.0,
+        subst (AreTied right instance flipped (first + n)) (sym (drop-append-le n choice more (omega arith))) (tied_append right (first + n) (drop n choice) more (omega arith) s.1),
+      )
+  tied_append (Filter condition input) first choice more h s = tied_append input first choice more h s
+  tied_append (Map outputs input) first choice more h s = tied_append input first choice more h s
+  tied_append (Window w input) first choice more h s =
+      let n = ordering_count input in
+      let below = outcome-append input instance choice more (omega arith) in (
+        tied_append input first choice more (omega arith) s.0,
+        λ k l. (
+            let at : ordering_at (choice ++ more) (n + k) ≡ ordering_at choice (n + k) = get_or_append_left choice more [] (n + k) (omega arith) in
+            subst (IsSortedOver (class_at w k) (is_flipped flipped (first + n + k)) (outcome input instance (choice ++ more))) (sym at)
+            (subst (λ (r : RowsOrFault). IsSortedOver (class_at w k) (is_flipped flipped (first + n + k)) r (ordering_at choice (n + k))) (sym below) (s.1 k l))),
+      )
+  tied_append (Distinct input) first choice more h s = tied_append input first choice more h s
+  tied_append (Limit limit input) first choice more h s =
+      let n = ordering_count input in
+      let below = outcome-append input instance choice more (omega arith) in
+      let at : ordering_at (choice ++ more) n ≡ ordering_at choice n = get_or_append_left choice more [] n (omega arith) in (
+        tied_append input first choice more (omega arith) s.0,
+        subst (IsSortedOver (limit_class limit) (is_flipped flipped (first + n)) (outcome input instance (choice ++ more))) (sym at)
+            (subst (λ (r : RowsOrFault). IsSortedOver (limit_class limit) (is_flipped flipped (first + n)) r (ordering_at choice n)) (sym below) s.1),
+      )
+
+pub evaluated_append : (most : ℕ) (plan : PlanTree) (instance : Instance) (choice more : List (List ℕ)) (first : ℕ) (e : Evaluated) → first ≤ length choice → IsEvaluated most plan instance choice first e → IsEvaluated most plan instance (choice ++ more) first e
+evaluated_append most plan instance choice more first e h b =
+    let cut_off = drop-append-le first choice more h in
+    let there = b.served.present in
+    let same : outcome plan instance (drop first (choice ++ more)) ≡ outcome plan instance (drop first choice) = ap (outcome plan instance) cut_off ∙ outcome-append plan instance (drop first choice) more there in
+    let long = length-append (drop first choice) more in
+    record {
+      is = b.is ∙ sym same;
+      next = b.next;
+      served = record {
+        present = subst (λ (ch : List (List ℕ)). ordering_count plan ≤ length ch) (sym cut_off) (omega arith);
+        lawful = subst (AreLawful plan instance) (sym cut_off) (AreLawful-append plan instance (drop first choice) more there b.served.lawful);
+      };
+      small = ap (has_more_rows most) same ∙ b.small;
+    }
+
+-- ---- nodes
+
+pub memory_untied : (most : ℕ) (plan : PlanTree) (instance : Instance) (flipped : Option ℕ) (first : ℕ) (e : EvalError) → IsWantOfMemory e → IsUntied most plan instance flipped first e
+memory_untied most plan instance flipped first (NotValid p) h = h
+memory_untied most plan instance flipped first TooManyRows h = absurd h
+memory_untied most plan instance flipped first OutOfMemory h = tt
+
+module _ (most : ℕ) (instance : Instance) (flipped : Option ℕ) (old : List (List ℕ)) where
+  grown_long : (mid own : List (List ℕ)) → mid ≡ old ++ own → length old ≤ length mid
+  grown_long mid own e = let long = ap length e ∙ length-append old own in omega arith
+
+  pub scan_tied : (table columns : ℕ) (o : Given) → IsSmall most (Ok (table_at instance table)) (given_of instance o) → IsTied most (Scan table columns) instance flipped old old o
+  scan_tied table columns o s = record {
+    own = [];
+    grown = sym (append-nil old);
+    evaluated = scan_done most instance old (length old) table columns o s;
+    tied = tt;
+  }
+
+  pub scan_untied : (table columns : ℕ) (e : EvalError) → IsLarge most (Ok (table_at instance table)) e → IsUntied most (Scan table columns) instance flipped (length old) e
+  scan_untied table columns (NotValid p) h = absurd h
+  scan_untied table columns TooManyRows h = λ choice long s. h
+  scan_untied table columns OutOfMemory h = tt
+
+  module _ (input : PlanTree) (new : List (List ℕ)) (below : Given) (b : IsTied most input instance flipped old new below) (o : Outcome) where
+    pub filter_tied : (condition : Expression) → outcome_of o ≡ and_then (given_of instance below) (filter_outcome condition) → IsTied most (Filter condition input) instance flipped old new (Made o)
+    filter_tied condition is = record {
+      own = b.own;
+      grown = b.grown;
+      evaluated = filter_done most instance new (length old) input (record { outcome = below; next = length new }) b.evaluated o condition is;
+      tied = b.tied;
+    }
+
+    pub map_tied : (outputs : List Expression) → outcome_of o ≡ and_then (given_of instance below) (map_outcome outputs) → IsTied most (Map outputs input) instance flipped old new (Made o)
+    map_tied outputs is = record {
+      own = b.own;
+      grown = b.grown;
+      evaluated = map_done most instance new (length old) input (record { outcome = below; next = length new }) b.evaluated o outputs is;
+      tied = b.tied;
+    }
+
+    pub distinct_tied : outcome_of o ≡ and_then (given_of instance below) (λ rows. Ok (distinct rows)) → IsTied most (Distinct input) instance flipped old new (Made o)
+    distinct_tied is = record {
+      own = b.own;
+      grown = b.grown;
+      evaluated = distinct_done most instance new (length old) input (record { outcome = below; next = length new }) b.evaluated o is;
+      tied = b.tied;
+    }
+
+  pub filter_untied : (condition : Expression) (input : PlanTree) (e : EvalError) → IsUntied most input instance flipped (length old) e → IsUntied most (Filter condition input) instance flipped (length old) e
+  filter_untied condition input (NotValid p) h = h
+  filter_untied condition input TooManyRows h = λ choice long s. or_left (has_large_step most input instance choice) (is_large most (Filter condition input) instance choice) (h choice long s)
+  filter_untied condition input OutOfMemory h = tt
+
+  pub map_untied : (outputs : List Expression) (input : PlanTree) (e : EvalError) → IsUntied most input instance flipped (length old) e → IsUntied most (Map outputs input) instance flipped (length old) e
+  map_untied outputs input (NotValid p) h = h
+  map_untied outputs input TooManyRows h = λ choice long s. or_left (has_large_step most input instance choice) (is_large most (Map outputs input) instance choice) (h choice long s)
+  map_untied outputs input OutOfMemory h = tt
+
+  pub distinct_untied : (input : PlanTree) (e : EvalError) → IsUntied most input instance flipped (length old) e → IsUntied most (Distinct input) instance flipped (length old) e
+  distinct_untied input (NotValid p) h = h
+  distinct_untied input TooManyRows h = λ choice long s. or_left (has_large_step most input instance choice) (is_large most (Distinct input) instance choice) (h choice long s)
+  distinct_untied input OutOfMemory h = tt
+
+  pub window_untied : (w : WindowRule) (input : PlanTree) (e : EvalError) → IsUntied most input instance flipped (length old) e → IsUntied most (Window w input) instance flipped (length old) e
+  window_untied w input (NotValid p) h = h
+  window_untied w input TooManyRows h = λ choice long s. or_left (has_large_step most input instance choice) (is_large most (Window w input) instance choice) (h choice (omega arith) s.0)
+  window_untied w input OutOfMemory h = tt
+
+  pub limit_untied : (limit : LimitRule) (input : PlanTree) (e : EvalError) → IsUntied most input instance flipped (length old) e → IsUntied most (Limit limit input) instance flipped (length old) e
+  limit_untied limit input (NotValid p) h = h
+  limit_untied limit input TooManyRows h = λ choice long s. or_left (has_large_step most input instance choice) (is_large most (Limit limit input) instance choice) (h choice (omega arith) s.0)
+  limit_untied limit input OutOfMemory h = tt
+
+  -- ---- what stands behind the orderings of a node below
+
+  module _ (plan : PlanTree) (mid own new : List (List ℕ)) (o : Given) (b : IsTied most plan instance flipped old mid o) (e : new ≡ mid ++ own) where
+    abbrev at_mid : Evaluated
+    at_mid = record { outcome = o; next = length mid }
+
+    pub still : IsEvaluated most plan instance new (length old) at_mid
+    still = subst (λ (ch : List (List ℕ)). IsEvaluated most plan instance ch (length old) at_mid) (sym e)
+        (evaluated_append most plan instance mid own (length old) at_mid (grown_long mid b.own b.grown) b.evaluated)
+
+    rest : drop (length old) new ≡ drop (length old) mid ++ own
+    rest = ap (drop (length old)) e ∙ drop-append-le (length old) mid own (grown_long mid b.own b.grown)
+
+    pub still_tied : AreTied plan instance flipped (length old) (drop (length old) new)
+    still_tied = subst (AreTied plan instance flipped (length old)) (sym rest) (tied_append instance flipped plan (length old) (drop (length old) mid) own b.evaluated.served.present b.tied)
+
+    -- the orderings put there
+    pub put_at : (k : ℕ) → ordering_at (drop (length old) new) (ordering_count plan + k) ≡ ordering_at own k
+    put_at k =
+        let next = b.evaluated.next in
+        get_or-drop (length old) new (ordering_count plan + k) []
+        ∙ (let same : length old + (ordering_count plan + k) ≡ length mid + k = omega arith in ap (λ n. get_or new n []) same)
+        ∙ ap (λ ch. get_or ch (length mid + k) []) e
+        ∙ get_or-append-add mid own k []
+
+    pub below_is : given_of instance o ≡ outcome plan instance (drop (length old) new)
+    below_is = still.is
+
+    pub grown_more : new ≡ old ++ (b.own ++ own)
+    grown_more = e ∙ ap (λ ch. ch ++ own) b.grown ∙ append_assoc old b.own own
+
+  pub window_tied : (w : WindowRule) (input : PlanTree) (mid new : List (List ℕ)) (below : Given) (o : Outcome) → IsTied most input instance flipped old mid below → IsTiedWindow w (given_of instance below) flipped mid new o → IsTied most (Window w input) instance flipped old new (Made o)
+  window_tied w input mid new below o b x =
+      let own = x.put.own in
+      let e = x.put.grown in
+      let sorted = x.put.sorted in
+      let next = b.evaluated.next in
+      let long = ap length e ∙ length-append mid own in
+      let size = sorted.long in
+      let longer = length-append old (b.own ++ own) in
+      let whole = ap length (grown_more input mid own new below b e) in
+      record {
+        own = b.own ++ own;
+        grown = grown_more input mid own new below b e;
+        evaluated = window_done most instance new (length old) w input (record { outcome = below; next = length mid }) (omega arith) (still input mid own new below b e) o (length new) x.extended (omega arith);
+        tied = (
+          still_tied input mid own new below b e,
+          λ k l. (
+              let number : length mid + k ≡ length old + ordering_count input + k = omega arith in
+              subst (IsSortedOver (class_at w k) (is_flipped flipped (length old + ordering_count input + k)) (outcome input instance (drop (length old) new))) (sym (put_at input mid own new below b e k))
+              (subst (λ (r : RowsOrFault). IsSortedOver (class_at w k) (is_flipped flipped (length old + ordering_count input + k)) r (ordering_at own k)) (below_is input mid own new below b e)
+              (subst (λ (n : ℕ). IsSortedOver (class_at w k) (is_flipped flipped n) (given_of instance below) (ordering_at own k)) number (sorted.each k l)))),
+        );
+      }
+
+  pub limit_tied : (limit : LimitRule) (input : PlanTree) (mid new : List (List ℕ)) (below : Given) (o : Outcome) → IsTied most input instance flipped old mid below → IsTiedLimit limit (given_of instance below) flipped mid new o → IsTied most (Limit limit input) instance flipped old new (Made o)
+  limit_tied limit input mid new below o b x =
+      let own = x.own ∷ [] in
+      let e = x.grown in
+      let next = b.evaluated.next in
+      let long = ap length e ∙ length-append mid own in
+      let longer = length-append old (b.own ++ own) in
+      let whole = ap length (grown_more input mid own new below b e) in
+      let number : length mid ≡ length old + ordering_count input = next in
+      let at : ordering_at (drop (length old) new) (ordering_count input) ≡ x.own = (let zero_more : ordering_count input ≡ ordering_count input + 0 = omega arith in ap (ordering_at (drop (length old) new)) zero_more) ∙ put_at input mid own new below b e 0 in
+      record {
+        own = b.own ++ own;
+        grown = grown_more input mid own new below b e;
+        evaluated = limit_done most instance new (length old) limit input (record { outcome = below; next = length mid }) (omega arith) (still input mid own new below b e) o (length new) x.is (omega arith);
+        tied = (
+          still_tied input mid own new below b e,
+          subst (IsSortedOver (limit_class limit) (is_flipped flipped (length old + ordering_count input)) (outcome input instance (drop (length old) new))) (sym at)
+              (subst (λ (r : RowsOrFault). IsSortedOver (limit_class limit) (is_flipped flipped (length old + ordering_count input)) r x.own) (below_is input mid own new below b e)
+              (subst (λ (n : ℕ). IsSortedOver (limit_class limit) (is_flipped flipped n) (given_of instance below) x.own) number x.sorted)),
+        );
+      }
+
+  -- ---- Join
+
+  module _ (condition : Option Expression) (left right : PlanTree) where
+    pub join_untied_left : (e : EvalError) → IsUntied most left instance flipped (length old) e → IsUntied most (Join condition left right) instance flipped (length old) e
+    join_untied_left (NotValid p) h = h
+    join_untied_left TooManyRows h = λ choice long s. (
+        let on_left = has_large_step most left instance choice in
+        let on_right = has_large_step most right instance (drop (ordering_count left) choice) in
+        or_left (on_left || on_right) (is_large most (Join condition left right) instance choice) (or_left on_left on_right (h choice (omega arith) s.0)))
+    join_untied_left OutOfMemory h = tt
+
+    module _ (mid : List (List ℕ)) (lo : Given) (l : IsTied most left instance flipped old mid lo) where
+      pub join_untied_right : (e : EvalError) → IsUntied most right instance flipped (length mid) e → IsUntied most (Join condition left right) instance flipped (length old) e
+      join_untied_right (NotValid p) h = h
+      join_untied_right TooManyRows h = λ choice long s. (
+          let n = ordering_count left in
+          let size = length-drop n choice in
+          let on_left = has_large_step most left instance choice in
+          let on_right = has_large_step most right instance (drop n choice) in
+          or_left (on_left || on_right) (is_large most (Join condition left right) instance choice)
+          (or_right on_left on_right (h (drop n choice) (omega arith) (subst (λ (k : ℕ). AreTied right instance flipped k (drop n choice)) (sym l.evaluated.next) s.1))))
+      join_untied_right OutOfMemory h = tt
+
+      module _ (new : List (List ℕ)) (ro : Given) (r : IsTied most right instance flipped mid new ro) where
+        right_rest : drop (ordering_count left) (drop (length old) new) ≡ drop (length mid) new
+        right_rest = drop-drop (ordering_count left) (length old) new ∙ ap (λ k. drop k new) (sym l.evaluated.next)
+
+        right_tied : AreTied right instance flipped (length old + ordering_count left) (drop (ordering_count left) (drop (length old) new))
+        right_tied = subst (λ (k : ℕ). AreTied right instance flipped k (drop (ordering_count left) (drop (length old) new))) l.evaluated.next (subst (AreTied right instance flipped (length mid)) (sym right_rest) r.tied)
+
+        both_tied : AreTied (Join condition left right) instance flipped (length old) (drop (length old) new)
+        both_tied = (still_tied left mid r.own new lo l r.grown, right_tied)
+
+        pub join_tied : (o : Outcome) → IsSmall most (join_over condition (given_of instance lo) (given_of instance ro)) (outcome_of o) → IsTied most (Join condition left right) instance flipped old new (Made o)
+        join_tied o s = record {
+          own = l.own ++ r.own;
+          grown = grown_more left mid r.own new lo l r.grown;
+          evaluated = join_done most instance new (length old) condition left right (record { outcome = lo; next = length mid }) (still left mid r.own new lo l r.grown) (record { outcome = ro; next = length new }) r.evaluated o s;
+          tied = both_tied;
+        }
+
+        large_here : has_more_rows most (join_over condition (given_of instance lo) (given_of instance ro)) ≡ true → (choice : List (List ℕ)) → ordering_count left + ordering_count right ≤ length choice → AreTied (Join condition left right) instance flipped (length old) choice → is_large most (Join condition left right) instance choice ≡ true
+        large_here h choice long s =
+            let next = l.evaluated.next in
+            let last = r.evaluated.next in
+            let size = length-drop (length old) new in
+            let enough : ordering_count left + ordering_count right ≤ length (drop (length old) new) = omega arith in
+            let same : outcome (Join condition left right) instance choice ≡ outcome (Join condition left right) instance (drop (length old) new) = one_outcome instance flipped (Join condition left right) (length old) choice (drop (length old) new) long enough s both_tied in
+            let on_left : given_of instance lo ≡ outcome left instance (drop (length old) new) = below_is left mid r.own new lo l r.grown in
+            let on_right : given_of instance ro ≡ outcome right instance (drop (ordering_count left) (drop (length old) new)) = r.evaluated.is ∙ ap (outcome right instance) (sym right_rest) in
+            ap (has_more_rows most) same ∙ (λ i. has_more_rows most (join_over condition (sym on_left i) (sym on_right i))) ∙ h
+
+        pub join_untied : (e : EvalError) → IsLarge most (join_over condition (given_of instance lo) (given_of instance ro)) e → IsUntied most (Join condition left right) instance flipped (length old) e
+        join_untied (NotValid p) h = absurd h
+        join_untied TooManyRows h = λ choice long s. or_right (has_large_step most left instance choice || has_large_step most right instance (drop (ordering_count left) choice)) (is_large most (Join condition left right) instance choice) (large_here h choice long s)
+        join_untied OutOfMemory h = tt
+
+-- ---- whole plans
+
+module _ (most : ℕ) (plan : PlanTree) (instance : Instance) (flipped : Option ℕ) (new : List (List ℕ)) (g : Given) (t : IsTied most plan instance flipped [] new g) where
+  pub tied_valid : IsValidTiedChoice plan instance flipped new
+  tied_valid = record {
+    tied = record { number = t.evaluated.next ∙ omega arith; tied = t.tied };
+    valid = record { number = t.evaluated.next ∙ omega arith; lawful = t.evaluated.served.lawful };
+  }
+
+  pub tied_outcome : (o : Outcome) → outcome_of o ≡ given_of instance g → IsOutcome plan instance new o
+  tied_outcome o e = record { valid = tied_valid.valid; is = e ∙ t.evaluated.is }

@@ -1,0 +1,98 @@
+use Rattle.std.proofs.Common.{◌≡◌, ◌+◌, ◌≤◌, ◌∙◌, sym, ap, subst, map, length, rules, Ok}
+use Rattle.std.proofs.lemmas.List.{length-map}
+use Rattle.wd_value.specs.Rows.{instance_of}
+use Rattle.wd_plan.specs.Expressions.{expression_of}
+use Rattle.wd_plan.specs.Faults.{and_then}
+use Rattle.wd_plan.specs.Outcomes.{distinct, filter_outcome, map_outcome, outcome_of}
+use Rattle.wd_plan.specs.Plans.{class_of, plan_of}
+use Rattle.wd_eval.specs.Judged.{orderings_of}
+use Rattle.wd_eval.specs.Nodes.{given_of, IsCut, IsEvaluated, IsExtended}
+use Rattle.wd_eval.specs.Windows.{window_of}
+use Rattle.wd_eval.specs.declared.given.Given.TheVariants.{Made}
+use Rattle.wd_eval.proofs.Nodes.{filter_done, map_done, distinct_done, window_done, limit_done}
+use Rattle.wd_eval.proofs.node.+evaluate.Goals as goal
+
+pub returns-in_ok-outcome-in-Filter : goal.returns-in_ok-outcome-in-Filter
+returns-in_ok-outcome-in-Filter t c =
+    let most = c.args.most in
+    let instance = instance_of c.args.instance.now in
+    let choice = orderings_of c.args.choice.now in
+    let first = c.args.first in
+    let below = c.in_ok-below-in-Filter.below in
+    let o = c.in_ok-outcome-in-Filter.outcome in
+    let condition = expression_of c.in-Filter.condition in
+    let at_input : IsEvaluated most (plan_of c.deref-in-Filter.result.now) instance choice first below = search rules in
+    let b = subst (λ p. IsEvaluated most (plan_of p) instance choice first below) c.deref-in-Filter.ensures at_input in
+    let is : outcome_of o ≡ and_then (given_of instance below.outcome) (filter_outcome condition) = search rules in
+    subst (λ p. IsEvaluated most p instance choice first (record { outcome = Made o; next = below.next })) (sym (ap plan_of c.in-Filter.is))
+    (filter_done most instance choice first (plan_of c.in-Filter.input.value) below b o condition is)
+
+pub returns-in_ok-outcome-in-Map : goal.returns-in_ok-outcome-in-Map
+returns-in_ok-outcome-in-Map t c =
+    let most = c.args.most in
+    let instance = instance_of c.args.instance.now in
+    let choice = orderings_of c.args.choice.now in
+    let first = c.args.first in
+    let below = c.in_ok-below-in-Map.below in
+    let o = c.in_ok-outcome-in-Map.outcome in
+    let outputs = map expression_of c.in-Map.outputs.items in
+    let at_input : IsEvaluated most (plan_of c.deref-in-Map.result.now) instance choice first below = search rules in
+    let b = subst (λ p. IsEvaluated most (plan_of p) instance choice first below) c.deref-in-Map.ensures at_input in
+    let is : outcome_of o ≡ and_then (given_of instance below.outcome) (map_outcome outputs) = search rules in
+    subst (λ p. IsEvaluated most p instance choice first (record { outcome = Made o; next = below.next })) (sym (ap plan_of c.in-Map.is))
+    (map_done most instance choice first (plan_of c.in-Map.input.value) below b o outputs is)
+
+pub returns-in_ok-outcome-in-Window : goal.returns-in_ok-outcome-in-Window
+returns-in_ok-outcome-in-Window t c =
+    let most = c.args.most in
+    let instance = instance_of c.args.instance.now in
+    let choice = orderings_of c.args.choice.now in
+    let first = c.args.first in
+    let below = c.in_ok-below-in-Window.below in
+    let o = c.in_ok-outcome-in-Window.outcome in
+    let classes = c.in-Window.classes.items in
+    let calls = c.in-Window.calls.items in
+    let at_input : IsEvaluated most (plan_of c.deref-in-Window.result.now) instance choice first below = search rules in
+    let b = subst (λ p. IsEvaluated most (plan_of p) instance choice first below) c.deref-in-Window.ensures at_input in
+    let given : outcome_of c.in_ok-input-in-Window.input ≡ given_of instance below.outcome = search rules in
+    let there : IsExtended (window_of c.deref-in-Window-2.result.now c.deref-in-Window-3.result.now) (outcome_of c.in_ok-input-in-Window.input) choice below.next o = search rules in
+    let x = subst (λ r. IsExtended (window_of c.deref-in-Window-2.result.now c.deref-in-Window-3.result.now) r choice below.next o) given there in
+    let own : IsExtended (window_of classes calls) (given_of instance below.outcome) choice below.next o =
+    subst (λ ks. IsExtended (window_of classes ks) (given_of instance below.outcome) choice below.next o) c.deref-in-Window-3.ensures.value
+    (subst (λ ks. IsExtended (window_of ks c.deref-in-Window-3.result.now) (given_of instance below.outcome) choice below.next o) c.deref-in-Window-2.ensures.value x) in
+    let long : c.len.result ≡ length classes = search rules in
+    let next = below.next + c.len.result in
+    let behind : next ≡ below.next + length (map class_of classes) = ap (λ n. below.next + n) (long ∙ sym (length-map classes class_of)) in
+    subst (λ p. IsEvaluated most p instance choice first (record { outcome = Made o; next = next })) (sym (ap plan_of c.in-Window.is))
+    (window_done most instance choice first (window_of classes calls) (plan_of c.in-Window.input.value) below (subst (λ n. first ≤ n) (sym (length-map c.args.choice.now (λ v. v.items))) c.requires.within) b o next own behind)
+
+pub returns-in_ok-outcome-in-Distinct : goal.returns-in_ok-outcome-in-Distinct
+returns-in_ok-outcome-in-Distinct t c =
+    let most = c.args.most in
+    let instance = instance_of c.args.instance.now in
+    let choice = orderings_of c.args.choice.now in
+    let first = c.args.first in
+    let below = c.in_ok-below-in-Distinct.below in
+    let o = c.in_ok-outcome-in-Distinct.outcome in
+    let at_input : IsEvaluated most (plan_of c.deref-in-Distinct.result.now) instance choice first below = search rules in
+    let b = subst (λ p. IsEvaluated most (plan_of p) instance choice first below) c.deref-in-Distinct.ensures at_input in
+    let is : outcome_of o ≡ and_then (given_of instance below.outcome) (λ rows. Ok (distinct rows)) = search rules in
+    subst (λ p. IsEvaluated most p instance choice first (record { outcome = Made o; next = below.next })) (sym (ap plan_of c.in-Distinct.is))
+    (distinct_done most instance choice first (plan_of c.in-Distinct.input.value) below b o is)
+
+pub returns-in_ok-outcome-in-Limit : goal.returns-in_ok-outcome-in-Limit
+returns-in_ok-outcome-in-Limit t c =
+    let most = c.args.most in
+    let instance = instance_of c.args.instance.now in
+    let choice = orderings_of c.args.choice.now in
+    let first = c.args.first in
+    let below = c.in_ok-below-in-Limit.below in
+    let o = c.in_ok-outcome-in-Limit.outcome in
+    let at_input : IsEvaluated most (plan_of c.deref-in-Limit.result.now) instance choice first below = search rules in
+    let b = subst (λ p. IsEvaluated most (plan_of p) instance choice first below) c.deref-in-Limit.ensures at_input in
+    let x : IsCut (record { keys = c.deref-in-Limit-2.result.now; offset = c.in-Limit.offset; count = c.in-Limit.count; ties = c.in-Limit.ties }) (given_of instance below.outcome) choice below.next o = search rules in
+    let own = subst (λ ks. IsCut (record { keys = ks; offset = c.in-Limit.offset; count = c.in-Limit.count; ties = c.in-Limit.ties }) (given_of instance below.outcome) choice below.next o) c.deref-in-Limit-2.ensures.value x in
+    let next = below.next + 1 in
+    let same : next ≡ below.next + 1 = (λ i. next) in
+    subst (λ p. IsEvaluated most p instance choice first (record { outcome = Made o; next = next })) (sym (ap plan_of c.in-Limit.is))
+    (limit_done most instance choice first (record { keys = c.in-Limit.keys.items; offset = c.in-Limit.offset; count = c.in-Limit.count; ties = c.in-Limit.ties }) (plan_of c.in-Limit.input.value) below (subst (λ n. first ≤ n) (sym (length-map c.args.choice.now (λ v. v.items))) c.requires.within) b o next own same)

@@ -1,0 +1,35 @@
+use Rattle.std.proofs.Common.{◌≡◌, ◌<◌, ◌∙◌, ap, subst, map, length, arith}
+use Rattle.std.proofs.lemmas.List.{length-map, map_push}
+use Rattle.wd_value.specs.Rows.{instance_of}
+use Rattle.wd_partition.specs.Columns.{class_by}
+use Rattle.wd_plan.specs.Plans.{class_of}
+use Rattle.wd_eval.specs.Judged.{orderings_of}
+use Rattle.wd_eval.specs.Nodes.{given_of}
+use Rattle.wd_eval.specs.Tied.{IsSortedOver}
+use Rattle.wd_eval.specs.Ties.{ArePut}
+use Rattle.wd_eval.proofs.Putting.{none_put, one_put}
+use Rattle.wd_eval.proofs.tie.put_sorted.Goals as goal
+
+pub loop-class-init : goal.loop-class-init
+loop-class-init c = none_put (map class_of c.args.classes.now) (given_of (instance_of c.args.instance.now) c.args.input.now) c.args.flipped (orderings_of c.args.orderings.now.items)
+
+pub returns : goal.returns
+returns c =
+    let all : c.loop-class.class-index ≡ length c.args.classes.now = omega arith in
+    subst (λ n. ArePut (map class_of c.args.classes.now) (given_of (instance_of c.args.instance.now) c.args.input.now) c.args.flipped n (orderings_of c.args.orderings.now.items) (orderings_of c.loop-class.orderings.items)) all c.loop-class.invariant
+
+pub loop-class-preserved : goal.loop-class-preserved
+loop-class-preserved c =
+    let n = c.loop-class.class-index in
+    let class = c.class-item.result in
+    let input = given_of (instance_of c.args.instance.now) c.args.input.now in
+    let turned = c.is_flipped-turned.result in
+    let ordering = c.in_ok-ordering.ordering in
+    let mid = c.loop-class.orderings.items in
+    let within : n < length c.args.classes.now = omega arith in
+    let number : c.len.result ≡ length (orderings_of mid) = (let long = length-map mid (λ v. v.items) in omega arith) in
+    let sorted : IsSortedOver (class_of class) turned input ordering.items =
+    subst (λ ks. IsSortedOver (class_by class.partition.items ks) turned input ordering.items) c.deref-in-loop-class.ensures.value
+    (subst (λ ps. IsSortedOver (class_by ps c.deref-in-loop-class.result.now) turned input ordering.items) c.deref.ensures.value c.in_ok-ordering.ensures) in
+    one_put c.args.classes.now class input c.args.flipped n c.len.result (orderings_of c.args.orderings.now.items) (orderings_of mid) (orderings_of c.push.new.self.items) turned ordering.items within c.class-item.is
+    c.loop-class.invariant number c.is_flipped-turned.ensures sorted (ap orderings_of c.in_ok-push.ensures.items ∙ map_push (λ v. v.items) mid ordering)

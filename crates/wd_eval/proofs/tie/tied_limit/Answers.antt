@@ -1,0 +1,28 @@
+use Rattle.std.proofs.Common.{◌≡◌, ◌++◌, [], ◌∷◌, ◌∙◌, sym, ap, subst, length, arith}
+use Rattle.std.proofs.lemmas.List.{length-map, map_push}
+use Rattle.std.proofs.lemmas.Result.{MatchResult-weaker}
+use Rattle.wd_value.specs.Rows.{instance_of}
+use Rattle.wd_plan.specs.Sorting.{limit_class}
+use Rattle.wd_eval.specs.Judged.{orderings_of}
+use Rattle.wd_eval.specs.Nodes.{given_of, IsCut, IsLimitServed, limit_of}
+use Rattle.wd_eval.specs.Tied.{IsSortedOver}
+use Rattle.wd_eval.proofs.Putting.{limit_put, limit_tied_from, served_memory}
+use Rattle.wd_eval.proofs.tie.tied_limit.Goals as goal
+
+pub returns : goal.returns
+returns c =
+    let limit = limit_of c.args.limit.now in
+    let input = given_of (instance_of c.args.instance.now) c.args.input in
+    let flipped = c.args.flipped in
+    let old = orderings_of c.args.orderings.now.items in
+    let new = orderings_of c.push.new.self.items in
+    let own = c.in_ok-ordering.ordering.items in
+    let number = c.len-number.result in
+    let turned = c.is_flipped-turned.result in
+    let at : number ≡ length old = (let long = length-map c.args.orderings.now.items (λ v. v.items) in omega arith) in
+    let grown : new ≡ old ++ own ∷ [] = ap orderings_of c.in_ok-push.ensures.items ∙ map_push (λ v. v.items) c.args.orderings.now.items c.in_ok-ordering.ordering in
+    let sorted : IsSortedOver (limit_class limit) turned input own = c.in_ok-ordering.ensures in
+    let served = limit_put limit input flipped old new own number turned at grown sorted in
+    MatchResult-weaker c.limited.result c.limited.ensures
+    (λ o is. limit_tied_from limit input flipped old new own number turned at grown sorted o c.is_flipped-turned.ensures (subst (λ ch. IsCut limit input (orderings_of ch) number o) c.deref.ensures.value is))
+    (λ e h. served_memory (IsLimitServed limit input (orderings_of c.deref.result.now) number) e (subst (λ ch. IsLimitServed limit input (orderings_of ch) number) (sym c.deref.ensures.value) served) h)

@@ -1,0 +1,29 @@
+use Rattle.std.proofs.Common.{◌≡◌, sym, subst, length, arith}
+use Rattle.std.proofs.lemmas.List.{length-map}
+use Rattle.std.proofs.lemmas.Result.{MatchResult-weaker}
+use Rattle.wd_value.specs.Rows.{instance_of}
+use Rattle.wd_plan.specs.Outcomes.{outcome_of}
+use Rattle.wd_plan.specs.Plans.{class_of}
+use Rattle.wd_eval.specs.Judged.{orderings_of}
+use Rattle.wd_eval.specs.Nodes.{given_of, IsExtended, IsWindowServed}
+use Rattle.wd_eval.specs.Ties.{ArePut}
+use Rattle.wd_eval.specs.Windows.{window_of}
+use Rattle.wd_eval.proofs.Putting.{served_memory, window_put}
+use Rattle.wd_eval.proofs.tie.tied_window.Goals as goal
+
+pub returns : goal.returns
+returns c =
+    let w = window_of c.args.classes.now c.args.calls.now in
+    let input = given_of (instance_of c.args.instance.now) c.args.input in
+    let flipped = c.args.flipped in
+    let old = orderings_of c.args.orderings.now.items in
+    let new = orderings_of c.put_sorted.new.orderings.items in
+    let first = c.len-first.result in
+    let at : first ≡ length old = (let long = length-map c.args.orderings.now.items (λ v. v.items) in omega arith) in
+    let put : ArePut w.classes input flipped (length w.classes) old new = subst (λ n. ArePut w.classes input flipped n old new) (sym (length-map c.args.classes.now class_of)) c.in_ok-put_sorted.ensures in
+    let served = window_put w input flipped old new put in
+    let served_here = subst (λ n. IsWindowServed w input (orderings_of c.deref.result.now) n) (sym at) (subst (λ ch. IsWindowServed w input (orderings_of ch) (length old)) (sym c.deref.ensures.value) served) in
+    let given = c.in_ok-input.ensures in
+    MatchResult-weaker c.extended.result c.extended.ensures
+    (λ o is. record { put = put; extended = subst (λ r. IsExtended w r new (length old) o) given (subst (λ n. IsExtended w (outcome_of c.in_ok-input.input) new n o) at (subst (λ ch. IsExtended w (outcome_of c.in_ok-input.input) (orderings_of ch) first o) c.deref.ensures.value is)) })
+    (λ e h. served_memory (IsWindowServed w (outcome_of c.in_ok-input.input) (orderings_of c.deref.result.now) first) e (subst (λ r. IsWindowServed w r (orderings_of c.deref.result.now) first) (sym given) served_here) h)

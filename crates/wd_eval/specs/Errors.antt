@@ -1,0 +1,21 @@
+-- The numbers of the refusals, and the place that each names.
+use Rattle.std.specs.Prelude.{ℕ, Option, Some, None}
+use Rattle.wd_steps.specs.declared.join.JoinError.{JoinError}
+use Rattle.wd_steps.specs.declared.join.JoinError.TheVariants as join
+use Rattle.wd_eval.specs.declared.error.EvalError.{EvalError}
+use Rattle.wd_eval.specs.declared.error.EvalError.TheVariants.{NotValid, TooManyRows, OutOfMemory}
+
+abbrev pub number_of : EvalError → Option ℕ
+number_of (NotValid ordering) = Some 801
+number_of TooManyRows = Some 802
+number_of OutOfMemory = None
+
+abbrev pub place_of : EvalError → Option ℕ
+place_of (NotValid ordering) = Some ordering
+place_of TooManyRows = None
+place_of OutOfMemory = None
+
+-- the error that a join's error is here
+abbrev pub error_of : JoinError → EvalError
+error_of join.TooManyRows = TooManyRows
+error_of join.OutOfMemory = OutOfMemory

@@ -1,0 +1,14 @@
+-- Laws of the choices that leave rows that tie as they are.
+use Rattle.std.specs.Prelude.{◌≡◌, ℕ, List, Option}
+use Rattle.wd_value.specs.Rows.{Instance}
+use Rattle.wd_plan.specs.Outcomes.{outcome}
+use Rattle.wd_plan.specs.Plans.{PlanTree}
+use Rattle.wd_eval.specs.Tied.{IsTiedChoice}
+
+-- each plan has such a choice over each instance
+abbrev pub HasTiedChoice : Type 0
+HasTiedChoice = (plan : PlanTree) (instance : Instance) (flipped : Option ℕ) → (choice : List (List ℕ)) × IsTiedChoice plan instance flipped choice
+
+-- all such choices give one outcome
+abbrev pub HasOneTiedOutcome : Type 0
+HasOneTiedOutcome = (plan : PlanTree) (instance : Instance) (flipped : Option ℕ) (a b : List (List ℕ)) → IsTiedChoice plan instance flipped a → IsTiedChoice plan instance flipped b → outcome plan instance a ≡ outcome plan instance b

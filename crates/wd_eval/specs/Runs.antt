@@ -1,0 +1,18 @@
+-- What a plan gives under the choice that leaves rows that tie as they are, or why it gives nothing.
+use Rattle.std.specs.Prelude.{ℕ, List, None}
+use Rattle.wd_value.specs.Rows.{Instance}
+use Rattle.wd_plan.specs.declared.plan.Outcome.{Outcome}
+use Rattle.wd_plan.specs.Plans.{PlanTree}
+use Rattle.wd_eval.specs.Judged.{IsOutcome}
+use Rattle.wd_eval.specs.Tied.{IsTiedChoice, IsTiedRefused}
+use Rattle.wd_eval.specs.declared.error.EvalError.{EvalError}
+
+-- the outcome under a valid choice that leaves rows that tie as they are
+pub record IsRun (plan : PlanTree) (instance : Instance) (o : Outcome) : Type 0 where
+  pub choice : List (List ℕ)
+  pub tied : IsTiedChoice plan instance None choice
+  pub outcome : IsOutcome plan instance choice o
+
+-- why a plan has no outcome under that choice
+abbrev pub IsRunRefused : ℕ → PlanTree → Instance → EvalError → Type 0
+IsRunRefused most plan instance e = IsTiedRefused most plan instance None e

@@ -1,0 +1,110 @@
+//! Plans under choices of orderings.
+
+ghost use Rattle.std.specs.Prelude.{◌≡◌, true, MatchResult, None};
+ghost use Rattle.wd_eval.specs.Judged.{IsOutcome, IsRefused, orderings_of};
+ghost use Rattle.wd_eval.specs.Runs.{IsRun, IsRunRefused};
+ghost use Rattle.wd_eval.specs.Tied.{IsTiedRefused, IsValidTiedChoice};
+ghost use Rattle.wd_plan.specs.Choices.{IsValidChoice};
+ghost use Rattle.wd_plan.specs.Fits.{fits};
+ghost use Rattle.wd_plan.specs.Plans.{plan_of};
+ghost use Rattle.wd_schema.specs.Schemas.{schema_of};
+ghost use Rattle.wd_value.specs.Rows.{instance_of};
+
+use crate::error::EvalError;
+use crate::given::owned;
+use crate::node::evaluate;
+use crate::tie::tied;
+use std::alloc::Global;
+use wd_plan::{Choice, Outcome, Plan};
+use wd_schema::Schema;
+use wd_value::Instance;
+
+/// The largest number of rows of a step.
+const MOST_ROWS: u64 = 10_000_000;
+
+/// The outcome of a plan over an instance under a choice of orderings (SQL, query expression and
+/// window clause). The steps are judged in postorder, each step's orderings before the number of
+/// its rows, and an ordering left over is judged last. The plan has to fit the schema, which is not
+/// read otherwise.
+pub fn eval_with(
+    alloc: Global,
+    plan: &Plan,
+    schema: &Schema,
+    instance: &Instance,
+    choice: &Choice,
+) -> Result<Outcome, EvalError>
+    requires { fits (schema_of schema.now) (plan_of plan.now) ≡ true }
+    ensures { MatchResult result (λ o. IsOutcome (plan_of plan.now) (instance_of instance.now.items) (orderings_of choice.now.orderings.items) o) (λ e. IsRefused 10000000 (plan_of plan.now) (instance_of instance.now.items) (orderings_of choice.now.orderings.items) e) }
+{
+    let evaluated = evaluate(alloc, plan, instance, &choice.orderings, 0, MOST_ROWS)?;
+    if evaluated.next < choice.orderings.len() {
+        return Err(EvalError::NotValid(evaluated.next as u64));
+    }
+    let outcome = owned(alloc, instance, evaluated.outcome)?;
+    Ok(outcome)
+}
+
+/// Whether a choice is valid for a plan over an instance: one lawful ordering for each class of
+/// each Window and for each Limit, in postorder, none missing and none left over. It is refused as
+/// by [`eval_with`].
+pub fn check_choice(
+    alloc: Global,
+    plan: &Plan,
+    schema: &Schema,
+    instance: &Instance,
+    choice: &Choice,
+) -> Result<(), EvalError>
+    requires { fits (schema_of schema.now) (plan_of plan.now) ≡ true }
+    ensures { MatchResult result (λ u. IsValidChoice (plan_of plan.now) (instance_of instance.now.items) (orderings_of choice.now.orderings.items)) (λ e. IsRefused 10000000 (plan_of plan.now) (instance_of instance.now.items) (orderings_of choice.now.orderings.items) e) }
+{
+    let _outcome = eval_with(alloc, plan, schema, instance, choice)?;
+    Ok(())
+}
+
+/// The choice that leaves rows that tie as they are: each ordering is the stable sort of the
+/// positions of its node's input rows by partition, ascending with NULL last, and then by the keys.
+/// The ordering with the number `flipped` sorts the positions taken last to first; a number past
+/// the last flips nothing.
+pub fn tied_choice(
+    alloc: Global,
+    plan: &Plan,
+    schema: &Schema,
+    instance: &Instance,
+    flipped: Option<u32>,
+) -> Result<Choice, EvalError>
+    requires { fits (schema_of schema.now) (plan_of plan.now) ≡ true }
+    ensures { MatchResult result (λ c. IsValidTiedChoice (plan_of plan.now) (instance_of instance.now.items) flipped (orderings_of c.orderings.items)) (λ e. IsTiedRefused 10000000 (plan_of plan.now) (instance_of instance.now.items) flipped e) }
+{
+    let mut orderings = Vec::new(alloc);
+    tied(alloc, plan, instance, flipped, MOST_ROWS, &mut orderings)?;
+    Ok(Choice { orderings })
+}
+
+/// The choice that leaves all rows that tie as they are.
+pub fn first_choice(
+    alloc: Global,
+    plan: &Plan,
+    schema: &Schema,
+    instance: &Instance,
+) -> Result<Choice, EvalError>
+    requires { fits (schema_of schema.now) (plan_of plan.now) ≡ true }
+    ensures { MatchResult result (λ c. IsValidTiedChoice (plan_of plan.now) (instance_of instance.now.items) None (orderings_of c.orderings.items)) (λ e. IsTiedRefused 10000000 (plan_of plan.now) (instance_of instance.now.items) None e) }
+{
+    tied_choice(alloc, plan, schema, instance, None)
+}
+
+/// The outcome of a plan over an instance under the choice that leaves rows that tie as they are.
+pub fn run_plan(
+    alloc: Global,
+    plan: &Plan,
+    schema: &Schema,
+    instance: &Instance,
+) -> Result<Outcome, EvalError>
+    requires { fits (schema_of schema.now) (plan_of plan.now) ≡ true }
+    ensures { MatchResult result (λ o. IsRun (plan_of plan.now) (instance_of instance.now.items) o) (λ e. IsRunRefused 10000000 (plan_of plan.now) (instance_of instance.now.items) e) }
+{
+    let mut orderings = Vec::new(alloc);
+    let given = tied(alloc, plan, instance, None, MOST_ROWS, &mut orderings)?;
+    let outcome = owned(alloc, instance, given)?;
+    Ok(outcome)
+}

@@ -1,0 +1,126 @@
+//! A plan under given orderings, node by node.
+
+ghost use Rattle.std.specs.Prelude.{◌≡◌, ◌^◌, ◌<◌, ◌≤◌, drop, length, MatchResult};
+ghost use Rattle.wd_eval.specs.Judged.{orderings_of};
+ghost use Rattle.wd_eval.specs.Nodes.{HasClasses, IsEvaluated, IsStopped};
+ghost use Rattle.wd_plan.specs.Plans.{plan_of};
+ghost use Rattle.wd_value.specs.Rows.{instance_of};
+
+use crate::cut::{Cut, limited};
+use crate::error::EvalError;
+use crate::given::{Given, owned};
+use crate::step::{distinct, filtered, joined, mapped, scanned};
+use crate::window::extended;
+use std::alloc::Global;
+use wd_plan::Plan;
+use wd_value::Row;
+
+/// What a node gives, and the number of the first ordering behind its own.
+#[derive(Drop)]
+pub(crate) struct Evaluated {
+    pub outcome: Given,
+    pub next: usize,
+}
+
+/// The plan's outcome under the orderings from `first` on, which are those of its nodes in
+/// postorder. A node's orderings are judged before the number of its rows.
+pub(crate) fn evaluate(
+    alloc: Global,
+    plan: &Plan,
+    instance: &[Vec<Row>],
+    choice: &[Vec<u64>],
+    first: usize,
+    most: u64,
+) -> Result<Evaluated, EvalError>
+    requires within { first ≤ length choice.now }
+    requires few { most < 2 ^ 32 }
+    requires named { HasClasses (plan_of plan.now) }
+    ensures { MatchResult result (λ e. IsEvaluated most (plan_of plan.now) (instance_of instance.now) (orderings_of choice.now) first e) (λ e. IsStopped most (plan_of plan.now) (instance_of instance.now) (drop first (orderings_of choice.now)) e) }
+{
+    match plan {
+        Plan::Scan { table, .. } => {
+            let outcome = scanned(instance, *table, most)?;
+            Ok(Evaluated {
+                outcome,
+                next: first,
+            })
+        }
+        Plan::Join {
+            left,
+            right,
+            condition,
+        } => {
+            let left = evaluate(alloc, left, instance, choice, first, most)?;
+            let right = evaluate(alloc, right, instance, choice, left.next, most)?;
+            let outcome = joined(
+                alloc,
+                instance,
+                condition,
+                left.outcome,
+                right.outcome,
+                most,
+            )?;
+            Ok(Evaluated {
+                outcome: Given::Made(outcome),
+                next: right.next,
+            })
+        }
+        Plan::Filter { input, condition } => {
+            let below = evaluate(alloc, input, instance, choice, first, most)?;
+            let outcome = filtered(alloc, instance, condition, below.outcome)?;
+            Ok(Evaluated {
+                outcome: Given::Made(outcome),
+                next: below.next,
+            })
+        }
+        Plan::Map { input, outputs } => {
+            let below = evaluate(alloc, input, instance, choice, first, most)?;
+            let outcome = mapped(alloc, instance, outputs, below.outcome)?;
+            Ok(Evaluated {
+                outcome: Given::Made(outcome),
+                next: below.next,
+            })
+        }
+        Plan::Window {
+            input,
+            classes,
+            calls,
+        } => {
+            let below = evaluate(alloc, input, instance, choice, first, most)?;
+            let input = owned(alloc, instance, below.outcome)?;
+            let outcome = extended(alloc, classes, calls, input, choice, below.next)?;
+            Ok(Evaluated {
+                outcome: Given::Made(outcome),
+                next: below.next + classes.len(),
+            })
+        }
+        Plan::Distinct { input } => {
+            let below = evaluate(alloc, input, instance, choice, first, most)?;
+            let outcome = distinct(alloc, instance, below.outcome)?;
+            Ok(Evaluated {
+                outcome: Given::Made(outcome),
+                next: below.next,
+            })
+        }
+        Plan::Limit {
+            input,
+            keys,
+            offset,
+            count,
+            ties,
+        } => {
+            let below = evaluate(alloc, input, instance, choice, first, most)?;
+            let limit = Cut {
+                keys,
+                offset: *offset,
+                count: *count,
+                ties: *ties,
+            };
+            let outcome = limited(alloc, instance, &limit, below.outcome, choice, below.next)?;
+            Ok(Evaluated {
+                outcome: Given::Made(outcome),
+                next: below.next + 1,
+            })
+        }
+    }
+}

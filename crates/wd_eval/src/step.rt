@@ -1,0 +1,93 @@
+//! Each step of a plan over the outcomes below it, but for Window and Limit.
+
+ghost use Rattle.std.specs.Prelude.{◌≡◌, IfOk, map, MatchResult, Ok, option_map};
+ghost use Rattle.wd_eval.specs.Nodes.{IsLarge, IsSmall, given_of, join_over};
+ghost use Rattle.wd_plan.specs.Expressions.{expression_of};
+ghost use Rattle.wd_plan.specs.Faults.{and_then};
+ghost use Rattle.wd_plan.specs.Outcomes as spec;
+ghost use Rattle.wd_plan.specs.Outcomes.{outcome_of};
+ghost use Rattle.wd_value.specs.Rows.{instance_of, rows_of, table_at};
+
+use crate::error::EvalError;
+use crate::given::{Given, owned, shown, table_in};
+use std::alloc::Global;
+use wd_plan::{Expr, Outcome};
+use wd_steps::{distinct_rows, filter_rows, join_rows, map_rows};
+use wd_value::{OutOfMemory, Row};
+
+/// The instance's table with this number, or the error that it has more rows than `most`.
+pub(crate) fn scanned(instance: &[Vec<Row>], table: u16, most: u64) -> Result<Given, EvalError>
+    ensures { let rows = Ok (table_at (instance_of instance.now) table) in MatchResult result (λ o. IsSmall most rows (given_of (instance_of instance.now) o)) (λ e. IsLarge most rows e) }
+{
+    let rows = table_in(instance, table);
+    if rows.len() as u64 > most {
+        return Err(EvalError::TooManyRows);
+    }
+    Ok(Given::Table(table))
+}
+
+/// All pairs of a left and a right row for which the condition is true, or the error that there
+/// are more than `most`.
+pub(crate) fn joined(
+    alloc: Global,
+    instance: &[Vec<Row>],
+    condition: &Option<Expr>,
+    left: Given,
+    right: Given,
+    most: u64,
+) -> Result<Outcome, EvalError>
+    ensures { let rows = join_over (option_map expression_of condition.now) (given_of (instance_of instance.now) left) (given_of (instance_of instance.now) right) in MatchResult result (λ o. IsSmall most rows (outcome_of o)) (λ e. IsLarge most rows e) }
+{
+    match (shown(&left, instance), shown(&right, instance)) {
+        (Err(fault), _) => Ok(Outcome::Fault(fault)),
+        (Ok(_), Err(fault)) => Ok(Outcome::Fault(fault)),
+        (Ok(left), Ok(right)) => {
+            let outcome = join_rows(alloc, condition.as_ref(), left, right, most)?;
+            Ok(outcome)
+        }
+    }
+}
+
+/// The rows of the input for which the condition is true.
+pub(crate) fn filtered(
+    alloc: Global,
+    instance: &[Vec<Row>],
+    condition: &Expr,
+    input: Given,
+) -> Result<Outcome, OutOfMemory>
+    ensures { IfOk result (λ o. outcome_of o ≡ and_then (given_of (instance_of instance.now) input) (spec.filter_outcome (expression_of condition.now))) }
+{
+    match owned(alloc, instance, input)? {
+        Outcome::Rows(rows) => filter_rows(alloc, condition, rows),
+        Outcome::Fault(fault) => Ok(Outcome::Fault(fault)),
+    }
+}
+
+/// The values of the outputs over each row of the input.
+pub(crate) fn mapped(
+    alloc: Global,
+    instance: &[Vec<Row>],
+    outputs: &[Expr],
+    input: Given,
+) -> Result<Outcome, OutOfMemory>
+    ensures { IfOk result (λ o. outcome_of o ≡ and_then (given_of (instance_of instance.now) input) (spec.map_outcome (map expression_of outputs.now))) }
+{
+    match shown(&input, instance) {
+        Ok(rows) => map_rows(alloc, outputs, rows),
+        Err(fault) => Ok(Outcome::Fault(fault)),
+    }
+}
+
+/// The first of the input's rows that are not distinct.
+pub(crate) fn distinct(
+    alloc: Global,
+    instance: &[Vec<Row>],
+    input: Given,
+) -> Result<Outcome, OutOfMemory>
+    ensures { IfOk result (λ o. outcome_of o ≡ and_then (given_of (instance_of instance.now) input) (λ rows. Ok (spec.distinct rows))) }
+{
+    match owned(alloc, instance, input)? {
+        Outcome::Rows(rows) => Ok(Outcome::Rows(distinct_rows(alloc, rows)?)),
+        Outcome::Fault(fault) => Ok(Outcome::Fault(fault)),
+    }
+}

@@ -1,0 +1,184 @@
+//! The choice in which rows that tie stay as they are, and what a plan gives under it.
+
+ghost use Rattle.std.specs.Prelude.{◌≡◌, ◌-◌, ◌^◌, ◌<◌, IfOk, length, map, MatchResult, OnOk};
+ghost use Rattle.wd_eval.specs.Judged.{orderings_of};
+ghost use Rattle.wd_eval.specs.Nodes.{AreFew, EachNames, HasClasses, given_of, limit_of};
+ghost use Rattle.wd_eval.specs.Tied as spec;
+ghost use Rattle.wd_eval.specs.Ties.{ArePut, IsTied, IsTiedLimit, IsTiedWindow, IsUntied, IsWantOfMemory};
+ghost use Rattle.wd_eval.specs.Windows.{window_of};
+ghost use Rattle.wd_partition.specs.Columns.{class_by};
+ghost use Rattle.wd_plan.specs.Plans.{class_of, plan_of};
+ghost use Rattle.wd_value.specs.Rows.{instance_of};
+
+use crate::cut::{Cut, limited};
+use crate::error::EvalError;
+use crate::given::{Given, owned, shown};
+use crate::step::{distinct, filtered, joined, mapped, scanned};
+use crate::window::extended;
+use std::alloc::Global;
+use wd_partition::sorted_ordering;
+use wd_plan::{Call, Class, OrderItem, Outcome, Plan};
+use wd_value::{OutOfMemory, Row};
+
+/// What a plan gives under its sorted orderings, which are put behind those that are there.
+pub(crate) fn tied(
+    alloc: Global,
+    plan: &Plan,
+    instance: &[Vec<Row>],
+    flipped: Option<u32>,
+    most: u64,
+    orderings: &mut Vec<Vec<u64>>,
+) -> Result<Given, EvalError>
+    requires few { most < 2 ^ 32 }
+    requires named { HasClasses (plan_of plan.now) }
+    ensures { MatchResult result (λ o. IsTied most (plan_of plan.now) (instance_of instance.now) flipped (orderings_of orderings.old.items) (orderings_of orderings.new.items) o) (λ e. IsUntied most (plan_of plan.now) (instance_of instance.now) flipped (length (orderings_of orderings.old.items)) e) }
+{
+    match plan {
+        Plan::Scan { table, .. } => scanned(instance, *table, most),
+        Plan::Join {
+            left,
+            right,
+            condition,
+        } => {
+            let left = tied(alloc, left, instance, flipped, most, orderings)?;
+            let right = tied(alloc, right, instance, flipped, most, orderings)?;
+            let outcome = joined(alloc, instance, condition, left, right, most)?;
+            Ok(Given::Made(outcome))
+        }
+        Plan::Filter { input, condition } => {
+            let below = tied(alloc, input, instance, flipped, most, orderings)?;
+            let outcome = filtered(alloc, instance, condition, below)?;
+            Ok(Given::Made(outcome))
+        }
+        Plan::Map { input, outputs } => {
+            let below = tied(alloc, input, instance, flipped, most, orderings)?;
+            let outcome = mapped(alloc, instance, outputs, below)?;
+            Ok(Given::Made(outcome))
+        }
+        Plan::Window {
+            input,
+            classes,
+            calls,
+        } => {
+            let below = tied(alloc, input, instance, flipped, most, orderings)?;
+            let outcome = tied_window(alloc, instance, classes, calls, below, flipped, orderings)?;
+            Ok(Given::Made(outcome))
+        }
+        Plan::Distinct { input } => {
+            let below = tied(alloc, input, instance, flipped, most, orderings)?;
+            let outcome = distinct(alloc, instance, below)?;
+            Ok(Given::Made(outcome))
+        }
+        Plan::Limit {
+            input,
+            keys,
+            offset,
+            count,
+            ties,
+        } => {
+            let below = tied(alloc, input, instance, flipped, most, orderings)?;
+            let limit = Cut {
+                keys,
+                offset: *offset,
+                count: *count,
+                ties: *ties,
+            };
+            let outcome = tied_limit(alloc, instance, &limit, below, flipped, orderings)?;
+            Ok(Given::Made(outcome))
+        }
+    }
+}
+
+/// What a Limit keeps of its input under its sorted ordering.
+fn tied_limit(
+    alloc: Global,
+    instance: &[Vec<Row>],
+    limit: &Cut,
+    input: Given,
+    flipped: Option<u32>,
+    orderings: &mut Vec<Vec<u64>>,
+) -> Result<Outcome, EvalError>
+    ensures { MatchResult result (λ o. IsTiedLimit (limit_of limit.now) (given_of (instance_of instance.now) input) flipped (orderings_of orderings.old.items) (orderings_of orderings.new.items) o) (λ e. IsWantOfMemory e) }
+{
+    let number = orderings.len();
+    let turned = is_flipped(flipped, number);
+    let ordering = sorted_over(alloc, instance, &input, &[], limit.keys, turned)?;
+    orderings.push(ordering)?;
+    limited(alloc, instance, limit, input, orderings, number)
+}
+
+/// The input's rows with the values of the calls under the sorted orderings of the classes.
+fn tied_window(
+    alloc: Global,
+    instance: &[Vec<Row>],
+    classes: &[Class],
+    calls: &[Call],
+    input: Given,
+    flipped: Option<u32>,
+    orderings: &mut Vec<Vec<u64>>,
+) -> Result<Outcome, EvalError>
+    requires few { AreFew (2 ^ 32 - 1) (given_of (instance_of instance.now) input) }
+    requires named { EachNames (length classes.now) calls.now }
+    ensures { MatchResult result (λ o. IsTiedWindow (window_of classes.now calls.now) (given_of (instance_of instance.now) input) flipped (orderings_of orderings.old.items) (orderings_of orderings.new.items) o) (λ e. IsWantOfMemory e) }
+{
+    let first = orderings.len();
+    put_sorted(alloc, instance, classes, &input, flipped, orderings)?;
+    let input = owned(alloc, instance, input)?;
+    extended(alloc, classes, calls, input, orderings, first)
+}
+
+/// Puts the sorted ordering of each class behind those that are there.
+fn put_sorted(
+    alloc: Global,
+    instance: &[Vec<Row>],
+    classes: &[Class],
+    input: &Given,
+    flipped: Option<u32>,
+    orderings: &mut Vec<Vec<u64>>,
+) -> Result<(), OutOfMemory>
+    ensures { OnOk result (ArePut (map class_of classes.now) (given_of (instance_of instance.now) input.now) flipped (length classes.now) (orderings_of orderings.old.items) (orderings_of orderings.new.items)) }
+{
+    for class in classes {
+        let turned = is_flipped(flipped, orderings.len());
+        let ordering = sorted_over(
+            alloc,
+            instance,
+            input,
+            &class.partition,
+            &class.order,
+            turned,
+        )?;
+        orderings.push(ordering)?;
+    }
+    Ok(())
+}
+
+/// The sorted ordering of the input's rows, and the empty list where the input is a fault.
+fn sorted_over(
+    alloc: Global,
+    instance: &[Vec<Row>],
+    input: &Given,
+    partition: &[u16],
+    keys: &[OrderItem],
+    turned: bool,
+) -> Result<Vec<u64>, OutOfMemory>
+    ensures { IfOk result (λ v. spec.IsSortedOver (class_by partition.now keys.now) turned (given_of (instance_of instance.now) input.now) v.items) }
+{
+    match shown(input, instance) {
+        Err(_) => Ok(Vec::new(alloc)),
+        Ok(rows) => {
+            let ordering = sorted_ordering(alloc, rows, partition, keys, turned)?;
+            Ok(ordering)
+        }
+    }
+}
+
+/// Whether the ordering with this number is the one to flip.
+fn is_flipped(flipped: Option<u32>, number: usize) -> bool
+    ensures { result ≡ spec.is_flipped flipped number }
+{
+    match flipped {
+        None => false,
+        Some(n) => n as usize == number,
+    }
+}

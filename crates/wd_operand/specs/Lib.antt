@@ -1,0 +1,3 @@
+pub mod Causes
+pub mod Operands
+pub mod Equality

@@ -1,0 +1,35 @@
+-- The tables and columns of scopes beside one another.
+use Rattle.std.proofs.Common.{◌≡◌, ◌∙◌, ap, refl, ℕ, zero, suc, ◌+◌, ◌^◌, ◌<◌, arith, Bool, List, [], ◌∷◌, ◌++◌, length, drop, length-append, false, ◌||◌, Some, None, Err, slice_get, if◌then◌else◌}
+use Rattle.std.proofs.lemmas.Bool.{lt-ltb}
+use Rattle.std.specs.List.{list_any}
+use Rattle.std.specs.Str.{bytes_eq}
+use Rattle.std.proofs.lemmas.List.Folds.{list_any-append}
+use Rattle.wd_schema.specs.Tables.{TableRule}
+use Rattle.wd_scope.specs.Scopes.{ScopeRule, beside, has_table}
+use Rattle.wd_operand.specs.declared.cause.Cause.TheVariants.{UnknownTable}
+use Rattle.wd_resolve.specs.Selected.{number_named, is_named, scan, scan_at}
+
+pub has_table_beside : (left right : ScopeRule) (name : List ℕ) → has_table (beside left right) name ≡ (has_table left name || has_table right name)
+has_table_beside left right name = list_any-append (bytes_eq name) left.tables right.tables
+
+pub lengths : {A : Type 0} (xs ys : List A) → length (xs ++ ys) ≡ length xs + length ys
+lengths xs ys = length-append xs ys
+
+-- no name is that of a table where there is none
+pub none_shared : (names : List (List ℕ)) → list_any (has_table (record { tables = []; columns = [] })) names ≡ false
+none_shared [] = refl
+none_shared (name ∷ names) = none_shared names
+
+-- the table of a number has the name, or it is looked for behind it
+pub named_step : (k n : ℕ) (name : List ℕ) (tables : List TableRule) → n < length tables → number_named k name (drop n tables) ≡ (if is_named tables name n then Some k else number_named (k + 1) name (drop (suc n) tables))
+named_step k n name [] within = absurd (omega arith)
+named_step k zero name (rule ∷ tables) within = refl
+named_step k (suc n) name (rule ∷ tables) within = named_step k n name tables (omega arith)
+
+-- the table of a number that a plan can name
+pub scan_found : (tables : List TableRule) (name : List ℕ) (number : ℕ) (table : TableRule) → number < 2 ^ 16 → slice_get tables number ≡ Some table → scan_at tables name (Some number) ≡ scan name number (Some table)
+scan_found tables name number table small found = ap (λ (b : Bool). if b then scan name number (slice_get tables number) else Err UnknownTable) (lt-ltb number (2 ^ 16) small) ∙ ap (scan name number) found
+
+-- no table has that number
+pub scan_none : (tables : List TableRule) (name : List ℕ) (number : ℕ) → number < 2 ^ 16 → slice_get tables number ≡ None → scan_at tables name (Some number) ≡ Err UnknownTable
+scan_none tables name number small none = ap (λ (b : Bool). if b then scan name number (slice_get tables number) else Err UnknownTable) (lt-ltb number (2 ^ 16) small) ∙ ap (scan name number) none

@@ -1,0 +1,6 @@
+mod Reading
+pub mod Beside
+mod SomeKeys
+pub mod SortedShown
+pub mod ShownFits
+pub mod FromFits

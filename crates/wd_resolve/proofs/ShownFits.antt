@@ -1,0 +1,206 @@
+-- The plan of what a select shows, sorts by and cuts fits, and gives the columns that it says.
+use Rattle.std.proofs.Common.{◌≡◌, ◌∙◌, sym, ap, refl, subst, ℕ, ◌+◌, ◌-◌, Bool, true, false, cond, not, ◌||◌, List, [], ◌∷◌, ◌++◌, map, length, nat_lt, nat_eq, Option, Some, None, Ok, arith, add-zero}
+use Rattle.std.specs.List.{AllByRecursion}
+use Rattle.std.proofs.lemmas.Bool.{eqb-true, ltb-false, or_parts, or_right}
+use Rattle.std.proofs.lemmas.List.{append-nil, length-append, length-map, nil_from_length}
+use Rattle.wd_schema.specs.Tables.{TableRule}
+use Rattle.wd_plan.specs.declared.expression.ValueKind.{ValueKind}
+use Rattle.wd_plan.specs.declared.expression.ValueKind.TheVariants.{Truth}
+use Rattle.wd_plan.specs.declared.plan.OrderItem.{OrderItem}
+use Rattle.wd_plan.specs.Expressions.{Expression}
+use Rattle.wd_plan.specs.Fits.{Kinds, kinds_of}
+use Rattle.wd_plan.specs.Plans.{PlanTree, Filter, Map}
+use Rattle.wd_syntax.specs.declared.name.Name.{Name}
+use Rattle.wd_syntax.specs.declared.query.Count.{Count}
+use Rattle.wd_syntax.specs.declared.query.Count.TheVariants as written
+use Rattle.wd_syntax.specs.declared.query.Limits.{Limits}
+use Rattle.wd_syntax.specs.declared.query.Limits.TheVariants.{OffsetFirst, CountFirst}
+use Rattle.wd_syntax.specs.declared.query.Quantifier.{Quantifier}
+use Rattle.wd_syntax.specs.Tree.{Tree, ItemTree, Keys, WindowTree}
+use Rattle.wd_operand.specs.Causes.{◌>>=◌}
+use Rattle.wd_operand.specs.Operands.{number}
+use Rattle.wd_scope.specs.Calls.{CallMeaning}
+use Rattle.wd_scope.specs.Resolving.{ContextRule, all_defined, condition}
+use Rattle.wd_scope.specs.Scopes.{ScopeRule}
+use Rattle.wd_scope.specs.Windows.{KnownMeaning}
+use Rattle.wd_scope.specs.Typed.{AreCalls, AreKnown, AreTyped, kinds_met}
+use Rattle.wd_scope.proofs.Typing.{bound, kept, ok_is}
+use Rattle.wd_scope.proofs.TypedMet.{more_calls}
+use Rattle.wd_scope.proofs.TypedPlain.{all_defined_is, condition_is}
+use Rattle.wd_resolve.specs.Selected.{Part}
+use Rattle.wd_select.specs.Outputs.{Listing, OutputMeaning, call_expressions, expressions_of, is_wide, list_meant}
+use Rattle.wd_select.specs.Sorting.{Cut, Shown, Sorted, count_meant, cut_meant, fetched, keys_sorted, offset_meant, tied, unsorted}
+use Rattle.wd_select.specs.Steps.{Lowered, above, columns_from, column_shown, deduplicated, filtered, limited, lowered_shown, mapped, windowed, without_hidden}
+use Rattle.wd_resolve.specs.Lowering.{behind_from, is_distinct, is_sorted, selected, shown_by, shown_sorted}
+use Rattle.wd_select.proofs.Among.{all_append}
+use Rattle.wd_select.proofs.Covered.{AreAmong, Covers}
+use Rattle.wd_select.proofs.PlanKinds.{AreOfKinds, AreWithin, HasKinds, are_append, as_many, distinct_is, filter_is, first_columns_is, limit_is, map_is, output_kinds, over_plan, scope_is, scope_kinds}
+use Rattle.wd_select.proofs.Windowed.{IsGround, all_raised, window_fits}
+use Rattle.wd_select.proofs.ListedOutputs.{AreOutputs, IsListed, list_is}
+use Rattle.wd_resolve.proofs.SortedShown.{HasSome, IsSorted, keys_sorted_is}
+
+-- ---- the Map of the outputs
+
+abbrev pub kinds_shown : List OutputMeaning → List ValueKind
+kinds_shown outputs = map (λ (o : OutputMeaning). o.kind) outputs
+
+outputs_are : (kinds : Kinds) (outputs : List OutputMeaning) → AreOutputs kinds outputs → AreOfKinds kinds (expressions_of outputs) (kinds_shown outputs)
+outputs_are kinds [] h = tt
+outputs_are kinds (o ∷ outputs) h = (h.0, outputs_are kinds outputs h.1)
+
+kinds_kept : (kinds others : Kinds) → ((c : ℕ) (k : ValueKind) → kinds c ≡ Some k → others c ≡ Some k) → (es : List Expression) (ks : List ValueKind) → AreOfKinds kinds es ks → AreOfKinds others es ks
+kinds_kept kinds others more [] [] h = tt
+kinds_kept kinds others more (e ∷ es) (k ∷ ks) h = (kept kinds others more h.0, kinds_kept kinds others more es ks h.1)
+kinds_kept kinds others more [] (k ∷ ks) h = absurd h
+kinds_kept kinds others more (e ∷ es) [] h = absurd h
+
+mapped_is : (tables : List TableRule) (plan : PlanTree) (scope : ScopeRule) (calls : List CallMeaning) (inputs es : List Expression) (ks : List ValueKind) → HasKinds tables plan (scope_kinds scope)
+    → AreTyped (kinds_met scope []) inputs → AreCalls scope calls → AllByRecursion (λ call. AreAmong inputs (call_expressions (Some call))) calls
+    → AreOfKinds (kinds_met scope calls) es ks → AllByRecursion (Covers (length scope.columns) inputs) es → is_wide (length es) inputs calls ≡ false
+    → HasKinds tables (mapped (length scope.columns) calls inputs es plan) ks
+mapped_is tables plan scope [] inputs es ks h typed all among are covered wide =
+    let few = ltb-false 1024 (length es) (or_parts _ _ wide).0 in
+    let many = as_many (kinds_met scope []) es ks are in
+    map_is tables plan es ks h.fits_is (omega arith) (kinds_kept (kinds_met scope []) (kinds_of tables plan) (λ c k g. h.each c ∙ sym (scope_is scope c) ∙ g) es ks are)
+mapped_is tables plan scope (call ∷ calls) inputs es ks h typed all among are covered wide =
+    let p = or_parts (nat_lt 1024 (length es)) (nat_lt 1024 (length inputs + length (call ∷ calls))) wide in
+    let few = ltb-false 1024 (length es) p.0 in
+    let narrow = ltb-false 1024 (length inputs + length (call ∷ calls)) p.1 in
+    let many = as_many (kinds_met scope (call ∷ calls)) es ks are in
+    let ground : IsGround tables plan scope (call ∷ calls) inputs = record { plan_is = h; inputs_are = typed; calls_are = all; among = among; few = narrow } in
+    map_is tables (windowed inputs (call ∷ calls) plan) (map (above (length scope.columns) (length (call ∷ calls)) inputs) es) ks (window_fits tables plan scope (call ∷ calls) inputs ground) (omega arith) (all_raised tables plan scope (call ∷ calls) inputs ground es ks are covered)
+
+-- ---- DISTINCT, limits and hidden sort keys
+
+deduplicated_is : (tables : List TableRule) (distinct : Bool) (plan : PlanTree) (ks : List ValueKind) → HasKinds tables plan ks → HasKinds tables (deduplicated distinct plan) ks
+deduplicated_is tables false plan ks h = h
+deduplicated_is tables true plan ks h = distinct_is tables plan ks h
+
+-- WITH TIES stands only where there is an order
+abbrev IsCut : Bool → Option Cut → Type 0
+IsCut sorted None = Unit {0}
+IsCut sorted (Some cut) = (not cut.ties || sorted) ≡ true
+
+tied_is : (sorted with_ties : Bool) (n : ℕ) (x : Option ℕ × Bool) → tied sorted with_ties n ≡ Ok x → (not x.1 || sorted) ≡ true
+tied_is true with_ties n x h = or_right _ _ refl
+tied_is false true n x h = cc
+tied_is false false n x h = subst (λ (y : Option ℕ × Bool). (not y.1 || false) ≡ true) (ok_is _ _ h) refl
+
+count_is : (sorted : Bool) (count : Option Count) (x : Option ℕ × Bool) → count_meant sorted count ≡ Ok x → (not x.1 || sorted) ≡ true
+count_is sorted None x h = subst (λ (y : Option ℕ × Bool). (not y.1 || sorted) ≡ true) (ok_is _ _ h) refl
+count_is sorted (Some (written.Limit n)) x h =
+    let m = bound (number n) (λ k. Ok (Some k, false)) x h in
+    subst (λ (y : Option ℕ × Bool). (not y.1 || sorted) ≡ true) (ok_is _ _ m.2) refl
+count_is sorted (Some (written.Fetch word n row with_ties)) x h =
+    let m = bound (number (fetched n)) (λ k. tied sorted with_ties k) x h in
+    tied_is sorted with_ties m.0 x m.2
+
+cut_is : (sorted : Bool) (limits : Option Limits) (cut : Option Cut) → cut_meant sorted limits ≡ Ok cut → IsCut sorted cut
+cut_is sorted None cut h = subst (IsCut sorted) (ok_is _ _ h) tt
+cut_is sorted (Some (OffsetFirst o c)) cut h =
+    let made = λ (offset : ℕ) (x : Option ℕ × Bool). Ok (Some (record { offset = offset; count = x.0; ties = x.1 })) in
+    let n = bound (number o.number) (λ offset. count_meant sorted c >>= λ x. made offset x) cut h in
+    let x = bound (count_meant sorted c) (λ y. made n.0 y) cut n.2 in
+    subst (IsCut sorted) (ok_is _ _ x.2) (count_is sorted c x.0 x.1)
+cut_is sorted (Some (CountFirst c o)) cut h =
+    let made = λ (offset : ℕ) (x : Option ℕ × Bool). Ok (Some (record { offset = offset; count = x.0; ties = x.1 })) in
+    let x = bound (count_meant sorted (Some c)) (λ y. offset_meant o >>= λ offset. made offset y) cut h in
+    let n = bound (offset_meant o) (λ offset. made offset x.0) cut x.2 in
+    subst (IsCut sorted) (ok_is _ _ n.2) (count_is sorted (Some c) x.0 x.1)
+
+ties_with : (ties sorted : Bool) (items : List OrderItem) → (not ties || sorted) ≡ true → (sorted ≡ true → HasSome items) → (not ties || nat_lt 0 (length items)) ≡ true
+ties_with false sorted items h f = refl
+ties_with true sorted items h f = f h
+
+limited_is : (tables : List TableRule) (sorted : Bool) (items : List OrderItem) (cut : Option Cut) (plan : PlanTree) (ks : List ValueKind) → HasKinds tables plan ks → AreWithin (length ks) items → IsCut sorted cut → (sorted ≡ true → HasSome items) → HasKinds tables (limited items cut plan) ks
+limited_is tables sorted [] None plan ks h within is some = h
+limited_is tables sorted (item ∷ items) None plan ks h within is some = limit_is tables (record { keys = item ∷ items; offset = 0; count = None; ties = false }) plan ks h within refl
+limited_is tables sorted [] (Some cut) plan ks h within is some = limit_is tables (record { keys = []; offset = cut.offset; count = cut.count; ties = cut.ties }) plan ks h within (ties_with cut.ties sorted [] is some)
+limited_is tables sorted (item ∷ items) (Some cut) plan ks h within is some = limit_is tables (record { keys = item ∷ items; offset = cut.offset; count = cut.count; ties = cut.ties }) plan ks h within (ties_with cut.ties sorted (item ∷ items) is some)
+
+without_hidden_is : (tables : List TableRule) (outputs hidden : ℕ) (plan : PlanTree) (ks ls : List ValueKind) → HasKinds tables plan (ks ++ ls) → outputs ≡ length ks → hidden ≡ length ls → HasKinds tables (without_hidden outputs hidden plan) ks
+without_hidden_is tables outputs hidden plan ks ls h same many = by (nat_eq hidden 0) refl
+  where
+    by : (b : Bool) → nat_eq hidden 0 ≡ b → HasKinds tables (cond b plan (Map (columns_from 0 outputs) plan)) ks
+    by true e =
+        let none = eqb-true hidden 0 e in
+        let nil : ls ≡ [] = nil_from_length ls (omega arith) in
+        subst (HasKinds tables plan) (ap (λ xs. ks ++ xs) nil ∙ append-nil ks) h
+    by false e = subst (λ n. HasKinds tables (Map (columns_from 0 n) plan) ks) (sym same) (first_columns_is tables plan ks ls h)
+
+-- ---- the whole
+
+-- a plan that fits, and gives the columns that it says
+abbrev pub IsLowered : List TableRule → Lowered → Type 0
+IsLowered tables l = HasKinds tables l.plan (output_kinds l.columns)
+
+columns_shown_are : (outputs : List OutputMeaning) → kinds_shown outputs ≡ output_kinds (map column_shown outputs)
+columns_shown_are [] = refl
+columns_shown_are (o ∷ outputs) = ap (λ ks. o.kind ∷ ks) (columns_shown_are outputs)
+
+lowered_shown_is : (tables : List TableRule) (plan : PlanTree) (s : Shown) (sorted : Sorted) (order : Bool) (cut : Option Cut) → HasKinds tables plan (scope_kinds s.scope) → AreOutputs (kinds_met s.scope s.calls) s.outputs → AreCalls s.scope s.calls
+    → IsSorted s sorted → IsCut order cut → (order ≡ true → HasSome sorted.items) → IsLowered tables (lowered_shown (length s.scope.columns) s.distinct s.outputs s.calls sorted cut plan)
+lowered_shown_is tables plan s sorted order cut h outputs all is cuts some =
+    let ks = kinds_shown s.outputs in
+    let hs = is.kinds in
+    let es = expressions_of s.outputs ++ sorted.hidden in
+    let shown = outputs_are (kinds_met s.scope s.calls) s.outputs outputs in
+    let behind = kinds_kept (kinds_met s.scope []) (kinds_met s.scope s.calls) (more_calls s.scope [] s.calls) sorted.hidden hs is.hidden_are in
+    let are = are_append (kinds_met s.scope s.calls) (expressions_of s.outputs) sorted.hidden ks hs shown behind in
+    let covered = all_append (Covers (length s.scope.columns) sorted.inputs) (expressions_of s.outputs) sorted.hidden is.covered is.hidden_covered in
+    let shown_long : length (expressions_of s.outputs) ≡ length s.outputs = length-map s.outputs (λ (o : OutputMeaning). o.expression) in
+    let kinds_long : length ks ≡ length s.outputs = length-map s.outputs (λ (o : OutputMeaning). o.kind) in
+    let hidden_long = as_many (kinds_met s.scope []) sorted.hidden hs is.hidden_are in
+    let es_long = length-append (expressions_of s.outputs) sorted.hidden in
+    let all_long = length-append ks hs in
+    let count : length s.outputs + length sorted.hidden ≡ length es = omega arith in
+    let whole : length s.outputs + length sorted.hidden ≡ length (ks ++ hs) = omega arith in
+    let narrow = subst (λ n. is_wide n sorted.inputs s.calls ≡ false) count is.narrow in
+    let map_step = mapped_is tables plan s.scope s.calls sorted.inputs es (ks ++ hs) h is.inputs_are all is.among are covered narrow in
+    let distinct_step = deduplicated_is tables s.distinct (mapped (length s.scope.columns) s.calls sorted.inputs es plan) (ks ++ hs) map_step in
+    let limit_step = limited_is tables order sorted.items cut (deduplicated s.distinct (mapped (length s.scope.columns) s.calls sorted.inputs es plan)) (ks ++ hs) distinct_step (subst (λ n. AreWithin n sorted.items) whole is.items_are) cuts some in
+    subst (HasKinds tables (lowered_shown (length s.scope.columns) s.distinct s.outputs s.calls sorted cut plan).plan) (columns_shown_are s.outputs)
+    (without_hidden_is tables (length s.outputs) (length sorted.hidden) (limited sorted.items cut (deduplicated s.distinct (mapped (length s.scope.columns) s.calls sorted.inputs es plan))) ks hs limit_step (sym kinds_long) hidden_long)
+
+-- no sort keys yet
+unsorted_is : (scope : ScopeRule) (distinct : Bool) (list : Listing) → IsListed scope list → IsSorted (shown_by scope distinct list) (unsorted list.inputs)
+unsorted_is scope distinct list h = record {
+  items_are = tt;
+  kinds = [];
+  hidden_are = tt;
+  inputs_are = h.inputs_are;
+  covered = h.covered;
+  hidden_covered = tt;
+  among = h.among;
+  narrow = subst (λ n. is_wide n list.inputs list.calls ≡ false) (sym (add-zero (length list.outputs))) h.narrow;
+}
+
+shown_sorted_is : (tables : List TableRule) (plan : PlanTree) (scope : ScopeRule) (distinct : Bool) (list : Listing) (order : Keys) (limits : Option Limits) (l : Lowered) → HasKinds tables plan (scope_kinds scope) → IsListed scope list
+    → shown_sorted (shown_by scope distinct list) list.inputs order limits plan ≡ Ok l → IsLowered tables l
+shown_sorted_is tables plan scope distinct list order limits l h is e =
+    let s = shown_by scope distinct list in
+    let made = λ (sorted : Sorted) (cut : Option Cut). lowered_shown (length scope.columns) distinct list.outputs list.calls sorted cut plan in
+    let sorted = bound (keys_sorted s order (unsorted list.inputs)) (λ x. cut_meant (is_sorted order) limits >>= λ cut. Ok (made x cut)) l e in
+    let cut = bound (cut_meant (is_sorted order) limits) (λ x. Ok (made sorted.0 x)) l sorted.2 in
+    let keys = keys_sorted_is s is.calls_are order (unsorted list.inputs) sorted.0 (unsorted_is scope distinct list is) sorted.1 in
+    subst (IsLowered tables) (ok_is _ _ cut.2) (lowered_shown_is tables plan s sorted.0 (is_sorted order) cut.0 h is.outputs_are is.calls_are keys.0 (cut_is (is_sorted order) limits cut.0 cut.1) keys.2)
+
+selected_is : (tables : List TableRule) (scope : ScopeRule) (plan : PlanTree) (windows : List KnownMeaning) (quantifier : Option Quantifier) (items : List ItemTree) (order : Keys) (limits : Option Limits) (l : Lowered) → HasKinds tables plan (scope_kinds scope) → AreKnown (kinds_met scope []) windows
+    → selected scope plan windows quantifier items order limits ≡ Ok l → IsLowered tables l
+selected_is tables scope plan windows quantifier items order limits l h known e =
+    let c : ContextRule = record { scope = scope; windows = windows; calls_allowed = true } in
+    let list = bound (list_meant c items) (λ (x : Listing). shown_sorted (shown_by scope (is_distinct quantifier) x) x.inputs order limits plan) l e in
+    shown_sorted_is tables plan scope (is_distinct quantifier) list.0 order limits l h (list_is c items list.0 known list.1) list.2
+
+filtered_is : (tables : List TableRule) (scope : ScopeRule) (filter : Option Tree) (plan next : PlanTree) → HasKinds tables plan (scope_kinds scope) → filtered scope filter plan ≡ Ok next → HasKinds tables next (scope_kinds scope)
+filtered_is tables scope None plan next h e = subst (λ p. HasKinds tables p (scope_kinds scope)) (ok_is _ _ e) h
+filtered_is tables scope (Some a) plan next h e =
+    let x = bound (condition scope a) (λ y. Ok (Filter y plan)) next e in
+    subst (λ p. HasKinds tables p (scope_kinds scope)) (ok_is _ _ x.2) (filter_is tables x.0 plan (scope_kinds scope) h (over_plan tables plan scope x.0 Truth h (condition_is scope a x.0 x.1)))
+
+pub behind_from_is : (tables : List TableRule) (from : Part) (quantifier : Option Quantifier) (items : List ItemTree) (filter : Option Tree) (windows : List (Name × WindowTree)) (order : Keys) (limits : Option Limits) (l : Lowered) → HasKinds tables from.plan (scope_kinds from.scope)
+    → behind_from from quantifier items filter windows order limits ≡ Ok l → IsLowered tables l
+behind_from_is tables from quantifier items filter windows order limits l h e =
+    let p = bound (filtered from.scope filter from.plan) (λ plan. all_defined from.scope [] windows >>= λ known. selected from.scope plan known quantifier items order limits) l e in
+    let k = bound (all_defined from.scope [] windows) (λ known. selected from.scope p.0 known quantifier items order limits) l p.2 in
+    selected_is tables from.scope p.0 k.0 quantifier items order limits l (filtered_is tables from.scope filter from.plan p.0 h p.1) (all_defined_is from.scope [] windows k.0 tt k.1) k.2

@@ -1,0 +1,5 @@
+pub mod Selected
+pub mod Listings
+pub mod Lowering
+pub mod Answers
+pub mod Laws

@@ -1,0 +1,92 @@
+-- The plan of a query: its tables, its condition, its windows, its outputs, its order and its limits, one step over the other
+-- (SQL, query specification, query expression; PG, SELECT).
+use Rattle.std.specs.Prelude.{Bool, true, false, List, [], length, Option, Some, None, Ok}
+use Rattle.wd_syntax.specs.declared.name.Name.{Name}
+use Rattle.wd_syntax.specs.declared.query.Quantifier.{Quantifier}
+use Rattle.wd_syntax.specs.declared.query.Quantifier.TheVariants.{All, Distinct as DistinctRows}
+use Rattle.wd_syntax.specs.declared.query.Limits.{Limits}
+use Rattle.wd_syntax.specs.Tree as tree
+use Rattle.wd_syntax.specs.Tree.{Tree, Keys, ItemTree, TableTree, named, derived, JoinTree, comma, cross, inner, Joins, no_joins, more_joins, SelectTree, select, QueryTree, query, WindowTree}
+use Rattle.wd_schema.specs.Tables.{TableRule}
+use Rattle.wd_plan.specs.Expressions.{Expression}
+use Rattle.wd_plan.specs.Plans.{PlanTree}
+use Rattle.wd_operand.specs.Causes.{Meant, ◌>>=◌}
+use Rattle.wd_scope.specs.Resolving.{condition, all_defined}
+use Rattle.wd_scope.specs.Scopes.{ScopeRule}
+use Rattle.wd_scope.specs.Windows.{KnownMeaning}
+use Rattle.wd_resolve.specs.Selected.{Part, FromSoFar, called, named_table, derived_table, joined, together, first_admitted, next_admitted}
+use Rattle.wd_select.specs.Outputs.{Listing, list_meant}
+use Rattle.wd_select.specs.Sorting.{Shown, unsorted, keys_sorted, cut_meant}
+use Rattle.wd_select.specs.Steps.{Lowered, filtered, lowered_shown}
+
+-- ---- whole selects
+
+abbrev pub is_distinct : Option Quantifier → Bool
+is_distinct None = false
+is_distinct (Some All) = false
+is_distinct (Some DistinctRows) = true
+
+abbrev pub is_sorted : Keys → Bool
+is_sorted tree.no_keys = false
+is_sorted (tree.more_keys a direction nulls keys) = true
+
+abbrev pub shown_by : ScopeRule → Bool → Listing → Shown
+shown_by scope distinct list = record { scope = scope; distinct = distinct; outputs = list.outputs; calls = list.calls }
+
+-- what a select shows, in its order and within its limits
+abbrev pub shown_sorted : Shown → List Expression → Keys → Option Limits → PlanTree → Meant Lowered
+shown_sorted s inputs order limits plan =
+    keys_sorted s order (unsorted inputs) >>= λ sorted.
+    cut_meant (is_sorted order) limits >>= λ cut.
+    Ok (lowered_shown (length s.scope.columns) s.distinct s.outputs s.calls sorted cut plan)
+
+-- what is left of a select behind its FROM and its WINDOW: the select list, ORDER BY and the limits, from left to right
+abbrev pub selected : ScopeRule → PlanTree → List KnownMeaning → Option Quantifier → List ItemTree → Keys → Option Limits → Meant Lowered
+selected scope plan windows quantifier items order limits =
+    list_meant (record { scope = scope; windows = windows; calls_allowed = true }) items >>= λ list.
+    shown_sorted (shown_by scope (is_distinct quantifier) list) list.inputs order limits plan
+
+-- a select behind its FROM: WHERE, WINDOW, and the rest
+abbrev pub behind_from : Part → Option Quantifier → List ItemTree → Option Tree → List (Name × WindowTree) → Keys → Option Limits → Meant Lowered
+behind_from from quantifier items filter windows order limits =
+    filtered from.scope filter from.plan >>= λ plan.
+    all_defined from.scope [] windows >>= λ known.
+    selected from.scope plan known quantifier items order limits
+
+-- a table behind a comma begins a new row of joins
+abbrev pub behind_comma : FromSoFar → Part → Meant FromSoFar
+behind_comma from part = next_admitted from part >>= λ p. Ok (record { before = Some (together from.before from.current); current = p })
+
+-- a table joined to those before it, back to the last comma, on all pairs or on a condition
+abbrev pub joined_to : FromSoFar → Option Expression → Part → FromSoFar
+joined_to from condition part = record { before = from.before; current = joined condition from.current part }
+
+abbrev pub crossed : FromSoFar → Part → Meant FromSoFar
+crossed from part = next_admitted from part >>= λ p. Ok (joined_to from None p)
+
+-- ON sees the tables back to the last comma
+abbrev pub joined_on : FromSoFar → Tree → Part → Meant FromSoFar
+joined_on from on part = next_admitted from part >>= λ p. condition (joined None from.current p).scope on >>= λ e. Ok (joined_to from (Some e) p)
+
+abbrev mutual
+  -- the plan of a select, and its columns
+  pub lowered : List TableRule → SelectTree → Meant Lowered
+  lowered tables (select quantifier items first joins filter windows order limits) = table_meant tables first >>= λ part. first_admitted part >>= λ start. joins_meant tables joins start >>= λ from. behind_from (together from.before from.current) quantifier items filter windows order limits
+
+  -- a table of FROM: a Scan, or its own plan
+  pub table_meant : List TableRule → TableTree → Meant Part
+  table_meant tables (named name alias) = named_table tables name.text (called name alias)
+  table_meant tables (derived s alias) = lowered tables s >>= λ l. Ok (derived_table alias.name.text l)
+
+  pub joins_meant : List TableRule → Joins → FromSoFar → Meant FromSoFar
+  joins_meant tables no_joins from = Ok from
+  joins_meant tables (more_joins join joins) from = join_meant tables join from >>= λ next. joins_meant tables joins next
+
+  pub join_meant : List TableRule → JoinTree → FromSoFar → Meant FromSoFar
+  join_meant tables (comma table) from = table_meant tables table >>= λ part. behind_comma from part
+  join_meant tables (cross table) from = table_meant tables table >>= λ part. crossed from part
+  join_meant tables (inner with_inner table on) from = table_meant tables table >>= λ part. joined_on from on part
+
+-- the plan of a query under a schema, and the names and kinds of its columns; or the first cause for which it has none
+abbrev pub lowering : List TableRule → QueryTree → Meant Lowered
+lowering tables (query s semicolon) = lowered tables s

@@ -1,0 +1,124 @@
+-- The tables of FROM, and what a select gives to the query around it.
+use Rattle.std.specs.Prelude.{ℕ, ◌+◌, ◌^◌, ◌||◌, List, [], ◌∷◌, ◌++◌, map, length, nat_lt, Bool, true, false, Option, Some, None, option_map, Ok, Err, slice_get, if◌then◌else◌}
+use Rattle.std.specs.List.{list_any}
+use Rattle.std.specs.Option.{option_map_or}
+use Rattle.std.specs.Str.{bytes_eq}
+use Rattle.wd_syntax.specs.declared.name.Name.{Name}
+use Rattle.wd_syntax.specs.declared.query.Alias.{Alias}
+use Rattle.wd_schema.specs.declared.table.Column.{Column as TableColumn}
+use Rattle.wd_schema.specs.Tables.{TableRule}
+use Rattle.wd_plan.specs.declared.expression.ValueKind.{ValueKind}
+use Rattle.wd_plan.specs.Expressions.{Expression}
+use Rattle.wd_plan.specs.Fits.{kind_of_type}
+use Rattle.wd_plan.specs.Plans.{PlanTree, Scan, Join, plan_of}
+use Rattle.wd_operand.specs.declared.cause.Cause.TheVariants.{UnknownTable, Ambiguous, TooMany}
+use Rattle.wd_scope.specs.declared.scope.ScopeColumn.{ScopeColumn}
+use Rattle.wd_operand.specs.Causes.{Meant, ◌>>=◌}
+use Rattle.wd_scope.specs.Scopes.{ScopeRule, scope_of, beside, has_table}
+use Rattle.wd_select.specs.Steps.{Lowered}
+use Rattle.wd_select.specs.declared.part.OutputColumn.{OutputColumn}
+use Rattle.wd_select.specs.declared.part.Part.{Part as CodePart}
+use Rattle.wd_select.specs.declared.part.FromSoFar.{FromSoFar as CodeFrom}
+use Rattle.wd_select.specs.declared.part.LoweredSelect.{LoweredSelect}
+
+-- tables joined to one another: their columns, and the plan that gives them
+pub record Part : Type 0 where
+  pub scope : ScopeRule
+  pub plan : PlanTree
+
+-- what the parts of the code show
+abbrev pub lowered_of : LoweredSelect → Lowered
+lowered_of l = record { plan = plan_of l.plan; columns = l.columns.items }
+
+abbrev pub part_of : CodePart → Part
+part_of part = record { scope = scope_of part.scope; plan = plan_of part.plan }
+
+-- ---- one table
+
+-- a column of a table of the schema, as a column in scope
+abbrev pub table_column : List ℕ → TableColumn → ScopeColumn
+table_column table column = record { table = table; name = column.name; kind = kind_of_type column.kind }
+
+-- an output of a derived table as a column in scope
+abbrev pub derived_column : List ℕ → OutputColumn → ScopeColumn
+derived_column table column = record { table = table; name = column.name; kind = column.kind }
+
+-- a table is called by its alias, or else by its own name
+abbrev pub called : Name → Option Alias → List ℕ
+called name None = name.text
+called name (Some alias) = alias.name.text
+
+-- a table of the schema is a Scan; it has at most 1,024 columns (own)
+abbrev pub scan : List ℕ → ℕ → Option TableRule → Meant Part
+scan name number None = Err UnknownTable
+scan name number (Some table) =
+    if nat_lt 1024 (length table.columns) then Err TooMany
+    else Ok (record { scope = record { tables = name ∷ []; columns = map (table_column name) table.columns }; plan = Scan number (length table.columns) })
+
+-- the table of that number; no plan names one past the 65,536th
+abbrev pub scan_at : List TableRule → List ℕ → Option ℕ → Meant Part
+scan_at tables name None = Err UnknownTable
+scan_at tables name (Some number) = if nat_lt number (2 ^ 16) then scan name number (slice_get tables number) else Err UnknownTable
+
+-- the table of that number has the name
+abbrev pub is_named : List TableRule → List ℕ → ℕ → Bool
+is_named tables name number = option_map_or (λ (rule : TableRule). bytes_eq rule.name name) (slice_get tables number) false
+
+-- the number of the first table of that name, where tables are counted from a number on
+abbrev pub number_named : ℕ → List ℕ → List TableRule → Option ℕ
+number_named number name [] = None
+number_named number name (rule ∷ tables) = if bytes_eq rule.name name then Some number else number_named (number + 1) name tables
+
+-- the number of the table of that name
+abbrev pub table_number : List TableRule → List ℕ → Option ℕ
+table_number tables name = number_named 0 name tables
+
+-- the schema's table of a name, called by another name in FROM
+abbrev pub named_table : List TableRule → List ℕ → List ℕ → Meant Part
+named_table tables table name = scan_at tables name (table_number tables table)
+
+-- a derived table is its own plan
+abbrev pub derived_table : List ℕ → Lowered → Part
+derived_table name lowered = record { scope = record { tables = name ∷ []; columns = map (derived_column name) lowered.columns }; plan = lowered.plan }
+
+-- ---- the tables of FROM, from left to right
+
+-- the tables before the last comma, and those that are joined behind it
+pub record FromSoFar : Type 0 where
+  pub before : Option Part
+  pub current : Part
+
+abbrev pub from_of : CodeFrom → FromSoFar
+from_of from = record { before = option_map part_of from.before; current = part_of from.current }
+
+-- two parts, one beside the other, with the condition that joins them
+abbrev pub joined : Option Expression → Part → Part → Part
+joined condition left right = record { scope = beside left.scope right.scope; plan = Join condition left.plan right.plan }
+
+-- what the commas part is joined to the left without condition
+abbrev pub together : Option Part → Part → Part
+together None current = current
+together (Some before) current = joined None before current
+
+-- the tables and columns of FROM so far
+abbrev pub scope_so_far : FromSoFar → ScopeRule
+scope_so_far from = (together from.before from.current).scope
+
+-- a FROM has at most 8 tables and 1,024 columns (own)
+abbrev pub are_too_many : ℕ → ℕ → Bool
+are_too_many tables columns = nat_lt 8 tables || nat_lt 1024 columns
+
+abbrev pub is_too_large : ScopeRule → Bool
+is_too_large scope = are_too_many (length scope.tables) (length scope.columns)
+
+-- a further table, of a name that no other of this FROM has
+abbrev pub admitted : ScopeRule → Part → Meant Part
+admitted scope part = if list_any (has_table scope) part.scope.tables then Err Ambiguous else (if is_too_large (beside scope part.scope) then Err TooMany else Ok part)
+
+-- the first table
+abbrev pub first_admitted : Part → Meant FromSoFar
+first_admitted part = admitted (record { tables = []; columns = [] }) part >>= λ p. Ok (record { before = None; current = p })
+
+-- a further table beside all that stand before it
+abbrev pub next_admitted : FromSoFar → Part → Meant Part
+next_admitted from part = admitted (scope_so_far from) part

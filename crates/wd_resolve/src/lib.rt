@@ -1,0 +1,14 @@
+//! Queries to plans: names, types, windows, derived tables and joins.
+#![tactic(auto)]
+
+pub mod laws;
+mod listed;
+mod query;
+mod select;
+mod tables;
+#[cfg(test)]
+mod tests;
+
+pub use query::{Resolved, resolve};
+pub use wd_operand::{Cause, ResolveError};
+pub use wd_select::OutputColumn;

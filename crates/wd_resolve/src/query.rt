@@ -1,0 +1,48 @@
+//! The plan of a query under a schema.
+
+ghost use Rattle.std.specs.Prelude.{◌≡◌, true, map, IfOk};
+ghost use Rattle.wd_schema.specs.Schemas.{schema_of};
+ghost use Rattle.wd_plan.specs.Fits.{fits};
+ghost use Rattle.wd_plan.specs.Plans.{plan_of};
+ghost use Rattle.wd_operand.specs.Causes.{Gives};
+ghost use Rattle.wd_syntax.specs.View.{view_query};
+ghost use Rattle.wd_resolve.specs.Answers.{resolved_of, answer, name_in};
+
+use crate::select::lowered;
+use std::alloc::Global;
+use wd_operand::ResolveError;
+use wd_plan::Plan;
+use wd_schema::Schema;
+use wd_select::{LoweredSelect, OutputColumn};
+use wd_syntax::Query;
+use wd_value::{OutOfMemory, Text};
+
+/// The plan of a query, and the names of its outputs.
+#[derive(Debug, Drop)]
+pub struct Resolved {
+    pub plan: Plan,
+    pub names: Vec<Text>,
+}
+
+/// The plan of a query under a schema, and the names of its outputs. Each name stands for the one column in scope that carries
+/// it. Refused by 401 to 415 just where one of these causes stands in the query. The plan fits the schema.
+pub fn resolve(alloc: Global, schema: &Schema, query: &Query) -> Result<Resolved, ResolveError>
+    ensures fitting { IfOk result (λ r. fits (schema_of schema.now) (plan_of r.plan) ≡ true) }
+    ensures meant { Gives resolved_of result (answer (schema_of schema.now) (view_query query.now)) }
+{
+    let select = lowered(alloc, schema, &query.select)?;
+    let LoweredSelect { plan, columns } = select;
+    let names = names_of(alloc, columns)?;
+    Ok(Resolved { plan, names })
+}
+
+/// The names of outputs.
+fn names_of(alloc: Global, columns: Vec<OutputColumn>) -> Result<Vec<Text>, OutOfMemory>
+    ensures { IfOk result (λ v. v.items ≡ map name_in columns.items) }
+{
+    let mut names = Vec::with_capacity(alloc, columns.len())?;
+    for column in columns {
+        names.push(column.name)?;
+    }
+    Ok(names)
+}

@@ -1,0 +1,332 @@
+//! Selects to plans.
+
+ghost use Rattle.std.specs.Prelude.{◌≡◌, ◌+◌, ◌≤◌, false, ◌++◌, map, length, vec_len, option_map, IfOk};
+ghost use Rattle.wd_plan.specs.Expressions.{expression_of};
+ghost use Rattle.wd_plan.specs.Plans.{plan_of};
+ghost use Rattle.wd_schema.specs.Schemas.{schema_of};
+ghost use Rattle.wd_syntax.specs.Tree.{joins_of, keys_of};
+ghost use Rattle.wd_syntax.specs.View.{view_item, view_joined, view_key, view_named_window, view_option, view_select, view_table};
+ghost use Rattle.wd_operand.specs.Causes.{Gives};
+ghost use Rattle.wd_scope.specs.Calls.{calls_of};
+ghost use Rattle.wd_scope.specs.Resolving.{context_of};
+ghost use Rattle.wd_scope.specs.Scopes.{scope_of};
+ghost use Rattle.wd_scope.specs.Windows.{known_of};
+ghost use Rattle.wd_select.specs.Cuts.{cut_of};
+ghost use Rattle.wd_resolve.specs.Listings.{listing_of};
+ghost use Rattle.wd_select.specs.Outputs.{output_of, is_wide, expressions_of};
+ghost use Rattle.wd_select.specs.Outputs as outputs_spec;
+ghost use Rattle.wd_resolve.specs.Selected.{part_of, from_of, lowered_of};
+ghost use Rattle.wd_resolve.specs.Selected as parts_spec;
+ghost use Rattle.wd_select.specs.Sorting.{sorted_of};
+ghost use Rattle.wd_select.specs.Steps as steps_spec;
+ghost use Rattle.wd_resolve.specs.Lowering as spec;
+
+use crate::listed::Listed;
+use crate::tables::{
+    behind_comma, crossed, derived_table, first_admitted, joined_on, named_table, together,
+};
+use std::alloc::Global;
+use wd_operand::{Cause, ResolveError};
+use wd_plan::{Expr, Plan};
+use wd_schema::Schema;
+use wd_scope::{Calls, Context, KnownWindow, Scope, all_defined};
+use wd_select::{
+    Cut, FromSoFar, LoweredSelect, Output, OutputColumn, Part, Shown, Sorted, add_all_met,
+    cut_meant, deduplicated, filtered, is_wide, item_meant, keys_sorted, limited, mapped,
+    without_hidden,
+};
+use wd_syntax::{Alias, Item, Joined, Limits, Name, Quantifier, Select, SortKey, Table};
+use wd_value::{OutOfMemory, Text};
+
+/// The plan of a select, and its columns.
+#[cycle(select)]
+pub fn lowered(
+    alloc: Global,
+    schema: &Schema,
+    select: &Select,
+) -> Result<LoweredSelect, ResolveError>
+    ensures { Gives lowered_of result (spec.lowered (schema_of schema.now) (view_select select.now)) }
+{
+    let first = table_meant(alloc, schema, &select.from.first)?;
+    let first = first_admitted(first)?;
+    let from = joins_meant(alloc, schema, first, &select.from.joined)?;
+    let part = together(alloc, from)?;
+    behind_from(alloc, part, select)
+}
+
+/// The tables of FROM behind the first, from left to right.
+#[cycle(select)]
+fn joins_meant(
+    alloc: Global,
+    schema: &Schema,
+    first: FromSoFar,
+    joins: &[Joined],
+) -> Result<FromSoFar, ResolveError>
+    ensures { Gives from_of result (spec.joins_meant (schema_of schema.now) (joins_of (map view_joined joins.now)) (from_of first)) }
+{
+    let mut from = first;
+    for join in joins {
+        from = join_meant(alloc, schema, from, join)?;
+    }
+    Ok(from)
+}
+
+/// A table of FROM: a Scan, or its own plan.
+#[cycle(select)]
+fn table_meant(alloc: Global, schema: &Schema, table: &Table) -> Result<Part, ResolveError>
+    ensures { Gives part_of result (spec.table_meant (schema_of schema.now) (view_table table.now)) }
+{
+    match table {
+        Table::Named(name, alias) => named_table(alloc, schema, &name.text, called(name, alias)),
+        Table::Derived(select, alias) => {
+            let plan = lowered(alloc, schema, select)?;
+            Ok(derived_table(alloc, &alias.name.text, plan)?)
+        }
+    }
+}
+
+/// What a table of the schema is called: by its alias, or else by its own name.
+fn called<'a>(name: &'a Name, alias: &'a Option<Alias>) -> &'a Text
+    ensures { result.now ≡ parts_spec.called name.now alias.now }
+{
+    match alias {
+        Some(alias) => &alias.name.text,
+        None => &name.text,
+    }
+}
+
+#[cycle(select)]
+fn join_meant(
+    alloc: Global,
+    schema: &Schema,
+    from: FromSoFar,
+    join: &Joined,
+) -> Result<FromSoFar, ResolveError>
+    ensures { Gives from_of result (spec.join_meant (schema_of schema.now) (view_joined join.now) (from_of from)) }
+{
+    match join {
+        Joined::Comma(table) => {
+            let part = table_meant(alloc, schema, table)?;
+            behind_comma(alloc, from, part)
+        }
+        Joined::Cross(table) => {
+            let part = table_meant(alloc, schema, table)?;
+            crossed(alloc, from, part)
+        }
+        Joined::Inner(_, table, on) => {
+            let part = table_meant(alloc, schema, table)?;
+            joined_on(alloc, from, part, on)
+        }
+    }
+}
+
+/// A select behind its FROM: WHERE, WINDOW, the select list, ORDER BY and the limits.
+fn behind_from(alloc: Global, from: Part, select: &Select) -> Result<LoweredSelect, ResolveError>
+    ensures { Gives lowered_of result (spec.behind_from (part_of from) select.now.quantifier (map view_item select.now.items.items) (view_option select.now.filter) (map view_named_window select.now.windows.items) (keys_of (map view_key select.now.order.items)) select.now.limits) }
+{
+    let Part { scope, plan } = from;
+    let plan = filtered(alloc, &scope, &select.filter, plan)?;
+    let windows = all_defined(alloc, &scope, &select.windows)?;
+    selected(alloc, &scope, plan, &windows, select)
+}
+
+/// What is left of a select behind its FROM, its WHERE and its WINDOW.
+fn selected(
+    alloc: Global,
+    scope: &Scope,
+    plan: Plan,
+    windows: &[KnownWindow],
+    select: &Select,
+) -> Result<LoweredSelect, ResolveError>
+    ensures { Gives lowered_of result (spec.selected (scope_of scope.now) (plan_of plan) (map known_of windows.now) select.now.quantifier (map view_item select.now.items.items) (keys_of (map view_key select.now.order.items)) select.now.limits) }
+{
+    let context = Context {
+        scope,
+        windows,
+        calls_allowed: true,
+    };
+    let listed = list_meant(alloc, &context, &select.items)?;
+    let distinct = is_distinct(select.quantifier);
+    shown_sorted(
+        alloc,
+        scope,
+        distinct,
+        listed,
+        &select.order,
+        select.limits,
+        plan,
+    )
+}
+
+fn is_distinct(quantifier: Option<Quantifier>) -> bool
+    ensures { result ≡ spec.is_distinct quantifier }
+{
+    match quantifier {
+        None | Some(Quantifier::All) => false,
+        Some(Quantifier::Distinct) => true,
+    }
+}
+
+/// No member of a select list yet.
+fn nothing_listed(alloc: Global) -> Listed
+    ensures { listing_of result ≡ outputs_spec.nothing_listed }
+{
+    Listed {
+        outputs: Vec::new(alloc),
+        calls: Calls::new(alloc),
+        inputs: Vec::new(alloc),
+    }
+}
+
+/// The outputs of the select list: 415 at a member that makes a node too wide.
+fn list_meant(alloc: Global, context: &Context<'_>, items: &[Item]) -> Result<Listed, ResolveError>
+    ensures { Gives listing_of result (outputs_spec.list_meant (context_of context.now) (map view_item items.now)) }
+{
+    let mut listed = nothing_listed(alloc);
+    for item in items {
+        listed = item_listed(alloc, context, item, listed)?;
+    }
+    Ok(listed)
+}
+
+/// A further member of a select list.
+fn item_listed(
+    alloc: Global,
+    context: &Context<'_>,
+    item: &Item,
+    listed: Listed,
+) -> Result<Listed, ResolveError>
+    ensures { Gives listing_of result (outputs_spec.item_listed (context_of context.now) (view_item item.now) (listing_of listed)) }
+{
+    let Listed {
+        outputs,
+        mut calls,
+        mut inputs,
+    } = listed;
+    let width = context.scope.columns.len();
+    let more = item_meant(alloc, context, item, &mut calls)?;
+    add_all_met(alloc, &mut inputs, width, &calls, &more)?;
+    let outputs = joined_outputs(outputs, more)?;
+    if is_wide(outputs.len(), &inputs, &calls) {
+        return Err(ResolveError::Refused(Cause::TooMany));
+    }
+    Ok(Listed {
+        outputs,
+        calls,
+        inputs,
+    })
+}
+
+/// Outputs behind others.
+fn joined_outputs(first: Vec<Output>, more: Vec<Output>) -> Result<Vec<Output>, OutOfMemory>
+    ensures { IfOk result (λ v. map output_of v.items ≡ map output_of first.items ++ map output_of more.items) }
+{
+    let mut all = first;
+    for output in more {
+        all.push(output)?;
+    }
+    Ok(all)
+}
+
+/// Whether there are sort keys.
+fn is_sorted(keys: &[SortKey]) -> bool
+    ensures { result ≡ spec.is_sorted (keys_of (map view_key keys.now)) }
+{
+    match keys {
+        [] => false,
+        _ => true,
+    }
+}
+
+/// What a select shows, in its order and within its limits.
+fn shown_sorted(
+    alloc: Global,
+    scope: &Scope,
+    distinct: bool,
+    listed: Listed,
+    order: &[SortKey],
+    limits: Option<Limits>,
+    plan: Plan,
+) -> Result<LoweredSelect, ResolveError>
+    ensures { Gives lowered_of result (spec.shown_sorted (spec.shown_by (scope_of scope.now) distinct (listing_of listed)) (map expression_of listed.inputs.items) (keys_of (map view_key order.now)) limits (plan_of plan)) }
+{
+    let Listed {
+        outputs,
+        calls,
+        inputs,
+    } = listed;
+    let shown = Shown {
+        scope,
+        distinct,
+        outputs: &outputs,
+        calls: &calls,
+    };
+    let sorted = keys_sorted(alloc, &shown, order, inputs)?;
+    let cut = cut_meant(is_sorted(order), limits)?;
+    let width = scope.columns.len();
+    Ok(plan_shown(alloc, width, distinct, outputs, calls, sorted, cut, plan)?)
+}
+
+/// The plan of what a select shows, sorts by and cuts.
+fn plan_shown(
+    alloc: Global,
+    width: usize,
+    distinct: bool,
+    outputs: Vec<Output>,
+    calls: Calls,
+    sorted: Sorted,
+    cut: Option<Cut>,
+    plan: Plan,
+) -> Result<LoweredSelect, OutOfMemory>
+    requires { outputs_spec.is_wide (vec_len outputs + vec_len sorted.hidden) (map expression_of sorted.inputs.items) (calls_of calls) ≡ false }
+    ensures { IfOk result (λ l. lowered_of l ≡ steps_spec.lowered_shown width distinct (map output_of outputs.items) (calls_of calls) (sorted_of sorted) (option_map cut_of cut) (plan_of plan)) }
+{
+    let Sorted {
+        items,
+        hidden,
+        inputs,
+    } = sorted;
+    let hidden_count = hidden.len();
+    let (columns, expressions) = parts_of(alloc, outputs)?;
+    let expressions = joined_lists(expressions, hidden)?;
+    let plan = mapped(alloc, width, calls, inputs, expressions, plan)?;
+    let plan = deduplicated(alloc, distinct, plan)?;
+    let plan = limited(alloc, items, cut, plan)?;
+    let plan = without_hidden(alloc, columns.len(), hidden_count, plan)?;
+    Ok(LoweredSelect { plan, columns })
+}
+
+/// The names and kinds of outputs, and their expressions.
+fn parts_of(
+    alloc: Global,
+    outputs: Vec<Output>,
+) -> Result<(Vec<OutputColumn>, Vec<Expr>), OutOfMemory>
+    ensures columns { IfOk result (λ p. p.0.items ≡ map steps_spec.column_shown (map output_of outputs.items)) }
+    ensures expressions { IfOk result (λ p. map expression_of p.1.items ≡ expressions_of (map output_of outputs.items)) }
+    ensures as_many { IfOk result (λ p. (vec_len p.0 ≡ vec_len outputs) × (vec_len p.1 ≡ vec_len outputs)) }
+{
+    let mut columns = Vec::with_capacity(alloc, outputs.len())?;
+    let mut expressions = Vec::with_capacity(alloc, outputs.len())?;
+    for output in outputs {
+        let Output {
+            name,
+            expression,
+            kind,
+        } = output;
+        columns.push(OutputColumn { name, kind })?;
+        expressions.push(expression)?;
+    }
+    Ok((columns, expressions))
+}
+
+/// One list behind another.
+fn joined_lists(first: Vec<Expr>, second: Vec<Expr>) -> Result<Vec<Expr>, OutOfMemory>
+    ensures joined { IfOk result (λ v. map expression_of v.items ≡ map expression_of first.items ++ map expression_of second.items) }
+    ensures as_many { IfOk result (λ v. vec_len v ≡ vec_len first + vec_len second) }
+{
+    let mut all = first;
+    for expression in second {
+        all.push(expression)?;
+    }
+    Ok(all)
+}

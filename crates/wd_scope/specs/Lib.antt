@@ -1,0 +1,6 @@
+pub mod Scopes
+pub mod Windows
+pub mod Calls
+pub mod Resolving
+pub mod Typed
+pub mod Laws

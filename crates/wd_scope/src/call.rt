@@ -1,0 +1,53 @@
+//! Window calls: functions over their arguments, and over windows.
+
+ghost use Rattle.std.specs.Prelude.{◌≤◌, vec_len};
+
+use crate::window::Window;
+use wd_plan::{Expr, ValueKind};
+use wd_value::Value;
+
+/// The functions of window calls.
+#[derive(Clone, Copy, Debug, PartialEq, Eq)]
+pub enum FunctionName {
+    RowNumber,
+    Rank,
+    DenseRank,
+    Ntile,
+    Lag,
+    Lead,
+    FirstValue,
+    LastValue,
+    NthValue,
+    Count,
+    Sum,
+    Min,
+    Max,
+}
+
+/// A function over its arguments.
+#[derive(Debug, Drop)]
+pub struct AppliedFunction {
+    pub name: FunctionName,
+    /// The value argument. COUNT(*) has none.
+    pub argument: Option<Expr>,
+    /// The whole number that NTILE, LAG, LEAD and NTH_VALUE take; else 0.
+    pub number: u64,
+    /// The default of LAG and LEAD; else NULL.
+    pub default: Value,
+    /// The kind of its values.
+    pub kind: ValueKind,
+}
+
+/// A window call.
+#[derive(Debug, Drop)]
+pub struct WindowCall {
+    pub function: AppliedFunction,
+    pub window: Window,
+}
+
+/// The distinct window calls of a select list, at most 1,024.
+#[derive(Debug, Drop)]
+pub struct Calls {
+    pub list: Vec<WindowCall>,
+    pub ghost few: { vec_len list ≤ 1024 },
+}

@@ -1,0 +1,20 @@
+//! What the expressions and windows of a query mean: names, types and window calls over the columns in scope.
+#![tactic(auto)]
+
+mod call;
+mod context;
+mod expression;
+mod function;
+pub mod laws;
+mod names;
+mod same;
+mod scope;
+#[cfg(test)]
+mod tests;
+mod window;
+
+pub use call::{AppliedFunction, Calls, FunctionName, WindowCall};
+pub use context::Context;
+pub use expression::{all_defined, condition, plain, resolved, written_number};
+pub use scope::{MOST_COLUMNS, Scope, ScopeColumn};
+pub use window::{KnownWindow, OrderKey, Window, sort_key};

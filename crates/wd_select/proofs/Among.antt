@@ -1,0 +1,61 @@
+-- What stands among the elements met first.
+use Rattle.std.proofs.Common.{◌≡◌, ◌∙◌, sym, ap, refl, ℕ, suc, ◌+◌, Bool, true, false, cond, ◌||◌, List, [], ◌∷◌, ◌++◌, Some, slice_get, arith}
+use Rattle.std.specs.List.{AllByRecursion, list_any, list_all}
+use Rattle.std.proofs.lemmas.Bool.{false≢true, or_left, or_right}
+use Rattle.std.proofs.lemmas.List.Folds.{list_any-append}
+use Rattle.wd_select.specs.Outputs.{first_number, with_new}
+use Rattle.wd_scope.proofs.TypedMet.{all_push}
+use Rattle.wd_scope.proofs.Typing.{and_both}
+
+pub all_append : {A : Type 0} (P : A → Type 0) (xs ys : List A) → AllByRecursion P xs → AllByRecursion P ys → AllByRecursion P (xs ++ ys)
+all_append P [] ys h g = g
+all_append P (x ∷ xs) ys h g = (h.0, all_append P xs ys h.1 g)
+
+pub all_split : {A : Type 0} (P : A → Type 0) (xs ys : List A) → AllByRecursion P (xs ++ ys) → AllByRecursion P xs × AllByRecursion P ys
+all_split P [] ys h = (tt, h)
+all_split P (x ∷ xs) ys h = let later = all_split P xs ys h.1 in ((h.0, later.0), later.1)
+
+pub all_true : {A : Type 0} (t : A → Bool) (xs : List A) → AllByRecursion (λ x. t x ≡ true) xs → list_all t xs ≡ true
+all_true t [] h = refl
+all_true t (x ∷ xs) h = and_both _ _ h.0 (all_true t xs h.1)
+
+module _ {A : Type 0} (same : A → A → Bool) where
+  -- an element that is there, by its number
+  pub first_is : ((x y : A) → same x y ≡ true → x ≡ y) → (k : ℕ) (x : A) (xs : List A) → list_any (same x) xs ≡ true → (m : ℕ) × (first_number k (same x) xs ≡ k + m) × (slice_get xs m ≡ Some x)
+  first_is is k x [] h = absurd (false≢true h)
+  first_is is k x (y ∷ ys) h = by (same x y) refl h (first_is is (k + 1) x ys)
+    where
+      by : (b : Bool) → same x y ≡ b → (b || list_any (same x) ys) ≡ true
+          → (list_any (same x) ys ≡ true → (m : ℕ) × (first_number (k + 1) (same x) ys ≡ (k + 1) + m) × (slice_get ys m ≡ Some x))
+          → (m : ℕ) × (cond b k (first_number (k + 1) (same x) ys) ≡ k + m) × (slice_get (y ∷ ys) m ≡ Some x)
+      by true e h later = (0, omega arith, ap Some (sym (is x y e)))
+      by false e h later = let found = later h in (suc found.0, found.1 ∙ omega arith, found.2)
+
+  grown : (x y : A) (b : Bool) (seen : List A) → list_any (same x) seen ≡ true → list_any (same x) (cond b seen (seen ++ y ∷ [])) ≡ true
+  grown x y true seen h = h
+  grown x y false seen h = list_any-append (same x) seen (y ∷ []) ∙ or_left _ _ h
+
+  pub still_there : (x : A) (seen xs : List A) → list_any (same x) seen ≡ true → list_any (same x) (with_new same seen xs) ≡ true
+  still_there x seen [] h = h
+  still_there x seen (y ∷ ys) h = still_there x (cond (list_any (same y) seen) seen (seen ++ y ∷ [])) ys (grown x y (list_any (same y) seen) seen h)
+
+  added : (x : A) (seen : List A) → same x x ≡ true → list_any (same x) (cond (list_any (same x) seen) seen (seen ++ x ∷ [])) ≡ true
+  added x seen itself = by (list_any (same x) seen) refl
+    where
+      by : (b : Bool) → list_any (same x) seen ≡ b → list_any (same x) (cond b seen (seen ++ x ∷ [])) ≡ true
+      by true e = e
+      by false e = list_any-append (same x) seen (x ∷ []) ∙ or_right _ _ (or_left _ _ itself)
+
+  pub all_there : ((x : A) → same x x ≡ true) → (seen xs : List A) → AllByRecursion (λ x. list_any (same x) (with_new same seen xs) ≡ true) xs
+  all_there itself seen [] = tt
+  all_there itself seen (x ∷ xs) =
+      let more = cond (list_any (same x) seen) seen (seen ++ x ∷ []) in
+      (still_there x more xs (added x seen (itself x)), all_there itself more xs)
+
+  pub all_with_new : (P : A → Type 0) (seen xs : List A) → AllByRecursion P seen → AllByRecursion P xs → AllByRecursion P (with_new same seen xs)
+  all_with_new P seen [] h g = h
+  all_with_new P seen (x ∷ xs) h g = all_with_new P (cond (list_any (same x) seen) seen (seen ++ x ∷ [])) xs (by (list_any (same x) seen)) g.1
+    where
+      by : (b : Bool) → AllByRecursion P (cond b seen (seen ++ x ∷ []))
+      by true = h
+      by false = all_push P seen x h g.0

@@ -1,0 +1,5 @@
+pub mod Widths
+pub mod Outputs
+pub mod Sorting
+pub mod Cuts
+pub mod Steps

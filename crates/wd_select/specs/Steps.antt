@@ -1,0 +1,149 @@
+-- The steps of a plan above FROM: the windows of a select list, and what is shown, sorted and cut (SQL, query specification, query
+-- expression; PG, SELECT).
+use Rattle.std.specs.Prelude.{ℕ, ◌+◌, ◌-◌, Bool, true, false, ◌&&◌, List, [], ◌∷◌, ◌++◌, map, length, nat_eq, nat_lt, Option, Some, None, option_map, Ok, if◌then◌else◌}
+use Rattle.std.specs.List.{range_with_len}
+use lib.Pointwise.{pointwise}
+use Rattle.wd_value.specs.declared.value.Value.{Value}
+use Rattle.wd_syntax.specs.Tree.{Tree}
+use Rattle.wd_plan.specs.declared.plan.OrderItem.{OrderItem}
+use Rattle.wd_plan.specs.declared.window.Call.{Call}
+use Rattle.wd_plan.specs.declared.window.Function.{Function}
+use Rattle.wd_plan.specs.declared.window.Function.TheVariants as f
+use Rattle.wd_plan.specs.Expressions.{Expression, Column, Literal, Negate, Arithmetic, Compare, Not, And, Or, IsNull, IsNotNull, Case}
+use Rattle.wd_plan.specs.Plans.{ClassRule, WindowRule, PlanTree, Filter, Map, Window, Distinct, Limit}
+use Rattle.wd_scope.specs.declared.call.FunctionName.{FunctionName}
+use Rattle.wd_scope.specs.declared.call.FunctionName.TheVariants.{RowNumber, Rank, DenseRank, Ntile, Lag, Lead, FirstValue, LastValue, NthValue, Count, Sum, Min, Max}
+use Rattle.wd_operand.specs.Causes.{Meant, ◌>>=◌}
+use Rattle.wd_scope.specs.Calls.{CallMeaning, same_bool}
+use Rattle.wd_scope.specs.Resolving.{condition}
+use Rattle.wd_scope.specs.Scopes.{ScopeRule}
+use Rattle.wd_scope.specs.Windows.{KeyMeaning}
+use Rattle.wd_select.specs.declared.part.OutputColumn.{OutputColumn}
+use Rattle.wd_select.specs.Outputs.{OutputMeaning, expressions_of, first_number, input_number, with_new}
+use Rattle.wd_select.specs.Sorting.{Sorted, Cut}
+
+-- ---- the windows of a select list
+
+-- a value argument; where a function has none, no column is read
+abbrev pub column_or_first : Option ℕ → ℕ
+column_or_first None = 0
+column_or_first (Some column) = column
+
+-- the function of a plan, over the column of its value argument
+abbrev pub function_over : FunctionName → Option ℕ → ℕ → Value → Function
+function_over RowNumber argument n default = f.RowNumber
+function_over Rank argument n default = f.Rank
+function_over DenseRank argument n default = f.DenseRank
+function_over Ntile argument n default = f.Ntile n
+function_over Lag argument n default = f.Lag (column_or_first argument) n default
+function_over Lead argument n default = f.Lead (column_or_first argument) n default
+function_over FirstValue argument n default = f.FirstValue (column_or_first argument)
+function_over LastValue argument n default = f.LastValue (column_or_first argument)
+function_over NthValue argument n default = f.NthValue (column_or_first argument) n
+function_over Count None n default = f.CountRows
+function_over Count (Some argument) n default = f.Count argument
+function_over Sum argument n default = f.Sum (column_or_first argument)
+function_over Min argument n default = f.Min (column_or_first argument)
+function_over Max argument n default = f.Max (column_or_first argument)
+
+-- the column of a sort key among the inputs
+abbrev pub order_item : List Expression → KeyMeaning → OrderItem
+order_item inputs key = record { column = input_number inputs key.expression; key = key.key }
+
+-- the class of a call: its partition and its sort keys among the inputs
+abbrev pub class_over : List Expression → CallMeaning → ClassRule
+class_over inputs call = record { partition = map (input_number inputs) call.window.partition; order = map (order_item inputs) call.window.order }
+
+abbrev pub same_item : OrderItem → OrderItem → Bool
+same_item a b = nat_eq a.column b.column && (same_bool a.key.desc b.key.desc && same_bool a.key.nulls_first b.key.nulls_first)
+
+-- classes are equal where their lists are equal
+abbrev pub same_class : ClassRule → ClassRule → Bool
+same_class a b = pointwise nat_eq a.partition b.partition && pointwise same_item a.order b.order
+
+-- the classes of calls, in the order of their first calls
+abbrev pub classes_over : List Expression → List CallMeaning → List ClassRule
+classes_over inputs calls = with_new same_class [] (map (class_over inputs) calls)
+
+abbrev pub call_over : List Expression → List ClassRule → CallMeaning → Call
+call_over inputs classes call = record {
+  class = first_number 0 (same_class (class_over inputs call)) classes;
+  function = function_over call.function.name (option_map (input_number inputs) call.function.argument) call.function.number call.function.default;
+  frame = call.window.frame;
+}
+
+-- what a Window computes over the inputs
+abbrev pub window_over : List Expression → List CallMeaning → WindowRule
+window_over inputs calls = record { classes = classes_over inputs calls; calls = map (call_over inputs (classes_over inputs calls)) calls }
+
+-- the column of the Window for a column of FROM, or for one of so many calls behind these; there are no others
+abbrev pub column_above : ℕ → ℕ → List Expression → ℕ → ℕ
+column_above width calls inputs c = if nat_lt c width then input_number inputs (Column c) else (if nat_lt (c - width) calls then length inputs + (c - width) else c)
+
+-- an expression over the columns of FROM and the calls, as one over the columns of the Window
+abbrev pub above : ℕ → ℕ → List Expression → Expression → Expression
+above width calls inputs (Column c) = Column (column_above width calls inputs c)
+above width calls inputs (Literal v kind) = Literal v kind
+above width calls inputs (Negate a) = Negate (above width calls inputs a)
+above width calls inputs (Arithmetic op a b) = Arithmetic op (above width calls inputs a) (above width calls inputs b)
+above width calls inputs (Compare op a b) = Compare op (above width calls inputs a) (above width calls inputs b)
+above width calls inputs (Not a) = Not (above width calls inputs a)
+above width calls inputs (And a b) = And (above width calls inputs a) (above width calls inputs b)
+above width calls inputs (Or a b) = Or (above width calls inputs a) (above width calls inputs b)
+above width calls inputs (IsNull a) = IsNull (above width calls inputs a)
+above width calls inputs (IsNotNull a) = IsNotNull (above width calls inputs a)
+above width calls inputs (Case a b c) = Case (above width calls inputs a) (above width calls inputs b) (above width calls inputs c)
+
+-- ---- the steps
+
+-- WHERE is a Filter
+abbrev pub filtered : ScopeRule → Option Tree → PlanTree → Meant PlanTree
+filtered scope None plan = Ok plan
+filtered scope (Some a) plan = condition scope a >>= λ e. Ok (Filter e plan)
+
+-- a Window over a Map of the distinct expressions that are met
+abbrev pub windowed : List Expression → List CallMeaning → PlanTree → PlanTree
+windowed inputs calls plan = Window (window_over inputs calls) (Map inputs plan)
+
+-- a Map of the expressions; with window calls over a Window, and this over a Map of the distinct expressions that are met
+abbrev pub mapped : ℕ → List CallMeaning → List Expression → List Expression → PlanTree → PlanTree
+mapped width [] inputs expressions plan = Map expressions plan
+mapped width (call ∷ calls) inputs expressions plan = Map (map (above width (length (call ∷ calls)) inputs) expressions) (windowed inputs (call ∷ calls) plan)
+
+-- DISTINCT is a Distinct
+abbrev pub deduplicated : Bool → PlanTree → PlanTree
+deduplicated false plan = plan
+deduplicated true plan = Distinct plan
+
+-- ORDER BY, OFFSET or a count is a Limit
+abbrev pub limited : List OrderItem → Option Cut → PlanTree → PlanTree
+limited [] None plan = plan
+limited (item ∷ items) None plan = Limit (record { keys = item ∷ items; offset = 0; count = None; ties = false }) plan
+limited items (Some cut) plan = Limit (record { keys = items; offset = cut.offset; count = cut.count; ties = cut.ties }) plan
+
+-- the columns from a number on, so many
+abbrev pub columns_from : ℕ → ℕ → List Expression
+columns_from first count = map Column (range_with_len first count)
+
+-- a Map that drops so many hidden sort keys behind so many outputs, where there are some
+abbrev pub without_hidden : ℕ → ℕ → PlanTree → PlanTree
+without_hidden outputs hidden plan = if nat_eq hidden 0 then plan else Map (columns_from 0 outputs) plan
+
+abbrev pub column_shown : OutputMeaning → OutputColumn
+column_shown output = record { name = output.name; kind = output.kind }
+
+-- a plan, and the names and kinds of its columns
+pub record Lowered : Type 0 where
+  pub plan : PlanTree
+  pub columns : List OutputColumn
+
+-- the plan of what a select shows, sorts by and cuts, and its columns
+abbrev pub lowered_shown : ℕ → Bool → List OutputMeaning → List CallMeaning → Sorted → Option Cut → PlanTree → Lowered
+lowered_shown width distinct outputs calls sorted cut plan = record {
+  plan =
+      without_hidden (length outputs) (length sorted.hidden)
+      (limited sorted.items cut
+      (deduplicated distinct
+      (mapped width calls sorted.inputs (expressions_of outputs ++ sorted.hidden) plan)));
+  columns = map column_shown outputs;
+}

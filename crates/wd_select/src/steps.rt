@@ -1,0 +1,472 @@
+//! The steps of a plan above FROM.
+
+ghost use Rattle.std.specs.Prelude.{◌≡◌, ◌+◌, ◌≤◌, false, nat_eq, [], ◌∷◌, map, length, vec_len, option_map, IfOk};
+ghost use Rattle.std.specs.List.{list_any};
+ghost use lib.Pointwise.{pointwise};
+ghost use Rattle.wd_plan.specs.Expressions.{expression_of};
+ghost use Rattle.wd_plan.specs.Plans.{class_of, plan_of};
+ghost use Rattle.wd_syntax.specs.View.{view_option};
+ghost use Rattle.wd_operand.specs.Causes.{Gives};
+ghost use Rattle.wd_scope.specs.Calls.{call_of, calls_of};
+ghost use Rattle.wd_scope.specs.Scopes.{scope_of};
+ghost use Rattle.wd_scope.specs.Windows.{key_of};
+ghost use Rattle.wd_select.specs.Cuts.{cut_of};
+ghost use Rattle.wd_select.specs.Outputs as outputs_spec;
+ghost use Rattle.wd_select.specs.Steps as spec;
+
+use crate::inputs::input_number;
+use crate::limits::Cut;
+use std::alloc::Global;
+use wd_operand::ResolveError;
+use wd_plan::{Call, Class, Expr, Function, OrderItem, Plan};
+use wd_scope::{AppliedFunction, Calls, FunctionName, OrderKey, Scope, WindowCall, condition};
+use wd_syntax as written;
+use wd_value::OutOfMemory;
+
+/// All rows.
+const NO_CUT: Cut = Cut {
+    offset: 0,
+    count: None,
+    ties: false,
+};
+
+/// WHERE is a Filter.
+pub fn filtered(
+    alloc: Global,
+    scope: &Scope,
+    filter: &Option<written::Expr>,
+    plan: Plan,
+) -> Result<Plan, ResolveError>
+    ensures { Gives plan_of result (spec.filtered (scope_of scope.now) (view_option filter.now) (plan_of plan)) }
+{
+    match filter {
+        None => Ok(plan),
+        Some(tree) => {
+            let condition = condition(alloc, scope, tree)?;
+            Ok(Plan::Filter {
+                input: Box::new(alloc, plan)?,
+                condition,
+            })
+        }
+    }
+}
+
+/// The column of a value argument; where there is none, no column is read.
+fn column_or_first(inputs: &[Expr], argument: &Option<Expr>) -> u16
+    requires { length inputs.now ≤ 1024 }
+    ensures { result ≡ spec.column_or_first (option_map (outputs_spec.input_number (map expression_of inputs.now)) (option_map expression_of argument.now)) }
+{
+    match argument {
+        Some(argument) => input_number(inputs, argument) as u16,
+        None => 0,
+    }
+}
+
+/// The function of a plan, over the column of its value argument.
+fn function_over(function: AppliedFunction, inputs: &[Expr]) -> Function
+    requires { length inputs.now ≤ 1024 }
+    ensures { result ≡ spec.function_over function.name (option_map (outputs_spec.input_number (map expression_of inputs.now)) (option_map expression_of function.argument)) function.number function.default }
+{
+    let AppliedFunction {
+        name,
+        argument,
+        number,
+        default,
+        kind: _,
+    } = function;
+    let column = column_or_first(inputs, &argument);
+    match name {
+        FunctionName::RowNumber => Function::RowNumber,
+        FunctionName::Rank => Function::Rank,
+        FunctionName::DenseRank => Function::DenseRank,
+        FunctionName::Ntile => Function::Ntile(number),
+        FunctionName::Lag => Function::Lag {
+            argument: column,
+            offset: number,
+            default,
+        },
+        FunctionName::Lead => Function::Lead {
+            argument: column,
+            offset: number,
+            default,
+        },
+        FunctionName::FirstValue => Function::FirstValue(column),
+        FunctionName::LastValue => Function::LastValue(column),
+        FunctionName::NthValue => Function::NthValue(column, number),
+        FunctionName::Count => match argument {
+            None => Function::CountRows,
+            Some(_) => Function::Count(column),
+        },
+        FunctionName::Sum => Function::Sum(column),
+        FunctionName::Min => Function::Min(column),
+        FunctionName::Max => Function::Max(column),
+    }
+}
+
+/// The columns of a partition among the inputs.
+fn columns_over(
+    alloc: Global,
+    inputs: &[Expr],
+    expressions: &[Expr],
+) -> Result<Vec<u16>, OutOfMemory>
+    requires { length inputs.now ≤ 1024 }
+    ensures { IfOk result (λ v. v.items ≡ map (outputs_spec.input_number (map expression_of inputs.now)) (map expression_of expressions.now)) }
+{
+    let mut columns = Vec::with_capacity(alloc, expressions.len())?;
+    for expression in expressions {
+        columns.push(input_number(inputs, expression) as u16)?;
+    }
+    Ok(columns)
+}
+
+/// The sort keys of a window among the inputs.
+fn items_over(
+    alloc: Global,
+    inputs: &[Expr],
+    keys: &[OrderKey],
+) -> Result<Vec<OrderItem>, OutOfMemory>
+    requires { length inputs.now ≤ 1024 }
+    ensures { IfOk result (λ v. v.items ≡ map (spec.order_item (map expression_of inputs.now)) (map key_of keys.now)) }
+{
+    let mut items = Vec::with_capacity(alloc, keys.len())?;
+    for key in keys {
+        items.push(OrderItem {
+            column: input_number(inputs, &key.expression) as u16,
+            key: key.key,
+        })?;
+    }
+    Ok(items)
+}
+
+/// The class of a call: its partition and its sort keys among the inputs.
+fn class_over(alloc: Global, inputs: &[Expr], call: &WindowCall) -> Result<Class, OutOfMemory>
+    requires { length inputs.now ≤ 1024 }
+    ensures { IfOk result (λ c. class_of c ≡ spec.class_over (map expression_of inputs.now) (call_of call.now)) }
+{
+    let partition = columns_over(alloc, inputs, &call.window.partition)?;
+    let order = items_over(alloc, inputs, &call.window.order)?;
+    Ok(Class { partition, order })
+}
+
+fn same_columns(a: &[u16], b: &[u16]) -> bool
+    ensures { result ≡ pointwise nat_eq a.now b.now }
+{
+    if a.len() != b.len() {
+        return false;
+    }
+    for (i, column) in a.iter().enumerate() {
+        if *column != b[i] {
+            return false;
+        }
+    }
+    true
+}
+
+fn same_item(a: OrderItem, b: OrderItem) -> bool
+    ensures { result ≡ spec.same_item a b }
+{
+    a.column == b.column && a.key.desc == b.key.desc && a.key.nulls_first == b.key.nulls_first
+}
+
+fn same_items(a: &[OrderItem], b: &[OrderItem]) -> bool
+    ensures { result ≡ pointwise spec.same_item a.now b.now }
+{
+    if a.len() != b.len() {
+        return false;
+    }
+    for (i, item) in a.iter().enumerate() {
+        if !same_item(*item, b[i]) {
+            return false;
+        }
+    }
+    true
+}
+
+fn same_class(a: &Class, b: &Class) -> bool
+    ensures { result ≡ spec.same_class (class_of a.now) (class_of b.now) }
+{
+    same_columns(&a.partition, &b.partition) && same_items(&a.order, &b.order)
+}
+
+/// The number of the first class that equals another, and the number of classes where none does.
+fn class_number(classes: &[Class], class: &Class) -> usize
+    ensures number { result ≡ outputs_spec.first_number 0 (spec.same_class (class_of class.now)) (map class_of classes.now) }
+    ensures within { result ≤ length classes.now }
+{
+    for (number, other) in classes.iter().enumerate() {
+        if same_class(class, other) {
+            return number;
+        }
+    }
+    classes.len()
+}
+
+/// Whether a class is among others.
+fn is_known(classes: &[Class], class: &Class) -> bool
+    ensures { result ≡ list_any (spec.same_class (class_of class.now)) (map class_of classes.now) }
+{
+    for other in classes {
+        if same_class(class, other) {
+            return true;
+        }
+    }
+    false
+}
+
+/// Adds a class, where it is new.
+fn add_class(classes: &mut Vec<Class>, class: Class) -> Result<(), OutOfMemory>
+    ensures meant { IfOk result (λ u. map class_of classes.new.items ≡ outputs_spec.with_new spec.same_class (map class_of classes.old.items) (class_of class ∷ [])) }
+    ensures within { IfOk result (λ u. vec_len classes.new ≤ vec_len classes.old + 1) }
+{
+    if is_known(classes, &class) {
+        return Ok(());
+    }
+    classes.push(class)?;
+    Ok(())
+}
+
+/// The classes of calls, in the order of their first calls.
+fn classes_over(
+    alloc: Global,
+    inputs: &[Expr],
+    calls: &[WindowCall],
+) -> Result<Vec<Class>, OutOfMemory>
+    requires { length inputs.now ≤ 1024 }
+    ensures meant { IfOk result (λ v. map class_of v.items ≡ spec.classes_over (map expression_of inputs.now) (map call_of calls.now)) }
+    ensures within { IfOk result (λ v. vec_len v ≤ length calls.now) }
+{
+    let mut classes = Vec::new(alloc);
+    for call in calls {
+        let class = class_over(alloc, inputs, call)?;
+        add_class(&mut classes, class)?;
+    }
+    Ok(classes)
+}
+
+/// A call of a plan: its class, its function and its frame.
+fn call_over(
+    alloc: Global,
+    inputs: &[Expr],
+    classes: &[Class],
+    call: WindowCall,
+) -> Result<Call, OutOfMemory>
+    requires few_inputs { length inputs.now ≤ 1024 }
+    requires few_classes { length classes.now ≤ 1024 }
+    ensures { IfOk result (λ c. c ≡ spec.call_over (map expression_of inputs.now) (map class_of classes.now) (call_of call)) }
+{
+    let class = class_over(alloc, inputs, &call)?;
+    let number = class_number(classes, &class) as u16;
+    let WindowCall { function, window } = call;
+    Ok(Call {
+        class: number,
+        function: function_over(function, inputs),
+        frame: window.frame,
+    })
+}
+
+/// The calls of a plan.
+fn calls_over(
+    alloc: Global,
+    inputs: &[Expr],
+    classes: &[Class],
+    calls: Vec<WindowCall>,
+) -> Result<Vec<Call>, OutOfMemory>
+    requires few_inputs { length inputs.now ≤ 1024 }
+    requires few_classes { length classes.now ≤ 1024 }
+    ensures { IfOk result (λ v. v.items ≡ map (spec.call_over (map expression_of inputs.now) (map class_of classes.now)) (map call_of calls.items)) }
+{
+    let mut planned = Vec::with_capacity(alloc, calls.len())?;
+    for call in calls {
+        planned.push(call_over(alloc, inputs, classes, call)?)?;
+    }
+    Ok(planned)
+}
+
+/// The column of the Window for a column of FROM, or for one of so many calls behind these; there are no others.
+fn column_above(width: usize, calls: usize, inputs: &[Expr], column: u16) -> u16
+    requires few_inputs { length inputs.now ≤ 1024 }
+    requires few_calls { calls ≤ 1024 }
+    ensures { result ≡ spec.column_above width calls (map expression_of inputs.now) column }
+{
+    let number = usize::from(column);
+    if number < width {
+        return input_number(inputs, &Expr::Column(column)) as u16;
+    }
+    if number - width < calls {
+        (inputs.len() + (number - width)) as u16
+    } else {
+        column
+    }
+}
+
+/// An expression over the columns of FROM and the calls, turned into one over the columns of the Window.
+fn raise(expression: &mut Expr, width: usize, calls: usize, inputs: &[Expr])
+    requires few_inputs { length inputs.now ≤ 1024 }
+    requires few_calls { calls ≤ 1024 }
+    ensures { expression_of expression.new ≡ spec.above width calls (map expression_of inputs.now) (expression_of expression.old) }
+{
+    match expression {
+        Expr::Column(column) => {
+            *column = column_above(width, calls, inputs, *column);
+        }
+        Expr::Literal(_, _) => {}
+        Expr::Negate(a) => raise(a, width, calls, inputs),
+        Expr::Not(a) => raise(a, width, calls, inputs),
+        Expr::IsNull(a) => raise(a, width, calls, inputs),
+        Expr::IsNotNull(a) => raise(a, width, calls, inputs),
+        Expr::Arithmetic(_, a, b) => {
+            raise(a, width, calls, inputs);
+            raise(b, width, calls, inputs);
+        }
+        Expr::Compare(_, a, b) => {
+            raise(a, width, calls, inputs);
+            raise(b, width, calls, inputs);
+        }
+        Expr::And(a, b) => {
+            raise(a, width, calls, inputs);
+            raise(b, width, calls, inputs);
+        }
+        Expr::Or(a, b) => {
+            raise(a, width, calls, inputs);
+            raise(b, width, calls, inputs);
+        }
+        Expr::Case(a, b, c) => {
+            raise(a, width, calls, inputs);
+            raise(b, width, calls, inputs);
+            raise(c, width, calls, inputs);
+        }
+    }
+}
+
+/// Expressions over the columns of the Window.
+fn raise_all(
+    expressions: Vec<Expr>,
+    width: usize,
+    calls: usize,
+    inputs: &[Expr],
+    alloc: Global,
+) -> Result<Vec<Expr>, OutOfMemory>
+    requires few_inputs { length inputs.now ≤ 1024 }
+    requires few_calls { calls ≤ 1024 }
+    ensures { IfOk result (λ v. map expression_of v.items ≡ map (spec.above width calls (map expression_of inputs.now)) (map expression_of expressions.items)) }
+{
+    let mut raised = Vec::with_capacity(alloc, expressions.len())?;
+    for expression in expressions {
+        let mut expression = expression;
+        raise(&mut expression, width, calls, inputs);
+        raised.push(expression)?;
+    }
+    Ok(raised)
+}
+
+/// A Window over a Map of the inputs, with the calls in order and their classes in the order of their first calls.
+fn windowed(alloc: Global, calls: Calls, inputs: Vec<Expr>, plan: Plan) -> Result<Plan, OutOfMemory>
+    requires { vec_len inputs ≤ 1024 }
+    ensures { IfOk result (λ p. plan_of p ≡ spec.windowed (map expression_of inputs.items) (calls_of calls) (plan_of plan)) }
+{
+    let classes = classes_over(alloc, &inputs, &calls.list)?;
+    let calls = calls_over(alloc, &inputs, &classes, calls.list)?;
+    let inner = Plan::Map {
+        input: Box::new(alloc, plan)?,
+        outputs: inputs,
+    };
+    Ok(Plan::Window {
+        input: Box::new(alloc, inner)?,
+        classes,
+        calls,
+    })
+}
+
+/// A Map of the expressions; with window calls over a Window.
+pub fn mapped(
+    alloc: Global,
+    width: usize,
+    calls: Calls,
+    inputs: Vec<Expr>,
+    expressions: Vec<Expr>,
+    plan: Plan,
+) -> Result<Plan, OutOfMemory>
+    requires { outputs_spec.is_wide (vec_len expressions) (map expression_of inputs.items) (calls_of calls) ≡ false }
+    ensures { IfOk result (λ p. plan_of p ≡ spec.mapped width (calls_of calls) (map expression_of inputs.items) (map expression_of expressions.items) (plan_of plan)) }
+{
+    if calls.list.is_empty() {
+        return Ok(Plan::Map {
+            input: Box::new(alloc, plan)?,
+            outputs: expressions,
+        });
+    }
+    let expressions = raise_all(expressions, width, calls.list.len(), &inputs, alloc)?;
+    let window = windowed(alloc, calls, inputs, plan)?;
+    Ok(Plan::Map {
+        input: Box::new(alloc, window)?,
+        outputs: expressions,
+    })
+}
+
+/// DISTINCT is a Distinct.
+pub fn deduplicated(alloc: Global, distinct: bool, plan: Plan) -> Result<Plan, OutOfMemory>
+    ensures { IfOk result (λ p. plan_of p ≡ spec.deduplicated distinct (plan_of plan)) }
+{
+    if distinct {
+        Ok(Plan::Distinct {
+            input: Box::new(alloc, plan)?,
+        })
+    } else {
+        Ok(plan)
+    }
+}
+
+/// ORDER BY, OFFSET or a count is a Limit.
+pub fn limited(
+    alloc: Global,
+    keys: Vec<OrderItem>,
+    cut: Option<Cut>,
+    plan: Plan,
+) -> Result<Plan, OutOfMemory>
+    ensures { IfOk result (λ p. plan_of p ≡ spec.limited keys.items (option_map cut_of cut) (plan_of plan)) }
+{
+    let cut = match cut {
+        Some(cut) => cut,
+        None if keys.is_empty() => return Ok(plan),
+        None => NO_CUT,
+    };
+    Ok(Plan::Limit {
+        input: Box::new(alloc, plan)?,
+        keys,
+        offset: cut.offset,
+        count: cut.count,
+        ties: cut.ties,
+    })
+}
+
+/// The first columns, so many.
+fn first_columns(alloc: Global, count: usize) -> Result<Vec<Expr>, OutOfMemory>
+    requires { count ≤ 1024 }
+    ensures { IfOk result (λ v. map expression_of v.items ≡ spec.columns_from 0 count) }
+{
+    let mut columns = Vec::with_capacity(alloc, count)?;
+    for number in 0..count {
+        columns.push(Expr::Column(number as u16))?;
+    }
+    Ok(columns)
+}
+
+/// A Map that drops the hidden sort keys behind the outputs, where there are some.
+pub fn without_hidden(
+    alloc: Global,
+    outputs: usize,
+    hidden: usize,
+    plan: Plan,
+) -> Result<Plan, OutOfMemory>
+    requires { outputs ≤ 1024 }
+    ensures { IfOk result (λ p. plan_of p ≡ spec.without_hidden outputs hidden (plan_of plan)) }
+{
+    if hidden == 0 {
+        return Ok(plan);
+    }
+    let columns = first_columns(alloc, outputs)?;
+    Ok(Plan::Map {
+        input: Box::new(alloc, plan)?,
+        outputs: columns,
+    })
+}

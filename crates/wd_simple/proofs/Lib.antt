@@ -1,3 +1,0 @@
-pub mod EvaluationLemmas
-pub mod SortLemmas
-pub mod SyntaxLemmas

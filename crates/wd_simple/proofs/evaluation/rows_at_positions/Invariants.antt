@@ -1,6 +1,0 @@
-use Rattle.std.proofs.Common.{◌≡◌, take}
-use Rattle.wd_value.specs.Rows.{rows_of, rows_at}
-use Rattle.wd_simple.proofs.evaluation.rows_at_positions.Given as goal
-
-abbrev pub invariant-loop-position : goal.invariant-loop-position
-invariant-loop-position l = rows_of l.picked.items ≡ rows_at (rows_of l.rows) (take l.position-index l.order)

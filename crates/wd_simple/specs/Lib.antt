@@ -1,5 +1,0 @@
-pub mod Evaluation
-pub mod Grammar
-pub mod Meaning
-pub mod Placing
-pub mod Causes

@@ -1,0 +1,6 @@
+CREATE TABLE readings (
+    station TEXT,
+    day BIGINT,
+    tenths SMALLINT,
+    PRIMARY KEY (station, day)
+);

@@ -1,0 +1,7 @@
+CREATE TABLE teams (id SMALLINT PRIMARY KEY, name TEXT NOT NULL UNIQUE);
+CREATE TABLE runners (
+    number INTEGER PRIMARY KEY,
+    name TEXT NOT NULL,
+    team SMALLINT NOT NULL,
+    seconds INTEGER
+);
