@@ -1,5 +1,5 @@
 -- A plan that fits a schema names a class with each window call.
-use Rattle.std.proofs.Common.{◌≡◌, ℕ, zero, suc, ◌<◌, Bool, true, false, ◌&&◌, List, [], ◌∷◌, length, get_or, Option, Some, None, refl, sym, subst, arith}
+use Rattle.std.proofs.Common.{◌≡◌, ◌<◌, Bool, true, false, ◌&&◌, List, [], ◌∷◌, length, Option, Some, None, refl}
 use Rattle.std.specs.Prelude.{slice_get}
 use Rattle.std.specs.List.{list_all}
 use Rattle.std.proofs.lemmas.Option.{slice_get_within}
@@ -7,7 +7,8 @@ use Rattle.wd_schema.specs.Tables.{TableRule}
 use Rattle.wd_plan.specs.declared.window.Call.{Call}
 use Rattle.wd_plan.specs.Fits.{Kinds, fits, has_class, is_call, is_narrow, kinds_of}
 use Rattle.wd_plan.specs.Plans.{ClassRule, PlanTree, Scan, Join, Filter, Map, Window, Distinct, Limit}
-use Rattle.wd_eval.specs.Nodes.{EachNames, HasClasses}
+use Rattle.wd_eval.specs.Nodes.{HasClasses}
+use Rattle.wd_window.specs.Windows.{EachNames}
 
 and_first : (a b : Bool) → (a && b) ≡ true → a ≡ true
 and_first true b e = refl
@@ -50,9 +51,3 @@ classes_of_fitting tables (Window w input) e =
     )
 classes_of_fitting tables (Distinct input) e = classes_of_fitting tables input e
 classes_of_fitting tables (Limit limit input) e = classes_of_fitting tables input (and_first (fits tables input) _ e)
-
--- the call at a place of a list whose calls all name classes
-pub named_at : (count : ℕ) (calls : List Call) (call : Call) (i : ℕ) → EachNames count calls → i < length calls → call ≡ get_or calls i call → call.class < count
-named_at count [] call i all within is = absurd (omega arith)
-named_at count (first ∷ calls) call zero all within is = subst (λ (c : Call). c.class < count) (sym is) all.0
-named_at count (first ∷ calls) call (suc i) all within is = named_at count calls call i all.1 (omega arith) is

@@ -1,9 +1,5 @@
 pub mod Sizes
 pub mod Nodes
-pub mod Listed
-pub mod Beside
-pub mod Serving
-pub mod Gathered
 pub mod Fitting
 pub mod Stable
 pub mod Tying

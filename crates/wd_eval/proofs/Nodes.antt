@@ -12,7 +12,12 @@ use Rattle.wd_plan.specs.Plans.{PlanTree, Scan, Join, Filter, Map, Window, Disti
 use Rattle.wd_plan.specs.Sorting.{IsOrdering, limit_class}
 use Rattle.wd_steps.specs.Joins.{has_more_rows}
 use Rattle.wd_eval.specs.Steps.{has_large_step, is_large}
-use Rattle.wd_eval.specs.Nodes.{given_of, IsEvaluated, IsStopped, IsSmall, IsLarge, join_over, IsLimitServed, cut_over, IsCut, IsUnserved, IsWindowServed, window_over, IsExtended}
+use Rattle.wd_eval.specs.Nodes.{given_of, IsEvaluated, IsStopped, IsSmall, IsLarge, join_over, IsLimitServed, cut_over, IsCut, IsUnserved}
+use Rattle.wd_window.specs.Windows as window
+use Rattle.wd_window.specs.Windows.{IsExtended, IsWindowServed, window_over}
+use Rattle.wd_window.specs.declared.error.WindowError.{WindowError}
+use Rattle.wd_window.specs.declared.error.WindowError.TheVariants as error
+use Rattle.wd_eval.specs.Errors.{window_error_of}
 use Rattle.wd_eval.specs.declared.error.EvalError.{EvalError}
 use Rattle.wd_eval.specs.declared.error.EvalError.TheVariants.{NotValid, TooManyRows, OutOfMemory}
 use Rattle.wd_eval.specs.declared.given.Given.{Given}
@@ -227,3 +232,8 @@ module _ (most : ℕ) (instance : Instance) (choice : List (List ℕ)) (first : 
       join_stopped (NotValid p) h = absurd h
       join_stopped TooManyRows h = or_right (has_large_step most left instance all || has_large_step most right instance on_right) (is_large most (Join condition left right) instance all) (ap (has_more_rows most) (sym below_is) ∙ h)
       join_stopped OutOfMemory h = tt
+
+-- a Window's error where its orderings do not serve, as an error of the plan
+pub unserved_from : (Served : Type 0) (e : WindowError) → window.IsUnserved Served e → IsUnserved Served (window_error_of e)
+unserved_from Served (error.NotValid place) h = h
+unserved_from Served error.OutOfMemory h = h

@@ -10,13 +10,14 @@ use Rattle.wd_plan.specs.Outcomes.{RowsOrFault, class_at, ordering_at}
 use Rattle.wd_plan.specs.Plans.{ClassRule, LimitRule, WindowRule, class_of}
 use Rattle.wd_plan.specs.Sorting.{IsOrdering, limit_class}
 use Rattle.wd_partition.proofs.Grouping.{IsOrdering-from_given}
-use Rattle.wd_eval.specs.Nodes.{IsCut, IsLimitServed, IsUnserved, IsWindowServed}
+use Rattle.wd_eval.specs.Nodes.{IsCut, IsLimitServed, IsUnserved}
+use Rattle.wd_window.specs.Windows.{IsWindowServed}
 use Rattle.wd_eval.specs.Tied.{IsSortedOver, is_flipped}
 use Rattle.wd_eval.specs.Ties.{ArePut, AreSortedOver, IsTiedLimit, IsWantOfMemory}
-use Rattle.wd_eval.specs.Windows.{class_in}
+use Rattle.wd_window.specs.Listings.{class_in}
 use Rattle.wd_eval.specs.declared.error.EvalError.{EvalError}
 use Rattle.wd_eval.specs.declared.error.EvalError.TheVariants.{NotValid, TooManyRows, OutOfMemory}
-use Rattle.wd_eval.proofs.Serving.{all_from_each}
+use Rattle.wd_window.proofs.Serving.{all_from_each}
 
 -- where the orderings serve, only memory can be wanting
 pub served_memory : (Served : Type 0) (e : EvalError) → Served → IsUnserved Served e → IsWantOfMemory e

@@ -11,7 +11,7 @@ use Rattle.wd_partition.specs.Columns.{given_positions, sort_columns}
 use Rattle.wd_eval.specs.Laws.{HasOneTiedOutcome, HasTiedChoice}
 use Rattle.wd_eval.specs.Tied.{AreTied, IsSortedOver, IsTiedRefused, is_flipped}
 use Rattle.wd_eval.specs.Ties.{IsUntied}
-use Rattle.wd_eval.specs.Windows.{class_in}
+use Rattle.wd_window.specs.Listings.{class_in}
 use Rattle.wd_eval.specs.declared.error.EvalError.{EvalError}
 use Rattle.wd_eval.specs.declared.error.EvalError.TheVariants.{NotValid, TooManyRows, OutOfMemory}
 use Rattle.wd_eval.proofs.SomeSort.{some_stable_sort}

@@ -13,7 +13,8 @@ use Rattle.wd_plan.proofs.ChoiceLaws.{AreLawful-append, outcome-append}
 use Rattle.wd_partition.specs.Columns.{given_positions, sort_columns}
 use Rattle.wd_steps.specs.Joins.{has_more_rows}
 use Rattle.wd_eval.specs.Judged.{IsOutcome}
-use Rattle.wd_eval.specs.Nodes.{given_of, IsEvaluated, IsLarge, IsSmall, cut_over, join_over, window_over}
+use Rattle.wd_eval.specs.Nodes.{given_of, IsEvaluated, IsLarge, IsSmall, cut_over, join_over}
+use Rattle.wd_window.specs.Windows.{window_over}
 use Rattle.wd_eval.specs.Steps.{has_large_step, is_large}
 use Rattle.wd_eval.specs.Tied.{AreTied, IsSortedOver, IsValidTiedChoice, is_flipped}
 use Rattle.wd_eval.specs.Ties.{IsTied, IsTiedLimit, IsTiedWindow, IsUntied, IsWantOfMemory}

@@ -1,7 +1,5 @@
 -- What a plan gives under a choice, or why it gives nothing, as contracts see it.
-use Rattle.std.specs.Prelude.{◌≡◌, ℕ, true, List, map, ⊤}
-use Rattle.std.specs.declared.alloc.Global.{Global}
-use Rattle.std.specs.declared.vec.Vec.{Vec}
+use Rattle.std.specs.Prelude.{◌≡◌, ℕ, true, List, ⊤}
 use Rattle.wd_value.specs.Rows.{Instance}
 use Rattle.wd_plan.specs.declared.plan.Outcome.{Outcome}
 use Rattle.wd_plan.specs.Choices.{IsValidChoice}
@@ -10,10 +8,6 @@ use Rattle.wd_plan.specs.Plans.{PlanTree}
 use Rattle.wd_eval.specs.Steps.{has_large_step}
 use Rattle.wd_eval.specs.declared.error.EvalError.{EvalError}
 use Rattle.wd_eval.specs.declared.error.EvalError.TheVariants.{NotValid, TooManyRows, OutOfMemory}
-
--- the orderings that a choice of the code shows
-abbrev pub orderings_of : List (Vec ℕ Global) → List (List ℕ)
-orderings_of choice = map (λ o. o.items) choice
 
 -- why a plan has no outcome under a choice: each error only where its cause stands
 abbrev pub IsRefused : ℕ → PlanTree → Instance → List (List ℕ) → EvalError → Type 0

@@ -2,7 +2,6 @@ pub mod Errors
 pub mod Steps
 pub mod Judged
 pub mod Nodes
-pub mod Windows
 pub mod Tied
 pub mod Ties
 pub mod Runs

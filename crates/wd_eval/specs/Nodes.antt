@@ -1,21 +1,20 @@
 -- A node of a plan under the orderings from a number on.
-use Rattle.std.specs.Prelude.{◌≡◌, ℕ, ◌+◌, ◌<◌, ◌≤◌, true, false, List, [], drop, take, length, ⊤, Option, Result, Ok, Err}
+use Rattle.std.specs.Prelude.{◌≡◌, ℕ, ◌+◌, ◌<◌, ◌≤◌, true, false, List, [], drop, length, ⊤, Option, Result, Ok, Err}
 use Rattle.std.specs.Borrow.{Bor}
-use Rattle.std.specs.List.{AllByRecursion}
 use Rattle.std.specs.declared.alloc.Global.{Global}
 use Rattle.std.specs.declared.vec.Vec.{Vec}
 use Rattle.wd_value.specs.declared.value.Value.{Value}
 use Rattle.wd_value.specs.declared.value.Fault.{Fault}
 use Rattle.wd_value.specs.Rows.{Instance, rows_at, rows_of, table_at}
 use Rattle.wd_plan.specs.declared.plan.Outcome.{Outcome}
-use Rattle.wd_plan.specs.Choices.{AtRows, AreOrderings, AreLawful}
+use Rattle.wd_plan.specs.Choices.{AtRows, AreLawful}
 use Rattle.wd_plan.specs.Expressions.{Expression}
 use Rattle.wd_plan.specs.Faults.{and_then}
-use Rattle.wd_plan.specs.Outcomes.{RowsOrFault, cut, join_outcome, ordering_at, outcome, outcome_of, pairs, window_outcome}
-use Rattle.wd_plan.specs.Plans.{PlanTree, LimitRule, WindowRule, Scan, Join, Filter, Map, Window, Distinct, Limit, ordering_count}
+use Rattle.wd_plan.specs.Outcomes.{RowsOrFault, cut, join_outcome, ordering_at, outcome, outcome_of, pairs}
+use Rattle.wd_plan.specs.Plans.{PlanTree, LimitRule, Scan, Join, Filter, Map, Window, Distinct, Limit, ordering_count}
 use Rattle.wd_plan.specs.Sorting.{IsOrdering, limit_class}
 use Rattle.wd_steps.specs.Joins.{has_more_rows}
-use Rattle.wd_plan.specs.declared.window.Call.{Call}
+use Rattle.wd_window.specs.Windows.{EachNames}
 use Rattle.wd_eval.specs.Steps.{has_large_step}
 use Rattle.wd_eval.specs.declared.cut.Cut.{Cut}
 use Rattle.wd_eval.specs.declared.error.EvalError.{EvalError}
@@ -23,10 +22,6 @@ use Rattle.wd_eval.specs.declared.error.EvalError.TheVariants.{NotValid, TooMany
 use Rattle.wd_eval.specs.declared.given.Given.{Given}
 use Rattle.wd_eval.specs.declared.given.Given.TheVariants.{Table, Made}
 use Rattle.wd_eval.specs.declared.node.Evaluated.{Evaluated}
-
--- each call names one of so many classes
-abbrev pub EachNames : ℕ → List Call → Type 0
-EachNames count calls = AllByRecursion (λ (call : Call). call.class < count) calls
 
 -- each window call names a class of its Window, as in every plan that fits a schema
 abbrev pub HasClasses : PlanTree → Type 0
@@ -104,21 +99,3 @@ abbrev pub IsUnserved : Type 0 → EvalError → Type 0
 IsUnserved Served (NotValid place) = Served → ⊥
 IsUnserved Served TooManyRows = ⊥
 IsUnserved Served OutOfMemory = ⊤
-
--- the orderings from the number `first` on serve a Window over its input
-pub record IsWindowServed (w : WindowRule) (input : RowsOrFault) (choice : List (List ℕ)) (first : ℕ) : Type 0 where
-  pub present : first + length w.classes ≤ length choice
-  pub lawful : AtRows input (λ rows. AreOrderings w rows (take (length w.classes) (drop first choice))) (AllByRecursion (λ o. o ≡ []) (take (length w.classes) (drop first choice)))
-
--- what a Window gives over its input
-abbrev pub window_over : WindowRule → List (List ℕ) → RowsOrFault → RowsOrFault
-window_over w orderings input = and_then input (λ rows. window_outcome w rows orderings)
-
-pub record IsExtended (w : WindowRule) (input : RowsOrFault) (choice : List (List ℕ)) (first : ℕ) (o : Outcome) : Type 0 where
-  pub served : IsWindowServed w input choice first
-  pub is : outcome_of o ≡ window_over w (take (length w.classes) (drop first choice)) input
-
--- not more rows than this
-abbrev pub AreFew : ℕ → RowsOrFault → Type 0
-AreFew most (Ok rows) = length rows ≤ most
-AreFew most (Err fault) = ⊤

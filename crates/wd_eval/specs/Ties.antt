@@ -5,10 +5,11 @@ use Rattle.wd_plan.specs.declared.plan.Outcome.{Outcome}
 use Rattle.wd_plan.specs.Outcomes.{RowsOrFault, ordering_at}
 use Rattle.wd_plan.specs.Plans.{ClassRule, LimitRule, PlanTree, WindowRule, ordering_count}
 use Rattle.wd_plan.specs.Sorting.{limit_class}
-use Rattle.wd_eval.specs.Nodes.{IsCut, IsEvaluated, IsExtended}
+use Rattle.wd_eval.specs.Nodes.{IsCut, IsEvaluated}
+use Rattle.wd_window.specs.Windows.{IsExtended}
 use Rattle.wd_eval.specs.Steps.{has_large_step}
 use Rattle.wd_eval.specs.Tied.{AreTied, IsSortedOver, is_flipped}
-use Rattle.wd_eval.specs.Windows.{class_in}
+use Rattle.wd_window.specs.Listings.{class_in}
 use Rattle.wd_eval.specs.declared.error.EvalError.{EvalError}
 use Rattle.wd_eval.specs.declared.given.Given.{Given}
 use Rattle.wd_eval.specs.declared.error.EvalError.TheVariants.{NotValid, TooManyRows, OutOfMemory}

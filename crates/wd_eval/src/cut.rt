@@ -1,7 +1,7 @@
 //! What a Limit keeps under its ordering.
 
 ghost use Rattle.std.specs.Prelude.{◌≡◌, ◌<◌, ◌≤◌, length, MatchResult, IfOk};
-ghost use Rattle.wd_eval.specs.Judged.{orderings_of};
+ghost use Rattle.wd_window.specs.Windows.{orderings_of};
 ghost use Rattle.wd_eval.specs.Nodes.{IsCut, IsLimitServed, IsUnserved, given_of, limit_of};
 ghost use Rattle.wd_plan.specs.Outcomes.{ordering_at};
 ghost use Rattle.wd_plan.specs.Outcomes as spec;

@@ -1,7 +1,8 @@
 //! Plans under choices of orderings.
 
 ghost use Rattle.std.specs.Prelude.{◌≡◌, true, MatchResult, None};
-ghost use Rattle.wd_eval.specs.Judged.{IsOutcome, IsRefused, orderings_of};
+ghost use Rattle.wd_eval.specs.Judged.{IsOutcome, IsRefused};
+ghost use Rattle.wd_window.specs.Windows.{orderings_of};
 ghost use Rattle.wd_eval.specs.Runs.{IsRun, IsRunRefused};
 ghost use Rattle.wd_eval.specs.Tied.{IsTiedRefused, IsValidTiedChoice};
 ghost use Rattle.wd_plan.specs.Choices.{IsValidChoice};

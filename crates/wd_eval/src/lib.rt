@@ -4,16 +4,13 @@
 mod cut;
 mod error;
 mod eval;
-mod fault;
 mod given;
 pub mod laws;
-mod listing;
 mod node;
 mod step;
 #[cfg(test)]
 mod tests;
 mod tie;
-mod window;
 
 pub use error::EvalError;
 pub use eval::{check_choice, eval_with, first_choice, run_plan, tied_choice};

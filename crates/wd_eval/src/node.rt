@@ -1,16 +1,15 @@
 //! A plan under given orderings, node by node.
 
 ghost use Rattle.std.specs.Prelude.{◌≡◌, ◌^◌, ◌<◌, ◌≤◌, drop, length, MatchResult};
-ghost use Rattle.wd_eval.specs.Judged.{orderings_of};
+ghost use Rattle.wd_window.specs.Windows.{orderings_of};
 ghost use Rattle.wd_eval.specs.Nodes.{HasClasses, IsEvaluated, IsStopped};
 ghost use Rattle.wd_plan.specs.Plans.{plan_of};
 ghost use Rattle.wd_value.specs.Rows.{instance_of};
 
 use crate::cut::{Cut, limited};
 use crate::error::EvalError;
-use crate::given::{Given, owned};
-use crate::step::{distinct, filtered, joined, mapped, scanned};
-use crate::window::extended;
+use crate::given::Given;
+use crate::step::{distinct, extended, filtered, joined, mapped, scanned};
 use std::alloc::Global;
 use wd_plan::Plan;
 use wd_value::Row;
@@ -87,8 +86,15 @@ pub(crate) fn evaluate(
             calls,
         } => {
             let below = evaluate(alloc, input, instance, choice, first, most)?;
-            let input = owned(alloc, instance, below.outcome)?;
-            let outcome = extended(alloc, classes, calls, input, choice, below.next)?;
+            let outcome = extended(
+                alloc,
+                instance,
+                classes,
+                calls,
+                below.outcome,
+                choice,
+                below.next,
+            )?;
             Ok(Evaluated {
                 outcome: Given::Made(outcome),
                 next: below.next + classes.len(),

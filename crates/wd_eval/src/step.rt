@@ -1,19 +1,21 @@
-//! Each step of a plan over the outcomes below it, but for Window and Limit.
+//! Each step of a plan over the outcomes below it, but for a Limit.
 
-ghost use Rattle.std.specs.Prelude.{◌≡◌, IfOk, map, MatchResult, Ok, option_map};
-ghost use Rattle.wd_eval.specs.Nodes.{IsLarge, IsSmall, given_of, join_over};
+ghost use Rattle.std.specs.Prelude.{◌≡◌, ◌-◌, ◌^◌, ◌≤◌, IfOk, length, map, MatchResult, Ok, option_map};
+ghost use Rattle.wd_eval.specs.Nodes.{IsLarge, IsSmall, IsUnserved, given_of, join_over};
 ghost use Rattle.wd_plan.specs.Expressions.{expression_of};
 ghost use Rattle.wd_plan.specs.Faults.{and_then};
 ghost use Rattle.wd_plan.specs.Outcomes as spec;
 ghost use Rattle.wd_plan.specs.Outcomes.{outcome_of};
 ghost use Rattle.wd_value.specs.Rows.{instance_of, rows_of, table_at};
+ghost use Rattle.wd_window.specs.Windows.{AreFew, EachNames, IsExtended, IsWindowServed, orderings_of, window_of};
 
 use crate::error::EvalError;
 use crate::given::{Given, owned, shown, table_in};
 use std::alloc::Global;
-use wd_plan::{Expr, Outcome};
-use wd_steps::{distinct_rows, filter_rows, join_rows, map_rows};
+use wd_plan::{Call, Class, Expr, Outcome};
+use wd_steps::{copy_filtered, distinct_rows, filter_rows, join_rows, map_rows};
 use wd_value::{OutOfMemory, Row};
+use wd_window::evaluate_window;
 
 /// The instance's table with this number, or the error that it has more rows than `most`.
 pub(crate) fn scanned(instance: &[Vec<Row>], table: u16, most: u64) -> Result<Given, EvalError>
@@ -57,9 +59,10 @@ pub(crate) fn filtered(
 ) -> Result<Outcome, OutOfMemory>
     ensures { IfOk result (λ o. outcome_of o ≡ and_then (given_of (instance_of instance.now) input) (spec.filter_outcome (expression_of condition.now))) }
 {
-    match owned(alloc, instance, input)? {
-        Outcome::Rows(rows) => filter_rows(alloc, condition, rows),
-        Outcome::Fault(fault) => Ok(Outcome::Fault(fault)),
+    match input {
+        Given::Table(table) => copy_filtered(alloc, condition, table_in(instance, table)),
+        Given::Made(Outcome::Rows(rows)) => filter_rows(alloc, condition, rows),
+        Given::Made(Outcome::Fault(fault)) => Ok(Outcome::Fault(fault)),
     }
 }
 
@@ -76,6 +79,27 @@ pub(crate) fn mapped(
         Ok(rows) => map_rows(alloc, outputs, rows),
         Err(fault) => Ok(Outcome::Fault(fault)),
     }
+}
+
+/// The input's rows with the values of the calls behind each of them, under the choice's orderings
+/// from `first` on: one for each class, each lawful, and empty where the input is a fault.
+pub(crate) fn extended(
+    alloc: Global,
+    instance: &[Vec<Row>],
+    classes: &[Class],
+    calls: &[Call],
+    input: Given,
+    choice: &[Vec<u64>],
+    first: usize,
+) -> Result<Outcome, EvalError>
+    requires few { AreFew (2 ^ 32 - 1) (given_of (instance_of instance.now) input) }
+    requires within { first ≤ length choice.now }
+    requires named { EachNames (length classes.now) calls.now }
+    ensures { let w = window_of classes.now calls.now in let below = given_of (instance_of instance.now) input in MatchResult result (λ o. IsExtended w below (orderings_of choice.now) first o) (λ e. IsUnserved (IsWindowServed w below (orderings_of choice.now) first) e) }
+{
+    let input = owned(alloc, instance, input)?;
+    let outcome = evaluate_window(alloc, classes, calls, input, choice, first)?;
+    Ok(outcome)
 }
 
 /// The first of the input's rows that are not distinct.

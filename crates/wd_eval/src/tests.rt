@@ -23,27 +23,34 @@ fn schema(alloc: Global) -> Result<Schema, SchemaError> {
     )
 }
 
-// A row of that table, where u is NULL.
-fn row(alloc: Global, id: i64, g: &str, v: Option<i64>) -> Result<Row, AllocError> {
-    let text = Value::Text(Text::from_str(alloc, g)?);
-    let row = vec![in alloc; Value::Int(id), text, number(v), Value::Null]?;
-    Ok(row)
+// A number that stands for NULL.
+const NULL: i64 = -1_000_000;
+
+fn number(n: i64) -> Value {
+    if n == NULL {
+        Value::Null
+    } else {
+        Value::Int(n)
+    }
+}
+
+// That table with the values of id, g and v in each row; u is NULL.
+fn table(alloc: Global, rows: &[(i64, &str, i64)]) -> Result<Instance, AllocError> {
+    let mut made = Vec::new(alloc);
+    for (id, g, v) in rows {
+        let text = Value::Text(Text::from_str(alloc, g)?);
+        made.push(vec![in alloc; Value::Int(*id), text, number(*v), Value::Null]?)?;
+    }
+    let instance = vec![in alloc; made]?;
+    Ok(instance)
 }
 
 // The rows of the worked examples.
 fn instance(alloc: Global) -> Result<Instance, AllocError> {
-    let first = row(alloc, 1, "a", Some(10))?;
-    let second = row(alloc, 2, "b", Some(10))?;
-    let third = row(alloc, 3, "c", Some(20))?;
-    let last = row(alloc, 4, "d", None)?;
-    let rows = vec![in alloc; first, second, third, last]?;
-    let instance = vec![in alloc; rows]?;
-    Ok(instance)
-}
-
-fn instance_of(alloc: Global, rows: Vec<Row>) -> Result<Instance, AllocError> {
-    let instance = vec![in alloc; rows]?;
-    Ok(instance)
+    table(
+        alloc,
+        &[(1, "a", 10), (2, "b", 10), (3, "c", 20), (4, "d", NULL)],
+    )
 }
 
 fn scan() -> Plan {
@@ -77,6 +84,24 @@ fn by(column: u16, desc: bool, nulls_first: bool) -> OrderItem {
 
 fn ascending(column: u16) -> OrderItem {
     by(column, false, false)
+}
+
+// A frame that leaves nothing out.
+fn frame(mode: FrameMode, start: Bound, end: Bound) -> Frame {
+    Frame {
+        mode,
+        start,
+        end,
+        exclusion: Exclusion::NoOthers,
+    }
+}
+
+fn lag(offset: u64, default: Value) -> Function {
+    Function::Lag {
+        argument: 0,
+        offset,
+        default,
+    }
 }
 
 fn call(function: Function, frame: Frame) -> Call {
@@ -126,15 +151,7 @@ fn choice(alloc: Global, orderings: &[&[u64]]) -> Result<Choice, AllocError> {
     Ok(Choice { orderings: given })
 }
 
-// A number, or NULL for None.
-fn number(value: Option<i64>) -> Value {
-    match value {
-        Some(n) => Value::Int(n),
-        None => Value::Null,
-    }
-}
-
-fn is_row(row: &[Value], expected: &[Option<i64>]) -> bool {
+fn is_row(row: &[Value], expected: &[i64]) -> bool {
     row.len() == expected.len()
         && row
             .iter()
@@ -142,7 +159,7 @@ fn is_row(row: &[Value], expected: &[Option<i64>]) -> bool {
             .all(|(value, wanted)| same(value, &number(*wanted)))
 }
 
-fn are_rows(outcome: &Outcome, expected: &[&[Option<i64>]]) -> bool {
+fn are_rows(outcome: &Outcome, expected: &[&[i64]]) -> bool {
     match outcome {
         Outcome::Fault(_) => false,
         Outcome::Rows(rows) => rows.len() == expected.len()
@@ -162,37 +179,25 @@ fn are_orderings(choice: &Choice, expected: &[&[u64]]) -> bool {
             .all(|(ordering, wanted)| ordering.as_slice() == *wanted)
 }
 
-// The outcome under the orderings, or none where the plan does not fit.
-fn outcome(
-    alloc: Global,
-    plan: &Plan,
-    instance: &Instance,
-    orderings: &[&[u64]],
-) -> Result<Option<Outcome>, Fail> {
-    let schema = schema(alloc)?;
-    let choice = choice(alloc, orderings)?;
-    if !plan.fits(&schema) {
-        return Ok(None);
-    }
-    let outcome = eval_with(alloc, plan, &schema, instance, &choice)?;
-    Ok(Some(outcome))
-}
-
-// Whether these are the rows under the orderings, in this order.
+// Whether the choice of the orderings is valid and gives these rows, in this order.
 fn gives(
     alloc: Global,
     plan: &Plan,
     instance: &Instance,
     orderings: &[&[u64]],
-    expected: &[&[Option<i64>]],
+    expected: &[&[i64]],
 ) -> Result<bool, Fail> {
-    match outcome(alloc, plan, instance, orderings)? {
-        Some(outcome) => Ok(are_rows(&outcome, expected)),
-        None => Ok(false),
+    let schema = schema(alloc)?;
+    let choice = choice(alloc, orderings)?;
+    if !plan.fits(&schema) {
+        return Ok(false);
     }
+    check_choice(alloc, plan, &schema, instance, &choice)?;
+    let outcome = eval_with(alloc, plan, &schema, instance, &choice)?;
+    Ok(are_rows(&outcome, expected))
 }
 
-// The answer of the judge of choices, or none where the plan does not fit.
+// The judgement of a choice, in which both calls agree; none where the plan does not fit.
 fn judged(
     alloc: Global,
     plan: &Plan,
@@ -204,35 +209,15 @@ fn judged(
     if !plan.fits(&schema) {
         return Ok(None);
     }
-    let refused = match eval_with(alloc, plan, &schema, instance, &choice) {
-        Ok(_) => Ok(()),
-        Err(error) => Err(error),
-    };
     let judged = check_choice(alloc, plan, &schema, instance, &choice);
-    if judged != refused {
+    let refused = eval_with(alloc, plan, &schema, instance, &choice).err();
+    if judged.err() != refused {
         return Ok(None);
     }
     Ok(Some(judged))
 }
 
-// The sorted orderings, or none where the plan does not fit.
-fn tied(
-    alloc: Global,
-    plan: &Plan,
-    instance: &Instance,
-    flipped: Option<u32>,
-) -> Result<Option<Choice>, Fail> {
-    let schema = schema(alloc)?;
-    if !plan.fits(&schema) {
-        return Ok(None);
-    }
-    let choice = match flipped {
-        None => first_choice(alloc, plan, &schema, instance)?,
-        Some(_) => tied_choice(alloc, plan, &schema, instance, flipped)?,
-    };
-    Ok(Some(choice))
-}
-
+// Whether these are the sorted orderings.
 fn is_tied(
     alloc: Global,
     plan: &Plan,
@@ -240,10 +225,15 @@ fn is_tied(
     flipped: Option<u32>,
     expected: &[&[u64]],
 ) -> Result<bool, Fail> {
-    match tied(alloc, plan, instance, flipped)? {
-        Some(choice) => Ok(are_orderings(&choice, expected)),
-        None => Ok(false),
+    let schema = schema(alloc)?;
+    if !plan.fits(&schema) {
+        return Ok(false);
     }
+    let choice = match flipped {
+        None => first_choice(alloc, plan, &schema, instance)?,
+        Some(_) => tied_choice(alloc, plan, &schema, instance, flipped)?,
+    };
+    Ok(are_orderings(&choice, expected))
 }
 
 // What a run gives, or none where the plan does not fit.
@@ -264,28 +254,10 @@ fn numbers_rows_by_the_choice(rt: HostRuntime) -> Result<(), Fail> {
     let alloc = rt.alloc();
     let plan = numbered(alloc)?;
     let table = instance(alloc)?;
-    let expected: [&[Option<i64>]; 4] = [
-        &[Some(10), Some(1)],
-        &[Some(10), Some(2)],
-        &[Some(20), Some(3)],
-        &[None, Some(4)],
-    ];
-    assert!(rt; gives(alloc, &plan, &table, &[&[0, 1, 2, 3]], &expected)?);
-    assert_eq!(rt;
-        judged(alloc, &plan, &table, &[&[0, 1, 2, 3]])?,
-        Some(Ok(()))
-    );
-    let expected: [&[Option<i64>]; 4] = [
-        &[Some(10), Some(2)],
-        &[Some(10), Some(1)],
-        &[Some(20), Some(3)],
-        &[None, Some(4)],
-    ];
-    assert!(rt; gives(alloc, &plan, &table, &[&[1, 0, 2, 3]], &expected)?);
-    assert_eq!(rt;
-        judged(alloc, &plan, &table, &[&[1, 0, 2, 3]])?,
-        Some(Ok(()))
-    );
+    let kept: [&[i64]; 4] = [&[10, 1], &[10, 2], &[20, 3], &[NULL, 4]];
+    let turned: [&[i64]; 4] = [&[10, 2], &[10, 1], &[20, 3], &[NULL, 4]];
+    assert!(rt; gives(alloc, &plan, &table, &[&[0, 1, 2, 3]], &kept)?);
+    assert!(rt; gives(alloc, &plan, &table, &[&[1, 0, 2, 3]], &turned)?);
     Ok(())
 }
 
@@ -325,44 +297,32 @@ fn numbers_its_refusals(rt: HostRuntime) {
 
 // SELECT id, RANK() OVER w, DENSE_RANK() OVER w, COUNT(*) OVER (w RANGE BETWEEN 5 PRECEDING AND
 // 10 FOLLOWING), LAG(id, 2, -1) OVER w FROM t WINDOW w AS (ORDER BY v)
-fn ranks(alloc: Global) -> Result<Plan, AllocError> {
-    let near = Frame {
-        mode: FrameMode::Range,
-        start: Bound::Preceding(5),
-        end: Bound::Following(10),
-        exclusion: Exclusion::NoOthers,
-    };
-    let lag = Function::Lag {
-        argument: 0,
-        offset: 2,
-        default: Value::Int(-1),
-    };
+#[test]
+fn ranks_counts_and_looks_back(rt: HostRuntime) -> Result<(), Fail> {
+    let alloc = rt.alloc();
+    let near = frame(FrameMode::Range, Bound::Preceding(5), Bound::Following(10));
     let calls = vec![in alloc;
         call(Function::Rank, BY_RANGE),
         call(Function::DenseRank, BY_RANGE),
         call(Function::CountRows, near),
-        call(lag, BY_RANGE),
+        call(lag(2, Value::Int(-1)), BY_RANGE),
     ]?;
-    over_table(alloc, 2, calls, &[0, 4, 5, 6, 7])
-}
-
-#[test]
-fn ranks_counts_and_looks_back(rt: HostRuntime) -> Result<(), Fail> {
-    let alloc = rt.alloc();
-    let expected: [&[Option<i64>]; 4] = [
-        &[Some(1), Some(1), Some(1), Some(3), Some(-1)],
-        &[Some(2), Some(1), Some(1), Some(3), Some(-1)],
-        &[Some(3), Some(3), Some(2), Some(1), Some(1)],
-        &[Some(4), Some(4), Some(3), Some(1), Some(2)],
+    let plan = over_table(alloc, 2, calls, &[0, 4, 5, 6, 7])?;
+    let expected: [&[i64]; 4] = [
+        &[1, 1, 1, 3, -1],
+        &[2, 1, 1, 3, -1],
+        &[3, 3, 2, 1, 1],
+        &[4, 4, 3, 1, 2],
     ];
-    let plan = ranks(alloc)?;
     assert!(rt; gives(alloc, &plan, &instance(alloc)?, &[&[0, 1, 2, 3]], &expected)?);
     Ok(())
 }
 
 // SELECT id, SUM(v) OVER (ORDER BY v GROUPS BETWEEN 1 PRECEDING AND CURRENT ROW EXCLUDE TIES),
 // LAST_VALUE(id) OVER (ORDER BY v) FROM t
-fn groups(alloc: Global) -> Result<Plan, AllocError> {
+#[test]
+fn leaves_out_ties_and_ends_at_the_last_peer(rt: HostRuntime) -> Result<(), Fail> {
+    let alloc = rt.alloc();
     let groups = Frame {
         mode: FrameMode::Groups,
         start: Bound::Preceding(1),
@@ -373,38 +333,15 @@ fn groups(alloc: Global) -> Result<Plan, AllocError> {
         call(Function::Sum(2), groups),
         call(Function::LastValue(0), BY_RANGE),
     ]?;
-    over_table(alloc, 2, calls, &[0, 4, 5])
-}
-
-#[test]
-fn leaves_out_ties_and_ends_at_the_last_peer(rt: HostRuntime) -> Result<(), Fail> {
-    let alloc = rt.alloc();
-    let expected: [&[Option<i64>]; 4] = [
-        &[Some(1), Some(10), Some(2)],
-        &[Some(2), Some(10), Some(2)],
-        &[Some(3), Some(40), Some(3)],
-        &[Some(4), Some(20), Some(4)],
-    ];
-    let plan = groups(alloc)?;
+    let plan = over_table(alloc, 2, calls, &[0, 4, 5])?;
+    let expected: [&[i64]; 4] = [&[1, 10, 2], &[2, 10, 2], &[3, 40, 3], &[4, 20, 4]];
     assert!(rt; gives(alloc, &plan, &instance(alloc)?, &[&[0, 1, 2, 3]], &expected)?);
     Ok(())
 }
 
-// One row of the table.
-fn one_row(alloc: Global, v: i64) -> Result<Instance, AllocError> {
-    let row = row(alloc, 1, "a", Some(v))?;
-    let rows = vec![in alloc; row]?;
-    instance_of(alloc, rows)
-}
-
 // SELECT COUNT(*) OVER (ORDER BY v RANGE 1 PRECEDING) FROM t
 fn just_below(alloc: Global) -> Result<Plan, AllocError> {
-    let below = Frame {
-        mode: FrameMode::Range,
-        start: Bound::Preceding(1),
-        end: Bound::CurrentRow,
-        exclusion: Exclusion::NoOthers,
-    };
+    let below = frame(FrameMode::Range, Bound::Preceding(1), Bound::CurrentRow);
     let calls = vec![in alloc; call(Function::CountRows, below)]?;
     over_table(alloc, 2, calls, &[4])
 }
@@ -412,12 +349,7 @@ fn just_below(alloc: Global) -> Result<Plan, AllocError> {
 // SELECT SUM(v) OVER w, COUNT(v) OVER w FROM t WINDOW w AS (ORDER BY id ROWS BETWEEN 7 PRECEDING
 // AND 8 PRECEDING)
 fn of_nothing(alloc: Global) -> Result<Plan, AllocError> {
-    let nothing = Frame {
-        mode: FrameMode::Rows,
-        start: Bound::Preceding(7),
-        end: Bound::Preceding(8),
-        exclusion: Exclusion::NoOthers,
-    };
+    let nothing = frame(FrameMode::Rows, Bound::Preceding(7), Bound::Preceding(8));
     let calls = vec![in alloc;
         call(Function::Sum(2), nothing),
         call(Function::Count(2), nothing),
@@ -430,36 +362,18 @@ fn of_nothing(alloc: Global) -> Result<Plan, AllocError> {
 #[test]
 fn frames_at_their_bounds(rt: HostRuntime) -> Result<(), Fail> {
     let alloc = rt.alloc();
-    let plan = just_below(alloc)?;
-    assert!(rt;
-        gives(
-            alloc,
-            &plan,
-            &one_row(alloc, i64::MIN)?,
-            &[&[0]],
-            &[&[Some(1)]]
-        )?
-    );
-    let plan = of_nothing(alloc)?;
-    assert!(rt;
-        gives(
-            alloc,
-            &plan,
-            &one_row(alloc, 5)?,
-            &[&[0]],
-            &[&[None, Some(0)]]
-        )?
-    );
+    let least = table(alloc, &[(1, "a", i64::MIN)])?;
+    assert!(rt; gives(alloc, &just_below(alloc)?, &least, &[&[0]], &[&[1]])?);
+    let five = table(alloc, &[(1, "a", 5)])?;
+    assert!(rt; gives(alloc, &of_nothing(alloc)?, &five, &[&[0]], &[&[NULL, 0]])?);
     Ok(())
 }
 
-// The functions that see the order: ROW_NUMBER, NTILE(3), LAG(id, 1), LEAD(id, 1, -1).
-fn ordered_calls(alloc: Global) -> Result<Vec<Call>, AllocError> {
-    let lag = Function::Lag {
-        argument: 0,
-        offset: 1,
-        default: Value::Null,
-    };
+// The functions that see the order, ROW_NUMBER, NTILE(3), LAG(id, 1) and LEAD(id, 1, -1), go by the
+// ordering alone, where two rows tie and one has no key.
+#[test]
+fn places_go_by_the_ordering(rt: HostRuntime) -> Result<(), Fail> {
+    let alloc = rt.alloc();
     let lead = Function::Lead {
         argument: 0,
         offset: 1,
@@ -468,41 +382,23 @@ fn ordered_calls(alloc: Global) -> Result<Vec<Call>, AllocError> {
     let calls = vec![in alloc;
         call(Function::RowNumber, BY_RANGE),
         call(Function::Ntile(3), BY_RANGE),
-        call(lag, BY_RANGE),
+        call(lag(1, Value::Null), BY_RANGE),
         call(lead, BY_RANGE),
     ]?;
-    Ok(calls)
-}
-
-// Two rows tie, and one has no key: the functions of the place go by the ordering alone.
-#[test]
-fn places_go_by_the_ordering(rt: HostRuntime) -> Result<(), Fail> {
-    let alloc = rt.alloc();
+    let plan = over_table(alloc, 2, calls, &[4, 5, 6, 7])?;
+    let last: [i64; 4] = [4, 3, 3, -1];
+    let kept: [&[i64]; 4] = [&[1, 1, NULL, 2], &[2, 1, 1, 3], &[3, 2, 2, 4], &last];
+    let turned: [&[i64]; 4] = [&[2, 1, 2, 3], &[1, 1, NULL, 1], &[3, 2, 1, 4], &last];
     let table = instance(alloc)?;
-    let plan = columns(
-        alloc,
-        window(alloc, scan(), 2, ordered_calls(alloc)?)?,
-        &[4, 5, 6, 7],
-    )?;
-    let expected: [&[Option<i64>]; 4] = [
-        &[Some(1), Some(1), None, Some(2)],
-        &[Some(2), Some(1), Some(1), Some(3)],
-        &[Some(3), Some(2), Some(2), Some(4)],
-        &[Some(4), Some(3), Some(3), Some(-1)],
-    ];
-    assert!(rt; gives(alloc, &plan, &table, &[&[0, 1, 2, 3]], &expected)?);
-    let expected: [&[Option<i64>]; 4] = [
-        &[Some(2), Some(1), Some(2), Some(3)],
-        &[Some(1), Some(1), None, Some(1)],
-        &[Some(3), Some(2), Some(1), Some(4)],
-        &[Some(4), Some(3), Some(3), Some(-1)],
-    ];
-    assert!(rt; gives(alloc, &plan, &table, &[&[1, 0, 2, 3]], &expected)?);
+    assert!(rt; gives(alloc, &plan, &table, &[&[0, 1, 2, 3]], &kept)?);
+    assert!(rt; gives(alloc, &plan, &table, &[&[1, 0, 2, 3]], &turned)?);
     Ok(())
 }
 
 // The functions of a frame over the default frame, which ends at the last peer.
-fn frame_functions(alloc: Global) -> Result<Plan, AllocError> {
+#[test]
+fn reads_its_frame(rt: HostRuntime) -> Result<(), Fail> {
+    let alloc = rt.alloc();
     let calls = vec![in alloc;
         call(Function::FirstValue(0), BY_RANGE),
         call(Function::LastValue(0), BY_RANGE),
@@ -513,156 +409,12 @@ fn frame_functions(alloc: Global) -> Result<Plan, AllocError> {
         call(Function::Min(2), BY_RANGE),
         call(Function::Max(2), BY_RANGE),
     ]?;
-    over_table(alloc, 2, calls, &[4, 5, 6, 7, 8, 9, 10, 11])
-}
-
-#[test]
-fn reads_its_frame(rt: HostRuntime) -> Result<(), Fail> {
-    let alloc = rt.alloc();
-    let tied = [
-        Some(1),
-        Some(2),
-        None,
-        Some(2),
-        Some(2),
-        Some(20),
-        Some(10),
-        Some(10),
-    ];
-    let third = [
-        Some(1),
-        Some(3),
-        Some(3),
-        Some(3),
-        Some(3),
-        Some(40),
-        Some(10),
-        Some(20),
-    ];
-    let last = [
-        Some(1),
-        Some(4),
-        Some(3),
-        Some(4),
-        Some(3),
-        Some(40),
-        Some(10),
-        Some(20),
-    ];
-    let expected: [&[Option<i64>]; 4] = [&tied, &tied, &third, &last];
-    let plan = frame_functions(alloc)?;
+    let plan = over_table(alloc, 2, calls, &[4, 5, 6, 7, 8, 9, 10, 11])?;
+    let tied = [1, 2, NULL, 2, 2, 20, 10, 10];
+    let third = [1, 3, 3, 3, 3, 40, 10, 20];
+    let last = [1, 4, 3, 4, 3, 40, 10, 20];
+    let expected: [&[i64]; 4] = [&tied, &tied, &third, &last];
     assert!(rt; gives(alloc, &plan, &instance(alloc)?, &[&[0, 1, 2, 3]], &expected)?);
-    Ok(())
-}
-
-// COUNT(*) and then SUM(v) over one frame, each with NO OTHERS, CURRENT ROW, GROUP and TIES left out.
-fn with_exclusions(
-    alloc: Global,
-    mode: FrameMode,
-    start: Bound,
-    end: Bound,
-) -> Result<Plan, AllocError> {
-    let mut counts = Vec::new(alloc);
-    let mut sums = Vec::new(alloc);
-    let all = [
-        Exclusion::NoOthers,
-        Exclusion::CurrentRow,
-        Exclusion::Group,
-        Exclusion::Ties,
-    ];
-    for exclusion in all {
-        let frame = Frame {
-            mode,
-            start,
-            end,
-            exclusion,
-        };
-        counts.push(call(Function::CountRows, frame))?;
-        sums.push(call(Function::Sum(2), frame))?;
-    }
-    for sum in sums {
-        counts.push(sum)?;
-    }
-    over_table(alloc, 2, counts, &[4, 5, 6, 7, 8, 9, 10, 11])
-}
-
-#[test]
-fn leaves_out_what_the_exclusion_names(rt: HostRuntime) -> Result<(), Fail> {
-    let alloc = rt.alloc();
-    let tied = [
-        Some(2),
-        Some(1),
-        Some(0),
-        Some(1),
-        Some(20),
-        Some(10),
-        None,
-        Some(10),
-    ];
-    let more = [
-        Some(3),
-        Some(2),
-        Some(2),
-        Some(3),
-        Some(40),
-        Some(20),
-        Some(20),
-        Some(40),
-    ];
-    let two = [
-        Some(2),
-        Some(1),
-        Some(1),
-        Some(2),
-        Some(20),
-        Some(20),
-        Some(20),
-        Some(20),
-    ];
-    let by_rows: [&[Option<i64>]; 4] = [
-        &tied,
-        &[
-            Some(3),
-            Some(2),
-            Some(1),
-            Some(2),
-            Some(40),
-            Some(30),
-            Some(20),
-            Some(30),
-        ],
-        &[
-            Some(3),
-            Some(2),
-            Some(2),
-            Some(3),
-            Some(30),
-            Some(10),
-            Some(10),
-            Some(30),
-        ],
-        &two,
-    ];
-    let by_groups: [&[Option<i64>]; 4] = [&tied, &tied, &more, &two];
-    let by_range: [&[Option<i64>]; 4] = [
-        &tied,
-        &tied,
-        &more,
-        &[Some(1), Some(0), Some(0), Some(1), None, None, None, None],
-    ];
-    let cases = [
-        (FrameMode::Rows, 1, Bound::Following(1), by_rows),
-        (FrameMode::Groups, 1, Bound::CurrentRow, by_groups),
-        (FrameMode::Range, 10, Bound::CurrentRow, by_range),
-    ];
-    let table = instance(alloc)?;
-    for (mode, back, end, expected) in cases {
-        let plan = with_exclusions(alloc, mode, Bound::Preceding(back), end)?;
-        assert!(rt;
-            gives(alloc, &plan, &table, &[&[0, 1, 2, 3]], &expected)?,
-            "{mode:?}"
-        );
-    }
     Ok(())
 }
 
@@ -691,28 +443,16 @@ fn two_classes(alloc: Global) -> Result<Plan, AllocError> {
     columns(alloc, both, &[4, 5])
 }
 
-// Two rows of each of two parts.
-fn two_parts(alloc: Global) -> Result<Instance, AllocError> {
-    let first = row(alloc, 1, "a", Some(10))?;
-    let second = row(alloc, 2, "b", Some(10))?;
-    let third = row(alloc, 3, "a", Some(20))?;
-    let last = row(alloc, 4, "b", None)?;
-    let rows = vec![in alloc; first, second, third, last]?;
-    instance_of(alloc, rows)
-}
-
 // The rows of a partition need not stand together in an ordering.
 #[test]
 fn judges_the_orderings_of_each_class(rt: HostRuntime) -> Result<(), Fail> {
     let alloc = rt.alloc();
     let plan = two_classes(alloc)?;
-    let table = two_parts(alloc)?;
-    let expected: [&[Option<i64>]; 4] = [
-        &[Some(2), Some(4)],
-        &[Some(2), Some(3)],
-        &[Some(1), Some(2)],
-        &[Some(1), Some(1)],
-    ];
+    let table = table(
+        alloc,
+        &[(1, "a", 10), (2, "b", 10), (3, "a", 20), (4, "b", NULL)],
+    )?;
+    let expected: [&[i64]; 4] = [&[2, 4], &[2, 3], &[1, 2], &[1, 1]];
     let sorted: [&[u64]; 2] = [&[2, 0, 3, 1], &[3, 2, 1, 0]];
     let mixed: [&[u64]; 2] = [&[3, 2, 0, 1], &[3, 2, 1, 0]];
     for orderings in [sorted, mixed] {
@@ -760,10 +500,10 @@ fn first_values(
 fn cuts_by_its_ordering(rt: HostRuntime) -> Result<(), Fail> {
     let alloc = rt.alloc();
     let table = instance(alloc)?;
-    let with_ties: [&[Option<i64>]; 2] = [&[Some(10), Some(2)], &[Some(10), Some(1)]];
-    let behind_one: [&[Option<i64>]; 2] = [&[Some(10), Some(1)], &[Some(20), Some(3)]];
-    let behind_three: [&[Option<i64>]; 1] = [&[None, Some(4)]];
-    let cases: [(u64, Option<u64>, bool, &[&[Option<i64>]]); 4] = [
+    let with_ties: [&[i64]; 2] = [&[10, 2], &[10, 1]];
+    let behind_one: [&[i64]; 2] = [&[10, 1], &[20, 3]];
+    let behind_three: [&[i64]; 1] = [&[NULL, 4]];
+    let cases: [(u64, Option<u64>, bool, &[&[i64]]); 4] = [
         (0, Some(1), true, &with_ties),
         (1, Some(2), false, &behind_one),
         (3, None, false, &behind_three),
@@ -795,7 +535,7 @@ fn runs(
     alloc: Global,
     plan: &Plan,
     instance: &Instance,
-    expected: &[&[Option<i64>]],
+    expected: &[&[i64]],
 ) -> Result<bool, Fail> {
     match run(alloc, plan, instance)? {
         Some(Ok(outcome)) => Ok(are_rows(&outcome, expected)),
@@ -816,15 +556,8 @@ fn fault_of(alloc: Global, plan: &Plan, instance: &Instance) -> Result<Option<Fa
 fn runs_a_sorted_query(rt: HostRuntime) -> Result<(), Fail> {
     let alloc = rt.alloc();
     let table = instance(alloc)?;
-    assert!(rt;
-        runs(
-            alloc,
-            &last_ids(alloc, 2, true)?,
-            &table,
-            &[&[Some(1)], &[Some(2)]]
-        )?
-    );
-    assert!(rt; runs(alloc, &last_ids(alloc, 1, false)?, &table, &[&[Some(3)]])?);
+    assert!(rt; runs(alloc, &last_ids(alloc, 2, true)?, &table, &[&[1], &[2]])?);
+    assert!(rt; runs(alloc, &last_ids(alloc, 1, false)?, &table, &[&[3]])?);
     Ok(())
 }
 
@@ -832,9 +565,9 @@ fn runs_a_sorted_query(rt: HostRuntime) -> Result<(), Fail> {
 fn numbered_rows(alloc: Global, count: i64) -> Result<Instance, AllocError> {
     let mut rows = Vec::new(alloc);
     for id in 0..count {
-        rows.push(row(alloc, id, "a", None)?)?;
+        rows.push((id, "a", NULL))?;
     }
-    instance_of(alloc, rows)
+    table(alloc, &rows)
 }
 
 // SELECT NTILE(4) OVER (ORDER BY id) FROM t over six rows, and over none
@@ -843,14 +576,7 @@ fn fills_buckets(rt: HostRuntime) -> Result<(), Fail> {
     let alloc = rt.alloc();
     let calls = vec![in alloc; call(Function::Ntile(4), BY_RANGE)]?;
     let plan = over_table(alloc, 0, calls, &[4])?;
-    let expected: [&[Option<i64>]; 6] = [
-        &[Some(1)],
-        &[Some(1)],
-        &[Some(2)],
-        &[Some(2)],
-        &[Some(3)],
-        &[Some(4)],
-    ];
+    let expected: [&[i64]; 6] = [&[1], &[1], &[2], &[2], &[3], &[4]];
     assert!(rt; runs(alloc, &plan, &numbered_rows(alloc, 6)?, &expected)?);
     assert!(rt; runs(alloc, &plan, &numbered_rows(alloc, 0)?, &[])?);
     Ok(())
@@ -883,7 +609,7 @@ fn flips_one_ordering(rt: HostRuntime) -> Result<(), Fail> {
             "{flipped:?}"
         );
     }
-    assert!(rt; runs(alloc, &two, &table, &[&[Some(10), Some(1)]])?);
+    assert!(rt; runs(alloc, &two, &table, &[&[10, 1]])?);
     Ok(())
 }
 
@@ -910,15 +636,6 @@ fn flips_on_the_right_side(rt: HostRuntime) -> Result<(), Fail> {
     Ok(())
 }
 
-// 9223372036854775807, 1 and -1
-fn past_the_range(alloc: Global) -> Result<Instance, AllocError> {
-    let first = row(alloc, 1, "a", Some(i64::MAX))?;
-    let second = row(alloc, 2, "a", Some(1))?;
-    let last = row(alloc, 3, "a", Some(-1))?;
-    let rows = vec![in alloc; first, second, last]?;
-    instance_of(alloc, rows)
-}
-
 // SELECT SUM(v) OVER () FROM t
 fn whole_total(alloc: Global) -> Result<Plan, AllocError> {
     let class = Class {
@@ -937,16 +654,10 @@ fn whole_total(alloc: Global) -> Result<Plan, AllocError> {
 #[test]
 fn faults_at_a_total_out_of_range(rt: HostRuntime) -> Result<(), Fail> {
     let alloc = rt.alloc();
-    let table = past_the_range(alloc)?;
-    let total = [Some(i64::MAX)];
-    assert!(rt;
-        runs(
-            alloc,
-            &whole_total(alloc)?,
-            &table,
-            &[&total, &total, &total]
-        )?
-    );
+    let table = table(alloc, &[(1, "a", i64::MAX), (2, "a", 1), (3, "a", -1)])?;
+    let total = [i64::MAX];
+    let totals: [&[i64]; 3] = [&total, &total, &total];
+    assert!(rt; runs(alloc, &whole_total(alloc)?, &table, &totals)?);
     let calls = vec![in alloc; call(Function::Sum(2), BY_RANGE)]?;
     let running = over_table(alloc, 0, calls, &[4])?;
     assert_eq!(rt; fault_of(alloc, &running, &table)?, Some(Fault::OutOfRange));
@@ -955,27 +666,13 @@ fn faults_at_a_total_out_of_range(rt: HostRuntime) -> Result<(), Fail> {
 
 // SELECT 10 / v, v + 1 FROM t: the least fault, whichever row comes first.
 fn two_faults(alloc: Global) -> Result<Plan, AllocError> {
-    let ten = Expr::Literal(Value::Int(10), ValueKind::Number);
-    let one = Expr::Literal(Value::Int(1), ValueKind::Number);
-    let divided = Expr::Arithmetic(
-        ArithmeticOp::Divide,
-        Box::new(alloc, ten)?,
-        Box::new(alloc, Expr::Column(2))?,
-    );
-    let raised = Expr::Arithmetic(
-        ArithmeticOp::Add,
-        Box::new(alloc, Expr::Column(2))?,
-        Box::new(alloc, one)?,
-    );
+    let ten = Box::new(alloc, Expr::Literal(Value::Int(10), ValueKind::Number))?;
+    let one = Box::new(alloc, Expr::Literal(Value::Int(1), ValueKind::Number))?;
+    let v = Box::new(alloc, Expr::Column(2))?;
+    let divided = Expr::Arithmetic(ArithmeticOp::Divide, ten, v);
+    let v = Box::new(alloc, Expr::Column(2))?;
+    let raised = Expr::Arithmetic(ArithmeticOp::Add, v, one);
     map(alloc, scan(), vec![in alloc; divided, raised]?)
-}
-
-// Two rows of the table.
-fn two_rows(alloc: Global, first: i64, second: i64) -> Result<Instance, AllocError> {
-    let one = row(alloc, 1, "a", Some(first))?;
-    let other = row(alloc, 2, "b", Some(second))?;
-    let rows = vec![in alloc; one, other]?;
-    instance_of(alloc, rows)
 }
 
 #[test]
@@ -983,11 +680,9 @@ fn gives_the_least_fault(rt: HostRuntime) -> Result<(), Fail> {
     let alloc = rt.alloc();
     let plan = two_faults(alloc)?;
     for (first, second) in [(0, i64::MAX), (i64::MAX, 0)] {
-        let table = two_rows(alloc, first, second)?;
-        assert_eq!(rt;
-            fault_of(alloc, &plan, &table)?,
-            Some(Fault::DivisionByZero)
-        );
+        let table = table(alloc, &[(1, "a", first), (2, "b", second)])?;
+        let by_zero = Some(Fault::DivisionByZero);
+        assert_eq!(rt; fault_of(alloc, &plan, &table)?, by_zero);
     }
     Ok(())
 }
@@ -1003,16 +698,13 @@ fn over_a_fault(alloc: Global) -> Result<Plan, AllocError> {
 fn asks_for_empty_orderings_over_a_fault(rt: HostRuntime) -> Result<(), Fail> {
     let alloc = rt.alloc();
     let plan = over_a_fault(alloc)?;
-    let table = one_row(alloc, 0)?;
+    let table = table(alloc, &[(1, "a", 0)])?;
     assert!(rt; is_tied(alloc, &plan, &table, None, &[&[], &[]])?);
-    assert_eq!(rt;
-        fault_of(alloc, &plan, &table)?,
-        Some(Fault::DivisionByZero)
-    );
-    let empty: [&[u64]; 2] = [&[], &[]];
+    let by_zero = Some(Fault::DivisionByZero);
+    assert_eq!(rt; fault_of(alloc, &plan, &table)?, by_zero);
     let second_filled: [&[u64]; 2] = [&[], &[0]];
     let first_filled: [&[u64]; 2] = [&[0], &[]];
-    assert_eq!(rt; judged(alloc, &plan, &table, &empty)?, Some(Ok(())));
+    assert_eq!(rt; judged(alloc, &plan, &table, &[&[], &[]])?, Some(Ok(())));
     for (orderings, place) in [(second_filled, 1), (first_filled, 0)] {
         let judged = judged(alloc, &plan, &table, &orderings)?;
         assert_eq!(rt; judged, Some(Err(EvalError::NotValid(place))));
@@ -1022,11 +714,9 @@ fn asks_for_empty_orderings_over_a_fault(rt: HostRuntime) -> Result<(), Fail> {
 
 // SELECT a.id, b.id FROM t AS a JOIN t AS b ON a.v = b.v
 fn equal_pairs(alloc: Global) -> Result<Plan, AllocError> {
-    let same_value = Expr::Compare(
-        ComparisonOp::Equal,
-        Box::new(alloc, Expr::Column(2))?,
-        Box::new(alloc, Expr::Column(6))?,
-    );
+    let left = Box::new(alloc, Expr::Column(2))?;
+    let right = Box::new(alloc, Expr::Column(6))?;
+    let same_value = Expr::Compare(ComparisonOp::Equal, left, right);
     let pairs = join(alloc, scan(), scan(), Some(same_value))?;
     columns(alloc, pairs, &[0, 4])
 }
@@ -1043,27 +733,26 @@ fn known_values(alloc: Global) -> Result<Plan, AllocError> {
     })
 }
 
-// The condition of the Join is NULL for the row without a value.
+// SELECT id FROM t WHERE v = 10
+fn tens(alloc: Global) -> Result<Plan, AllocError> {
+    let v = Box::new(alloc, Expr::Column(2))?;
+    let ten = Box::new(alloc, Expr::Literal(Value::Int(10), ValueKind::Number))?;
+    let kept = Plan::Filter {
+        input: Box::new(alloc, scan())?,
+        condition: Expr::Compare(ComparisonOp::Equal, v, ten),
+    };
+    columns(alloc, kept, &[0])
+}
+
+// The conditions of the Join and of the last Filter are NULL for the row without a value.
 #[test]
 fn joins_filters_and_keeps_first_occurrences(rt: HostRuntime) -> Result<(), Fail> {
     let alloc = rt.alloc();
     let table = instance(alloc)?;
-    let expected: [&[Option<i64>]; 5] = [
-        &[Some(1), Some(1)],
-        &[Some(1), Some(2)],
-        &[Some(2), Some(1)],
-        &[Some(2), Some(2)],
-        &[Some(3), Some(3)],
-    ];
+    let expected: [&[i64]; 5] = [&[1, 1], &[1, 2], &[2, 1], &[2, 2], &[3, 3]];
     assert!(rt; runs(alloc, &equal_pairs(alloc)?, &table, &expected)?);
-    assert!(rt;
-        runs(
-            alloc,
-            &known_values(alloc)?,
-            &table,
-            &[&[Some(10)], &[Some(20)]]
-        )?
-    );
+    assert!(rt; runs(alloc, &known_values(alloc)?, &table, &[&[10], &[20]])?);
+    assert!(rt; runs(alloc, &tens(alloc)?, &table, &[&[1], &[2]])?);
     Ok(())
 }
 
@@ -1073,21 +762,14 @@ fn joins_filters_and_keeps_first_occurrences(rt: HostRuntime) -> Result<(), Fail
 fn refuses_a_step_of_too_many_rows(rt: HostRuntime) -> Result<(), Fail> {
     let alloc = rt.alloc();
     let table = numbered_rows(alloc, 3200)?;
+    let too_large = Some(Err(EvalError::TooManyRows));
     let pairs = join(alloc, scan(), scan(), None)?;
-    assert_eq!(rt;
-        judged(alloc, &pairs, &table, &[])?,
-        Some(Err(EvalError::TooManyRows))
-    );
+    assert_eq!(rt; judged(alloc, &pairs, &table, &[])?, too_large);
     let above = limit(alloc, pairs, ascending(0), 0, Some(1), false)?;
-    assert_eq!(rt;
-        judged(alloc, &above, &table, &[])?,
-        Some(Err(EvalError::TooManyRows))
-    );
+    assert_eq!(rt; judged(alloc, &above, &table, &[])?, too_large);
     let below = join(alloc, numbered(alloc)?, scan(), None)?;
-    assert_eq!(rt;
-        judged(alloc, &below, &table, &[])?,
-        Some(Err(EvalError::NotValid(0)))
-    );
+    let wrong = Some(Err(EvalError::NotValid(0)));
+    assert_eq!(rt; judged(alloc, &below, &table, &[])?, wrong);
     let ran = run(alloc, &above, &table)?;
     assert!(rt; matches!(&ran, Some(Err(EvalError::TooManyRows))));
     Ok(())

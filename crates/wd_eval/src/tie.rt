@@ -1,20 +1,18 @@
 //! The choice in which rows that tie stay as they are, and what a plan gives under it.
 
 ghost use Rattle.std.specs.Prelude.{◌≡◌, ◌-◌, ◌^◌, ◌<◌, IfOk, length, map, MatchResult, OnOk};
-ghost use Rattle.wd_eval.specs.Judged.{orderings_of};
-ghost use Rattle.wd_eval.specs.Nodes.{AreFew, EachNames, HasClasses, given_of, limit_of};
+ghost use Rattle.wd_window.specs.Windows.{AreFew, EachNames, orderings_of, window_of};
+ghost use Rattle.wd_eval.specs.Nodes.{HasClasses, given_of, limit_of};
 ghost use Rattle.wd_eval.specs.Tied as spec;
 ghost use Rattle.wd_eval.specs.Ties.{ArePut, IsTied, IsTiedLimit, IsTiedWindow, IsUntied, IsWantOfMemory};
-ghost use Rattle.wd_eval.specs.Windows.{window_of};
 ghost use Rattle.wd_partition.specs.Columns.{class_by};
 ghost use Rattle.wd_plan.specs.Plans.{class_of, plan_of};
 ghost use Rattle.wd_value.specs.Rows.{instance_of};
 
 use crate::cut::{Cut, limited};
 use crate::error::EvalError;
-use crate::given::{Given, owned, shown};
-use crate::step::{distinct, filtered, joined, mapped, scanned};
-use crate::window::extended;
+use crate::given::{Given, shown};
+use crate::step::{distinct, extended, filtered, joined, mapped, scanned};
 use std::alloc::Global;
 use wd_partition::sorted_ordering;
 use wd_plan::{Call, Class, OrderItem, Outcome, Plan};
@@ -123,8 +121,7 @@ fn tied_window(
 {
     let first = orderings.len();
     put_sorted(alloc, instance, classes, &input, flipped, orderings)?;
-    let input = owned(alloc, instance, input)?;
-    extended(alloc, classes, calls, input, orderings, first)
+    extended(alloc, instance, classes, calls, input, orderings, first)
 }
 
 /// Puts the sorted ordering of each class behind those that are there.

@@ -1,6 +1,7 @@
 mod Reading
 pub mod Beside
 mod SomeKeys
+mod Crowded
 pub mod SortedShown
 pub mod ShownFits
 pub mod FromFits

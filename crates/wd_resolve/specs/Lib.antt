@@ -1,3 +1,4 @@
+pub mod Widths
 pub mod Selected
 pub mod Listings
 pub mod Lowering

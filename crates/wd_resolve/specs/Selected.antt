@@ -16,10 +16,10 @@ use Rattle.wd_scope.specs.declared.scope.ScopeColumn.{ScopeColumn}
 use Rattle.wd_operand.specs.Causes.{Meant, ◌>>=◌}
 use Rattle.wd_scope.specs.Scopes.{ScopeRule, scope_of, beside, has_table}
 use Rattle.wd_select.specs.Steps.{Lowered}
-use Rattle.wd_select.specs.declared.part.OutputColumn.{OutputColumn}
-use Rattle.wd_select.specs.declared.part.Part.{Part as CodePart}
-use Rattle.wd_select.specs.declared.part.FromSoFar.{FromSoFar as CodeFrom}
-use Rattle.wd_select.specs.declared.part.LoweredSelect.{LoweredSelect}
+use Rattle.wd_select.specs.declared.output.OutputColumn.{OutputColumn}
+use Rattle.wd_resolve.specs.declared.part.Part.{Part as CodePart}
+use Rattle.wd_resolve.specs.declared.part.FromSoFar.{FromSoFar as CodeFrom}
+use Rattle.wd_resolve.specs.declared.part.LoweredSelect.{LoweredSelect}
 
 -- tables joined to one another: their columns, and the plan that gives them
 pub record Part : Type 0 where

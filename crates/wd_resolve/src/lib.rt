@@ -3,6 +3,7 @@
 
 pub mod laws;
 mod listed;
+mod part;
 mod query;
 mod select;
 mod tables;

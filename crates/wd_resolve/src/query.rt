@@ -8,12 +8,13 @@ ghost use Rattle.wd_operand.specs.Causes.{Gives};
 ghost use Rattle.wd_syntax.specs.View.{view_query};
 ghost use Rattle.wd_resolve.specs.Answers.{resolved_of, answer, name_in};
 
+use crate::part::LoweredSelect;
 use crate::select::lowered;
 use std::alloc::Global;
 use wd_operand::ResolveError;
 use wd_plan::Plan;
 use wd_schema::Schema;
-use wd_select::{LoweredSelect, OutputColumn};
+use wd_select::OutputColumn;
 use wd_syntax::Query;
 use wd_value::{OutOfMemory, Text};
 

@@ -22,6 +22,7 @@ ghost use Rattle.wd_select.specs.Steps as steps_spec;
 ghost use Rattle.wd_resolve.specs.Lowering as spec;
 
 use crate::listed::Listed;
+use crate::part::{FromSoFar, LoweredSelect, Part};
 use crate::tables::{
     behind_comma, crossed, derived_table, first_admitted, joined_on, named_table, together,
 };
@@ -29,11 +30,10 @@ use std::alloc::Global;
 use wd_operand::{Cause, ResolveError};
 use wd_plan::{Expr, Plan};
 use wd_schema::Schema;
-use wd_scope::{Calls, Context, KnownWindow, Scope, all_defined};
+use wd_scope::{Calls, Context, KnownWindow, MOST_COLUMNS, Scope, all_defined};
 use wd_select::{
-    Cut, FromSoFar, LoweredSelect, Output, OutputColumn, Part, Shown, Sorted, add_all_met,
-    cut_meant, deduplicated, filtered, is_wide, item_meant, keys_sorted, limited, mapped,
-    without_hidden,
+    Cut, Output, OutputColumn, Shown, Sorted, add_all_met, cut_meant, deduplicated, filtered,
+    is_wide, item_meant, keys_sorted, limited, mapped, without_hidden,
 };
 use wd_syntax::{Alias, Item, Joined, Limits, Name, Quantifier, Select, SortKey, Table};
 use wd_value::{OutOfMemory, Text};
@@ -189,7 +189,8 @@ fn list_meant(alloc: Global, context: &Context<'_>, items: &[Item]) -> Result<Li
     Ok(listed)
 }
 
-/// A further member of a select list.
+/// A further member of a select list: 415 after its other refusals.
+#[tactic(auto, using(crate::proofs::Crowded::crowded))]
 fn item_listed(
     alloc: Global,
     context: &Context<'_>,
@@ -205,6 +206,9 @@ fn item_listed(
     } = listed;
     let width = context.scope.columns.len();
     let more = item_meant(alloc, context, item, &mut calls)?;
+    if calls.list.len() > MOST_COLUMNS {
+        return Err(ResolveError::Refused(Cause::TooMany));
+    }
     add_all_met(alloc, &mut inputs, width, &calls, &more)?;
     let outputs = joined_outputs(outputs, more)?;
     if is_wide(outputs.len(), &inputs, &calls) {

@@ -12,15 +12,16 @@ ghost use Rattle.wd_scope.specs.Scopes as scopes;
 ghost use Rattle.wd_resolve.specs.Selected.{part_of, from_of, lowered_of};
 ghost use Rattle.wd_resolve.specs.Selected as spec;
 ghost use Rattle.wd_resolve.specs.Lowering as lowering;
-ghost use Rattle.wd_select.specs.Widths.{tables_before, columns_before};
+ghost use Rattle.wd_resolve.specs.Widths.{tables_before, columns_before};
 ghost use Rattle.wd_syntax.specs.View.{view};
 
+use crate::part::{FromSoFar, LoweredSelect, Part};
 use std::alloc::Global;
 use wd_operand::{Cause, ResolveError};
 use wd_plan::{Expr, Plan, ValueKind};
 use wd_schema::{Schema, Table};
 use wd_scope::{MOST_COLUMNS, Scope, ScopeColumn, condition};
-use wd_select::{FromSoFar, LoweredSelect, OutputColumn, Part};
+use wd_select::OutputColumn;
 use wd_value::{ColumnType, OutOfMemory, Text};
 
 /// The most tables of one FROM.

@@ -270,6 +270,43 @@ fn refuses_what_is_too_wide(rt: HostRuntime) -> Result<(), Fail> {
     Ok(())
 }
 
+/// A CASE over so many distinct window calls, which read no column.
+fn counts(alloc: Global, calls: u32) -> Result<String, Fail> {
+    let mut text = format!(in alloc; "CASE")?;
+    for number in 0..calls {
+        let arm = format!(in alloc; " WHEN TRUE THEN COUNT(*) OVER (ROWS {number} PRECEDING)")?;
+        text.push_str(arm.as_str())?;
+    }
+    Ok(text)
+}
+
+/// What makes a node too wide is refused at the member of the list that does so, after what else is wrong there.
+#[test]
+fn refuses_too_many_window_calls(rt: HostRuntime) -> Result<(), Fail> {
+    let alloc = rt.alloc();
+    for (calls, behind, number) in [
+        (1024, "END", 0),
+        (1024, "ELSE COUNT(*) OVER (ROWS 0 PRECEDING) END", 0),
+        (1024, "ELSE id END", 415),
+        (1024, "END, x", 402),
+        (1024, "END, SUM(1) OVER (), x", 415),
+        (1025, "END", 415),
+        (1025, "END, x", 415),
+        (1025, "ELSE x END", 402),
+        (1025, "ELSE 'a' END", 404),
+        (1025, "ELSE NTILE(0) OVER () END", 405),
+        (1025, "ELSE SUM(1) OVER () END + x", 402),
+    ] {
+        let query = format!(in alloc; "SELECT {} {behind} FROM t", counts(alloc, calls)?)?;
+        assert_eq!(rt;
+            refusal(alloc, query.as_str())?,
+            number,
+            "at {calls} {behind}"
+        );
+    }
+    Ok(())
+}
+
 #[test]
 fn takes_eight_tables(rt: HostRuntime) -> Result<(), Fail> {
     let alloc = rt.alloc();

@@ -1,10 +1,5 @@
 pub mod MeetsFacts
-pub mod ReadingFacts
-pub mod Exactness
-pub mod GrammarExact
-pub mod SchemaLaws
 pub mod TextFacts
-pub mod ReaderFacts
 pub mod SchemaFacts
 pub mod RefusalFacts
 pub mod CheckFacts

@@ -14,7 +14,7 @@ use Rattle.indexmap.specs.IndexMap.{insert_entry}
 use Rattle.wd_schema.specs.declared.error.SchemaError.{SchemaError}
 use Rattle.wd_schema.specs.declared.error.SchemaError.TheVariants.{Tokens, TableTwice, ColumnTwice, UnknownColumn, SecondPrimaryKey, KeyColumnTwice, TooMany, UnknownType, NullForbidden, Unexpected, OutOfMemory}
 use Rattle.wd_schema.specs.Declares.{AllKeep, ColumnsDiffer, HasOnePrimary, IsAllowed, IsSmall, Keeps, KeyColumnsDiffer, KeysNameColumns, NullsAreAllowed, TablesDiffer, TypesAreKnown}
-use Rattle.wd_schema.specs.Written.{TableTree, name_text}
+use Rattle.wd_statements.specs.Written.{TableTree, name_text}
 use Rattle.wd_schema.proofs.MeetsFacts.{none_from_test}
 
 abbrev names : List TableTree → List (List ℕ)

@@ -12,10 +12,10 @@ use Rattle.wd_schema.specs.declared.error.SchemaError.{SchemaError}
 use Rattle.wd_schema.specs.declared.error.SchemaError.TheVariants.{Tokens, TableTwice, ColumnTwice, UnknownColumn, SecondPrimaryKey, KeyColumnTwice, TooMany, UnknownType, NullForbidden, Unexpected, OutOfMemory}
 use Rattle.wd_schema.specs.Declares.{AllKeep, ColumnsDiffer, HasOnePrimary, IsSmall, KeyColumnsDiffer, KeysNameColumns, NullsAreAllowed, TypesAreKnown, table_declared}
 use Rattle.wd_schema.specs.Laws.{HasOneMeaning}
-use Rattle.wd_schema.specs.Grammar.{IsSchema, spell_schema}
-use Rattle.wd_schema.specs.Texts.{Breaks, HasCause, IsUnexpected}
-use Rattle.wd_schema.specs.Written.{SchemaTree, TableTree, name_text}
-use Rattle.wd_schema.proofs.SchemaLaws.{begins_front, one_tree}
+use Rattle.wd_statements.specs.Grammar.{IsSchema, IsUnexpected, spell_schema}
+use Rattle.wd_schema.specs.Texts.{Breaks, HasCause}
+use Rattle.wd_statements.specs.Written.{SchemaTree, TableTree, name_text}
+use Rattle.wd_statements.proofs.SchemaLaws.{begins_front, one_tree}
 
 -- ---- what the first tables keep
 

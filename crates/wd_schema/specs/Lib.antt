@@ -1,11 +1,8 @@
 pub mod Tables
 pub mod Meets
 pub mod Schemas
-pub mod Written
-pub mod Grammar
 pub mod Declares
 pub mod Refusals
 pub mod Keys
 pub mod Texts
-pub mod Reading
 pub mod Laws

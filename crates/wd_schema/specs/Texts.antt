@@ -1,5 +1,5 @@
 -- Schema texts: the schema that a text declares, and why a text is refused.
-use Rattle.std.specs.Prelude.{◌≡◌, ◌≢◌, ℕ, suc, ◌≤◌, List, map, take, length}
+use Rattle.std.specs.Prelude.{◌≡◌, ℕ, List, map}
 use Rattle.wd_lex.specs.Lexed.{IsLexed, kinds_of}
 use Rattle.wd_lex.specs.Causes as tokens
 use Rattle.wd_lex.specs.declared.token.Token.{Token}
@@ -8,9 +8,9 @@ use Rattle.wd_schema.specs.declared.error.SchemaError.{SchemaError}
 use Rattle.wd_schema.specs.declared.error.SchemaError.TheVariants.{Tokens, TableTwice, ColumnTwice, UnknownColumn, SecondPrimaryKey, KeyColumnTwice, TooMany, UnknownType, NullForbidden, Unexpected, OutOfMemory}
 use Rattle.wd_schema.specs.declared.schema.Schema.{Schema}
 use Rattle.wd_schema.specs.Declares.{AllKeep, table_declared}
-use Rattle.wd_schema.specs.Grammar.{Begins, IsSchema, spell_schema}
+use Rattle.wd_statements.specs.Grammar.{Begins, IsSchema, IsUnexpected, spell_schema}
 use Rattle.wd_schema.specs.Schemas.{schema_of, names_of}
-use Rattle.wd_schema.specs.Written.{SchemaTree, TableTree, name_text}
+use Rattle.wd_statements.specs.Written.{SchemaTree, TableTree, name_text}
 
 -- The text declares the schema: its tokens spell a tree that is refused for nothing, and the tables are those that the tree
 -- declares, under their names.
@@ -23,13 +23,6 @@ pub record Declares (text : List ℕ) (schema : Schema) : Type 0 where
   pub kept : (refusal : SchemaError) → AllKeep refusal tree.tables
   pub tables : schema_of schema ≡ map table_declared tree.tables
   pub names : names_of schema ≡ map (λ table. name_text table.name) tree.tables
-
--- The first place where no schema goes on: some schema has the tokens before it, and none has the token there behind them,
--- or ends there, where it is the number of tokens.
-pub record IsUnexpected (kinds : List TokenKind) (place : ℕ) : Type 0 where
-  pub within : place ≤ length kinds
-  pub before : (tree : SchemaTree) × IsSchema tree × (take place (spell_schema tree) ≡ take place kinds)
-  pub none : (tree : SchemaTree) → IsSchema tree → take (suc place) (spell_schema tree) ≢ take (suc place) kinds
 
 -- the first statements of the text are tables that do not keep what the refusal is about
 pub record Breaks (text : List ℕ) (refusal : SchemaError) : Type 0 where

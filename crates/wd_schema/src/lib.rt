@@ -4,9 +4,7 @@
 mod declare;
 mod error;
 pub mod laws;
-mod reader;
 mod schema;
-mod syntax;
 mod table;
 #[cfg(test)]
 mod tests;

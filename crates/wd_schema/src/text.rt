@@ -4,17 +4,16 @@ ghost use Rattle.std.specs.Prelude.{◌≡◌, ◌≢◌, map, IfOk, IfErr, OnOk
 ghost use Rattle.wd_schema.specs.Declares.{AllKeep, table_declared};
 ghost use Rattle.wd_schema.specs.Schemas.{names_of, schema_of};
 ghost use Rattle.wd_schema.specs.Texts.{Declares, HasCause};
-ghost use Rattle.wd_schema.specs.Written.{name_text, table_tree};
+ghost use Rattle.wd_statements.specs.Written.{name_text, table_tree};
 ghost use Rattle.wd_schema.specs.declared.error.SchemaError.{SchemaError as Refusal};
 
 use crate::declare::declare;
 use crate::error::SchemaError;
-use crate::reader::read_statements;
 use crate::schema::Schema;
-use crate::syntax::WrittenTable;
 use indexmap::IndexMap;
 use std::alloc::Global;
 use wd_lex::{LexError, lex};
+use wd_statements::{WrittenTable, read_statements};
 
 /// The most tables of a schema.
 const MOST_TABLES: usize = 64;

@@ -16,7 +16,7 @@ use Rattle.wd_operand.specs.declared.cause.Cause.TheVariants.{Types, TooMany}
 use Rattle.wd_operand.specs.Causes.{Meant, ◌>>=◌}
 use Rattle.wd_operand.specs.Operands.{Operand, bare_null, typed, of_kind, settled, asked_by, given_by, over_both, combined, negated, sign_over, literal, arms_over, case_kind, case_of}
 use Rattle.wd_operand.specs.Operands as operands
-use Rattle.wd_scope.specs.Calls.{CallMeaning, applied, function_named, met, met_at, number_among}
+use Rattle.wd_scope.specs.Calls.{CallMeaning, applied, function_named, met, met_at, most_calls, number_among}
 use Rattle.wd_scope.specs.Resolving.{ContextRule, Met, all_resolved, arms_resolved, called, else_resolved, over_meant, resolved, sign_met, without_call, written_number}
 use Rattle.wd_scope.specs.Scopes.{column_named}
 use Rattle.wd_scope.specs.Windows.{WindowMeaning}
@@ -132,7 +132,7 @@ met_shows width call calls x h = by (number_among 0 call calls) h
 
     by : (number : Option ℕ) → met_at number width call calls ≡ Ok x → ShowsNew width calls x
     by (Some n) is = no_more width calls x (sym (ap (λ (y : Met). y.1) (ok_is _ _ is)))
-    by None is = new (nat_lt (length calls) 1024) is
+    by None is = new (nat_lt (length calls) most_calls) is
 
 called_shows : (c : ContextRule) (f : Name) (arguments : Option (List Operand)) (w : WindowMeaning) (calls : List CallMeaning) (x : Met) → called c f arguments w calls ≡ Ok x → ShowsNew (length c.scope.columns) calls x
 called_shows c f arguments w calls x h =

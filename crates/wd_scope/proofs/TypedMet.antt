@@ -8,7 +8,7 @@ use Rattle.wd_plan.specs.Expressions.{Column}
 use Rattle.wd_plan.specs.Fits.{Kinds}
 use Rattle.wd_operand.specs.declared.cause.Cause.TheVariants.{TooMany}
 use Rattle.wd_scope.specs.declared.scope.ScopeColumn.{ScopeColumn}
-use Rattle.wd_scope.specs.Calls.{CallMeaning, met, met_at, number_among, same_call}
+use Rattle.wd_scope.specs.Calls.{CallMeaning, met, met_at, most_calls, number_among, same_call}
 use Rattle.wd_operand.specs.Operands.{Operand, typed}
 use Rattle.wd_scope.specs.Scopes.{ScopeRule}
 use Rattle.wd_scope.specs.Typed.{IsCall, IsMet, IsOfKind, kinds_met}
@@ -117,4 +117,4 @@ met_is scope call calls x fits all is = by (number_among 0 call calls) refl is
 
     by : (o : Option ℕ) → number_among 0 call calls ≡ o → met_at o (length scope.columns) call calls ≡ Ok x → IsMet scope calls x
     by (Some n) e is = subst (IsMet scope calls) (ok_is _ _ is) (found n e)
-    by None e is = new (nat_lt (length calls) 1024) is
+    by None e is = new (nat_lt (length calls) most_calls) is

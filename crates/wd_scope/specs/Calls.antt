@@ -244,18 +244,23 @@ same_bound a b = false
 abbrev pub same_frame : Frame → Frame → Bool
 same_frame f g = (nat_eq (mode_number f.mode) (mode_number g.mode) && nat_eq (exclusion_number f.exclusion) (exclusion_number g.exclusion)) && (same_bound f.start g.start && same_bound f.end g.end)
 
--- one partition, one order, one frame; whether the frame is written does not count
+-- one order, one partition, one frame; whether the frame is written does not count
 abbrev pub same_window : WindowMeaning → WindowMeaning → Bool
-same_window v w = same_frame v.frame w.frame && (pointwise same_expression v.partition w.partition && pointwise same_key v.order w.order)
+same_window v w = same_frame v.frame w.frame && (pointwise same_key v.order w.order && pointwise same_expression v.partition w.partition)
 
 abbrev pub same_call : CallMeaning → CallMeaning → Bool
 same_call c d = same_function c.function d.function && same_window c.window d.window
 
 -- ---- the calls of a select list
 
--- a call that is new stands behind those before it, and at most 1,024 are (own)
+-- The most calls that have columns behind up to 1,024 columns of FROM: a column's number has 16 bits. No query's text has so many,
+-- since each takes more than ten of its at most 65,536 bytes.
+abbrev pub most_calls : ℕ
+most_calls = 64512
+
+-- a call that is new stands behind those before it
 abbrev pub added : ℕ → CallMeaning → List CallMeaning → Meant (Operand × List CallMeaning)
-added width call calls = if nat_lt (length calls) 1024 then Ok (typed (Column (width + length calls)) call.function.kind, calls ++ call ∷ []) else Err TooMany
+added width call calls = if nat_lt (length calls) most_calls then Ok (typed (Column (width + length calls)) call.function.kind, calls ++ call ∷ []) else Err TooMany
 
 abbrev pub met_at : Option ℕ → ℕ → CallMeaning → List CallMeaning → Meant (Operand × List CallMeaning)
 met_at (Some number) width call calls = Ok (typed (Column (width + number)) call.function.kind, calls)

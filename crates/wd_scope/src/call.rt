@@ -45,9 +45,13 @@ pub struct WindowCall {
     pub window: Window,
 }
 
-/// The distinct window calls of a select list, at most 1,024.
+/// The most window calls that have columns: a column's number has 16 bits, and up to 1,024 columns of FROM stand before those of
+/// the calls.
+pub(crate) const MOST_CALLS: usize = 64_512;
+
+/// The distinct window calls of a select list, as many as have columns.
 #[derive(Debug, Drop)]
 pub struct Calls {
     pub list: Vec<WindowCall>,
-    pub ghost few: { vec_len list ≤ 1024 },
+    pub ghost few: { vec_len list ≤ 64512 },
 }

@@ -11,8 +11,7 @@ ghost use Rattle.wd_operand.specs.Equality as equality;
 ghost use Rattle.wd_operand.specs.Operands.{operand_of};
 ghost use Rattle.wd_scope.specs.Windows.{key_of, window_of};
 
-use crate::call::{AppliedFunction, Calls, FunctionName, WindowCall};
-use crate::scope::MOST_COLUMNS;
+use crate::call::{AppliedFunction, Calls, FunctionName, MOST_CALLS, WindowCall};
 use crate::window::{OrderKey, Window};
 use std::alloc::Global;
 use wd_operand::{Cause, Meaning, ResolveError, same_expression};
@@ -144,7 +143,7 @@ fn same_window(v: &Window, w: &Window) -> bool
     ensures { result ≡ spec.same_window (window_of v.now) (window_of w.now) }
 {
     same_frame(&v.frame, &w.frame)
-        && (same_partition(&v.partition, &w.partition) && same_order(&v.order, &w.order))
+        && (same_order(&v.order, &w.order) && same_partition(&v.partition, &w.partition))
 }
 
 fn same_call(c: &WindowCall, d: &WindowCall) -> bool
@@ -176,14 +175,14 @@ impl Calls {
         None
     }
 
-    /// Takes up a new call; 415 past 1,024.
+    /// Takes up a new call; 415 where columns have no further number.
     fn add(&mut self, alloc: Global, width: u16, call: WindowCall) -> Result<Meaning, ResolveError>
         requires { width ≤ 1024 }
         ensures { Gives (λ m. (operand_of m, spec.calls_of self.new)) result (spec.added width (call_of call) (spec.calls_of self.old)) }
     {
         let kind = call.function.kind;
         let number = self.list.len();
-        if number >= MOST_COLUMNS {
+        if number >= MOST_CALLS {
             return Err(ResolveError::Refused(Cause::TooMany));
         }
         self.list.push(call)?;

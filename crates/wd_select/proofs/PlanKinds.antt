@@ -16,7 +16,7 @@ use Rattle.wd_scope.specs.Scopes.{ScopeRule}
 use Rattle.wd_scope.specs.Typed.{IsOfKind, kinds_met}
 use Rattle.wd_scope.proofs.Typing.{and_both, kept}
 use Rattle.wd_scope.proofs.TypedMet.{column_is}
-use Rattle.wd_select.specs.declared.part.OutputColumn.{OutputColumn}
+use Rattle.wd_select.specs.declared.output.OutputColumn.{OutputColumn}
 use Rattle.wd_select.specs.Steps.{columns_from}
 
 -- a plan that fits, and gives columns of these kinds, at most 1,024

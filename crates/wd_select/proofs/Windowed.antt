@@ -69,12 +69,12 @@ items_decide = pointwise_decides (λ x y. (same_item-is x y, λ e. subst (λ z. 
 same_class-is : (a b : ClassRule) → same_class a b ≡ true → a ≡ b
 same_class-is a b h =
     let p = both _ _ h in
-    let partition = (numbers_decide a.partition b.partition).0 p.0 in
-    let order = (items_decide a.order b.order).0 p.1 in
+    let partition = (numbers_decide a.partition b.partition).0 p.1 in
+    let order = (items_decide a.order b.order).0 p.0 in
     λ i. record { partition = partition i; order = order i }
 
 same_class-itself : (a : ClassRule) → same_class a a ≡ true
-same_class-itself a = and_both _ _ ((numbers_decide a.partition a.partition).1 refl) ((items_decide a.order a.order).1 refl)
+same_class-itself a = and_both _ _ ((items_decide a.order a.order).1 refl) ((numbers_decide a.partition a.partition).1 refl)
 
 -- ---- small facts
 

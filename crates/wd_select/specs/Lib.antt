@@ -1,4 +1,3 @@
-pub mod Widths
 pub mod Outputs
 pub mod Sorting
 pub mod Cuts

@@ -18,7 +18,7 @@ use Rattle.wd_scope.specs.Scopes.{ScopeRule, has_table}
 use Rattle.wd_scope.specs.Windows.{KeyMeaning}
 use Rattle.wd_scope.specs.Calls.{CallMeaning}
 use Rattle.wd_scope.specs.Resolving.{ContextRule, resolved}
-use Rattle.wd_select.specs.declared.part.Output.{Output}
+use Rattle.wd_select.specs.declared.output.Output.{Output}
 
 -- an output: its name, its expression over the columns of FROM and, behind these, the calls, and the kind of its values
 pub record OutputMeaning : Type 0 where

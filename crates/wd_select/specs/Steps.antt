@@ -18,7 +18,7 @@ use Rattle.wd_scope.specs.Calls.{CallMeaning, same_bool}
 use Rattle.wd_scope.specs.Resolving.{condition}
 use Rattle.wd_scope.specs.Scopes.{ScopeRule}
 use Rattle.wd_scope.specs.Windows.{KeyMeaning}
-use Rattle.wd_select.specs.declared.part.OutputColumn.{OutputColumn}
+use Rattle.wd_select.specs.declared.output.OutputColumn.{OutputColumn}
 use Rattle.wd_select.specs.Outputs.{OutputMeaning, expressions_of, first_number, input_number, with_new}
 use Rattle.wd_select.specs.Sorting.{Sorted, Cut}
 
@@ -59,7 +59,7 @@ same_item a b = nat_eq a.column b.column && (same_bool a.key.desc b.key.desc && 
 
 -- classes are equal where their lists are equal
 abbrev pub same_class : ClassRule → ClassRule → Bool
-same_class a b = pointwise nat_eq a.partition b.partition && pointwise same_item a.order b.order
+same_class a b = pointwise same_item a.order b.order && pointwise nat_eq a.partition b.partition
 
 -- the classes of calls, in the order of their first calls
 abbrev pub classes_over : List Expression → List CallMeaning → List ClassRule

@@ -9,7 +9,7 @@ ghost use Rattle.wd_scope.specs.Windows.{key_of};
 ghost use Rattle.wd_select.specs.Outputs.{output_of, expressions_of, with_new, call_expressions, argument_of, sorted_by, inputs_with, inputs_with_all};
 ghost use Rattle.wd_select.specs.Outputs as spec;
 
-use crate::part::Output;
+use crate::output::Output;
 use std::alloc::Global;
 use wd_operand::{copy_expression, same_expression};
 use wd_plan::Expr;

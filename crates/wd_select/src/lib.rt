@@ -3,8 +3,8 @@
 
 mod inputs;
 mod limits;
+mod output;
 mod outputs;
-mod part;
 mod shown;
 mod sorting;
 mod steps;
@@ -13,8 +13,8 @@ mod tests;
 
 pub use inputs::add_all_met;
 pub use limits::{Cut, cut_meant};
+pub use output::{Output, OutputColumn};
 pub use outputs::item_meant;
-pub use part::{FromSoFar, LoweredSelect, Output, OutputColumn, Part};
 pub use shown::{Shown, Sorted};
 pub use sorting::{is_wide, keys_sorted};
 pub use steps::{deduplicated, filtered, limited, mapped, without_hidden};

@@ -10,7 +10,7 @@ ghost use Rattle.wd_scope.specs.Scopes.{scope_of};
 ghost use Rattle.wd_select.specs.Outputs.{output_of};
 ghost use Rattle.wd_select.specs.Outputs as spec;
 
-use crate::part::Output;
+use crate::output::Output;
 use std::alloc::Global;
 use wd_operand::{Cause, ResolveError};
 use wd_plan::Expr;

@@ -2,7 +2,7 @@
 
 ghost use Rattle.std.specs.Prelude.{◌≤◌, length};
 
-use crate::part::Output;
+use crate::output::Output;
 use wd_plan::{Expr, OrderItem};
 use wd_scope::{Calls, Scope};
 

@@ -1,6 +1,6 @@
 //! The final ORDER BY: each key is an output, or a hidden column behind the outputs.
 
-ghost use Rattle.std.specs.Prelude.{◌≡◌, ◌+◌, ◌<◌, ◌≤◌, false, map, length, vec_len, Option, Some, option_map, IfOk, MatchOption};
+ghost use Rattle.std.specs.Prelude.{◌≡◌, ◌+◌, ◌<◌, ◌≤◌, false, map, length, nat_lt, vec_len, Option, Some, option_map, IfOk, MatchOption};
 ghost use Rattle.wd_plan.specs.Expressions.{expression_of};
 ghost use Rattle.wd_syntax.specs.Tree.{keys_of};
 ghost use Rattle.wd_syntax.specs.View.{view, view_key};
@@ -13,7 +13,7 @@ ghost use Rattle.wd_select.specs.Sorting.{shown_of, place_shown, sorted_of, IsNa
 ghost use Rattle.wd_select.specs.Sorting as spec;
 
 use crate::inputs::add_met;
-use crate::part::Output;
+use crate::output::Output;
 use crate::shown::{Place, Shown, Sorted};
 use std::alloc::Global;
 use wd_operand::{Cause, ResolveError, number, same_expression};
@@ -22,11 +22,18 @@ use wd_scope::{Calls, MOST_COLUMNS, Scope, plain, sort_key, written_number};
 use wd_syntax as written;
 use wd_syntax::{Literal, Name, SortKey};
 
+/// Whether so many inputs and calls are too many for a Window.
+fn are_too_many(inputs: usize, calls: usize) -> bool
+    ensures { result ≡ nat_lt 1024 (inputs + calls) }
+{
+    calls > MOST_COLUMNS || inputs > MOST_COLUMNS - calls
+}
+
 /// Whether some node has more than 1,024 columns: the Map of so many expressions, or the Window below it.
 pub fn is_wide(shown: usize, inputs: &[Expr], calls: &Calls) -> bool
     ensures { result ≡ outputs_spec.is_wide shown (map expression_of inputs.now) (calls_of calls.now) }
 {
-    shown > MOST_COLUMNS || !calls.list.is_empty() && inputs.len() > MOST_COLUMNS - calls.list.len()
+    shown > MOST_COLUMNS || !calls.list.is_empty() && are_too_many(inputs.len(), calls.list.len())
 }
 
 /// The number of the first output that shows an expression.

@@ -185,7 +185,7 @@ fn same_items(a: &[OrderItem], b: &[OrderItem]) -> bool
 fn same_class(a: &Class, b: &Class) -> bool
     ensures { result ≡ spec.same_class (class_of a.now) (class_of b.now) }
 {
-    same_columns(&a.partition, &b.partition) && same_items(&a.order, &b.order)
+    same_items(&a.order, &b.order) && same_columns(&a.partition, &b.partition)
 }
 
 /// The number of the first class that equals another, and the number of classes where none does.
@@ -361,7 +361,8 @@ fn raise_all(
 
 /// A Window over a Map of the inputs, with the calls in order and their classes in the order of their first calls.
 fn windowed(alloc: Global, calls: Calls, inputs: Vec<Expr>, plan: Plan) -> Result<Plan, OutOfMemory>
-    requires { vec_len inputs ≤ 1024 }
+    requires few_inputs { vec_len inputs ≤ 1024 }
+    requires few_calls { vec_len calls.list ≤ 1024 }
     ensures { IfOk result (λ p. plan_of p ≡ spec.windowed (map expression_of inputs.items) (calls_of calls) (plan_of plan)) }
 {
     let classes = classes_over(alloc, &inputs, &calls.list)?;

@@ -1,9 +1,10 @@
--- A filter in place, with the least fault of its condition, one row on and at the end.
-use Rattle.std.proofs.Common.{◌≡◌, ℕ, ◌+◌, ◌<◌, ◌≤◌, Bool, true, false, cond, List, [], ◌∷◌, map, filter, take, drop, length, get_or, Option, refl, sym, ap, ◌∙◌, arith}
+-- A filter, in place or by copies, with the least fault of its condition, one row on and at the end.
+use Rattle.std.proofs.Common.{◌≡◌, ℕ, ◌+◌, ◌<◌, ◌≤◌, Bool, true, false, cond, List, [], ◌∷◌, ◌++◌, map, filter, take, drop, length, get_or, Option, refl, sym, ap, ◌∙◌, arith}
 use Rattle.std.specs.List.{SwappedAt}
 use Rattle.std.specs.declared.alloc.Global.{Global}
 use Rattle.std.specs.declared.vec.Vec.{Vec}
-use Rattle.std.proofs.lemmas.List.{get_or-drop, take_all}
+use Rattle.std.proofs.lemmas.List.{get_or-drop, map_push, take_all}
+use Rattle.std.proofs.lemmas.List.Elements.{filter-append}
 use Rattle.std.proofs.lemmas.List.Filters.{FiltersInPlace, FiltersInPlace-more_swap, FiltersInPlace-more_no, FiltersInPlace-all}
 use Rattle.wd_value.specs.declared.value.Value.{Value}
 use Rattle.wd_value.specs.declared.value.Fault.{Fault}
@@ -57,3 +58,22 @@ pub IsFilteredTo-all : (condition : Expression) (rows now : List (Vec Value Glob
 IsFilteredTo-all condition rows now kept i fault f all =
     ap (λ o. unless o (rows_of (take kept now))) (f.fault_is ∙ ap (λ rs. least_fault (map (value_of condition) (rows_of rs))) (take_all i rows all))
     ∙ ap (unless (least_fault (map (value_of condition) (rows_of rows)))) (ap rows_of (FiltersInPlace-all f.places all) ∙ filter-rows_of condition rows)
+
+-- ---- by copies
+
+-- the rows kept of those that were looked at, and their least fault
+pub record AreCopied (condition : Expression) (seen kept : List Row) (fault : Option Fault) : Type 0 where
+  pub kept_are : kept ≡ filter (λ row. passes (value_of condition row)) seen
+  pub fault_is : fault ≡ least_fault (map (value_of condition) seen)
+
+pub AreCopied-more : (condition : Expression) (seen kept next : List Row) (fault after : Option Fault) (row : Row) → AreCopied condition seen kept fault
+    → next ≡ kept ++ cond (passes (value_of condition row)) (row ∷ []) [] → after ≡ with_result fault (value_of condition row) → AreCopied condition (seen ++ row ∷ []) next after
+AreCopied-more condition seen kept next fault after row so_far grown looked =
+    let t : Row → Bool = λ r. passes (value_of condition r) in
+    record {
+      kept_are = grown ∙ ap (λ rs. rs ++ cond (t row) (row ∷ []) []) so_far.kept_are ∙ sym (filter-append t seen (row ∷ []));
+      fault_is = looked ∙ ap (λ f. with_result f (value_of condition row)) so_far.fault_is ∙ sym (ap least_fault (map_push (value_of condition) seen row) ∙ least_fault-push (map (value_of condition) seen) (value_of condition row));
+    }
+
+pub AreCopied-all : (condition : Expression) (rows kept : List Row) (fault : Option Fault) → AreCopied condition rows kept fault → unless fault kept ≡ filter_outcome condition rows
+AreCopied-all condition rows kept fault copied = λ i. unless (copied.fault_is i) (copied.kept_are i)

@@ -20,7 +20,7 @@ pub(crate) fn with_value(fault: Option<Fault>, value: &Result<Value, Fault>) -> 
 }
 
 /// The least fault, where one fault more is met.
-pub(crate) fn with_fault(fault: Option<Fault>, found: Fault) -> Fault
+pub fn with_fault(fault: Option<Fault>, found: Fault) -> Fault
     ensures { Some result ≡ spec.with_fault fault found }
 {
     match fault {

@@ -10,7 +10,7 @@ use crate::fault::{rows_or_fault, with_value};
 use std::alloc::Global;
 use wd_plan::{Expr, Outcome};
 use wd_scalar::{is_true, value_of};
-use wd_value::{Fault, OutOfMemory, Row, Value};
+use wd_value::{Fault, OutOfMemory, Row, Value, copy_row};
 
 /// The rows for which the condition is true, in their order, or the least fault among all rows.
 pub fn filter_rows(
@@ -32,6 +32,22 @@ pub fn filter_rows(
     }
     rows.truncate(kept);
     Ok(rows_or_fault(rows, fault))
+}
+
+/// The same of rows that stay where they are: copies of those for which the condition is true.
+pub fn copy_filtered(alloc: Global, condition: &Expr, rows: &[Row]) -> Result<Outcome, OutOfMemory>
+    ensures { IfOk result (λ o. outcome_of o ≡ spec.filter_outcome (expression_of condition.now) (rows_of rows.now)) }
+{
+    let mut kept = Vec::new(alloc);
+    let mut fault = None;
+    for row in rows {
+        let value = value_of(alloc, condition, row)?;
+        fault = with_value(fault, &value);
+        if passes(&value) {
+            kept.push(copy_row(alloc, row)?)?;
+        }
+    }
+    Ok(rows_or_fault(kept, fault))
 }
 
 /// Whether a condition is true: not where it is false, NULL or a fault.

@@ -15,6 +15,7 @@ mod tests;
 
 pub use cut::cut_rows;
 pub use distinct::distinct_rows;
-pub use filter::filter_rows;
+pub use fault::with_fault;
+pub use filter::{copy_filtered, filter_rows};
 pub use join::{JoinError, join_rows};
 pub use map::map_rows;

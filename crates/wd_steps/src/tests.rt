@@ -1,4 +1,6 @@
-use crate::{JoinError, cut_rows, distinct_rows, filter_rows, join_rows, map_rows};
+use crate::{
+    JoinError, copy_filtered, cut_rows, distinct_rows, filter_rows, join_rows, map_rows, with_fault,
+};
 use std::alloc::{AllocError, Global};
 use std::test::Fail;
 use wd_plan::{ArithmeticOp, ComparisonOp, Expr, OrderItem, Outcome, ValueKind};
@@ -89,11 +91,16 @@ fn fault_of(outcome: &Outcome) -> Option<Fault> {
 fn filters(rt: HostRuntime) -> Result<(), Fail> {
     let alloc = rt.alloc();
     let tens = equal(alloc, Expr::Column(1), number(10))?;
-    let kept = filter_rows(alloc, &tens, rows(alloc)?)?;
-    assert!(rt; shows(&kept, 0, &[1, 2]));
-    let others = Expr::Not(Box::new(alloc, tens)?);
-    let kept = filter_rows(alloc, &others, rows(alloc)?)?;
-    assert!(rt; shows(&kept, 0, &[3]));
+    let others = Expr::Not(Box::new(alloc, equal(alloc, Expr::Column(1), number(10))?)?);
+    for (condition, ids, values) in [
+        (&tens, [1, 2].as_slice(), [10, 10].as_slice()),
+        (&others, [3].as_slice(), [20].as_slice()),
+    ] {
+        let kept = filter_rows(alloc, condition, rows(alloc)?)?;
+        assert!(rt; shows(&kept, 0, ids) && shows(&kept, 1, values));
+        let copied = copy_filtered(alloc, condition, &rows(alloc)?)?;
+        assert!(rt; shows(&copied, 0, ids) && shows(&copied, 1, values));
+    }
     Ok(())
 }
 
@@ -115,8 +122,18 @@ fn filters_with_the_least_fault(rt: HostRuntime) -> Result<(), Fail> {
     ] {
         let outcome = filter_rows(alloc, &condition, faulting(alloc, first, second)?)?;
         assert_eq!(rt; fault_of(&outcome), Some(wanted), "{first} {second}");
+        let copied = copy_filtered(alloc, &condition, &faulting(alloc, first, second)?)?;
+        assert_eq!(rt; fault_of(&copied), Some(wanted), "{first} {second}");
     }
     Ok(())
+}
+
+#[test]
+fn keeps_the_least_fault(rt: HostRuntime) {
+    let (by_zero, range) = (Fault::DivisionByZero, Fault::OutOfRange);
+    assert_eq!(rt; with_fault(None, range), range);
+    assert_eq!(rt; with_fault(Some(range), by_zero), by_zero);
+    assert_eq!(rt; with_fault(Some(by_zero), range), by_zero);
 }
 
 // 10 / v, v + 1

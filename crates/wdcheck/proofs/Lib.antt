@@ -1,5 +1,4 @@
-pub mod DataLemmas
-pub mod RunLemmas
+pub mod StreamLemmas
 pub mod FilesLemmas
 pub mod CommandLineLemmas
 pub mod RunLineLemmas

@@ -3,9 +3,10 @@ use Rattle.std.specs.Prelude.{◌≡◌, ℕ, List, [], ◌∷◌, ◌++◌, map
 use Rattle.wd_value.specs.Rows.{Row}
 use Rattle.wd_value.specs.declared.value.Fault.{Fault}
 use Rattle.wd_tables.specs.Answers.{answer_text}
-use Rattle.wdcheck.specs.Causes.{IsRefused}
+use Rattle.wd_run.specs.Causes.{HasCause}
+use Rattle.wd_run.specs.declared.error.RunError.{RunError}
 use Rattle.wdcheck.specs.Files.{File}
-use Rattle.wdcheck.specs.Runs.{IsAnswer}
+use Rattle.wd_run.specs.Runs.{IsAnswer}
 use Rattle.wdcheck.specs.Words.{IsPlain, HasNoEquals, run_line, word_of}
 
 -- a line of text: its characters and a line feed
@@ -49,15 +50,14 @@ pub record IsAnswerText (inputs : Inputs) (text : List ℕ) : Type 0 where
   pub answer : IsAnswer inputs.schema.1 inputs.query.1 (data_in inputs.tables) names (Ok rows)
   pub spelled : text ≡ answer_text names rows
 
--- the query faults over the data
-pub record HasFault (inputs : Inputs) : Type 0 where
+-- the query has this fault over the data
+pub record HasFault (inputs : Inputs) (fault : Fault) : Type 0 where
   pub names : List (List ℕ)
-  pub fault : Fault
   pub answer : IsAnswer inputs.schema.1 inputs.query.1 (data_in inputs.tables) names (Err fault)
 
--- the schema, the query or the data is refused by a number
-abbrev pub IsRefusedWith : Inputs → Type 0
-IsRefusedWith inputs = IsRefused inputs.schema.1 inputs.query.1 (data_in inputs.tables)
+-- the schema, the query or the data is refused, for a cause that stands there
+abbrev pub IsRefusedWith : Inputs → RunError → Type 0
+IsRefusedWith inputs error = HasCause inputs.schema.1 inputs.query.1 (data_in inputs.tables) error
 
 -- the output for the words of `run`, when these files were handed over
 pub record IsRunOutput (words : List (List ℕ)) (files : List File) (text : List ℕ) : Type 0 where

@@ -1,6 +1,3 @@
-pub mod Runs
-pub mod Causes
-pub mod Loads
 pub mod Files
 pub mod Machine
 pub mod Memory
@@ -8,4 +5,6 @@ pub mod CommandLine
 pub mod Words
 pub mod Commands
 pub mod Inputs
+pub mod Streams
+pub mod Failures
 pub mod Statuses

@@ -1,7 +1,7 @@
 -- What contracts see of files in memory.
 use Rattle.std.specs.Prelude.{ℕ, List, [], map, slice_index_or}
 use Rattle.wdcheck.specs.Files.{File}
-use Rattle.wdcheck.specs.Runs.{data_of}
+use Rattle.wd_run.specs.Runs.{data_of}
 use Rattle.wdcheck.specs.declared.memory.MemoryFiles.{MemoryFiles}
 
 -- the file with a number

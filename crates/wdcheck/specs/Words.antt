@@ -1,5 +1,5 @@
 -- What the words of the command line ask for.
-use Rattle.std.specs.Prelude.{◌≡◌, ◌≢◌, ℕ, List, [], ◌∷◌, ◌++◌, map, codes, All, Contains, ⊤}
+use Rattle.std.specs.Prelude.{◌≡◌, ◌≢◌, ◌⊎◌, ℕ, List, [], ◌∷◌, ◌++◌, map, codes, All, Any, Contains, ⊤}
 use Rattle.wdcheck.specs.declared.words.RunWords.{RunWords}
 use Rattle.wdcheck.specs.declared.words.Assignment.{Assignment}
 
@@ -37,3 +37,28 @@ HasNoEquals text = ¬ (Contains text 61)
 pub record AreCut (words : List (List ℕ)) (assignments : List Assignment) : Type 0 where
   pub joined : words ≡ map (λ a. word_of a.name.now a.path.now) assignments
   pub first : All (λ a. HasNoEquals a.name.now) assignments
+
+-- there are words, and they are not those of `run`
+pub record AreOtherWords (words : List (List ℕ)) : Type 0 where
+  pub some : words ≢ []
+  pub other : AreRunWords words → ⊥
+
+-- the word stands in the place of NAME=PATH in the words of `run`
+pub record IsTableWord (words : List (List ℕ)) (word : List ℕ) : Type 0 where
+  pub schema : List ℕ
+  pub query : List ℕ
+  pub tables : List (List ℕ)
+  pub line : words ≡ run_line schema query tables
+  pub there : Any (λ w. w ≡ word) tables
+
+-- the path of a word NAME=PATH, behind its first `=`
+abbrev pub IsPathIn : List ℕ → List ℕ → Type 0
+IsPathIn path word = (name : List ℕ) × HasNoEquals name × (word ≡ word_of name path)
+
+-- the words of `run` name the path: it is that of the schema, that of the query, or stands in a word NAME=PATH
+pub record AskFor (words : List (List ℕ)) (path : List ℕ) : Type 0 where
+  pub schema : List ℕ
+  pub query : List ℕ
+  pub tables : List (List ℕ)
+  pub line : words ≡ run_line schema query tables
+  pub there : (path ≡ schema) ⊎ ((path ≡ query) ⊎ Any (IsPathIn path) tables)

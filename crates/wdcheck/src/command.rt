@@ -1,21 +1,22 @@
 //! The program over its words, files and streams.
 
-ghost use Rattle.std.specs.Prelude.{◌≡◌, ◌≢◌, ◌-◌, ◌^◌, ◌<◌, ℕ, List, [], map, take, OnOk, IfOk, IfErr, length};
-ghost use Rattle.std.specs.Io.KnownBytes.{Appends};
-ghost use Rattle.wdcheck.specs.Commands.{HasFault, IsOutput, IsAnswerText, IsRefusedWith, data_in};
-ghost use Rattle.wdcheck.specs.Inputs.{inputs_of, table_of};
-ghost use Rattle.wdcheck.specs.Runs.{data_of};
+ghost use Rattle.std.specs.Prelude.{◌≡◌, ◌≢◌, ◌-◌, ◌^◌, ◌<◌, List, map, OnOk, IfOk, IfErr};
+ghost use Rattle.std.specs.Io.KnownBytes.{Keeps};
+ghost use Rattle.wd_run.specs.Runs.{data_of};
+ghost use Rattle.wdcheck.specs.Commands.{IsOutput, IsAnswerText, data_in};
+ghost use Rattle.wdcheck.specs.Failures.{HasReason, IsUnanswered};
 ghost use Rattle.wdcheck.specs.Files.{File, HandsOver};
-ghost use Rattle.wdcheck.specs.Statuses.{EndsInFault, Fails, IsRefusedFor, Succeeds, status_of};
+ghost use Rattle.wdcheck.specs.Inputs.{inputs_of, table_of};
+ghost use Rattle.wdcheck.specs.Statuses.{Fails, IsEnding, Succeeds};
 
 use crate::failure::{Failure, report};
 use crate::files::Files;
 use crate::inputs::{Inputs, TableFile, read_inputs};
-use crate::run::run;
+use crate::streams::write_and_flush;
 use std::alloc::{AllocError, Global};
-use std::io;
 use std::io::Write;
 use wd_plan::Outcome;
+use wd_run::run;
 use wd_tables::answer_text;
 
 const USAGE: &str = "wdcheck check SCHEMA QUERY
@@ -37,8 +38,10 @@ pub fn command<F: Files, O: Write, E: Write>(
     requires { F.failures files.old < 2 ^ 64 - 1 }
     ensures success { result ≡ 0 → Succeeds (map (λ w. w.now) words.now) (F.handed files.old) (F.handed files.new)
         (O.contents out.old) (O.contents out.new) }
+    ensures silent { result ≡ 0 → Keeps (E.contents err.old) (E.contents err.new) }
     ensures failure { result ≢ 0 → Fails (map (λ w. w.now) words.now) (F.handed files.old) (F.handed files.new)
-        (O.contents out.old) (O.contents out.new) result }
+        (F.failures files.old) (F.failures files.new) (O.contents out.old) (O.contents out.new)
+        (E.contents err.old) (E.contents err.new) result }
 {
     match write_output(alloc, words, files, out) {
         Ok(()) => 0,
@@ -56,37 +59,14 @@ fn write_output<'a, F: Files, O: Write>(
     requires { F.failures files.old < 2 ^ 64 - 1 }
     ensures ok { OnOk result (Succeeds (map (λ w. w.now) words.now) (F.handed files.old) (F.handed files.new)
         (O.contents out.old) (O.contents out.new)) }
-    ensures err { IfErr result (λ failure. Fails (map (λ w. w.now) words.now) (F.handed files.old) (F.handed files.new)
-        (O.contents out.old) (O.contents out.new) (status_of failure)) }
+    ensures err { IfErr result (IsEnding (map (λ w. w.now) words.now) (F.handed files.old) (F.handed files.new)
+        (F.failures files.old) (F.failures files.new) (O.contents out.old) (O.contents out.new)) }
 {
     let text = output(alloc, words, files)?;
-    match write_text(out, text.as_slice()) {
+    match write_and_flush(out, text.as_slice()) {
         Ok(()) => Ok(()),
         Err(_) => Err(Failure::CannotWrite),
     }
-}
-
-// Writes the text and flushes. What an error leaves written is a prefix of the text.
-fn write_text<O: Write>(out: &mut O, text: &[u8]) -> io::Result<()>
-    ensures whole { OnOk result (Appends (O.contents out.old) (O.contents out.new) text.now) }
-    ensures prefix { (n : ℕ) × Appends (O.contents out.old) (O.contents out.new) (take n text.now) }
-{
-    let mut at = 0;
-    for _ in 0..u64::MAX {
-        if at == text.len() {
-            return out.flush();
-        }
-        match out.write(&text[at..]) {
-            Ok(0) => return Err(io::Error::from(io::ErrorKind::WriteZero)),
-            Ok(n) => at += n,
-            Err(error) => {
-                if error.kind() != io::ErrorKind::Interrupted {
-                    return Err(error);
-                }
-            }
-        }
-    }
-    Err(io::Error::from(io::ErrorKind::Interrupted))
 }
 
 // The whole output for the words.
@@ -98,10 +78,8 @@ fn output<'a, F: Files>(
     requires { F.failures files.old < 2 ^ 64 - 1 }
     ensures ok { IfOk result (λ text. (handed : List File) × HandsOver (F.handed files.old) (F.handed files.new) handed
         × IsOutput (map (λ w. w.now) words.now) handed text.items) }
-    ensures err { IfErr result (λ failure. status_of failure ≡ 4
-        → EndsInFault (map (λ w. w.now) words.now) (F.handed files.old) (F.handed files.new)) }
-    ensures refused { IfErr result (λ failure. status_of failure ≡ 3
-        → IsRefusedFor (map (λ w. w.now) words.now) (F.handed files.old) (F.handed files.new)) }
+    ensures err { IfErr result (HasReason (map (λ w. w.now) words.now) (F.handed files.old) (F.handed files.new)
+        (F.failures files.old) (F.failures files.new)) }
 {
     if words.is_empty() {
         return Ok(Vec::from_slice(alloc, USAGE.as_bytes())?);
@@ -113,8 +91,7 @@ fn output<'a, F: Files>(
 // The text of the answer to the query over the data.
 fn answer<'a>(alloc: Global, inputs: &Inputs<'a>) -> Result<Vec<u8>, Failure<'a>>
     ensures ok { IfOk result (λ text. IsAnswerText (inputs_of inputs.now) text.items) }
-    ensures err { IfErr result (λ failure. status_of failure ≡ 4 → HasFault (inputs_of inputs.now)) }
-    ensures refused { IfErr result (λ failure. status_of failure ≡ 3 → IsRefusedWith (inputs_of inputs.now)) }
+    ensures err { IfErr result (IsUnanswered (inputs_of inputs.now)) }
 {
     let data = data(alloc, inputs.tables.as_slice())?;
     let schema = inputs.schema.bytes.as_slice();

@@ -6,7 +6,6 @@ ghost use Rattle.wdcheck.specs.Memory.{failures_of};
 use crate::command::command;
 use crate::failure::{Failure, report};
 use crate::memory::MemoryFiles;
-use crate::run::Origin;
 use std::alloc::Global;
 use std::io;
 use std::io::{ErrorKind, Write};
@@ -52,7 +51,7 @@ struct Case {
     status: u8,
 }
 
-static CASES: [Case; 6] = [
+static CASES: [Case; 9] = [
     Case {
         words: &[],
         files: &[],
@@ -93,6 +92,31 @@ static CASES: [Case; 6] = [
         files: &[],
         out: "",
         err: "data t: refused 707\n",
+        status: 3,
+    },
+    Case {
+        words: &["run", "schema.sql", "query.sql"],
+        files: &[("schema.sql", b"CREATE TABLE t ();"), ("query.sql", QUERY)],
+        out: "",
+        err: "schema: refused 309 at 4\n",
+        status: 3,
+    },
+    Case {
+        words: &["run", "schema.sql", "query.sql"],
+        files: &[("schema.sql", SCHEMA), ("query.sql", b"SELECT w FROM t")],
+        out: "",
+        err: "query: refused 402\n",
+        status: 3,
+    },
+    Case {
+        words: &["run", "schema.sql", "query.sql", "t=t.csv"],
+        files: &[
+            ("schema.sql", SCHEMA),
+            ("query.sql", QUERY),
+            ("t.csv", b"id,v\n1,\n1,\n"),
+        ],
+        out: "",
+        err: "data t: refused 704 at 2\n",
         status: 3,
     },
 ];
@@ -240,6 +264,29 @@ fn keeps_the_status_where_standard_error_fails(rt: HostRuntime) -> Result<(), Fa
 }
 
 #[test]
+fn leaves_a_beginning_of_the_line_where_standard_error_fails(rt: HostRuntime) -> Result<(), Fail> {
+    let alloc = rt.alloc();
+    let line = b"cannot read schema.sql\n".as_slice();
+    for (writes, length) in [(0usize, 0usize), (1, 10), (2, 12), (3, 22), (4, 23)] {
+        let bytes = Vec::new(alloc);
+        let mut err = FailingWriter {
+            bytes,
+            writes,
+            flushes: true,
+        };
+        let mut out = Vec::new(alloc);
+        let mut files = MemoryFiles::new(alloc, &[]);
+        assert_eq!(rt;
+            command(alloc, &RUN[..3], &mut files, &mut out, &mut err),
+            5
+        );
+        assert!(rt; err.bytes.as_slice() == &line[..length]);
+        assert!(rt; out.is_empty());
+    }
+    Ok(())
+}
+
+#[test]
 fn prints_each_failure(rt: HostRuntime) -> Result<(), Fail> {
     let alloc = rt.alloc();
     let failures = [
@@ -267,15 +314,6 @@ fn prints_each_failure(rt: HostRuntime) -> Result<(), Fail> {
         let mut err = Vec::new(alloc);
         assert_eq!(rt; report(&failure, &mut err), status);
         assert!(rt; err.as_slice() == text.as_bytes());
-    }
-    let origins = [
-        (Origin::Schema, "schema"),
-        (Origin::Query, "query"),
-        (Origin::Data("t"), "data t"),
-        (Origin::Run, "run"),
-    ];
-    for (origin, text) in origins {
-        assert!(rt; origin.to_string(alloc)?.as_str() == text);
     }
     Ok(())
 }

@@ -1,20 +1,21 @@
 //! Why the program ends without its output.
 
-ghost use Rattle.std.specs.Prelude.{◌≡◌, ◌≢◌};
-ghost use Rattle.clap.specs.Values.{kind_of};
-ghost use Rattle.clap.specs.declared.error.kind.ErrorKind.TheVariants as kind;
-ghost use Rattle.wdcheck.specs.Causes.{HasNumber};
-ghost use Rattle.wdcheck.specs.Statuses.{status_of};
+ghost use Rattle.std.specs.Prelude.{◌≡◌, ◌++◌, IfSome, OnOk};
+ghost use Rattle.std.specs.Io.KnownBytes.{Appends};
+ghost use Rattle.wdcheck.specs.Failures as spec;
+ghost use Rattle.wdcheck.specs.Failures.{IsFaultOfWords, IsRefusal, Shows, line_of, refusal_line, status_of, where_of};
+ghost use Rattle.wdcheck.specs.Streams.{AppendsPart};
+ghost use Rattle.wdcheck.specs.declared.failure.Failure.TheVariants as failed;
 
-use crate::run::{Origin, RunError};
+use crate::streams::{Piece, write_pieces};
 use clap::error::ErrorKind;
 use std::alloc::{AllocError, AllocFailed};
-use std::fmt;
+use std::io;
 use std::io::Write;
+use wd_run::{Origin, RunError};
 use wd_value::{Fault, OutOfMemory};
 
-/// Why the program ends without its output. `Display` is the text for the standard error, its line
-/// ends included.
+/// Why the program ends without its output.
 #[derive(Debug, Drop)]
 pub enum Failure<'a> {
     /// The words are no command.
@@ -47,43 +48,8 @@ impl Failure<'_> {
     }
 }
 
-impl fmt::Display for Failure<'_> {
-    fn fmt<W: fmt::Write>(&self, f: &mut fmt::Formatter<W>) -> fmt::Result {
-        match self {
-            Failure::CommandLine(error) => write!(f, "{error}"),
-            Failure::NotText => {
-                f.write_str("error: invalid UTF-8 was detected in one or more arguments\n")
-            }
-            Failure::Unassigned(word) => writeln!(f, "data {word}: refused 707"),
-            Failure::Refused { error, number } => {
-                let origin = error.origin();
-                match error.place() {
-                    Some(place) => writeln!(f, "{origin}: refused {number} at {place}"),
-                    None => writeln!(f, "{origin}: refused {number}"),
-                }
-            }
-            Failure::Fault(Fault::DivisionByZero) => f.write_str("fault F1: division by zero\n"),
-            Failure::Fault(Fault::OutOfRange) => f.write_str("fault F2: out of range\n"),
-            Failure::CannotRead(path) => writeln!(f, "cannot read {path}"),
-            Failure::CannotWrite => f.write_str("cannot write\n"),
-            Failure::OutOfMemory => f.write_str("out of memory\n"),
-        }
-    }
-}
-
-impl fmt::Display for Origin<'_> {
-    fn fmt<W: fmt::Write>(&self, f: &mut fmt::Formatter<W>) -> fmt::Result {
-        match self {
-            Origin::Schema => f.write_str("schema"),
-            Origin::Query => f.write_str("query"),
-            Origin::Data(name) => write!(f, "data {name}"),
-            Origin::Run => f.write_str("run"),
-        }
-    }
-}
-
 impl From<OutOfMemory> for Failure<'_> {
-    ghost from_gives = { λ _ failure. status_of failure ≡ 5 };
+    ghost from_gives = { λ _ failure. failure ≡ failed.OutOfMemory };
 
     fn from(_error: OutOfMemory) -> Self {
         Failure::OutOfMemory
@@ -91,7 +57,7 @@ impl From<OutOfMemory> for Failure<'_> {
 }
 
 impl From<AllocError> for Failure<'_> {
-    ghost from_gives = { λ _ failure. status_of failure ≡ 5 };
+    ghost from_gives = { λ _ failure. failure ≡ failed.OutOfMemory };
 
     fn from(_error: AllocError) -> Self {
         Failure::OutOfMemory
@@ -99,7 +65,7 @@ impl From<AllocError> for Failure<'_> {
 }
 
 impl<T: Drop> From<AllocFailed<T>> for Failure<'_> {
-    ghost from_gives = { λ _ failure. status_of failure ≡ 5 };
+    ghost from_gives = { λ _ failure. failure ≡ failed.OutOfMemory };
 
     fn from(_error: AllocFailed<T>) -> Self {
         Failure::OutOfMemory
@@ -107,7 +73,7 @@ impl<T: Drop> From<AllocFailed<T>> for Failure<'_> {
 }
 
 impl From<clap::Error> for Failure<'_> {
-    ghost from_gives = { λ e failure. (status_of failure ≢ 4) × (status_of failure ≡ 3 → kind_of e ≢ kind.OutOfMemory) };
+    ghost from_gives = { λ e failure. IsFaultOfWords e failure };
 
     fn from(error: clap::Error) -> Self {
         match error.kind() {
@@ -118,7 +84,7 @@ impl From<clap::Error> for Failure<'_> {
 }
 
 impl From<RunError> for Failure<'_> {
-    ghost from_gives = { λ e failure. (status_of failure ≢ 4) × (status_of failure ≡ 3 → HasNumber e) };
+    ghost from_gives = { λ e failure. IsRefusal e failure };
 
     fn from(error: RunError) -> Self {
         match error.number() {
@@ -128,10 +94,87 @@ impl From<RunError> for Failure<'_> {
     }
 }
 
-/// Prints the failure, and gives the exit status whether or not that succeeds.
+/// Prints the failure's line, and gives the exit status whether or not that succeeds.
 pub fn report<E: Write>(failure: &Failure<'_>, err: &mut E) -> u8
-    ensures { result ≡ status_of failure.now }
+    ensures status { result ≡ status_of failure.now }
+    ensures shown { Shows (E.contents err.old) (E.contents err.new) failure.now }
 {
-    let _ = write!(err, "{failure}");
+    let _ = write_line(failure, err);
     failure.status()
+}
+
+// Writes the line for standard error; for a fault of the command line the text of `clap`.
+fn write_line<E: Write>(failure: &Failure<'_>, err: &mut E) -> io::Result<()>
+    ensures whole { OnOk result (IfSome (line_of failure.now) (Appends (E.contents err.old) (E.contents err.new))) }
+    ensures part { Shows (E.contents err.old) (E.contents err.new) failure.now }
+{
+    match failure {
+        Failure::CommandLine(error) => write!(err, "{error}"),
+        Failure::NotText => write_pieces(
+            err,
+            &[Piece::Text("error: invalid UTF-8 was detected in one or more arguments\n")],
+        ),
+        Failure::Unassigned(word) => write_pieces(
+            err,
+            &[
+                Piece::Text("data "),
+                Piece::Text(word),
+                Piece::Text(": refused 707\n"),
+            ],
+        ),
+        Failure::Refused { error, number } => write_refusal(error, *number, err),
+        Failure::Fault(fault) => write_pieces(err, &[Piece::Text(fault_line(*fault))]),
+        Failure::CannotRead(path) => write_pieces(
+            err,
+            &[
+                Piece::Text("cannot read "),
+                Piece::Text(path),
+                Piece::Text("\n"),
+            ],
+        ),
+        Failure::CannotWrite => write_pieces(err, &[Piece::Text("cannot write\n")]),
+        Failure::OutOfMemory => write_pieces(err, &[Piece::Text("out of memory\n")]),
+    }
+}
+
+fn fault_line(fault: Fault) -> &'static str
+    ensures { result.now ≡ spec.fault_line fault }
+{
+    match fault {
+        Fault::DivisionByZero => "fault F1: division by zero\n",
+        Fault::OutOfRange => "fault F2: out of range\n",
+    }
+}
+
+// Writes the line of a refusal: what it is about, its number and its place.
+fn write_refusal<E: Write>(error: &RunError, number: u32, err: &mut E) -> io::Result<()>
+    ensures whole { OnOk result (Appends (E.contents err.old) (E.contents err.new) (refusal_line error.now number)) }
+    ensures part { AppendsPart (E.contents err.old) (E.contents err.new) (refusal_line error.now number) }
+{
+    let (input, name) = input_of(error);
+    let input = Piece::Text(input);
+    let name = Piece::Text(name);
+    let refused = Piece::Text(": refused ");
+    let number = Piece::Number(number as u64);
+    let end = Piece::Text("\n");
+    match error.place() {
+        Some(place) => {
+            let at = Piece::Text(" at ");
+            let place = Piece::Number(place);
+            write_pieces(err, &[input, name, refused, number, at, place, end])
+        }
+        None => write_pieces(err, &[input, name, refused, number, end]),
+    }
+}
+
+// The input that a refusal is about: its kind, and the name of a table.
+fn input_of<'a>(error: &'a RunError) -> (&'a str, &'a str)
+    ensures { result.0.now ++ result.1.now ≡ where_of error.now }
+{
+    match error.origin() {
+        Origin::Schema => ("schema", ""),
+        Origin::Query => ("query", ""),
+        Origin::Data(name) => ("data ", name),
+        Origin::Run => ("run", ""),
+    }
 }

@@ -1,11 +1,11 @@
 //! What `run` reads: the files that its words name.
 
-ghost use Rattle.std.specs.Prelude.{◌≡◌, ◌≢◌, ◌-◌, ◌^◌, ◌<◌, [], ◌∷◌, map, IfOk, IfErr};
+ghost use Rattle.std.specs.Prelude.{◌≡◌, ◌≢◌, ◌-◌, ◌^◌, ◌<◌, [], ◌∷◌, map, Any, IfOk, IfErr};
 ghost use Rattle.wdcheck.specs.Commands.{AreInputsOf, files_of};
 ghost use Rattle.wdcheck.specs.Files.{HandsOver};
 ghost use Rattle.wdcheck.specs.Inputs.{file_of, inputs_of};
-ghost use Rattle.wdcheck.specs.Statuses.{status_of};
-ghost use Rattle.wdcheck.specs.Words.{AreRunWords, word_of};
+ghost use Rattle.wdcheck.specs.Failures.{HasReason, IsUnread};
+ghost use Rattle.wdcheck.specs.Words.{word_of};
 
 use crate::failure::Failure;
 use crate::files::{Files, ReadFault};
@@ -43,8 +43,8 @@ pub fn read_inputs<'a, F: Files>(
     requires { F.failures files.old < 2 ^ 64 - 1 }
     ensures asked { IfOk result (λ inputs. AreInputsOf (map (λ w. w.now) words.now) (inputs_of inputs)) }
     ensures read { IfOk result (λ inputs. HandsOver (F.handed files.old) (F.handed files.new) (files_of (inputs_of inputs))) }
-    ensures err { IfErr result (λ failure. status_of failure ≢ 4) }
-    ensures refused { IfErr result (λ failure. status_of failure ≡ 3 → AreRunWords (map (λ w. w.now) words.now) → ⊥) }
+    ensures err { map (λ w. w.now) words.now ≢ [] → IfErr result (HasReason (map (λ w. w.now) words.now)
+        (F.handed files.old) (F.handed files.new) (F.failures files.old) (F.failures files.new)) }
 {
     let given = run_words(alloc, words)?;
     let assignments = assignments(alloc, given.tables.as_slice())?;
@@ -67,7 +67,7 @@ fn read_file<'a, F: Files>(
     ensures path { IfOk result (λ file. file.path.now ≡ path.entry.now) }
     ensures read { IfOk result (λ file. HandsOver (F.handed files.old) (F.handed files.new) (file_of file ∷ [])) }
     ensures failures { IfOk result (λ _. F.failures files.new ≡ F.failures files.old) }
-    ensures err { IfErr result (λ failure. status_of failure ≡ 5) }
+    ensures err { IfErr result (IsUnread (λ asked. asked ≡ path.now) (F.failures files.old) (F.failures files.new)) }
 {
     match files.read(alloc, path) {
         Ok(bytes) => Ok(InputFile { path, bytes }),
@@ -87,7 +87,8 @@ fn read_tables<'a, F: Files>(
         ≡ map (λ a. word_of a.name.now a.path.now) assignments.now) }
     ensures read { IfOk result (λ tables. HandsOver (F.handed files.old) (F.handed files.new)
         (map (λ t. file_of t.file) tables.items)) }
-    ensures err { IfErr result (λ failure. status_of failure ≡ 5) }
+    ensures err { IfErr result (IsUnread (λ asked. Any (λ a. a.path.now ≡ asked) assignments.now)
+        (F.failures files.old) (F.failures files.new)) }
 {
     let mut tables = Vec::new(alloc);
     for assignment in assignments {

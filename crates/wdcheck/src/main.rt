@@ -5,15 +5,11 @@
 mod command;
 #[cfg(test)]
 mod command_tests;
-mod data;
 mod failure;
 mod files;
 mod inputs;
 mod memory;
-mod query;
-mod run;
-#[cfg(test)]
-mod run_tests;
+mod streams;
 mod words;
 
 use command::command;
@@ -24,6 +20,7 @@ use std::env;
 use std::io::ErrorKind;
 use std::process::ExitCode;
 use std::rt::Env;
+pub use wd_run::{RunError, run};
 
 fn main(rt: HostRuntime) -> ExitCode {
     let status = match run_program(&rt) {

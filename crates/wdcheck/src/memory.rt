@@ -2,7 +2,7 @@
 
 ghost use Rattle.std.specs.Prelude.{◌≡◌, ◌<◌, ◌≤◌, [], length, Some, IfSome, IfOk, IfErr};
 ghost use Rattle.wdcheck.specs.Memory.{failures_of, file_at, handed_of};
-ghost use Rattle.wdcheck.specs.Runs.{data_of};
+ghost use Rattle.wd_run.specs.Runs.{data_of};
 
 use crate::files::{Files, MOST_BYTES, ReadFault};
 use std::alloc::Global;

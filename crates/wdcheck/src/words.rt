@@ -1,11 +1,11 @@
 //! What the words of the command line ask for.
 
-ghost use Rattle.std.specs.Prelude.{◌≡◌, ◌≢◌, List, map, codes, Any, Some, IfOk, IfErr, IfSome, IfNone};
+ghost use Rattle.std.specs.Prelude.{◌≡◌, List, map, codes, Some, IfOk, IfErr, IfSome, IfNone};
 ghost use Rattle.clap.specs.Values.{kind_of};
 ghost use Rattle.clap.specs.Words.{Row, app_of, subcommand_rows_of};
 ghost use Rattle.clap.specs.declared.error.kind.ErrorKind.TheVariants as kind;
 ghost use Rattle.wdcheck.specs.CommandLine.{AreInRows, command_line as command_line_app};
-ghost use Rattle.wdcheck.specs.Statuses.{status_of};
+ghost use Rattle.wdcheck.specs.Failures.{IsUncut};
 ghost use Rattle.wdcheck.specs.Words.{AreCut, AreRunWords, AreWordsOf, HasNoEquals, word_of};
 
 use crate::failure::Failure;
@@ -92,8 +92,7 @@ pub struct Assignment<'a> {
 /// Cuts each word at its first `=`.
 pub fn assignments<'a>(alloc: Global, words: &[&'a str]) -> Result<Vec<Assignment<'a>>, Failure<'a>>
     ensures ok { IfOk result (λ v. AreCut (map (λ w. w.now) words.now) v.items) }
-    ensures err { IfErr result (λ failure. status_of failure ≢ 4) }
-    ensures refused { IfErr result (λ failure. status_of failure ≡ 3 → Any HasNoEquals (map (λ w. w.now) words.now)) }
+    ensures err { IfErr result (IsUncut (map (λ w. w.now) words.now)) }
 {
     let mut assignments = Vec::with_capacity(alloc, words.len())?;
     for word in words {

@@ -3,7 +3,7 @@ use Rattle.std.proofs.lemmas.Result.{err_from_is_err_and}
 use Rattle.wd_schema.specs.Schemas.{schema_of}
 use Rattle.wd_value.specs.Rows.{instance_of}
 use Rattle.wd_plan.specs.Plans.{plan_of}
-use Rattle.wd_eval.specs.Judged.{orderings_of}
+use Rattle.wd_window.specs.Windows.{orderings_of}
 use Rattle.wd_eval.specs.Ties.{IsUntied}
 use Rattle.wd_eval.proofs.Fitting.{classes_of_fitting}
 use Rattle.wd_eval.proofs.SomeTied.{refused_from}

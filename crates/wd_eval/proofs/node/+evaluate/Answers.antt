@@ -5,9 +5,8 @@ use Rattle.wd_plan.specs.Expressions.{expression_of}
 use Rattle.wd_plan.specs.Faults.{and_then}
 use Rattle.wd_plan.specs.Outcomes.{distinct, filter_outcome, map_outcome, outcome_of}
 use Rattle.wd_plan.specs.Plans.{class_of, plan_of}
-use Rattle.wd_eval.specs.Judged.{orderings_of}
-use Rattle.wd_eval.specs.Nodes.{given_of, IsCut, IsEvaluated, IsExtended}
-use Rattle.wd_eval.specs.Windows.{window_of}
+use Rattle.wd_window.specs.Windows.{IsExtended, orderings_of, window_of}
+use Rattle.wd_eval.specs.Nodes.{given_of, IsCut, IsEvaluated}
 use Rattle.wd_eval.specs.declared.given.Given.TheVariants.{Made}
 use Rattle.wd_eval.proofs.Nodes.{filter_done, map_done, distinct_done, window_done, limit_done}
 use Rattle.wd_eval.proofs.node.+evaluate.Goals as goal
@@ -54,9 +53,7 @@ returns-in_ok-outcome-in-Window t c =
     let calls = c.in-Window.calls.items in
     let at_input : IsEvaluated most (plan_of c.deref-in-Window.result.now) instance choice first below = search rules in
     let b = subst (λ p. IsEvaluated most (plan_of p) instance choice first below) c.deref-in-Window.ensures at_input in
-    let given : outcome_of c.in_ok-input-in-Window.input ≡ given_of instance below.outcome = search rules in
-    let there : IsExtended (window_of c.deref-in-Window-2.result.now c.deref-in-Window-3.result.now) (outcome_of c.in_ok-input-in-Window.input) choice below.next o = search rules in
-    let x = subst (λ r. IsExtended (window_of c.deref-in-Window-2.result.now c.deref-in-Window-3.result.now) r choice below.next o) given there in
+    let x : IsExtended (window_of c.deref-in-Window-2.result.now c.deref-in-Window-3.result.now) (given_of instance below.outcome) choice below.next o = search rules in
     let own : IsExtended (window_of classes calls) (given_of instance below.outcome) choice below.next o =
     subst (λ ks. IsExtended (window_of classes ks) (given_of instance below.outcome) choice below.next o) c.deref-in-Window-3.ensures.value
     (subst (λ ks. IsExtended (window_of ks c.deref-in-Window-3.result.now) (given_of instance below.outcome) choice below.next o) c.deref-in-Window-2.ensures.value x) in

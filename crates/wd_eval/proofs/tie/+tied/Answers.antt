@@ -6,10 +6,9 @@ use Rattle.wd_plan.specs.Expressions.{expression_of}
 use Rattle.wd_plan.specs.Faults.{and_then}
 use Rattle.wd_plan.specs.Outcomes.{map_outcome, outcome_of}
 use Rattle.wd_plan.specs.Plans.{plan_of}
-use Rattle.wd_eval.specs.Judged.{orderings_of}
+use Rattle.wd_window.specs.Windows.{orderings_of, window_of}
 use Rattle.wd_eval.specs.Nodes.{given_of}
 use Rattle.wd_eval.specs.Ties.{IsTied, IsTiedLimit, IsTiedWindow, IsUntied}
-use Rattle.wd_eval.specs.Windows.{window_of}
 use Rattle.wd_eval.specs.declared.given.Given.TheVariants.{Made}
 use Rattle.wd_eval.proofs.Tying.{distinct_tied, filter_tied, join_tied, join_untied, limit_tied, map_tied, window_tied}
 use Rattle.wd_eval.proofs.tie.+tied.Goals as goal

@@ -3,7 +3,7 @@ use Rattle.std.proofs.lemmas.List.{length-map, map_push}
 use Rattle.wd_value.specs.Rows.{instance_of}
 use Rattle.wd_partition.specs.Columns.{class_by}
 use Rattle.wd_plan.specs.Plans.{class_of}
-use Rattle.wd_eval.specs.Judged.{orderings_of}
+use Rattle.wd_window.specs.Windows.{orderings_of}
 use Rattle.wd_eval.specs.Nodes.{given_of}
 use Rattle.wd_eval.specs.Tied.{IsSortedOver}
 use Rattle.wd_eval.specs.Ties.{ArePut}

@@ -1,7 +1,7 @@
 use Rattle.std.proofs.Common.{map}
 use Rattle.wd_value.specs.Rows.{instance_of}
 use Rattle.wd_plan.specs.Plans.{class_of}
-use Rattle.wd_eval.specs.Judged.{orderings_of}
+use Rattle.wd_window.specs.Windows.{orderings_of}
 use Rattle.wd_eval.specs.Nodes.{given_of}
 use Rattle.wd_eval.specs.Ties.{ArePut}
 use Rattle.wd_eval.proofs.tie.put_sorted.Given as goal

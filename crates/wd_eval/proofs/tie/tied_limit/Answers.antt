@@ -3,7 +3,7 @@ use Rattle.std.proofs.lemmas.List.{length-map, map_push}
 use Rattle.std.proofs.lemmas.Result.{MatchResult-weaker}
 use Rattle.wd_value.specs.Rows.{instance_of}
 use Rattle.wd_plan.specs.Sorting.{limit_class}
-use Rattle.wd_eval.specs.Judged.{orderings_of}
+use Rattle.wd_window.specs.Windows.{orderings_of}
 use Rattle.wd_eval.specs.Nodes.{given_of, IsCut, IsLimitServed, limit_of}
 use Rattle.wd_eval.specs.Tied.{IsSortedOver}
 use Rattle.wd_eval.proofs.Putting.{limit_put, limit_tied_from, served_memory}

@@ -2,12 +2,10 @@ use Rattle.std.proofs.Common.{◌≡◌, sym, subst, length, arith}
 use Rattle.std.proofs.lemmas.List.{length-map}
 use Rattle.std.proofs.lemmas.Result.{MatchResult-weaker}
 use Rattle.wd_value.specs.Rows.{instance_of}
-use Rattle.wd_plan.specs.Outcomes.{outcome_of}
 use Rattle.wd_plan.specs.Plans.{class_of}
-use Rattle.wd_eval.specs.Judged.{orderings_of}
-use Rattle.wd_eval.specs.Nodes.{given_of, IsExtended, IsWindowServed}
+use Rattle.wd_window.specs.Windows.{IsExtended, IsWindowServed, orderings_of, window_of}
+use Rattle.wd_eval.specs.Nodes.{given_of}
 use Rattle.wd_eval.specs.Ties.{ArePut}
-use Rattle.wd_eval.specs.Windows.{window_of}
 use Rattle.wd_eval.proofs.Putting.{served_memory, window_put}
 use Rattle.wd_eval.proofs.tie.tied_window.Goals as goal
 
@@ -23,7 +21,6 @@ returns c =
     let put : ArePut w.classes input flipped (length w.classes) old new = subst (λ n. ArePut w.classes input flipped n old new) (sym (length-map c.args.classes.now class_of)) c.in_ok-put_sorted.ensures in
     let served = window_put w input flipped old new put in
     let served_here = subst (λ n. IsWindowServed w input (orderings_of c.deref.result.now) n) (sym at) (subst (λ ch. IsWindowServed w input (orderings_of ch) (length old)) (sym c.deref.ensures.value) served) in
-    let given = c.in_ok-input.ensures in
     MatchResult-weaker c.extended.result c.extended.ensures
-    (λ o is. record { put = put; extended = subst (λ r. IsExtended w r new (length old) o) given (subst (λ n. IsExtended w (outcome_of c.in_ok-input.input) new n o) at (subst (λ ch. IsExtended w (outcome_of c.in_ok-input.input) (orderings_of ch) first o) c.deref.ensures.value is)) })
-    (λ e h. served_memory (IsWindowServed w (outcome_of c.in_ok-input.input) (orderings_of c.deref.result.now) first) e (subst (λ r. IsWindowServed w r (orderings_of c.deref.result.now) first) (sym given) served_here) h)
+    (λ o is. record { put = put; extended = subst (λ n. IsExtended w input new n o) at (subst (λ ch. IsExtended w input (orderings_of ch) first o) c.deref.ensures.value is) })
+    (λ e h. served_memory (IsWindowServed w input (orderings_of c.deref.result.now) first) e served_here h)

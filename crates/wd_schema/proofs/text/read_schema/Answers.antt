@@ -2,7 +2,7 @@ use Rattle.std.proofs.Common.{sym, subst, List, map, refl, Ok}
 use Rattle.std.proofs.lemmas.Result.{err_from_is_err_and}
 use Rattle.wd_lex.specs.declared.token.Token.{Token}
 use Rattle.wd_schema.specs.Texts.{HasCause}
-use Rattle.wd_schema.specs.Written.{SchemaTree, schema_tree, table_tree}
+use Rattle.wd_statements.specs.Written.{SchemaTree, schema_tree, table_tree}
 use Rattle.wd_schema.proofs.TextFacts.{IsSound, broken_is_cause, no_cause, no_error, same_tokens}
 use Rattle.wd_schema.proofs.text.read_schema.Goals as goal
 

@@ -3,7 +3,7 @@ use Rattle.wd_plan.specs.Outcomes.{RowsOrFault, outcome_of}
 use Rattle.wd_value.specs.Rows.{rows_of}
 use Rattle.wdcheck.specs.Commands.{Inputs, data_in}
 use Rattle.wdcheck.specs.Inputs.{inputs_of, table_of}
-use Rattle.wdcheck.specs.Runs.{IsAnswer, data_of}
+use Rattle.wd_run.specs.Runs.{IsAnswer, data_of}
 use Rattle.wdcheck.proofs.command.answer.Goals as goal
 
 -- what is said of some texts is said of the inputs that they are
@@ -28,13 +28,11 @@ returns-in-Rows-clause-ok c =
     }
 
 pub returns-clause-err : goal.returns-clause-err
-returns-clause-err c = λ four. (
+returns-clause-err c =
     let inputs = inputs_of c.args.inputs.now in
     let given : data_of c.as_slice-2.result.now ≡ data_in inputs.tables =
     ap data_of c.as_slice-2.ensures.value ∙ c.in_ok-data.ensures ∙ ap (λ tables. data_in (map table_of tables)) c.as_slice.ensures.value in
     record {
       names = c.in_ok-names.names.items;
-      fault = c.in-Fault.fault;
       answer = of_inputs inputs _ _ _ _ (outcome_of c.in_ok-names.outcome) (Err c.in-Fault.fault) c.as_slice-schema.ensures.value c.as_slice-query.ensures.value given (ap outcome_of c.in-Fault.is) c.in_ok-names.ensures.answer;
     }
-    )

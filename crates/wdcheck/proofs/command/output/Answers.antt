@@ -3,7 +3,7 @@ use Rattle.std.proofs.lemmas.Result.{IfErr-weaker, IfOk-weaker}
 use Rattle.wdcheck.specs.Commands.{IsOutput, IsRunOutput, files_of}
 use Rattle.wdcheck.specs.Files.{File}
 use Rattle.wdcheck.specs.Inputs.{inputs_of}
-use Rattle.wdcheck.proofs.FailureLemmas.{IfErr-from_same}
+use Rattle.wdcheck.proofs.FailureLemmas.{HasReason-from_inputs, IfErr-from_same}
 use Rattle.wdcheck.proofs.command.output.Goals as goal
 
 -- with words the output is that of `run`
@@ -27,33 +27,14 @@ returns-clause-ok g c =
     )) c.answer.ensures.ok
 
 pub returns-clause-err : goal.returns-clause-err
-returns-clause-err g c = IfErr-weaker c.answer.result _ _ (λ failure faulted is_fault. record {
-  inputs = inputs_of c.in_ok-inputs.inputs;
-  asked = c.in_ok-inputs.ensures.asked;
-  read = c.in_ok-inputs.ensures.read;
-  faulted = faulted is_fault;
-}) c.answer.ensures.err
+returns-clause-err g c =
+    IfErr-weaker c.answer.result _ _ (HasReason-from_inputs _ _ _ _ _ (inputs_of c.in_ok-inputs.inputs) c.in_ok-inputs.ensures.asked c.in_ok-inputs.ensures.read) c.answer.ensures.err
 
 some_words : (words : List (Bor (List ℕ))) → (length words == 0) ≡ false → map (λ w. w.now) words ≢ []
 some_words [] some = absurd (true≢false some)
 some_words (word ∷ words) some = λ none. cc none
 
--- the inputs were read, and one of them is refused
-pub returns-clause-refused : goal.returns-clause-refused
-returns-clause-refused g c = IfErr-weaker c.answer.result _ _ (λ failure refused is_three. record {
-  words_given = some_words c.args.words.now (sym c.is_empty.ensures ∙ c.if-is_empty.false);
-  of_run = λ form. record {
-    inputs = inputs_of c.in_ok-inputs.inputs;
-    asked = c.in_ok-inputs.ensures.asked;
-    read = c.in_ok-inputs.ensures.read;
-    refused = refused is_three;
-  };
-}) c.answer.ensures.refused
-
--- the words are none of `run`
-pub returns-in_err-inputs-clause-refused : goal.returns-in_err-inputs-clause-refused
-returns-in_err-inputs-clause-refused g c =
-    IfErr-from_same c.from_residual-in_err-inputs.result c.in_err-inputs.field-0.0 _ c.from_residual-in_err-inputs.ensures.1 (λ is_three. record {
-      words_given = some_words c.args.words.now (sym c.is_empty.ensures ∙ c.if-is_empty.false);
-      of_run = λ form. absurd (c.in_err-inputs.ensures.refused is_three form);
-    })
+pub returns-in_err-inputs-clause-err : goal.returns-in_err-inputs-clause-err
+returns-in_err-inputs-clause-err g c =
+    IfErr-from_same c.from_residual-in_err-inputs.result c.in_err-inputs.field-0.0 _ c.from_residual-in_err-inputs.ensures.1
+    (c.in_err-inputs.ensures.err (some_words c.args.words.now (sym c.is_empty.ensures ∙ c.if-is_empty.false)))

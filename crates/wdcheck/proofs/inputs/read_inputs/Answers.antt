@@ -1,17 +1,16 @@
-use Rattle.std.proofs.Common.{arith, ◌≡◌, ◌≢◌, ◌∙◌, ◌<◌, ℕ, List, map, length, drop, ap, sym, subst, Bor, Result, Ok, Err, IfErr, IsErrAnd}
+use Rattle.std.proofs.Common.{arith, ◌≡◌, ◌≢◌, ◌∙◌, ◌⊎◌, ◌<◌, ℕ, List, map, length, drop, ap, sym, subst, inl, inr, Bor}
 use Rattle.std.proofs.Math.ListN.{get_or-map, length-map}
 use Rattle.std.proofs.lemmas.Simd.{map-map}
 use Rattle.std.proofs.lemmas.List.Elements.{All-map}
 use Rattle.std.specs.List.{All, Any, Contains}
-use Rattle.clap.specs.Values.{kind_of}
-use Rattle.clap.specs.declared.error.kind.ErrorKind.TheVariants as kind
 use Rattle.wdcheck.specs.Commands.{TableFile as TableData}
-use Rattle.wdcheck.specs.declared.failure.Failure.{Failure}
+use Rattle.wdcheck.specs.Failures.{IsUncut, IsUnread}
 use Rattle.wdcheck.specs.Inputs.{file_of, table_of}
-use Rattle.wdcheck.specs.Statuses.{status_of}
-use Rattle.wdcheck.specs.Words.{AreCut, AreRunWords, HasNoEquals, run_line, word_of}
+use Rattle.wdcheck.specs.Words.{AreCut, AreRunWords, AreWordsOf, AskFor, HasNoEquals, IsPathIn, IsPlain, IsTableWord, run_line, word_of}
 use Rattle.wdcheck.specs.declared.inputs.TableFile.{TableFile}
 use Rattle.wdcheck.specs.declared.words.Assignment.{Assignment}
+use Rattle.wdcheck.specs.declared.words.RunWords.{RunWords}
+use Rattle.wdcheck.proofs.FailureLemmas.{HasReason-from_uncut, HasReason-from_unread, HasReason-from_words, IfErr-from_known, IfErr-from_same}
 use Rattle.wdcheck.proofs.FilesLemmas.{HandsOver-trans}
 use Rattle.wdcheck.proofs.inputs.read_inputs.Goals as goal
 
@@ -55,30 +54,79 @@ returns-clause-read g c =
     rw files (HandsOver-trans _ _ _ _ _ (HandsOver-trans _ _ _ _ _ c.in_ok-schema.ensures.read c.in_ok-query.ensures.read) c.in_ok-tables.ensures.read)
 
 -- a word with an `=` is not without one
-none_lacks : (words : List (List ℕ)) → All (λ w. Contains w 61) words → Any HasNoEquals words → ⊥
-none_lacks words assigned (k, word, below, is, lacks) = lacks (subst (λ w. Contains w 61) is (assigned k word below))
+none_lacks : (words : List (List ℕ)) → All (λ w. Contains w 61) words → (word : List ℕ) → HasNoEquals word → Any (λ w. w ≡ word) words → ⊥
+none_lacks words assigned word lacks (k, other, below, is, same) = lacks (subst (λ w. Contains w 61) same (subst (λ w. Contains w 61) is (assigned k other below)))
 
--- what is known of a failure says what is wanted of it
-of_failure : {T : Type 0} (r : Result T Failure) (P Q : Failure → Type 0) → IsErrAnd r P → ((failure : Failure) → P failure → Q failure) → IfErr r Q
-of_failure (Ok x) P Q known step = tt
-of_failure (Err failure) P Q known step = step failure known
+-- the path behind the first `=` of a word that was cut
+path_in : (assignments : List Assignment) (words : List (List ℕ)) → AreCut words assignments → (path : List ℕ) → Any (λ a. a.path.now ≡ path) assignments → Any (IsPathIn path) words
+path_in assignments words cut path (k, assignment, below, is, same) =
+    let word : Assignment → List ℕ = λ a. word_of a.name.now a.path.now in
+    let no_equals : HasNoEquals assignment.name.now = subst (λ (a : Assignment). HasNoEquals a.name.now) is (cut.first k assignment below) in
+    subst (Any (IsPathIn path)) (sym cut.joined) (
+      k,
+      word assignment,
+      omega (arith, below, length-map assignments word),
+      get_or-map word assignments k assignment ∙ ap word is,
+      (assignment.name.now, no_equals, ap (word_of assignment.name.now) same),
+    )
 
-pub returns-in_err-assignments-clause-refused : goal.returns-in_err-assignments-clause-refused
-returns-in_err-assignments-clause-refused g c =
-    let words : List (List ℕ) = map (λ w. w.now) c.args.words.now in
-    let tables = c.in_ok-given.given.tables.items in
-    let failed = c.in_err-assignments.field-0.0 in
-    let wanted : Failure → Type 0 = λ failure. status_of failure ≡ 3 → AreRunWords words → ⊥ in
-    of_failure c.from_residual-in_err-assignments.result (λ failure. failure ≡ failed) wanted c.from_residual-in_err-assignments.ensures.1
-    (λ failure is. subst wanted (sym is) (λ three form.
-    let lacks : Any HasNoEquals (map (λ w. w.now) tables) =
-    subst (λ (ws : List (Bor (List ℕ))). Any HasNoEquals (map (λ w. w.now) ws)) c.as_slice.ensures.value (c.in_err-assignments.ensures.refused three) in
-    let same : form.tables ≡ map (λ w. w.now) tables = ap (drop 3) (sym form.line ∙ c.in_ok-given.ensures.ok form.plain) in
-    none_lacks form.tables form.assigned (subst (Any HasNoEquals) (sym same) lacks)))
+-- what the words ask for, by the words of `run` that were found
+module _ (words : List (List ℕ)) (given : RunWords) (are : AreWordsOf words given) where
+  table_word : (word : List ℕ) → Any (λ w. w ≡ word) (map (λ w. w.now) given.tables.items) → All IsPlain words → IsTableWord words word
+  table_word word there plain = record {
+    schema = given.schema.now;
+    query = given.query.now;
+    tables = map (λ w. w.now) given.tables.items;
+    line = are plain;
+    there = there;
+  }
 
-pub returns-in_err-given-clause-refused : goal.returns-in_err-given-clause-refused
-returns-in_err-given-clause-refused g c =
-    let words : List (List ℕ) = map (λ w. w.now) c.args.words.now in
-    of_failure c.from_residual.result (λ failure. (status_of failure ≢ 4) × (status_of failure ≡ 3 → kind_of c.in_err-given.field-0.0 ≢ kind.OutOfMemory))
-    (λ failure. status_of failure ≡ 3 → AreRunWords words → ⊥) c.from_residual.ensures.1
-    (λ failure gives three form. gives.1 three (c.in_err-given.ensures.err form))
+  asked : (path : List ℕ) → (path ≡ given.schema.now) ⊎ ((path ≡ given.query.now) ⊎ Any (IsPathIn path) (map (λ w. w.now) given.tables.items)) → All IsPlain words → AskFor words path
+  asked path there plain = record {
+    schema = given.schema.now;
+    query = given.query.now;
+    tables = map (λ w. w.now) given.tables.items;
+    line = are plain;
+    there = there;
+  }
+
+  -- where all words NAME=PATH have an `=`, none lacks it
+  none_lacking : AreRunWords words → (word : List ℕ) → HasNoEquals word → Any (λ w. w ≡ word) (map (λ w. w.now) given.tables.items) → ⊥
+  none_lacking form word lacks there =
+      let same : form.tables ≡ map (λ w. w.now) given.tables.items = ap (drop 3) (sym form.line ∙ are form.plain) in
+      none_lacks form.tables form.assigned word lacks (subst (Any (λ w. w ≡ word)) (sym same) there)
+
+pub returns-in_err-given-clause-err : goal.returns-in_err-given-clause-err
+returns-in_err-given-clause-err g c = λ some.
+    IfErr-from_known c.from_residual.result _ _ c.from_residual.ensures.1 (HasReason-from_words _ _ _ _ _ c.in_err-given.field-0.0 some c.in_err-given.ensures.err)
+
+pub returns-in_err-assignments-clause-err : goal.returns-in_err-assignments-clause-err
+returns-in_err-assignments-clause-err g c = λ some.
+    let given = c.in_ok-given.given in
+    let uncut = subst (λ (ws : List (Bor (List ℕ))). IsUncut (map (λ w. w.now) ws) c.in_err-assignments.field-0.0) c.as_slice.ensures.value c.in_err-assignments.ensures.err in
+    IfErr-from_same c.from_residual-in_err-assignments.result c.in_err-assignments.field-0.0 _ c.from_residual-in_err-assignments.ensures.1
+    (HasReason-from_uncut _ _ _ _ _ (map (λ w. w.now) given.tables.items) some (none_lacking _ given c.in_ok-given.ensures.ok) (table_word _ given c.in_ok-given.ensures.ok) c.in_err-assignments.field-0.0 uncut)
+
+pub returns-in_err-schema-clause-err : goal.returns-in_err-schema-clause-err
+returns-in_err-schema-clause-err g c = λ some.
+    IfErr-from_same c.from_residual-in_err-schema.result c.in_err-schema.field-0.0 _ c.from_residual-in_err-schema.ensures.1
+    (HasReason-from_unread _ _ _ _ _ _ (λ path is. asked _ c.in_ok-given.given c.in_ok-given.ensures.ok path (inl is)) c.in_err-schema.field-0.0 c.in_err-schema.ensures.err)
+
+pub returns-in_err-query-clause-err : goal.returns-in_err-query-clause-err
+returns-in_err-query-clause-err g c = λ some.
+    let unread = rw c.in_ok-schema.ensures.failures at c.in_err-query.ensures.err in
+    IfErr-from_same c.from_residual-in_err-query.result c.in_err-query.field-0.0 _ c.from_residual-in_err-query.ensures.1
+    (HasReason-from_unread _ _ _ _ _ _ (λ path is. asked _ c.in_ok-given.given c.in_ok-given.ensures.ok path (inr (inl is))) c.in_err-query.field-0.0 unread)
+
+pub returns-in_err-tables-clause-err : goal.returns-in_err-tables-clause-err
+returns-in_err-tables-clause-err g c = λ some.
+    let given = c.in_ok-given.given in
+    let assignments = c.in_ok-assignments.assignments.items in
+    let cut : AreCut (map (λ w. w.now) given.tables.items) assignments =
+    subst (λ (words : List (Bor (List ℕ))). AreCut (map (λ w. w.now) words) assignments) c.as_slice.ensures.value c.in_ok-assignments.ensures.ok in
+    let unread = rw (c.in_ok-query.ensures.failures, c.in_ok-schema.ensures.failures) at c.in_err-tables.ensures.err in
+    let same = c.as_slice-2.ensures.value in
+    IfErr-from_same c.from_residual-in_err-tables.result c.in_err-tables.field-0.0 _ c.from_residual-in_err-tables.ensures.1
+    (HasReason-from_unread _ _ _ _ _ _
+    (λ path is. asked _ given c.in_ok-given.ensures.ok path (inr (inr (path_in assignments _ cut path (subst (Any (λ (a : Assignment). a.path.now ≡ path)) same is)))))
+    c.in_err-tables.field-0.0 unread)

@@ -21,11 +21,10 @@ at_mapped [] k d e below = absurd (omega arith)
 at_mapped (word ∷ words) zero d e below = refl
 at_mapped (word ∷ words) (suc k) d e below = at_mapped words k d e (omega arith)
 
--- a word without `=` is among the words
-lacking : (words : List (Bor (List ℕ))) (k : ℕ) (d : Bor (List ℕ)) → k < length words → HasNoEquals (get_or words k d).now → Any HasNoEquals (map (λ w. w.now) words)
-lacking words k d below lacks =
-    (k, (get_or words k d).now, omega (arith, below, length-map words (λ w. w.now)), at_mapped words k d (get_or words k d).now below, lacks)
+-- a word is among the words
+among : (words : List (Bor (List ℕ))) (k : ℕ) (d : Bor (List ℕ)) → k < length words → Any (λ w. w ≡ (get_or words k d).now) (map (λ w. w.now) words)
+among words k d below = (k, (get_or words k d).now, omega (arith, below, length-map words (λ w. w.now)), at_mapped words k d (get_or words k d).now below, refl)
 
-pub returns-in_default-clause-refused : goal.returns-in_default-clause-refused
-returns-in_default-clause-refused c =
-    λ three. lacking c.args.words.now c.loop-word.word-index (record { ref_ptr = (0, 0); now = [] }) c.loop-word-test.true c.in_default.ensures.none
+pub returns-in_default-clause-err : goal.returns-in_default-clause-err
+returns-in_default-clause-err c =
+    (c.in_default.ensures.none, among c.args.words.now c.loop-word.word-index (record { ref_ptr = (0, 0); now = [] }) c.loop-word-test.true)

@@ -1,9 +1,0 @@
-use Rattle.std.proofs.Common.{map}
-use Rattle.wd_value.specs.Rows.{rows_of}
-use Rattle.wd_plan.specs.Plans.{class_of}
-use Rattle.wd_eval.specs.Judged.{orderings_of}
-use Rattle.wd_eval.specs.Windows.{AreListings}
-use Rattle.wd_eval.proofs.listing.listings.Given as goal
-
-abbrev pub invariant-loop-number : goal.invariant-loop-number
-invariant-loop-number l = AreListings (map class_of l.classes) (rows_of l.rows) (orderings_of l.choice) l.first l.number l.listings.items

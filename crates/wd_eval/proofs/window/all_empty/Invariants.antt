@@ -1,6 +1,0 @@
-use Rattle.wd_eval.specs.Judged.{orderings_of}
-use Rattle.wd_eval.specs.Windows.{AreEmpty}
-use Rattle.wd_eval.proofs.window.all_empty.Given as goal
-
-abbrev pub invariant-loop-number : goal.invariant-loop-number
-invariant-loop-number l = AreEmpty l.number (orderings_of l.choice) l.first

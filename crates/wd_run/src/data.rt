@@ -1,0 +1,187 @@
+//! The rows of a schema's tables, from the data given.
+
+ghost use Rattle.std.specs.Prelude.{◌≡◌, ◌<◌, [], ◌∷◌, ◌++◌, ℕ, length, nat_eq, All, IfOk, IfErr, IfSome, IfNone, OnOk};
+ghost use Rattle.std.specs.List.{list_any};
+ghost use Rattle.std.specs.Str.{bytes_eq};
+ghost use Rattle.wd_plan.specs.Plans.{plan_of};
+ghost use Rattle.wd_schema.specs.Schemas.{schema_of};
+ghost use Rattle.wd_schema.specs.Tables.{table_of};
+ghost use Rattle.wd_tables.specs.Data.{HoldsRows};
+ghost use Rattle.wd_value.specs.Rows.{instance_of, rows_of};
+ghost use Rattle.wd_run.specs.Causes.{LacksData};
+ghost use Rattle.wd_run.specs.Loads.{FindsTable, RefusesData, RefusesName, RefusesPlan, RefusesRows, RefusesText};
+ghost use Rattle.wd_run.specs.Runs.{HasData, HasDataAt, HoldsData, IsGiven, IsNamed, NamesDiffer, ReadsTable, data_of, tables_read};
+
+use crate::error::RunError;
+use std::alloc::Global;
+use wd_plan::Plan;
+use wd_schema::{Schema, Table};
+use wd_tables::load;
+use wd_value::{Instance, OutOfMemory, Row, Text};
+
+/// The rows of each table, from texts that are given as pairs of a table's name and its CSV text.
+/// A table without a text has no rows. Refused by 707 at the first name that is no table's or that
+/// was given before, and by 701 to 706 as `load` refuses a text.
+pub fn load_data(
+    alloc: Global,
+    schema: &Schema,
+    given: &[(&str, &[u8])],
+) -> Result<Instance, RunError>
+    requires { NamesDiffer (schema_of schema.now) }
+    ensures held { IfOk result (λ v. HoldsData (schema_of schema.now) (data_of given.now) (instance_of v.items)) }
+    ensures refused { IfErr result (λ e. RefusesData (schema_of schema.now) (data_of given.now) e) }
+{
+    let mut instance = empty_tables(alloc, schema.tables.len())?;
+    for (i, pair) in given.iter().enumerate() {
+        add_data(alloc, schema, &given[..i], pair, &mut instance)?;
+    }
+    Ok(instance)
+}
+
+/// Puts the rows of one text more into the list of its table.
+fn add_data(
+    alloc: Global,
+    schema: &Schema,
+    earlier: &[(&str, &[u8])],
+    pair: &(&str, &[u8]),
+    instance: &mut Instance,
+) -> Result<(), RunError>
+    requires differ { NamesDiffer (schema_of schema.now) }
+    requires held { HoldsData (schema_of schema.now) (data_of earlier.now) (instance_of instance.old.items) }
+    ensures holds { OnOk result (HoldsData (schema_of schema.now) (data_of earlier.now ++ (pair.now.0.now, pair.now.1.now) ∷ []) (instance_of instance.new.items)) }
+    ensures refused { IfErr result (λ e. RefusesText (schema_of schema.now) (data_of earlier.now) pair.now.0.now pair.now.1.now e) }
+{
+    let (name, text) = *pair;
+    if is_given(name, earlier) {
+        return Err(unexpected_data(alloc, name));
+    }
+    let Some((number, table)) = find_table(schema, name) else {
+        return Err(unexpected_data(alloc, name));
+    };
+    let rows = load_table(alloc, table, text)?;
+    instance[number] = rows;
+    Ok(())
+}
+
+/// A list without rows for each table.
+fn empty_tables(alloc: Global, count: usize) -> Result<Instance, OutOfMemory>
+    ensures len { IfOk result (λ v. length v.items ≡ count) }
+    ensures empty { IfOk result (λ v. All (λ rows. rows.items ≡ []) v.items) }
+{
+    let mut instance = Vec::with_capacity(alloc, count)?;
+    for _ in 0..count {
+        instance.push(Vec::new(alloc))?;
+    }
+    Ok(instance)
+}
+
+/// The table of that number, where it has the name.
+fn named_at<'a>(schema: &'a Schema, number: usize, name: &str) -> Option<&'a Table>
+    ensures found { IfSome result (λ table. FindsTable (schema_of schema.now) name.now number (table_of table.now)) }
+    ensures none { IfNone result (IsNamed (schema_of schema.now) name.now number → ⊥) }
+{
+    let (_, table) = schema.tables.get_index(number)?;
+    if table.name.as_bytes() == name.as_bytes() {
+        Some(table)
+    } else {
+        None
+    }
+}
+
+/// The number of the table with a name, and the table.
+fn find_table<'a>(schema: &'a Schema, name: &str) -> Option<(usize, &'a Table)>
+    ensures found { IfSome result (λ f. FindsTable (schema_of schema.now) name.now f.0 (table_of f.1.now)) }
+    ensures none { IfNone result ((n : ℕ) → IsNamed (schema_of schema.now) name.now n → ⊥) }
+{
+    for number in 0..schema.tables.len() {
+        if let Some(table) = named_at(schema, number, name) {
+            return Some((number, table));
+        }
+    }
+    None
+}
+
+fn load_table(alloc: Global, table: &Table, text: &[u8]) -> Result<Vec<Row>, RunError>
+    ensures held { IfOk result (λ v. HoldsRows (table_of table.now) text.now (rows_of v.items)) }
+    ensures refused { IfErr result (λ e. RefusesRows (table_of table.now) text.now e) }
+{
+    match load(alloc, table, text) {
+        Ok(rows) => Ok(rows),
+        Err(error) => match table.name.copy(alloc) {
+            Ok(name) => Err(RunError::Data { name, error }),
+            Err(_) => Err(RunError::OutOfMemory),
+        },
+    }
+}
+
+/// 707, or want of memory where the name can't be kept.
+fn unexpected_data(alloc: Global, name: &str) -> RunError
+    ensures { RefusesName name.now (Unit {0}) result }
+{
+    match Text::from_str(alloc, name) {
+        Ok(name) => RunError::Given { name },
+        Err(_) => RunError::OutOfMemory,
+    }
+}
+
+/// The name of the table of that number, where a plan scans it and it has no data.
+fn lacking<'a>(
+    schema: &'a Schema,
+    plan: &Plan,
+    given: &[(&str, &[u8])],
+    number: usize,
+) -> Option<&'a str>
+    ensures lacking { IfSome result (λ name. LacksData (schema_of schema.now) (data_of given.now) (plan_of plan.now) name.now) }
+    ensures none { IfNone result (HasDataAt (schema_of schema.now) (data_of given.now) (plan_of plan.now) number) }
+{
+    let (_, table) = schema.tables.get_index(number)?;
+    if !scans_table(plan, number) {
+        return None;
+    }
+    let name = table.name.as_str();
+    if is_given(name, given) {
+        return None;
+    }
+    Some(name)
+}
+
+/// Whether each table that a plan scans has data. Refused by 707 at the first one in the schema that has none.
+pub fn check_given(
+    alloc: Global,
+    schema: &Schema,
+    plan: &Plan,
+    given: &[(&str, &[u8])],
+) -> Result<(), RunError>
+    ensures has_data { OnOk result (HasData (schema_of schema.now) (data_of given.now) (plan_of plan.now)) }
+    ensures refused { IfErr result (λ e. RefusesPlan (schema_of schema.now) (data_of given.now) (plan_of plan.now) e) }
+{
+    for number in 0..schema.tables.len() {
+        if let Some(name) = lacking(schema, plan, given, number) {
+            return Err(unexpected_data(alloc, name));
+        }
+    }
+    Ok(())
+}
+
+/// Whether a plan scans the table of that number.
+fn scans_table(plan: &Plan, number: usize) -> bool
+    ensures { result ≡ list_any (nat_eq number) (tables_read (plan_of plan.now)) }
+{
+    match plan {
+        Plan::Scan { table, .. } => number == *table as usize,
+        Plan::Join { left, right, .. } => scans_table(left, number) || scans_table(right, number),
+        Plan::Filter { input, .. } => scans_table(input, number),
+        Plan::Map { input, .. } => scans_table(input, number),
+        Plan::Window { input, .. } => scans_table(input, number),
+        Plan::Distinct { input } => scans_table(input, number),
+        Plan::Limit { input, .. } => scans_table(input, number),
+    }
+}
+
+fn is_given(name: &str, given: &[(&str, &[u8])]) -> bool
+    ensures { result ≡ list_any (λ g. bytes_eq g.0.now name.now) given.now }
+{
+    given
+        .iter()
+        .any(|(other, _)| other.as_bytes() == name.as_bytes())
+}

@@ -1,0 +1,68 @@
+//! A query's answer over the data of tables, from the texts alone.
+
+ghost use Rattle.std.specs.Prelude.{◌≡◌, true, IfOk, IfErr};
+ghost use Rattle.wd_plan.specs.Fits.{fits};
+ghost use Rattle.wd_plan.specs.Outcomes.{outcome_of};
+ghost use Rattle.wd_plan.specs.Plans.{plan_of};
+ghost use Rattle.wd_run.specs.Causes.{HasCause};
+ghost use Rattle.wd_run.specs.Loads.{GivesOutcome, RefusesOutcome};
+ghost use Rattle.wd_run.specs.Runs.{IsAnswer, NamesDiffer, data_of};
+ghost use Rattle.wd_schema.specs.Schemas.{schema_of};
+
+use crate::data::{check_given, load_data};
+use crate::error::RunError;
+use crate::query::read_query;
+use std::alloc::Global;
+use wd_eval::run_plan;
+use wd_plan::{Outcome, Plan};
+use wd_schema::{Schema, read_schema};
+use wd_value::Text;
+
+/// The names of a query's columns and its outcome over the data of tables, which is given as pairs of a table's name and its CSV
+/// text: the rows or the fault under some choice among the orders that the query leaves open. The schema is read first, then the
+/// query, then the data in the order given; a table without data is empty, if the query does not read it.
+///
+/// Each refusal comes only where its cause stands: 101 to 107 and 301 to 309 of the schema; 101 to 107, 201, 202 and 401 to 415 of
+/// the query; 701 to 707 of the data under a name; 802 where a step has more than 10,000,000 rows.
+pub fn run(
+    alloc: Global,
+    schema: &[u8],
+    query: &[u8],
+    tables: &[(&str, &[u8])],
+) -> Result<(Vec<Text>, Outcome), RunError>
+    ensures answer { IfOk result (λ a. IsAnswer schema.now query.now (data_of tables.now) a.0.items (outcome_of a.1)) }
+    ensures refused { IfErr result (λ e. HasCause schema.now query.now (data_of tables.now) e) }
+{
+    let declared = match read_schema(alloc, schema) {
+        Ok(declared) => declared,
+        Err(error) => return Err(RunError::Schema(error)),
+    };
+    let resolved = match read_query(alloc, &declared, query) {
+        Ok(resolved) => resolved,
+        Err(error) => return Err(RunError::Query(error)),
+    };
+    match outcome_over(alloc, &declared, &resolved.plan, tables) {
+        Ok(outcome) => Ok((resolved.names, outcome)),
+        Err(error) => Err(error),
+    }
+}
+
+/// The outcome of a plan over the data given.
+fn outcome_over(
+    alloc: Global,
+    schema: &Schema,
+    plan: &Plan,
+    tables: &[(&str, &[u8])],
+) -> Result<Outcome, RunError>
+    requires differ { NamesDiffer (schema_of schema.now) }
+    requires fitting { fits (schema_of schema.now) (plan_of plan.now) ≡ true }
+    ensures outcome { IfOk result (λ o. GivesOutcome (schema_of schema.now) (data_of tables.now) (plan_of plan.now) o) }
+    ensures refused { IfErr result (λ e. RefusesOutcome (schema_of schema.now) (data_of tables.now) (plan_of plan.now) e) }
+{
+    let instance = load_data(alloc, schema, tables)?;
+    check_given(alloc, schema, plan, tables)?;
+    match run_plan(alloc, plan, schema, &instance) {
+        Ok(outcome) => Ok(outcome),
+        Err(error) => Err(RunError::Evaluation(error)),
+    }
+}

@@ -1,0 +1,13 @@
+//! A query's answer over the data of tables, from the texts of the schema, the query and the data.
+#![tactic(auto)]
+
+mod data;
+mod engine;
+mod error;
+mod query;
+#[cfg(test)]
+mod tests;
+
+pub use engine::run;
+pub use error::{Origin, RunError};
+pub use query::QueryError;

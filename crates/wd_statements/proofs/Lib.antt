@@ -1,0 +1,5 @@
+pub mod ReadingFacts
+pub mod Exactness
+pub mod GrammarExact
+pub mod SchemaLaws
+pub mod ReaderFacts

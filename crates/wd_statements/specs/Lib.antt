@@ -1,0 +1,4 @@
+pub mod Written
+pub mod Grammar
+pub mod Reading
+pub mod Laws

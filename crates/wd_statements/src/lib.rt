@@ -1,0 +1,13 @@
+//! The statements of a schema text: their trees, how they are spelled, and their reader.
+#![tactic(auto)]
+
+pub mod laws;
+mod reader;
+mod syntax;
+#[cfg(test)]
+mod tests;
+
+pub use reader::{Statements, read_statements};
+pub use syntax::{
+    ColumnRule, Element, KeyWords, Name, Nulls, Rule, WrittenColumn, WrittenKey, WrittenTable,
+};

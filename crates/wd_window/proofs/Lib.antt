@@ -1,0 +1,5 @@
+pub mod Listed
+pub mod Beside
+pub mod Serving
+pub mod Gathered
+pub mod Naming

@@ -1,0 +1,28 @@
+use Rattle.std.proofs.Common.{◌+◌, ◌<◌, length, arith, rules}
+use Rattle.std.proofs.lemmas.Result.{err_from_is_err_and}
+use Rattle.wd_value.specs.Rows.{rows_of}
+use Rattle.wd_plan.specs.Plans.{class_of}
+use Rattle.wd_window.specs.Windows.{IsUnserved, orderings_of}
+use Rattle.wd_window.specs.Listings.{IsGiven, IsListed}
+use Rattle.wd_window.proofs.Serving.{class_unserved, listings_more}
+use Rattle.wd_window.proofs.listing.listings.Goals as goal
+
+pub returns-in_err-listing : goal.returns-in_err-listing
+returns-in_err-listing c =
+    let p = err_from_is_err_and c.from_residual.result c.from_residual.ensures.1 in
+    let k = c.loop-number.number in
+    let class = c.index-classes-number.result in
+    let e = c.in_err-listing.field-0.0 in
+    let within : k < length c.args.classes.now = omega arith in
+    let h : IsUnserved (IsGiven (class_of class) (rows_of c.args.rows.now) (orderings_of c.args.choice.now) (c.args.first + k)) e = search rules in
+    rw (p.1, p.2) (class_unserved c.args.classes.now class (rows_of c.args.rows.now) (orderings_of c.args.choice.now) c.args.first k e within c.index-classes-number.is h)
+
+pub loop-number-preserved : goal.loop-number-preserved
+loop-number-preserved c =
+    let k = c.loop-number.number in
+    let class = c.index-classes-number.result in
+    let rows = rows_of c.args.rows.now in
+    let choice = orderings_of c.args.choice.now in
+    let within : k < length c.args.classes.now = omega arith in
+    let listed : IsListed (class_of class) rows choice (c.args.first + k) c.in_ok-listing.listing = search rules in
+    listings_more c.args.classes.now class rows choice c.args.first k c.loop-number.listings.items _ c.in_ok-listing.listing within c.index-classes-number.is c.loop-number.invariant listed c.in_ok-push.ensures.items

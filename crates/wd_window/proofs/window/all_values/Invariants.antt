@@ -1,0 +1,11 @@
+use Rattle.std.proofs.Common.{ℕ, List, map}
+use Rattle.wd_plan.specs.Plans.{WindowRule}
+use Rattle.wd_steps.proofs.Results.{IsGathered}
+use Rattle.wd_value.specs.Bags.{positions}
+use Rattle.wd_value.specs.Rows.{rows_of}
+use Rattle.wd_window.specs.Listings.{AreListed, calls_at}
+use Rattle.wd_window.proofs.window.all_values.Given as goal
+
+abbrev pub invariant-loop-position : goal.invariant-loop-position
+invariant-loop-position l = (w : WindowRule) (orderings : List (List ℕ)) → AreListed w (rows_of l.rows) orderings l.listings
+    → IsGathered (map (calls_at w (rows_of l.rows) orderings l.calls) (positions l.position)) (rows_of l.all.items) l.fault

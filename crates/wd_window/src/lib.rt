@@ -1,0 +1,11 @@
+//! A Window of a plan under the orderings of a choice.
+#![tactic(auto)]
+
+mod error;
+mod listing;
+#[cfg(test)]
+mod tests;
+mod window;
+
+pub use error::WindowError;
+pub use window::evaluate_window;

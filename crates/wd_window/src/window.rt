@@ -1,0 +1,209 @@
+//! A Window under the orderings of a choice.
+
+ghost use Rattle.std.specs.Prelude.{◌≡◌, ◌↔◌, ℕ, ◌+◌, ◌-◌, ◌++◌, ◌^◌, ◌<◌, ◌≤◌, List, IfOk, IsTrue, OnOk, length, map, MatchResult};
+ghost use Rattle.wd_window.specs.Windows.{AreFew, EachNames, IsExtended, IsUnserved, IsWindowServed, orderings_of, window_of};
+ghost use Rattle.wd_window.specs.Listings as spec;
+ghost use Rattle.wd_window.specs.Listings.{AreEmpty, AreListed, IsEmptyAt, IsListing, calls_at};
+ghost use Rattle.wd_plan.specs.Calls as calls;
+ghost use Rattle.wd_plan.specs.Faults.{all_ok};
+ghost use Rattle.wd_plan.specs.Outcomes.{call_at, outcome_of, window_outcome};
+ghost use Rattle.wd_plan.specs.Plans.{ClassRule, WindowRule};
+ghost use Rattle.wd_value.specs.Bags.{positions};
+ghost use Rattle.wd_value.specs.Rows.{rows_of};
+
+use crate::error::WindowError;
+use crate::listing::{Listing, listings};
+use std::alloc::Global;
+use wd_calls::{Partition, call_value};
+use wd_frame::Part;
+use wd_plan::{Call, Class, Outcome};
+use wd_steps::with_fault;
+use wd_value::{Fault, OutOfMemory, Row, Value};
+
+/// The input's rows with the values of the calls behind each of them, under the choice's orderings
+/// from `first` on: one for each class, each lawful, and empty where the input is a fault.
+pub fn evaluate_window(
+    alloc: Global,
+    classes: &[Class],
+    calls: &[Call],
+    input: Outcome,
+    choice: &[Vec<u64>],
+    first: usize,
+) -> Result<Outcome, WindowError>
+    requires few { AreFew (2 ^ 32 - 1) (outcome_of input) }
+    requires within { first ≤ length choice.now }
+    requires named { EachNames (length classes.now) calls.now }
+    ensures { MatchResult result (λ o. IsExtended (window_of classes.now calls.now) (outcome_of input) (orderings_of choice.now) first o) (λ e. IsUnserved (IsWindowServed (window_of classes.now calls.now) (outcome_of input) (orderings_of choice.now) first) e) }
+{
+    match input {
+        Outcome::Fault(fault) => {
+            all_empty(classes.len(), choice, first)?;
+            Ok(Outcome::Fault(fault))
+        }
+        Outcome::Rows(rows) => {
+            let listings = listings(alloc, &rows, classes, choice, first)?;
+            let outcome = with_calls(alloc, calls, rows, &listings)?;
+            Ok(outcome)
+        }
+    }
+}
+
+/// The rows with the values of the calls behind each of them, or the least fault of the calls.
+fn with_calls(
+    alloc: Global,
+    calls: &[Call],
+    rows: Vec<Row>,
+    listings: &[Listing],
+) -> Result<Outcome, OutOfMemory>
+    requires { EachNames (length listings.now) calls.now }
+    ensures { IfOk result (λ o. (w : WindowRule) (orderings : List (List ℕ)) → w.calls ≡ calls.now → AreListed w (rows_of rows.items) orderings listings.now → outcome_of o ≡ window_outcome w (rows_of rows.items) orderings) }
+{
+    match all_values(alloc, calls, &rows, listings)? {
+        Err(fault) => Ok(Outcome::Fault(fault)),
+        Ok(values) => {
+            let extended = beside(rows, values)?;
+            Ok(Outcome::Rows(extended))
+        }
+    }
+}
+
+/// Each row with the values beside it behind its own. The rows are extended in place.
+fn beside(mut rows: Vec<Row>, values: Vec<Row>) -> Result<Vec<Row>, OutOfMemory>
+    ensures { IfOk result (λ v. rows_of v.items ≡ spec.beside (rows_of rows.items) (rows_of values.items)) }
+{
+    let mut position = 0;
+    for more in values {
+        if position < rows.len() {
+            append(&mut rows[position], more)?;
+        }
+        position += 1;
+    }
+    Ok(rows)
+}
+
+/// Puts the values behind the row's own.
+fn append(row: &mut Row, values: Row) -> Result<(), OutOfMemory>
+    ensures { OnOk result (row.new.items ≡ row.old.items ++ values.items) }
+{
+    for value in values {
+        row.push(value)?;
+    }
+    Ok(())
+}
+
+/// The values of the calls at each row, or the least fault of all.
+fn all_values(
+    alloc: Global,
+    calls: &[Call],
+    rows: &[Row],
+    listings: &[Listing],
+) -> Result<Result<Vec<Row>, Fault>, OutOfMemory>
+    requires { EachNames (length listings.now) calls.now }
+    ensures { IfOk result (λ r. (w : WindowRule) (orderings : List (List ℕ)) → AreListed w (rows_of rows.now) orderings listings.now → spec.rows_or_fault r ≡ all_ok (map (calls_at w (rows_of rows.now) orderings calls.now) (positions (length rows.now)))) }
+{
+    let mut all = Vec::with_capacity(alloc, rows.len())?;
+    let mut fault = None;
+    for position in 0..rows.len() {
+        match row_values(alloc, calls, rows, listings, position)? {
+            Ok(values) => all.push(values)?,
+            Err(found) => fault = Some(with_fault(fault, found)),
+        }
+    }
+    match fault {
+        None => Ok(Ok(all)),
+        Some(fault) => Ok(Err(fault)),
+    }
+}
+
+/// The values of the calls at the row at a position, or their least fault.
+fn row_values(
+    alloc: Global,
+    calls: &[Call],
+    rows: &[Row],
+    listings: &[Listing],
+    position: usize,
+) -> Result<Result<Row, Fault>, OutOfMemory>
+    requires within { position < length rows.now }
+    requires named { EachNames (length listings.now) calls.now }
+    ensures { IfOk result (λ r. (w : WindowRule) (orderings : List (List ℕ)) → AreListed w (rows_of rows.now) orderings listings.now → spec.values_of r ≡ calls_at w (rows_of rows.now) orderings calls.now position) }
+{
+    let mut values = Vec::with_capacity(alloc, calls.len())?;
+    let mut fault = None;
+    for call in calls {
+        match class_value(alloc, call, rows, listings, position)? {
+            Ok(value) => values.push(value)?,
+            Err(found) => fault = Some(with_fault(fault, found)),
+        }
+    }
+    match fault {
+        None => Ok(Ok(values)),
+        Some(fault) => Ok(Err(fault)),
+    }
+}
+
+/// The value of a call at the row at a position, under its class.
+fn class_value(
+    alloc: Global,
+    call: &Call,
+    rows: &[Row],
+    listings: &[Listing],
+    position: usize,
+) -> Result<Result<Value, Fault>, OutOfMemory>
+    requires within { position < length rows.now }
+    requires named { call.now.class < length listings.now }
+    ensures { IfOk result (λ r. (w : WindowRule) (orderings : List (List ℕ)) → AreListed w (rows_of rows.now) orderings listings.now → r ≡ call_at w (rows_of rows.now) orderings position call.now) }
+{
+    let listing = &listings[call.class as usize];
+    let value = listed_value(alloc, call, rows, listing, position)?;
+    Ok(value)
+}
+
+/// The value of a call at the row at a position, from the partitions of its class.
+fn listed_value(
+    alloc: Global,
+    call: &Call,
+    rows: &[Row],
+    listing: &Listing,
+    position: usize,
+) -> Result<Result<Value, Fault>, OutOfMemory>
+    ensures { IfOk result (λ r. (class : ClassRule) (ordering : List ℕ) → position < length rows.now → IsListing class (rows_of rows.now) ordering listing.now → r ≡ calls.value_at class call.now.frame call.now.function (rows_of rows.now) ordering position) }
+{
+    match listing.partitions.member(position) {
+        None => Ok(Ok(Value::Null)),
+        Some(member) => {
+            let partition = Partition {
+                rows,
+                positions: member.positions,
+            };
+            let part = Part {
+                groups: member.groups,
+                keys: member.numbers,
+                desc: listing.desc,
+            };
+            call_value(alloc, call, &partition, &part, member.place)
+        }
+    }
+}
+
+/// Refuses the choice unless so many orderings from `first` on are there and empty.
+fn all_empty(count: usize, choice: &[Vec<u64>], first: usize) -> Result<(), WindowError>
+    requires { first ≤ length choice.now }
+    ensures { MatchResult result (λ u. AreEmpty count (orderings_of choice.now) first) (λ e. IsUnserved (AreEmpty count (orderings_of choice.now) first) e) }
+{
+    for number in 0..count {
+        if !is_empty_at(choice, first + number) {
+            return Err(WindowError::NotValid((first + number) as u64));
+        }
+    }
+    Ok(())
+}
+
+/// Whether the choice's ordering with this number is there and empty.
+fn is_empty_at(choice: &[Vec<u64>], number: usize) -> bool
+    ensures { IsTrue result ↔ IsEmptyAt (orderings_of choice.now) number }
+{
+    match choice.get(number) {
+        Some(ordering) => ordering.is_empty(),
+        None => false,
+    }
+}
