@@ -99,8 +99,10 @@ fn tables_are_found_by_their_names(rt: HostRuntime) -> Result<(), Fail> {
     Ok(())
 }
 
-fn refusal_of(alloc: Global, text: &[u8]) -> Result<SchemaError, Fail> {
-    Ok(read_schema(alloc, text).err().ok_or("no refusal")?)
+/// The refusal's number and place; `None` where the text is read.
+fn refused(alloc: Global, text: &[u8]) -> Option<(Option<u32>, Option<u64>)> {
+    let refusal = read_schema(alloc, text).err()?;
+    Some((refusal.number(), refusal.place()))
 }
 
 #[test]
@@ -126,17 +128,12 @@ fn texts_are_refused(rt: HostRuntime) -> Result<(), Fail> {
         ("CREATE TABLE t (a INT NULL, PRIMARY KEY (a))", 308, None),
         ("CREATE TABLE t (a INT NOT NULL NULL)", 308, None),
     ] {
-        let refusal = refusal_of(rt.alloc(), text.as_bytes())?;
-        assert_eq!(rt; refusal.number(), Some(number), "{text}");
-        assert_eq!(rt; refusal.place(), place, "{text}");
+        let refused = refused(rt.alloc(), text.as_bytes());
+        assert_eq!(rt; refused, Some((Some(number), place)), "{text}");
     }
-    let refusal = refusal_of(rt.alloc(), b"\xff")?;
-    assert_eq!(rt; refusal.number(), Some(106));
-    assert_eq!(rt; refusal.place(), None);
+    assert_eq!(rt; refused(rt.alloc(), b"\xff"), Some((Some(106), None)));
     let blanks = vec![in rt.alloc(); b' '; 65_537]?;
-    let refusal = refusal_of(rt.alloc(), &blanks)?;
-    assert_eq!(rt; refusal.number(), Some(107));
-    assert_eq!(rt; refusal.place(), None);
+    assert_eq!(rt; refused(rt.alloc(), &blanks), Some((Some(107), None)));
     assert_eq!(rt; SchemaError::OutOfMemory.number(), None);
     assert_eq!(rt; SchemaError::OutOfMemory.place(), None);
     Ok(())
@@ -162,9 +159,8 @@ fn unexpected_tokens_have_their_places(rt: HostRuntime) -> Result<(), Fail> {
         ("CREATE TABLE t (PRIMARY KEY ())", 7),
         ("CREATE TABLE t (PRIMARY (a))", 5),
     ] {
-        let refusal = refusal_of(rt.alloc(), text.as_bytes())?;
-        assert_eq!(rt; refusal.number(), Some(309), "{text}");
-        assert_eq!(rt; refusal.place(), Some(place), "{text}");
+        let refused = refused(rt.alloc(), text.as_bytes());
+        assert_eq!(rt; refused, Some((Some(309), Some(place))), "{text}");
     }
     Ok(())
 }
@@ -193,8 +189,12 @@ fn the_first_refusal_is_answered(rt: HostRuntime) -> Result<(), Fail> {
         ("CREATE TABLE t (a INT); CREATE TABLE t (b INT, b INT)", 301),
         ("CREATE TABLE t (a INT, a INT); CREATE TABLE t (b INT)", 302),
     ] {
-        let refusal = refusal_of(rt.alloc(), text.as_bytes())?;
-        assert_eq!(rt; refusal.number(), Some(number), "{text}");
+        let refused = refused(rt.alloc(), text.as_bytes());
+        assert_eq!(rt;
+            refused.and_then(|(found, _)| found),
+            Some(number),
+            "{text}"
+        );
     }
     Ok(())
 }
@@ -233,25 +233,22 @@ fn schemas_have_their_limits(rt: HostRuntime) -> Result<(), Fail> {
     let alloc = rt.alloc();
     let schema = read_schema(alloc, tables(alloc, 64)?.as_bytes())?;
     assert_eq!(rt; schema.tables.len(), 64);
-    let refusal = refusal_of(alloc, tables(alloc, 65)?.as_bytes())?;
-    assert_eq!(rt; refusal.number(), Some(306));
-    assert_eq!(rt; refusal.place(), None);
+    let too_many = Some((Some(306), None));
+    assert_eq!(rt; refused(alloc, tables(alloc, 65)?.as_bytes()), too_many);
     let schema = read_schema(alloc, columns(alloc, 256)?.as_bytes())?;
     assert_eq!(rt; schema.table("t").ok_or("no table")?.columns.len(), 256);
-    let refusal = refusal_of(alloc, columns(alloc, 257)?.as_bytes())?;
-    assert_eq!(rt; refusal.number(), Some(306));
+    assert_eq!(rt; refused(alloc, columns(alloc, 257)?.as_bytes()), too_many);
     let schema = read_schema(alloc, keys(alloc, 64)?.as_bytes())?;
     assert_eq!(rt; schema.table("t").ok_or("no table")?.keys.len(), 64);
-    let refusal = refusal_of(alloc, keys(alloc, 65)?.as_bytes())?;
-    assert_eq!(rt; refusal.number(), Some(306));
+    assert_eq!(rt; refused(alloc, keys(alloc, 65)?.as_bytes()), too_many);
     Ok(())
 }
 
 /// Whether an instance of one table with these rows meets the schema.
-fn is_met(alloc: Global, text: &str, rows: Vec<Row>) -> Result<bool, Fail> {
-    let schema = read_schema(alloc, text.as_bytes())?;
-    let instance: Instance = vec![in alloc; rows]?;
-    Ok(meets(&schema, &instance) == Ok(()))
+fn is_met(alloc: Global, text: &str, rows: Vec<Row>) -> Option<bool> {
+    let schema = read_schema(alloc, text.as_bytes()).ok()?;
+    let instance: Instance = vec![in alloc; rows].ok()?;
+    Some(meets(&schema, &instance) == Ok(()))
 }
 
 fn one(alloc: Global, value: Value) -> Result<Row, Fail> {
@@ -280,12 +277,12 @@ fn keys_are_kept(rt: HostRuntime) -> Result<(), Fail> {
         ),
         ("CREATE TABLE t (a BIGINT PRIMARY KEY)", false, false),
     ] {
-        let met = is_met(alloc, text, two(alloc, Value::Null, Value::Null)?)?;
-        assert_eq!(rt; met, nulls, "{text}");
-        let met = is_met(alloc, text, two(alloc, Value::Int(1), Value::Int(1))?)?;
-        assert_eq!(rt; met, ones, "{text}");
-        let met = is_met(alloc, text, two(alloc, Value::Int(1), Value::Int(2))?)?;
-        assert!(rt; met, "{text}");
+        let met = is_met(alloc, text, two(alloc, Value::Null, Value::Null)?);
+        assert_eq!(rt; met, Some(nulls), "{text}");
+        let met = is_met(alloc, text, two(alloc, Value::Int(1), Value::Int(1))?);
+        assert_eq!(rt; met, Some(ones), "{text}");
+        let met = is_met(alloc, text, two(alloc, Value::Int(1), Value::Int(2))?);
+        assert_eq!(rt; met, Some(true), "{text}");
     }
     Ok(())
 }
@@ -309,15 +306,28 @@ fn values_have_their_types(rt: HostRuntime) -> Result<(), Fail> {
     ] {
         let text = format!(in alloc; "CREATE TABLE t (a {kind})")?;
         let rows = vec![in alloc; one(alloc, Value::Int(number))?]?;
-        assert_eq!(rt; is_met(alloc, text.as_str(), rows)?, met, "{kind} {number}");
+        assert_eq!(rt;
+            is_met(alloc, text.as_str(), rows),
+            Some(met),
+            "{kind} {number}"
+        );
     }
     let text = Value::Text(Text::from_str(alloc, "1")?);
     let rows = vec![in alloc; one(alloc, text)?]?;
-    assert!(rt; !is_met(alloc, "CREATE TABLE t (a BIGINT)", rows)?);
+    assert_eq!(rt;
+        is_met(alloc, "CREATE TABLE t (a BIGINT)", rows),
+        Some(false)
+    );
     let rows = vec![in alloc; one(alloc, Value::Bool(true))?]?;
-    assert!(rt; is_met(alloc, "CREATE TABLE t (a BOOLEAN NOT NULL)", rows)?);
+    assert_eq!(rt;
+        is_met(alloc, "CREATE TABLE t (a BOOLEAN NOT NULL)", rows),
+        Some(true)
+    );
     let rows = vec![in alloc; one(alloc, Value::Null)?]?;
-    assert!(rt; !is_met(alloc, "CREATE TABLE t (a BOOLEAN NOT NULL)", rows)?);
+    assert_eq!(rt;
+        is_met(alloc, "CREATE TABLE t (a BOOLEAN NOT NULL)", rows),
+        Some(false)
+    );
     Ok(())
 }
 
@@ -325,11 +335,17 @@ fn values_have_their_types(rt: HostRuntime) -> Result<(), Fail> {
 fn instances_have_their_shape(rt: HostRuntime) -> Result<(), Fail> {
     let alloc = rt.alloc();
     let rows = vec![in alloc; one(alloc, Value::Int(1))?]?;
-    assert!(rt; !is_met(alloc, "CREATE TABLE t (a INT, b INT)", rows)?);
+    assert_eq!(rt;
+        is_met(alloc, "CREATE TABLE t (a INT, b INT)", rows),
+        Some(false)
+    );
     let rows = vec![in alloc; vec![in alloc; Value::Int(1), Value::Int(2)]?]?;
-    assert!(rt; !is_met(alloc, "CREATE TABLE t (a INT)", rows)?);
-    assert!(rt; is_met(alloc, "CREATE TABLE t (a INT)", Vec::new(alloc))?);
-    assert!(rt; !is_met(alloc, "", Vec::new(alloc))?);
+    assert_eq!(rt; is_met(alloc, "CREATE TABLE t (a INT)", rows), Some(false));
+    assert_eq!(rt;
+        is_met(alloc, "CREATE TABLE t (a INT)", Vec::new(alloc)),
+        Some(true)
+    );
+    assert_eq!(rt; is_met(alloc, "", Vec::new(alloc)), Some(false));
     let schema = read_schema(alloc, b"CREATE TABLE t (a INT); CREATE TABLE u (a INT)")?;
     let mut instance: Instance = Vec::new(alloc);
     assert_eq!(rt; meets(&schema, &instance), Err(Violation));
