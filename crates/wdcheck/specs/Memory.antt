@@ -15,3 +15,7 @@ failures_of files = files.failures
 -- the files that were handed over, in their order
 abbrev pub handed_of : MemoryFiles → List File
 handed_of files = map (file_at (data_of files.files.now)) files.handed.items
+
+-- the files that are kept
+abbrev pub files_of : MemoryFiles → List File
+files_of files = data_of files.files.now

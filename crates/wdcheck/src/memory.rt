@@ -1,7 +1,7 @@
 //! Files in memory.
 
 ghost use Rattle.std.specs.Prelude.{◌≡◌, ◌<◌, ◌≤◌, [], length, Some, IfSome, IfOk, IfErr};
-ghost use Rattle.wdcheck.specs.Memory.{failures_of, file_at, handed_of};
+ghost use Rattle.wdcheck.specs.Memory.{failures_of, file_at, files_of, handed_of};
 ghost use Rattle.wd_run.specs.Runs.{data_of};
 
 use crate::files::{Files, MOST_BYTES, ReadFault};
@@ -20,6 +20,7 @@ pub struct MemoryFiles<'a> {
 
 impl<'a> MemoryFiles<'a> {
     pub fn new(alloc: Global, files: &'a [(&'a str, &'a [u8])]) -> MemoryFiles<'a>
+        ensures files { files_of result ≡ data_of files.now }
         ensures failures { failures_of result ≡ 0 }
         ensures handed { handed_of result ≡ [] }
     {
@@ -33,6 +34,7 @@ impl<'a> MemoryFiles<'a> {
 
     /// The same files, where the reads fail once so many were made.
     pub fn failing_after(mut self, reads: u64) -> MemoryFiles<'a>
+        ensures files { files_of result ≡ files_of self.entry }
         ensures failures { failures_of result ≡ failures_of self.entry }
         ensures handed { handed_of result ≡ handed_of self.entry }
     {
