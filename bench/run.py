@@ -5,7 +5,7 @@
 
 The keys of the records stand in rising order, as a table is mostly exported, and for the sorted query
 once more in mixed order, where the search for a repeated key has the most to do. The moving frame runs
-over 1,000 and 10,000 records, since the rows of each frame are visited one by one so far. Prints the
+over 1,000 and 10,000 records, since the rows of its frames are visited one by one so far. Prints the
 least seconds and the most memory of three runs, and what ten times the records cost.
 PROGRAM is the built program (default: crates/wdcheck/out/wdcheck, which ./wdcheck builds).
 """
@@ -26,7 +26,8 @@ QUERIES = (
     ("first rows, keys mixed", "SELECT id, v FROM t ORDER BY v FETCH FIRST 2 ROWS ONLY", SIZES, True),
     ("ROW_NUMBER", "SELECT id, ROW_NUMBER() OVER (ORDER BY v, id) AS n FROM t", SIZES, False),
     ("RANK by partition", "SELECT id, RANK() OVER (PARTITION BY v % 100 ORDER BY v) AS r FROM t", SIZES, False),
-    ("running SUM", "SELECT id, SUM(v) OVER (ORDER BY id ROWS UNBOUNDED PRECEDING) AS s FROM t", FRAME_SIZES, False),
+    ("running SUM", "SELECT id, SUM(v) OVER (ORDER BY id ROWS UNBOUNDED PRECEDING) AS s FROM t", SIZES, False),
+    ("running SUM to the peers", "SELECT id, SUM(v) OVER (PARTITION BY id % 100 ORDER BY v) AS s FROM t", SIZES, False),
     ("moving frame", "SELECT id, MAX(v) OVER (ORDER BY id ROWS BETWEEN 50 PRECEDING AND 50 FOLLOWING) AS m FROM t", FRAME_SIZES, False),
 )
 TURNS = 3

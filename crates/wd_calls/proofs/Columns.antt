@@ -21,7 +21,7 @@ use Rattle.wd_plan.specs.Partitions.{group_of}
 use Rattle.wd_plan.specs.Plans.{ClassRule}
 use Rattle.wd_calls.specs.Values.{number_of, present, values_at}
 
-abbrev value : List Row → ℕ → ℕ → Value
+abbrev pub value : List Row → ℕ → ℕ → Value
 value partition column p = column_of (row_at partition p) column
 
 values_more : (partition : List Row) (column : ℕ) (places : List ℕ) (i : ℕ) → i < length places
@@ -40,7 +40,7 @@ total_cons Null vs = omega (arith, ints)
 total_cons (Text bytes) vs = omega (arith, ints)
 total_cons (Truth b) vs = omega (arith, ints)
 
-total_push : (vs : List Value) (v : Value) → total (vs ++ v ∷ []) ≡ total vs +ℤ number_of v
+pub total_push : (vs : List Value) (v : Value) → total (vs ++ v ∷ []) ≡ total vs +ℤ number_of v
 total_push [] v = total_cons v [] ∙ omega (arith, ints)
 total_push (w ∷ vs) v = total_cons w (vs ++ v ∷ []) ∙ ap (λ t. number_of w +ℤ t) (total_push vs v) ∙ (let here = total_cons w vs in omega (arith, ints))
 

@@ -1,2 +1,4 @@
 pub mod Parts
 pub mod Values
+pub mod Running
+pub mod Totals

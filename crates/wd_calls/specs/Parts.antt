@@ -1,5 +1,5 @@
 -- What a call reads of a partition list: its rows, their peer groups, and their keys where its frame has an offset in RANGE.
-use Rattle.std.specs.Prelude.{◌≡◌, ℕ, ◌<◌, true, List, map, length, Result}
+use Rattle.std.specs.Prelude.{◌≡◌, ℕ, ◌<◌, true, List, map, length, slice_index_or, Result}
 use Rattle.wd_value.specs.declared.value.Value.{Value}
 use Rattle.wd_value.specs.declared.value.Fault.{Fault}
 use Rattle.wd_value.specs.Rows.{Row, row_at, rows_at, rows_of}
@@ -33,3 +33,8 @@ pub record IsPartOf (class : ClassRule) (frame : Frame) (partition : List Row) (
 abbrev pub IsValueAt : Frame → Function → List Row → PartRule → ℕ → Result Value Fault → Type 0
 IsValueAt frame function partition part place value =
     (class : ClassRule) → IsPartOf class frame partition part → place < length partition → value ≡ call_value class frame function partition place
+
+-- those at all places
+pub record AreValues (frame : Frame) (function : Function) (partition : List Row) (part : PartRule) (values : List (Result Value Fault)) : Type 0 where
+  pub long : length values ≡ length partition
+  pub each : (place : ℕ) (other : Result Value Fault) → IsValueAt frame function partition part place (slice_index_or values place other)

@@ -1,6 +1,6 @@
 //! Functions of the values of a frame.
 
-ghost use Rattle.std.specs.Prelude.{◌≡◌, ◌^◌, pos, neg_ℤ, ◌≤ℤ◌, IfOk};
+ghost use Rattle.std.specs.Prelude.{◌≡◌, ◌^◌, pos, neg_ℤ, ◌≤ℤ◌, List, IfOk};
 ghost use Rattle.wd_calls.specs.Parts.{partition_of};
 ghost use Rattle.wd_calls.specs.Values as values;
 ghost use Rattle.wd_calls.specs.Values.{values_at, present};
@@ -27,7 +27,7 @@ pub(crate) fn count_present(partition: &Partition, column: u16, places: &[usize]
     count
 }
 
-fn is_null_at(row: &[Value], column: u16) -> bool
+pub(crate) fn is_null_at(row: &[Value], column: u16) -> bool
     ensures { result ≡ expressions.is_null (column_of row.now column) }
 {
     match row.get(column as usize) {
@@ -41,10 +41,20 @@ fn is_null_at(row: &[Value], column: u16) -> bool
 pub(crate) fn sum(partition: &Partition, column: u16, places: &[usize]) -> Result<Value, Fault>
     ensures { result ≡ calls.sum_of (values_at (partition_of partition.now) column places.now) }
 {
-    if count_present(partition, column, places) == 0 {
+    sum_from(
+        count_present(partition, column, places),
+        total(partition, column, places),
+    )
+}
+
+/// A sum from how many values are not NULL and their exact total.
+pub(crate) fn sum_from(count: usize, total: i128) -> Result<Value, Fault>
+    ensures { (vs : List Value) → count ≡ present vs → total ≡ calls.total vs → result ≡ calls.sum_of vs }
+{
+    if count == 0 {
         return Ok(Value::Null);
     }
-    in_64(total(partition, column, places))
+    in_64(total)
 }
 
 /// A whole number as a value; a fault where 64 bits don't hold it.
@@ -69,7 +79,7 @@ fn total(partition: &Partition, column: u16, places: &[usize]) -> i128
 }
 
 /// The whole number in a column, and 0 where there is none.
-fn number_at(row: &[Value], column: u16) -> i128
+pub(crate) fn number_at(row: &[Value], column: u16) -> i128
     ensures value { result ≡ values.number_of (column_of row.now column) }
     ensures least { neg_ℤ (pos (2 ^ 63)) ≤ℤ result }
     ensures most { result ≤ℤ pos (2 ^ 63) }

@@ -143,7 +143,7 @@ fn lower_groups(part: &Part, place: usize) -> usize
 }
 
 /// The peer group number at a place, and 0 past the last.
-fn group_at(part: &Part, place: usize) -> u32
+pub(crate) fn group_at(part: &Part, place: usize) -> u32
     ensures { result ≡ slice_index_or (part_of part.now).groups place 0 }
 {
     match part.groups.get(place) {
@@ -153,7 +153,7 @@ fn group_at(part: &Part, place: usize) -> u32
 }
 
 /// A count as a value. No list has more members than the largest value counts.
-fn number(count: usize) -> Value
+pub(crate) fn number(count: usize) -> Value
     ensures { count < 2 ^ 63 → result ≡ value.Int (pos count) }
 {
     match i64::try_from(count) {

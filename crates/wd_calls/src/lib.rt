@@ -5,8 +5,10 @@ mod aggregate;
 mod bucket;
 mod call;
 mod partition;
+mod running;
 #[cfg(test)]
 mod tests;
 
 pub use call::call_value;
 pub use partition::Partition;
+pub use running::{call_values, is_running};

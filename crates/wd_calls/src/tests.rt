@@ -1,4 +1,4 @@
-use crate::{Partition, call_value};
+use crate::{Partition, call_value, call_values, is_running};
 use std::alloc::{AllocError, Global};
 use std::test::Fail;
 use wd_frame::Part;
@@ -241,6 +241,8 @@ fn sums_are_exact(rt: HostRuntime) -> Result<(), Fail> {
     };
     let past = call_value(alloc, &running, &all, &part, 1)?;
     assert_eq!(rt; number(past), FAULT);
+    let so_far = call_values(alloc, &running, &all, &part)?;
+    assert!(rt; are(so_far, &[i64::MAX, FAULT, i64::MAX]));
     Ok(())
 }
 
@@ -263,4 +265,152 @@ fn takes_the_least_and_the_greatest_text(rt: HostRuntime) -> Result<(), Fail> {
     )?;
     assert_eq!(rt; number(default), NULL);
     Ok(())
+}
+
+/// The frame from the partition's start to the current row, or its last peer.
+fn up_to_here(mode: FrameMode) -> Frame {
+    Frame {
+        mode,
+        start: Bound::UnboundedPreceding,
+        end: Bound::CurrentRow,
+        exclusion: Exclusion::NoOthers,
+    }
+}
+
+fn are(values: Vec<Result<Value, Fault>>, expected: &[i64]) -> bool {
+    let mut same = values.len() == expected.len();
+    for (place, value) in values.into_iter().enumerate() {
+        same = same && expected.get(place) == Some(&number(value));
+    }
+    same
+}
+
+/// Whether a call gives these numbers at all places of the rows at these positions.
+fn gives(
+    alloc: Global,
+    make: Make,
+    frame: Frame,
+    positions: &[u64],
+    groups: &[u32],
+    expected: &[i64],
+) -> Result<bool, OutOfMemory> {
+    let rows = rows(alloc)?;
+    let call = Call {
+        class: 0,
+        function: make.function(),
+        frame,
+    };
+    let partition = Partition {
+        rows: &rows,
+        positions,
+    };
+    let part = Part {
+        groups,
+        keys: &[],
+        desc: false,
+    };
+    let values = call_values(alloc, &call, &partition, &part)?;
+    Ok(are(values, expected))
+}
+
+/// Whether a call gives these numbers over the rows in their order, and those over the rows with
+/// NULL first.
+fn in_both_orders(
+    alloc: Global,
+    make: Make,
+    frame: Frame,
+    expected: [i64; 4],
+    null_first: [i64; 4],
+) -> Result<bool, OutOfMemory> {
+    let so = gives(alloc, make, frame, &[0, 1, 2, 3], &[0, 0, 1, 2], &expected)?;
+    let too = gives(
+        alloc,
+        make,
+        frame,
+        &[3, 0, 1, 2],
+        &[0, 1, 1, 2],
+        &null_first,
+    )?;
+    Ok(so && too)
+}
+
+#[test]
+fn totals_run_to_the_row(rt: HostRuntime) -> Result<(), Fail> {
+    let alloc = rt.alloc();
+    let rows = up_to_here(FrameMode::Rows);
+    assert!(rt; in_both_orders(alloc, Make::Sum, rows, [10, 20, 40, 40], [NULL, 10, 20, 40])?);
+    assert!(rt; in_both_orders(alloc, Make::Count, rows, [1, 2, 3, 3], [0, 1, 2, 3])?);
+    assert!(rt; in_both_orders(alloc, Make::CountRows, rows, [1, 2, 3, 4], [1, 2, 3, 4])?);
+    Ok(())
+}
+
+#[test]
+fn totals_run_to_the_last_peer(rt: HostRuntime) -> Result<(), Fail> {
+    let alloc = rt.alloc();
+    for mode in [FrameMode::Range, FrameMode::Groups] {
+        let peers = up_to_here(mode);
+        assert!(rt;
+            in_both_orders(
+                alloc,
+                Make::Sum,
+                peers,
+                [20, 20, 40, 40],
+                [NULL, 20, 20, 40]
+            )?
+        );
+        assert!(rt; in_both_orders(alloc, Make::Count, peers, [2, 2, 3, 3], [0, 2, 2, 3])?);
+        assert!(rt; in_both_orders(alloc, Make::CountRows, peers, [2, 2, 3, 4], [1, 3, 3, 4])?);
+    }
+    Ok(())
+}
+
+#[test]
+fn gives_values_at_all_places(rt: HostRuntime) -> Result<(), Fail> {
+    let alloc = rt.alloc();
+    assert!(rt;
+        in_both_orders(
+            alloc,
+            Make::Min,
+            TO_THE_PEERS,
+            [10, 10, 10, 10],
+            [NULL, 10, 10, 10]
+        )?
+    );
+    assert!(rt; in_both_orders(alloc, Make::Sum, WHOLE, [40, 40, 40, 40], [40, 40, 40, 40])?);
+    assert!(rt; gives(alloc, Make::Sum, TO_THE_PEERS, &[], &[], &[])?);
+    assert!(rt; gives(alloc, Make::Min, TO_THE_PEERS, &[], &[], &[])?);
+    Ok(())
+}
+
+fn runs(make: Make, frame: Frame) -> bool {
+    is_running(&Call {
+        class: 0,
+        function: make.function(),
+        frame,
+    })
+}
+
+#[test]
+fn knows_running_calls(rt: HostRuntime) {
+    assert!(rt; runs(Make::Sum, up_to_here(FrameMode::Rows)));
+    assert!(rt; runs(Make::Count, up_to_here(FrameMode::Range)));
+    assert!(rt; runs(Make::CountRows, up_to_here(FrameMode::Groups)));
+    assert!(rt; !runs(Make::Max, TO_THE_PEERS));
+    assert!(rt; !runs(Make::Rank, TO_THE_PEERS));
+    assert!(rt; !runs(Make::Sum, WHOLE));
+    let from_before = Frame {
+        start: Bound::Preceding(1),
+        ..TO_THE_PEERS
+    };
+    assert!(rt; !runs(Make::Sum, from_before));
+    let to_behind = Frame {
+        end: Bound::Following(0),
+        ..TO_THE_PEERS
+    };
+    assert!(rt; !runs(Make::Count, to_behind));
+    let without_ties = Frame {
+        exclusion: Exclusion::Ties,
+        ..TO_THE_PEERS
+    };
+    assert!(rt; !runs(Make::CountRows, without_ties));
 }

@@ -3,3 +3,4 @@ pub mod Beside
 pub mod Serving
 pub mod Gathered
 pub mod Naming
+pub mod Filled

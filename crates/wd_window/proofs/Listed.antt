@@ -22,7 +22,7 @@ use Rattle.wd_plan.proofs.GroupsRise.{peer_groups_rise}
 use Rattle.wd_frame.specs.Laws.{is_descending}
 use Rattle.wd_frame.specs.Places.{PartRule}
 use Rattle.wd_partition.specs.Members.{MemberRule, key_numbers, member_of, members_of, number_of}
-use Rattle.wd_calls.specs.Parts.{IsValueAt}
+use Rattle.wd_calls.specs.Parts.{IsPartOf, IsValueAt}
 
 -- whole numbers alone have a distance
 number_distance : (desc : Bool) (a b : Value) → value_distance desc (number_of a) (number_of b) ≡ value_distance desc a b
@@ -45,23 +45,20 @@ module _ (partition : List Row) (p q : ℕ) (at_p : p < length partition) (at_q 
       ∙ number_distance item.key.desc (column_of (row_at partition p) item.column) (column_of (row_at partition q) item.column)
   same_distance (item ∷ other ∷ order) = refl
 
-module _ (class : ClassRule) (frame : Frame) (function : Function) (rows : List Row) (ordering : List ℕ) (p : ℕ) (lawful : IsOrdering class rows ordering) (within : p < length rows) (value : Result Value Fault) where
-  -- what a call reads of a member, with the direction of the class's key
-  abbrev part_by : MemberRule → Bool → PartRule
-  part_by member desc = record { groups = member.groups; keys = member.numbers; desc = desc }
+-- what a call reads of a member, with the direction of the class's key
+abbrev pub part_by : MemberRule → Bool → PartRule
+part_by member desc = record { groups = member.groups; keys = member.numbers; desc = desc }
 
-  own : MemberRule
-  own = member_of class true rows ordering p
+-- the members of a row's partition are a partition list of the class
+pub own_part : (class : ClassRule) (frame : Frame) (rows : List Row) (ordering : List ℕ) (p : ℕ) → IsOrdering class rows ordering
+    → IsPartOf class frame (partition_of class rows ordering p) (part_by (member_of class true rows ordering p) (is_descending class.order))
+own_part class frame rows ordering p lawful = record {
+  groups = refl;
+  rising = peer_groups_rise class rows ordering p lawful;
+  keys = λ _. (λ a b at_a at_b. same_distance (partition_of class rows ordering p) a b at_a at_b class.order);
+}
 
-  value_of_own : (let m = member_of class true rows ordering p in IsValueAt frame function (rows_at rows m.positions) (part_by m (is_descending class.order)) m.place value) → value ≡ value_at class frame function rows ordering p
-  value_of_own h =
-      let partition = partition_of class rows ordering p in
-      h class (record {
-        groups = refl;
-        rising = peer_groups_rise class rows ordering p lawful;
-        keys = λ _. (λ a b at_a at_b. same_distance partition a b at_a at_b class.order);
-      }) (in_part class rows ordering p lawful.once within).within_rows
-
+module _ (class : ClassRule) (rows : List Row) (ordering : List ℕ) (p : ℕ) (within : p < length rows) where
   own_member : slice_get (members_of class true rows ordering) p ≡ Some (member_of class true rows ordering p)
   own_member =
       let all = positions (length rows) in
@@ -70,10 +67,17 @@ module _ (class : ClassRule) (frame : Frame) (function : Function) (rows : List 
       slice_get-map (member_of class true rows ordering) all p
       ∙ ap (option_map (member_of class true rows ordering)) (slice_get-get_or all p 0 long ∙ ap Some here)
 
+  pub own_of : (member : MemberRule) → slice_get (members_of class true rows ordering) p ≡ Some member → member ≡ member_of class true rows ordering p
+  own_of member there = (let e = own_member in cc)
+
+module _ (class : ClassRule) (frame : Frame) (function : Function) (rows : List Row) (ordering : List ℕ) (p : ℕ) (lawful : IsOrdering class rows ordering) (within : p < length rows) (value : Result Value Fault) where
+  value_of_own : (let m = member_of class true rows ordering p in IsValueAt frame function (rows_at rows m.positions) (part_by m (is_descending class.order)) m.place value) → value ≡ value_at class frame function rows ordering p
+  value_of_own h = h class (own_part class frame rows ordering p lawful) (in_part class rows ordering p lawful.once within).within_rows
+
   pub value_of_member : (member : MemberRule) (desc : Bool) → slice_get (members_of class true rows ordering) p ≡ Some member → desc ≡ is_descending class.order
       → IsValueAt frame function (rows_at rows member.positions) (part_by member desc) member.place value → value ≡ value_at class frame function rows ordering p
   value_of_member member desc there direction h =
-      let same : member ≡ member_of class true rows ordering p = (let e = own_member in cc) in
+      let same = own_of class rows ordering p within member there in
       value_of_own (subst (λ (m : MemberRule). IsValueAt frame function (rows_at rows m.positions) (part_by m (is_descending class.order)) m.place value) same
       (subst (λ (d : Bool). IsValueAt frame function (rows_at rows member.positions) (part_by member d) member.place value) direction h))
 

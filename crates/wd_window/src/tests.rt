@@ -419,18 +419,97 @@ fn every_function_over_groups(rt: HostRuntime) -> Result<(), Fail> {
     Ok(())
 }
 
-const WHOLE: Frame = Frame {
-    mode: FrameMode::Range,
-    start: Bound::UnboundedPreceding,
-    end: Bound::CurrentRow,
-    exclusion: Exclusion::NoOthers,
-};
+// The rows that tie last to first.
+const FLIPPED: [u64; 11] = [6, 2, 0, 5, 3, 4, 1, 9, 7, 10, 8];
+
+// What PostgreSQL 15 answers for COUNT(*), COUNT(v) and SUM(v) from the partition's start to the row,
+// rows that tie being taken last to first, and to the row's last peer.
+const TO_THE_ROW: [[i64; 3]; 11] = [
+    [3, 3, 6],
+    [7, 5, 14],
+    [2, 2, 4],
+    [5, 5, 14],
+    [6, 5, 14],
+    [4, 4, 9],
+    [1, 1, 2],
+    [2, 2, -2],
+    [4, 3, 2],
+    [1, 1, -1],
+    [3, 3, 2],
+];
+
+const TO_THE_LAST_PEER: [[i64; 3]; 11] = [
+    [3, 3, 6],
+    [7, 5, 14],
+    [3, 3, 6],
+    [5, 5, 14],
+    [7, 5, 14],
+    [4, 4, 9],
+    [3, 3, 6],
+    [2, 2, -2],
+    [4, 3, 2],
+    [2, 2, -2],
+    [3, 3, 2],
+];
+
+// From the partition's start to the row or its last peer.
+fn running(mode: FrameMode) -> Frame {
+    Frame {
+        mode,
+        start: Bound::UnboundedPreceding,
+        end: Bound::CurrentRow,
+        exclusion: Exclusion::NoOthers,
+    }
+}
+
+// Whether the running counts and totals have these values.
+fn has_totals(alloc: Global, mode: FrameMode, expected: &[[i64; 3]]) -> Result<bool, Fail> {
+    let choice = [FLIPPED.to_vec(alloc)?];
+    let frame = running(mode);
+    let calls = [
+        call(Function::CountRows, frame),
+        call(Function::Count(1), frame),
+        call(Function::Sum(1), frame),
+    ];
+    let input = Outcome::Rows(table(alloc)?);
+    let found = match window(alloc, &calls, input, &choice, 0)? {
+        Ok(Outcome::Rows(rows)) => rows.len() == expected.len()
+            && rows.iter().zip(expected).all(|(row, totals)| row.len() == 5
+                && has_numbers(row, 2, totals)),
+        _ => false,
+    };
+    Ok(found)
+}
+
+#[test]
+fn running_counts_and_totals(rt: HostRuntime) -> Result<(), Fail> {
+    let alloc = rt.alloc();
+    assert!(rt; has_totals(alloc, FrameMode::Rows, &TO_THE_ROW)?);
+    assert!(rt; has_totals(alloc, FrameMode::Range, &TO_THE_LAST_PEER)?);
+    assert!(rt; has_totals(alloc, FrameMode::Groups, &TO_THE_LAST_PEER)?);
+    Ok(())
+}
+
+// A total that 64 bits don't hold is the Window's fault.
+#[test]
+fn running_total_past_64_bits(rt: HostRuntime) -> Result<(), Fail> {
+    let alloc = rt.alloc();
+    let rows = vec![in alloc;
+        vec![in alloc; value(1), value(1)]?,
+        vec![in alloc; value(1), value(i64::MAX)]?,
+    ]?;
+    let calls = [call(Function::Sum(1), running(FrameMode::Rows))];
+    let choice = [vec![in alloc; 0, 1]?];
+    let outcome = window(alloc, &calls, Outcome::Rows(rows), &choice, 0)?;
+    assert!(rt; matches!(&outcome, Ok(Outcome::Fault(Fault::OutOfRange))));
+    Ok(())
+}
 
 // The ordering is there and lawful, wherever in the choice it stands, and empty over a fault.
 #[test]
 fn asks_for_a_lawful_ordering(rt: HostRuntime) -> Result<(), Fail> {
     let alloc = rt.alloc();
-    let calls = calls(alloc, WHOLE)?;
+    let calls = calls(alloc, running(FrameMode::Range))?;
     let choice = [Vec::new(alloc), SORTED.to_vec(alloc)?];
     for (first, place) in [(0, Some(0)), (1, None), (2, Some(2))] {
         let judged = window(alloc, &calls, Outcome::Rows(table(alloc)?), &choice, first)?;

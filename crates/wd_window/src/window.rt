@@ -2,6 +2,7 @@
 
 ghost use Rattle.std.specs.Prelude.{◌≡◌, ◌↔◌, ℕ, ◌+◌, ◌-◌, ◌++◌, ◌^◌, ◌<◌, ◌≤◌, List, IfOk, IsTrue, OnOk, length, map, MatchResult};
 ghost use Rattle.wd_window.specs.Windows.{AreFew, EachNames, IsExtended, IsUnserved, IsWindowServed, orderings_of, window_of};
+ghost use Rattle.wd_window.specs.Columns.{AreColumns, IsColumn, columns_of};
 ghost use Rattle.wd_window.specs.Listings as spec;
 ghost use Rattle.wd_window.specs.Listings.{AreEmpty, AreListed, IsEmptyAt, IsListing, calls_at};
 ghost use Rattle.wd_plan.specs.Calls as calls;
@@ -11,6 +12,7 @@ ghost use Rattle.wd_plan.specs.Plans.{ClassRule, WindowRule};
 ghost use Rattle.wd_value.specs.Bags.{positions};
 ghost use Rattle.wd_value.specs.Rows.{rows_of};
 
+use crate::column::{Column, column_in, known, running_columns};
 use crate::error::WindowError;
 use crate::listing::{Listing, listings};
 use std::alloc::Global;
@@ -101,10 +103,27 @@ fn all_values(
     requires { EachNames (length listings.now) calls.now }
     ensures { IfOk result (λ r. (w : WindowRule) (orderings : List (List ℕ)) → AreListed w (rows_of rows.now) orderings listings.now → spec.rows_or_fault r ≡ all_ok (map (calls_at w (rows_of rows.now) orderings calls.now) (positions (length rows.now)))) }
 {
+    let columns = running_columns(alloc, calls, rows, listings)?;
+    let values = row_by_row(alloc, calls, &columns, rows, listings)?;
+    Ok(values)
+}
+
+/// The values of the calls at each row, or the least fault of all, where the columns hold some of
+/// them.
+fn row_by_row(
+    alloc: Global,
+    calls: &[Call],
+    columns: &[Column],
+    rows: &[Row],
+    listings: &[Listing],
+) -> Result<Result<Vec<Row>, Fault>, OutOfMemory>
+    requires { EachNames (length listings.now) calls.now }
+    ensures { IfOk result (λ r. (w : WindowRule) (orderings : List (List ℕ)) → AreListed w (rows_of rows.now) orderings listings.now → AreColumns w (rows_of rows.now) orderings calls.now (columns_of columns.now) → spec.rows_or_fault r ≡ all_ok (map (calls_at w (rows_of rows.now) orderings calls.now) (positions (length rows.now)))) }
+{
     let mut all = Vec::with_capacity(alloc, rows.len())?;
     let mut fault = None;
     for position in 0..rows.len() {
-        match row_values(alloc, calls, rows, listings, position)? {
+        match row_values(alloc, calls, columns, rows, listings, position)? {
             Ok(values) => all.push(values)?,
             Err(found) => fault = Some(with_fault(fault, found)),
         }
@@ -119,18 +138,20 @@ fn all_values(
 fn row_values(
     alloc: Global,
     calls: &[Call],
+    columns: &[Column],
     rows: &[Row],
     listings: &[Listing],
     position: usize,
 ) -> Result<Result<Row, Fault>, OutOfMemory>
     requires within { position < length rows.now }
     requires named { EachNames (length listings.now) calls.now }
-    ensures { IfOk result (λ r. (w : WindowRule) (orderings : List (List ℕ)) → AreListed w (rows_of rows.now) orderings listings.now → spec.values_of r ≡ calls_at w (rows_of rows.now) orderings calls.now position) }
+    ensures { IfOk result (λ r. (w : WindowRule) (orderings : List (List ℕ)) → AreListed w (rows_of rows.now) orderings listings.now → AreColumns w (rows_of rows.now) orderings calls.now (columns_of columns.now) → spec.values_of r ≡ calls_at w (rows_of rows.now) orderings calls.now position) }
 {
     let mut values = Vec::with_capacity(alloc, calls.len())?;
     let mut fault = None;
-    for call in calls {
-        match class_value(alloc, call, rows, listings, position)? {
+    for (number, call) in calls.iter().enumerate() {
+        let column = column_in(columns, number);
+        match class_value(alloc, call, column, rows, listings, position)? {
             Ok(value) => values.push(value)?,
             Err(found) => fault = Some(with_fault(fault, found)),
         }
@@ -141,18 +162,22 @@ fn row_values(
     }
 }
 
-/// The value of a call at the row at a position, under its class.
+/// The value of a call at the row at a position: from its column, else under its class.
 fn class_value(
     alloc: Global,
     call: &Call,
+    column: &[Result<Value, Fault>],
     rows: &[Row],
     listings: &[Listing],
     position: usize,
 ) -> Result<Result<Value, Fault>, OutOfMemory>
     requires within { position < length rows.now }
     requires named { call.now.class < length listings.now }
-    ensures { IfOk result (λ r. (w : WindowRule) (orderings : List (List ℕ)) → AreListed w (rows_of rows.now) orderings listings.now → r ≡ call_at w (rows_of rows.now) orderings position call.now) }
+    ensures { IfOk result (λ r. (w : WindowRule) (orderings : List (List ℕ)) → AreListed w (rows_of rows.now) orderings listings.now → IsColumn w (rows_of rows.now) orderings call.now column.now → r ≡ call_at w (rows_of rows.now) orderings position call.now) }
 {
+    if let Some(value) = known(alloc, column, position)? {
+        return Ok(value);
+    }
     let listing = &listings[call.class as usize];
     let value = listed_value(alloc, call, rows, listing, position)?;
     Ok(value)

@@ -1,0 +1,43 @@
+-- The values of a Window's calls at all rows, one call after another.
+use Rattle.std.specs.Prelude.{◌≡◌, ℕ, ◌<◌, List, [], length, map, slice_index_or, Result}
+use Rattle.std.specs.declared.alloc.Global.{Global}
+use Rattle.std.specs.declared.vec.Vec.{Vec}
+use Rattle.wd_value.specs.declared.value.Value.{Value}
+use Rattle.wd_value.specs.declared.value.Fault.{Fault}
+use Rattle.wd_value.specs.Rows.{Row}
+use Rattle.wd_plan.specs.declared.window.Call.{Call}
+use Rattle.wd_plan.specs.Calls.{value_at}
+use Rattle.wd_plan.specs.Outcomes.{call_at}
+use Rattle.wd_plan.specs.Partitions.{members}
+use Rattle.wd_plan.specs.Plans.{ClassRule, WindowRule}
+
+-- the first row of a row's partition, as the ordering has it
+abbrev pub first_of : ClassRule → List Row → List ℕ → ℕ → ℕ
+first_of class rows ordering p = slice_index_or (members class rows ordering p) 0 0
+
+-- the values of a call at the rows whose partitions begin at positions below n
+pub record AreFilled (class : ClassRule) (call : Call) (rows : List Row) (ordering : List ℕ) (n : ℕ) (column : List (Result Value Fault)) : Type 0 where
+  pub long : length column ≡ length rows
+  pub each : (p : ℕ) (other : Result Value Fault) → p < length rows → first_of class rows ordering p < n
+      → slice_index_or column p other ≡ value_at class call.frame call.function rows ordering p
+
+-- the values of a call at the first rows, as many as there are
+abbrev pub IsColumn : WindowRule → List Row → List (List ℕ) → Call → List (Result Value Fault) → Type 0
+IsColumn w rows orderings call column = (p : ℕ) (other : Result Value Fault) → p < length column → slice_index_or column p other ≡ call_at w rows orderings p call
+
+-- of each call; none of a call past the last column
+abbrev pub AreColumns : WindowRule → List Row → List (List ℕ) → List Call → List (List (Result Value Fault)) → Type 0
+AreColumns w rows orderings calls columns = (k : ℕ) (call : Call) → k < length calls → IsColumn w rows orderings (slice_index_or calls k call) (slice_index_or columns k [])
+
+-- the lists that columns of the code show
+abbrev pub columns_of : List (Vec (Result Value Fault) Global) → List (List (Result Value Fault))
+columns_of columns = map (λ c. c.items) columns
+
+-- at each of the positions stands the value beside it
+abbrev pub AreAt : (ℕ → Result Value Fault) → List ℕ → List (Result Value Fault) → Type 0
+AreAt value positions values = (k : ℕ) (other : Result Value Fault) → k < length values → slice_index_or values k other ≡ value (slice_index_or positions k 0)
+
+-- a column after the values were put at the positions: what was right stays right, and at the positions it is
+pub record IsSpread (value : ℕ → Result Value Fault) (positions : List ℕ) (old new : List (Result Value Fault)) (n : ℕ) : Type 0 where
+  pub kept : (p : ℕ) (other : Result Value Fault) → slice_index_or old p other ≡ value p → slice_index_or new p other ≡ value p
+  pub put : (k : ℕ) (other : Result Value Fault) → k < n → k < length positions → slice_index_or positions k 0 < length old → slice_index_or new (slice_index_or positions k 0) other ≡ value (slice_index_or positions k 0)

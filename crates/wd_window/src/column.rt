@@ -1,0 +1,167 @@
+//! The values of a call at all rows, one partition after another.
+
+ghost use Rattle.std.specs.Prelude.{◌≡◌, ℕ, ◌+◌, ◌<◌, ◌≤◌, List, [], IfOk, OnOk, length, set, slice_get, slice_index_or, Result};
+ghost use Rattle.wd_plan.specs.Outcomes.{call_at};
+ghost use Rattle.wd_plan.specs.Plans.{ClassRule, WindowRule};
+ghost use Rattle.wd_value.specs.Rows.{rows_of};
+ghost use Rattle.wd_value.specs.declared.value.Fault as fault;
+ghost use Rattle.wd_value.specs.declared.value.Value as value;
+ghost use Rattle.wd_window.specs.Columns.{AreAt, AreColumns, AreFilled, IsColumn, IsSpread, columns_of};
+ghost use Rattle.wd_window.specs.Listings.{AreListed, IsListing};
+ghost use Rattle.wd_window.specs.Windows.{EachNames};
+
+use crate::listing::Listing;
+use std::alloc::Global;
+use wd_calls::{Partition, call_values, is_running};
+use wd_frame::Part;
+use wd_plan::Call;
+use wd_value::{Fault, OutOfMemory, Row, Value};
+
+/// The values of a call at the rows, by their positions, or their faults; none where each value is
+/// as fast to have by itself.
+pub(crate) type Column = Vec<Result<Value, Fault>>;
+
+/// The values of the call with this number, as far as there are any.
+pub(crate) fn column_in(columns: &[Column], number: usize) -> &[Result<Value, Fault>]
+    ensures { result.now ≡ slice_index_or (columns_of columns.now) number [] }
+{
+    match columns.get(number) {
+        Some(column) => column.as_slice(),
+        None => &[],
+    }
+}
+
+/// The value at a position of a column, and none past the last.
+pub(crate) fn known(
+    alloc: Global,
+    column: &[Result<Value, Fault>],
+    position: usize,
+) -> Result<Option<Result<Value, Fault>>, OutOfMemory>
+    ensures { IfOk result (λ o. o ≡ slice_get column.now position) }
+{
+    match column.get(position) {
+        None => Ok(None),
+        Some(Ok(value)) => Ok(Some(Ok(value.copy(alloc)?))),
+        Some(Err(fault)) => Ok(Some(Err(*fault))),
+    }
+}
+
+/// The column of each call that is a running count or total, and an empty one of each other call.
+pub(crate) fn running_columns(
+    alloc: Global,
+    calls: &[Call],
+    rows: &[Row],
+    listings: &[Listing],
+) -> Result<Vec<Column>, OutOfMemory>
+    requires { EachNames (length listings.now) calls.now }
+    ensures { IfOk result (λ v. (w : WindowRule) (orderings : List (List ℕ)) → AreListed w (rows_of rows.now) orderings listings.now → AreColumns w (rows_of rows.now) orderings calls.now (columns_of v.items)) }
+{
+    let mut columns = Vec::with_capacity(alloc, calls.len())?;
+    for call in calls {
+        let column = running_column(alloc, call, rows, listings)?;
+        columns.push(column)?;
+    }
+    Ok(columns)
+}
+
+/// The column of a running count or total, and an empty one of another call.
+fn running_column(
+    alloc: Global,
+    call: &Call,
+    rows: &[Row],
+    listings: &[Listing],
+) -> Result<Column, OutOfMemory>
+    requires { call.now.class < length listings.now }
+    ensures { IfOk result (λ v. (w : WindowRule) (orderings : List (List ℕ)) → AreListed w (rows_of rows.now) orderings listings.now → IsColumn w (rows_of rows.now) orderings call.now v.items) }
+{
+    if !is_running(call) {
+        return Ok(Vec::new(alloc));
+    }
+    let column = column_of(alloc, call, rows, &listings[call.class as usize])?;
+    Ok(column)
+}
+
+/// The values of a call at all rows.
+fn column_of(
+    alloc: Global,
+    call: &Call,
+    rows: &[Row],
+    listing: &Listing,
+) -> Result<Column, OutOfMemory>
+    ensures { IfOk result (λ v. (class : ClassRule) (ordering : List ℕ) → IsListing class (rows_of rows.now) ordering listing.now → AreFilled class call.now (rows_of rows.now) ordering (length rows.now) v.items) }
+{
+    let mut column = blank(alloc, rows.len())?;
+    for position in 0..rows.len() {
+        fill(alloc, call, rows, listing, position, &mut column)?;
+    }
+    Ok(column)
+}
+
+/// So many places for values.
+fn blank(alloc: Global, rows: usize) -> Result<Column, OutOfMemory>
+    ensures { IfOk result (λ v. length v.items ≡ rows) }
+{
+    let mut column = Vec::with_capacity(alloc, rows)?;
+    for _ in 0..rows {
+        column.push(Ok(Value::Null))?;
+    }
+    Ok(column)
+}
+
+/// Puts the values of the partition whose first row stands at this position in the column. Another
+/// row's position changes nothing.
+fn fill(
+    alloc: Global,
+    call: &Call,
+    rows: &[Row],
+    listing: &Listing,
+    position: usize,
+    column: &mut Column,
+) -> Result<(), OutOfMemory>
+    requires { position < length rows.now }
+    ensures { OnOk result ((class : ClassRule) (ordering : List ℕ) → IsListing class (rows_of rows.now) ordering listing.now → AreFilled class call.now (rows_of rows.now) ordering position column.old.items → AreFilled class call.now (rows_of rows.now) ordering (position + 1) column.new.items) }
+{
+    match listing.partitions.member(position) {
+        None => Ok(()),
+        Some(member) if member.place > 0 => Ok(()),
+        Some(member) => {
+            let partition = Partition {
+                rows,
+                positions: member.positions,
+            };
+            let part = Part {
+                groups: member.groups,
+                keys: member.numbers,
+                desc: listing.desc,
+            };
+            let values = call_values(alloc, call, &partition, &part)?;
+            spread(column, member.positions, values);
+            Ok(())
+        }
+    }
+}
+
+/// Puts each value where the position beside it says.
+fn spread(column: &mut Column, positions: &[u64], values: Column)
+    ensures long { length column.new.items ≡ length column.old.items }
+    ensures put { (f : ℕ → Result value.Value fault.Fault) → AreAt f positions.now values.items → IsSpread f positions.now column.old.items column.new.items (length values.items) }
+{
+    let mut place = 0;
+    for value in values {
+        put(column, positions, place, value);
+        place += 1;
+    }
+}
+
+/// Puts a value where the position at a place says, if there is one and the column has it.
+fn put(column: &mut Column, positions: &[u64], place: usize, value: Result<Value, Fault>)
+    ensures within { place < length positions.now → column.new.items ≡ set column.old.items (slice_index_or positions.now place 0) value }
+    ensures past { length positions.now ≤ place → column.new.items ≡ column.old.items }
+{
+    if place < positions.len() {
+        let position = positions[place] as usize;
+        if position < column.len() {
+            column[position] = value;
+        }
+    }
+}
