@@ -6,8 +6,6 @@ mod bucket;
 mod call;
 mod partition;
 mod running;
-#[cfg(test)]
-mod tests;
 
 pub use call::call_value;
 pub use partition::Partition;

@@ -8,8 +8,6 @@ mod given;
 pub mod laws;
 mod node;
 mod step;
-#[cfg(test)]
-mod tests;
 mod tie;
 
 pub use error::EvalError;

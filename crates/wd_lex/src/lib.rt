@@ -7,8 +7,6 @@ pub mod laws;
 mod lexer;
 mod marks;
 mod pieces;
-#[cfg(test)]
-mod tests;
 mod token;
 
 pub use error::LexError;

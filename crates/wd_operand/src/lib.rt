@@ -7,8 +7,6 @@ mod equality;
 mod literals;
 mod meaning;
 mod operator;
-#[cfg(test)]
-mod tests;
 
 pub use cause::{Cause, ResolveError};
 pub use copy::copy_expression;

@@ -5,8 +5,6 @@ mod error;
 mod expr;
 mod parser;
 mod query;
-#[cfg(test)]
-mod tests;
 
 pub use error::ParseError;
 pub use parser::parse;

@@ -6,8 +6,6 @@
 mod frame;
 mod limits;
 mod refusal;
-#[cfg(test)]
-mod tests;
 mod tokens;
 
 pub use frame::{direction_at, frame_at, nulls_at};

@@ -6,8 +6,6 @@ mod expression;
 mod fits;
 pub mod laws;
 mod plan;
-#[cfg(test)]
-mod tests;
 mod window;
 
 pub use expression::{ArithmeticOp, ComparisonOp, Expr, ValueKind};

@@ -7,8 +7,6 @@ mod part;
 mod query;
 mod select;
 mod tables;
-#[cfg(test)]
-mod tests;
 
 pub use query::{Resolved, resolve};
 pub use wd_operand::{Cause, ResolveError};

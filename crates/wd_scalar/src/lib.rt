@@ -3,8 +3,6 @@
 
 mod arithmetic;
 mod expression;
-#[cfg(test)]
-mod tests;
 mod truth;
 
 pub use expression::{has_arithmetic, value_of};

@@ -6,8 +6,6 @@ mod error;
 pub mod laws;
 mod schema;
 mod table;
-#[cfg(test)]
-mod tests;
 mod text;
 
 pub use error::SchemaError;

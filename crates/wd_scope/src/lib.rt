@@ -9,8 +9,6 @@ pub mod laws;
 mod names;
 mod same;
 mod scope;
-#[cfg(test)]
-mod tests;
 mod window;
 
 pub use call::{AppliedFunction, Calls, FunctionName, WindowCall};

@@ -8,8 +8,6 @@ mod outputs;
 mod shown;
 mod sorting;
 mod steps;
-#[cfg(test)]
-mod tests;
 
 pub use inputs::add_all_met;
 pub use limits::{Cut, cut_meant};

@@ -4,8 +4,6 @@
 pub mod laws;
 mod reader;
 mod syntax;
-#[cfg(test)]
-mod tests;
 
 pub use reader::{Statements, read_statements};
 pub use syntax::{

@@ -10,8 +10,6 @@ mod map;
 mod pairs;
 mod peers;
 mod rows;
-#[cfg(test)]
-mod tests;
 
 pub use cut::cut_rows;
 pub use distinct::distinct_rows;

@@ -4,8 +4,6 @@
 mod column;
 mod error;
 mod listing;
-#[cfg(test)]
-mod tests;
 mod window;
 
 pub use error::WindowError;

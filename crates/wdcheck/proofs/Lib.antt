@@ -3,3 +3,4 @@ pub mod FilesLemmas
 pub mod CommandLineLemmas
 pub mod RunLineLemmas
 pub mod FailureLemmas
+pub mod MemoryLemmas

@@ -1,7 +1,7 @@
 //! Files in memory.
 
-ghost use Rattle.std.specs.Prelude.{◌≡◌, ◌<◌, ◌≤◌, [], length, Some, IfSome, IfOk, IfErr};
-ghost use Rattle.wdcheck.specs.Memory.{failures_of, file_at, files_of, handed_of};
+ghost use Rattle.std.specs.Prelude.{◌≡◌, ◌↔◌, ◌-◌, [], None, Some, option_map, IsTrue, IfOk, IfErr};
+ghost use Rattle.wdcheck.specs.Memory.{failures_of, files_of, first_at, handed_of, reads_left};
 ghost use Rattle.wd_run.specs.Runs.{data_of};
 
 use crate::files::{Files, MOST_BYTES, ReadFault};
@@ -23,6 +23,7 @@ impl<'a> MemoryFiles<'a> {
         ensures files { files_of result ≡ data_of files.now }
         ensures failures { failures_of result ≡ 0 }
         ensures handed { handed_of result ≡ [] }
+        ensures left { reads_left result ≡ None }
     {
         MemoryFiles {
             files,
@@ -37,6 +38,7 @@ impl<'a> MemoryFiles<'a> {
         ensures files { files_of result ≡ files_of self.entry }
         ensures failures { failures_of result ≡ failures_of self.entry }
         ensures handed { handed_of result ≡ handed_of self.entry }
+        ensures left { reads_left result ≡ Some reads }
     {
         self.until_failure = Some(reads);
         self
@@ -44,8 +46,8 @@ impl<'a> MemoryFiles<'a> {
 
     // Whether this read is to fail.
     fn fails(&mut self) -> bool
-        ensures failures { failures_of self.new ≡ failures_of self.old }
-        ensures handed { handed_of self.new ≡ handed_of self.old }
+        ensures due { IsTrue result ↔ (reads_left self.old ≡ Some 0) }
+        ensures rest { self.new ≡ record self.old { until_failure = option_map (λ reads. reads - 1) (reads_left self.old) } }
     {
         match self.until_failure {
             None => false,
@@ -83,16 +85,11 @@ impl Files for MemoryFiles<'_> {
 
 // The number of the first file at the path that may be handed over.
 fn position(files: &[(&str, &[u8])], path: &str) -> Option<usize>
-    ensures within { IfSome result (λ i. i < length files.now) }
-    ensures path { IfSome result (λ i. (file_at (data_of files.now) i).0 ≡ path.now) }
-    ensures bounded { IfSome result (λ i. length (file_at (data_of files.now) i).1 ≤ MOST_BYTES) }
+    ensures { result ≡ first_at path.now files.now }
 {
-    for (i, (name, bytes)) in files.iter().enumerate() {
-        if *name == path && bytes.len() <= MOST_BYTES {
-            return Some(i);
-        }
-    }
-    None
+    files
+        .iter()
+        .position(|(name, bytes)| *name == path && bytes.len() <= MOST_BYTES)
 }
 
 fn copy(alloc: Global, bytes: &[u8]) -> Result<Vec<u8>, ReadFault>

@@ -1,6 +1,6 @@
-use crate::{Schema, SchemaError, Violation, meets, read_schema};
 use std::alloc::Global;
 use std::test::Fail;
+use wd_schema::{Schema, SchemaError, Violation, meets, read_schema};
 use wd_value::{Instance, Row, Text, Value};
 
 /// A schema: its tables with their columns (`!` is NOT NULL) and keys.

@@ -1,9 +1,9 @@
-use crate::{
+use std::alloc::Global;
+use std::test::Fail;
+use wd_operand::{
     CaseArm, Cause, Meaning, ResolveError, case_of, combined, copy_expression, literal, negated,
     number, same_expression, same_kind, signed, signed_number, tested,
 };
-use std::alloc::Global;
-use std::test::Fail;
 use wd_plan::{ComparisonOp, Expr, ValueKind};
 use wd_syntax::{Literal, Operator, Sign};
 use wd_value::Value;

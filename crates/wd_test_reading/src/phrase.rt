@@ -1,7 +1,7 @@
-use crate::*;
 use std::alloc::Global;
 use std::test::Fail;
 use wd_lex::{Mark, Token, lex};
+use wd_phrase::*;
 use wd_syntax::{
     Bound, Count, Exclusion, Extent, FetchWord, Frame, FrameMode, Limits, NullsPlace, Offset,
     Operator, RowWord, Sign, SortDirection,

@@ -1,7 +1,7 @@
-use crate::{has_arithmetic, is_true, value_of};
 use std::alloc::{AllocError, Global};
 use std::test::Fail;
 use wd_plan::{ArithmeticOp, ComparisonOp, Expr, ValueKind};
+use wd_scalar::{has_arithmetic, is_true, value_of};
 use wd_value::{Fault, OutOfMemory, Row, Text, Value, same};
 
 const LEAST: i64 = i64::MIN;

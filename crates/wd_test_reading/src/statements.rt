@@ -1,7 +1,7 @@
-use crate::{Element, KeyWords, Name, Nulls, Rule, Statements, read_statements};
 use std::alloc::Global;
 use std::test::Fail;
 use wd_lex::lex;
+use wd_statements::{Element, KeyWords, Name, Nulls, Rule, Statements, read_statements};
 
 fn statements(alloc: Global, text: &str) -> Result<Statements, Fail> {
     let tokens = lex(alloc, text.as_bytes())?;

@@ -1,13 +1,13 @@
 //! The parts of a select, called one by one. What is expected is written out by hand from the rules of lowering.
-use crate::{
-    Cut, Output, Shown, Sorted, add_all_met, cut_meant, deduplicated, filtered, is_wide,
-    item_meant, keys_sorted, limited, mapped, without_hidden,
-};
 use std::alloc::{AllocError, Global};
 use std::test::Fail;
 use wd_operand::{Cause, ResolveError};
 use wd_plan::{Expr, Plan, ValueKind};
 use wd_scope::{Calls, Context, Scope, ScopeColumn};
+use wd_select::{
+    Cut, Output, Shown, Sorted, add_all_met, cut_meant, deduplicated, filtered, is_wide,
+    item_meant, keys_sorted, limited, mapped, without_hidden,
+};
 use wd_syntax as written;
 use wd_syntax::{
     Alias, Count, FetchWord, Item, Limits, Literal, Name, Offset, Over, RowWord, Sign,

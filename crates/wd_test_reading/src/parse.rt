@@ -1,7 +1,7 @@
-use crate::*;
 use std::alloc::Global;
 use std::test::Fail;
 use wd_lex::lex;
+use wd_parse::*;
 
 fn parsed(alloc: Global, text: &str) -> Result<Result<Query, ParseError>, Fail> {
     let tokens = lex(alloc, text.as_bytes())?;

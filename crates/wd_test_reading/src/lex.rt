@@ -1,6 +1,6 @@
-use crate::*;
 use std::alloc::Global;
 use std::test::Fail;
+use wd_lex::*;
 
 /// A token, as `kind@start..end`.
 fn shown(alloc: Global, token: &Token) -> Result<String, Fail> {

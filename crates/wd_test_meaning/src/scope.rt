@@ -1,12 +1,12 @@
-use crate::laws::{meanings_are_typed, met_calls_are_shown, windows_are_typed};
-use crate::{
-    Calls, Context, KnownWindow, Scope, ScopeColumn, all_defined, condition, plain, resolved,
-    sort_key, written_number,
-};
 use std::alloc::{AllocError, Global};
 use std::test::Fail;
 use wd_operand::{Cause, Meaning, ResolveError};
 use wd_plan::ValueKind;
+use wd_scope::laws::{meanings_are_typed, met_calls_are_shown, windows_are_typed};
+use wd_scope::{
+    Calls, Context, KnownWindow, Scope, ScopeColumn, all_defined, condition, plain, resolved,
+    sort_key, written_number,
+};
 use wd_syntax::{
     Bound, Expr, Extent, Frame, FrameMode, Literal, Name, NamedWindow, NullsPlace, Over, Sign,
     SortDirection, SortKey, Window,

@@ -1,9 +1,9 @@
-use crate::{
-    JoinError, copy_filtered, cut_rows, distinct_rows, filter_rows, join_rows, map_rows, with_fault,
-};
 use std::alloc::{AllocError, Global};
 use std::test::Fail;
 use wd_plan::{ArithmeticOp, ComparisonOp, Expr, OrderItem, Outcome, ValueKind};
+use wd_steps::{
+    JoinError, copy_filtered, cut_rows, distinct_rows, filter_rows, join_rows, map_rows, with_fault,
+};
 use wd_value::{Fault, Row, SortKey, Value, same};
 
 // ORDER BY v DESC, where v is the second column.

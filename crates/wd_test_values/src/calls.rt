@@ -1,6 +1,6 @@
-use crate::{Partition, call_value, call_values, is_running};
 use std::alloc::{AllocError, Global};
 use std::test::Fail;
+use wd_calls::{Partition, call_value, call_values, is_running};
 use wd_frame::Part;
 use wd_plan::{Bound, Call, Exclusion, Frame, FrameMode, Function};
 use wd_value::{Fault, OutOfMemory, Row, Text, Value};

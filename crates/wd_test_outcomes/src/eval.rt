@@ -1,6 +1,6 @@
-use crate::{EvalError, check_choice, eval_with, first_choice, run_plan, tied_choice};
 use std::alloc::{AllocError, Global};
 use std::test::Fail;
+use wd_eval::{EvalError, check_choice, eval_with, first_choice, run_plan, tied_choice};
 use wd_plan::{
     ArithmeticOp, Bound, Call, Choice, Class, ComparisonOp, Exclusion, Expr, Frame, FrameMode,
     Function, OrderItem, Outcome, Plan, ValueKind,

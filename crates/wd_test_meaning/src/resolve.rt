@@ -1,10 +1,10 @@
 //! Queries by their texts. Expected plans and refusals are written out by hand from the rules of lowering.
-use crate::laws::{one_plan, plans_fit};
-use crate::{Cause, ResolveError, Resolved, resolve};
 use std::alloc::Global;
 use std::test::Fail;
 use wd_lex::lex;
 use wd_parse::parse;
+use wd_resolve::laws::{one_plan, plans_fit};
+use wd_resolve::{Cause, ResolveError, Resolved, resolve};
 use wd_schema::read_schema;
 
 const SCHEMA: &str =

@@ -1,11 +1,11 @@
 ghost use Rattle.std.specs.Prelude.{◌≡◌, ◌≤◌, IfOk, length};
 ghost use Rattle.wd_window.specs.Windows.{EachNames};
 
-use crate::{WindowError, evaluate_window};
 use std::alloc::{AllocError, Global};
 use std::test::Fail;
 use wd_plan::{Bound, Call, Class, Exclusion, Frame, FrameMode, Function, OrderItem, Outcome};
 use wd_value::{Fault, Row, SortKey, Value};
+use wd_window::{WindowError, evaluate_window};
 
 // Stands for NULL.
 const NULL: i64 = i64::MIN;

@@ -1,11 +1,11 @@
-use crate::laws::agreeing_is_an_equivalence;
-use crate::{
-    ArithmeticOp, Bound, Call, Class, ComparisonOp, Exclusion, Expr, Frame, FrameMode, Function,
-    OrderItem, Plan, ValueKind,
-};
 use indexmap::IndexMap;
 use std::alloc::{AllocError, Global};
 use std::test::Fail;
+use wd_plan::laws::agreeing_is_an_equivalence;
+use wd_plan::{
+    ArithmeticOp, Bound, Call, Class, ComparisonOp, Exclusion, Expr, Frame, FrameMode, Function,
+    OrderItem, Plan, ValueKind,
+};
 use wd_schema::{Column, Schema, Table};
 use wd_value::{ColumnType, SortKey, Text, Value};
 

@@ -1,0 +1,11 @@
+//! Tests of what a query means: operands, names, select lists, plans.
+#![tactic(auto)]
+
+#[cfg(test)]
+mod operand;
+#[cfg(test)]
+mod resolve;
+#[cfg(test)]
+mod scope;
+#[cfg(test)]
+mod select;

@@ -1,0 +1,7 @@
+//! Tests of the outcomes of Windows and of whole plans.
+#![tactic(auto)]
+
+#[cfg(test)]
+mod eval;
+#[cfg(test)]
+mod window;
