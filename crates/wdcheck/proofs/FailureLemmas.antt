@@ -1,12 +1,12 @@
 -- Failures: what is handed up by `?`, statuses, and reasons from those of the parts.
-use Rattle.std.proofs.Common.{◌≡◌, ◌≢◌, ◌+◌, ℕ, List, [], Option, Some, None, Result, Ok, Err, IfErr, IsErrAnd, All, Any, sym, subst, refl}
+use Rattle.std.proofs.Common.{◌≡◌, ◌≢◌, ℕ, List, [], Option, Result, Ok, Err, IfErr, IsErrAnd, All, Any, sym, subst}
 use Rattle.std.proofs.KnownBytes.{Keeps-refl}
 use Rattle.clap.specs.Values.{kind_of}
 use Rattle.clap.specs.declared.error.Error.{Error}
 use Rattle.clap.specs.declared.error.kind.ErrorKind.TheVariants as kind
 use Rattle.wd_run.specs.declared.error.RunError.{RunError}
 use Rattle.wdcheck.specs.Commands.{AreInputsOf, Inputs, IsRefusedWith, files_of}
-use Rattle.wdcheck.specs.Failures.{HasReason, IsFaultOfWords, IsRefusal, IsUnanswered, IsUncut, IsUnread, status_of}
+use Rattle.wdcheck.specs.Failures.{HasReason, IsFaultOfWords, IsOfCommandLine, IsRefusal, IsUnanswered, IsUncut, IsUnread, status_of}
 use Rattle.wdcheck.specs.Files.{File, HandsOver}
 use Rattle.wdcheck.specs.Statuses.{IsEnding}
 use Rattle.wdcheck.specs.Words.{AreRunWords, AskFor, HasNoEquals, IsPlain, IsTableWord}
@@ -44,6 +44,17 @@ IsUnanswered-from_refusal inputs error cause (Unassigned word) gives = absurd gi
 IsUnanswered-from_refusal inputs error cause (Fault fault) gives = absurd gives
 IsUnanswered-from_refusal inputs error cause (CannotRead path) gives = absurd gives
 IsUnanswered-from_refusal inputs error cause CannotWrite gives = absurd gives
+
+-- what `clap` refuses is a fault of the command line
+pub IsOfCommandLine-from_words : (error : Error) → (failure : Failure) → IsFaultOfWords error failure → IsOfCommandLine failure
+IsOfCommandLine-from_words error (CommandLine fault) h = tt
+IsOfCommandLine-from_words error OutOfMemory h = tt
+IsOfCommandLine-from_words error (Refused refusal number) h = absurd h
+IsOfCommandLine-from_words error (Fault fault) h = absurd h
+IsOfCommandLine-from_words error NotText h = absurd h
+IsOfCommandLine-from_words error (Unassigned word) h = absurd h
+IsOfCommandLine-from_words error (CannotRead path) h = absurd h
+IsOfCommandLine-from_words error CannotWrite h = absurd h
 
 -- what is known of the path says what is wanted of it
 pub IsUnread-weaker : (Known Asked : List ℕ → Type 0) (failures failures_after : ℕ) → ((path : List ℕ) → Known path → Asked path)

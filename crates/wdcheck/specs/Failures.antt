@@ -1,5 +1,5 @@
 -- Why the program ends without its output: the exit status, the line on standard error, and what stands behind it.
-use Rattle.std.specs.Prelude.{◌≡◌, ◌≢◌, ◌+◌, ℕ, ⊤, List, [], ◌∷◌, ◌++◌, codes, All, Any, Option, Some, None, IfSome}
+use Rattle.std.specs.Prelude.{◌≡◌, ◌≢◌, ◌+◌, ℕ, ⊤, List, [], ◌++◌, codes, All, Any, Option, Some, None, IfSome}
 use Rattle.std.specs.Fmt.{decimal}
 use Rattle.clap.specs.Values.{kind_of}
 use Rattle.clap.specs.declared.error.Error.{Error}
@@ -74,6 +74,18 @@ abbrev pub IsFaultOfWords : Error → Failure → Type 0
 IsFaultOfWords fault (CommandLine error) = kind_of fault ≢ kind.OutOfMemory
 IsFaultOfWords fault OutOfMemory = ⊤
 IsFaultOfWords fault failure = ⊥
+
+-- a fault of the command line, or memory is wanting
+abbrev pub IsOfCommandLine : Failure → Type 0
+IsOfCommandLine (CommandLine error) = ⊤
+IsOfCommandLine OutOfMemory = ⊤
+IsOfCommandLine failure = ⊥
+
+-- a word is no text, or memory is wanting
+abbrev pub IsOfArguments : Failure → Type 0
+IsOfArguments NotText = ⊤
+IsOfArguments OutOfMemory = ⊤
+IsOfArguments failure = ⊥
 
 -- the refusal has this number, or memory is wanting
 abbrev pub IsRefusal : RunError → Failure → Type 0

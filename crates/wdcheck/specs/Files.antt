@@ -1,5 +1,8 @@
 -- What reads of files hand over, and how many of them failed.
 use Rattle.std.specs.Prelude.{◌≡◌, ℕ, List, ◌++◌, Option, Some, None, Result, Ok, Err, ⊤}
+use Rattle.std.specs.IoError.{error_kind, raw_os_error}
+use Rattle.std.specs.declared.io.Error.{Error}
+use Rattle.std.specs.declared.io.ErrorKind.TheVariants as kind
 use Rattle.wdcheck.specs.declared.files.ReadFault.{ReadFault}
 use Rattle.wdcheck.specs.declared.files.ReadFault.TheVariants.{Failed, OutOfMemory}
 
@@ -17,3 +20,7 @@ abbrev pub failed_reads : {T : Type 0} → Result T ReadFault → ℕ
 failed_reads (Ok bytes) = 0
 failed_reads (Err Failed) = 1
 failed_reads (Err OutOfMemory) = 0
+
+-- memory is wanting in the program itself; where the system answers so, it is a failure of the file
+abbrev pub IsOwnWant : Error → Type 0
+IsOwnWant error = (error_kind error ≡ kind.OutOfMemory) × (raw_os_error error ≡ None)

@@ -1,7 +1,8 @@
 //! Where the program's files come from.
 
-ghost use Rattle.std.specs.Prelude.{◌≡◌, ◌+◌, ◌-◌, ◌^◌, ◌<◌, ◌≤◌, ℕ, List, [], ◌∷◌, length, Option, None, IfOk, IfSome, MatchResult};
-ghost use Rattle.wdcheck.specs.Files.{File, HandsOver, failed_reads};
+ghost use Rattle.std.specs.Prelude.{◌≡◌, ◌↔◌, ◌+◌, ◌-◌, ◌^◌, ◌<◌, ◌≤◌, ℕ, List, [], ◌∷◌, length, Option, None, IfOk, IfSome, MatchResult};
+ghost use Rattle.wdcheck.specs.Files.{File, HandsOver, IsOwnWant, failed_reads};
+ghost use Rattle.wdcheck.specs.declared.files.ReadFault.TheVariants as fault;
 
 use std::alloc::Global;
 use std::io::Read;
@@ -91,7 +92,9 @@ fn read_whole<R: Read + Drop>(alloc: Global, reader: R) -> Result<Vec<u8>, ReadF
 }
 
 // Want of memory in the system's own answer is a failure of the file.
-fn fault_of(error: io::Error) -> ReadFault {
+fn fault_of(error: io::Error) -> ReadFault
+    ensures { (result ≡ fault.OutOfMemory) ↔ IsOwnWant error }
+{
     if error.kind() == io::ErrorKind::OutOfMemory && error.raw_os_error().is_none() {
         ReadFault::OutOfMemory
     } else {

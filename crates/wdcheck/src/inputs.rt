@@ -4,7 +4,7 @@ ghost use Rattle.std.specs.Prelude.{◌≡◌, ◌≢◌, ◌-◌, ◌^◌, ◌<
 ghost use Rattle.wdcheck.specs.Commands.{AreInputsOf, files_of};
 ghost use Rattle.wdcheck.specs.Files.{HandsOver};
 ghost use Rattle.wdcheck.specs.Inputs.{file_of, inputs_of};
-ghost use Rattle.wdcheck.specs.Failures.{HasReason, IsUnread};
+ghost use Rattle.wdcheck.specs.Failures.{HasReason, IsOfCommandLine, IsUnread};
 ghost use Rattle.wdcheck.specs.Words.{word_of};
 
 use crate::failure::Failure;
@@ -45,6 +45,7 @@ pub fn read_inputs<'a, F: Files>(
     ensures read { IfOk result (λ inputs. HandsOver (F.handed files.old) (F.handed files.new) (files_of (inputs_of inputs))) }
     ensures err { map (λ w. w.now) words.now ≢ [] → IfErr result (HasReason (map (λ w. w.now) words.now)
         (F.handed files.old) (F.handed files.new) (F.failures files.old) (F.failures files.new)) }
+    ensures no_words { map (λ w. w.now) words.now ≡ [] → IfErr result IsOfCommandLine }
 {
     let given = run_words(alloc, words)?;
     let assignments = assignments(alloc, given.tables.as_slice())?;

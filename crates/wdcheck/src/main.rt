@@ -2,6 +2,10 @@
 //! gives to rows that tie.
 #![tactic(auto)]
 
+ghost use Rattle.std.specs.Prelude.{◌≡◌, map, string_bytes, IfOk, IfErr};
+ghost use Rattle.wdcheck.specs.Failures.{IsOfArguments};
+ghost use Rattle.wdcheck.specs.declared.failure.Failure.TheVariants as failed;
+
 mod command;
 #[cfg(test)]
 mod command_tests;
@@ -31,7 +35,9 @@ fn main(rt: HostRuntime) -> ExitCode {
 }
 
 // Runs the program on its words, the machine's files and the standard streams.
-fn run_program(rt: &HostRuntime) -> Result<u8, Failure<'static>> {
+fn run_program(rt: &HostRuntime) -> Result<u8, Failure<'static>>
+    ensures { IfErr result IsOfArguments }
+{
     let arguments = arguments(rt)?;
     let words = texts(rt.alloc(), arguments.as_slice())?;
     let mut files = MachineFiles::new(rt);
@@ -45,7 +51,9 @@ fn run_program(rt: &HostRuntime) -> Result<u8, Failure<'static>> {
 }
 
 // The words after the program's own name.
-fn arguments(rt: &(impl Env + AllocGlobal)) -> Result<Vec<String>, Failure<'static>> {
+fn arguments(rt: &(impl Env + AllocGlobal)) -> Result<Vec<String>, Failure<'static>>
+    ensures { IfErr result IsOfArguments }
+{
     match env::args(rt) {
         Ok(words) => Ok(words.skip(1).collect(rt.alloc())?),
         Err(error) if error.kind() == ErrorKind::OutOfMemory => Err(Failure::OutOfMemory),
@@ -53,6 +61,14 @@ fn arguments(rt: &(impl Env + AllocGlobal)) -> Result<Vec<String>, Failure<'stat
     }
 }
 
-fn texts<'a>(alloc: Global, words: &'a [String]) -> Result<Vec<&'a str>, Failure<'static>> {
-    Ok(words.iter().map(|word| word.as_str()).collect(alloc)?)
+// The words as texts, in their order.
+fn texts<'a>(alloc: Global, words: &'a [String]) -> Result<Vec<&'a str>, Failure<'static>>
+    ensures ok { IfOk result (λ texts. map (λ t. t.now) texts.items ≡ map string_bytes words.now) }
+    ensures err { IfErr result (λ failure. failure ≡ failed.OutOfMemory) }
+{
+    let mut texts = Vec::with_capacity(alloc, words.len())?;
+    for word in words {
+        texts.push(word.as_str())?;
+    }
+    Ok(texts)
 }

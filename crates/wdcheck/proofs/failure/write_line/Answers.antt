@@ -1,4 +1,4 @@
-use Rattle.std.proofs.Common.{◌≡◌, ◌∙◌, ◌++◌, List, ℕ, OnOk, append-nil, subst}
+use Rattle.std.proofs.Common.{◌∙◌, List, ℕ, OnOk, append-nil, subst}
 use Rattle.std.specs.Io.KnownBytes.{Appends}
 use Rattle.wdcheck.specs.Streams.{AppendsPart}
 use Rattle.wdcheck.proofs.failure.write_line.Goals as goal

@@ -1,16 +1,16 @@
-use Rattle.std.proofs.Common.{arith, ◌≡◌, ◌≢◌, ◌∙◌, ◌⊎◌, ◌<◌, ℕ, List, map, length, drop, ap, sym, subst, inl, inr, Bor}
+use Rattle.std.proofs.Common.{arith, [], ◌∷◌, ◌≡◌, ◌∙◌, ◌⊎◌, ◌<◌, ℕ, List, map, length, drop, ap, sym, subst, inl, inr, Bor}
 use Rattle.std.proofs.Math.ListN.{get_or-map, length-map}
 use Rattle.std.proofs.lemmas.Simd.{map-map}
 use Rattle.std.proofs.lemmas.List.Elements.{All-map}
 use Rattle.std.specs.List.{All, Any, Contains}
 use Rattle.wdcheck.specs.Commands.{TableFile as TableData}
-use Rattle.wdcheck.specs.Failures.{IsUncut, IsUnread}
+use Rattle.wdcheck.specs.Failures.{IsUncut}
 use Rattle.wdcheck.specs.Inputs.{file_of, table_of}
 use Rattle.wdcheck.specs.Words.{AreCut, AreRunWords, AreWordsOf, AskFor, HasNoEquals, IsPathIn, IsPlain, IsTableWord, run_line, word_of}
 use Rattle.wdcheck.specs.declared.inputs.TableFile.{TableFile}
 use Rattle.wdcheck.specs.declared.words.Assignment.{Assignment}
 use Rattle.wdcheck.specs.declared.words.RunWords.{RunWords}
-use Rattle.wdcheck.proofs.FailureLemmas.{HasReason-from_uncut, HasReason-from_unread, HasReason-from_words, IfErr-from_known, IfErr-from_same}
+use Rattle.wdcheck.proofs.FailureLemmas.{HasReason-from_uncut, HasReason-from_unread, HasReason-from_words, IfErr-from_known, IfErr-from_same, IsOfCommandLine-from_words}
 use Rattle.wdcheck.proofs.FilesLemmas.{HandsOver-trans}
 use Rattle.wdcheck.proofs.inputs.read_inputs.Goals as goal
 
@@ -130,3 +130,23 @@ returns-in_err-tables-clause-err g c = λ some.
     (HasReason-from_unread _ _ _ _ _ _
     (λ path is. asked _ given c.in_ok-given.ensures.ok path (inr (inr (path_in assignments _ cut path (subst (Any (λ (a : Assignment). a.path.now ≡ path)) same is)))))
     c.in_err-tables.field-0.0 unread)
+
+-- the words of `run` are at least three, so at no words `clap` refuses
+run_has_words : (words : List (List ℕ)) (given : RunWords) → AreWordsOf words given → words ≡ [] → ⊥
+run_has_words [] given are none = let line = are (λ k d below. absurd (omega (arith, below))) in cc
+run_has_words (word ∷ words) given are none = cc
+
+pub returns-in_err-given-clause-no_words : goal.returns-in_err-given-clause-no_words
+returns-in_err-given-clause-no_words g c = λ none. IfErr-from_known c.from_residual.result _ _ c.from_residual.ensures.1 (IsOfCommandLine-from_words c.in_err-given.field-0.0)
+
+pub returns-in_err-assignments-clause-no_words : goal.returns-in_err-assignments-clause-no_words
+returns-in_err-assignments-clause-no_words g c = λ none. absurd (run_has_words _ c.in_ok-given.given c.in_ok-given.ensures.ok none)
+
+pub returns-in_err-schema-clause-no_words : goal.returns-in_err-schema-clause-no_words
+returns-in_err-schema-clause-no_words g c = λ none. absurd (run_has_words _ c.in_ok-given.given c.in_ok-given.ensures.ok none)
+
+pub returns-in_err-query-clause-no_words : goal.returns-in_err-query-clause-no_words
+returns-in_err-query-clause-no_words g c = λ none. absurd (run_has_words _ c.in_ok-given.given c.in_ok-given.ensures.ok none)
+
+pub returns-in_err-tables-clause-no_words : goal.returns-in_err-tables-clause-no_words
+returns-in_err-tables-clause-no_words g c = λ none. absurd (run_has_words _ c.in_ok-given.given c.in_ok-given.ensures.ok none)

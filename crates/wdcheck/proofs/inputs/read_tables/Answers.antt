@@ -1,6 +1,5 @@
-use Rattle.std.proofs.Common.{arith, ◌≡◌, ◌∙◌, ◌<◌, ℕ, zero, suc, List, [], ◌∷◌, length, get_or, ap, refl, sym, subst}
+use Rattle.std.proofs.Common.{arith, ◌≡◌, ◌<◌, ℕ, zero, suc, List, [], ◌∷◌, length, get_or, refl, sym}
 use Rattle.std.specs.List.{Any}
-use Rattle.wdcheck.specs.Failures.{IsUnread}
 use Rattle.wdcheck.specs.declared.words.Assignment.{Assignment}
 use Rattle.wdcheck.proofs.FailureLemmas.{IfErr-from_same, IsUnread-weaker}
 use Rattle.wdcheck.proofs.inputs.read_tables.Goals as goal

@@ -1,4 +1,4 @@
-use Rattle.std.proofs.Common.{◌≡◌, ◌++◌, take, drop, suc, flat_map, sym, subst}
+use Rattle.std.proofs.Common.{flat_map, sym, subst}
 use Rattle.std.proofs.lemmas.List.{take_all}
 use Rattle.std.specs.Io.KnownBytes.{Appends}
 use Rattle.wdcheck.specs.Streams.{AppendsPart, piece_text}
