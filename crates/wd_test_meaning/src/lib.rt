@@ -2,7 +2,11 @@
 #![tactic(auto)]
 
 #[cfg(test)]
+mod case;
+#[cfg(test)]
 mod operand;
+#[cfg(test)]
+mod reading;
 #[cfg(test)]
 mod resolve;
 #[cfg(test)]

@@ -1,4 +1,6 @@
-use std::alloc::Global;
+//! Operands, called one by one. What is expected is written out by hand from the rules of lowering.
+use crate::case::assert_case;
+use std::alloc::{AllocError, Global};
 use std::test::Fail;
 use wd_operand::{
     CaseArm, Cause, Meaning, ResolveError, case_of, combined, copy_expression, literal, negated,
@@ -10,16 +12,20 @@ use wd_value::Value;
 
 const TYPES: ResolveError = ResolveError::Refused(Cause::Types);
 
-fn five(alloc: Global) -> Result<Meaning, ResolveError> {
-    literal(alloc, &Literal::Number(5))
+/// The operand that a word stands for: 5, TRUE or NULL.
+fn operand(alloc: Global, word: &str) -> Result<Meaning, ResolveError> {
+    match word {
+        "5" => literal(alloc, &Literal::Number(5)),
+        "TRUE" => literal(alloc, &Literal::Truth(true)),
+        _ => literal(alloc, &Literal::Null),
+    }
 }
 
-fn truth(alloc: Global) -> Result<Meaning, ResolveError> {
-    literal(alloc, &Literal::Truth(true))
-}
-
-fn shown(alloc: Global, meaning: Meaning) -> Result<String, Fail> {
-    Ok(format!(in alloc; "{meaning:?}")?)
+fn shown(alloc: Global, meaning: Result<Meaning, ResolveError>) -> Result<String, AllocError> {
+    match meaning {
+        Ok(meaning) => format!(in alloc; "{meaning:?}"),
+        Err(error) => format!(in alloc; "{error:?}"),
+    }
 }
 
 #[test]
@@ -32,124 +38,187 @@ fn numbers_fit_64_bits(rt: HostRuntime) -> Result<(), Fail> {
     Ok(())
 }
 
+const SIGNED_NUMBERS: &[(Sign, u64, &str)] = &[
+    (
+        Sign::Minus,
+        9223372036854775808,
+        "Typed(Literal(Int(-9223372036854775808), Number), Number)",
+    ),
+    (Sign::Plus, 9223372036854775808, "Refused(Types)"),
+    (Sign::Minus, 9223372036854775809, "Refused(Types)"),
+];
+
 #[test]
-fn literals_and_signs_before_numbers(rt: HostRuntime) -> Result<(), Fail> {
+fn signs_before_numbers(rt: HostRuntime) -> Result<(), Fail> {
     let alloc = rt.alloc();
-    let positive = shown(alloc, five(alloc)?)?;
-    assert_eq!(rt; positive.as_str(), "Typed(Literal(Int(5), Number), Number)");
-    let null = shown(alloc, literal(alloc, &Literal::Null)?)?;
-    assert_eq!(rt; null.as_str(), "Null");
-    let least = shown(
-        alloc,
-        signed_number(alloc, Sign::Minus, 9223372036854775808)?,
-    )?;
-    assert_eq!(rt;
-        least.as_str(),
-        "Typed(Literal(Int(-9223372036854775808), Number), Number)"
-    );
-    let plus = signed_number(alloc, Sign::Plus, 9223372036854775808);
-    assert_eq!(rt; plus.err(), Some(TYPES));
-    let minus = signed_number(alloc, Sign::Minus, 9223372036854775809);
-    assert_eq!(rt; minus.err(), Some(TYPES));
+    for &(sign, n, expected) in SIGNED_NUMBERS {
+        let meaning = shown(alloc, signed_number(alloc, sign, n))?;
+        assert_case(&rt, n, meaning.as_str(), expected);
+    }
     Ok(())
 }
+
+/// A test, sign or NOT over an operand, and for another word the operand.
+fn over_one(alloc: Global, word: &str, operand: Meaning) -> Result<Meaning, ResolveError> {
+    match word {
+        "-" => signed(alloc, Sign::Minus, operand),
+        "+" => signed(alloc, Sign::Plus, operand),
+        "NOT" => negated(alloc, operand),
+        "IS NOT NULL" => tested(alloc, true, operand),
+        _ => Ok(operand),
+    }
+}
+
+const OVER_ONE: &[(&str, &str, &str)] = &[
+    ("", "5", "Typed(Literal(Int(5), Number), Number)"),
+    ("", "NULL", "Null"),
+    ("-", "5", "Typed(Negate(Literal(Int(5), Number)), Number)"),
+    ("+", "5", "Typed(Literal(Int(5), Number), Number)"),
+    ("NOT", "NULL", "Typed(Not(Literal(Null, Truth)), Truth)"),
+    ("NOT", "5", "Refused(Types)"),
+    (
+        "IS NOT NULL",
+        "NULL",
+        "Typed(IsNotNull(Literal(Null, Text)), Truth)",
+    ),
+];
+
+#[test]
+fn literals_signs_and_tests(rt: HostRuntime) -> Result<(), Fail> {
+    let alloc = rt.alloc();
+    for &(word, given, expected) in OVER_ONE {
+        let meaning = shown(alloc, over_one(alloc, word, operand(alloc, given)?))?;
+        assert_case(&rt, (word, given), meaning.as_str(), expected);
+    }
+    Ok(())
+}
+
+fn over_two(
+    alloc: Global,
+    left: &str,
+    operator: Operator,
+    right: &str,
+) -> Result<Meaning, ResolveError> {
+    let left = operand(alloc, left)?;
+    combined(alloc, operator, left, operand(alloc, right)?)
+}
+
+const OVER_TWO: &[(&str, Operator, &str, &str)] = &[
+    ("5", Operator::Add, "TRUE", "Refused(Types)"),
+    ("5", Operator::Equal, "TRUE", "Refused(Types)"),
+    (
+        "NULL",
+        Operator::Equal,
+        "5",
+        "Typed(Compare(Equal, Literal(Null, Number), Literal(Int(5), Number)), Truth)",
+    ),
+];
 
 #[test]
 fn operators_ask_for_kinds(rt: HostRuntime) -> Result<(), Fail> {
     let alloc = rt.alloc();
-    let minus = shown(alloc, signed(alloc, Sign::Minus, five(alloc)?)?)?;
-    assert_eq!(rt;
-        minus.as_str(),
-        "Typed(Negate(Literal(Int(5), Number)), Number)"
-    );
-    let plus = shown(alloc, signed(alloc, Sign::Plus, five(alloc)?)?)?;
-    assert_eq!(rt; plus.as_str(), "Typed(Literal(Int(5), Number), Number)");
-    let not = shown(alloc, negated(alloc, Meaning::Null)?)?;
-    assert_eq!(rt; not.as_str(), "Typed(Not(Literal(Null, Truth)), Truth)");
-    assert_eq!(rt; negated(alloc, five(alloc)?).err(), Some(TYPES));
-    let test = shown(alloc, tested(alloc, true, Meaning::Null)?)?;
-    assert_eq!(rt;
-        test.as_str(),
-        "Typed(IsNotNull(Literal(Null, Text)), Truth)"
-    );
-    let sum = combined(alloc, Operator::Add, five(alloc)?, truth(alloc)?);
-    assert_eq!(rt; sum.err(), Some(TYPES));
-    let equal = combined(alloc, Operator::Equal, five(alloc)?, truth(alloc)?);
-    assert_eq!(rt; equal.err(), Some(TYPES));
+    for &(left, operator, right, expected) in OVER_TWO {
+        let meaning = shown(alloc, over_two(alloc, left, operator, right))?;
+        assert_case(&rt, (left, right), meaning.as_str(), expected);
+    }
     Ok(())
 }
 
+/// CASE WHEN `when` THEN NULL ELSE `otherwise` END
+fn case(alloc: Global, when: &str, otherwise: &str) -> Result<Meaning, ResolveError> {
+    let when = operand(alloc, when)?;
+    let mut arms = Vec::new(alloc);
+    arms.push(CaseArm {
+        when,
+        gives: Meaning::Null,
+    })?;
+    case_of(alloc, arms, operand(alloc, otherwise)?)
+}
+
+const CASES: &[(&str, &str, &str)] = &[
+    (
+        "TRUE",
+        "5",
+        "Typed(Case(Literal(Bool(true), Truth), Literal(Null, Number), Literal(Int(5), Number)), Number)",
+    ),
+    ("5", "NULL", "Refused(Types)"),
+];
+
 #[test]
-fn null_takes_the_kind_beside_it(rt: HostRuntime) -> Result<(), Fail> {
+fn cases_ask_for_kinds(rt: HostRuntime) -> Result<(), Fail> {
     let alloc = rt.alloc();
-    let equal = combined(alloc, Operator::Equal, Meaning::Null, five(alloc)?)?;
-    let equal = shown(alloc, equal)?;
-    assert_eq!(rt;
-        equal.as_str(),
-        "Typed(Compare(Equal, Literal(Null, Number), Literal(Int(5), Number)), Truth)"
-    );
-    let mut arms = Vec::new(alloc);
-    arms.push(CaseArm {
-        when: truth(alloc)?,
-        gives: Meaning::Null,
-    })?;
-    let case = shown(alloc, case_of(alloc, arms, five(alloc)?)?)?;
-    assert_eq!(rt;
-        case.as_str(),
-        "Typed(Case(Literal(Bool(true), Truth), Literal(Null, Number), Literal(Int(5), Number)), Number)"
-    );
-    let mut arms = Vec::new(alloc);
-    arms.push(CaseArm {
-        when: five(alloc)?,
-        gives: Meaning::Null,
-    })?;
-    assert_eq!(rt; case_of(alloc, arms, Meaning::Null).err(), Some(TYPES));
+    for &(when, otherwise, expected) in CASES {
+        let meaning = shown(alloc, case(alloc, when, otherwise))?;
+        assert_case(&rt, (when, otherwise), meaning.as_str(), expected);
+    }
     Ok(())
 }
+
+/// The operand where its place asks for a kind.
+fn of_kind(alloc: Global, word: &str, kind: ValueKind) -> Result<String, Fail> {
+    match operand(alloc, word)?.of_kind(alloc, kind) {
+        Ok(expression) => Ok(format!(in alloc; "{expression:?}")?),
+        Err(error) => Ok(format!(in alloc; "{error:?}")?),
+    }
+}
+
+const KINDS: &[(&str, ValueKind, &str)] = &[
+    ("NULL", ValueKind::Truth, "Literal(Null, Truth)"),
+    ("5", ValueKind::Text, "Refused(Types)"),
+];
 
 #[test]
 fn places_ask_for_a_kind_or_none(rt: HostRuntime) -> Result<(), Fail> {
     let alloc = rt.alloc();
-    assert_eq!(rt; Meaning::Null.kind(), ValueKind::Text);
-    assert_eq!(rt; five(alloc)?.kind(), ValueKind::Number);
-    assert!(rt; same_kind(ValueKind::Truth, ValueKind::Truth));
-    assert!(rt; !same_kind(ValueKind::Truth, ValueKind::Text));
+    for &(word, kind, expected) in KINDS {
+        let expression = of_kind(alloc, word, kind)?;
+        assert_case(&rt, word, expression.as_str(), expected);
+    }
     let settled = format!(in alloc; "{:?}", Meaning::Null.settled())?;
     assert_eq!(rt; settled.as_str(), "Literal(Null, Text)");
-    let asked = format!(in alloc; "{:?}", Meaning::Null.of_kind(alloc, ValueKind::Truth)?)?;
-    assert_eq!(rt; asked.as_str(), "Literal(Null, Truth)");
-    assert_eq!(rt;
-        five(alloc)?.of_kind(alloc, ValueKind::Text).err(),
-        Some(TYPES)
-    );
-    let column = shown(
-        alloc,
-        Meaning::typed(alloc, Expr::Column(3), ValueKind::Text)?,
-    )?;
+    Ok(())
+}
+
+#[test]
+fn operands_have_kinds(rt: HostRuntime) -> Result<(), Fail> {
+    let alloc = rt.alloc();
+    assert_eq!(rt; operand(alloc, "NULL")?.kind(), ValueKind::Text);
+    assert_eq!(rt; operand(alloc, "5")?.kind(), ValueKind::Number);
+    assert!(rt; same_kind(ValueKind::Truth, ValueKind::Truth));
+    assert!(rt; !same_kind(ValueKind::Truth, ValueKind::Text));
+    let column = Meaning::typed(alloc, Expr::Column(3), ValueKind::Text)?;
+    let column = format!(in alloc; "{column:?}")?;
     assert_eq!(rt; column.as_str(), "Typed(Column(3), Text)");
     Ok(())
+}
+
+/// column 1 < 2
+fn less(alloc: Global) -> Result<Expr, AllocError> {
+    let column = Box::new(alloc, Expr::Column(1))?;
+    let two = Expr::Literal(Value::Int(2), ValueKind::Number);
+    Ok(Expr::Compare(ComparisonOp::Less, column, Box::new(alloc, two)?))
 }
 
 #[test]
 fn copies_are_equal(rt: HostRuntime) -> Result<(), Fail> {
     let alloc = rt.alloc();
-    let less = Expr::Compare(
-        ComparisonOp::Less,
-        Box::new(alloc, Expr::Column(1))?,
-        Box::new(alloc, Expr::Literal(Value::Int(2), ValueKind::Number))?,
-    );
+    let less = less(alloc)?;
     let copy = copy_expression(alloc, &less)?;
-    let text = format!(in alloc; "{copy:?}")?;
-    assert_eq!(rt;
-        text.as_str(),
-        "Compare(Less, Column(1), Literal(Int(2), Number))"
-    );
     assert!(rt; same_expression(&less, &copy));
     assert!(rt; !same_expression(&less, &Expr::Column(1)));
-    assert!(rt; !same_expression(&Expr::Column(1), &Expr::Column(2)));
+    let shown = format!(in alloc; "{copy:?}")?;
+    assert_eq!(rt;
+        shown.as_str(),
+        "Compare(Less, Column(1), Literal(Int(2), Number))"
+    );
+    Ok(())
+}
+
+#[test]
+fn kinds_and_numbers_tell_expressions_apart(rt: HostRuntime) {
     let text = Expr::Literal(Value::Null, ValueKind::Text);
     let whole = Expr::Literal(Value::Null, ValueKind::Number);
     assert!(rt; !same_expression(&text, &whole));
     assert!(rt; same_expression(&whole, &whole));
-    Ok(())
+    assert!(rt; !same_expression(&Expr::Column(1), &Expr::Column(2)));
 }

@@ -1,267 +1,251 @@
+//! What expressions and windows mean over columns in scope, by their texts.
+use crate::case::assert_case;
+use crate::reading::{first_expression, scope_of, select};
 use std::alloc::{AllocError, Global};
 use std::test::Fail;
 use wd_operand::{Cause, Meaning, ResolveError};
 use wd_plan::ValueKind;
 use wd_scope::laws::{meanings_are_typed, met_calls_are_shown, windows_are_typed};
 use wd_scope::{
-    Calls, Context, KnownWindow, Scope, ScopeColumn, all_defined, condition, plain, resolved,
-    sort_key, written_number,
+    Calls, Context, KnownWindow, Scope, all_defined, condition, plain, resolved, sort_key,
+    written_number,
 };
-use wd_syntax::{
-    Bound, Expr, Extent, Frame, FrameMode, Literal, Name, NamedWindow, NullsPlace, Over, Sign,
-    SortDirection, SortKey, Window,
-};
+use wd_syntax::{Expr, NullsPlace, SortDirection};
 use wd_value::Text;
 
-fn text(alloc: Global, name: &str) -> Result<Text, AllocError> {
-    Text::from_str(alloc, name)
-}
-
-fn name(alloc: Global, word: &str) -> Result<Name, AllocError> {
-    Ok(Name {
-        text: text(alloc, word)?,
-        quoted: false,
-    })
-}
-
-fn scope_column(
-    alloc: Global,
-    table: &str,
-    column: &str,
-    kind: ValueKind,
-) -> Result<ScopeColumn, AllocError> {
-    Ok(ScopeColumn {
-        table: text(alloc, table)?,
-        name: text(alloc, column)?,
-        kind,
-    })
-}
-
 /// FROM t, u where t has the columns id (a number) and g (a text), and u has id (a number)
-fn scope(alloc: Global) -> Result<Scope, AllocError> {
-    let mut tables = Vec::new(alloc);
-    tables.push(text(alloc, "t")?)?;
-    tables.push(text(alloc, "u")?)?;
-    let mut columns = Vec::new(alloc);
-    columns.push(scope_column(alloc, "t", "id", ValueKind::Number)?)?;
-    columns.push(scope_column(alloc, "t", "g", ValueKind::Text)?)?;
-    columns.push(scope_column(alloc, "u", "id", ValueKind::Number)?)?;
-    Ok(Scope { tables, columns })
+fn scope(alloc: Global) -> Result<Scope, Fail> {
+    let columns = [
+        ("t", "id", ValueKind::Number),
+        ("t", "g", ValueKind::Text),
+        ("u", "id", ValueKind::Number),
+    ];
+    scope_of(alloc, &["t", "u"], &columns)
 }
 
-fn column(alloc: Global, word: &str) -> Result<Expr, AllocError> {
-    Ok(Expr::Column(name(alloc, word)?))
-}
-
-fn qualified(alloc: Global, table: &str, word: &str) -> Result<Expr, AllocError> {
-    Ok(Expr::Qualified(name(alloc, table)?, name(alloc, word)?))
-}
-
-/// A window without partition, ordered by a column of t where one is said.
-fn window(
-    alloc: Global,
-    base: Option<&str>,
-    key: Option<&str>,
-    frame: Option<Frame>,
-) -> Result<Window, AllocError> {
-    let base = match base {
-        Some(word) => Some(name(alloc, word)?),
-        None => None,
-    };
-    let mut order = Vec::new(alloc);
-    if let Some(word) = key {
-        order.push(SortKey {
-            expr: qualified(alloc, "t", word)?,
-            direction: None,
-            nulls: None,
-        })?;
+fn shown(alloc: Global, meaning: Result<Meaning, ResolveError>) -> Result<String, AllocError> {
+    match meaning {
+        Ok(meaning) => format!(in alloc; "{meaning:?}"),
+        Err(error) => format!(in alloc; "{error:?}"),
     }
-    Ok(Window {
-        base,
-        partition: Vec::new(alloc),
-        order,
-        frame,
-    })
 }
 
-/// A call without arguments over a window.
-fn call(alloc: Global, function: &str, window: Window) -> Result<Expr, AllocError> {
-    let over = Box::new(alloc, Over::Window(window))?;
-    Ok(Expr::Call(name(alloc, function)?, Vec::new(alloc), Some(over)))
+// The calls under test stand in functions of their own, so that their contracts burden no other proof.
+fn plainly(alloc: Global, scope: &Scope, tree: &Expr) -> Result<Meaning, ResolveError> {
+    plain(alloc, scope, tree)
 }
 
-fn shown(alloc: Global, meaning: Meaning) -> Result<String, Fail> {
-    Ok(format!(in alloc; "{meaning:?}")?)
+/// What the first expression of a query means where no window call may stand.
+fn meaning(alloc: Global, query: &str) -> Result<String, Fail> {
+    let select = select(alloc, query)?;
+    let tree = first_expression(&select).ok_or("no expression")?;
+    let scope = scope(alloc)?;
+    let meaning = plainly(alloc, &scope, tree);
+    Ok(shown(alloc, meaning)?)
 }
 
-fn refused(cause: Cause) -> Option<ResolveError> {
-    Some(ResolveError::Refused(cause))
+const MEANINGS: &[(&str, &str)] = &[
+    ("SELECT g FROM t", "Typed(Column(1), Text)"),
+    ("SELECT u.id FROM t", "Typed(Column(2), Number)"),
+    ("SELECT id FROM t", "Refused(Ambiguous)"),
+    ("SELECT x FROM t", "Refused(UnknownColumn)"),
+    ("SELECT u.g FROM t", "Refused(UnknownColumn)"),
+    ("SELECT v.id FROM t", "Refused(UnknownColumn)"),
+    ("SELECT 9223372036854775808 FROM t", "Refused(Types)"),
+    (
+        "SELECT -9223372036854775808 FROM t",
+        "Typed(Literal(Int(-9223372036854775808), Number), Number)",
+    ),
+    ("SELECT rank() OVER () FROM t", "Refused(CallNotAllowed)"),
+    ("SELECT rank() FROM t", "Refused(WrongCall)"),
+];
+
+#[test]
+fn names_numbers_and_calls_where_no_call_may_stand(rt: HostRuntime) -> Result<(), Fail> {
+    for &(query, expected) in MEANINGS {
+        let meaning = meaning(rt.alloc(), query)?;
+        assert_case(&rt, query, meaning.as_str(), expected);
+    }
+    Ok(())
+}
+
+fn has_table(alloc: Global, word: &str) -> Result<bool, Fail> {
+    let name = Text::from_str(alloc, word)?;
+    Ok(scope(alloc)?.has_table(&name))
 }
 
 #[test]
-fn names_stand_for_one_column(rt: HostRuntime) -> Result<(), Fail> {
-    let alloc = rt.alloc();
-    let scope = scope(alloc)?;
-    let g = shown(alloc, plain(alloc, &scope, &column(alloc, "g")?)?)?;
-    assert_eq!(rt; g.as_str(), "Typed(Column(1), Text)");
-    let other = shown(alloc, plain(alloc, &scope, &qualified(alloc, "u", "id")?)?)?;
-    assert_eq!(rt; other.as_str(), "Typed(Column(2), Number)");
-    for (tree, cause) in [
-        (column(alloc, "id")?, Cause::Ambiguous),
-        (column(alloc, "x")?, Cause::UnknownColumn),
-        (qualified(alloc, "u", "g")?, Cause::UnknownColumn),
-        (qualified(alloc, "v", "id")?, Cause::UnknownColumn),
-    ] {
-        assert_eq!(rt; plain(alloc, &scope, &tree).err(), refused(cause));
-    }
-    assert!(rt; scope.has_table(&text(alloc, "u")?));
-    assert!(rt; !scope.has_table(&text(alloc, "v")?));
+fn tables_are_found_by_their_names(rt: HostRuntime) -> Result<(), Fail> {
+    assert!(rt; has_table(rt.alloc(), "u")?);
+    assert!(rt; !has_table(rt.alloc(), "v")?);
     Ok(())
 }
+
+fn truth(alloc: Global, scope: &Scope, tree: &Expr) -> Result<wd_plan::Expr, ResolveError> {
+    condition(alloc, scope, tree)
+}
+
+fn shown_condition(
+    alloc: Global,
+    condition: Result<wd_plan::Expr, ResolveError>,
+) -> Result<String, AllocError> {
+    match condition {
+        Ok(condition) => format!(in alloc; "{condition:?}"),
+        Err(error) => format!(in alloc; "{error:?}"),
+    }
+}
+
+/// What the first expression of a query means as a condition.
+fn as_condition(alloc: Global, query: &str) -> Result<String, Fail> {
+    let select = select(alloc, query)?;
+    let tree = first_expression(&select).ok_or("no expression")?;
+    let scope = scope(alloc)?;
+    let condition = truth(alloc, &scope, tree);
+    Ok(shown_condition(alloc, condition)?)
+}
+
+fn number_written(alloc: Global, query: &str) -> Result<Option<u64>, Fail> {
+    let select = select(alloc, query)?;
+    let tree = first_expression(&select).ok_or("no expression")?;
+    Ok(written_number(tree))
+}
+
+const CONDITIONS: &[(&str, &str, Option<u64>)] = &[
+    ("SELECT NULL FROM t", "Literal(Null, Truth)", None),
+    ("SELECT g FROM t", "Refused(Types)", None),
+    ("SELECT 7 FROM t", "Refused(Types)", Some(7)),
+];
 
 #[test]
 fn conditions_are_truth_values(rt: HostRuntime) -> Result<(), Fail> {
     let alloc = rt.alloc();
-    let scope = scope(alloc)?;
-    let null = condition(alloc, &scope, &Expr::Literal(Literal::Null))?;
-    let null = format!(in alloc; "{null:?}")?;
-    assert_eq!(rt; null.as_str(), "Literal(Null, Truth)");
-    let answer = condition(alloc, &scope, &column(alloc, "g")?);
-    assert_eq!(rt; answer.err(), refused(Cause::Types));
-    assert_eq!(rt; written_number(&Expr::Literal(Literal::Number(7))), Some(7));
-    assert_eq!(rt; written_number(&column(alloc, "g")?), None);
-    let greatest = Expr::Literal(Literal::Number(9223372036854775808));
-    assert_eq!(rt;
-        plain(alloc, &scope, &greatest).err(),
-        refused(Cause::Types)
-    );
-    let least = Expr::Signed(Sign::Minus, Box::new(alloc, greatest)?);
-    let least = shown(alloc, plain(alloc, &scope, &least)?)?;
-    assert_eq!(rt;
-        least.as_str(),
-        "Typed(Literal(Int(-9223372036854775808), Number), Number)"
-    );
+    for &(query, expected, number) in CONDITIONS {
+        let condition = as_condition(alloc, query)?;
+        assert_case(&rt, query, condition.as_str(), expected);
+        assert_case(&rt, query, number_written(alloc, query)?, number);
+    }
     Ok(())
 }
+
+fn in_list(
+    alloc: Global,
+    scope: &Scope,
+    tree: &Expr,
+    calls: &mut Calls,
+) -> Result<Meaning, ResolveError> {
+    let context = Context {
+        scope,
+        windows: &[],
+        calls_allowed: true,
+    };
+    resolved(alloc, &context, tree, calls)
+}
+
+/// What the first expression of a query means in a select list that has met these calls.
+fn listed(alloc: Global, query: &str, calls: &mut Calls) -> Result<String, Fail> {
+    let select = select(alloc, query)?;
+    let tree = first_expression(&select).ok_or("no expression")?;
+    let scope = scope(alloc)?;
+    let meaning = in_list(alloc, &scope, tree, calls);
+    Ok(shown(alloc, meaning)?)
+}
+
+const CALLS: &[(&str, &str, usize)] = &[
+    ("SELECT median() OVER () FROM t", "Refused(WrongCall)", 0),
+    (
+        "SELECT row_number() OVER () FROM t",
+        "Typed(Column(3), Number)",
+        1,
+    ),
+    (
+        "SELECT rank() OVER (ORDER BY t.g) FROM t",
+        "Typed(Column(4), Number)",
+        2,
+    ),
+    (
+        "SELECT row_number() OVER () FROM t",
+        "Typed(Column(3), Number)",
+        2,
+    ),
+    (
+        "SELECT rank() OVER () FROM t",
+        "Typed(Column(5), Number)",
+        3,
+    ),
+    (
+        "SELECT rank() OVER (ORDER BY t.g) FROM t",
+        "Typed(Column(4), Number)",
+        3,
+    ),
+];
 
 #[test]
 fn equal_calls_are_one_column(rt: HostRuntime) -> Result<(), Fail> {
-    let alloc = rt.alloc();
-    let scope = scope(alloc)?;
-    let context = Context {
-        scope: &scope,
-        windows: &[],
-        calls_allowed: true,
-    };
-    let mut calls = Calls::new(alloc);
-    for (function, key, expected) in [
-        ("row_number", None, "Typed(Column(3), Number)"),
-        ("rank", Some("g"), "Typed(Column(4), Number)"),
-        ("row_number", None, "Typed(Column(3), Number)"),
-        ("rank", None, "Typed(Column(5), Number)"),
-        ("rank", Some("g"), "Typed(Column(4), Number)"),
-    ] {
-        let tree = call(alloc, function, window(alloc, None, key, None)?)?;
-        let meaning = shown(alloc, resolved(alloc, &context, &tree, &mut calls)?)?;
-        assert_eq!(rt; meaning.as_str(), expected);
+    let mut calls = Calls::new(rt.alloc());
+    for &(query, expected, met) in CALLS {
+        let meaning = listed(rt.alloc(), query, &mut calls)?;
+        assert_case(&rt, query, meaning.as_str(), expected);
+        assert_case(&rt, query, calls.list.len(), met);
     }
-    assert_eq!(rt; calls.list.len(), 3);
+    Ok(())
+}
+
+/// What the windows of a query's WINDOW clause mean.
+fn defined(alloc: Global, query: &str) -> Result<Result<Vec<KnownWindow>, ResolveError>, Fail> {
+    let select = select(alloc, query)?;
+    let scope = scope(alloc)?;
+    Ok(all_defined(alloc, &scope, &select.windows))
+}
+
+fn refusal(alloc: Global, query: &str) -> Result<Option<ResolveError>, Fail> {
+    Ok(defined(alloc, query)?.err())
+}
+
+const REFUSED_WINDOWS: &[(&str, Cause)] = &[
+    (
+        "SELECT 1 FROM t WINDOW w AS (ORDER BY t.g), w AS ()",
+        Cause::UnknownWindow,
+    ),
+    (
+        "SELECT 1 FROM t WINDOW w AS (ORDER BY t.g), v AS (x)",
+        Cause::UnknownWindow,
+    ),
+    (
+        "SELECT 1 FROM t WINDOW w AS (ORDER BY t.g), v AS (w ORDER BY t.g)",
+        Cause::WindowCopy,
+    ),
+    (
+        "SELECT 1 FROM t WINDOW w AS (ORDER BY t.g), v AS (ROWS 1 FOLLOWING)",
+        Cause::FrameBounds,
+    ),
+    (
+        "SELECT 1 FROM t WINDOW w AS (ORDER BY t.g), v AS (w RANGE 1 PRECEDING)",
+        Cause::RangeOffset,
+    ),
+    (
+        "SELECT 1 FROM t WINDOW w AS (ORDER BY t.g), v AS (GROUPS 1 PRECEDING)",
+        Cause::GroupsWithoutOrder,
+    ),
+];
+
+#[test]
+fn windows_are_refused(rt: HostRuntime) -> Result<(), Fail> {
+    for &(query, cause) in REFUSED_WINDOWS {
+        let wanted = Some(ResolveError::Refused(cause));
+        assert_case(&rt, query, refusal(rt.alloc(), query)?, wanted);
+    }
     Ok(())
 }
 
 #[test]
-fn calls_stand_where_they_may(rt: HostRuntime) -> Result<(), Fail> {
-    let alloc = rt.alloc();
-    let scope = scope(alloc)?;
-    let tree = call(alloc, "rank", window(alloc, None, None, None)?)?;
-    assert_eq!(rt;
-        plain(alloc, &scope, &tree).err(),
-        refused(Cause::CallNotAllowed)
-    );
-    let bare = Expr::Call(name(alloc, "rank")?, Vec::new(alloc), None);
-    assert_eq!(rt;
-        plain(alloc, &scope, &bare).err(),
-        refused(Cause::WrongCall)
-    );
-    let context = Context {
-        scope: &scope,
-        windows: &[],
-        calls_allowed: true,
-    };
-    let mut calls = Calls::new(alloc);
-    let unknown = call(alloc, "median", window(alloc, None, None, None)?)?;
-    let answer = resolved(alloc, &context, &unknown, &mut calls);
-    assert_eq!(rt; answer.err(), refused(Cause::WrongCall));
-    assert_eq!(rt; calls.list.len(), 0);
-    Ok(())
-}
-
-fn named(alloc: Global, word: &str, window: Window) -> Result<NamedWindow, AllocError> {
-    Ok(NamedWindow {
-        name: name(alloc, word)?,
-        window,
-    })
-}
-
-/// What the windows mean of a WINDOW clause with w AS (ORDER BY t.g) and another.
-fn defined(
-    alloc: Global,
-    word: &str,
-    second: Window,
-) -> Result<Result<Vec<KnownWindow>, ResolveError>, Fail> {
-    let scope = scope(alloc)?;
-    let mut windows = Vec::new(alloc);
-    windows.push(named(alloc, "w", window(alloc, None, Some("g"), None)?)?)?;
-    windows.push(named(alloc, word, second)?)?;
-    Ok(all_defined(alloc, &scope, &windows))
-}
-
-fn offset_frame(mode: FrameMode) -> Option<Frame> {
-    Some(Frame {
-        mode,
-        extent: Extent::Start(Bound::Preceding(1)),
-        exclusion: None,
-    })
-}
-
-#[test]
-fn windows_copy_and_frame(rt: HostRuntime) -> Result<(), Fail> {
-    let alloc = rt.alloc();
-    let groups = window(alloc, Some("w"), None, offset_frame(FrameMode::Groups))?;
-    let windows = defined(alloc, "v", groups)??;
+fn a_copied_window_has_the_order_of_its_base(rt: HostRuntime) -> Result<(), Fail> {
+    let query = "SELECT 1 FROM t WINDOW w AS (ORDER BY t.g), v AS (w GROUPS 1 PRECEDING)";
+    let windows = defined(rt.alloc(), query)??;
     assert_eq!(rt; windows.len(), 2);
     assert!(rt; windows[1].window.framed);
     assert_eq!(rt; windows[1].window.order.len(), 1);
     let shared = windows[1].window.share()?;
     assert_eq!(rt; shared.order.len(), 1);
-    let start_behind_end = Some(Frame {
-        mode: FrameMode::Rows,
-        extent: Extent::Start(Bound::Following(1)),
-        exclusion: None,
-    });
-    for (word, base, key, frame, cause) in [
-        ("w", None, None, None, Cause::UnknownWindow),
-        ("v", Some("x"), None, None, Cause::UnknownWindow),
-        ("v", Some("w"), Some("g"), None, Cause::WindowCopy),
-        ("v", None, None, start_behind_end, Cause::FrameBounds),
-        (
-            "v",
-            Some("w"),
-            None,
-            offset_frame(FrameMode::Range),
-            Cause::RangeOffset,
-        ),
-        (
-            "v",
-            None,
-            None,
-            offset_frame(FrameMode::Groups),
-            Cause::GroupsWithoutOrder,
-        ),
-    ] {
-        let answer = defined(alloc, word, window(alloc, base, key, frame)?)?;
-        assert_eq!(rt; answer.err(), refused(cause));
-    }
     Ok(())
 }
 

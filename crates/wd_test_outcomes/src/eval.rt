@@ -1,19 +1,12 @@
+use crate::plans::{Query, plan};
+use Asked::{Run, Sorted, Under};
+use Wanted::Rows;
 use std::alloc::{AllocError, Global};
 use std::test::Fail;
 use wd_eval::{EvalError, check_choice, eval_with, first_choice, run_plan, tied_choice};
-use wd_plan::{
-    ArithmeticOp, Bound, Call, Choice, Class, ComparisonOp, Exclusion, Expr, Frame, FrameMode,
-    Function, OrderItem, Outcome, Plan, ValueKind,
-};
+use wd_plan::{Choice, Outcome, Plan};
 use wd_schema::{Schema, SchemaError, read_schema};
-use wd_value::{Fault, Instance, Row, SortKey, Text, Value, same};
-
-const BY_RANGE: Frame = Frame {
-    mode: FrameMode::Range,
-    start: Bound::UnboundedPreceding,
-    end: Bound::CurrentRow,
-    exclusion: Exclusion::NoOthers,
-};
+use wd_value::{Fault, Instance, Row, Text, Value, same};
 
 // The schema of the worked examples.
 fn schema(alloc: Global) -> Result<Schema, SchemaError> {
@@ -34,113 +27,41 @@ fn number(n: i64) -> Value {
     }
 }
 
-// That table with the values of id, g and v in each row; u is NULL.
-fn table(alloc: Global, rows: &[(i64, &str, i64)]) -> Result<Instance, AllocError> {
-    let mut made = Vec::new(alloc);
-    for (id, g, v) in rows {
-        let text = Value::Text(Text::from_str(alloc, g)?);
-        made.push(vec![in alloc; Value::Int(*id), text, number(*v), Value::Null]?)?;
+// The rows of that table, where u is NULL.
+#[derive(Clone, Copy)]
+enum Table {
+    // The values of id, g and v in each row.
+    Of(&'static [(i64, &'static str, i64)]),
+    // So many rows with an id of their own, 'a' and NULL.
+    Counted(i64),
+}
+
+fn row(alloc: Global, id: i64, g: &str, v: i64) -> Result<Row, AllocError> {
+    let text = Value::Text(Text::from_str(alloc, g)?);
+    let row = vec![in alloc; Value::Int(id), text, number(v), Value::Null]?;
+    Ok(row)
+}
+
+fn rows(alloc: Global, table: Table) -> Result<Vec<Row>, AllocError> {
+    let mut rows = Vec::new(alloc);
+    match table {
+        Table::Of(given) => {
+            for (id, g, v) in given {
+                rows.push(row(alloc, *id, g, *v)?)?;
+            }
+        }
+        Table::Counted(count) => {
+            for id in 0..count {
+                rows.push(row(alloc, id, "a", NULL)?)?;
+            }
+        }
     }
-    let instance = vec![in alloc; made]?;
+    Ok(rows)
+}
+
+fn instance(alloc: Global, table: Table) -> Result<Instance, AllocError> {
+    let instance = vec![in alloc; rows(alloc, table)?]?;
     Ok(instance)
-}
-
-// The rows of the worked examples.
-fn instance(alloc: Global) -> Result<Instance, AllocError> {
-    table(
-        alloc,
-        &[(1, "a", 10), (2, "b", 10), (3, "c", 20), (4, "d", NULL)],
-    )
-}
-
-fn scan() -> Plan {
-    Plan::Scan {
-        table: 0,
-        columns: 4,
-    }
-}
-
-fn map(alloc: Global, input: Plan, outputs: Vec<Expr>) -> Result<Plan, AllocError> {
-    Ok(Plan::Map {
-        input: Box::new(alloc, input)?,
-        outputs,
-    })
-}
-
-fn columns(alloc: Global, input: Plan, columns: &[u16]) -> Result<Plan, AllocError> {
-    let mut outputs = Vec::new(alloc);
-    for column in columns {
-        outputs.push(Expr::Column(*column))?;
-    }
-    map(alloc, input, outputs)
-}
-
-fn by(column: u16, desc: bool, nulls_first: bool) -> OrderItem {
-    OrderItem {
-        column,
-        key: SortKey { desc, nulls_first },
-    }
-}
-
-fn ascending(column: u16) -> OrderItem {
-    by(column, false, false)
-}
-
-// A frame that leaves nothing out.
-fn frame(mode: FrameMode, start: Bound, end: Bound) -> Frame {
-    Frame {
-        mode,
-        start,
-        end,
-        exclusion: Exclusion::NoOthers,
-    }
-}
-
-fn lag(offset: u64, default: Value) -> Function {
-    Function::Lag {
-        argument: 0,
-        offset,
-        default,
-    }
-}
-
-fn call(function: Function, frame: Frame) -> Call {
-    Call {
-        class: 0,
-        function,
-        frame,
-    }
-}
-
-// A Window of one class without partitions.
-fn window(alloc: Global, input: Plan, key: u16, calls: Vec<Call>) -> Result<Plan, AllocError> {
-    let class = Class {
-        partition: Vec::new(alloc),
-        order: vec![in alloc; ascending(key)]?,
-    };
-    Ok(Plan::Window {
-        input: Box::new(alloc, input)?,
-        classes: vec![in alloc; class]?,
-        calls,
-    })
-}
-
-// The columns of a Window over the whole table.
-fn over_table(
-    alloc: Global,
-    key: u16,
-    calls: Vec<Call>,
-    shown: &[u16],
-) -> Result<Plan, AllocError> {
-    let input = window(alloc, scan(), key, calls)?;
-    columns(alloc, input, shown)
-}
-
-// SELECT v, ROW_NUMBER() OVER (ORDER BY v) FROM t
-fn numbered(alloc: Global) -> Result<Plan, AllocError> {
-    let input = columns(alloc, scan(), &[2])?;
-    let calls = vec![in alloc; call(Function::RowNumber, BY_RANGE)]?;
-    columns(alloc, window(alloc, input, 0, calls)?, &[0, 1])
 }
 
 fn choice(alloc: Global, orderings: &[&[u64]]) -> Result<Choice, AllocError> {
@@ -151,6 +72,24 @@ fn choice(alloc: Global, orderings: &[&[u64]]) -> Result<Choice, AllocError> {
     Ok(Choice { orderings: given })
 }
 
+// What a plan is to give: these rows in this order, a fault or a refusal.
+#[derive(Clone, Copy)]
+enum Wanted {
+    Rows(&'static [&'static [i64]]),
+    Fault(Fault),
+    Refusal(EvalError),
+}
+
+const BY_ZERO: Wanted = Wanted::Fault(Fault::DivisionByZero);
+
+const OUT_OF_RANGE: Wanted = Wanted::Fault(Fault::OutOfRange);
+
+const WRONG_FIRST: Wanted = Wanted::Refusal(EvalError::NotValid(0));
+
+const WRONG_SECOND: Wanted = Wanted::Refusal(EvalError::NotValid(1));
+
+const TOO_MANY: Wanted = Wanted::Refusal(EvalError::TooManyRows);
+
 fn is_row(row: &[Value], expected: &[i64]) -> bool {
     row.len() == expected.len()
         && row
@@ -159,15 +98,51 @@ fn is_row(row: &[Value], expected: &[i64]) -> bool {
             .all(|(value, wanted)| same(value, &number(*wanted)))
 }
 
-fn are_rows(outcome: &Outcome, expected: &[&[i64]]) -> bool {
-    match outcome {
-        Outcome::Fault(_) => false,
-        Outcome::Rows(rows) => rows.len() == expected.len()
-            && rows
-                .iter()
-                .zip(expected)
-                .all(|(row, wanted)| is_row(row, wanted)),
+fn are_rows(rows: &[Row], expected: &[&[i64]]) -> bool {
+    rows.len() == expected.len()
+        && rows
+            .iter()
+            .zip(expected)
+            .all(|(row, wanted)| is_row(row, wanted))
+}
+
+fn is_wanted(given: &Result<Outcome, EvalError>, wanted: Wanted) -> bool {
+    match (given, wanted) {
+        (Ok(Outcome::Rows(rows)), Wanted::Rows(expected)) => are_rows(rows, expected),
+        (Ok(Outcome::Fault(fault)), Wanted::Fault(expected)) => *fault == expected,
+        (Err(error), Wanted::Refusal(expected)) => *error == expected,
+        _ => false,
     }
+}
+
+// The refusal that is wanted, if any.
+fn refusal(wanted: Wanted) -> Option<EvalError> {
+    match wanted {
+        Wanted::Refusal(error) => Some(error),
+        _ => None,
+    }
+}
+
+// Whether the plan fits and gives that under the choice, both calls agreeing on a refusal.
+fn gives(
+    alloc: Global,
+    plan: &Plan,
+    schema: &Schema,
+    instance: &Instance,
+    choice: &Choice,
+    wanted: Wanted,
+) -> bool {
+    if !plan.fits(schema) {
+        return false;
+    }
+    let refused = check_choice(alloc, plan, schema, instance, choice).err();
+    refused == refusal(wanted)
+        && is_wanted(&eval_with(alloc, plan, schema, instance, choice), wanted)
+}
+
+// Whether the plan fits and a run of it gives that.
+fn runs(alloc: Global, plan: &Plan, schema: &Schema, instance: &Instance, wanted: Wanted) -> bool {
+    plan.fits(schema) && is_wanted(&run_plan(alloc, plan, schema, instance), wanted)
 }
 
 fn are_orderings(choice: &Choice, expected: &[&[u64]]) -> bool {
@@ -179,608 +154,387 @@ fn are_orderings(choice: &Choice, expected: &[&[u64]]) -> bool {
             .all(|(ordering, wanted)| ordering.as_slice() == *wanted)
 }
 
-// The outcome under the choice of the orderings, where it is valid.
-fn outcome(
+// Whether the plan fits and these are its sorted orderings, of which one may be flipped.
+fn sorts(
     alloc: Global,
     plan: &Plan,
-    instance: &Instance,
-    orderings: &[&[u64]],
-) -> Option<Outcome> {
-    let schema = schema(alloc).ok()?;
-    let choice = choice(alloc, orderings).ok()?;
-    if !plan.fits(&schema) {
-        return None;
-    }
-    check_choice(alloc, plan, &schema, instance, &choice).ok()?;
-    eval_with(alloc, plan, &schema, instance, &choice).ok()
-}
-
-// Whether the choice of the orderings is valid and gives these rows, in this order.
-fn gives(
-    alloc: Global,
-    plan: &Plan,
-    instance: &Instance,
-    orderings: &[&[u64]],
-    expected: &[&[i64]],
-) -> bool {
-    match outcome(alloc, plan, instance, orderings) {
-        Some(outcome) => are_rows(&outcome, expected),
-        None => false,
-    }
-}
-
-// The judgement of a choice, in which both calls agree; none where the plan does not fit.
-fn judged(
-    alloc: Global,
-    plan: &Plan,
-    instance: &Instance,
-    orderings: &[&[u64]],
-) -> Option<Result<(), EvalError>> {
-    let schema = schema(alloc).ok()?;
-    let choice = choice(alloc, orderings).ok()?;
-    if !plan.fits(&schema) {
-        return None;
-    }
-    let judged = check_choice(alloc, plan, &schema, instance, &choice);
-    let refused = eval_with(alloc, plan, &schema, instance, &choice).err();
-    if judged.err() != refused {
-        return None;
-    }
-    Some(judged)
-}
-
-// The sorted choice.
-fn tied(alloc: Global, plan: &Plan, instance: &Instance, flipped: Option<u32>) -> Option<Choice> {
-    let schema = schema(alloc).ok()?;
-    if !plan.fits(&schema) {
-        return None;
-    }
-    match flipped {
-        None => first_choice(alloc, plan, &schema, instance).ok(),
-        Some(_) => tied_choice(alloc, plan, &schema, instance, flipped).ok(),
-    }
-}
-
-// Whether these are the sorted orderings.
-fn is_tied(
-    alloc: Global,
-    plan: &Plan,
+    schema: &Schema,
     instance: &Instance,
     flipped: Option<u32>,
     expected: &[&[u64]],
 ) -> bool {
-    match tied(alloc, plan, instance, flipped) {
-        Some(choice) => are_orderings(&choice, expected),
-        None => false,
+    if !plan.fits(schema) {
+        return false;
+    }
+    let sorted = match flipped {
+        None => first_choice(alloc, plan, schema, instance),
+        Some(_) => tied_choice(alloc, plan, schema, instance, flipped),
+    };
+    match &sorted {
+        Ok(choice) => are_orderings(choice, expected),
+        Err(_) => false,
     }
 }
 
-// What a run gives, or none where the plan does not fit.
-fn run(alloc: Global, plan: &Plan, instance: &Instance) -> Option<Result<Outcome, EvalError>> {
-    let schema = schema(alloc).ok()?;
-    if !plan.fits(&schema) {
-        return None;
-    }
-    Some(run_plan(alloc, plan, &schema, instance))
+// What is asked of a query, and the answer.
+#[derive(Clone, Copy)]
+enum Asked {
+    // What it gives under the choice of the orderings.
+    Under(&'static [&'static [u64]], Wanted),
+    // What a run gives.
+    Run(Wanted),
+    // The sorted orderings, of which the one of that number is flipped.
+    Sorted(Option<u32>, &'static [&'static [u64]]),
 }
 
-#[test]
-fn numbers_rows_by_the_choice(rt: HostRuntime) -> Result<(), Fail> {
-    let alloc = rt.alloc();
-    let plan = numbered(alloc)?;
-    let table = instance(alloc)?;
-    let kept: [&[i64]; 4] = [&[10, 1], &[10, 2], &[20, 3], &[NULL, 4]];
-    let turned: [&[i64]; 4] = [&[10, 2], &[10, 1], &[20, 3], &[NULL, 4]];
-    assert!(rt; gives(alloc, &plan, &table, &[&[0, 1, 2, 3]], &kept));
-    assert!(rt; gives(alloc, &plan, &table, &[&[1, 0, 2, 3]], &turned));
-    Ok(())
-}
+type Case = (Query, Table, Asked);
 
-#[test]
-fn refuses_choices_that_are_not_valid(rt: HostRuntime) -> Result<(), Fail> {
-    let alloc = rt.alloc();
-    let plan = numbered(alloc)?;
-    let table = instance(alloc)?;
-    let unsorted: [&[u64]; 1] = [&[2, 0, 1, 3]];
-    let short: [&[u64]; 1] = [&[0, 1, 2]];
-    let twice: [&[u64]; 1] = [&[0, 1, 1, 3]];
-    let left_over: [&[u64]; 2] = [&[0, 1, 2, 3], &[]];
-    let left_over_too: [&[u64]; 2] = [&[3, 0, 1, 2], &[]];
-    let cases: [(&[&[u64]], u64); 6] = [
-        (&unsorted, 0),
-        (&short, 0),
-        (&twice, 0),
-        (&[], 0),
-        (&left_over, 1),
-        (&left_over_too, 0),
-    ];
-    for (orderings, place) in cases {
-        let judged = judged(alloc, &plan, &table, orderings);
-        assert_eq!(rt; judged, Some(Err(EvalError::NotValid(place))));
-    }
-    Ok(())
-}
-
-#[test]
-fn numbers_its_refusals(rt: HostRuntime) {
-    assert_eq!(rt; EvalError::NotValid(1).number(), Some(801));
-    assert_eq!(rt; EvalError::NotValid(1).place(), Some(1));
-    assert_eq!(rt; EvalError::TooManyRows.number(), Some(802));
-    assert_eq!(rt; EvalError::TooManyRows.place(), None);
-    assert_eq!(rt; EvalError::OutOfMemory.number(), None);
-}
-
-// SELECT id, RANK() OVER w, DENSE_RANK() OVER w, COUNT(*) OVER (w RANGE BETWEEN 5 PRECEDING AND
-// 10 FOLLOWING), LAG(id, 2, -1) OVER w FROM t WINDOW w AS (ORDER BY v)
-#[test]
-fn ranks_counts_and_looks_back(rt: HostRuntime) -> Result<(), Fail> {
-    let alloc = rt.alloc();
-    let near = frame(FrameMode::Range, Bound::Preceding(5), Bound::Following(10));
-    let calls = vec![in alloc;
-        call(Function::Rank, BY_RANGE),
-        call(Function::DenseRank, BY_RANGE),
-        call(Function::CountRows, near),
-        call(lag(2, Value::Int(-1)), BY_RANGE),
-    ]?;
-    let plan = over_table(alloc, 2, calls, &[0, 4, 5, 6, 7])?;
-    let expected: [&[i64]; 4] = [
-        &[1, 1, 1, 3, -1],
-        &[2, 1, 1, 3, -1],
-        &[3, 3, 2, 1, 1],
-        &[4, 4, 3, 1, 2],
-    ];
-    assert!(rt; gives(alloc, &plan, &instance(alloc)?, &[&[0, 1, 2, 3]], &expected));
-    Ok(())
-}
-
-// SELECT id, SUM(v) OVER (ORDER BY v GROUPS BETWEEN 1 PRECEDING AND CURRENT ROW EXCLUDE TIES),
-// LAST_VALUE(id) OVER (ORDER BY v) FROM t
-#[test]
-fn leaves_out_ties_and_ends_at_the_last_peer(rt: HostRuntime) -> Result<(), Fail> {
-    let alloc = rt.alloc();
-    let groups = Frame {
-        mode: FrameMode::Groups,
-        start: Bound::Preceding(1),
-        end: Bound::CurrentRow,
-        exclusion: Exclusion::Ties,
-    };
-    let calls = vec![in alloc;
-        call(Function::Sum(2), groups),
-        call(Function::LastValue(0), BY_RANGE),
-    ]?;
-    let plan = over_table(alloc, 2, calls, &[0, 4, 5])?;
-    let expected: [&[i64]; 4] = [&[1, 10, 2], &[2, 10, 2], &[3, 40, 3], &[4, 20, 4]];
-    assert!(rt; gives(alloc, &plan, &instance(alloc)?, &[&[0, 1, 2, 3]], &expected));
-    Ok(())
-}
-
-// SELECT COUNT(*) OVER (ORDER BY v RANGE 1 PRECEDING) FROM t
-fn just_below(alloc: Global) -> Result<Plan, AllocError> {
-    let below = frame(FrameMode::Range, Bound::Preceding(1), Bound::CurrentRow);
-    let calls = vec![in alloc; call(Function::CountRows, below)]?;
-    over_table(alloc, 2, calls, &[4])
-}
-
-// SELECT SUM(v) OVER w, COUNT(v) OVER w FROM t WINDOW w AS (ORDER BY id ROWS BETWEEN 7 PRECEDING
-// AND 8 PRECEDING)
-fn of_nothing(alloc: Global) -> Result<Plan, AllocError> {
-    let nothing = frame(FrameMode::Rows, Bound::Preceding(7), Bound::Preceding(8));
-    let calls = vec![in alloc;
-        call(Function::Sum(2), nothing),
-        call(Function::Count(2), nothing),
-    ]?;
-    over_table(alloc, 0, calls, &[4, 5])
-}
-
-// Key differences in RANGE are over unbounded whole numbers; a frame whose end lies before its
-// start has no row.
-#[test]
-fn frames_at_their_bounds(rt: HostRuntime) -> Result<(), Fail> {
-    let alloc = rt.alloc();
-    let least = table(alloc, &[(1, "a", i64::MIN)])?;
-    assert!(rt; gives(alloc, &just_below(alloc)?, &least, &[&[0]], &[&[1]]));
-    let five = table(alloc, &[(1, "a", 5)])?;
-    assert!(rt; gives(alloc, &of_nothing(alloc)?, &five, &[&[0]], &[&[NULL, 0]]));
-    Ok(())
-}
-
-// The functions that see the order, ROW_NUMBER, NTILE(3), LAG(id, 1) and LEAD(id, 1, -1), go by the
-// ordering alone, where two rows tie and one has no key.
-#[test]
-fn places_go_by_the_ordering(rt: HostRuntime) -> Result<(), Fail> {
-    let alloc = rt.alloc();
-    let lead = Function::Lead {
-        argument: 0,
-        offset: 1,
-        default: Value::Int(-1),
-    };
-    let calls = vec![in alloc;
-        call(Function::RowNumber, BY_RANGE),
-        call(Function::Ntile(3), BY_RANGE),
-        call(lag(1, Value::Null), BY_RANGE),
-        call(lead, BY_RANGE),
-    ]?;
-    let plan = over_table(alloc, 2, calls, &[4, 5, 6, 7])?;
-    let last: [i64; 4] = [4, 3, 3, -1];
-    let kept: [&[i64]; 4] = [&[1, 1, NULL, 2], &[2, 1, 1, 3], &[3, 2, 2, 4], &last];
-    let turned: [&[i64]; 4] = [&[2, 1, 2, 3], &[1, 1, NULL, 1], &[3, 2, 1, 4], &last];
-    let table = instance(alloc)?;
-    assert!(rt; gives(alloc, &plan, &table, &[&[0, 1, 2, 3]], &kept));
-    assert!(rt; gives(alloc, &plan, &table, &[&[1, 0, 2, 3]], &turned));
-    Ok(())
-}
-
-// The functions of a frame over the default frame, which ends at the last peer.
-#[test]
-fn reads_its_frame(rt: HostRuntime) -> Result<(), Fail> {
-    let alloc = rt.alloc();
-    let calls = vec![in alloc;
-        call(Function::FirstValue(0), BY_RANGE),
-        call(Function::LastValue(0), BY_RANGE),
-        call(Function::NthValue(0, 3), BY_RANGE),
-        call(Function::CountRows, BY_RANGE),
-        call(Function::Count(2), BY_RANGE),
-        call(Function::Sum(2), BY_RANGE),
-        call(Function::Min(2), BY_RANGE),
-        call(Function::Max(2), BY_RANGE),
-    ]?;
-    let plan = over_table(alloc, 2, calls, &[4, 5, 6, 7, 8, 9, 10, 11])?;
-    let tied = [1, 2, NULL, 2, 2, 20, 10, 10];
-    let third = [1, 3, 3, 3, 3, 40, 10, 20];
-    let last = [1, 4, 3, 4, 3, 40, 10, 20];
-    let expected: [&[i64]; 4] = [&tied, &tied, &third, &last];
-    assert!(rt; gives(alloc, &plan, &instance(alloc)?, &[&[0, 1, 2, 3]], &expected));
-    Ok(())
-}
-
-// SELECT ROW_NUMBER() OVER (PARTITION BY g ORDER BY v DESC NULLS FIRST),
-// ROW_NUMBER() OVER (ORDER BY id DESC) FROM t
-fn two_classes(alloc: Global) -> Result<Plan, AllocError> {
-    let in_parts = Class {
-        partition: vec![in alloc; 1]?,
-        order: vec![in alloc; by(2, true, true)]?,
-    };
-    let backwards = Class {
-        partition: Vec::new(alloc),
-        order: vec![in alloc; by(0, true, true)]?,
-    };
-    let first = call(Function::RowNumber, BY_RANGE);
-    let second = Call {
-        class: 1,
-        function: Function::RowNumber,
-        frame: BY_RANGE,
-    };
-    let both = Plan::Window {
-        input: Box::new(alloc, scan())?,
-        classes: vec![in alloc; in_parts, backwards]?,
-        calls: vec![in alloc; first, second]?,
-    };
-    columns(alloc, both, &[4, 5])
-}
-
-// The rows of a partition need not stand together in an ordering.
-#[test]
-fn judges_the_orderings_of_each_class(rt: HostRuntime) -> Result<(), Fail> {
-    let alloc = rt.alloc();
-    let plan = two_classes(alloc)?;
-    let table = table(
-        alloc,
-        &[(1, "a", 10), (2, "b", 10), (3, "a", 20), (4, "b", NULL)],
-    )?;
-    let expected: [&[i64]; 4] = [&[2, 4], &[2, 3], &[1, 2], &[1, 1]];
-    let sorted: [&[u64]; 2] = [&[2, 0, 3, 1], &[3, 2, 1, 0]];
-    let mixed: [&[u64]; 2] = [&[3, 2, 0, 1], &[3, 2, 1, 0]];
-    for orderings in [sorted, mixed] {
-        assert!(rt; gives(alloc, &plan, &table, &orderings, &expected));
-    }
-    assert!(rt; is_tied(alloc, &plan, &table, None, &sorted));
-    let second_wrong: [&[u64]; 2] = [&[2, 0, 3, 1], &[0, 1, 2, 3]];
-    let both_wrong: [&[u64]; 2] = [&[0, 2, 3, 1], &[0, 1, 2, 3]];
-    for (orderings, place) in [(second_wrong, 1), (both_wrong, 0)] {
-        let judged = judged(alloc, &plan, &table, &orderings);
-        assert_eq!(rt; judged, Some(Err(EvalError::NotValid(place))));
-    }
-    Ok(())
-}
-
-fn limit(
+fn is_answer(
     alloc: Global,
-    input: Plan,
-    key: OrderItem,
-    offset: u64,
-    count: Option<u64>,
-    ties: bool,
-) -> Result<Plan, AllocError> {
-    Ok(Plan::Limit {
-        input: Box::new(alloc, input)?,
-        keys: vec![in alloc; key]?,
-        offset,
-        count,
-        ties,
+    plan: &Plan,
+    schema: &Schema,
+    instance: &Instance,
+    asked: Asked,
+) -> Result<bool, AllocError> {
+    Ok(match asked {
+        Under(orderings, wanted) => {
+            let choice = choice(alloc, orderings)?;
+            gives(alloc, plan, schema, instance, &choice, wanted)
+        }
+        Run(wanted) => runs(alloc, plan, schema, instance, wanted),
+        Sorted(flipped, expected) => sorts(alloc, plan, schema, instance, flipped, expected),
     })
 }
 
-// SELECT v, id FROM t ORDER BY v and what is left out and taken
-fn first_values(
-    alloc: Global,
-    offset: u64,
-    count: Option<u64>,
-    ties: bool,
-) -> Result<Plan, AllocError> {
-    let input = columns(alloc, scan(), &[2, 0])?;
-    limit(alloc, input, ascending(0), offset, count, ties)
+fn holds(alloc: Global, (query, table, asked): Case) -> Result<bool, Fail> {
+    let schema = schema(alloc)?;
+    let plan = plan(alloc, query)?;
+    let instance = instance(alloc, table)?;
+    Ok(is_answer(alloc, &plan, &schema, &instance, asked)?)
 }
+
+// The number of the first case that does not hold.
+fn first_wrong(alloc: Global, cases: &[Case]) -> Result<Option<usize>, Fail> {
+    for (number, case) in cases.iter().enumerate() {
+        if !holds(alloc, *case)? {
+            return Ok(Some(number));
+        }
+    }
+    Ok(None)
+}
+
+// The table of the worked examples: two rows tie, and one has no value.
+const TABLE: Table = Table::Of(&[(1, "a", 10), (2, "b", 10), (3, "c", 20), (4, "d", NULL)]);
+
+// The orderings of its rows by v.
+const KEPT: &[u64] = &[0, 1, 2, 3];
+
+const TURNED: &[u64] = &[1, 0, 2, 3];
+
+// An ordering that is not by v.
+const UNSORTED: &[u64] = &[2, 0, 1, 3];
+
+// A table in which the rows of a group don't stand together.
+const GROUPS: Table = Table::Of(&[(1, "a", 10), (2, "b", 10), (3, "a", 20), (4, "b", NULL)]);
+
+// Orderings of its rows for the two classes: the rows of a partition need not stand together.
+const BY_GROUP: &[u64] = &[2, 0, 3, 1];
+
+const BACKWARDS: &[u64] = &[3, 2, 1, 0];
+
+// A table in which a divisor is 0.
+const ZERO: Table = Table::Of(&[(1, "a", 0)]);
+
+// The total of v is the largest number, and a running one is out of range.
+const LARGE: Table = Table::Of(&[(1, "a", i64::MAX), (2, "a", 1), (3, "a", -1)]);
+
+const MANY: Table = Table::Counted(3200);
+
+static WINDOWS: [Case; 9] = [
+    (
+        Query::Numbered,
+        TABLE,
+        Under(&[KEPT], Rows(&[&[10, 1], &[10, 2], &[20, 3], &[NULL, 4]])),
+    ),
+    (
+        Query::Numbered,
+        TABLE,
+        Under(&[TURNED], Rows(&[&[10, 2], &[10, 1], &[20, 3], &[NULL, 4]])),
+    ),
+    (
+        Query::Ranks,
+        TABLE,
+        Under(
+            &[KEPT],
+            Rows(&[
+                &[1, 1, 1, 3, -1],
+                &[2, 1, 1, 3, -1],
+                &[3, 3, 2, 1, 1],
+                &[4, 4, 3, 1, 2],
+            ]),
+        ),
+    ),
+    // Leaves out ties and ends at the last peer.
+    (
+        Query::WithoutTies,
+        TABLE,
+        Under(
+            &[KEPT],
+            Rows(&[&[1, 10, 2], &[2, 10, 2], &[3, 40, 3], &[4, 20, 4]]),
+        ),
+    ),
+    // Key differences in RANGE are over unbounded whole numbers.
+    (
+        Query::JustBelow,
+        Table::Of(&[(1, "a", i64::MIN)]),
+        Under(&[&[0]], Rows(&[&[1]])),
+    ),
+    // A frame whose end lies before its start has no row.
+    (
+        Query::OfNothing,
+        Table::Of(&[(1, "a", 5)]),
+        Under(&[&[0]], Rows(&[&[NULL, 0]])),
+    ),
+    // The functions that see the order go by the ordering alone.
+    (
+        Query::Places,
+        TABLE,
+        Under(
+            &[KEPT],
+            Rows(&[
+                &[1, 1, NULL, 2],
+                &[2, 1, 1, 3],
+                &[3, 2, 2, 4],
+                &[4, 3, 3, -1],
+            ]),
+        ),
+    ),
+    (
+        Query::Places,
+        TABLE,
+        Under(
+            &[TURNED],
+            Rows(&[
+                &[2, 1, 2, 3],
+                &[1, 1, NULL, 1],
+                &[3, 2, 1, 4],
+                &[4, 3, 3, -1],
+            ]),
+        ),
+    ),
+    // The default frame ends at the last peer.
+    (
+        Query::OfFrame,
+        TABLE,
+        Under(
+            &[KEPT],
+            Rows(&[
+                &[1, 2, NULL, 2, 2, 20, 10, 10],
+                &[1, 2, NULL, 2, 2, 20, 10, 10],
+                &[1, 3, 3, 3, 3, 40, 10, 20],
+                &[1, 4, 3, 4, 3, 40, 10, 20],
+            ]),
+        ),
+    ),
+];
+
+#[test]
+fn evaluates_windows(rt: HostRuntime) -> Result<(), Fail> {
+    assert_eq!(rt; first_wrong(rt.alloc(), &WINDOWS)?, None);
+    Ok(())
+}
+
+const NUMBERED_TWICE: Wanted = Rows(&[&[2, 4], &[2, 3], &[1, 2], &[1, 1]]);
+
+static REFUSALS: [Case; 13] = [
+    (Query::Numbered, TABLE, Under(&[UNSORTED], WRONG_FIRST)),
+    (Query::Numbered, TABLE, Under(&[&[0, 1, 2]], WRONG_FIRST)),
+    (Query::Numbered, TABLE, Under(&[&[0, 1, 1, 3]], WRONG_FIRST)),
+    (Query::Numbered, TABLE, Under(&[], WRONG_FIRST)),
+    (Query::Numbered, TABLE, Under(&[KEPT, &[]], WRONG_SECOND)),
+    (
+        Query::Numbered,
+        TABLE,
+        Under(&[&[3, 0, 1, 2], &[]], WRONG_FIRST),
+    ),
+    // Each class has an ordering, in which the rows of a partition need not stand together.
+    (
+        Query::TwoClasses,
+        GROUPS,
+        Under(&[BY_GROUP, BACKWARDS], NUMBERED_TWICE),
+    ),
+    (
+        Query::TwoClasses,
+        GROUPS,
+        Under(&[&[3, 2, 0, 1], BACKWARDS], NUMBERED_TWICE),
+    ),
+    (
+        Query::TwoClasses,
+        GROUPS,
+        Under(&[BY_GROUP, KEPT], WRONG_SECOND),
+    ),
+    (
+        Query::TwoClasses,
+        GROUPS,
+        Under(&[&[0, 2, 3, 1], KEPT], WRONG_FIRST),
+    ),
+    // The orderings over a fault are empty.
+    (Query::OverAFault, ZERO, Under(&[&[], &[]], BY_ZERO)),
+    (Query::OverAFault, ZERO, Under(&[&[], &[0]], WRONG_SECOND)),
+    (Query::OverAFault, ZERO, Under(&[&[0], &[]], WRONG_FIRST)),
+];
+
+#[test]
+fn refuses_choices_that_are_not_valid(rt: HostRuntime) -> Result<(), Fail> {
+    assert_eq!(rt; first_wrong(rt.alloc(), &REFUSALS)?, None);
+    Ok(())
+}
+
+static LIMITS: [Case; 8] = [
+    (
+        Query::FirstValues(0, Some(1), true),
+        TABLE,
+        Under(&[TURNED], Rows(&[&[10, 2], &[10, 1]])),
+    ),
+    (
+        Query::FirstValues(1, Some(2), false),
+        TABLE,
+        Under(&[TURNED], Rows(&[&[10, 1], &[20, 3]])),
+    ),
+    (
+        Query::FirstValues(3, None, false),
+        TABLE,
+        Under(&[TURNED], Rows(&[&[NULL, 4]])),
+    ),
+    (
+        Query::FirstValues(0, Some(0), true),
+        TABLE,
+        Under(&[TURNED], Rows(&[])),
+    ),
+    (
+        Query::FirstValues(0, Some(1), false),
+        TABLE,
+        Under(&[], WRONG_FIRST),
+    ),
+    (
+        Query::FirstValues(0, Some(1), false),
+        TABLE,
+        Under(&[UNSORTED], WRONG_FIRST),
+    ),
+    (Query::LastIds(2, true), TABLE, Run(Rows(&[&[1], &[2]]))),
+    (Query::LastIds(1, false), TABLE, Run(Rows(&[&[3]]))),
+];
 
 #[test]
 fn cuts_by_its_ordering(rt: HostRuntime) -> Result<(), Fail> {
-    let alloc = rt.alloc();
-    let table = instance(alloc)?;
-    let with_ties: [&[i64]; 2] = [&[10, 2], &[10, 1]];
-    let behind_one: [&[i64]; 2] = [&[10, 1], &[20, 3]];
-    let behind_three: [&[i64]; 1] = [&[NULL, 4]];
-    let cases: [(u64, Option<u64>, bool, &[&[i64]]); 4] = [
-        (0, Some(1), true, &with_ties),
-        (1, Some(2), false, &behind_one),
-        (3, None, false, &behind_three),
-        (0, Some(0), true, &[]),
-    ];
-    for (offset, count, ties, expected) in cases {
-        let plan = first_values(alloc, offset, count, ties)?;
-        assert!(rt;
-            gives(alloc, &plan, &table, &[&[1, 0, 2, 3]], expected),
-            "behind {offset}"
-        );
-    }
-    let plan = first_values(alloc, 0, Some(1), false)?;
-    let wrong = Some(Err(EvalError::NotValid(0)));
-    assert_eq!(rt; judged(alloc, &plan, &table, &[]), wrong);
-    assert_eq!(rt; judged(alloc, &plan, &table, &[&[2, 0, 1, 3]]), wrong);
-    Ok(())
-}
-
-// SELECT id FROM t ORDER BY v DESC and what is left out and taken
-fn last_ids(alloc: Global, offset: u64, ties: bool) -> Result<Plan, AllocError> {
-    let input = columns(alloc, scan(), &[0, 2])?;
-    let cut = limit(alloc, input, by(1, true, true), offset, Some(1), ties)?;
-    columns(alloc, cut, &[0])
-}
-
-// Whether a run gives these rows.
-fn runs(alloc: Global, plan: &Plan, instance: &Instance, expected: &[&[i64]]) -> bool {
-    match run(alloc, plan, instance) {
-        Some(Ok(outcome)) => are_rows(&outcome, expected),
-        _ => false,
-    }
-}
-
-// The fault in which a run ends.
-fn fault_of(alloc: Global, plan: &Plan, instance: &Instance) -> Option<Fault> {
-    match run(alloc, plan, instance) {
-        Some(Ok(Outcome::Fault(fault))) => Some(fault),
-        _ => None,
-    }
-}
-
-// .. OFFSET 2 FETCH NEXT 1 ROWS WITH TIES, and .. LIMIT 1 OFFSET 1
-#[test]
-fn runs_a_sorted_query(rt: HostRuntime) -> Result<(), Fail> {
-    let alloc = rt.alloc();
-    let table = instance(alloc)?;
-    assert!(rt; runs(alloc, &last_ids(alloc, 2, true)?, &table, &[&[1], &[2]]));
-    assert!(rt; runs(alloc, &last_ids(alloc, 1, false)?, &table, &[&[3]]));
-    Ok(())
-}
-
-// The table with this many rows.
-fn numbered_rows(alloc: Global, count: i64) -> Result<Instance, AllocError> {
-    let mut rows = Vec::new(alloc);
-    for id in 0..count {
-        rows.push((id, "a", NULL))?;
-    }
-    table(alloc, &rows)
-}
-
-// SELECT NTILE(4) OVER (ORDER BY id) FROM t over six rows, and over none
-#[test]
-fn fills_buckets(rt: HostRuntime) -> Result<(), Fail> {
-    let alloc = rt.alloc();
-    let calls = vec![in alloc; call(Function::Ntile(4), BY_RANGE)]?;
-    let plan = over_table(alloc, 0, calls, &[4])?;
-    let expected: [&[i64]; 6] = [&[1], &[1], &[2], &[2], &[3], &[4]];
-    assert!(rt; runs(alloc, &plan, &numbered_rows(alloc, 6)?, &expected));
-    assert!(rt; runs(alloc, &plan, &numbered_rows(alloc, 0)?, &[]));
+    assert_eq!(rt; first_wrong(rt.alloc(), &LIMITS)?, None);
     Ok(())
 }
 
 // Which ordering is flipped counts through the whole plan.
+static SORTED: [Case; 11] = [
+    (Query::Numbered, TABLE, Sorted(None, &[KEPT])),
+    (Query::Numbered, TABLE, Sorted(Some(0), &[TURNED])),
+    (Query::Numbered, TABLE, Sorted(Some(1), &[KEPT])),
+    (Query::NumberedFirst, TABLE, Sorted(None, &[KEPT, KEPT])),
+    (
+        Query::NumberedFirst,
+        TABLE,
+        Sorted(Some(0), &[TURNED, KEPT]),
+    ),
+    (
+        Query::NumberedFirst,
+        TABLE,
+        Sorted(Some(1), &[KEPT, TURNED]),
+    ),
+    (Query::NumberedFirst, TABLE, Sorted(Some(2), &[KEPT, KEPT])),
+    (Query::NumberedFirst, TABLE, Run(Rows(&[&[10, 1]]))),
+    (
+        Query::NumberedPairs,
+        TABLE,
+        Sorted(Some(1), &[KEPT, TURNED]),
+    ),
+    (
+        Query::TwoClasses,
+        GROUPS,
+        Sorted(None, &[BY_GROUP, BACKWARDS]),
+    ),
+    (Query::OverAFault, ZERO, Sorted(None, &[&[], &[]])),
+];
+
 #[test]
-fn flips_one_ordering(rt: HostRuntime) -> Result<(), Fail> {
-    let alloc = rt.alloc();
-    let table = instance(alloc)?;
-    let plan = numbered(alloc)?;
-    let kept: &[u64] = &[0, 1, 2, 3];
-    let turned: &[u64] = &[1, 0, 2, 3];
-    for (flipped, ordering) in [(None, kept), (Some(0), turned), (Some(1), kept)] {
-        assert!(rt;
-            is_tied(alloc, &plan, &table, flipped, &[ordering]),
-            "{flipped:?}"
-        );
-    }
-    let two = limit(alloc, numbered(alloc)?, ascending(0), 0, Some(1), false)?;
-    let cases = [
-        (None, [kept, kept]),
-        (Some(0), [turned, kept]),
-        (Some(1), [kept, turned]),
-        (Some(2), [kept, kept]),
-    ];
-    for (flipped, orderings) in cases {
-        assert!(rt;
-            is_tied(alloc, &two, &table, flipped, &orderings),
-            "{flipped:?}"
-        );
-    }
-    assert!(rt; runs(alloc, &two, &table, &[&[10, 1]]));
+fn sorts_and_flips_one_ordering(rt: HostRuntime) -> Result<(), Fail> {
+    assert_eq!(rt; first_wrong(rt.alloc(), &SORTED)?, None);
     Ok(())
 }
 
-fn join(
-    alloc: Global,
-    left: Plan,
-    right: Plan,
-    condition: Option<Expr>,
-) -> Result<Plan, AllocError> {
-    Ok(Plan::Join {
-        left: Box::new(alloc, left)?,
-        right: Box::new(alloc, right)?,
-        condition,
-    })
-}
+static RUNS: [Case; 10] = [
+    (
+        Query::Buckets,
+        Table::Counted(6),
+        Run(Rows(&[&[1], &[1], &[2], &[2], &[3], &[4]])),
+    ),
+    (Query::Buckets, Table::Counted(0), Run(Rows(&[]))),
+    (
+        Query::WholeTotal,
+        LARGE,
+        Run(Rows(&[&[i64::MAX], &[i64::MAX], &[i64::MAX]])),
+    ),
+    (Query::RunningTotal, LARGE, Run(OUT_OF_RANGE)),
+    // The least fault, whichever row comes first.
+    (
+        Query::TwoFaults,
+        Table::Of(&[(1, "a", 0), (2, "b", i64::MAX)]),
+        Run(BY_ZERO),
+    ),
+    (
+        Query::TwoFaults,
+        Table::Of(&[(1, "a", i64::MAX), (2, "b", 0)]),
+        Run(BY_ZERO),
+    ),
+    (Query::OverAFault, ZERO, Run(BY_ZERO)),
+    // The conditions of the Join and of the last Filter are NULL for the row without a value.
+    (
+        Query::EqualPairs,
+        TABLE,
+        Run(Rows(&[&[1, 1], &[1, 2], &[2, 1], &[2, 2], &[3, 3]])),
+    ),
+    (Query::KnownValues, TABLE, Run(Rows(&[&[10], &[20]]))),
+    (Query::Tens, TABLE, Run(Rows(&[&[1], &[2]]))),
+];
 
 #[test]
-fn flips_on_the_right_side(rt: HostRuntime) -> Result<(), Fail> {
-    let alloc = rt.alloc();
-    let right = numbered(alloc)?;
-    let plan = join(alloc, numbered(alloc)?, right, None)?;
-    let orderings: [&[u64]; 2] = [&[0, 1, 2, 3], &[1, 0, 2, 3]];
-    assert!(rt; is_tied(alloc, &plan, &instance(alloc)?, Some(1), &orderings));
-    Ok(())
-}
-
-// SELECT SUM(v) OVER () FROM t
-fn whole_total(alloc: Global) -> Result<Plan, AllocError> {
-    let class = Class {
-        partition: Vec::new(alloc),
-        order: Vec::new(alloc),
-    };
-    let whole = Plan::Window {
-        input: Box::new(alloc, scan())?,
-        classes: vec![in alloc; class]?,
-        calls: vec![in alloc; call(Function::Sum(2), BY_RANGE)]?,
-    };
-    columns(alloc, whole, &[4])
-}
-
-// .. and OVER (ORDER BY id)
-#[test]
-fn faults_at_a_total_out_of_range(rt: HostRuntime) -> Result<(), Fail> {
-    let alloc = rt.alloc();
-    let table = table(alloc, &[(1, "a", i64::MAX), (2, "a", 1), (3, "a", -1)])?;
-    let total = [i64::MAX];
-    let totals: [&[i64]; 3] = [&total, &total, &total];
-    assert!(rt; runs(alloc, &whole_total(alloc)?, &table, &totals));
-    let calls = vec![in alloc; call(Function::Sum(2), BY_RANGE)]?;
-    let running = over_table(alloc, 0, calls, &[4])?;
-    assert_eq!(rt; fault_of(alloc, &running, &table), Some(Fault::OutOfRange));
-    Ok(())
-}
-
-// SELECT 10 / v, v + 1 FROM t: the least fault, whichever row comes first.
-fn two_faults(alloc: Global) -> Result<Plan, AllocError> {
-    let ten = Box::new(alloc, Expr::Literal(Value::Int(10), ValueKind::Number))?;
-    let one = Box::new(alloc, Expr::Literal(Value::Int(1), ValueKind::Number))?;
-    let v = Box::new(alloc, Expr::Column(2))?;
-    let divided = Expr::Arithmetic(ArithmeticOp::Divide, ten, v);
-    let v = Box::new(alloc, Expr::Column(2))?;
-    let raised = Expr::Arithmetic(ArithmeticOp::Add, v, one);
-    map(alloc, scan(), vec![in alloc; divided, raised]?)
-}
-
-#[test]
-fn gives_the_least_fault(rt: HostRuntime) -> Result<(), Fail> {
-    let alloc = rt.alloc();
-    let plan = two_faults(alloc)?;
-    for (first, second) in [(0, i64::MAX), (i64::MAX, 0)] {
-        let table = table(alloc, &[(1, "a", first), (2, "b", second)])?;
-        let by_zero = Some(Fault::DivisionByZero);
-        assert_eq!(rt; fault_of(alloc, &plan, &table), by_zero);
-    }
-    Ok(())
-}
-
-// A Window and a Limit over a fault: the ordering of each is empty.
-fn over_a_fault(alloc: Global) -> Result<Plan, AllocError> {
-    let calls = vec![in alloc; call(Function::RowNumber, BY_RANGE)]?;
-    let over = window(alloc, two_faults(alloc)?, 0, calls)?;
-    limit(alloc, over, ascending(0), 0, Some(1), false)
-}
-
-#[test]
-fn asks_for_empty_orderings_over_a_fault(rt: HostRuntime) -> Result<(), Fail> {
-    let alloc = rt.alloc();
-    let plan = over_a_fault(alloc)?;
-    let table = table(alloc, &[(1, "a", 0)])?;
-    assert!(rt; is_tied(alloc, &plan, &table, None, &[&[], &[]]));
-    let by_zero = Some(Fault::DivisionByZero);
-    assert_eq!(rt; fault_of(alloc, &plan, &table), by_zero);
-    let second_filled: [&[u64]; 2] = [&[], &[0]];
-    let first_filled: [&[u64]; 2] = [&[0], &[]];
-    assert_eq!(rt; judged(alloc, &plan, &table, &[&[], &[]]), Some(Ok(())));
-    for (orderings, place) in [(second_filled, 1), (first_filled, 0)] {
-        let judged = judged(alloc, &plan, &table, &orderings);
-        assert_eq!(rt; judged, Some(Err(EvalError::NotValid(place))));
-    }
-    Ok(())
-}
-
-// SELECT a.id, b.id FROM t AS a JOIN t AS b ON a.v = b.v
-fn equal_pairs(alloc: Global) -> Result<Plan, AllocError> {
-    let left = Box::new(alloc, Expr::Column(2))?;
-    let right = Box::new(alloc, Expr::Column(6))?;
-    let same_value = Expr::Compare(ComparisonOp::Equal, left, right);
-    let pairs = join(alloc, scan(), scan(), Some(same_value))?;
-    columns(alloc, pairs, &[0, 4])
-}
-
-// SELECT v FROM (SELECT DISTINCT v FROM t) AS s WHERE v IS NOT NULL
-fn known_values(alloc: Global) -> Result<Plan, AllocError> {
-    let values = columns(alloc, scan(), &[2])?;
-    let once = Plan::Distinct {
-        input: Box::new(alloc, values)?,
-    };
-    Ok(Plan::Filter {
-        input: Box::new(alloc, once)?,
-        condition: Expr::IsNotNull(Box::new(alloc, Expr::Column(0))?),
-    })
-}
-
-// SELECT id FROM t WHERE v = 10
-fn tens(alloc: Global) -> Result<Plan, AllocError> {
-    let v = Box::new(alloc, Expr::Column(2))?;
-    let ten = Box::new(alloc, Expr::Literal(Value::Int(10), ValueKind::Number))?;
-    let kept = Plan::Filter {
-        input: Box::new(alloc, scan())?,
-        condition: Expr::Compare(ComparisonOp::Equal, v, ten),
-    };
-    columns(alloc, kept, &[0])
-}
-
-// The conditions of the Join and of the last Filter are NULL for the row without a value.
-#[test]
-fn joins_filters_and_keeps_first_occurrences(rt: HostRuntime) -> Result<(), Fail> {
-    let alloc = rt.alloc();
-    let table = instance(alloc)?;
-    let expected: [&[i64]; 5] = [&[1, 1], &[1, 2], &[2, 1], &[2, 2], &[3, 3]];
-    assert!(rt; runs(alloc, &equal_pairs(alloc)?, &table, &expected));
-    assert!(rt; runs(alloc, &known_values(alloc)?, &table, &[&[10], &[20]]));
-    assert!(rt; runs(alloc, &tens(alloc)?, &table, &[&[1], &[2]]));
+fn runs_queries(rt: HostRuntime) -> Result<(), Fail> {
+    assert_eq!(rt; first_wrong(rt.alloc(), &RUNS)?, None);
     Ok(())
 }
 
 // 3,200 rows paired with themselves are more than 10,000,000. A wrong ordering below the Join comes
 // first, one above it does not.
+static TOO_LARGE: [Case; 4] = [
+    (Query::AllPairs, MANY, Under(&[], TOO_MANY)),
+    (Query::FirstPair, MANY, Under(&[], TOO_MANY)),
+    (Query::NumberedWithAny, MANY, Under(&[], WRONG_FIRST)),
+    (Query::FirstPair, MANY, Run(TOO_MANY)),
+];
+
 #[test]
 fn refuses_a_step_of_too_many_rows(rt: HostRuntime) -> Result<(), Fail> {
-    let alloc = rt.alloc();
-    let table = numbered_rows(alloc, 3200)?;
-    let too_large = Some(Err(EvalError::TooManyRows));
-    let pairs = join(alloc, scan(), scan(), None)?;
-    assert_eq!(rt; judged(alloc, &pairs, &table, &[]), too_large);
-    let above = limit(alloc, pairs, ascending(0), 0, Some(1), false)?;
-    assert_eq!(rt; judged(alloc, &above, &table, &[]), too_large);
-    let below = join(alloc, numbered(alloc)?, scan(), None)?;
-    let wrong = Some(Err(EvalError::NotValid(0)));
-    assert_eq!(rt; judged(alloc, &below, &table, &[]), wrong);
-    let ran = run(alloc, &above, &table);
-    assert!(rt; matches!(&ran, Some(Err(EvalError::TooManyRows))));
+    assert_eq!(rt; first_wrong(rt.alloc(), &TOO_LARGE)?, None);
     Ok(())
+}
+
+// Each refusal with its number and the place of the wrong ordering.
+const NUMBERS: [(EvalError, Option<u32>, Option<u64>); 3] = [
+    (EvalError::NotValid(1), Some(801), Some(1)),
+    (EvalError::TooManyRows, Some(802), None),
+    (EvalError::OutOfMemory, None, None),
+];
+
+#[test]
+fn numbers_its_refusals(rt: HostRuntime) {
+    for (refusal, number, place) in NUMBERS {
+        assert_eq!(rt; refusal.number(), number);
+        assert_eq!(rt; refusal.place(), place);
+    }
 }

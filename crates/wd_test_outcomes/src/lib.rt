@@ -4,4 +4,6 @@
 #[cfg(test)]
 mod eval;
 #[cfg(test)]
+mod plans;
+#[cfg(test)]
 mod window;

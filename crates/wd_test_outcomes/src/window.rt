@@ -11,7 +11,7 @@ use wd_window::{WindowError, evaluate_window};
 const NULL: i64 = i64::MIN;
 
 // The columns g and v of a table in which rows tie and values are NULL.
-const TABLE: [[i64; 2]; 11] = [
+static TABLE: [[i64; 2]; 11] = [
     [1, 2],
     [1, NULL],
     [1, 2],
@@ -26,13 +26,13 @@ const TABLE: [[i64; 2]; 11] = [
 ];
 
 // Its rows by g and v, those that tie as they stand.
-const SORTED: [u64; 11] = [0, 2, 6, 5, 3, 1, 4, 7, 9, 10, 8];
+static SORTED: [u64; 11] = [0, 2, 6, 5, 3, 1, 4, 7, 9, 10, 8];
 
 // What PostgreSQL 15 answers over that table for the window PARTITION BY g ORDER BY v, rows that tie
 // being taken as they stand: first what ignores the frame, and then for each frame what does not.
 
 // ROW_NUMBER, RANK, DENSE_RANK, NTILE(2), LAG(v) and LEAD(v, 1, -9) of each row.
-const PLACES: [[i64; 6]; 11] = [
+static PLACES: [[i64; 6]; 11] = [
     [1, 1, 1, 1, NULL, 2],
     [6, 6, 4, 2, 5, NULL],
     [2, 1, 1, 1, 2, 2],
@@ -48,7 +48,7 @@ const PLACES: [[i64; 6]; 11] = [
 
 // FIRST_VALUE(v), LAST_VALUE(v), NTH_VALUE(v, 2), COUNT(*), COUNT(v), SUM(v), MIN(v) and MAX(v) of each
 // row's frame.
-const ROWS_NO_OTHERS: [[i64; 8]; 11] = [
+static ROWS_NO_OTHERS: [[i64; 8]; 11] = [
     [2, 2, 2, 2, 2, 4, 2, 2],
     [5, NULL, NULL, 3, 1, 5, 5, 5],
     [2, 2, 2, 3, 3, 6, 2, 2],
@@ -62,7 +62,7 @@ const ROWS_NO_OTHERS: [[i64; 8]; 11] = [
     [-1, NULL, 4, 3, 2, 3, -1, 4],
 ];
 
-const ROWS_CURRENT_ROW: [[i64; 8]; 11] = [
+static ROWS_CURRENT_ROW: [[i64; 8]; 11] = [
     [2, 2, NULL, 1, 1, 2, 2, 2],
     [5, NULL, NULL, 2, 1, 5, 5, 5],
     [2, 2, 2, 2, 2, 4, 2, 2],
@@ -76,7 +76,7 @@ const ROWS_CURRENT_ROW: [[i64; 8]; 11] = [
     [-1, NULL, NULL, 2, 1, -1, -1, -1],
 ];
 
-const ROWS_GROUP: [[i64; 8]; 11] = [
+static ROWS_GROUP: [[i64; 8]; 11] = [
     [NULL, NULL, NULL, 0, 0, NULL, NULL, NULL],
     [5, 5, NULL, 1, 1, 5, 5, 5],
     [NULL, NULL, NULL, 0, 0, NULL, NULL, NULL],
@@ -90,7 +90,7 @@ const ROWS_GROUP: [[i64; 8]; 11] = [
     [-1, NULL, NULL, 2, 1, -1, -1, -1],
 ];
 
-const ROWS_TIES: [[i64; 8]; 11] = [
+static ROWS_TIES: [[i64; 8]; 11] = [
     [2, 2, NULL, 1, 1, 2, 2, 2],
     [5, NULL, NULL, 2, 1, 5, 5, 5],
     [2, 2, NULL, 1, 1, 2, 2, 2],
@@ -104,7 +104,7 @@ const ROWS_TIES: [[i64; 8]; 11] = [
     [-1, NULL, 4, 3, 2, 3, -1, 4],
 ];
 
-const RANGE_NO_OTHERS: [[i64; 8]; 11] = [
+static RANGE_NO_OTHERS: [[i64; 8]; 11] = [
     [2, 3, 2, 4, 4, 9, 2, 3],
     [NULL, NULL, NULL, 2, 0, NULL, NULL, NULL],
     [2, 3, 2, 4, 4, 9, 2, 3],
@@ -118,7 +118,7 @@ const RANGE_NO_OTHERS: [[i64; 8]; 11] = [
     [4, 4, NULL, 1, 1, 4, 4, 4],
 ];
 
-const RANGE_CURRENT_ROW: [[i64; 8]; 11] = [
+static RANGE_CURRENT_ROW: [[i64; 8]; 11] = [
     [2, 3, 2, 3, 3, 7, 2, 3],
     [NULL, NULL, NULL, 1, 0, NULL, NULL, NULL],
     [2, 3, 2, 3, 3, 7, 2, 3],
@@ -132,7 +132,7 @@ const RANGE_CURRENT_ROW: [[i64; 8]; 11] = [
     [NULL, NULL, NULL, 0, 0, NULL, NULL, NULL],
 ];
 
-const RANGE_GROUP: [[i64; 8]; 11] = [
+static RANGE_GROUP: [[i64; 8]; 11] = [
     [3, 3, NULL, 1, 1, 3, 3, 3],
     [NULL, NULL, NULL, 0, 0, NULL, NULL, NULL],
     [3, 3, NULL, 1, 1, 3, 3, 3],
@@ -146,7 +146,7 @@ const RANGE_GROUP: [[i64; 8]; 11] = [
     [NULL, NULL, NULL, 0, 0, NULL, NULL, NULL],
 ];
 
-const RANGE_TIES: [[i64; 8]; 11] = [
+static RANGE_TIES: [[i64; 8]; 11] = [
     [2, 3, 3, 2, 2, 5, 2, 3],
     [NULL, NULL, NULL, 1, 0, NULL, NULL, NULL],
     [2, 3, 3, 2, 2, 5, 2, 3],
@@ -160,7 +160,7 @@ const RANGE_TIES: [[i64; 8]; 11] = [
     [4, 4, NULL, 1, 1, 4, 4, 4],
 ];
 
-const GROUPS_NO_OTHERS: [[i64; 8]; 11] = [
+static GROUPS_NO_OTHERS: [[i64; 8]; 11] = [
     [2, 2, 2, 3, 3, 6, 2, 2],
     [5, NULL, NULL, 3, 1, 5, 5, 5],
     [2, 2, 2, 3, 3, 6, 2, 2],
@@ -174,7 +174,7 @@ const GROUPS_NO_OTHERS: [[i64; 8]; 11] = [
     [-1, 4, -1, 3, 3, 2, -1, 4],
 ];
 
-const GROUPS_CURRENT_ROW: [[i64; 8]; 11] = [
+static GROUPS_CURRENT_ROW: [[i64; 8]; 11] = [
     [2, 2, 2, 2, 2, 4, 2, 2],
     [5, NULL, NULL, 2, 1, 5, 5, 5],
     [2, 2, 2, 2, 2, 4, 2, 2],
@@ -188,7 +188,7 @@ const GROUPS_CURRENT_ROW: [[i64; 8]; 11] = [
     [-1, -1, -1, 2, 2, -2, -1, -1],
 ];
 
-const GROUPS_GROUP: [[i64; 8]; 11] = [
+static GROUPS_GROUP: [[i64; 8]; 11] = [
     [NULL, NULL, NULL, 0, 0, NULL, NULL, NULL],
     [5, 5, NULL, 1, 1, 5, 5, 5],
     [NULL, NULL, NULL, 0, 0, NULL, NULL, NULL],
@@ -202,7 +202,7 @@ const GROUPS_GROUP: [[i64; 8]; 11] = [
     [-1, -1, -1, 2, 2, -2, -1, -1],
 ];
 
-const GROUPS_TIES: [[i64; 8]; 11] = [
+static GROUPS_TIES: [[i64; 8]; 11] = [
     [2, 2, NULL, 1, 1, 2, 2, 2],
     [5, NULL, NULL, 2, 1, 5, 5, 5],
     [2, 2, NULL, 1, 1, 2, 2, 2],
@@ -224,10 +224,10 @@ fn value(number: i64) -> Value {
     }
 }
 
-fn table(alloc: Global) -> Result<Vec<Row>, AllocError> {
+fn table(alloc: Global, numbers: &[[i64; 2]]) -> Result<Vec<Row>, AllocError> {
     let mut rows = Vec::new(alloc);
-    for [g, v] in TABLE {
-        rows.push(vec![in alloc; value(g), value(v)]?)?;
+    for [g, v] in numbers {
+        rows.push(vec![in alloc; value(*g), value(*v)]?)?;
     }
     Ok(rows)
 }
@@ -356,6 +356,27 @@ const EXCLUSIONS: [Exclusion; 4] = [
     Exclusion::Ties,
 ];
 
+// What the Window gives over those numbers under the ordering.
+fn over_table(
+    alloc: Global,
+    calls: &[Call],
+    numbers: &[[i64; 2]],
+    ordering: &[u64],
+) -> Result<Outcome, Fail>
+    requires { EachNames 1 calls.now }
+{
+    let choice = [ordering.to_vec(alloc)?];
+    let input = Outcome::Rows(table(alloc, numbers)?);
+    Ok(window(alloc, calls, input, &choice, 0)??)
+}
+
+// Whether each function has its values in the frame.
+fn has_frames(alloc: Global, frame: Frame, expected: &[[i64; 8]]) -> Result<bool, Fail> {
+    let calls = calls(alloc, frame)?;
+    let outcome = over_table(alloc, &calls, &TABLE, &SORTED)?;
+    Ok(expected.len() == TABLE.len() && are_extended(&outcome, expected))
+}
+
 // Whether each function has its values in a frame with each exclusion.
 fn has_values(
     alloc: Global,
@@ -364,7 +385,6 @@ fn has_values(
     end: Bound,
     expected: [&[[i64; 8]]; 4],
 ) -> Result<bool, Fail> {
-    let choice = [SORTED.to_vec(alloc)?];
     for (exclusion, frames) in EXCLUSIONS.into_iter().zip(expected) {
         let frame = Frame {
             mode,
@@ -372,10 +392,7 @@ fn has_values(
             end,
             exclusion,
         };
-        let calls = calls(alloc, frame)?;
-        let input = Outcome::Rows(table(alloc)?);
-        let outcome = window(alloc, &calls, input, &choice, 0)??;
-        if frames.len() != TABLE.len() || !are_extended(&outcome, frames) {
+        if !has_frames(alloc, frame, frames)? {
             return Ok(false);
         }
     }
@@ -420,11 +437,11 @@ fn every_function_over_groups(rt: HostRuntime) -> Result<(), Fail> {
 }
 
 // The rows that tie last to first.
-const FLIPPED: [u64; 11] = [6, 2, 0, 5, 3, 4, 1, 9, 7, 10, 8];
+static FLIPPED: [u64; 11] = [6, 2, 0, 5, 3, 4, 1, 9, 7, 10, 8];
 
 // What PostgreSQL 15 answers for COUNT(*), COUNT(v) and SUM(v) from the partition's start to the row,
 // rows that tie being taken last to first, and to the row's last peer.
-const TO_THE_ROW: [[i64; 3]; 11] = [
+static TO_THE_ROW: [[i64; 3]; 11] = [
     [3, 3, 6],
     [7, 5, 14],
     [2, 2, 4],
@@ -438,7 +455,7 @@ const TO_THE_ROW: [[i64; 3]; 11] = [
     [3, 3, 2],
 ];
 
-const TO_THE_LAST_PEER: [[i64; 3]; 11] = [
+static TO_THE_LAST_PEER: [[i64; 3]; 11] = [
     [3, 3, 6],
     [7, 5, 14],
     [3, 3, 6],
@@ -462,23 +479,25 @@ fn running(mode: FrameMode) -> Frame {
     }
 }
 
+fn are_totals(outcome: &Outcome, expected: &[[i64; 3]]) -> bool {
+    match outcome {
+        Outcome::Fault(_) => false,
+        Outcome::Rows(rows) => rows.len() == expected.len()
+            && rows.iter().zip(expected).all(|(row, totals)| row.len() == 5
+                && has_numbers(row, 2, totals)),
+    }
+}
+
 // Whether the running counts and totals have these values.
 fn has_totals(alloc: Global, mode: FrameMode, expected: &[[i64; 3]]) -> Result<bool, Fail> {
-    let choice = [FLIPPED.to_vec(alloc)?];
     let frame = running(mode);
     let calls = [
         call(Function::CountRows, frame),
         call(Function::Count(1), frame),
         call(Function::Sum(1), frame),
     ];
-    let input = Outcome::Rows(table(alloc)?);
-    let found = match window(alloc, &calls, input, &choice, 0)? {
-        Ok(Outcome::Rows(rows)) => rows.len() == expected.len()
-            && rows.iter().zip(expected).all(|(row, totals)| row.len() == 5
-                && has_numbers(row, 2, totals)),
-        _ => false,
-    };
-    Ok(found)
+    let outcome = over_table(alloc, &calls, &TABLE, &FLIPPED)?;
+    Ok(are_totals(&outcome, expected))
 }
 
 #[test]
@@ -494,14 +513,9 @@ fn running_counts_and_totals(rt: HostRuntime) -> Result<(), Fail> {
 #[test]
 fn running_total_past_64_bits(rt: HostRuntime) -> Result<(), Fail> {
     let alloc = rt.alloc();
-    let rows = vec![in alloc;
-        vec![in alloc; value(1), value(1)]?,
-        vec![in alloc; value(1), value(i64::MAX)]?,
-    ]?;
     let calls = [call(Function::Sum(1), running(FrameMode::Rows))];
-    let choice = [vec![in alloc; 0, 1]?];
-    let outcome = window(alloc, &calls, Outcome::Rows(rows), &choice, 0)?;
-    assert!(rt; matches!(&outcome, Ok(Outcome::Fault(Fault::OutOfRange))));
+    let outcome = over_table(alloc, &calls, &[[1, 1], [1, i64::MAX]], &[0, 1])?;
+    assert!(rt; matches!(&outcome, Outcome::Fault(Fault::OutOfRange)));
     Ok(())
 }
 
@@ -512,7 +526,13 @@ fn asks_for_a_lawful_ordering(rt: HostRuntime) -> Result<(), Fail> {
     let calls = calls(alloc, running(FrameMode::Range))?;
     let choice = [Vec::new(alloc), SORTED.to_vec(alloc)?];
     for (first, place) in [(0, Some(0)), (1, None), (2, Some(2))] {
-        let judged = window(alloc, &calls, Outcome::Rows(table(alloc)?), &choice, first)?;
+        let judged = window(
+            alloc,
+            &calls,
+            Outcome::Rows(table(alloc, &TABLE)?),
+            &choice,
+            first,
+        )?;
         let refused = match judged {
             Ok(_) => None,
             Err(error) => Some(error),

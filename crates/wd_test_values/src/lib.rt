@@ -9,3 +9,5 @@ mod plan;
 mod scalar;
 #[cfg(test)]
 mod steps;
+#[cfg(test)]
+mod tables;

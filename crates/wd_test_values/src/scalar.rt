@@ -1,172 +1,174 @@
+use crate::tables::Tree::{
+    And, Arithmetic, Case, Column, Compare, IsNotNull, IsNull, Negate, Not, Null, Number, Or, Truth,
+};
+use crate::tables::{Tree, expression};
 use std::alloc::{AllocError, Global};
 use std::test::Fail;
-use wd_plan::{ArithmeticOp, ComparisonOp, Expr, ValueKind};
+use wd_plan::ArithmeticOp::{Add, Divide, Multiply, Remainder, Subtract};
+use wd_plan::ComparisonOp::Equal;
+use wd_plan::{ArithmeticOp, Expr, ValueKind};
 use wd_scalar::{has_arithmetic, is_true, value_of};
-use wd_value::{Fault, OutOfMemory, Row, Text, Value, same};
+use wd_value::{Fault, OutOfMemory, Row, Text, Value};
 
 const LEAST: i64 = i64::MIN;
 
 const GREATEST: i64 = i64::MAX;
 
-fn number(n: i64) -> Expr {
-    Expr::Literal(Value::Int(n), ValueKind::Number)
+/// What an expression gives.
+#[derive(Clone, Copy, PartialEq, Eq, Debug)]
+enum Answer {
+    Null,
+    Number(i64),
+    Text,
+    Truth(bool),
+    Fault(Fault),
 }
 
-fn truth(value: Value) -> Expr {
-    Expr::Literal(value, ValueKind::Truth)
+const BY_ZERO: Answer = Answer::Fault(Fault::DivisionByZero);
+
+const OUT_OF_RANGE: Answer = Answer::Fault(Fault::OutOfRange);
+
+fn answer_of(alloc: Global, expression: &Expr, row: &[Value]) -> Result<Answer, OutOfMemory> {
+    Ok(match value_of(alloc, expression, row)? {
+        Ok(Value::Null) => Answer::Null,
+        Ok(Value::Int(n)) => Answer::Number(n),
+        Ok(Value::Text(_)) => Answer::Text,
+        Ok(Value::Bool(truth)) => Answer::Truth(truth),
+        Err(fault) => Answer::Fault(fault),
+    })
 }
 
-fn arithmetic(alloc: Global, op: ArithmeticOp, a: Expr, b: Expr) -> Result<Expr, AllocError> {
-    Ok(Expr::Arithmetic(op, Box::new(alloc, a)?, Box::new(alloc, b)?))
+fn answer_of_tree(alloc: Global, tree: &Tree, row: &[Value]) -> Result<Answer, OutOfMemory> {
+    let expression = expression(alloc, tree)?;
+    answer_of(alloc, &expression, row)
 }
 
-fn comparison(alloc: Global, op: ComparisonOp, a: Expr, b: Expr) -> Result<Expr, AllocError> {
-    Ok(Expr::Compare(op, Box::new(alloc, a)?, Box::new(alloc, b)?))
-}
-
-// 1 / 0 = 1
-fn fault(alloc: Global) -> Result<Expr, AllocError> {
-    let quotient = arithmetic(alloc, ArithmeticOp::Divide, number(1), number(0))?;
-    comparison(alloc, ComparisonOp::Equal, quotient, number(1))
-}
-
-// A row of the table t, whose columns are id, g, v and u.
-fn row_of_t(alloc: Global, v: Value, u: Value) -> Result<Row, AllocError> {
-    let g = Value::Text(Text::from_str(alloc, "a")?);
-    Ok(vec![in alloc; Value::Int(1), g, v, u]?)
-}
-
-// The number that an expression without columns gives, None for any other value, or the fault.
-fn computed(alloc: Global, expression: &Expr) -> Result<Result<Option<i64>, Fault>, OutOfMemory> {
-    match value_of(alloc, expression, &[])? {
-        Ok(Value::Int(n)) => Ok(Ok(Some(n))),
-        Ok(_) => Ok(Ok(None)),
-        Err(fault) => Ok(Err(fault)),
-    }
-}
-
-// Whether the value is this one.
-fn gives(alloc: Global, expression: &Expr, wanted: &Value) -> Result<bool, OutOfMemory> {
-    match value_of(alloc, expression, &[])? {
-        Ok(value) => Ok(same(&value, wanted)),
-        Err(_) => Ok(false),
-    }
-}
+const OPERATIONS: &[(i64, ArithmeticOp, i64, Answer)] = &[
+    (7, Add, -9, Answer::Number(-2)),
+    (LEAST / 2, Multiply, 2, Answer::Number(LEAST)),
+    (-7, Divide, 2, Answer::Number(-3)),
+    (7, Divide, -2, Answer::Number(-3)),
+    (-7, Remainder, 2, Answer::Number(-1)),
+    (7, Remainder, -2, Answer::Number(1)),
+    (LEAST, Remainder, -1, Answer::Number(0)),
+    (10, Divide, 0, BY_ZERO),
+    (10, Remainder, 0, BY_ZERO),
+    (LEAST, Divide, -1, OUT_OF_RANGE),
+    (GREATEST, Add, 1, OUT_OF_RANGE),
+    (LEAST, Subtract, 1, OUT_OF_RANGE),
+    (GREATEST, Multiply, 2, OUT_OF_RANGE),
+];
 
 #[test]
 fn computes_whole_numbers(rt: HostRuntime) -> Result<(), Fail> {
     let alloc = rt.alloc();
-    for (op, m, n, wanted) in [
-        (ArithmeticOp::Add, 7, -9, -2),
-        (ArithmeticOp::Multiply, LEAST / 2, 2, LEAST),
-        (ArithmeticOp::Divide, -7, 2, -3),
-        (ArithmeticOp::Divide, 7, -2, -3),
-        (ArithmeticOp::Remainder, -7, 2, -1),
-        (ArithmeticOp::Remainder, 7, -2, 1),
-        (ArithmeticOp::Remainder, LEAST, -1, 0),
-    ] {
-        let expression = arithmetic(alloc, op, number(m), number(n))?;
+    for (m, op, n, wanted) in OPERATIONS {
+        let operation = Arithmetic(*op, &Number(*m), &Number(*n));
         assert_eq!(rt;
-            computed(alloc, &expression)?,
-            Ok(Some(wanted)),
-            "{op:?} {m} {n}"
+            answer_of_tree(alloc, &operation, &[])?,
+            *wanted,
+            "{m} {op:?} {n}"
         );
     }
-    let inner = arithmetic(alloc, ArithmeticOp::Subtract, number(4), number(2))?;
-    let outer = arithmetic(alloc, ArithmeticOp::Subtract, number(9), inner)?;
-    assert_eq!(rt; computed(alloc, &outer)?, Ok(Some(7)));
-    let turned = Expr::Negate(Box::new(alloc, number(GREATEST))?);
-    assert_eq!(rt; computed(alloc, &turned)?, Ok(Some(-GREATEST)));
     Ok(())
 }
+
+/// 1 / 0 = 1
+const FAULT: Tree = Compare(
+    Equal,
+    &Arithmetic(Divide, &Number(1), &Number(0)),
+    &Number(1),
+);
+
+const UNKNOWN: Tree = Null(ValueKind::Truth);
+
+/// NULL / 0
+const NULL_BY_ZERO: Tree = Arithmetic(Divide, &Null(ValueKind::Number), &Number(0));
+
+/// NULL / 0 = 1
+const NULL_COMPARED: Tree = Compare(Equal, &NULL_BY_ZERO, &Number(1));
+
+/// Expressions without columns, what they give, and their texts.
+const EXPRESSIONS: &[(&str, Tree, Answer)] = &[
+    (
+        "9 - (4 - 2)",
+        Arithmetic(
+            Subtract,
+            &Number(9),
+            &Arithmetic(Subtract, &Number(4), &Number(2)),
+        ),
+        Answer::Number(7),
+    ),
+    (
+        "-GREATEST",
+        Negate(&Number(GREATEST)),
+        Answer::Number(-GREATEST),
+    ),
+    ("-LEAST", Negate(&Number(LEAST)), OUT_OF_RANGE),
+    ("NULL / 0", NULL_BY_ZERO, Answer::Null),
+    ("NULL / 0 = 1", NULL_COMPARED, Answer::Null),
+    ("NOT NULL / 0 = 1", Not(&NULL_COMPARED), Answer::Null),
+    (
+        "(NOT NULL / 0 = 1) IS NULL",
+        IsNull(&Not(&NULL_COMPARED)),
+        Answer::Truth(true),
+    ),
+    (
+        "((NOT NULL / 0 = 1) IS NULL) IS NOT NULL",
+        IsNotNull(&IsNull(&Not(&NULL_COMPARED))),
+        Answer::Truth(true),
+    ),
+    ("a column past the last", Column(0), Answer::Null),
+    (
+        "FALSE AND 1 / 0 = 1",
+        And(&Truth(false), &FAULT),
+        Answer::Truth(false),
+    ),
+    (
+        "TRUE OR 1 / 0 = 1",
+        Or(&Truth(true), &FAULT),
+        Answer::Truth(true),
+    ),
+    ("NULL AND 1 / 0 = 1", And(&UNKNOWN, &FAULT), BY_ZERO),
+    (
+        "CASE WHEN NULL THEN 1 / 0 = 1 ELSE 2 END",
+        Case(&UNKNOWN, &FAULT, &Number(2)),
+        Answer::Number(2),
+    ),
+];
 
 #[test]
-fn faults(rt: HostRuntime) -> Result<(), Fail> {
+fn evaluates_expressions(rt: HostRuntime) -> Result<(), Fail> {
     let alloc = rt.alloc();
-    for (op, m, n, wanted) in [
-        (ArithmeticOp::Divide, 10, 0, Fault::DivisionByZero),
-        (ArithmeticOp::Remainder, 10, 0, Fault::DivisionByZero),
-        (ArithmeticOp::Divide, LEAST, -1, Fault::OutOfRange),
-        (ArithmeticOp::Add, GREATEST, 1, Fault::OutOfRange),
-        (ArithmeticOp::Subtract, LEAST, 1, Fault::OutOfRange),
-        (ArithmeticOp::Multiply, GREATEST, 2, Fault::OutOfRange),
-    ] {
-        let expression = arithmetic(alloc, op, number(m), number(n))?;
-        assert_eq!(rt;
-            computed(alloc, &expression)?,
-            Err(wanted),
-            "{op:?} {m} {n}"
-        );
+    for (text, tree, wanted) in EXPRESSIONS {
+        assert_eq!(rt; answer_of_tree(alloc, tree, &[])?, *wanted, "{text}");
     }
-    let turned = Expr::Negate(Box::new(alloc, number(LEAST))?);
-    assert_eq!(rt; computed(alloc, &turned)?, Err(Fault::OutOfRange));
     Ok(())
 }
 
-// (v + 1) + 10 / u
+/// (v + 1) + 10 / u
+const SUM: Tree = Arithmetic(
+    Add,
+    &Arithmetic(Add, &Column(2), &Number(1)),
+    &Arithmetic(Divide, &Number(10), &Column(3)),
+);
+
+/// A row of the table t, whose columns are id, g, v and u.
+fn row_of_t(alloc: Global, v: i64, u: i64) -> Result<Row, AllocError> {
+    let g = Value::Text(Text::from_str(alloc, "a")?);
+    Ok(vec![in alloc; Value::Int(1), g, Value::Int(v), Value::Int(u)]?)
+}
+
+fn sum_of_row(alloc: Global, v: i64, u: i64) -> Result<Answer, OutOfMemory> {
+    let row = row_of_t(alloc, v, u)?;
+    answer_of_tree(alloc, &SUM, &row)
+}
+
 #[test]
 fn takes_the_fault_of_the_left_operand(rt: HostRuntime) -> Result<(), Fail> {
     let alloc = rt.alloc();
-    let left = arithmetic(alloc, ArithmeticOp::Add, Expr::Column(2), number(1))?;
-    let right = arithmetic(alloc, ArithmeticOp::Divide, number(10), Expr::Column(3))?;
-    let sum = arithmetic(alloc, ArithmeticOp::Add, left, right)?;
-    let both = row_of_t(alloc, Value::Int(GREATEST), Value::Int(0))?;
-    match value_of(alloc, &sum, &both)? {
-        Ok(_) => assert!(rt; false),
-        Err(fault) => assert_eq!(rt; fault, Fault::OutOfRange),
-    }
-    let neither = row_of_t(alloc, Value::Int(4), Value::Int(5))?;
-    match value_of(alloc, &sum, &neither)? {
-        Ok(value) => assert!(rt; same(&value, &Value::Int(7))),
-        Err(_) => assert!(rt; false),
-    }
-    Ok(())
-}
-
-#[test]
-fn gives_null_beside_null(rt: HostRuntime) -> Result<(), Fail> {
-    let alloc = rt.alloc();
-    let null = Expr::Literal(Value::Null, ValueKind::Number);
-    let quotient = arithmetic(alloc, ArithmeticOp::Divide, null, number(0))?;
-    assert!(rt; gives(alloc, &quotient, &Value::Null)?);
-    let compared = comparison(alloc, ComparisonOp::Equal, quotient, number(1))?;
-    assert!(rt; gives(alloc, &compared, &Value::Null)?);
-    let not = Expr::Not(Box::new(alloc, compared)?);
-    assert!(rt; gives(alloc, &not, &Value::Null)?);
-    let is_null = Expr::IsNull(Box::new(alloc, not)?);
-    assert!(rt; gives(alloc, &is_null, &Value::Bool(true))?);
-    let is_not_null = Expr::IsNotNull(Box::new(alloc, is_null)?);
-    assert!(rt; gives(alloc, &is_not_null, &Value::Bool(true))?);
-    // A column past the last of a row without columns.
-    assert!(rt; gives(alloc, &Expr::Column(0), &Value::Null)?);
-    Ok(())
-}
-
-#[test]
-fn looks_only_where_it_must(rt: HostRuntime) -> Result<(), Fail> {
-    let alloc = rt.alloc();
-    let (yes, no) = (Value::Bool(true), Value::Bool(false));
-    let and = Expr::And(
-        Box::new(alloc, truth(Value::Bool(false)))?,
-        Box::new(alloc, fault(alloc)?)?,
-    );
-    assert!(rt; gives(alloc, &and, &no)?);
-    let or = Expr::Or(
-        Box::new(alloc, truth(Value::Bool(true)))?,
-        Box::new(alloc, fault(alloc)?)?,
-    );
-    assert!(rt; gives(alloc, &or, &yes)?);
-    let looked = Expr::And(
-        Box::new(alloc, truth(Value::Null))?,
-        Box::new(alloc, fault(alloc)?)?,
-    );
-    assert_eq!(rt; computed(alloc, &looked)?, Err(Fault::DivisionByZero));
-    let case = Expr::Case(
-        Box::new(alloc, truth(Value::Null))?,
-        Box::new(alloc, fault(alloc)?)?,
-        Box::new(alloc, number(2))?,
-    );
-    assert_eq!(rt; computed(alloc, &case)?, Ok(Some(2)));
+    assert_eq!(rt; sum_of_row(alloc, GREATEST, 0)?, OUT_OF_RANGE);
+    assert_eq!(rt; sum_of_row(alloc, 4, 5)?, Answer::Number(7));
     Ok(())
 }
 
@@ -177,61 +179,93 @@ fn takes_a_condition_for_true(rt: HostRuntime) {
     assert!(rt; !is_true(&Value::Null));
 }
 
+/// Expressions with and without arithmetic.
+const ARITHMETIC: &[(&str, Tree, bool)] = &[
+    ("1 / 0 = 1", FAULT, true),
+    ("-a IS NULL", IsNull(&Negate(&Column(0))), true),
+    (
+        "NOT a = 1",
+        Not(&Compare(Equal, &Column(0), &Number(1))),
+        false,
+    ),
+];
+
 #[test]
 fn finds_arithmetic(rt: HostRuntime) -> Result<(), Fail> {
     let alloc = rt.alloc();
-    assert!(rt; has_arithmetic(&fault(alloc)?));
-    let turned = Expr::Negate(Box::new(alloc, Expr::Column(0))?);
-    assert!(rt; has_arithmetic(&Expr::IsNull(Box::new(alloc, turned)?)));
-    let equal = comparison(alloc, ComparisonOp::Equal, Expr::Column(0), number(1))?;
-    assert!(rt; !has_arithmetic(&Expr::Not(Box::new(alloc, equal)?)));
+    for (text, tree, wanted) in ARITHMETIC {
+        assert_eq!(rt;
+            has_arithmetic(&expression(alloc, tree)?),
+            *wanted,
+            "{text}"
+        );
+    }
     Ok(())
 }
 
-// FALSE OR FALSE OR .. OR TRUE OR FALSE .., the TRUE innermost.
-fn long_or(alloc: Global, operators: u64) -> Result<Expr, AllocError> {
-    let mut chain = truth(Value::Bool(true));
-    for _ in 0..operators {
-        chain = Expr::Or(
-            Box::new(alloc, chain)?,
-            Box::new(alloc, truth(Value::Bool(false)))?,
-        );
-    }
-    Ok(chain)
+/// Expressions that nest one operator.
+#[derive(Clone, Copy, Debug)]
+enum Deep {
+    /// 1 + 1 + ..
+    Sum,
+    /// TRUE OR FALSE OR FALSE .., the TRUE innermost.
+    Or,
+    /// CASE WHEN FALSE THEN 1 WHEN FALSE THEN 1 .. ELSE 2 END
+    Case,
 }
 
-// 1 + 1 + ..
-fn long_sum(alloc: Global, operators: u64) -> Result<Expr, AllocError> {
-    let mut sum = number(1);
-    for _ in 0..operators {
-        sum = arithmetic(alloc, ArithmeticOp::Add, sum, number(1))?;
+impl Deep {
+    fn innermost(self) -> Tree<'static> {
+        match self {
+            Deep::Sum => Number(1),
+            Deep::Or => Truth(true),
+            Deep::Case => Number(2),
+        }
     }
-    Ok(sum)
+
+    /// The operator with an expression for one of its operands.
+    fn around(self, alloc: Global, inner: Box<Expr>) -> Result<Expr, AllocError> {
+        match self {
+            Deep::Sum => Ok(Expr::Arithmetic(Add, inner, boxed(alloc, &Number(1))?)),
+            Deep::Or => Ok(Expr::Or(inner, boxed(alloc, &Truth(false))?)),
+            Deep::Case => Ok(Expr::Case(
+                boxed(alloc, &Truth(false))?,
+                boxed(alloc, &Number(1))?,
+                inner,
+            )),
+        }
+    }
+
+    fn expression(self, alloc: Global, operators: u64) -> Result<Expr, AllocError> {
+        let mut nested = expression(alloc, &self.innermost())?;
+        for _ in 0..operators {
+            nested = self.around(alloc, Box::new(alloc, nested)?)?;
+        }
+        Ok(nested)
+    }
 }
 
-// CASE WHEN FALSE THEN 1 WHEN FALSE THEN 1 .. ELSE 2 END
-fn long_case(alloc: Global, branches: u64) -> Result<Expr, AllocError> {
-    let mut rest = number(2);
-    for _ in 0..branches {
-        rest = Expr::Case(
-            Box::new(alloc, truth(Value::Bool(false)))?,
-            Box::new(alloc, number(1))?,
-            Box::new(alloc, rest)?,
-        );
-    }
-    Ok(rest)
+fn boxed(alloc: Global, tree: &Tree) -> Result<Box<Expr>, AllocError> {
+    Ok(Box::new(alloc, expression(alloc, tree)?)?)
+}
+
+/// What a deep expression gives, and whether it has arithmetic.
+fn deep_answer(alloc: Global, deep: Deep, operators: u64) -> Result<(Answer, bool), OutOfMemory> {
+    let expression = deep.expression(alloc, operators)?;
+    let answer = answer_of(alloc, &expression, &[])?;
+    Ok((answer, has_arithmetic(&expression)))
 }
 
 // A query's text can nest some 20,000 operators to the left, and some 5,000 branches of a CASE.
 #[test]
 fn evaluates_deep_expressions(rt: HostRuntime) -> Result<(), Fail> {
     let alloc = rt.alloc();
-    let sum = long_sum(alloc, 21_000)?;
-    assert_eq!(rt; computed(alloc, &sum)?, Ok(Some(21_001)));
-    let case = long_case(alloc, 6_000)?;
-    assert_eq!(rt; computed(alloc, &case)?, Ok(Some(2)));
-    let chain = long_or(alloc, 21_000)?;
-    assert!(rt; gives(alloc, &chain, &Value::Bool(true))?);
-    assert!(rt; !has_arithmetic(&chain));
+    for (deep, operators, wanted) in [
+        (Deep::Sum, 21_000, (Answer::Number(21_001), true)),
+        (Deep::Case, 6_000, (Answer::Number(2), false)),
+        (Deep::Or, 21_000, (Answer::Truth(true), false)),
+    ] {
+        assert_eq!(rt; deep_answer(alloc, deep, operators)?, wanted, "{deep:?}");
+    }
     Ok(())
 }

@@ -1,69 +1,49 @@
+use crate::tables::Tree::{Arithmetic, Column, Compare, Not, Number};
+use crate::tables::{DESCENDING, Tree, expression, expressions, optional_expression};
 use std::alloc::{AllocError, Global};
 use std::test::Fail;
-use wd_plan::{ArithmeticOp, ComparisonOp, Expr, OrderItem, Outcome, ValueKind};
+use wd_plan::ArithmeticOp::{Add, Divide};
+use wd_plan::ComparisonOp::Equal;
+use wd_plan::{Expr, OrderItem, Outcome};
 use wd_steps::{
     JoinError, copy_filtered, cut_rows, distinct_rows, filter_rows, join_rows, map_rows, with_fault,
 };
-use wd_value::{Fault, Row, SortKey, Value, same};
+use wd_value::{Fault, OutOfMemory, Row, Value, same};
 
-// ORDER BY v DESC, where v is the second column.
-const BY_V: OrderItem = OrderItem {
-    column: 1,
-    key: SortKey {
-        desc: true,
-        nulls_first: true,
-    },
-};
+/// The columns id and v of some rows, None for NULL.
+type Table = &'static [(i64, Option<i64>)];
 
-fn row(alloc: Global, id: i64, v: Value) -> Result<Row, AllocError> {
+const ROWS: Table = &[(1, Some(10)), (2, Some(10)), (3, Some(20)), (4, None)];
+
+fn row(alloc: Global, id: i64, v: Option<i64>) -> Result<Row, AllocError> {
+    let v = match v {
+        Some(n) => Value::Int(n),
+        None => Value::Null,
+    };
     Ok(vec![in alloc; Value::Int(id), v]?)
 }
 
-// The columns id and v: v is 10, 10, 20 and NULL.
-fn rows(alloc: Global) -> Result<Vec<Row>, AllocError> {
-    Ok(vec![in alloc;
-        row(alloc, 1, Value::Int(10))?,
-        row(alloc, 2, Value::Int(10))?,
-        row(alloc, 3, Value::Int(20))?,
-        row(alloc, 4, Value::Null)?,
-    ]?)
+fn rows(alloc: Global, table: Table) -> Result<Vec<Row>, AllocError> {
+    let mut rows = Vec::new(alloc);
+    for (id, v) in table {
+        rows.push(row(alloc, *id, *v)?)?;
+    }
+    Ok(rows)
 }
 
-// Two rows, and two of which one faults by zero and the other one by range.
-fn faulting(alloc: Global, first: i64, second: i64) -> Result<Vec<Row>, AllocError> {
-    Ok(vec![in alloc;
-        row(alloc, 1, Value::Int(first))?,
-        row(alloc, 2, Value::Int(second))?,
-    ]?)
+/// What a step gives: rows with these numbers in these columns, or none.
+#[derive(Clone, Copy)]
+enum Wanted {
+    Columns(&'static [(usize, &'static [i64])]),
+    Fault(Fault),
+    TooManyRows,
 }
 
-fn number(n: i64) -> Expr {
-    Expr::Literal(Value::Int(n), ValueKind::Number)
-}
+const BY_ZERO: Wanted = Wanted::Fault(Fault::DivisionByZero);
 
-fn arithmetic(alloc: Global, op: ArithmeticOp, a: Expr, b: Expr) -> Result<Expr, AllocError> {
-    Ok(Expr::Arithmetic(op, Box::new(alloc, a)?, Box::new(alloc, b)?))
-}
+const OUT_OF_RANGE: Wanted = Wanted::Fault(Fault::OutOfRange);
 
-fn equal(alloc: Global, a: Expr, b: Expr) -> Result<Expr, AllocError> {
-    Ok(Expr::Compare(
-        ComparisonOp::Equal,
-        Box::new(alloc, a)?,
-        Box::new(alloc, b)?,
-    ))
-}
-
-// 10 / v
-fn divided(alloc: Global) -> Result<Expr, AllocError> {
-    arithmetic(alloc, ArithmeticOp::Divide, number(10), Expr::Column(1))
-}
-
-// v + 1
-fn one_more(alloc: Global) -> Result<Expr, AllocError> {
-    arithmetic(alloc, ArithmeticOp::Add, Expr::Column(1), number(1))
-}
-
-// Whether these numbers stand in a column of the rows.
+/// Whether these numbers stand in a column of the rows.
 fn are_in(rows: &[Row], column: usize, wanted: &[i64]) -> bool {
     rows.len() == wanted.len()
         && rows.iter().zip(wanted).all(|(row, number)| match row.get(column) {
@@ -72,58 +52,91 @@ fn are_in(rows: &[Row], column: usize, wanted: &[i64]) -> bool {
         })
 }
 
-// Whether an outcome has rows with these numbers in a column.
-fn shows(outcome: &Outcome, column: usize, wanted: &[i64]) -> bool {
-    match outcome {
-        Outcome::Rows(rows) => are_in(rows, column, wanted),
-        Outcome::Fault(_) => false,
+fn is_wanted(outcome: &Outcome, wanted: &Wanted) -> bool {
+    match (outcome, wanted) {
+        (Outcome::Rows(rows), Wanted::Columns(columns)) => columns
+            .iter()
+            .all(|(column, numbers)| are_in(rows, *column, numbers)),
+        (Outcome::Fault(fault), Wanted::Fault(other)) => fault == other,
+        _ => false,
     }
 }
 
-fn fault_of(outcome: &Outcome) -> Option<Fault> {
-    match outcome {
-        Outcome::Rows(_) => None,
-        Outcome::Fault(fault) => Some(*fault),
-    }
+const V: Tree = Column(1);
+
+const IS_TEN: Tree = Compare(Equal, &V, &Number(10));
+
+const ONE_MORE: Tree = Arithmetic(Add, &V, &Number(1));
+
+const TEN_BY_V: Tree = Arithmetic(Divide, &Number(10), &V);
+
+/// (v + 1) / v = 1
+const QUOTIENT_IS_ONE: Tree = Compare(Equal, &Arithmetic(Divide, &ONE_MORE, &V), &Number(1));
+
+const FILTERS: &[(&str, Tree, Table, Wanted)] = &[
+    (
+        "v = 10",
+        IS_TEN,
+        ROWS,
+        Wanted::Columns(&[(0, &[1, 2]), (1, &[10, 10])]),
+    ),
+    (
+        "NOT v = 10",
+        Not(&IS_TEN),
+        ROWS,
+        Wanted::Columns(&[(0, &[3]), (1, &[20])]),
+    ),
+    (
+        "range, zero",
+        QUOTIENT_IS_ONE,
+        &[(1, Some(i64::MAX)), (2, Some(0))],
+        BY_ZERO,
+    ),
+    (
+        "zero, range",
+        QUOTIENT_IS_ONE,
+        &[(1, Some(0)), (2, Some(i64::MAX))],
+        BY_ZERO,
+    ),
+    (
+        "range",
+        QUOTIENT_IS_ONE,
+        &[(1, Some(i64::MAX)), (2, Some(2))],
+        OUT_OF_RANGE,
+    ),
+];
+
+fn filter_gives(
+    alloc: Global,
+    condition: &Tree,
+    table: Table,
+    wanted: &Wanted,
+) -> Result<bool, OutOfMemory> {
+    let condition = expression(alloc, condition)?;
+    let kept = filter_rows(alloc, &condition, rows(alloc, table)?)?;
+    Ok(is_wanted(&kept, wanted))
+}
+
+fn copy_filtered_gives(
+    alloc: Global,
+    condition: &Tree,
+    table: Table,
+    wanted: &Wanted,
+) -> Result<bool, OutOfMemory> {
+    let condition = expression(alloc, condition)?;
+    let copied = copy_filtered(alloc, &condition, &rows(alloc, table)?)?;
+    Ok(is_wanted(&copied, wanted))
 }
 
 #[test]
 fn filters(rt: HostRuntime) -> Result<(), Fail> {
     let alloc = rt.alloc();
-    let tens = equal(alloc, Expr::Column(1), number(10))?;
-    let others = Expr::Not(Box::new(alloc, equal(alloc, Expr::Column(1), number(10))?)?);
-    for (condition, ids, values) in [
-        (&tens, [1, 2].as_slice(), [10, 10].as_slice()),
-        (&others, [3].as_slice(), [20].as_slice()),
-    ] {
-        let kept = filter_rows(alloc, condition, rows(alloc)?)?;
-        assert!(rt; shows(&kept, 0, ids) && shows(&kept, 1, values));
-        let copied = copy_filtered(alloc, condition, &rows(alloc)?)?;
-        assert!(rt; shows(&copied, 0, ids) && shows(&copied, 1, values));
-    }
-    Ok(())
-}
-
-// (v + 1) / v = 1
-#[test]
-fn filters_with_the_least_fault(rt: HostRuntime) -> Result<(), Fail> {
-    let alloc = rt.alloc();
-    let quotient = arithmetic(
-        alloc,
-        ArithmeticOp::Divide,
-        one_more(alloc)?,
-        Expr::Column(1),
-    )?;
-    let condition = equal(alloc, quotient, number(1))?;
-    for (first, second, wanted) in [
-        (i64::MAX, 0, Fault::DivisionByZero),
-        (0, i64::MAX, Fault::DivisionByZero),
-        (i64::MAX, 2, Fault::OutOfRange),
-    ] {
-        let outcome = filter_rows(alloc, &condition, faulting(alloc, first, second)?)?;
-        assert_eq!(rt; fault_of(&outcome), Some(wanted), "{first} {second}");
-        let copied = copy_filtered(alloc, &condition, &faulting(alloc, first, second)?)?;
-        assert_eq!(rt; fault_of(&copied), Some(wanted), "{first} {second}");
+    for (name, condition, table, wanted) in FILTERS {
+        assert!(rt; filter_gives(alloc, condition, table, wanted)?, "{name}");
+        assert!(rt;
+            copy_filtered_gives(alloc, condition, table, wanted)?,
+            "{name}, copied"
+        );
     }
     Ok(())
 }
@@ -136,107 +149,203 @@ fn keeps_the_least_fault(rt: HostRuntime) {
     assert_eq!(rt; with_fault(Some(by_zero), range), by_zero);
 }
 
-// 10 / v, v + 1
+/// Rows, and what 10 / v and v + 1 give over them.
+const MAPS: &[(&str, Table, Wanted)] = &[
+    ("zero, range", &[(1, Some(0)), (2, Some(i64::MAX))], BY_ZERO),
+    ("range, zero", &[(1, Some(i64::MAX)), (2, Some(0))], BY_ZERO),
+    ("range", &[(1, Some(5)), (2, Some(i64::MAX))], OUT_OF_RANGE),
+    (
+        "no fault",
+        &[(1, Some(5)), (2, Some(-3))],
+        Wanted::Columns(&[(0, &[2, -3]), (1, &[6, -2])]),
+    ),
+];
+
+fn map_gives(alloc: Global, table: Table, wanted: &Wanted) -> Result<bool, OutOfMemory> {
+    let outputs = expressions(alloc, &[TEN_BY_V, ONE_MORE])?;
+    let mapped = map_rows(alloc, &outputs, &rows(alloc, table)?)?;
+    Ok(is_wanted(&mapped, wanted))
+}
+
 #[test]
 fn maps(rt: HostRuntime) -> Result<(), Fail> {
     let alloc = rt.alloc();
-    let outputs = vec![in alloc; divided(alloc)?, one_more(alloc)?]?;
-    for (first, second) in [(0, i64::MAX), (i64::MAX, 0)] {
-        let outcome = map_rows(alloc, &outputs, &faulting(alloc, first, second)?)?;
-        assert_eq!(rt;
-            fault_of(&outcome),
-            Some(Fault::DivisionByZero),
-            "{first} {second}"
-        );
+    for (name, table, wanted) in MAPS {
+        assert!(rt; map_gives(alloc, table, wanted)?, "{name}");
     }
-    let outcome = map_rows(alloc, &outputs, &faulting(alloc, 5, i64::MAX)?)?;
-    assert_eq!(rt; fault_of(&outcome), Some(Fault::OutOfRange));
-    let mapped = map_rows(alloc, &outputs, &faulting(alloc, 5, -3)?)?;
-    assert!(rt; shows(&mapped, 0, &[2, -3]));
-    assert!(rt; shows(&mapped, 1, &[6, -2]));
     Ok(())
+}
+
+/// v = v of the right row
+const SAME_V: Tree = Compare(Equal, &V, &Column(3));
+
+/// 10 / v = 10 / v
+const SAME_QUOTIENT: Tree = Compare(Equal, &TEN_BY_V, &TEN_BY_V);
+
+/// Left and right rows, the condition, the most rows that are allowed, and what the join gives.
+const JOINS: &[(&str, Table, Table, Option<Tree>, u64, Wanted)] = &[
+    (
+        "equal values",
+        ROWS,
+        ROWS,
+        Some(SAME_V),
+        5,
+        Wanted::Columns(&[(0, &[1, 1, 2, 2, 3]), (2, &[1, 2, 1, 2, 3])]),
+    ),
+    (
+        "all pairs",
+        ROWS,
+        &[(1, Some(7)), (2, Some(8))],
+        None,
+        8,
+        Wanted::Columns(&[
+            (0, &[1, 1, 2, 2, 3, 3, 4, 4]),
+            (2, &[1, 2, 1, 2, 1, 2, 1, 2]),
+        ]),
+    ),
+    (
+        "no right row",
+        ROWS,
+        &[],
+        None,
+        0,
+        Wanted::Columns(&[(0, &[])]),
+    ),
+    ("4 of 5", ROWS, ROWS, Some(SAME_V), 4, Wanted::TooManyRows),
+    ("0 of 5", ROWS, ROWS, Some(SAME_V), 0, Wanted::TooManyRows),
+    ("15 of 16", ROWS, ROWS, None, 15, Wanted::TooManyRows),
+    // A fault of the last pair comes before too many rows.
+    (
+        "a fault",
+        &[(1, Some(10)), (2, Some(0))],
+        ROWS,
+        Some(SAME_QUOTIENT),
+        0,
+        BY_ZERO,
+    ),
+];
+
+fn joined(
+    alloc: Global,
+    left: Table,
+    right: Table,
+    condition: Option<&Expr>,
+    most: u64,
+) -> Result<Outcome, JoinError> {
+    let left = rows(alloc, left).map_err(OutOfMemory::from)?;
+    let right = rows(alloc, right).map_err(OutOfMemory::from)?;
+    join_rows(alloc, condition, &left, &right, most)
+}
+
+/// Whether a join gives what is wanted, or the error that it has.
+fn is_join(joined: Result<Outcome, JoinError>, wanted: &Wanted) -> bool {
+    match (joined, wanted) {
+        (Ok(outcome), _) => is_wanted(&outcome, wanted),
+        (Err(JoinError::TooManyRows), Wanted::TooManyRows) => true,
+        (Err(_), _) => false,
+    }
+}
+
+fn join_gives(
+    alloc: Global,
+    left: Table,
+    right: Table,
+    condition: &Option<Tree>,
+    most: u64,
+    wanted: &Wanted,
+) -> Result<bool, OutOfMemory> {
+    let condition = optional_expression(alloc, condition)?;
+    Ok(is_join(joined(alloc, left, right, condition.as_ref(), most), wanted))
 }
 
 #[test]
 fn joins(rt: HostRuntime) -> Result<(), Fail> {
     let alloc = rt.alloc();
-    let (left, right) = (rows(alloc)?, rows(alloc)?);
-    let on_v = equal(alloc, Expr::Column(1), Expr::Column(3))?;
-    let joined = join_rows(alloc, Some(&on_v), &left, &right, 5).map_err(|_| AllocError)?;
-    assert!(rt; shows(&joined, 0, &[1, 1, 2, 2, 3]));
-    assert!(rt; shows(&joined, 2, &[1, 2, 1, 2, 3]));
-    let few = faulting(alloc, 7, 8)?;
-    let crossed = join_rows(alloc, None, &left, &few, 8).map_err(|_| AllocError)?;
-    assert!(rt; shows(&crossed, 0, &[1, 1, 2, 2, 3, 3, 4, 4]));
-    assert!(rt; shows(&crossed, 2, &[1, 2, 1, 2, 1, 2, 1, 2]));
-    let none = join_rows(alloc, None, &left, &[], 0).map_err(|_| AllocError)?;
-    assert!(rt; shows(&none, 0, &[]));
-    Ok(())
-}
-
-fn has_too_many(joined: Result<Outcome, JoinError>) -> bool {
-    match joined {
-        Ok(_) => false,
-        Err(error) => error == JoinError::TooManyRows,
+    for (name, left, right, condition, most, wanted) in JOINS {
+        assert!(rt;
+            join_gives(alloc, left, right, condition, *most, wanted)?,
+            "{name}"
+        );
     }
+    Ok(())
 }
 
-#[test]
-fn joins_too_many_rows(rt: HostRuntime) -> Result<(), Fail> {
-    let alloc = rt.alloc();
-    let rows = rows(alloc)?;
-    let on_v = equal(alloc, Expr::Column(1), Expr::Column(3))?;
-    assert!(rt; has_too_many(join_rows(alloc, Some(&on_v), &rows, &rows, 4)));
-    assert!(rt; has_too_many(join_rows(alloc, Some(&on_v), &rows, &rows, 0)));
-    assert!(rt; has_too_many(join_rows(alloc, None, &rows, &rows, 15)));
-    // A fault of the last pair comes before too many rows: 10 / v = 10 / v.
-    let condition = equal(alloc, divided(alloc)?, divided(alloc)?)?;
-    let faulting = faulting(alloc, 10, 0)?;
-    let outcome = join_rows(alloc, Some(&condition), &faulting, &rows, 0).map_err(|_| AllocError)?;
-    assert_eq!(rt; fault_of(&outcome), Some(Fault::DivisionByZero));
-    Ok(())
+/// ORDER BY v DESC
+const BY_V: OrderItem = OrderItem {
+    column: 1,
+    key: DESCENDING,
+};
+
+/// The offset, the count, whether ties stay, and the ids that are left.
+const CUTS: &[(u64, Option<u64>, bool, &[i64])] = &[
+    (2, Some(1), true, &[1, 2]),
+    (1, Some(1), false, &[3]),
+    (0, Some(3), true, &[4, 3, 1, 2]),
+    (0, Some(0), true, &[]),
+    (1, None, false, &[3, 1, 2]),
+    (9, Some(9), true, &[]),
+];
+
+fn cut_gives(
+    alloc: Global,
+    offset: u64,
+    count: Option<u64>,
+    ties: bool,
+    wanted: &[i64],
+) -> Result<bool, OutOfMemory> {
+    let rows = rows(alloc, ROWS)?;
+    let kept = cut_rows(alloc, &[BY_V], offset, count, ties, &rows, &[3, 2, 0, 1])?;
+    Ok(are_in(&kept, 0, wanted))
 }
 
 #[test]
 fn cuts(rt: HostRuntime) -> Result<(), Fail> {
     let alloc = rt.alloc();
-    let rows = rows(alloc)?;
-    let ordering = [3, 2, 0, 1];
-    for (offset, count, ties, wanted) in [
-        (2, Some(1), true, [1, 2].as_slice()),
-        (1, Some(1), false, [3].as_slice()),
-        (0, Some(3), true, [4, 3, 1, 2].as_slice()),
-        (0, Some(0), true, [].as_slice()),
-        (1, None, false, [3, 1, 2].as_slice()),
-        (9, Some(9), true, [].as_slice()),
-    ] {
-        let kept = cut_rows(alloc, &[BY_V], offset, count, ties, &rows, &ordering)?;
-        assert!(rt; are_in(&kept, 0, wanted), "OFFSET {offset}");
+    for (offset, count, ties, wanted) in CUTS {
+        assert!(rt;
+            cut_gives(alloc, *offset, *count, *ties, wanted)?,
+            "OFFSET {offset}"
+        );
     }
     Ok(())
 }
 
-// The first column tells rows apart only where the second does, so that each place is seen.
-#[test]
-fn keeps_first_occurrences(rt: HostRuntime) -> Result<(), Fail> {
-    let alloc = rt.alloc();
-    let doubled = vec![in alloc;
-        row(alloc, 2, Value::Null)?,
-        row(alloc, 1, Value::Int(7))?,
-        row(alloc, 2, Value::Null)?,
-        row(alloc, 2, Value::Int(7))?,
-        row(alloc, 1, Value::Int(7))?,
-        row(alloc, 0, Value::Null)?,
-    ]?;
-    let kept = distinct_rows(alloc, doubled)?;
-    assert!(rt; are_in(&kept, 0, &[2, 1, 2, 0]));
-    assert!(rt; kept.len() == 4 && same_values(&kept[0], &[Value::Int(2), Value::Null]));
-    // A shorter row is not the same as one with NULL behind it.
-    let short = vec![in alloc; vec![in alloc; Value::Int(1)]?, row(alloc, 1, Value::Null)?]?;
-    assert_eq!(rt; distinct_rows(alloc, short)?.len(), 2);
-    Ok(())
-}
+/// The first column tells rows apart only where the second does, so that each place is seen.
+const DOUBLED: Table = &[
+    (2, None),
+    (1, Some(7)),
+    (2, None),
+    (2, Some(7)),
+    (1, Some(7)),
+    (0, None),
+];
 
 fn same_values(row: &[Value], wanted: &[Value]) -> bool {
     row.len() == wanted.len() && row.iter().zip(wanted).all(|(a, b)| same(a, b))
+}
+
+fn keeps_each_once(alloc: Global) -> Result<bool, OutOfMemory> {
+    let kept = distinct_rows(alloc, rows(alloc, DOUBLED)?)?;
+    let has_first = match kept.first() {
+        Some(row) => same_values(row, &[Value::Int(2), Value::Null]),
+        None => false,
+    };
+    Ok(has_first && are_in(&kept, 0, &[2, 1, 2, 0]))
+}
+
+/// A row, and another one with NULL behind it.
+fn short_and_long(alloc: Global) -> Result<Vec<Row>, AllocError> {
+    Ok(vec![in alloc; vec![in alloc; Value::Int(1)]?, row(alloc, 1, None)?]?)
+}
+
+fn count_of_distinct(alloc: Global) -> Result<usize, OutOfMemory> {
+    Ok(distinct_rows(alloc, short_and_long(alloc)?)?.len())
+}
+
+#[test]
+fn keeps_first_occurrences(rt: HostRuntime) -> Result<(), Fail> {
+    let alloc = rt.alloc();
+    assert!(rt; keeps_each_once(alloc)?);
+    assert_eq!(rt; count_of_distinct(alloc)?, 2);
+    Ok(())
 }
