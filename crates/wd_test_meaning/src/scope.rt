@@ -30,7 +30,7 @@ fn shown(alloc: Global, meaning: Result<Meaning, ResolveError>) -> Result<String
     }
 }
 
-// The calls under test stand in functions of their own, so that their contracts burden no other proof.
+// Each call under test stands in a function of its own: here, in `truth` and in `in_list`.
 fn plainly(alloc: Global, scope: &Scope, tree: &Expr) -> Result<Meaning, ResolveError> {
     plain(alloc, scope, tree)
 }
