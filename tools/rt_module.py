@@ -1,0 +1,25 @@
+"""The kit's command rt as a module: it knows a crate's libraries, the words of a check, and how many checks fit side by side."""
+
+import importlib.machinery
+import importlib.util
+import os
+import shutil
+import sys
+
+sys.dont_write_bytecode = True
+TOP = os.path.dirname(os.path.dirname(os.path.abspath(__file__)))
+
+
+def load():
+    path = shutil.which("rt")
+    if not path:
+        sys.exit("the command rt of the Rattle kit is not on the path")
+    loader = importlib.machinery.SourceFileLoader("rt", os.path.realpath(path))
+    module = importlib.util.module_from_spec(importlib.util.spec_from_loader("rt", loader))
+    loader.exec_module(module)
+    # Starts the guard of the commands that follow, which only the main thread may.
+    module.rtlib.guarded()
+    return module
+
+
+rt = load()

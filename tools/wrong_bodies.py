@@ -1,0 +1,160 @@
+#!/usr/bin/env python3
+"""Tries the wrong bodies of wrong-bodies/: the prover must refuse each of them, in the function that it changes.
+
+    python3 tools/wrong_bodies.py [--after-gate] [CRATE..]
+
+A file wrong-bodies/CRATE/NAME.edit has the line 'fn: PATH' (the function, as the check names it in its crate) and then
+'file: src/..' with pairs of lines 'old: TEXT' and 'new: TEXT'; each TEXT stands in that file exactly once. A line
+'right:' stands first in an edit that changes nothing that a contract says: it must still be proved. Such edits show
+that a refusal is no accident of the run.
+
+All edits of a crate are put into one copy of it, at most one for a function, and one check of those functions alone
+judges them. An edit is refused where the check says of its own function that a goal of it 'did not prove'; that a
+function which it calls isn't proved is no refusal. What a run leaves unclear goes into a further run with fewer edits.
+
+With --after-gate the libraries are those that 'rt ci' left in a clean clone; else they are built where they changed.
+The last line is 'N passed, M failed'.
+"""
+
+import argparse
+import collections
+import os
+import re
+import resource
+import shutil
+import subprocess
+import sys
+import tempfile
+
+from rt_module import TOP, rt
+
+EDITS = f"{TOP}/wrong-bodies"
+Edit = collections.namedtuple("Edit", "crate name function right path")
+
+
+def read_edit(crate, path):
+    with open(path, encoding="utf-8") as file:
+        text = file.read()
+    function = re.search(r"(?m)^fn: (\S+)$", text)
+    name = os.path.basename(path).removesuffix(".edit")
+    return Edit(crate, name, function[1] if function else None, text.startswith("right:"), path)
+
+
+def copy_with(crate, edits, room):
+    """Copies the crate into the folder with these edits in it, and returns those that can't be applied, with the reason."""
+    for part in rt.rtlib.PARTS:
+        if os.path.isdir(f"{crate.folder}/{part}"):
+            shutil.copytree(f"{crate.folder}/{part}", f"{room}/{part}")
+    bad = {}
+    for edit in edits:
+        texts, why = rt.read_edit(edit.path, room)
+        if why or not edit.function:
+            bad[edit] = why or "it names no function"
+            continue
+        for path, text in texts.items():
+            with open(f"{room}/{path}", "w", encoding="utf-8") as file:
+                file.write(text)
+    return bad
+
+
+def check(crate, edits):
+    """Checks the edited functions in one copy of the crate; returns the lines that are said, and the edits that can't be applied."""
+    with tempfile.TemporaryDirectory(prefix="wrong-bodies-") as room:
+        bad = copy_with(crate, edits, room)
+        names = sorted({f"{crate.name}::{edit.function}" for edit in edits if edit not in bad})
+        if not names:
+            return [], bad
+        words = [rt.rtlib.RATTLE, "check", *crate.words(["--jobs", "1"], keeps=False)]
+        for name in names:
+            words += ["--only", name]
+        ran = subprocess.run([*rt.rtlib.guarded(), *words], cwd=room, stdin=subprocess.DEVNULL,
+                             stdout=subprocess.PIPE, stderr=subprocess.STDOUT, text=True, errors="replace")
+    return ran.stdout.splitlines(), bad
+
+
+def verdict(edit, lines):
+    """Whether the check refused the edit's own function, and what it said; None where that can't be told."""
+    start = f"fn {edit.crate}::{edit.function}: "
+    said = next((line.removeprefix(start) for line in lines if line.startswith(start)), None)
+    if said == "proved":
+        return False, "proved"
+    if said and re.search(r"did not prove", said):
+        goals = re.search(r"did not prove (.*?)(; it calls|$)", said)
+        return True, goals[1]
+    told = next((line for line in lines if re.match(r"(\./)?(src|specs)/\S+: error|rattle: error", line)), None)
+    return None, said or told or (lines[-1] if lines else "nothing was said")
+
+
+def rounds(edits):
+    """The edits in groups, at most one of a function in each."""
+    groups = []
+    for edit in edits:
+        group = next((group for group in groups if all(edit.function != other.function for other in group)), None)
+        if group is None:
+            groups.append(group := [])
+        group.append(edit)
+    return groups
+
+
+def judge(crate, edits):
+    """For each edit whether it is as it must be, and what to say of it."""
+    judged, groups = {}, rounds(edits)
+    while groups:
+        group = groups.pop(0)
+        lines, bad = check(crate, group)
+        unclear = []
+        for edit in group:
+            refused, said = (None, bad[edit]) if edit in bad else verdict(edit, lines)
+            if refused is None and edit not in bad and len(group) > 1:
+                unclear.append(edit)
+                continue
+            word = {True: "refused", False: "NOT REFUSED" if not edit.right else "proved, as it must be", None: "UNCLEAR"}[refused]
+            judged[edit] = refused is (not edit.right), f"{edit.crate}/{edit.name}: {word}: {edit.function}: {said[:200]}"
+        if unclear:
+            groups += [unclear] if len(unclear) < len(group) else [[edit] for edit in unclear]
+    return [judged[edit] for edit in edits]
+
+
+def provide_libraries(crates, after_gate):
+    """Builds the libraries below these crates, but for those that the gate has just left."""
+    below = []
+    for crate in crates:
+        below += [it for it in crate.below() if it not in below]
+    left = [it for it in below if os.path.isdir(it.rlib) and not os.path.exists(f"{it.folder}/out/rlib/stamp")]
+    if after_gate and len(left) == len(below):
+        return True
+    return not any(it.build_rlib(["--jobs", "1"], anew=False) for it in below)
+
+
+def main():
+    parser = argparse.ArgumentParser(description=__doc__.split("\n")[0])
+    parser.add_argument("crates", nargs="*", metavar="CRATE")
+    parser.add_argument("--after-gate", action="store_true", help="use the libraries that rt ci left")
+    arguments = parser.parse_args()
+    os.chdir(TOP)
+    known = {crate.name: crate for crate in rt.rtlib.crates_below(TOP)}
+    edits = {}
+    for name in sorted(arguments.crates or os.listdir(EDITS)):
+        files = sorted(os.listdir(f"{EDITS}/{name}"))
+        edits[name] = [read_edit(name, f"{EDITS}/{name}/{file}") for file in files]
+    lost = [name for name in edits if name not in known or not edits[name]]
+    crates = [known[name] for name in edits if name in known]
+    if lost or not provide_libraries(crates, arguments.after_gate):
+        print(f"no crate or no edit: {', '.join(lost)}" if lost else "a library was not built")
+        print("0 passed, 1 failed")
+        return 1
+    tasks = {}
+    for crate in crates:
+        size = crate.count(rb"\n") + 30 * len(edits[crate.name])
+        tasks[crate.name, "edits"] = [], size, rt.need(crate), lambda _given, _jobs, it=crate: judge(it, edits[it.name])
+    judged = [row for rows in rt.in_lanes(tasks).values() for row in rows]
+    for well, text in sorted(judged):
+        print(text)
+    used = resource.getrusage(resource.RUSAGE_CHILDREN)
+    print(f"processor seconds: {used.ru_utime + used.ru_stime:.0f}")
+    print(f"{sum(well for well, _ in judged)} passed, {sum(not well for well, _ in judged)} failed")
+    return 0 if judged and all(well for well, _ in judged) else 1
+
+
+if __name__ == "__main__":
+    sys.exit(main())
