@@ -11,6 +11,8 @@ that a refusal is no accident of the run.
 All edits of a crate are put into one copy of it, at most one for a function, and one check of those functions alone
 judges them. An edit is refused where the check says of its own function that a goal of it 'did not prove'; that a
 function which it calls isn't proved is no refusal. What a run leaves unclear goes into a further run with fewer edits.
+An edit of a definition (a file of specs/) stands in a run of its own; it is refused where the law that it names is not
+proved any more.
 
 With --after-gate the libraries are those that 'rt ci' left in a clean clone; else they are built where they changed.
 The last line is 'N passed, M failed'.
@@ -29,7 +31,7 @@ import tempfile
 from rt_module import TOP, rt
 
 EDITS = f"{TOP}/wrong-bodies"
-Edit = collections.namedtuple("Edit", "crate name function right path")
+Edit = collections.namedtuple("Edit", "crate name function right of_definition path")
 
 
 def read_edit(crate, path):
@@ -37,7 +39,8 @@ def read_edit(crate, path):
         text = file.read()
     function = re.search(r"(?m)^fn: (\S+)$", text)
     name = os.path.basename(path).removesuffix(".edit")
-    return Edit(crate, name, function[1] if function else None, text.startswith("right:"), path)
+    of_definition = re.search(r"(?m)^file: specs/", text) is not None
+    return Edit(crate, name, function[1] if function else None, text.startswith("right:"), of_definition, path)
 
 
 def copy_with(crate, edits, room):
@@ -78,10 +81,11 @@ def verdict(edit, lines):
     said = next((line.removeprefix(start) for line in lines if line.startswith(start)), None)
     if said == "proved":
         return False, "proved"
-    if said and re.search(r"did not prove", said):
-        goals = re.search(r"did not prove (.*?)(; it calls|$)", said)
-        return True, goals[1]
+    if said and "did not prove" in said:
+        return True, re.search(r"did not prove (.*?)(; it calls|$)", said)[1]
     told = next((line for line in lines if re.match(r"(\./)?(src|specs)/\S+: error|rattle: error", line)), None)
+    if edit.of_definition and said and not told:
+        return True, next((line for line in lines if re.match(r"(\./)?proofs/\S+: error", line)), said)
     return None, said or told or (lines[-1] if lines else "nothing was said")
 
 
@@ -89,7 +93,8 @@ def rounds(edits):
     """The edits in groups, at most one of a function in each."""
     groups = []
     for edit in edits:
-        group = next((group for group in groups if all(edit.function != other.function for other in group)), None)
+        fits = lambda group: not edit.of_definition and all(edit.function != it.function and not it.of_definition for it in group)
+        group = next(filter(fits, groups), None)
         if group is None:
             groups.append(group := [])
         group.append(edit)
@@ -97,8 +102,8 @@ def rounds(edits):
 
 
 def judge(crate, edits):
-    """For each edit whether it is as it must be, and what to say of it."""
-    judged, groups = {}, rounds(edits)
+    """For each edit whether it is as it must be; it is said of each what the check said."""
+    judged, groups = [], rounds(edits)
     while groups:
         group = groups.pop(0)
         lines, bad = check(crate, group)
@@ -109,10 +114,11 @@ def judge(crate, edits):
                 unclear.append(edit)
                 continue
             word = {True: "refused", False: "NOT REFUSED" if not edit.right else "proved, as it must be", None: "UNCLEAR"}[refused]
-            judged[edit] = refused is (not edit.right), f"{edit.crate}/{edit.name}: {word}: {edit.function}: {said[:200]}"
+            judged.append(refused is (not edit.right))
+            print(f"{edit.crate}/{edit.name}: {word}: {edit.function}: {said[:200]}", flush=True)
         if unclear:
             groups += [unclear] if len(unclear) < len(group) else [[edit] for edit in unclear]
-    return [judged[edit] for edit in edits]
+    return judged
 
 
 def provide_libraries(crates, after_gate):
@@ -147,13 +153,11 @@ def main():
     for crate in crates:
         size = crate.count(rb"\n") + 30 * len(edits[crate.name])
         tasks[crate.name, "edits"] = [], size, rt.need(crate), lambda _given, _jobs, it=crate: judge(it, edits[it.name])
-    judged = [row for rows in rt.in_lanes(tasks).values() for row in rows]
-    for well, text in sorted(judged):
-        print(text)
+    judged = [well for each in rt.in_lanes(tasks).values() for well in each]
     used = resource.getrusage(resource.RUSAGE_CHILDREN)
     print(f"processor seconds: {used.ru_utime + used.ru_stime:.0f}")
-    print(f"{sum(well for well, _ in judged)} passed, {sum(not well for well, _ in judged)} failed")
-    return 0 if judged and all(well for well, _ in judged) else 1
+    print(f"{sum(judged)} passed, {judged.count(False)} failed")
+    return 0 if judged and all(judged) else 1
 
 
 if __name__ == "__main__":

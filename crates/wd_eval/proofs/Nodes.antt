@@ -32,6 +32,9 @@ pub or_right : (a b : Bool) → b ≡ true → (a || b) ≡ true
 or_right true b e = refl
 or_right false b e = e
 
+neither : (a b : Bool) → a ≡ false → b ≡ false → (a || b) ≡ false
+neither a b h g = λ i. h i || g i
+
 module _ (most : ℕ) (instance : Instance) (choice : List (List ℕ)) (first : ℕ) where
   abbrev rest : List (List ℕ)
   rest = drop first choice
@@ -46,7 +49,7 @@ module _ (most : ℕ) (instance : Instance) (choice : List (List ℕ)) (first : 
   -- ---- Scan
 
   pub scan_done : (table columns : ℕ) (o : Given) → IsSmall most (Ok (table_at instance table)) (given_of instance o) → IsEvaluated most (Scan table columns) instance choice first (record { outcome = o; next = first })
-  scan_done table columns o s = record { is = s.is; next = omega arith; served = record { present = omega arith; lawful = tt }; small = s.small }
+  scan_done table columns o s = record { is = s.is; next = omega arith; served = record { present = omega arith; lawful = tt }; small = s.small; each = s.small }
 
   pub scan_stopped : (table columns : ℕ) (e : EvalError) → IsLarge most (Ok (table_at instance table)) e → IsStopped most (Scan table columns) instance rest e
   scan_stopped table columns (NotValid p) h = absurd h
@@ -62,6 +65,7 @@ module _ (most : ℕ) (instance : Instance) (choice : List (List ℕ)) (first : 
       next = b.next;
       served = record { present = b.served.present; lawful = b.served.lawful };
       small = fewer_filter most condition (outcome input instance rest) b.small;
+      each = neither (has_large_step most input instance rest) (is_large most (Filter condition input) instance rest) b.each (fewer_filter most condition (outcome input instance rest) b.small);
     }
 
     pub map_done : (outputs : List Expression) → outcome_of o ≡ and_then (given_of instance below.outcome) (map_outcome outputs) → IsEvaluated most (Map outputs input) instance choice first (record { outcome = Made o; next = below.next })
@@ -70,6 +74,7 @@ module _ (most : ℕ) (instance : Instance) (choice : List (List ℕ)) (first : 
       next = b.next;
       served = record { present = b.served.present; lawful = b.served.lawful };
       small = fewer_map most outputs (outcome input instance rest) b.small;
+      each = neither (has_large_step most input instance rest) (is_large most (Map outputs input) instance rest) b.each (fewer_map most outputs (outcome input instance rest) b.small);
     }
 
     pub distinct_done : outcome_of o ≡ and_then (given_of instance below.outcome) (λ rows. Ok (distinct rows)) → IsEvaluated most (Distinct input) instance choice first (record { outcome = Made o; next = below.next })
@@ -78,6 +83,7 @@ module _ (most : ℕ) (instance : Instance) (choice : List (List ℕ)) (first : 
       next = b.next;
       served = record { present = b.served.present; lawful = b.served.lawful };
       small = fewer_distinct most (outcome input instance rest) b.small;
+      each = neither (has_large_step most input instance rest) (is_large most (Distinct input) instance rest) b.each (fewer_distinct most (outcome input instance rest) b.small);
     }
 
   pub filter_stopped : (condition : Expression) (input : PlanTree) (e : EvalError) → IsStopped most input instance rest e → IsStopped most (Filter condition input) instance rest e
@@ -120,6 +126,7 @@ module _ (most : ℕ) (instance : Instance) (choice : List (List ℕ)) (first : 
             lawful = (b.served.lawful, subst (λ (r : RowsOrFault). IsLawfulWindow w r (own_window w input)) b.is (subst (IsLawfulWindow w (given_of instance below.outcome)) own_is x.served.lawful));
           };
           small = fewer_window most w (own_window w input) (outcome input instance rest) b.small;
+          each = neither (has_large_step most input instance rest) (is_large most (Window w input) instance rest) b.each (fewer_window most w (own_window w input) (outcome input instance rest) b.small);
         }
 
     pub window_stopped : (e : EvalError) → IsUnserved (IsWindowServed w (given_of instance below.outcome) choice below.next) e → IsStopped most (Window w input) instance rest e
@@ -159,6 +166,7 @@ module _ (most : ℕ) (instance : Instance) (choice : List (List ℕ)) (first : 
           next = omega arith;
           served = record { present = omega arith; lawful = (b.served.lawful, lawful) };
           small = fewer_cut most limit (ordering_at rest (ordering_count input)) (outcome input instance rest) lawful b.small;
+          each = neither (has_large_step most input instance rest) (is_large most (Limit limit input) instance rest) b.each (fewer_cut most limit (ordering_at rest (ordering_count input)) (outcome input instance rest) lawful b.small);
         }
 
     pub limit_stopped : (e : EvalError) → IsUnserved (IsLimitServed limit (given_of instance below.outcome) choice below.next) e → IsStopped most (Limit limit input) instance rest e
@@ -226,6 +234,7 @@ module _ (most : ℕ) (instance : Instance) (choice : List (List ℕ)) (first : 
               lawful = (a.served.lawful, subst (AreLawful right instance) right_is b.served.lawful);
             };
             small = ap (has_more_rows most) (sym below_is) ∙ s.small;
+            each = neither (has_large_step most left instance all || has_large_step most right instance on_right) (is_large most (Join condition left right) instance all) (neither (has_large_step most left instance all) (has_large_step most right instance on_right) a.each (subst (λ ch. has_large_step most right instance ch ≡ false) right_is b.each)) (ap (has_more_rows most) (sym below_is) ∙ s.small);
           }
 
       pub join_stopped : (e : EvalError) → IsLarge most below e → IsStopped most (Join condition left right) instance all e

@@ -102,6 +102,21 @@ module _ (instance : Instance) (flipped : Option ℕ) where
             (subst (λ (r : RowsOrFault). IsSortedOver (limit_class limit) (is_flipped flipped (first + n)) r (ordering_at choice n)) (sym below) s.1),
       )
 
+-- orderings behind a plan's own change no step's size
+large-append : (most : ℕ) (instance : Instance) (plan : PlanTree) (choice more : List (List ℕ)) → ordering_count plan ≤ length choice → has_large_step most plan instance (choice ++ more) ≡ has_large_step most plan instance choice
+large-append most instance (Scan table columns) choice more h = refl
+large-append most instance (Join condition left right) choice more h =
+    let n = ordering_count left in
+    let long = length-drop n choice in
+    let rest = ap (has_large_step most right instance) (drop-append-le n choice more (omega arith)) ∙ large-append most instance right (drop n choice) more (omega arith) in
+    let here = ap (has_more_rows most) (outcome-append (Join condition left right) instance choice more h) in
+    λ i. (large-append most instance left choice more (omega arith) i || rest i) || here i
+large-append most instance (Filter condition input) choice more h = λ i. large-append most instance input choice more h i || has_more_rows most (outcome-append (Filter condition input) instance choice more h i)
+large-append most instance (Map outputs input) choice more h = λ i. large-append most instance input choice more h i || has_more_rows most (outcome-append (Map outputs input) instance choice more h i)
+large-append most instance (Window w input) choice more h = λ i. large-append most instance input choice more (omega arith) i || has_more_rows most (outcome-append (Window w input) instance choice more h i)
+large-append most instance (Distinct input) choice more h = λ i. large-append most instance input choice more h i || has_more_rows most (outcome-append (Distinct input) instance choice more h i)
+large-append most instance (Limit limit input) choice more h = λ i. large-append most instance input choice more (omega arith) i || has_more_rows most (outcome-append (Limit limit input) instance choice more h i)
+
 pub evaluated_append : (most : ℕ) (plan : PlanTree) (instance : Instance) (choice more : List (List ℕ)) (first : ℕ) (e : Evaluated) → first ≤ length choice → IsEvaluated most plan instance choice first e → IsEvaluated most plan instance (choice ++ more) first e
 evaluated_append most plan instance choice more first e h b =
     let cut_off = drop-append-le first choice more h in
@@ -116,6 +131,7 @@ evaluated_append most plan instance choice more first e h b =
         lawful = subst (AreLawful plan instance) (sym cut_off) (AreLawful-append plan instance (drop first choice) more there b.served.lawful);
       };
       small = ap (has_more_rows most) same ∙ b.small;
+      each = ap (has_large_step most plan instance) cut_off ∙ large-append most instance plan (drop first choice) more there ∙ b.each;
     }
 
 -- ---- nodes
@@ -329,11 +345,12 @@ module _ (most : ℕ) (instance : Instance) (flipped : Option ℕ) (old : List (
 -- ---- whole plans
 
 module _ (most : ℕ) (plan : PlanTree) (instance : Instance) (flipped : Option ℕ) (new : List (List ℕ)) (g : Given) (t : IsTied most plan instance flipped [] new g) where
-  pub tied_valid : IsValidTiedChoice plan instance flipped new
+  pub tied_valid : IsValidTiedChoice most plan instance flipped new
   tied_valid = record {
     tied = record { number = t.evaluated.next ∙ omega arith; tied = t.tied };
     valid = record { number = t.evaluated.next ∙ omega arith; lawful = t.evaluated.served.lawful };
+    small = t.evaluated.each;
   }
 
-  pub tied_outcome : (o : Outcome) → outcome_of o ≡ given_of instance g → IsOutcome plan instance new o
-  tied_outcome o e = record { valid = tied_valid.valid; is = e ∙ t.evaluated.is }
+  pub tied_outcome : (o : Outcome) → outcome_of o ≡ given_of instance g → IsOutcome most plan instance new o
+  tied_outcome o e = record { valid = tied_valid.valid; small = t.evaluated.each; is = e ∙ t.evaluated.is }

@@ -1,5 +1,5 @@
 -- What a plan gives under a choice, or why it gives nothing, as contracts see it.
-use Rattle.std.specs.Prelude.{◌≡◌, ℕ, true, List, ⊤}
+use Rattle.std.specs.Prelude.{◌≡◌, ℕ, true, false, List, ⊤}
 use Rattle.wd_value.specs.Rows.{Instance}
 use Rattle.wd_plan.specs.declared.plan.Outcome.{Outcome}
 use Rattle.wd_plan.specs.Choices.{IsValidChoice}
@@ -15,7 +15,13 @@ IsRefused most plan instance choice (NotValid place) = IsValidChoice plan instan
 IsRefused most plan instance choice TooManyRows = has_large_step most plan instance choice ≡ true
 IsRefused most plan instance choice OutOfMemory = ⊤
 
--- the outcome under a valid choice
-pub record IsOutcome (plan : PlanTree) (instance : Instance) (choice : List (List ℕ)) (o : Outcome) : Type 0 where
+-- a valid choice, under which no step has more rows than this
+pub record IsAllowedChoice (most : ℕ) (plan : PlanTree) (instance : Instance) (choice : List (List ℕ)) : Type 0 where
   pub valid : IsValidChoice plan instance choice
+  pub small : has_large_step most plan instance choice ≡ false
+
+-- the outcome under a valid choice, under which no step has more rows than this
+pub record IsOutcome (most : ℕ) (plan : PlanTree) (instance : Instance) (choice : List (List ℕ)) (o : Outcome) : Type 0 where
+  pub valid : IsValidChoice plan instance choice
+  pub small : has_large_step most plan instance choice ≡ false
   pub is : outcome_of o ≡ outcome plan instance choice

@@ -48,12 +48,13 @@ pub record IsServed (plan : PlanTree) (instance : Instance) (choice : List (List
   pub present : ordering_count plan ≤ length choice
   pub lawful : AreLawful plan instance choice
 
--- the plan's outcome under the orderings from `first` on, with the number of the next one
+-- the plan's outcome under the orderings from `first` on, with the number of the next one; no step is too large
 pub record IsEvaluated (most : ℕ) (plan : PlanTree) (instance : Instance) (choice : List (List ℕ)) (first : ℕ) (e : Evaluated) : Type 0 where
   pub is : given_of instance e.outcome ≡ outcome plan instance (drop first choice)
   pub next : e.next ≡ first + ordering_count plan
   pub served : IsServed plan instance (drop first choice)
   pub small : has_more_rows most (outcome plan instance (drop first choice)) ≡ false
+  pub each : has_large_step most plan instance (drop first choice) ≡ false
 
 -- each error only where its cause stands
 abbrev pub IsStopped : ℕ → PlanTree → Instance → List (List ℕ) → EvalError → Type 0

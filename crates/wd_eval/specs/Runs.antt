@@ -7,11 +7,11 @@ use Rattle.wd_eval.specs.Judged.{IsOutcome}
 use Rattle.wd_eval.specs.Tied.{IsTiedChoice, IsTiedRefused}
 use Rattle.wd_eval.specs.declared.error.EvalError.{EvalError}
 
--- the outcome under a valid choice that leaves rows that tie as they are
-pub record IsRun (plan : PlanTree) (instance : Instance) (o : Outcome) : Type 0 where
+-- the outcome under a valid choice that leaves rows that tie as they are, and under which no step has more rows than this
+pub record IsRun (most : ℕ) (plan : PlanTree) (instance : Instance) (o : Outcome) : Type 0 where
   pub choice : List (List ℕ)
   pub tied : IsTiedChoice plan instance None choice
-  pub outcome : IsOutcome plan instance choice o
+  pub outcome : IsOutcome most plan instance choice o
 
 -- why a plan has no outcome under that choice
 abbrev pub IsRunRefused : ℕ → PlanTree → Instance → EvalError → Type 0

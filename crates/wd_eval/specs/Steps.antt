@@ -5,6 +5,10 @@ use Rattle.wd_plan.specs.Outcomes.{outcome}
 use Rattle.wd_plan.specs.Plans.{PlanTree, Scan, Join, Filter, Map, Window, Distinct, Limit, ordering_count}
 use Rattle.wd_steps.specs.Joins.{has_more_rows}
 
+-- the most rows that a step may have
+abbrev pub most_rows : ℕ
+most_rows = 10000000
+
 -- whether the plan's last step has more rows than this
 abbrev pub is_large : ℕ → PlanTree → Instance → List (List ℕ) → Bool
 is_large most plan instance choice = has_more_rows most (outcome plan instance choice)

@@ -46,10 +46,11 @@ pub record IsTiedChoice (plan : PlanTree) (instance : Instance) (flipped : Optio
   pub number : length choice ≡ ordering_count plan
   pub tied : AreTied plan instance flipped 0 choice
 
--- that choice, which is valid
-pub record IsValidTiedChoice (plan : PlanTree) (instance : Instance) (flipped : Option ℕ) (choice : List (List ℕ)) : Type 0 where
+-- that choice, which is valid; no step has more rows than this under it
+pub record IsValidTiedChoice (most : ℕ) (plan : PlanTree) (instance : Instance) (flipped : Option ℕ) (choice : List (List ℕ)) : Type 0 where
   pub tied : IsTiedChoice plan instance flipped choice
   pub valid : IsValidChoice plan instance choice
+  pub small : has_large_step most plan instance choice ≡ false
 
 -- some step has more rows than this under that choice
 pub record IsTiedTooLarge (most : ℕ) (plan : PlanTree) (instance : Instance) (flipped : Option ℕ) : Type 0 where

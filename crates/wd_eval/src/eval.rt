@@ -1,11 +1,11 @@
 //! Plans under choices of orderings.
 
 ghost use Rattle.std.specs.Prelude.{◌≡◌, true, MatchResult, None};
-ghost use Rattle.wd_eval.specs.Judged.{IsOutcome, IsRefused};
+ghost use Rattle.wd_eval.specs.Judged.{IsAllowedChoice, IsOutcome, IsRefused};
 ghost use Rattle.wd_window.specs.Windows.{orderings_of};
 ghost use Rattle.wd_eval.specs.Runs.{IsRun, IsRunRefused};
+ghost use Rattle.wd_eval.specs.Steps.{most_rows};
 ghost use Rattle.wd_eval.specs.Tied.{IsTiedRefused, IsValidTiedChoice};
-ghost use Rattle.wd_plan.specs.Choices.{IsValidChoice};
 ghost use Rattle.wd_plan.specs.Fits.{fits};
 ghost use Rattle.wd_plan.specs.Plans.{plan_of};
 ghost use Rattle.wd_schema.specs.Schemas.{schema_of};
@@ -35,7 +35,7 @@ pub fn eval_with(
     choice: &Choice,
 ) -> Result<Outcome, EvalError>
     requires { fits (schema_of schema.now) (plan_of plan.now) ≡ true }
-    ensures { MatchResult result (λ o. IsOutcome (plan_of plan.now) (instance_of instance.now.items) (orderings_of choice.now.orderings.items) o) (λ e. IsRefused 10000000 (plan_of plan.now) (instance_of instance.now.items) (orderings_of choice.now.orderings.items) e) }
+    ensures { MatchResult result (λ o. IsOutcome most_rows (plan_of plan.now) (instance_of instance.now.items) (orderings_of choice.now.orderings.items) o) (λ e. IsRefused most_rows (plan_of plan.now) (instance_of instance.now.items) (orderings_of choice.now.orderings.items) e) }
 {
     let evaluated = evaluate(alloc, plan, instance, &choice.orderings, 0, MOST_ROWS)?;
     if evaluated.next < choice.orderings.len() {
@@ -56,7 +56,7 @@ pub fn check_choice(
     choice: &Choice,
 ) -> Result<(), EvalError>
     requires { fits (schema_of schema.now) (plan_of plan.now) ≡ true }
-    ensures { MatchResult result (λ u. IsValidChoice (plan_of plan.now) (instance_of instance.now.items) (orderings_of choice.now.orderings.items)) (λ e. IsRefused 10000000 (plan_of plan.now) (instance_of instance.now.items) (orderings_of choice.now.orderings.items) e) }
+    ensures { MatchResult result (λ u. IsAllowedChoice most_rows (plan_of plan.now) (instance_of instance.now.items) (orderings_of choice.now.orderings.items)) (λ e. IsRefused most_rows (plan_of plan.now) (instance_of instance.now.items) (orderings_of choice.now.orderings.items) e) }
 {
     let _outcome = eval_with(alloc, plan, schema, instance, choice)?;
     Ok(())
@@ -74,7 +74,7 @@ pub fn tied_choice(
     flipped: Option<u32>,
 ) -> Result<Choice, EvalError>
     requires { fits (schema_of schema.now) (plan_of plan.now) ≡ true }
-    ensures { MatchResult result (λ c. IsValidTiedChoice (plan_of plan.now) (instance_of instance.now.items) flipped (orderings_of c.orderings.items)) (λ e. IsTiedRefused 10000000 (plan_of plan.now) (instance_of instance.now.items) flipped e) }
+    ensures { MatchResult result (λ c. IsValidTiedChoice most_rows (plan_of plan.now) (instance_of instance.now.items) flipped (orderings_of c.orderings.items)) (λ e. IsTiedRefused most_rows (plan_of plan.now) (instance_of instance.now.items) flipped e) }
 {
     let mut orderings = Vec::new(alloc);
     tied(alloc, plan, instance, flipped, MOST_ROWS, &mut orderings)?;
@@ -89,7 +89,7 @@ pub fn first_choice(
     instance: &Instance,
 ) -> Result<Choice, EvalError>
     requires { fits (schema_of schema.now) (plan_of plan.now) ≡ true }
-    ensures { MatchResult result (λ c. IsValidTiedChoice (plan_of plan.now) (instance_of instance.now.items) None (orderings_of c.orderings.items)) (λ e. IsTiedRefused 10000000 (plan_of plan.now) (instance_of instance.now.items) None e) }
+    ensures { MatchResult result (λ c. IsValidTiedChoice most_rows (plan_of plan.now) (instance_of instance.now.items) None (orderings_of c.orderings.items)) (λ e. IsTiedRefused most_rows (plan_of plan.now) (instance_of instance.now.items) None e) }
 {
     tied_choice(alloc, plan, schema, instance, None)
 }
@@ -102,7 +102,7 @@ pub fn run_plan(
     instance: &Instance,
 ) -> Result<Outcome, EvalError>
     requires { fits (schema_of schema.now) (plan_of plan.now) ≡ true }
-    ensures { MatchResult result (λ o. IsRun (plan_of plan.now) (instance_of instance.now.items) o) (λ e. IsRunRefused 10000000 (plan_of plan.now) (instance_of instance.now.items) e) }
+    ensures { MatchResult result (λ o. IsRun most_rows (plan_of plan.now) (instance_of instance.now.items) o) (λ e. IsRunRefused most_rows (plan_of plan.now) (instance_of instance.now.items) e) }
 {
     let mut orderings = Vec::new(alloc);
     let given = tied(alloc, plan, instance, None, MOST_ROWS, &mut orderings)?;

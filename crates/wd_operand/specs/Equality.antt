@@ -5,6 +5,8 @@ use Rattle.wd_plan.specs.declared.expression.ArithmeticOp.{ArithmeticOp}
 use Rattle.wd_plan.specs.declared.expression.ArithmeticOp.TheVariants as a
 use Rattle.wd_plan.specs.declared.expression.ComparisonOp.{ComparisonOp}
 use Rattle.wd_plan.specs.declared.expression.ComparisonOp.TheVariants as c
+use Rattle.wd_plan.specs.declared.expression.Branch.{Branch}
+use Rattle.wd_plan.specs.declared.expression.Branch.TheVariants.{First, Later}
 use Rattle.wd_plan.specs.Expressions.{Expression, Column, Literal, Negate, Arithmetic, Compare, Not, And, Or, IsNull, IsNotNull, Case}
 use Rattle.wd_plan.specs.Fits.{same_kind}
 
@@ -25,7 +27,12 @@ comparison_number c.LessOrEqual = 3
 comparison_number c.Greater = 4
 comparison_number c.GreaterOrEqual = 5
 
--- one and the same tree; a literal's kind counts
+abbrev pub same_branch : Branch → Branch → Bool
+same_branch First First = true
+same_branch Later Later = true
+same_branch a b = false
+
+-- one and the same tree; a literal's kind counts, and a CASE within ELSE is another tree than a further branch
 abbrev pub same_expression : Expression → Expression → Bool
 same_expression (Column c) (Column d) = nat_eq c d
 same_expression (Literal v kind) (Literal w other) = same v w && same_kind kind other
@@ -37,5 +44,5 @@ same_expression (And a b) (And c d) = same_expression a c && same_expression b d
 same_expression (Or a b) (Or c d) = same_expression a c && same_expression b d
 same_expression (IsNull a) (IsNull b) = same_expression a b
 same_expression (IsNotNull a) (IsNotNull b) = same_expression a b
-same_expression (Case a b c) (Case a' b' c') = same_expression a a' && (same_expression b b' && same_expression c c')
+same_expression (Case branch a b c) (Case other a' b' c') = same_branch branch other && (same_expression a a' && (same_expression b b' && same_expression c c'))
 same_expression a b = false

@@ -12,6 +12,8 @@ use Rattle.wd_plan.specs.declared.expression.ValueKind.{ValueKind}
 use Rattle.wd_plan.specs.declared.expression.ValueKind.TheVariants.{Number, Text, Truth}
 use Rattle.wd_plan.specs.declared.expression.ArithmeticOp.TheVariants as arithmetic
 use Rattle.wd_plan.specs.declared.expression.ComparisonOp.TheVariants as comparison
+use Rattle.wd_plan.specs.declared.expression.Branch.{Branch}
+use Rattle.wd_plan.specs.declared.expression.Branch.TheVariants.{First, Later}
 use Rattle.wd_plan.specs.Expressions as e
 use Rattle.wd_plan.specs.Expressions.{Expression, expression_of}
 use Rattle.wd_plan.specs.Fits.{same_kind}
@@ -174,16 +176,22 @@ abbrev pub rest_meant : Expression → Meant Expression
 rest_meant rest = Ok rest
 
 -- WHEN a truth value THEN a result of this kind, before the rest; each of them may be of a wrong type only
-abbrev pub arm_over : ValueKind → Operand × Operand → Meant Expression → Meant Expression
-arm_over kind arm rest = do
+abbrev pub arm_over : Branch → ValueKind → Operand × Operand → Meant Expression → Meant Expression
+arm_over branch kind arm rest = do
   otherwise ← rest
   when ← of_kind Truth arm.0
   gives ← of_kind kind arm.1
-  Ok (e.Case when gives otherwise)
+  Ok (e.Case branch when gives otherwise)
 
-abbrev pub arms_over : ValueKind → List (Operand × Operand) → Meant Expression → Meant Expression
-arms_over kind [] rest = rest
-arms_over kind (arm ∷ arms) rest = arm_over kind arm (arms_over kind arms rest)
+-- the branches of a CASE from this one on, before its rest
+abbrev pub arms_over : Branch → ValueKind → List (Operand × Operand) → Meant Expression → Meant Expression
+arms_over branch kind [] rest = rest
+arms_over branch kind (arm ∷ arms) rest = arm_over branch kind arm (arms_over Later kind arms rest)
+
+-- the branch that stands after these
+abbrev pub branch_after : Branch → List (Operand × Operand) → Branch
+branch_after branch [] = branch
+branch_after branch (arm ∷ arms) = Later
 
 -- the kind that the results of a CASE ask for
 abbrev pub case_kind : List (Operand × Operand) → Operand → ValueKind
@@ -191,4 +199,4 @@ case_kind arms other = asked_by_all (map (λ arm. arm.1) arms ++ other ∷ [])
 
 -- a CASE is judged after all its parts
 abbrev pub case_of : List (Operand × Operand) → Operand → Meant Operand
-case_of arms other = of_kind (case_kind arms other) other >>= λ rest. arms_over (case_kind arms other) arms (Ok rest) >>= λ whole. Ok (typed whole (case_kind arms other))
+case_of arms other = of_kind (case_kind arms other) other >>= λ rest. arms_over First (case_kind arms other) arms (Ok rest) >>= λ whole. Ok (typed whole (case_kind arms other))

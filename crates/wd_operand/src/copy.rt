@@ -47,10 +47,10 @@ fn boxed_copy(alloc: Global, expression: &Expr) -> Result<Box<Expr>, OutOfMemory
         }
         Expr::IsNull(a) => boxed(alloc, Expr::IsNull(boxed_copy(alloc, a)?)),
         Expr::IsNotNull(a) => boxed(alloc, Expr::IsNotNull(boxed_copy(alloc, a)?)),
-        Expr::Case(a, b, c) => {
+        Expr::Case(branch, a, b, c) => {
             let a = boxed_copy(alloc, a)?;
             let b = boxed_copy(alloc, b)?;
-            boxed(alloc, Expr::Case(a, b, boxed_copy(alloc, c)?))
+            boxed(alloc, Expr::Case(*branch, a, b, boxed_copy(alloc, c)?))
         }
     }
 }

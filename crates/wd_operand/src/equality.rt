@@ -5,7 +5,7 @@ ghost use Rattle.wd_plan.specs.Expressions.{expression_of};
 ghost use Rattle.wd_operand.specs.Equality as spec;
 
 use crate::meaning::same_kind;
-use wd_plan::{ArithmeticOp, ComparisonOp, Expr};
+use wd_plan::{ArithmeticOp, Branch, ComparisonOp, Expr};
 use wd_value::same;
 
 fn arithmetic_number(op: ArithmeticOp) -> u8
@@ -33,7 +33,14 @@ fn comparison_number(op: ComparisonOp) -> u8
     }
 }
 
-/// Whether two expressions are one and the same tree; a literal's kind counts.
+fn same_branch(a: Branch, b: Branch) -> bool
+    ensures { result ≡ spec.same_branch a b }
+{
+    a == b
+}
+
+/// Whether two expressions are one and the same tree. A literal's kind counts, and a CASE within ELSE is another tree
+/// than a further branch.
 pub fn same_expression(left: &Expr, right: &Expr) -> bool
     ensures { result ≡ spec.same_expression (expression_of left.now) (expression_of right.now) }
 {
@@ -54,8 +61,8 @@ pub fn same_expression(left: &Expr, right: &Expr) -> bool
         (Expr::Or(a, b), Expr::Or(c, d)) => same_expression(a, c) && same_expression(b, d),
         (Expr::IsNull(a), Expr::IsNull(b)) => same_expression(a, b),
         (Expr::IsNotNull(a), Expr::IsNotNull(b)) => same_expression(a, b),
-        (Expr::Case(a, b, c), Expr::Case(x, y, z)) => same_expression(a, x)
-            && (same_expression(b, y) && same_expression(c, z)),
+        (Expr::Case(branch, a, b, c), Expr::Case(other, x, y, z)) => same_branch(*branch, *other)
+            && (same_expression(a, x) && (same_expression(b, y) && same_expression(c, z))),
         _ => false,
     }
 }

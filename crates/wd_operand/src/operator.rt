@@ -9,7 +9,7 @@ ghost use Rattle.wd_operand.specs.Operands as spec;
 use crate::cause::ResolveError;
 use crate::meaning::Meaning;
 use std::alloc::Global;
-use wd_plan::{ArithmeticOp, ComparisonOp, Expr, ValueKind};
+use wd_plan::{ArithmeticOp, Branch, ComparisonOp, Expr, ValueKind};
 use wd_syntax::{Operator, Sign};
 
 /// A sign over an operand; a plus leaves no node.
@@ -150,34 +150,47 @@ fn case_kind(arms: &[CaseArm], other: &Meaning) -> ValueKind
     other.kind()
 }
 
+/// Which branch of its CASE stands after these.
+fn branch_after(arms: &[CaseArm]) -> Branch
+    ensures { result ≡ spec.branch_after Branch.First (map spec.arm_of arms.now) }
+{
+    if arms.is_empty() {
+        Branch::First
+    } else {
+        Branch::Later
+    }
+}
+
 /// A condition and a result, before the rest of a CASE.
 fn arm_over(
     alloc: Global,
+    branch: Branch,
     kind: ValueKind,
     arm: CaseArm,
     rest: Box<Expr>,
 ) -> Result<Box<Expr>, ResolveError>
-    ensures { Gives (λ e. expression_of e.value) result (spec.arm_over kind (spec.arm_of arm) (spec.rest_meant (expression_of rest.value))) }
+    ensures { Gives (λ e. expression_of e.value) result (spec.arm_over branch kind (spec.arm_of arm) (spec.rest_meant (expression_of rest.value))) }
 {
     let CaseArm { when, gives } = arm;
     let when = when.of_kind(alloc, ValueKind::Truth)?;
     let gives = gives.of_kind(alloc, kind)?;
-    Ok(Box::new(alloc, Expr::Case(when, gives, rest))?)
+    Ok(Box::new(alloc, Expr::Case(branch, when, gives, rest))?)
 }
 
-/// Conditions and results, before the rest of a CASE.
+/// All branches of a CASE, before what ELSE gives.
 fn arms_over(
     alloc: Global,
     kind: ValueKind,
     arms: Vec<CaseArm>,
     rest: Box<Expr>,
 ) -> Result<Box<Expr>, ResolveError>
-    ensures { Gives (λ e. expression_of e.value) result (spec.arms_over kind (map spec.arm_of arms.items) (spec.rest_meant (expression_of rest.value))) }
+    ensures { Gives (λ e. expression_of e.value) result (spec.arms_over Branch.First kind (map spec.arm_of arms.items) (spec.rest_meant (expression_of rest.value))) }
 {
     let mut arms = arms;
     let mut rest = rest;
     while let Some(arm) = arms.pop() {
-        match arm_over(alloc, kind, arm, rest) {
+        let branch = branch_after(&arms);
+        match arm_over(alloc, branch, kind, arm, rest) {
             Ok(more) => rest = more,
             Err(error) => return Err(error),
         }

@@ -14,6 +14,7 @@ use Rattle.wd_plan.specs.declared.expression.ArithmeticOp.{ArithmeticOp}
 use Rattle.wd_plan.specs.declared.expression.ArithmeticOp.TheVariants.{Add, Subtract, Multiply, Divide, Remainder}
 use Rattle.wd_plan.specs.declared.expression.ComparisonOp.{ComparisonOp}
 use Rattle.wd_plan.specs.declared.expression.ComparisonOp.TheVariants.{Equal, NotEqual, Less, LessOrEqual, Greater, GreaterOrEqual}
+use Rattle.wd_plan.specs.declared.expression.Branch.{Branch}
 use Rattle.wd_plan.specs.declared.expression.Expr.{Expr}
 use Rattle.wd_plan.specs.declared.expression.Expr.TheVariants as code
 
@@ -29,8 +30,8 @@ pub data Expression : Type 0 where
   Or : Expression → Expression → Expression
   IsNull : Expression → Expression
   IsNotNull : Expression → Expression
-  -- the second where the first is true, else the third
-  Case : Expression → Expression → Expression → Expression
+  -- a branch of a CASE: its condition, its result, and the rest, which is the next branch or what ELSE gives
+  Case : Branch → Expression → Expression → Expression → Expression
 
 -- the expression that a value of the code shows
 abbrev pub expression_of : Expr → Expression
@@ -44,7 +45,7 @@ expression_of (code.And' p a q b) = And (expression_of a) (expression_of b)
 expression_of (code.Or' p a q b) = Or (expression_of a) (expression_of b)
 expression_of (code.IsNull' p a) = IsNull (expression_of a)
 expression_of (code.IsNotNull' p a) = IsNotNull (expression_of a)
-expression_of (code.Case' p a q b r c) = Case (expression_of a) (expression_of b) (expression_of c)
+expression_of (code.Case' branch p a q b r c) = Case branch (expression_of a) (expression_of b) (expression_of c)
 
 -- ---- whole numbers
 
@@ -150,4 +151,4 @@ value_of (And a b) row = and_then (value_of a row) (λ v. and_result v (value_of
 value_of (Or a b) row = and_then (value_of a row) (λ v. or_result v (value_of b row))
 value_of (IsNull a) row = and_then (value_of a row) (λ v. Ok (Truth (is_null v)))
 value_of (IsNotNull a) row = and_then (value_of a row) (λ v. Ok (Truth (not (is_null v))))
-value_of (Case a b c) row = and_then (value_of a row) (λ v. if is_true v then value_of b row else value_of c row)
+value_of (Case branch a b c) row = and_then (value_of a row) (λ v. if is_true v then value_of b row else value_of c row)

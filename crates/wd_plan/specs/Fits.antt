@@ -82,7 +82,7 @@ source_of (And a b) = Always Truth
 source_of (Or a b) = Always Truth
 source_of (IsNull a) = Always Truth
 source_of (IsNotNull a) = Always Truth
-source_of (Case a b c) = source_of b
+source_of (Case branch a b c) = source_of b
 
 abbrev pub kind_of : Kinds → Expression → Option ValueKind
 kind_of kinds e = kind_from kinds (source_of e)
@@ -100,7 +100,7 @@ is_typed kinds (And a b) = (is_typed kinds a && is_kind Truth (kind_of kinds a))
 is_typed kinds (Or a b) = (is_typed kinds a && is_kind Truth (kind_of kinds a)) && (is_typed kinds b && is_kind Truth (kind_of kinds b))
 is_typed kinds (IsNull a) = is_typed kinds a
 is_typed kinds (IsNotNull a) = is_typed kinds a
-is_typed kinds (Case a b c) = (is_typed kinds a && is_kind Truth (kind_of kinds a)) && ((is_typed kinds b && is_typed kinds c) && are_alike (kind_of kinds b) (kind_of kinds c))
+is_typed kinds (Case branch a b c) = (is_typed kinds a && is_kind Truth (kind_of kinds a)) && ((is_typed kinds b && is_typed kinds c) && are_alike (kind_of kinds b) (kind_of kinds c))
 
 -- a condition is a truth value
 abbrev pub is_condition : Kinds → Expression → Bool

@@ -29,6 +29,14 @@ pub enum ComparisonOp {
     GreaterOrEqual,
 }
 
+/// Which branch of a CASE one is. Its value doesn't rest on that; a further branch is another expression than a CASE
+/// within ELSE.
+#[derive(Clone, Copy, PartialEq, Eq, Debug)]
+pub enum Branch {
+    First,
+    Later,
+}
+
 /// A scalar expression over the columns of a row, which are counted from 0.
 #[derive(Debug, Drop)]
 pub enum Expr {
@@ -43,6 +51,7 @@ pub enum Expr {
     Or(Box<Expr>, Box<Expr>),
     IsNull(Box<Expr>),
     IsNotNull(Box<Expr>),
-    /// The second where the first is true, else the third: a CASE with more branches is nested.
-    Case(Box<Expr>, Box<Expr>, Box<Expr>),
+    /// A branch of a CASE: the first part is its condition, the second its result, the third the rest, which is the
+    /// next branch or what ELSE gives.
+    Case(Branch, Box<Expr>, Box<Expr>, Box<Expr>),
 }

@@ -212,7 +212,7 @@ impl Expr {
             Expr::Column(c) => KindSource::OfColumn(*c),
             Expr::Literal(_, kind) => KindSource::Always(*kind),
             Expr::Negate(_) | Expr::Arithmetic(_, _, _) => KindSource::Always(ValueKind::Number),
-            Expr::Case(_, chosen, _) => chosen.source(),
+            Expr::Case(_, _, chosen, _) => chosen.source(),
             _ => KindSource::Always(ValueKind::Truth),
         }
     }
@@ -251,7 +251,7 @@ impl Expr {
                     && b.is_of(ValueKind::Truth, input, schema)
             }
             Expr::IsNull(a) | Expr::IsNotNull(a) => a.is_typed(input, schema),
-            Expr::Case(a, b, c) => {
+            Expr::Case(_, a, b, c) => {
                 a.is_typed(input, schema)
                     && a.is_of(ValueKind::Truth, input, schema)
                     && b.is_typed(input, schema)

@@ -8,6 +8,6 @@ pub mod laws;
 mod plan;
 mod window;
 
-pub use expression::{ArithmeticOp, ComparisonOp, Expr, ValueKind};
+pub use expression::{ArithmeticOp, Branch, ComparisonOp, Expr, ValueKind};
 pub use plan::{Choice, OrderItem, Outcome, Plan};
 pub use window::{Bound, Call, Class, Exclusion, Frame, FrameMode, Function};

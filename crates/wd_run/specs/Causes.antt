@@ -25,6 +25,7 @@ use Rattle.wd_tables.specs.Causes as records
 use Rattle.wd_tables.specs.declared.error.DataError.{DataError}
 use Rattle.wd_eval.specs.Errors as steps
 use Rattle.wd_eval.specs.Runs.{IsRunRefused}
+use Rattle.wd_eval.specs.Steps.{most_rows}
 use Rattle.wd_eval.specs.declared.error.EvalError.{EvalError}
 use Rattle.wd_run.specs.Runs.{HoldsData, IsGiven, IsNamed, ReadsTable}
 use Rattle.wd_run.specs.declared.query.QueryError.{QueryError}
@@ -130,7 +131,7 @@ pub record HasDataCause (tables : List TableRule) (given : List (List ℕ × Lis
 pub record HasStepCause (tables : List TableRule) (given : List (List ℕ × List ℕ)) (plan : PlanTree) (error : EvalError) : Type 0 where
   pub instance : Instance
   pub data_holds : HoldsData tables given instance
-  pub cause : IsRunRefused 10000000 plan instance error
+  pub cause : IsRunRefused most_rows plan instance error
 
 -- the texts read as a plan over the schema's tables, of which this holds
 abbrev pub ForReading : List ℕ → List ℕ → (List TableRule → PlanTree → Type 0) → Type 0

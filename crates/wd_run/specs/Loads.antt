@@ -11,6 +11,7 @@ use Rattle.wd_tables.specs.Causes as records
 use Rattle.wd_value.specs.Rows.{Instance}
 use Rattle.wd_plan.specs.declared.plan.Outcome.{Outcome}
 use Rattle.wd_eval.specs.Runs.{IsRun}
+use Rattle.wd_eval.specs.Steps.{most_rows}
 use Rattle.wd_run.specs.Causes.{HasDataCause, HasNameCause, HasStepCause, IsGivenTwice, IsNoTable, LacksData}
 use Rattle.wd_run.specs.Runs.{HasData, HoldsData, IsGiven, IsNamed}
 use Rattle.wd_run.specs.declared.error.RunError.{RunError}
@@ -74,7 +75,7 @@ pub record GivesOutcome (tables : List TableRule) (given : List (List ℕ × Lis
   pub instance : Instance
   pub has_data : HasData tables given plan
   pub data_holds : HoldsData tables given instance
-  pub ran : IsRun plan instance o
+  pub ran : IsRun most_rows plan instance o
 
 -- why a plan has no outcome over the data given
 abbrev pub RefusesOutcome : List TableRule → List (List ℕ × List ℕ) → PlanTree → RunError → Type 0

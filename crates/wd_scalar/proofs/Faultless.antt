@@ -58,7 +58,7 @@ never_faults (Or a b) row h =
     then_value (value_of a row) _ (never_faults a row parts.0) (λ v. or_value v (value_of b row) right)
 never_faults (IsNull a) row h = then_value (value_of a row) _ (never_faults a row h) (λ v. (_, refl))
 never_faults (IsNotNull a) row h = then_value (value_of a row) _ (never_faults a row h) (λ v. (_, refl))
-never_faults (Case a b c) row h =
+never_faults (Case branch a b c) row h =
     let parts = neither (has_arithmetic a) (has_arithmetic b || has_arithmetic c) h in
     let others = neither (has_arithmetic b) (has_arithmetic c) parts.1 in
     let yes_value = never_faults b row others.0 in

@@ -14,4 +14,4 @@ has_arithmetic (And a b) = has_arithmetic a || has_arithmetic b
 has_arithmetic (Or a b) = has_arithmetic a || has_arithmetic b
 has_arithmetic (IsNull a) = has_arithmetic a
 has_arithmetic (IsNotNull a) = has_arithmetic a
-has_arithmetic (Case a b c) = has_arithmetic a || (has_arithmetic b || has_arithmetic c)
+has_arithmetic (Case branch a b c) = has_arithmetic a || (has_arithmetic b || has_arithmetic c)

@@ -19,14 +19,14 @@ applied_to (And a b) row v = and_result v (value_of b row)
 applied_to (Or a b) row v = or_result v (value_of b row)
 applied_to (Column c) row v = Ok Null
 applied_to (Literal w kind) row v = Ok Null
-applied_to (Case a b c) row v = Ok Null
+applied_to (Case branch a b c) row v = Ok Null
 
 abbrev pub applied : Expression → Row → Result Value Fault → Result Value Fault
 applied e row first = and_then first (applied_to e row)
 
 -- the value of a CASE; another expression is not asked for
 abbrev pub case_value : Expression → Row → Result Value Fault
-case_value (Case a b c) row = value_of (Case a b c) row
+case_value (Case branch a b c) row = value_of (Case branch a b c) row
 case_value (Column c) row = Ok Null
 case_value (Literal w kind) row = Ok Null
 case_value (Negate a) row = Ok Null

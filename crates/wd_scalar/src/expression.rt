@@ -55,7 +55,7 @@ fn case_value(
     ensures { IfOk result (λ r. r ≡ operands.case_value (expression_of expression.now) row.now) }
 {
     match expression {
-        Expr::Case(condition, then, otherwise) => match value_of(alloc, condition, row)? {
+        Expr::Case(_, condition, then, otherwise) => match value_of(alloc, condition, row)? {
             Ok(test) => if is_true(&test) {
                 value_of(alloc, then, row)
             } else {
@@ -124,7 +124,7 @@ pub fn has_arithmetic(expression: &Expr) -> bool
             has_arithmetic(a) || has_arithmetic(b)
         }
         Expr::Not(a) | Expr::IsNull(a) | Expr::IsNotNull(a) => has_arithmetic(a),
-        Expr::Case(a, b, c) => has_arithmetic(a) || has_arithmetic(b) || has_arithmetic(c),
+        Expr::Case(_, a, b, c) => has_arithmetic(a) || has_arithmetic(b) || has_arithmetic(c),
     }
 }
 

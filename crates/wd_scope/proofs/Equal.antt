@@ -9,12 +9,14 @@ use Rattle.wd_plan.specs.declared.expression.ArithmeticOp.{ArithmeticOp}
 use Rattle.wd_plan.specs.declared.expression.ArithmeticOp.TheVariants as a
 use Rattle.wd_plan.specs.declared.expression.ComparisonOp.{ComparisonOp}
 use Rattle.wd_plan.specs.declared.expression.ComparisonOp.TheVariants as c
+use Rattle.wd_plan.specs.declared.expression.Branch.{Branch}
+use Rattle.wd_plan.specs.declared.expression.Branch.TheVariants.{First, Later}
 use Rattle.wd_plan.specs.Expressions.{Expression, Column, Literal, Negate, Arithmetic, Compare, Not, And, Or, IsNull, IsNotNull, Case}
 use Rattle.wd_plan.specs.Fits.{Kinds}
 use Rattle.wd_scope.specs.declared.call.FunctionName.{FunctionName}
 use Rattle.wd_scope.specs.declared.call.FunctionName.TheVariants.{RowNumber, Rank, DenseRank, Ntile, Lag, Lead, FirstValue, LastValue, NthValue, Count, Sum, Min, Max}
 use Rattle.wd_scope.specs.Calls.{CallMeaning, FunctionMeaning, function_number, same_argument, same_call, same_function}
-use Rattle.wd_operand.specs.Equality.{arithmetic_number, comparison_number, same_expression}
+use Rattle.wd_operand.specs.Equality.{arithmetic_number, comparison_number, same_branch, same_expression}
 use Rattle.wd_scope.specs.Typed.{IsFunction, IsFunctionOver, IsOfKind}
 use Rattle.wd_scope.proofs.Typing.{both, same_kind-is}
 
@@ -35,6 +37,11 @@ comparison_is c.Greater c.Greater h = refl
 comparison_is c.GreaterOrEqual c.GreaterOrEqual h = refl
 comparison_is x y h = absurd (false≢true h)
 
+branch_is : (x y : Branch) → same_branch x y ≡ true → x ≡ y
+branch_is First First h = refl
+branch_is Later Later h = refl
+branch_is x y h = absurd (false≢true h)
+
 pub same_expression-is : (x y : Expression) → same_expression x y ≡ true → x ≡ y
 same_expression-is (Column n) (Column m) h = ap Column (eqb-true n m h)
 same_expression-is (Literal v k) (Literal w l) h = let p = both _ _ h in λ i. Literal ((same-Decides v w).0 p.0 i) (same_kind-is k l p.1 i)
@@ -46,7 +53,7 @@ same_expression-is (And x y) (And z w) h = let p = both _ _ h in λ i. And (same
 same_expression-is (Or x y) (Or z w) h = let p = both _ _ h in λ i. Or (same_expression-is x z p.0 i) (same_expression-is y w p.1 i)
 same_expression-is (IsNull x) (IsNull y) h = ap IsNull (same_expression-is x y h)
 same_expression-is (IsNotNull x) (IsNotNull y) h = ap IsNotNull (same_expression-is x y h)
-same_expression-is (Case x y z) (Case u v w) h = let p = both _ _ h in let r = both _ _ p.1 in λ i. Case (same_expression-is x u p.0 i) (same_expression-is y v r.0 i) (same_expression-is z w r.1 i)
+same_expression-is (Case branch x y z) (Case other u v w) h = let o = both _ _ h in let p = both _ _ o.1 in let r = both _ _ p.1 in λ i. Case (branch_is branch other o.0 i) (same_expression-is x u p.0 i) (same_expression-is y v r.0 i) (same_expression-is z w r.1 i)
 same_expression-is x y h = absurd (false≢true h)
 
 name_is : (x y : FunctionName) → nat_eq (function_number x) (function_number y) ≡ true → x ≡ y

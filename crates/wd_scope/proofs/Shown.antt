@@ -9,6 +9,8 @@ use Rattle.wd_syntax.specs.declared.expression.Sign.TheVariants as s
 use Rattle.wd_syntax.specs.Tree.{Tree, Constant, Column, Qualified, CallAll, Call, Case, Bracket, Signed, Binary, IsNull, Negated, Arms, no_arms, more_arms, Otherwise, no_else, or_else}
 use Rattle.wd_plan.specs.declared.expression.ValueKind.{ValueKind}
 use Rattle.wd_plan.specs.declared.expression.ValueKind.TheVariants.{Number, Truth}
+use Rattle.wd_plan.specs.declared.expression.Branch.{Branch}
+use Rattle.wd_plan.specs.declared.expression.Branch.TheVariants.{First, Later}
 use Rattle.wd_plan.specs.Expressions as e
 use Rattle.wd_plan.specs.Expressions.{Expression}
 use Rattle.wd_plan.specs.Fits.{same_kind}
@@ -17,7 +19,7 @@ use Rattle.wd_operand.specs.Causes.{Meant, ◌>>=◌}
 use Rattle.wd_operand.specs.Operands.{Operand, bare_null, typed, of_kind, settled, asked_by, given_by, over_both, combined, negated, sign_over, literal, arms_over, case_kind, case_of}
 use Rattle.wd_operand.specs.Operands as operands
 use Rattle.wd_scope.specs.Calls.{CallMeaning, applied, function_named, met, met_at, most_calls, number_among}
-use Rattle.wd_scope.specs.Resolving.{ContextRule, Met, all_resolved, arms_resolved, called, else_resolved, over_meant, resolved, sign_met, without_call, written_number}
+use Rattle.wd_scope.specs.Resolving.{ContextRule, Met, all_resolved, arguments_in, arms_resolved, called, else_resolved, over_meant, resolved, sign_met, without_call, written_number}
 use Rattle.wd_scope.specs.Scopes.{column_named}
 use Rattle.wd_scope.specs.Windows.{WindowMeaning}
 use Rattle.wd_scope.specs.Typed.{Shows, ShowsNew}
@@ -80,29 +82,29 @@ abbrev ArmsShow : ℕ → List (Operand × Operand) → Type 0
 ArmsShow n [] = ⊥
 ArmsShow n (arm ∷ arms) = Shows n (settled arm.0) ⊎ (Shows n (settled arm.1) ⊎ ArmsShow n arms)
 
-arms_show : (n : ℕ) (kind : ValueKind) (arms : List (Operand × Operand)) (rest : Meant Expression) (a : Expression) → arms_over kind arms rest ≡ Ok a → ArmsShow n arms ⊎ ((r : Expression) → rest ≡ Ok r → Shows n r) → Shows n a
-arms_show n kind [] rest a is h = elim h [ inl p ↦ absurd p | inr f ↦ f a is ]
-arms_show n kind (arm ∷ arms) rest a is h =
-    let o = bound (arms_over kind arms rest) (λ otherwise. of_kind Truth arm.0 >>= λ when. of_kind kind arm.1 >>= λ gives. Ok (e.Case when gives otherwise)) a is in
-    let w = bound (of_kind Truth arm.0) (λ when. of_kind kind arm.1 >>= λ gives. Ok (e.Case when gives o.0)) a o.2 in
-    let t = bound (of_kind kind arm.1) (λ gives. Ok (e.Case w.0 gives o.0)) a w.2 in
+arms_show : (n : ℕ) (branch : Branch) (kind : ValueKind) (arms : List (Operand × Operand)) (rest : Meant Expression) (a : Expression) → arms_over branch kind arms rest ≡ Ok a → ArmsShow n arms ⊎ ((r : Expression) → rest ≡ Ok r → Shows n r) → Shows n a
+arms_show n branch kind [] rest a is h = elim h [ inl p ↦ absurd p | inr f ↦ f a is ]
+arms_show n branch kind (arm ∷ arms) rest a is h =
+    let o = bound (arms_over Later kind arms rest) (λ otherwise. of_kind Truth arm.0 >>= λ when. of_kind kind arm.1 >>= λ gives. Ok (e.Case branch when gives otherwise)) a is in
+    let w = bound (of_kind Truth arm.0) (λ when. of_kind kind arm.1 >>= λ gives. Ok (e.Case branch when gives o.0)) a o.2 in
+    let t = bound (of_kind kind arm.1) (λ gives. Ok (e.Case branch w.0 gives o.0)) a w.2 in
     subst (Shows n) (ok_is _ _ t.2) (elim h [
       | inl p ↦ elim p [
         | inl q ↦ inl (of_kind_shows n Truth arm.0 w.0 w.1 q)
         | inr q ↦ elim q [
           | inl r ↦ inr (inl (of_kind_shows n kind arm.1 t.0 t.1 r))
-          | inr r ↦ inr (inr (arms_show n kind arms rest o.0 o.1 (inl r)))
+          | inr r ↦ inr (inr (arms_show n Later kind arms rest o.0 o.1 (inl r)))
         ]
       ]
-      | inr f ↦ inr (inr (arms_show n kind arms rest o.0 o.1 (inr f)))
+      | inr f ↦ inr (inr (arms_show n Later kind arms rest o.0 o.1 (inr f)))
     ])
 
 case_shows : (n : ℕ) (arms : List (Operand × Operand)) (other z : Operand) → case_of arms other ≡ Ok z → ArmsShow n arms ⊎ Shows n (settled other) → Shows n (settled z)
 case_shows n arms other z is h =
     let kind = case_kind arms other in
-    let r = bound (of_kind kind other) (λ rest. arms_over kind arms (Ok rest) >>= λ whole. Ok (typed whole kind)) z is in
-    let a = bound (arms_over kind arms (Ok r.0)) (λ whole. Ok (typed whole kind)) z r.2 in
-    subst (λ w. Shows n (settled w)) (ok_is _ _ a.2) (arms_show n kind arms (Ok r.0) a.0 a.1 (elim h [ inl p ↦ inl p | inr q ↦ inr (λ b g. subst (Shows n) (ok_is _ _ g) (of_kind_shows n kind other r.0 r.1 q)) ]))
+    let r = bound (of_kind kind other) (λ rest. arms_over First kind arms (Ok rest) >>= λ whole. Ok (typed whole kind)) z is in
+    let a = bound (arms_over First kind arms (Ok r.0)) (λ whole. Ok (typed whole kind)) z r.2 in
+    subst (λ w. Shows n (settled w)) (ok_is _ _ a.2) (arms_show n First kind arms (Ok r.0) a.0 a.1 (elim h [ inl p ↦ inl p | inr q ↦ inr (λ b g. subst (Shows n) (ok_is _ _ g) (of_kind_shows n kind other r.0 r.1 q)) ]))
 
 arms_push_left : (n : ℕ) (arms others : List (Operand × Operand)) → ArmsShow n arms → ArmsShow n (arms ++ others)
 arms_push_left n [] others h = absurd h
@@ -158,7 +160,7 @@ mutual
       let w = bound (over_meant c over) (λ v. called c f None v calls) x h in
       called_shows c f None w.0 calls x w.2
   resolved_shows c (Call f arguments over) calls x h =
-      let xs = bound (all_resolved c arguments []) (λ ys. over_meant c over >>= λ v. called c f (Some ys) v calls) x h in
+      let xs = bound (all_resolved (arguments_in c over) arguments []) (λ ys. over_meant c over >>= λ v. called c f (Some ys) v calls) x h in
       let w = bound (over_meant c over) (λ v. called c f (Some xs.0) v calls) x xs.2 in
       called_shows c f (Some xs.0) w.0 calls x w.2
   resolved_shows c (Case arms other) calls x h =

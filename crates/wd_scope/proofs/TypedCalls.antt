@@ -50,7 +50,7 @@ module _ (kinds : Kinds) where
   whole_least least (typed (Or a b) other) n h = cc
   whole_least least (typed (IsNull a) other) n h = cc
   whole_least least (typed (IsNotNull a) other) n h = cc
-  whole_least least (typed (Case a b c) other) n h = cc
+  whole_least least (typed (Case branch a b c) other) n h = cc
   whole_least least bare_null n h = cc
 
   default_is : (kind : ValueKind) (x : Operand) (v : Value) → IsOperand kinds x → default_of kind x ≡ Ok v → is_of_kind kind v ≡ true
@@ -65,7 +65,7 @@ module _ (kinds : Kinds) where
   default_is kind (typed (Or a b) other) v h is = cc
   default_is kind (typed (IsNull a) other) v h is = cc
   default_is kind (typed (IsNotNull a) other) v h is = cc
-  default_is kind (typed (Case a b c) other) v h is = cc
+  default_is kind (typed (Case branch a b c) other) v h is = cc
 
   numbers_is : (x : Operand) (e : Expression) → IsOperand kinds x → numbers x ≡ Ok e → IsOfKind kinds e Number
   numbers_is bare_null e h is = subst (λ f. IsOfKind kinds f Number) (ok_is _ _ is) (record { is = refl; has = refl })

@@ -14,7 +14,7 @@ use Rattle.wd_operand.specs.Causes.{Meant, ◌>>=◌}
 use Rattle.wd_scope.specs.Calls.{CallMeaning, applied, function_named, met}
 use Rattle.wd_operand.specs.Operands.{Operand, combined, negated, literal, case_of, settled}
 use Rattle.wd_operand.specs.Operands as operands
-use Rattle.wd_scope.specs.Resolving.{ContextRule, Met, all_resolved, alone, arms_resolved, called, else_resolved, key_meant, keys_resolved, over_meant, resolved, sign_met, where_allowed, window_resolved, within_call, without_call, written_number}
+use Rattle.wd_scope.specs.Resolving.{ContextRule, Met, all_resolved, alone, arguments_in, arms_resolved, called, else_resolved, key_meant, keys_resolved, over_meant, resolved, sign_met, where_allowed, window_resolved, within_call, without_call, written_number}
 use Rattle.wd_scope.specs.Scopes.{ScopeRule, carries, column_named, the_one, unless_other}
 use Rattle.wd_scope.specs.Windows.{KeyMeaning, KnownMeaning, WindowMeaning, base_named, window_meant, window_named}
 use Rattle.wd_scope.specs.Typed.{AreKeys, AreKnown, AreTyped, IsCall, IsMet, IsOfKind, IsOperand, IsWindow, kinds_met}
@@ -37,6 +37,12 @@ not_over c no_over w e h = cc
 not_over c (over_name name) w e h = allowed c (window_named c.windows name.text) w e h
 not_over c (over_window v) w e h = allowed c (window_resolved c v) w e h
 
+-- the arguments of a call with a window
+within : (c : ContextRule) (over : OverTree) (w : WindowMeaning) → over_meant c over ≡ Ok w → arguments_in c over ≡ within_call c
+within c no_over w h = cc
+within c (over_name name) w h = refl
+within c (over_window v) w h = refl
+
 pub kept_calls : (m : Meant Operand) (calls : List CallMeaning) (x : Met) → without_call m calls ≡ Ok x → x.1 ≡ calls
 kept_calls m calls x h = let a = bound m (λ (y : Operand). Ok (y, calls)) x h in sym (ap (λ (z : Met). z.1) (ok_is _ _ a.2))
 
@@ -51,7 +57,7 @@ mutual
   no_calls c (Qualified table name) calls x e h = kept_calls (column_named c.scope (Some table.text) name.text) calls x h
   no_calls c (CallAll f over) calls x e h = let w = bound (over_meant c over) (λ v. called c f None v calls) x h in absurd (not_over c over w.0 e w.1)
   no_calls c (Call f arguments over) calls x e h =
-      let xs = bound (all_resolved c arguments []) (λ ys. over_meant c over >>= λ v. called c f (Some ys) v calls) x h in
+      let xs = bound (all_resolved (arguments_in c over) arguments []) (λ ys. over_meant c over >>= λ v. called c f (Some ys) v calls) x h in
       let w = bound (over_meant c over) (λ v. called c f (Some xs.0) v calls) x xs.2 in
       absurd (not_over c over w.0 e w.1)
   no_calls c (Case arms other) calls x e h =
@@ -212,9 +218,10 @@ mutual
       let w = bound (over_meant c over) (λ v. called c f None v calls) x h in
       called_is c f None w.0 calls x tt (over_is c over w.0 known w.1) all w.2
   resolved_is c (Call f arguments over) calls x known all h =
-      let xs = bound (all_resolved c arguments []) (λ ys. over_meant c over >>= λ v. called c f (Some ys) v calls) x h in
+      let xs = bound (all_resolved (arguments_in c over) arguments []) (λ ys. over_meant c over >>= λ v. called c f (Some ys) v calls) x h in
       let w = bound (over_meant c over) (λ v. called c f (Some xs.0) v calls) x xs.2 in
-      called_is c f (Some xs.0) w.0 calls x (all_is c arguments [] xs.0 known tt xs.1) (over_is c over w.0 known w.1) all w.2
+      let ys = subst (λ d. all_resolved d arguments [] ≡ Ok xs.0) (within c over w.0 w.1) xs.1 in
+      called_is c f (Some xs.0) w.0 calls x (all_is (within_call c) arguments [] xs.0 refl known tt ys) (over_is c over w.0 known w.1) all w.2
   resolved_is c (Case arms other) calls x known all h =
       let xs = bound (arms_resolved c arms [] calls) (λ ys. else_resolved c other ys.1 >>= λ y. without_call (case_of ys.0 y.0) y.1) x h in
       let y = bound (else_resolved c other xs.0.1) (λ z. without_call (case_of xs.0.0 z.0) z.1) x xs.2 in
@@ -243,12 +250,12 @@ mutual
       let l = resolved_is c a calls y.0 known all y.1 in
       without_is c.scope calls y.0.1 (negated y.0.0) x y.2 (λ o e. after_one c.scope calls y.0 o l (negated_is (kinds_met c.scope y.0.1) y.0.0 o l.operand e))
 
-  all_is : (c : ContextRule) (trees : Trees) (xs ys : List Operand) → AreKnown (kinds_met c.scope []) c.windows → AllByRecursion (IsOperand (kinds_met c.scope [])) xs → all_resolved c trees xs ≡ Ok ys → AllByRecursion (IsOperand (kinds_met c.scope [])) ys
-  all_is c no_trees xs ys known h e = subst (AllByRecursion (IsOperand (kinds_met c.scope []))) (ok_is _ _ e) h
-  all_is c (more_trees a trees) xs ys known h e =
-      let x = bound (alone (resolved (within_call c) a [])) (λ y. all_resolved c trees (xs ++ y ∷ [])) ys e in
-      let one = inside_is c.scope (resolved (within_call c) a []) x.0 (λ y g. resolved_is (within_call c) a [] y known tt g) (λ y g. no_calls (within_call c) a [] y refl g) x.1 in
-      all_is c trees (xs ++ x.0 ∷ []) ys known (all_push (IsOperand (kinds_met c.scope [])) xs x.0 h one) x.2
+  all_is : (c : ContextRule) (trees : Trees) (xs ys : List Operand) → c.calls_allowed ≡ false → AreKnown (kinds_met c.scope []) c.windows → AllByRecursion (IsOperand (kinds_met c.scope [])) xs → all_resolved c trees xs ≡ Ok ys → AllByRecursion (IsOperand (kinds_met c.scope [])) ys
+  all_is c no_trees xs ys none known h e = subst (AllByRecursion (IsOperand (kinds_met c.scope []))) (ok_is _ _ e) h
+  all_is c (more_trees a trees) xs ys none known h e =
+      let x = bound (alone (resolved c a [])) (λ y. all_resolved c trees (xs ++ y ∷ [])) ys e in
+      let one = inside_is c.scope (resolved c a []) x.0 (λ y g. resolved_is c a [] y known tt g) (λ y g. no_calls c a [] y none g) x.1 in
+      all_is c trees (xs ++ x.0 ∷ []) ys none known (all_push (IsOperand (kinds_met c.scope [])) xs x.0 h one) x.2
 
   arms_are : (c : ContextRule) (arms : Arms) (xs : List (Operand × Operand)) (calls : List CallMeaning) (x : List (Operand × Operand) × List CallMeaning) → AreKnown (kinds_met c.scope []) c.windows → AllByRecursion (IsCall (kinds_met c.scope [])) calls → AreArms (kinds_met c.scope calls) xs → arms_resolved c arms xs calls ≡ Ok x → AreArmsMet c.scope calls x
   arms_are c no_arms xs calls x known all h e = subst (AreArmsMet c.scope calls) (ok_is _ _ e) (record { more = []; after = sym (append-nil calls); calls_are = all; arms = h })
@@ -281,7 +288,7 @@ mutual
   pub window_resolved_is : (c : ContextRule) (v : WindowTree) (w : WindowMeaning) → AreKnown (kinds_met c.scope []) c.windows → window_resolved c v ≡ Ok w → IsWindow (kinds_met c.scope []) w
   window_resolved_is c (window base partition order frame) w known e =
       let name = option_map (λ (n : Name). n.text) base in
-      let b = bound (base_named c.windows name) (λ copied. all_resolved c partition [] >>= λ xs. keys_resolved c order [] >>= λ ks. window_meant copied (map settled xs) ks frame) w e in
-      let xs = bound (all_resolved c partition []) (λ ys. keys_resolved c order [] >>= λ ks. window_meant b.0 (map settled ys) ks frame) w b.2 in
+      let b = bound (base_named c.windows name) (λ copied. all_resolved (within_call c) partition [] >>= λ xs. keys_resolved c order [] >>= λ ks. window_meant copied (map settled xs) ks frame) w e in
+      let xs = bound (all_resolved (within_call c) partition []) (λ ys. keys_resolved c order [] >>= λ ks. window_meant b.0 (map settled ys) ks frame) w b.2 in
       let ks = bound (keys_resolved c order []) (λ zs. window_meant b.0 (map settled xs.0) zs frame) w xs.2 in
-      window_is (kinds_met c.scope []) b.0 (map settled xs.0) ks.0 frame w (base_is (kinds_met c.scope []) c.windows name b.0 known b.1) (all_settled (kinds_met c.scope []) xs.0 (all_is c partition [] xs.0 known tt xs.1)) (keys_are c order [] ks.0 known tt ks.1) ks.2
+      window_is (kinds_met c.scope []) b.0 (map settled xs.0) ks.0 frame w (base_is (kinds_met c.scope []) c.windows name b.0 known b.1) (all_settled (kinds_met c.scope []) xs.0 (all_is (within_call c) partition [] xs.0 refl known tt xs.1)) (keys_are c order [] ks.0 known tt ks.1) ks.2

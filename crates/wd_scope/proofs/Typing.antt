@@ -4,6 +4,8 @@ use Rattle.std.proofs.lemmas.Bool.{false≢true}
 use Rattle.wd_value.specs.declared.value.Value.TheVariants.{Null}
 use Rattle.wd_plan.specs.declared.expression.ValueKind.{ValueKind}
 use Rattle.wd_plan.specs.declared.expression.ValueKind.TheVariants.{Number, Text, Truth}
+use Rattle.wd_plan.specs.declared.expression.Branch.{Branch}
+use Rattle.wd_plan.specs.declared.expression.Branch.TheVariants.{First, Later}
 use Rattle.wd_plan.specs.Expressions.{Expression, Column, Literal, Negate, Arithmetic, Compare, Not, And, Or, IsNull, IsNotNull, Case}
 use Rattle.wd_plan.specs.Fits.{Kinds, are_alike, is_kind, is_typed, kind_of, same_kind}
 use Rattle.wd_operand.specs.declared.cause.Cause.TheVariants.{Types}
@@ -68,7 +70,7 @@ module _ (kinds others : Kinds) (more : Extends kinds others) where
   kind_kept (Or a b) kind h = h
   kind_kept (IsNull a) kind h = h
   kind_kept (IsNotNull a) kind h = h
-  kind_kept (Case a b c) kind h = kind_kept b kind h
+  kind_kept (Case branch a b c) kind h = kind_kept b kind h
 
   is_kind_kept : (k : ValueKind) (e : Expression) → is_kind k (kind_of kinds e) ≡ true → is_kind k (kind_of others e) ≡ true
   is_kind_kept k e h = by (kind_of kinds e) refl h
@@ -102,7 +104,7 @@ module _ (kinds others : Kinds) (more : Extends kinds others) where
   typed_kept (Or a b) h = let p = both _ _ h in let q = both _ _ p.0 in let r = both _ _ p.1 in and_both _ _ (and_both _ _ (typed_kept a q.0) (is_kind_kept Truth a q.1)) (and_both _ _ (typed_kept b r.0) (is_kind_kept Truth b r.1))
   typed_kept (IsNull a) h = typed_kept a h
   typed_kept (IsNotNull a) h = typed_kept a h
-  typed_kept (Case a b c) h =
+  typed_kept (Case branch a b c) h =
       let p = both _ _ h in let q = both _ _ p.0 in let r = both _ _ p.1 in let s = both _ _ r.0 in
       and_both _ _ (and_both _ _ (typed_kept a q.0) (is_kind_kept Truth a q.1)) (and_both _ _ (and_both _ _ (typed_kept b s.0) (typed_kept c s.1)) (alike_kept b c r.1))
 
@@ -201,20 +203,20 @@ module _ (kinds : Kinds) where
   AreArms [] = Unit {0}
   AreArms (arm ∷ arms) = IsOperand kinds arm.0 × IsOperand kinds arm.1 × AreArms arms
 
-  pub arms_is : (kind : ValueKind) (arms : List (Operand × Operand)) (rest : Meant Expression) (e : Expression) → AreArms arms → ((r : Expression) → rest ≡ Ok r → IsOfKind kinds r kind) → arms_over kind arms rest ≡ Ok e → IsOfKind kinds e kind
-  arms_is kind [] rest e h g is = g e is
-  arms_is kind (arm ∷ arms) rest e h g is =
-      let o = bound (arms_over kind arms rest) (λ otherwise. of_kind Truth arm.0 >>= λ when. of_kind kind arm.1 >>= λ gives. Ok (Case when gives otherwise)) e is in
-      let w = bound (of_kind Truth arm.0) (λ when. of_kind kind arm.1 >>= λ gives. Ok (Case when gives o.0)) e o.2 in
-      let t = bound (of_kind kind arm.1) (λ gives. Ok (Case w.0 gives o.0)) e w.2 in
+  pub arms_is : (branch : Branch) (kind : ValueKind) (arms : List (Operand × Operand)) (rest : Meant Expression) (e : Expression) → AreArms arms → ((r : Expression) → rest ≡ Ok r → IsOfKind kinds r kind) → arms_over branch kind arms rest ≡ Ok e → IsOfKind kinds e kind
+  arms_is branch kind [] rest e h g is = g e is
+  arms_is branch kind (arm ∷ arms) rest e h g is =
+      let o = bound (arms_over Later kind arms rest) (λ otherwise. of_kind Truth arm.0 >>= λ when. of_kind kind arm.1 >>= λ gives. Ok (Case branch when gives otherwise)) e is in
+      let w = bound (of_kind Truth arm.0) (λ when. of_kind kind arm.1 >>= λ gives. Ok (Case branch when gives o.0)) e o.2 in
+      let t = bound (of_kind kind arm.1) (λ gives. Ok (Case branch w.0 gives o.0)) e w.2 in
       let when = asked Truth arm.0 w.0 h.0 w.1 in
       let gives = asked kind arm.1 t.0 h.1 t.1 in
-      let otherwise = arms_is kind arms rest o.0 h.2 g o.1 in
+      let otherwise = arms_is Later kind arms rest o.0 h.2 g o.1 in
       subst (λ f. IsOfKind kinds f kind) (ok_is _ _ t.2) (record { is = and_both _ _ (side when) (and_both _ _ (and_both _ _ gives.is otherwise.is) (alike gives otherwise)); has = gives.has })
 
   pub case_is : (arms : List (Operand × Operand)) (other z : Operand) → AreArms arms → IsOperand kinds other → case_of arms other ≡ Ok z → IsOperand kinds z
   case_is arms other z h g is =
       let kind = case_kind arms other in
-      let r = bound (of_kind kind other) (λ rest. arms_over kind arms (Ok rest) >>= λ whole. Ok (typed whole kind)) z is in
-      let a = bound (arms_over kind arms (Ok r.0)) (λ whole. Ok (typed whole kind)) z r.2 in
-      subst (IsOperand kinds) (ok_is _ _ a.2) (arms_is kind arms (Ok r.0) a.0 h (λ e i. subst (λ f. IsOfKind kinds f kind) (ok_is _ _ i) (asked kind other r.0 g r.1)) a.1)
+      let r = bound (of_kind kind other) (λ rest. arms_over First kind arms (Ok rest) >>= λ whole. Ok (typed whole kind)) z is in
+      let a = bound (arms_over First kind arms (Ok r.0)) (λ whole. Ok (typed whole kind)) z r.2 in
+      subst (IsOperand kinds) (ok_is _ _ a.2) (arms_is First kind arms (Ok r.0) a.0 h (λ e i. subst (λ f. IsOfKind kinds f kind) (ok_is _ _ i) (asked kind other r.0 g r.1)) a.1)

@@ -29,9 +29,15 @@ pub record ContextRule : Type 0 where
 abbrev pub context_of : Context → ContextRule
 context_of c = record { scope = scope_of c.scope.now; windows = map known_of c.windows.now; calls_allowed = c.calls_allowed }
 
--- the arguments of a call and the expressions of a window have no window calls of their own
+-- the arguments of a window call and the expressions of a window have no window calls of their own
 abbrev pub within_call : ContextRule → ContextRule
 within_call c = record { scope = c.scope; windows = c.windows; calls_allowed = false }
+
+-- what the arguments of a call are read in; those of a call without OVER stand where it stands
+abbrev pub arguments_in : ContextRule → OverTree → ContextRule
+arguments_in c no_over = c
+arguments_in c (over_name name) = within_call c
+arguments_in c (over_window w) = within_call c
 
 -- an operand, and the calls met up to and with it
 abbrev pub Met : Type 0
@@ -74,7 +80,7 @@ abbrev mutual
   resolved c (Column name) calls = without_call (column_named c.scope None name.text) calls
   resolved c (Qualified table name) calls = without_call (column_named c.scope (Some table.text) name.text) calls
   resolved c (CallAll f over) calls = over_meant c over >>= λ w. called c f None w calls
-  resolved c (Call f arguments over) calls = all_resolved c arguments [] >>= λ xs. over_meant c over >>= λ w. called c f (Some xs) w calls
+  resolved c (Call f arguments over) calls = all_resolved (arguments_in c over) arguments [] >>= λ xs. over_meant c over >>= λ w. called c f (Some xs) w calls
   resolved c (Case arms other) calls = arms_resolved c arms [] calls >>= λ xs. else_resolved c other xs.1 >>= λ y. without_call (case_of xs.0 y.0) y.1
   resolved c (Bracket a) calls = resolved c a calls
   resolved c (Signed sign a) calls = sign_met sign (written_number a) (resolved c a calls) calls
@@ -85,7 +91,7 @@ abbrev mutual
   -- the arguments of a call, and the expressions of a partition, behind those before them
   pub all_resolved : ContextRule → Trees → List Operand → Meant (List Operand)
   all_resolved c no_trees xs = Ok xs
-  all_resolved c (more_trees a trees) xs = alone (resolved (within_call c) a []) >>= λ x. all_resolved c trees (xs ++ x ∷ [])
+  all_resolved c (more_trees a trees) xs = alone (resolved c a []) >>= λ x. all_resolved c trees (xs ++ x ∷ [])
 
   -- the conditions and results of a CASE, behind those before them
   pub arms_resolved : ContextRule → Arms → List (Operand × Operand) → List CallMeaning → Meant (List (Operand × Operand) × List CallMeaning)
@@ -110,7 +116,7 @@ abbrev mutual
 
   -- a window: the one that it copies, its partition, its order, and then its frame
   pub window_resolved : ContextRule → WindowTree → Meant WindowMeaning
-  window_resolved c (window base partition order frame) = base_named c.windows (option_map (λ (n : Name). n.text) base) >>= λ copied. all_resolved c partition [] >>= λ xs. keys_resolved c order [] >>= λ ks. window_meant copied (map settled xs) ks frame
+  window_resolved c (window base partition order frame) = base_named c.windows (option_map (λ (n : Name). n.text) base) >>= λ copied. all_resolved (within_call c) partition [] >>= λ xs. keys_resolved c order [] >>= λ ks. window_meant copied (map settled xs) ks frame
 
 -- an expression in which no window calls stand
 abbrev pub inside : ContextRule → Tree → Meant Operand

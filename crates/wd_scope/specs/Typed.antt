@@ -109,7 +109,7 @@ Shows n (And a b) = Shows n a ⊎ Shows n b
 Shows n (Or a b) = Shows n a ⊎ Shows n b
 Shows n (IsNull a) = Shows n a
 Shows n (IsNotNull a) = Shows n a
-Shows n (Case a b c) = Shows n a ⊎ (Shows n b ⊎ Shows n c)
+Shows n (Case branch a b c) = Shows n a ⊎ (Shows n b ⊎ Shows n c)
 
 -- the column of each call that is met behind the calls before it stands in the operand, behind so many columns of FROM
 abbrev pub ShowsNew : ℕ → List CallMeaning → Met → Type 0

@@ -29,7 +29,7 @@ use wd_syntax as written;
 use wd_syntax::{Arm, Link, Literal, Name, NamedWindow, Over, Sign, SortKey};
 
 impl Context<'_> {
-    /// The context of a call's arguments and of a window's expressions, in which no window calls stand.
+    /// The context of a window call's arguments and of a window's expressions, in which no window calls stand.
     fn within_call(&self) -> Context<'_>
         ensures { context_of result ≡ spec.within_call (context_of self.now) }
     {
@@ -37,6 +37,20 @@ impl Context<'_> {
             scope: self.scope,
             windows: self.windows,
             calls_allowed: false,
+        }
+    }
+
+    /// The context of a call's arguments: those of a call without OVER stand where it stands.
+    fn arguments_in(&self, over: &Option<Box<Over>>) -> Context<'_>
+        ensures { context_of result ≡ spec.arguments_in (context_of self.now) (view_over_option over.now) }
+    {
+        match over {
+            None => Context {
+                scope: self.scope,
+                windows: self.windows,
+                calls_allowed: self.calls_allowed,
+            },
+            Some(_) => self.within_call(),
         }
     }
 }
@@ -62,7 +76,7 @@ pub fn resolved(
             called(alloc, context, name, None, window, calls)
         }
         written::Expr::Call(name, arguments, over) => {
-            let arguments = all_resolved(alloc, context, arguments)?;
+            let arguments = all_resolved(alloc, &context.arguments_in(over), arguments)?;
             call_over(alloc, context, name, Some(arguments), over, calls)
         }
         written::Expr::Case(arms, other) => {
@@ -206,7 +220,7 @@ fn called(
     calls.meet(alloc, width, WindowCall { function, window })
 }
 
-/// The arguments of a call, and the expressions of a partition, in which no window calls stand.
+/// The arguments of a call, and the expressions of a partition.
 #[cycle(resolve)]
 fn all_resolved(
     alloc: Global,
@@ -217,9 +231,22 @@ fn all_resolved(
 {
     let mut operands = Vec::new(alloc);
     for tree in trees {
-        operands.push(without_calls(alloc, context, tree)?)?;
+        operands.push(alone(alloc, context, tree)?)?;
     }
     Ok(operands)
+}
+
+/// An expression whose calls nothing else sees.
+#[cycle(resolve)]
+fn alone(
+    alloc: Global,
+    context: &Context<'_>,
+    tree: &written::Expr,
+) -> Result<Meaning, ResolveError>
+    ensures { Gives operand_of result (spec.alone (spec.resolved (context_of context.now) (view tree.now) [])) }
+{
+    let mut calls = Calls::new(alloc);
+    resolved(alloc, context, tree, &mut calls)
 }
 
 /// An expression in which no window calls stand.
@@ -231,8 +258,7 @@ fn without_calls(
 ) -> Result<Meaning, ResolveError>
     ensures { Gives operand_of result (spec.inside (context_of context.now) (view tree.now)) }
 {
-    let mut calls = Calls::new(alloc);
-    resolved(alloc, &context.within_call(), tree, &mut calls)
+    alone(alloc, &context.within_call(), tree)
 }
 
 /// The conditions and results of a CASE.
@@ -335,7 +361,7 @@ fn window_resolved(
         frame,
     } = window;
     let base = base_named(context.windows, base)?;
-    let partition = all_resolved(alloc, context, partition)?;
+    let partition = all_resolved(alloc, &context.within_call(), partition)?;
     let order = keys_resolved(alloc, context, order)?;
     let partition = settled_all(alloc, partition)?;
     window_meant(alloc, base, partition, order, *frame)

@@ -5,9 +5,11 @@ use Rattle.std.proofs.lemmas.Bool.{le-ltb}
 use Rattle.wd_value.specs.declared.value.Value.{Value}
 use Rattle.wd_value.proofs.SameLaws.{same-Decides}
 use Rattle.wd_plan.specs.declared.expression.ValueKind.{ValueKind}
+use Rattle.wd_plan.specs.declared.expression.Branch.{Branch}
+use Rattle.wd_plan.specs.declared.expression.Branch.TheVariants.{First, Later}
 use Rattle.wd_plan.specs.Expressions.{Expression, Column, Literal, Negate, Arithmetic, Compare, Not, And, Or, IsNull, IsNotNull, Case}
 use Rattle.wd_plan.specs.Fits.{Kinds, is_typed}
-use Rattle.wd_operand.specs.Equality.{arithmetic_number, comparison_number, same_expression}
+use Rattle.wd_operand.specs.Equality.{arithmetic_number, comparison_number, same_branch, same_expression}
 use Rattle.wd_scope.specs.declared.call.FunctionName.{FunctionName}
 use Rattle.wd_scope.specs.declared.call.FunctionName.TheVariants.{Lag, Lead, FirstValue, LastValue, NthValue, Count, Sum, Min, Max}
 use Rattle.wd_scope.specs.declared.scope.ScopeColumn.{ScopeColumn}
@@ -20,6 +22,10 @@ use Rattle.wd_scope.proofs.TypedMet.{all_get, all_on}
 use Rattle.wd_select.specs.Outputs.{argument_of, call_expressions, inputs_with, inputs_with_all, met_in, sorted_by}
 use Rattle.wd_select.proofs.Among.{all_append, all_split, all_there, all_with_new, still_there}
 
+same_branch-itself : (branch : Branch) → same_branch branch branch ≡ true
+same_branch-itself First = refl
+same_branch-itself Later = refl
+
 pub same_expression-itself : (x : Expression) → same_expression x x ≡ true
 same_expression-itself (Column n) = eq-eqb n n refl
 same_expression-itself (Literal v k) = and_both _ _ ((same-Decides v v).1 refl) (same_kind-itself k)
@@ -31,7 +37,7 @@ same_expression-itself (And x y) = and_both _ _ (same_expression-itself x) (same
 same_expression-itself (Or x y) = and_both _ _ (same_expression-itself x) (same_expression-itself y)
 same_expression-itself (IsNull x) = same_expression-itself x
 same_expression-itself (IsNotNull x) = same_expression-itself x
-same_expression-itself (Case x y z) = and_both _ _ (same_expression-itself x) (and_both _ _ (same_expression-itself y) (same_expression-itself z))
+same_expression-itself (Case branch x y z) = and_both _ _ (same_branch-itself branch) (and_both _ _ (same_expression-itself x) (and_both _ _ (same_expression-itself y) (same_expression-itself z)))
 
 -- ---- among the inputs
 
@@ -82,7 +88,7 @@ Covers width inputs (And a b) = Covers width inputs a × Covers width inputs b
 Covers width inputs (Or a b) = Covers width inputs a × Covers width inputs b
 Covers width inputs (IsNull a) = Covers width inputs a
 Covers width inputs (IsNotNull a) = Covers width inputs a
-Covers width inputs (Case a b c) = Covers width inputs a × Covers width inputs b × Covers width inputs c
+Covers width inputs (Case branch a b c) = Covers width inputs a × Covers width inputs b × Covers width inputs c
 
 pub covers_kept : (width : ℕ) (inputs more : List Expression) → Keeps inputs more → (e : Expression) → Covers width inputs e → Covers width more e
 covers_kept width inputs more k (Column c) h = λ below. k (Column c) (h below)
@@ -95,7 +101,7 @@ covers_kept width inputs more k (And a b) h = (covers_kept width inputs more k a
 covers_kept width inputs more k (Or a b) h = (covers_kept width inputs more k a h.0, covers_kept width inputs more k b h.1)
 covers_kept width inputs more k (IsNull a) h = covers_kept width inputs more k a h
 covers_kept width inputs more k (IsNotNull a) h = covers_kept width inputs more k a h
-covers_kept width inputs more k (Case a b c) h = (covers_kept width inputs more k a h.0, covers_kept width inputs more k b h.1, covers_kept width inputs more k c h.2)
+covers_kept width inputs more k (Case branch a b c) h = (covers_kept width inputs more k a h.0, covers_kept width inputs more k b h.1, covers_kept width inputs more k c h.2)
 
 module _ (width : ℕ) (calls : List CallMeaning) (inputs : List Expression) where
   two : (xs ys : List Expression) → AreAmong inputs (xs ++ ys) → AreAmong inputs xs × AreAmong inputs ys
@@ -112,7 +118,7 @@ module _ (width : ℕ) (calls : List CallMeaning) (inputs : List Expression) whe
   covers_met (Or a b) h = let p = two (met_in width calls a) (met_in width calls b) h in (covers_met a p.0, covers_met b p.1)
   covers_met (IsNull a) h = covers_met a h
   covers_met (IsNotNull a) h = covers_met a h
-  covers_met (Case a b c) h =
+  covers_met (Case branch a b c) h =
       let p = two (met_in width calls a ++ met_in width calls b) (met_in width calls c) h in
       let q = two (met_in width calls a) (met_in width calls b) p.0 in
       (covers_met a q.0, covers_met b q.1, covers_met c p.1)
@@ -132,7 +138,7 @@ module _ (width : ℕ) (calls : List CallMeaning) (inputs : List Expression) whe
   call_met n (Or a b) h shown = let p = two (met_in width calls a) (met_in width calls b) h in elim shown [ inl s ↦ call_met n a p.0 s | inr s ↦ call_met n b p.1 s ]
   call_met n (IsNull a) h shown = call_met n a h shown
   call_met n (IsNotNull a) h shown = call_met n a h shown
-  call_met n (Case a b c) h shown =
+  call_met n (Case branch a b c) h shown =
       let p = two (met_in width calls a ++ met_in width calls b) (met_in width calls c) h in
       let q = two (met_in width calls a) (met_in width calls b) p.0 in
       elim shown [ inl s ↦ call_met n a q.0 s | inr s ↦ elim s [ inl r ↦ call_met n b q.1 r | inr r ↦ call_met n c p.1 r ] ]
@@ -194,7 +200,7 @@ module _ (scope : ScopeRule) (calls : List CallMeaning) (all : AreCalls scope ca
   met_typed (Or a b) h = let p = both _ _ h in append_typed _ _ (met_typed a (both _ _ p.0).0) (met_typed b (both _ _ p.1).0)
   met_typed (IsNull a) h = met_typed a h
   met_typed (IsNotNull a) h = met_typed a h
-  met_typed (Case a b c) h =
+  met_typed (Case branch a b c) h =
       let p = both _ _ h in
       let q = both _ _ (both _ _ p.1).0 in
       append_typed _ _ (append_typed _ _ (met_typed a (both _ _ p.0).0) (met_typed b q.0)) (met_typed c q.1)

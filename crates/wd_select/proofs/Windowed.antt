@@ -94,7 +94,7 @@ typed_kind kinds (And a b) h = (Truth, refl)
 typed_kind kinds (Or a b) h = (Truth, refl)
 typed_kind kinds (IsNull a) h = (Truth, refl)
 typed_kind kinds (IsNotNull a) h = (Truth, refl)
-typed_kind kinds (Case a b c) h = typed_kind kinds b (both _ _ (both _ _ (both _ _ h).1).0).0
+typed_kind kinds (Case branch a b c) h = typed_kind kinds b (both _ _ (both _ _ (both _ _ h).1).0).0
 
 or_else_is : (a b c : Bool) → (a || b) ≡ true → (b ≡ true → c ≡ true) → (a || c) ≡ true
 or_else_is true b c h f = refl
@@ -309,7 +309,7 @@ module _ (tables : List TableRule) (plan : PlanTree) (scope : ScopeRule) (calls 
   kind_raised (Or a b) k h g = h
   kind_raised (IsNull a) k h g = h
   kind_raised (IsNotNull a) k h g = h
-  kind_raised (Case a b c) k h g = kind_raised b k h g.1
+  kind_raised (Case branch a b c) k h g = kind_raised b k h g.1
 
   is_kind_raised : (k : ValueKind) (e : Expression) → is_kind k (kind_of Met e) ≡ true → IsCovered e → is_kind k (kind_of Over (up e)) ≡ true
   is_kind_raised k e h g = by (kind_of Met e) refl h
@@ -344,7 +344,7 @@ module _ (tables : List TableRule) (plan : PlanTree) (scope : ScopeRule) (calls 
       and_both _ _ (and_both _ _ (typed_raised a q.0 g.0) (is_kind_raised Truth a q.1 g.0)) (and_both _ _ (typed_raised b r.0 g.1) (is_kind_raised Truth b r.1 g.1))
   typed_raised (IsNull a) h g = typed_raised a h g
   typed_raised (IsNotNull a) h g = typed_raised a h g
-  typed_raised (Case a b c) h g =
+  typed_raised (Case branch a b c) h g =
       let p = both _ _ h in let q = both _ _ p.0 in let r = both _ _ p.1 in let s = both _ _ r.0 in
       and_both _ _ (and_both _ _ (typed_raised a q.0 g.0) (is_kind_raised Truth a q.1 g.0)) (and_both _ _ (and_both _ _ (typed_raised b s.0 g.1) (typed_raised c s.1 g.2)) (alike_raised b c r.1 g.1 g.2))
 

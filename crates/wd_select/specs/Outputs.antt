@@ -115,7 +115,7 @@ met_in width calls (And a b) = met_in width calls a ++ met_in width calls b
 met_in width calls (Or a b) = met_in width calls a ++ met_in width calls b
 met_in width calls (IsNull a) = met_in width calls a
 met_in width calls (IsNotNull a) = met_in width calls a
-met_in width calls (Case a b c) = met_in width calls a ++ met_in width calls b ++ met_in width calls c
+met_in width calls (Case branch a b c) = met_in width calls a ++ met_in width calls b ++ met_in width calls c
 
 -- each element that is new, behind those that are there: first occurrences
 abbrev pub with_new : {A : Type 0} → (A → A → Bool) → List A → List A → List A

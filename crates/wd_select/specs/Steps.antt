@@ -92,7 +92,7 @@ above width calls inputs (And a b) = And (above width calls inputs a) (above wid
 above width calls inputs (Or a b) = Or (above width calls inputs a) (above width calls inputs b)
 above width calls inputs (IsNull a) = IsNull (above width calls inputs a)
 above width calls inputs (IsNotNull a) = IsNotNull (above width calls inputs a)
-above width calls inputs (Case a b c) = Case (above width calls inputs a) (above width calls inputs b) (above width calls inputs c)
+above width calls inputs (Case branch a b c) = Case branch (above width calls inputs a) (above width calls inputs b) (above width calls inputs c)
 
 -- ---- the steps
 

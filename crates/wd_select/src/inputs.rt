@@ -128,7 +128,7 @@ pub fn add_met(
             add_met(alloc, inputs, width, calls, a)?;
             add_met(alloc, inputs, width, calls, b)
         }
-        Expr::Case(a, b, c) => {
+        Expr::Case(_, a, b, c) => {
             add_met(alloc, inputs, width, calls, a)?;
             add_met(alloc, inputs, width, calls, b)?;
             add_met(alloc, inputs, width, calls, c)

@@ -330,7 +330,7 @@ fn raise(expression: &mut Expr, width: usize, calls: usize, inputs: &[Expr])
             raise(a, width, calls, inputs);
             raise(b, width, calls, inputs);
         }
-        Expr::Case(a, b, c) => {
+        Expr::Case(_, a, b, c) => {
             raise(a, width, calls, inputs);
             raise(b, width, calls, inputs);
             raise(c, width, calls, inputs);

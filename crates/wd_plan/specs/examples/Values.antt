@@ -7,6 +7,7 @@ use Rattle.wd_plan.specs.declared.expression.ComparisonOp.{ComparisonOp}
 use Rattle.wd_plan.specs.declared.expression.ArithmeticOp.TheVariants.{Add, Subtract, Multiply, Divide, Remainder}
 use Rattle.wd_plan.specs.declared.expression.ComparisonOp.TheVariants.{Equal, NotEqual, Less, LessOrEqual, Greater, GreaterOrEqual}
 use Rattle.wd_plan.specs.declared.expression.ValueKind.TheVariants.{Number}
+use Rattle.wd_plan.specs.declared.expression.Branch.TheVariants.{First}
 use Rattle.wd_plan.specs.Expressions.{Expression, Literal, Negate, Arithmetic, Compare, Not, And, Or, IsNull, IsNotNull, Case, value_of}
 use Rattle.wd_plan.specs.Outcomes.{outcome}
 use Rattle.wd_plan.specs.Plans.{PlanTree, Map}
@@ -96,9 +97,9 @@ pub record ValuesComeOut : Type 0 where
   -- TRUE OR 1 / 0 = 1: neither here.
   pub or_not_looked_at : value (Or (is (truth true)) (Compare Equal (Arithmetic Divide (num 1) (num 0)) (num 1))) ≡ Ok (truth true)
   -- CASE WHEN TRUE THEN 1 ELSE 1 / 0 END: only what is reached is evaluated.
-  pub case_that_is_reached : value (Case (is (truth true)) (num 1) (Arithmetic Divide (num 1) (num 0))) ≡ Ok (n 1)
+  pub case_that_is_reached : value (Case First (is (truth true)) (num 1) (Arithmetic Divide (num 1) (num 0))) ≡ Ok (n 1)
   -- CASE WHEN NULL THEN 1 ELSE 2 END: a condition that is NULL is not true.
-  pub case_of_null : value (Case (is Null) (num 1) (num 2)) ≡ Ok (n 2)
+  pub case_of_null : value (Case First (is Null) (num 1) (num 2)) ≡ Ok (n 2)
   -- AND in three values.
   pub table_of_and : table_of And
       ≡ all_fine (truth true ∷ truth false ∷ Null ∷ truth false ∷ truth false ∷ truth false ∷ Null ∷ truth false ∷ Null ∷ [])

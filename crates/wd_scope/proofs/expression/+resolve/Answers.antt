@@ -7,7 +7,7 @@ use Rattle.wd_syntax.proofs.Rows.{view_call, view_case, view_chain}
 use Rattle.wd_scope.specs.Calls.{calls_of}
 use Rattle.wd_plan.specs.Expressions.{expression_of}
 use Rattle.wd_operand.specs.Operands.{operand_of, settled}
-use Rattle.wd_scope.specs.Resolving.{context_of, resolved, all_resolved, arms_resolved, keys_resolved, window_resolved, chain_resolved, tests_resolved}
+use Rattle.wd_scope.specs.Resolving.{context_of, resolved, all_resolved, arguments_in, arms_resolved, keys_resolved, window_resolved, within_call, chain_resolved, tests_resolved}
 use Rattle.wd_operand.proofs.Cases.{fails_too}
 use Rattle.wd_scope.proofs.Chains.{chain_means, tests_mean}
 use Rattle.wd_scope.proofs.Rolled.{view_window_out, settled_as}
@@ -21,7 +21,7 @@ resolved-returns-in_err-arguments-in-Call t c =
     let over = c.in-Call.over in
     let shown : view c.args.tree.now ≡ Call name (trees_of (map view c.deref.result.now)) (view_over_option over) = ap view c.in-Call.is ∙ view_call name c.in-Call.arguments over ∙ ap (λ xs. Call name (trees_of (map view xs)) (view_over_option over)) (sym c.deref.ensures.value) in
     let p = err_from_is_err_and c.from_residual-in_err-arguments-in-Call.result c.from_residual-in_err-arguments-in-Call.ensures.1 in
-    rw (p.1, p.2) (rw shown (fails_too c.in_err-arguments-in-Call.field-0.0 (all_resolved context (trees_of (map view c.deref.result.now)) []) (resolved context (Call name (trees_of (map view c.deref.result.now)) (view_over_option over)) calls) c.in_err-arguments-in-Call.ensures (λ cause h. rw h refl)))
+    rw (p.1, p.2) (rw shown (fails_too c.in_err-arguments-in-Call.field-0.0 (all_resolved (arguments_in context (view_over_option over)) (trees_of (map view c.deref.result.now)) []) (resolved context (Call name (trees_of (map view c.deref.result.now)) (view_over_option over)) calls) c.in_err-arguments-in-Call.ensures (λ cause h. rw h refl)))
 
 pub resolved-returns-in_ok-arguments-in-Call : goal.resolved-returns-in_ok-arguments-in-Call
 resolved-returns-in_ok-arguments-in-Call t c =
@@ -74,7 +74,7 @@ window_resolved-returns-in_err-partition t c =
     let keys = keys_of (map view_key w.order.items) in
     let shown : view_window c.args.window.now ≡ window w.base trees keys w.frame = view_window_out c.args.window.now ∙ ap (λ xs. window w.base (trees_of (map view xs)) keys w.frame) (sym c.deref.ensures.value) in
     let p = err_from_is_err_and c.from_residual-in_err-partition.result c.from_residual-in_err-partition.ensures.1 in
-    rw (p.1, p.2) (rw shown (fails_too c.in_err-partition.field-0.0 (all_resolved context trees []) (window_resolved context (window w.base trees keys w.frame)) c.in_err-partition.ensures (λ cause h. rw c.in_ok-base.ensures (rw h refl))))
+    rw (p.1, p.2) (rw shown (fails_too c.in_err-partition.field-0.0 (all_resolved (within_call context) trees []) (window_resolved context (window w.base trees keys w.frame)) c.in_err-partition.ensures (λ cause h. rw c.in_ok-base.ensures (rw h refl))))
 
 pub window_resolved-returns-in_err-order : goal.window_resolved-returns-in_err-order
 window_resolved-returns-in_err-order t c =
