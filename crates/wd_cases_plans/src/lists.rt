@@ -17,13 +17,8 @@ pub fn value_of(alloc: Global, word: &str) -> Result<Value, Refusal> {
 fn number_or_text(alloc: Global, word: &str) -> Result<Value, Refusal> {
     match word.parse::<i64>() {
         Ok(n) => Ok(Value::Int(n)),
-        Err(_) => text_of(alloc, word),
+        Err(_) => Ok(Value::Text(Text::from_str(alloc, read(quoted(word))?)?)),
     }
-}
-
-fn text_of(alloc: Global, word: &str) -> Result<Value, Refusal> {
-    let text = read(quoted(word))?;
-    Ok(Value::Text(Text::from_str(alloc, text)?))
 }
 
 fn quoted(word: &str) -> Option<&str> {
@@ -50,7 +45,7 @@ pub fn rows_of(alloc: Global, text: &str) -> Result<Vec<Row>, Refusal> {
     Ok(rows)
 }
 
-fn is_nothing(text: &str) -> bool {
+pub fn is_nothing(text: &str) -> bool {
     matches!(text.trim(), "" | "-")
 }
 
@@ -63,17 +58,6 @@ pub fn numbers_of(alloc: Global, text: &str) -> Result<Vec<u64>, Refusal> {
         }
     }
     Ok(numbers)
-}
-
-/// The same, of 32 bits.
-pub fn groups_of(alloc: Global, text: &str) -> Result<Vec<u32>, Refusal> {
-    let mut groups = Vec::new(alloc);
-    for word in text.split(' ') {
-        if !is_nothing(word) {
-            groups.push(read(word.parse::<u32>().ok())?)?;
-        }
-    }
-    Ok(groups)
 }
 
 /// Lists of numbers parted by `;`.

@@ -1,42 +1,52 @@
 //! The operators and functions that words name.
 
 use crate::words::{column_at, number_at};
-use wd_plan::{ArithmeticOp, ComparisonOp, Function};
+use wd_plan::{ArithmeticOp, ComparisonOp, Expr, Function};
 use wd_value::Value;
 
-const ARITHMETIC: [(&str, ArithmeticOp); 5] = [
-    ("+", ArithmeticOp::Add),
-    ("-", ArithmeticOp::Subtract),
-    ("*", ArithmeticOp::Multiply),
-    ("/", ArithmeticOp::Divide),
-    ("%", ArithmeticOp::Remainder),
+/// An operator on two expressions.
+#[derive(Clone, Copy)]
+pub enum Binary {
+    Arithmetic(ArithmeticOp),
+    Comparison(ComparisonOp),
+    And,
+    Or,
+}
+
+const BINARY: [(&str, Binary); 13] = [
+    ("+", Binary::Arithmetic(ArithmeticOp::Add)),
+    ("-", Binary::Arithmetic(ArithmeticOp::Subtract)),
+    ("*", Binary::Arithmetic(ArithmeticOp::Multiply)),
+    ("/", Binary::Arithmetic(ArithmeticOp::Divide)),
+    ("%", Binary::Arithmetic(ArithmeticOp::Remainder)),
+    ("=", Binary::Comparison(ComparisonOp::Equal)),
+    ("<>", Binary::Comparison(ComparisonOp::NotEqual)),
+    ("<", Binary::Comparison(ComparisonOp::Less)),
+    ("<=", Binary::Comparison(ComparisonOp::LessOrEqual)),
+    (">", Binary::Comparison(ComparisonOp::Greater)),
+    (">=", Binary::Comparison(ComparisonOp::GreaterOrEqual)),
+    ("and", Binary::And),
+    ("or", Binary::Or),
 ];
 
-pub fn arithmetic(word: &str) -> Option<ArithmeticOp> {
-    for (name, op) in ARITHMETIC {
-        if name == word {
-            return Some(op);
+pub fn operator_of(word: &str) -> Option<Binary> {
+    for (name, operator) in &BINARY {
+        if *name == word {
+            return Some(*operator);
         }
     }
     None
 }
 
-const COMPARISONS: [(&str, ComparisonOp); 6] = [
-    ("=", ComparisonOp::Equal),
-    ("<>", ComparisonOp::NotEqual),
-    ("<", ComparisonOp::Less),
-    ("<=", ComparisonOp::LessOrEqual),
-    (">", ComparisonOp::Greater),
-    (">=", ComparisonOp::GreaterOrEqual),
-];
-
-pub fn comparison(word: &str) -> Option<ComparisonOp> {
-    for (name, op) in COMPARISONS {
-        if name == word {
-            return Some(op);
+impl Binary {
+    pub fn over(self, left: Box<Expr>, right: Box<Expr>) -> Expr {
+        match self {
+            Binary::Arithmetic(op) => Expr::Arithmetic(op, left, right),
+            Binary::Comparison(op) => Expr::Compare(op, left, right),
+            Binary::And => Expr::And(left, right),
+            Binary::Or => Expr::Or(left, right),
         }
     }
-    None
 }
 
 /// The function of a word such as `rank`, `ntile(2)`, `nth_value(c1,2)` or `count(*)`.

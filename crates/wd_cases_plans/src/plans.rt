@@ -7,10 +7,8 @@ ghost use Rattle.wd_plan.specs.Plans.{plan_of};
 ghost use Rattle.wd_schema.specs.Schemas.{schema_of};
 ghost use Rattle.wd_window.specs.Windows.{AreFew, EachNames};
 
-use crate::lists::orderings_of;
 use crate::refusal::{Refusal, read};
-use crate::shown::{push_between, push_orderings, push_outcome, push_refusal, push_truth};
-use crate::stacks::{plan_of, stacks_of};
+use crate::shown::{push, push_between, push_outcome, push_refusal, push_truth};
 use crate::state::State;
 use crate::steps::{copied, fault_of};
 use crate::words::{Line, argument, number_at};
@@ -21,28 +19,47 @@ use wd_schema::Schema;
 use wd_value::{Instance, Row};
 use wd_window::{WindowError, evaluate_window};
 
-/// `evaluate_window(FIRST) CLASSES CALLS : ORDERINGS`: the rows with the calls' values, under the orderings
-/// from that number on; over a fault with `evaluate_window(FIRST,FAULT)`.
-pub fn window(alloc: Global, state: &State, line: Line, out: &mut String) -> Result<(), Refusal> {
-    let stacks = stacks_of(alloc, line.words)?;
-    let choice = orderings_of(alloc, line.lists)?;
-    let first = read(number_at(line.arguments, 0))? as usize;
-    let input = input_of(alloc, state.rows(), argument(line.arguments, 1))?;
-    if !are_named(&stacks.calls, stacks.classes.len()) || !is_few(&input) || first > choice.len() {
-        return Err(Refusal::NoSuchCase);
+/// `evaluate_window(FIRST) CLASSES CALLS : ORDERINGS`: the rows with the calls' values, under the
+/// orderings from that number on; over a fault with `evaluate_window(FIRST,FAULT)`.
+pub fn window(
+    alloc: Global,
+    state: &State,
+    arguments: &str,
+    out: &mut String,
+) -> Result<(), Refusal> {
+    let first = read(number_at(arguments, 0))? as usize;
+    let input = input_of(alloc, state.rows(), argument(arguments, 1))?;
+    match evaluated(alloc, state, input, first) {
+        Ok(outcome) => push_outcome(out, &outcome),
+        Err(WindowError::NotValid(place)) => push_not_valid(out, place),
+        Err(WindowError::OutOfMemory) => Err(Refusal::OutOfMemory),
     }
-    match evaluate_window(alloc, &stacks.classes, &stacks.calls, input, &choice, first) {
-        Ok(outcome) => push_outcome(out, &outcome)?,
-        Err(WindowError::NotValid(place)) => write!(out, "not valid at {place}")?,
-        Err(WindowError::OutOfMemory) => return Err(Refusal::OutOfMemory),
-    }
-    Ok(())
 }
 
 fn input_of(alloc: Global, rows: &[Row], fault: Option<&str>) -> Result<Outcome, Refusal> {
     match fault {
-        Some(word) => Ok(Outcome::Fault(read(fault_of(word))?)),
         None => Ok(Outcome::Rows(copied(alloc, rows)?)),
+        _ => Ok(Outcome::Fault(read(fault_of(fault))?)),
+    }
+}
+
+fn push_not_valid(out: &mut String, place: u64) -> Result<(), Refusal> {
+    write!(out, "not valid at {place}")?;
+    Ok(())
+}
+
+/// What the Window gives; want of memory where it can't be asked.
+fn evaluated(
+    alloc: Global,
+    state: &State,
+    input: Outcome,
+    first: usize,
+) -> Result<Outcome, WindowError> {
+    let (classes, calls, choice) = (&state.stacks.classes, &state.stacks.calls, &state.orderings);
+    if are_named(calls, classes.len()) && is_few(&input) && first <= choice.len() {
+        evaluate_window(alloc, classes, calls, input, choice, first)
+    } else {
+        Err(WindowError::OutOfMemory)
     }
 }
 
@@ -63,16 +80,17 @@ fn is_few(input: &Outcome) -> bool
     }
 }
 
-/// `fits PLAN`
-pub fn fits(alloc: Global, state: &State, line: Line, out: &mut String) -> Result<(), Refusal> {
-    let plan = plan_of(alloc, line.words)?;
-    push_truth(out, plan.fits(read(state.schema.as_ref())?))?;
-    Ok(())
+/// `fits PLAN` and `orderings PLAN`
+pub fn plan_answer(state: &State, name: &str, out: &mut String) -> Result<(), Refusal> {
+    let plan = read(state.stacks.plans.first())?;
+    match (name, &state.schema) {
+        ("fits", Some(schema)) => push_truth(out, plan.fits(schema)),
+        ("orderings", _) => push_count(out, plan.orderings()),
+        _ => Err(Refusal::NoSuchCase),
+    }
 }
 
-/// `orderings PLAN`
-pub fn orderings(alloc: Global, line: Line, out: &mut String) -> Result<(), Refusal> {
-    let count = plan_of(alloc, line.words)?.orderings();
+fn push_count(out: &mut String, count: u32) -> Result<(), Refusal> {
     write!(out, "{count}")?;
     Ok(())
 }
@@ -81,7 +99,7 @@ pub fn orderings(alloc: Global, line: Line, out: &mut String) -> Result<(), Refu
 pub fn answer(alloc: Global, state: &State, line: Line, out: &mut String) -> Result<(), Refusal> {
     match (&state.plan, &state.schema) {
         (Some(plan), Some(schema)) if plan.fits(schema) => {
-            push_of(alloc, plan, schema, &state.instance, line, out)
+            push_of(alloc, plan, schema, state, line, out)
         }
         _ => Err(Refusal::NoSuchCase),
     }
@@ -91,20 +109,19 @@ fn push_of(
     alloc: Global,
     plan: &Plan,
     schema: &Schema,
-    instance: &Instance,
+    state: &State,
     line: Line,
     out: &mut String,
 ) -> Result<(), Refusal>
     requires { spec.fits (schema_of schema.now) (plan_of plan.now) ≡ true }
 {
+    let instance = &state.instance;
     match line.name {
-        "eval_with" => push_evaluated(alloc, plan, schema, instance, line, out)?,
-        "run_plan" => push_given(out, &run_plan(alloc, plan, schema, instance))?,
-        "first_choice" => push_choice(out, &first_choice(alloc, plan, schema, instance))?,
-        "tied_choice" => push_tied(alloc, plan, schema, instance, line, out)?,
-        _ => return Err(Refusal::NoSuchCase),
+        "eval_with" => push_evaluated(alloc, plan, schema, state, out),
+        "run_plan" => push_given(out, run_plan(alloc, plan, schema, instance)),
+        "first_choice" => push_choice(out, first_choice(alloc, plan, schema, instance)),
+        _ => push_tied(alloc, plan, schema, instance, line.arguments, out),
     }
-    Ok(())
 }
 
 /// `eval_with : ORDERINGS`: what `check_choice` and `eval_with` give for the choice.
@@ -112,31 +129,46 @@ fn push_evaluated(
     alloc: Global,
     plan: &Plan,
     schema: &Schema,
-    instance: &Instance,
-    line: Line,
+    state: &State,
     out: &mut String,
 ) -> Result<(), Refusal>
     requires { spec.fits (schema_of schema.now) (plan_of plan.now) ≡ true }
 {
-    let orderings = orderings_of(alloc, line.lists)?;
-    let choice = Choice { orderings };
-    push_checked(out, check_choice(alloc, plan, schema, instance, &choice))?;
-    push_given(out, &eval_with(alloc, plan, schema, instance, &choice))?;
-    Ok(())
+    let choice = Choice {
+        orderings: orderings_of(alloc, &state.orderings)?,
+    };
+    push_checked(
+        out,
+        check_choice(alloc, plan, schema, &state.instance, &choice),
+    )?;
+    push_given(
+        out,
+        eval_with(alloc, plan, schema, &state.instance, &choice),
+    )
 }
 
-fn push_checked(out: &mut String, checked: Result<(), EvalError>) -> Result<(), AllocError> {
-    match checked {
-        Ok(()) => out.push_str("valid")?,
-        Err(error) => push_refusal(out, &error)?,
+fn orderings_of(alloc: Global, orderings: &[Vec<u64>]) -> Result<Vec<Vec<u64>>, AllocError> {
+    let mut copied = Vec::new(alloc);
+    for ordering in orderings {
+        copied.push(ordering.to_vec(alloc)?)?;
     }
-    out.push_str(" | ")
+    Ok(copied)
 }
 
-fn push_given(out: &mut String, given: &Result<Outcome, EvalError>) -> Result<(), AllocError> {
+fn push_checked(out: &mut String, checked: Result<(), EvalError>) -> Result<(), Refusal> {
+    match checked {
+        Ok(()) => push(out, "valid | "),
+        Err(error) => {
+            push_refusal(out, &error)?;
+            push(out, " | ")
+        }
+    }
+}
+
+fn push_given(out: &mut String, given: Result<Outcome, EvalError>) -> Result<(), Refusal> {
     match given {
-        Ok(outcome) => push_outcome(out, outcome),
-        Err(error) => push_refusal(out, error),
+        Ok(outcome) => push_outcome(out, &outcome),
+        Err(error) => push_refusal(out, &error),
     }
 }
 
@@ -146,24 +178,28 @@ fn push_tied(
     plan: &Plan,
     schema: &Schema,
     instance: &Instance,
-    line: Line,
+    arguments: &str,
     out: &mut String,
 ) -> Result<(), Refusal>
     requires { spec.fits (schema_of schema.now) (plan_of plan.now) ≡ true }
 {
-    let flipped = read(line.arguments.parse::<u32>().ok())?;
+    let flipped = read(arguments.parse::<u32>().ok())?;
     push_choice(
         out,
-        &tied_choice(alloc, plan, schema, instance, Some(flipped)),
-    )?;
-    Ok(())
+        tied_choice(alloc, plan, schema, instance, Some(flipped)),
+    )
 }
 
-fn push_choice(out: &mut String, choice: &Result<Choice, EvalError>) -> Result<(), AllocError> {
+fn push_choice(out: &mut String, choice: Result<Choice, EvalError>) -> Result<(), Refusal> {
     match choice {
-        Ok(choice) => push_orderings(out, &choice.orderings),
-        Err(error) => push_refusal(out, error),
+        Ok(Choice { orderings }) => push_orderings(out, &orderings),
+        Err(error) => push_refusal(out, &error),
     }
+}
+
+fn push_orderings(out: &mut String, orderings: &[Vec<u64>]) -> Result<(), Refusal> {
+    write!(out, "{orderings:?}")?;
+    Ok(())
 }
 
 const REFUSALS: [EvalError; 3] = [

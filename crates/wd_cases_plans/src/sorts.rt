@@ -1,40 +1,35 @@
 //! Sorts of the rows, and orderings under classes.
 
-use crate::lists::numbers_of;
 use crate::refusal::{Refusal, read};
-use crate::shown::{push_comparison, push_groups, push_numbers, push_row, push_truth};
-use crate::stacks::class_of;
+use crate::shown::{push, push_comparison, push_row, push_truth};
 use crate::state::State;
-use crate::words::{Line, argument, item_of, number_at};
+use crate::words::{Line, argument, number_at};
 use std::alloc::{AllocError, Global};
 use wd_partition::{Member, Partitions, is_ordering, partitions, sorted_ordering};
-use wd_plan::Class;
+use wd_plan::{Class, OrderItem};
 use wd_sort::{SortColumn, compare_rows_at, is_sorted, sorted_from, sorted_positions};
-use wd_value::{OutOfMemory, Row};
+use wd_value::Row;
 
-pub fn answer(alloc: Global, state: &State, line: Line, out: &mut String) -> Result<(), Refusal> {
-    let columns = columns_of(alloc, line.words)?;
-    let given = numbers_of(alloc, line.lists)?;
-    match line.name {
-        "sorted_positions" => push_positions(alloc, state.rows(), &columns, out)?,
-        "sorted_from" => push_sorted(alloc, state.rows(), &columns, &given, out)?,
-        "is_sorted" => push_truth(out, is_sorted(state.rows(), &columns, &given))?,
-        _ => push_compared(state.rows(), &columns, &given, out)?,
+/// `sorted_positions COLUMNS`, `sorted_from COLUMNS : POSITIONS`, `is_sorted COLUMNS : POSITIONS`, and
+/// `compare_rows_at COLUMNS : 0 3`, how the first of these rows stands beside the last.
+pub fn answer(alloc: Global, state: &State, name: &str, out: &mut String) -> Result<(), Refusal> {
+    let columns = columns_of(alloc, &state.stacks.items)?;
+    let (rows, given) = (state.rows(), state.ordering());
+    match name {
+        "sorted_positions" => push_positions(alloc, rows, &columns, out),
+        "sorted_from" => push_sorted(alloc, rows, &columns, given, out),
+        "is_sorted" => push_truth(out, is_sorted(rows, &columns, given)),
+        _ => push_compared(rows, &columns, given, out),
     }
-    Ok(())
 }
 
-/// The columns of words such as `c1- c0+`.
-fn columns_of(alloc: Global, words: &str) -> Result<Vec<SortColumn>, Refusal> {
+fn columns_of(alloc: Global, items: &[OrderItem]) -> Result<Vec<SortColumn>, AllocError> {
     let mut columns = Vec::new(alloc);
-    for word in words.split(' ') {
-        if !word.is_empty() {
-            let item = read(item_of(word))?;
-            columns.push(SortColumn {
-                column: item.column,
-                key: item.key,
-            })?;
-        }
+    for OrderItem { column, key } in items {
+        columns.push(SortColumn {
+            column: *column,
+            key: *key,
+        })?;
     }
     Ok(columns)
 }
@@ -44,9 +39,9 @@ fn push_positions(
     rows: &[Row],
     columns: &[SortColumn],
     out: &mut String,
-) -> Result<(), OutOfMemory> {
+) -> Result<(), Refusal> {
     let positions = sorted_positions(alloc, rows, columns)?;
-    push_numbers(out, &positions)?;
+    write!(out, "{positions:?}")?;
     Ok(())
 }
 
@@ -56,71 +51,81 @@ fn push_sorted(
     columns: &[SortColumn],
     given: &[u64],
     out: &mut String,
-) -> Result<(), OutOfMemory> {
+) -> Result<(), Refusal> {
     let positions = sorted_from(alloc, rows, columns, given)?;
-    push_numbers(out, &positions)?;
+    write!(out, "{positions:?}")?;
     Ok(())
 }
 
-/// `compare_rows_at COLUMNS : 0 3`: how the first row stands beside the second.
 fn push_compared(
     rows: &[Row],
     columns: &[SortColumn],
     given: &[u64],
     out: &mut String,
-) -> Result<(), AllocError> {
+) -> Result<(), Refusal> {
     let first = given.first().copied().unwrap_or(0);
     let last = given.last().copied().unwrap_or(0);
     push_comparison(out, compare_rows_at(rows, columns, first, last))
 }
 
-/// `sorted_ordering(CLASS)`, and `flipped_ordering(CLASS)`
-pub fn ordering(
+/// What is asked of the class of the line.
+pub fn class_answer(
     alloc: Global,
     state: &State,
     line: Line,
     out: &mut String,
-    flipped: bool,
 ) -> Result<(), Refusal> {
-    let Class { partition, order } = class_of(alloc, line.arguments)?;
-    let found = sorted_ordering(alloc, state.rows(), &partition, &order, flipped)?;
-    push_numbers(out, &found)?;
+    let class = read(state.stacks.classes.first())?;
+    match line.name {
+        "sorted_ordering" => push_ordering(alloc, state.rows(), class, line.arguments, out),
+        "is_ordering" => push_is_ordering(alloc, state, class, out),
+        _ => push_partition(alloc, state, class, line.arguments, out),
+    }
+}
+
+/// `sorted_ordering CLASS` or `sorted_ordering(flipped) CLASS`
+fn push_ordering(
+    alloc: Global,
+    rows: &[Row],
+    class: &Class,
+    arguments: &str,
+    out: &mut String,
+) -> Result<(), Refusal> {
+    let flipped = arguments == "flipped";
+    let ordering = sorted_ordering(alloc, rows, &class.partition, &class.order, flipped)?;
+    write!(out, "{ordering:?}")?;
     Ok(())
 }
 
-/// `is_ordering(CLASS) : ORDERING`
-pub fn is_lawful(
+/// `is_ordering CLASS : ORDERING`
+fn push_is_ordering(
     alloc: Global,
     state: &State,
-    line: Line,
+    class: &Class,
     out: &mut String,
 ) -> Result<(), Refusal> {
-    let Class { partition, order } = class_of(alloc, line.arguments)?;
-    let given = numbers_of(alloc, line.lists)?;
+    let (rows, given) = (state.rows(), state.ordering());
     push_truth(
         out,
-        is_ordering(alloc, state.rows(), &partition, &order, &given)?,
-    )?;
-    Ok(())
+        is_ordering(alloc, rows, &class.partition, &class.order, given)?,
+    )
 }
 
-/// `partitions(CLASS) POSITION : ORDERING`, or with `POSITION,numbers`: the partition of the row at
-/// that position, or `none`; `no ordering` where the list is none of the class.
-pub fn partition(
+/// `partitions(POSITION) CLASS : ORDERING`, or `partitions(POSITION,numbers)`: the partition of the
+/// row at that position.
+fn push_partition(
     alloc: Global,
     state: &State,
-    line: Line,
+    class: &Class,
+    arguments: &str,
     out: &mut String,
 ) -> Result<(), Refusal> {
-    let class = class_of(alloc, line.arguments)?;
-    let given = numbers_of(alloc, line.lists)?;
-    let asked = argument(line.words, 1) == Some("numbers");
-    let position = read(number_at(line.words, 0))?;
-    match partitions_of(alloc, state.rows(), &class, &given, asked)? {
-        Some(found) => push_member(out, found.member(position as usize))?,
-        None => out.push_str("no ordering")?,
+    let position = read(number_at(arguments, 0))? as usize;
+    let asked = argument(arguments, 1) == Some("numbers");
+    match partitions_of(alloc, state.rows(), class, state.ordering(), asked)? {
+        Some(found) => push_member(out, found.member(position)),
+        None => push(out, "no ordering"),
     }
-    Ok(())
 }
 
 fn partitions_of(
@@ -129,27 +134,22 @@ fn partitions_of(
     class: &Class,
     ordering: &[u64],
     asked: bool,
-) -> Result<Option<Partitions>, OutOfMemory> {
+) -> Result<Option<Partitions>, Refusal> {
     if rows.len() > u32::MAX as usize {
-        return Err(OutOfMemory);
+        return Err(Refusal::NoSuchCase);
     }
-    partitions(alloc, rows, &class.partition, &class.order, ordering, asked)
-}
-
-fn push_member(out: &mut String, member: Option<Member>) -> Result<(), AllocError> {
-    match member {
-        None => out.push_str("no row"),
-        Some(member) => push_parts(out, member),
-    }
+    Ok(partitions(alloc, rows, &class.partition, &class.order, ordering, asked)?)
 }
 
 /// The positions, the groups, the numbers, and the place of the row itself.
-fn push_parts(out: &mut String, member: Member) -> Result<(), AllocError> {
-    push_numbers(out, member.positions)?;
-    out.push_str(" / ")?;
-    push_groups(out, member.groups)?;
-    out.push_str(" / ")?;
-    push_row(out, member.numbers)?;
-    let place = member.place;
-    write!(out, " / {place}")
+fn push_member(out: &mut String, member: Option<Member>) -> Result<(), Refusal> {
+    match member {
+        None => push(out, "no row"),
+        Some(member) => {
+            let (positions, groups, place) = (member.positions, member.groups, member.place);
+            write!(out, "{place} of {positions:?} {groups:?}")?;
+            push(out, if member.numbers.is_empty() { "" } else { " " })?;
+            push_row(out, member.numbers)
+        }
+    }
 }

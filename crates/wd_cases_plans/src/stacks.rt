@@ -2,16 +2,14 @@
 //! it needs from the stacks.
 
 use crate::lists::value_of;
-use crate::operators::{arithmetic, comparison, function, neighbour};
+use crate::operators::{Binary, function, neighbour, operator_of};
 use crate::refusal::{Refusal, read};
 use crate::words::{
     Cut, DEFAULT_FRAME, argument, column_of, cut_of, frame_of, item_of, kind_of, named, table_of,
 };
 use std::alloc::Global;
 use std::mem::replace;
-use wd_plan::{
-    ArithmeticOp, Call, Class, ComparisonOp, Expr, Frame, Function, OrderItem, Plan, ValueKind,
-};
+use wd_plan::{Call, Class, Expr, Frame, Function, OrderItem, Plan, ValueKind};
 use wd_value::Value;
 
 #[derive(Drop)]
@@ -28,25 +26,8 @@ pub struct Stacks {
     pub frame: Frame,
 }
 
-/// What the words leave on the stacks.
-pub fn stacks_of(alloc: Global, words: &str) -> Result<Stacks, Refusal> {
-    let mut stacks = Stacks::new(alloc);
-    for word in words.split(' ') {
-        if !word.is_empty() {
-            stacks.push(word)?;
-        }
-    }
-    Ok(stacks)
-}
-
-/// The plan of the words.
-pub fn plan_of(alloc: Global, words: &str) -> Result<Plan, Refusal> {
-    let mut stacks = stacks_of(alloc, words)?;
-    read(stacks.plans.pop())
-}
-
 impl Stacks {
-    fn new(alloc: Global) -> Stacks {
+    pub fn new(alloc: Global) -> Stacks {
         Stacks {
             alloc,
             class: 0,
@@ -59,19 +40,36 @@ impl Stacks {
         }
     }
 
+    /// Empties the stacks, and goes through the words.
+    pub fn read(&mut self, words: &str) -> Result<(), Refusal> {
+        self.clear();
+        for word in words.split(' ') {
+            if !word.is_empty() {
+                self.push(word)?;
+            }
+        }
+        Ok(())
+    }
+
+    fn clear(&mut self) {
+        self.class = 0;
+        self.frame = DEFAULT_FRAME;
+        self.expressions.clear();
+        self.items.clear();
+        self.classes.clear();
+        self.calls.clear();
+        self.plans.clear();
+    }
+
     fn push(&mut self, word: &str) -> Result<(), Refusal> {
         if let Some(column) = column_of(word) {
             return self.push_expression(Expr::Column(column));
         }
         if let Some(item) = item_of(word) {
-            self.items.push(item)?;
-            return Ok(());
+            return self.push_item(item);
         }
-        if let Some(op) = arithmetic(word) {
-            return self.push_arithmetic(op);
-        }
-        if let Some(op) = comparison(word) {
-            return self.push_comparison(op);
+        if let Some(operator) = operator_of(word) {
+            return self.push_binary(operator);
         }
         self.push_operator(word)
     }
@@ -79,7 +77,6 @@ impl Stacks {
     fn push_operator(&mut self, word: &str) -> Result<(), Refusal> {
         match word {
             "negate" | "not" | "is_null" | "is_not_null" => self.push_unary(word),
-            "and" | "or" => self.push_logical(word),
             "case" => self.push_case(),
             "filter" => self.push_filter(),
             "map" => self.push_map(),
@@ -111,6 +108,11 @@ impl Stacks {
         }
     }
 
+    fn push_item(&mut self, item: OrderItem) -> Result<(), Refusal> {
+        self.items.push(item)?;
+        Ok(())
+    }
+
     fn push_expression(&mut self, expression: Expr) -> Result<(), Refusal> {
         self.expressions.push(expression)?;
         Ok(())
@@ -121,25 +123,10 @@ impl Stacks {
         Ok(Box::new(self.alloc, expression)?)
     }
 
-    fn push_arithmetic(&mut self, op: ArithmeticOp) -> Result<(), Refusal> {
+    fn push_binary(&mut self, operator: Binary) -> Result<(), Refusal> {
         let right = self.expression()?;
         let left = self.expression()?;
-        self.push_expression(Expr::Arithmetic(op, left, right))
-    }
-
-    fn push_comparison(&mut self, op: ComparisonOp) -> Result<(), Refusal> {
-        let right = self.expression()?;
-        let left = self.expression()?;
-        self.push_expression(Expr::Compare(op, left, right))
-    }
-
-    fn push_logical(&mut self, word: &str) -> Result<(), Refusal> {
-        let right = self.expression()?;
-        let left = self.expression()?;
-        self.push_expression(match word {
-            "and" => Expr::And(left, right),
-            _ => Expr::Or(left, right),
-        })
+        self.push_expression(operator.over(left, right))
     }
 
     fn push_unary(&mut self, word: &str) -> Result<(), Refusal> {
@@ -287,7 +274,7 @@ fn kind_of_value(value: &Value) -> ValueKind {
 }
 
 /// The class of words such as `c1,c2+`.
-pub fn class_of(alloc: Global, words: &str) -> Result<Class, Refusal> {
+fn class_of(alloc: Global, words: &str) -> Result<Class, Refusal> {
     let mut class = Class {
         partition: Vec::new(alloc),
         order: Vec::new(alloc),

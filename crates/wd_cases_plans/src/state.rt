@@ -1,8 +1,8 @@
 //! What lines set for the lines behind them.
 
-use crate::lists::{groups_of, row_of, rows_of};
+use crate::lists::{is_nothing, orderings_of, row_of, rows_of};
 use crate::refusal::{Refusal, read};
-use crate::stacks::plan_of;
+use crate::stacks::Stacks;
 use crate::words::Line;
 use std::alloc::Global;
 use wd_frame::Part;
@@ -18,6 +18,10 @@ pub struct State {
     /// The right side of joins.
     pub right: Vec<Row>,
     pub plan: Option<Plan>,
+    /// What the words of the line have left.
+    pub stacks: Stacks,
+    /// The lists behind the line's colon.
+    pub orderings: Vec<Vec<u64>>,
     groups: Vec<u32>,
     keys: Vec<Value>,
     desc: bool,
@@ -30,6 +34,8 @@ impl State {
             instance: Vec::new(alloc),
             right: Vec::new(alloc),
             plan: None,
+            stacks: Stacks::new(alloc),
+            orderings: Vec::new(alloc),
             groups: Vec::new(alloc),
             keys: Vec::new(alloc),
             desc: false,
@@ -59,13 +65,27 @@ impl State {
         }
     }
 
+    /// The first list behind the line's colon.
+    pub fn ordering(&self) -> &[u64] {
+        match self.orderings.first() {
+            Some(ordering) => ordering,
+            None => &[],
+        }
+    }
+
+    /// Reads the line's words and its lists.
+    pub fn read(&mut self, alloc: Global, line: Line) -> Result<(), Refusal> {
+        self.orderings = orderings_of(alloc, line.lists)?;
+        self.stacks.read(line.words)
+    }
+
     /// Sets what the line's name says.
     pub fn set(&mut self, alloc: Global, line: Line) -> Result<(), Refusal> {
         match line.name {
             "schema" => self.set_schema(alloc, line),
             "rows" => self.set_rows(alloc, line),
             "right" => self.set_right(alloc, line),
-            "plan" => self.set_plan(alloc, line),
+            "plan" => self.set_plan(line),
             _ => self.set_part(alloc, line),
         }
     }
@@ -92,18 +112,30 @@ impl State {
     }
 
     /// `plan WORDS`
-    fn set_plan(&mut self, alloc: Global, line: Line) -> Result<(), Refusal> {
-        self.plan = Some(plan_of(alloc, line.words)?);
+    fn set_plan(&mut self, line: Line) -> Result<(), Refusal> {
+        self.stacks.read(line.words)?;
+        self.plan = self.stacks.plans.pop();
         Ok(())
     }
 
     /// `part GROUPS : KEYS`, or with `part(desc)`
     fn set_part(&mut self, alloc: Global, line: Line) -> Result<(), Refusal> {
-        self.groups = groups_of(alloc, line.words)?;
+        self.groups.clear();
+        push_groups(&mut self.groups, line.words)?;
         self.keys = keys_of(alloc, line.lists)?;
         self.desc = line.arguments == "desc";
         Ok(())
     }
+}
+
+/// Numbers parted by blanks, or `-` for none.
+fn push_groups(groups: &mut Vec<u32>, text: &str) -> Result<(), Refusal> {
+    for word in text.split(' ') {
+        if !is_nothing(word) {
+            groups.push(read(word.parse::<u32>().ok())?)?;
+        }
+    }
+    Ok(())
 }
 
 fn keys_of(alloc: Global, text: &str) -> Result<Vec<Value>, Refusal> {

@@ -1,6 +1,6 @@
 //! Lines, words and their arguments.
 
-use std::alloc::{AllocError, Global};
+use std::alloc::AllocError;
 use wd_plan::{Bound, Exclusion, Frame, FrameMode, OrderItem, ValueKind};
 use wd_value::SortKey;
 
@@ -33,20 +33,19 @@ pub fn named(word: &str) -> (&str, &str) {
     }
 }
 
-/// The text in which `\3{ab}` is ababab.
-pub fn repeated(alloc: Global, line: &str) -> Result<String, AllocError> {
-    let mut out = String::new(alloc);
+/// Puts a text at the end in which `\3{ab}` is ababab.
+pub fn push_repeated(out: &mut String, line: &str) -> Result<(), AllocError> {
     for (i, part) in line.split('\\').enumerate() {
         if i == 0 {
             out.push_str(part)?;
         } else {
-            push_repeated(&mut out, part)?;
+            push_times(out, part)?;
         }
     }
-    Ok(out)
+    Ok(())
 }
 
-fn push_repeated(out: &mut String, part: &str) -> Result<(), AllocError> {
+fn push_times(out: &mut String, part: &str) -> Result<(), AllocError> {
     let (times, rest) = part.split_once('{').unwrap_or(("1", part));
     let (text, back) = rest.split_once('}').unwrap_or((rest, ""));
     for _ in 0..times.parse::<u32>().unwrap_or(0) {
@@ -112,9 +111,9 @@ const KEYS: [(&str, SortKey); 4] = [
 /// The sort key that a word such as `+` or `-last` names: ascending or descending, with NULL last
 /// and first unless it says more.
 pub fn key_of(word: &str) -> Option<SortKey> {
-    for (name, key) in KEYS {
-        if name == word {
-            return Some(key);
+    for (name, key) in &KEYS {
+        if *name == word {
+            return Some(*key);
         }
     }
     None
@@ -122,10 +121,10 @@ pub fn key_of(word: &str) -> Option<SortKey> {
 
 /// The column and the sort key of a word such as `c3-`.
 pub fn item_of(word: &str) -> Option<OrderItem> {
-    for (name, key) in KEYS {
-        if let Some(front) = word.strip_suffix(name) {
+    for (name, key) in &KEYS {
+        if let Some(front) = word.strip_suffix(*name) {
             let column = column_of(front)?;
-            return Some(OrderItem { column, key });
+            return Some(OrderItem { column, key: *key });
         }
     }
     None
