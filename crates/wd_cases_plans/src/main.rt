@@ -4,10 +4,11 @@
 //! from the standard or from another database and never from this program. Empty lines and lines
 //! that begin with `#` print nothing; what is no case prints `no such case`.
 //!
-//! A line is `NAME(ARGUMENTS) WORDS : LISTS`, of which all but the name may be missing. NAME is the
-//! public function that is called; its comment here says what it takes. Some lines are only set, for
-//! the lines behind them: `schema TEXT`, `rows ROWS` (the rows of the one table), `right ROWS` (the right
-//! side of joins), `part GROUPS : KEYS` or `part(desc) ..`, and `plan WORDS`.
+//! A line is `NAME(ARGUMENTS) WORDS : LISTS`, of which all but the name may be missing. NAME is mostly
+//! that of the public function which is called; the function here that answers it says what it takes.
+//! Some lines are only set, for the lines behind them: `schema TEXT`, `rows ROWS` (the rows of the one
+//! table), `right ROWS` (the right side of joins), `part GROUPS : KEYS` or `part(desc) ..`, and
+//! `plan WORDS`.
 //!
 //! - Values are `null`, `7`, `'a'` and `true`; a row has them parted by commas, and rows are parted by
 //!   `;`. Lists have numbers parted by blanks, and are parted by `;`. `-` is no row or the empty list.

@@ -8,11 +8,11 @@ ghost use Rattle.wd_schema.specs.Schemas.{schema_of};
 ghost use Rattle.wd_window.specs.Windows.{AreFew, EachNames};
 
 use crate::refusal::{Refusal, read};
-use crate::shown::{push, push_between, push_outcome, push_refusal, push_truth};
+use crate::shown::{push, push_between, push_number, push_outcome, push_refusal, push_truth};
 use crate::state::State;
 use crate::steps::{copied, fault_of};
 use crate::words::{Line, argument, number_at};
-use std::alloc::{AllocError, Global};
+use std::alloc::Global;
 use wd_eval::{EvalError, check_choice, eval_with, first_choice, run_plan, tied_choice};
 use wd_plan::{Call, Choice, Outcome, Plan};
 use wd_schema::Schema;
@@ -55,7 +55,11 @@ fn evaluated(
     input: Outcome,
     first: usize,
 ) -> Result<Outcome, WindowError> {
-    let (classes, calls, choice) = (&state.stacks.classes, &state.stacks.calls, &state.orderings);
+    let (classes, calls, choice) = (
+        &state.stacks.classes,
+        &state.stacks.calls,
+        &state.choice.orderings,
+    );
     if are_named(calls, classes.len()) && is_few(&input) && first <= choice.len() {
         evaluate_window(alloc, classes, calls, input, choice, first)
     } else {
@@ -85,14 +89,9 @@ pub fn plan_answer(state: &State, name: &str, out: &mut String) -> Result<(), Re
     let plan = read(state.stacks.plans.first())?;
     match (name, &state.schema) {
         ("fits", Some(schema)) => push_truth(out, plan.fits(schema)),
-        ("orderings", _) => push_count(out, plan.orderings()),
+        ("orderings", _) => push_number(out, i64::from(plan.orderings())),
         _ => Err(Refusal::NoSuchCase),
     }
-}
-
-fn push_count(out: &mut String, count: u32) -> Result<(), Refusal> {
-    write!(out, "{count}")?;
-    Ok(())
 }
 
 /// What is asked of the plan that is set, where it fits the schema.
@@ -134,25 +133,9 @@ fn push_evaluated(
 ) -> Result<(), Refusal>
     requires { spec.fits (schema_of schema.now) (plan_of plan.now) ≡ true }
 {
-    let choice = Choice {
-        orderings: orderings_of(alloc, &state.orderings)?,
-    };
-    push_checked(
-        out,
-        check_choice(alloc, plan, schema, &state.instance, &choice),
-    )?;
-    push_given(
-        out,
-        eval_with(alloc, plan, schema, &state.instance, &choice),
-    )
-}
-
-fn orderings_of(alloc: Global, orderings: &[Vec<u64>]) -> Result<Vec<Vec<u64>>, AllocError> {
-    let mut copied = Vec::new(alloc);
-    for ordering in orderings {
-        copied.push(ordering.to_vec(alloc)?)?;
-    }
-    Ok(copied)
+    let (instance, choice) = (&state.instance, &state.choice);
+    push_checked(out, check_choice(alloc, plan, schema, instance, choice))?;
+    push_given(out, eval_with(alloc, plan, schema, instance, choice))
 }
 
 fn push_checked(out: &mut String, checked: Result<(), EvalError>) -> Result<(), Refusal> {

@@ -20,8 +20,13 @@ pub fn push_value(out: &mut String, value: &Value) -> Result<(), Refusal> {
     }
 }
 
-fn push_number(out: &mut String, n: i64) -> Result<(), Refusal> {
+pub fn push_number(out: &mut String, n: i64) -> Result<(), Refusal> {
     write!(out, "{n}")?;
+    Ok(())
+}
+
+pub fn push_numbers(out: &mut String, numbers: &[u64]) -> Result<(), Refusal> {
+    write!(out, "{numbers:?}")?;
     Ok(())
 }
 

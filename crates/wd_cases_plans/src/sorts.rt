@@ -1,7 +1,7 @@
 //! Sorts of the rows, and orderings under classes.
 
 use crate::refusal::{Refusal, read};
-use crate::shown::{push, push_comparison, push_row, push_truth};
+use crate::shown::{push, push_comparison, push_numbers, push_row, push_truth};
 use crate::state::State;
 use crate::words::{Line, argument, number_at};
 use std::alloc::{AllocError, Global};
@@ -16,8 +16,8 @@ pub fn answer(alloc: Global, state: &State, name: &str, out: &mut String) -> Res
     let columns = columns_of(alloc, &state.stacks.items)?;
     let (rows, given) = (state.rows(), state.ordering());
     match name {
-        "sorted_positions" => push_positions(alloc, rows, &columns, out),
-        "sorted_from" => push_sorted(alloc, rows, &columns, given, out),
+        "sorted_positions" => push_numbers(out, &sorted_positions(alloc, rows, &columns)?),
+        "sorted_from" => push_numbers(out, &sorted_from(alloc, rows, &columns, given)?),
         "is_sorted" => push_truth(out, is_sorted(rows, &columns, given)),
         _ => push_compared(rows, &columns, given, out),
     }
@@ -32,29 +32,6 @@ fn columns_of(alloc: Global, items: &[OrderItem]) -> Result<Vec<SortColumn>, All
         })?;
     }
     Ok(columns)
-}
-
-fn push_positions(
-    alloc: Global,
-    rows: &[Row],
-    columns: &[SortColumn],
-    out: &mut String,
-) -> Result<(), Refusal> {
-    let positions = sorted_positions(alloc, rows, columns)?;
-    write!(out, "{positions:?}")?;
-    Ok(())
-}
-
-fn push_sorted(
-    alloc: Global,
-    rows: &[Row],
-    columns: &[SortColumn],
-    given: &[u64],
-    out: &mut String,
-) -> Result<(), Refusal> {
-    let positions = sorted_from(alloc, rows, columns, given)?;
-    write!(out, "{positions:?}")?;
-    Ok(())
 }
 
 fn push_compared(
@@ -93,8 +70,7 @@ fn push_ordering(
 ) -> Result<(), Refusal> {
     let flipped = arguments == "flipped";
     let ordering = sorted_ordering(alloc, rows, &class.partition, &class.order, flipped)?;
-    write!(out, "{ordering:?}")?;
-    Ok(())
+    push_numbers(out, &ordering)
 }
 
 /// `is_ordering CLASS : ORDERING`

@@ -6,7 +6,7 @@ use crate::stacks::Stacks;
 use crate::words::Line;
 use std::alloc::Global;
 use wd_frame::Part;
-use wd_plan::Plan;
+use wd_plan::{Choice, Plan};
 use wd_schema::{Schema, read_schema};
 use wd_value::{Instance, Row, Value};
 
@@ -21,7 +21,7 @@ pub struct State {
     /// What the words of the line have left.
     pub stacks: Stacks,
     /// The lists behind the line's colon.
-    pub orderings: Vec<Vec<u64>>,
+    pub choice: Choice,
     groups: Vec<u32>,
     keys: Vec<Value>,
     desc: bool,
@@ -35,7 +35,9 @@ impl State {
             right: Vec::new(alloc),
             plan: None,
             stacks: Stacks::new(alloc),
-            orderings: Vec::new(alloc),
+            choice: Choice {
+                orderings: Vec::new(alloc),
+            },
             groups: Vec::new(alloc),
             keys: Vec::new(alloc),
             desc: false,
@@ -67,7 +69,7 @@ impl State {
 
     /// The first list behind the line's colon.
     pub fn ordering(&self) -> &[u64] {
-        match self.orderings.first() {
+        match self.choice.orderings.first() {
             Some(ordering) => ordering,
             None => &[],
         }
@@ -75,7 +77,7 @@ impl State {
 
     /// Reads the line's words and its lists.
     pub fn read(&mut self, alloc: Global, line: Line) -> Result<(), Refusal> {
-        self.orderings = orderings_of(alloc, line.lists)?;
+        self.choice.orderings = orderings_of(alloc, line.lists)?;
         self.stacks.read(line.words)
     }
 

@@ -138,20 +138,13 @@ pub struct Cut {
     pub ties: bool,
 }
 
-/// `OFFSET,COUNT`, with `all` for no count, or `OFFSET,COUNT,ties`.
+/// `OFFSET,COUNT` or `OFFSET,COUNT,ties`; a COUNT that is no number, as `all`, is none.
 pub fn cut_of(arguments: &str) -> Option<Cut> {
     Some(Cut {
         offset: number_at(arguments, 0)?,
-        count: count_of(argument(arguments, 1)?)?,
+        count: number_at(arguments, 1),
         ties: argument(arguments, 2) == Some("ties"),
     })
-}
-
-fn count_of(word: &str) -> Option<Option<u64>> {
-    match word {
-        "all" => Some(None),
-        _ => Some(Some(word.parse::<u64>().ok()?)),
-    }
 }
 
 pub fn kind_of(word: &str) -> Option<ValueKind> {
