@@ -4,7 +4,5 @@
 mod distance;
 mod frame;
 pub mod laws;
-#[cfg(test)]
-mod tests;
 
 pub use frame::{Part, members};

@@ -11,8 +11,6 @@ mod ordering;
 mod places;
 mod placing;
 mod runs;
-#[cfg(test)]
-mod tests;
 
 pub use listing::partitions;
 pub use member::Member;

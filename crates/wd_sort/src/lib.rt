@@ -3,7 +3,5 @@
 
 mod lead;
 mod sort;
-#[cfg(test)]
-mod tests;
 
 pub use sort::{SortColumn, compare_rows_at, is_sorted, sorted_from, sorted_positions};

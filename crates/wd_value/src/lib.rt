@@ -5,8 +5,6 @@ mod bag;
 pub mod laws;
 mod order;
 mod rows;
-#[cfg(test)]
-mod tests;
 mod text;
 mod value;
 

@@ -1,0 +1,201 @@
+//! Windows and whole plans under choices.
+
+ghost use Rattle.std.specs.Prelude.{◌≡◌, ◌-◌, ◌^◌, true, IsTrue};
+ghost use Rattle.wd_plan.specs.Fits as spec;
+ghost use Rattle.wd_plan.specs.Outcomes.{outcome_of};
+ghost use Rattle.wd_plan.specs.Plans.{plan_of};
+ghost use Rattle.wd_schema.specs.Schemas.{schema_of};
+ghost use Rattle.wd_window.specs.Windows.{AreFew, EachNames};
+
+use crate::refusal::{Refusal, read};
+use crate::shown::{push, push_between, push_number, push_outcome, push_refusal, push_truth};
+use crate::state::State;
+use crate::steps::{copied, fault_of};
+use crate::words::{Line, argument, number_at};
+use std::alloc::Global;
+use wd_eval::{EvalError, check_choice, eval_with, first_choice, run_plan, tied_choice};
+use wd_plan::{Call, Choice, Outcome, Plan};
+use wd_schema::Schema;
+use wd_value::{Instance, Row};
+use wd_window::{WindowError, evaluate_window};
+
+/// `evaluate_window(FIRST) CLASSES CALLS : ORDERINGS`: the rows with the calls' values, under the
+/// orderings from that number on; over a fault with `evaluate_window(FIRST,FAULT)`.
+pub fn window(
+    alloc: Global,
+    state: &State,
+    arguments: &str,
+    out: &mut String,
+) -> Result<(), Refusal> {
+    let first = read(number_at(arguments, 0))? as usize;
+    let input = input_of(alloc, state.rows(), argument(arguments, 1))?;
+    match evaluated(alloc, state, input, first) {
+        Ok(outcome) => push_outcome(out, &outcome),
+        Err(WindowError::NotValid(place)) => push_not_valid(out, place),
+        Err(WindowError::OutOfMemory) => Err(Refusal::OutOfMemory),
+    }
+}
+
+fn input_of(alloc: Global, rows: &[Row], fault: Option<&str>) -> Result<Outcome, Refusal> {
+    match fault {
+        None => Ok(Outcome::Rows(copied(alloc, rows)?)),
+        _ => Ok(Outcome::Fault(read(fault_of(fault))?)),
+    }
+}
+
+fn push_not_valid(out: &mut String, place: u64) -> Result<(), Refusal> {
+    write!(out, "not valid at {place}")?;
+    Ok(())
+}
+
+/// What the Window gives; want of memory where it can't be asked.
+fn evaluated(
+    alloc: Global,
+    state: &State,
+    input: Outcome,
+    first: usize,
+) -> Result<Outcome, WindowError> {
+    let (classes, calls, choice) = (
+        &state.stacks.classes,
+        &state.stacks.calls,
+        &state.choice.orderings,
+    );
+    if are_named(calls, classes.len()) && is_few(&input) && first <= choice.len() {
+        evaluate_window(alloc, classes, calls, input, choice, first)
+    } else {
+        Err(WindowError::OutOfMemory)
+    }
+}
+
+/// Whether each call names one of so many classes.
+fn are_named(calls: &[Call], count: usize) -> bool
+    ensures { IsTrue result → EachNames count calls.now }
+{
+    calls.iter().all(|call| usize::from(call.class) < count)
+}
+
+/// Whether peer group numbers of 32 bits do.
+fn is_few(input: &Outcome) -> bool
+    ensures { IsTrue result → AreFew (2 ^ 32 - 1) (outcome_of input.now) }
+{
+    match input {
+        Outcome::Rows(rows) => rows.len() <= u32::MAX as usize,
+        Outcome::Fault(_) => true,
+    }
+}
+
+/// `fits PLAN` and `orderings PLAN`
+pub fn plan_answer(state: &State, name: &str, out: &mut String) -> Result<(), Refusal> {
+    let plan = read(state.stacks.plans.first())?;
+    match (name, &state.schema) {
+        ("fits", Some(schema)) => push_truth(out, plan.fits(schema)),
+        ("orderings", _) => push_number(out, i64::from(plan.orderings())),
+        _ => Err(Refusal::NoSuchCase),
+    }
+}
+
+/// What is asked of the plan that is set, where it fits the schema.
+pub fn answer(alloc: Global, state: &State, line: Line, out: &mut String) -> Result<(), Refusal> {
+    match (&state.plan, &state.schema) {
+        (Some(plan), Some(schema)) if plan.fits(schema) => {
+            push_of(alloc, plan, schema, state, line, out)
+        }
+        _ => Err(Refusal::NoSuchCase),
+    }
+}
+
+fn push_of(
+    alloc: Global,
+    plan: &Plan,
+    schema: &Schema,
+    state: &State,
+    line: Line,
+    out: &mut String,
+) -> Result<(), Refusal>
+    requires { spec.fits (schema_of schema.now) (plan_of plan.now) ≡ true }
+{
+    let instance = &state.instance;
+    match line.name {
+        "eval_with" => push_evaluated(alloc, plan, schema, state, out),
+        "run_plan" => push_given(out, run_plan(alloc, plan, schema, instance)),
+        "first_choice" => push_choice(out, first_choice(alloc, plan, schema, instance)),
+        _ => push_tied(alloc, plan, schema, instance, line.arguments, out),
+    }
+}
+
+/// `eval_with : ORDERINGS`: what `check_choice` and `eval_with` give for the choice.
+fn push_evaluated(
+    alloc: Global,
+    plan: &Plan,
+    schema: &Schema,
+    state: &State,
+    out: &mut String,
+) -> Result<(), Refusal>
+    requires { spec.fits (schema_of schema.now) (plan_of plan.now) ≡ true }
+{
+    let (instance, choice) = (&state.instance, &state.choice);
+    push_checked(out, check_choice(alloc, plan, schema, instance, choice))?;
+    push_given(out, eval_with(alloc, plan, schema, instance, choice))
+}
+
+fn push_checked(out: &mut String, checked: Result<(), EvalError>) -> Result<(), Refusal> {
+    match checked {
+        Ok(()) => push(out, "valid | "),
+        Err(error) => {
+            push_refusal(out, &error)?;
+            push(out, " | ")
+        }
+    }
+}
+
+fn push_given(out: &mut String, given: Result<Outcome, EvalError>) -> Result<(), Refusal> {
+    match given {
+        Ok(outcome) => push_outcome(out, &outcome),
+        Err(error) => push_refusal(out, &error),
+    }
+}
+
+/// `tied_choice(FLIPPED)`
+fn push_tied(
+    alloc: Global,
+    plan: &Plan,
+    schema: &Schema,
+    instance: &Instance,
+    arguments: &str,
+    out: &mut String,
+) -> Result<(), Refusal>
+    requires { spec.fits (schema_of schema.now) (plan_of plan.now) ≡ true }
+{
+    let flipped = read(arguments.parse::<u32>().ok())?;
+    push_choice(
+        out,
+        tied_choice(alloc, plan, schema, instance, Some(flipped)),
+    )
+}
+
+fn push_choice(out: &mut String, choice: Result<Choice, EvalError>) -> Result<(), Refusal> {
+    match choice {
+        Ok(Choice { orderings }) => push_orderings(out, &orderings),
+        Err(error) => push_refusal(out, &error),
+    }
+}
+
+fn push_orderings(out: &mut String, orderings: &[Vec<u64>]) -> Result<(), Refusal> {
+    write!(out, "{orderings:?}")?;
+    Ok(())
+}
+
+const REFUSALS: [EvalError; 3] = [
+    EvalError::NotValid(1),
+    EvalError::TooManyRows,
+    EvalError::OutOfMemory,
+];
+
+/// `refusals`: each refusal of a plan, with its number and the place of the wrong ordering.
+pub fn refusals(out: &mut String) -> Result<(), Refusal> {
+    for (i, refusal) in REFUSALS.iter().enumerate() {
+        push_between(out, i, "; ")?;
+        push_refusal(out, refusal)?;
+    }
+    Ok(())
+}

@@ -1,0 +1,131 @@
+//! Sorts of the rows, and orderings under classes.
+
+use crate::refusal::{Refusal, read};
+use crate::shown::{push, push_comparison, push_numbers, push_row, push_truth};
+use crate::state::State;
+use crate::words::{Line, argument, number_at};
+use std::alloc::{AllocError, Global};
+use wd_partition::{Member, Partitions, is_ordering, partitions, sorted_ordering};
+use wd_plan::{Class, OrderItem};
+use wd_sort::{SortColumn, compare_rows_at, is_sorted, sorted_from, sorted_positions};
+use wd_value::Row;
+
+/// `sorted_positions COLUMNS`, `sorted_from COLUMNS : POSITIONS`, `is_sorted COLUMNS : POSITIONS`, and
+/// `compare_rows_at COLUMNS : 0 3`, how the first of these rows stands beside the last.
+pub fn answer(alloc: Global, state: &State, name: &str, out: &mut String) -> Result<(), Refusal> {
+    let columns = columns_of(alloc, &state.stacks.items)?;
+    let (rows, given) = (state.rows(), state.ordering());
+    match name {
+        "sorted_positions" => push_numbers(out, &sorted_positions(alloc, rows, &columns)?),
+        "sorted_from" => push_numbers(out, &sorted_from(alloc, rows, &columns, given)?),
+        "is_sorted" => push_truth(out, is_sorted(rows, &columns, given)),
+        _ => push_compared(rows, &columns, given, out),
+    }
+}
+
+fn columns_of(alloc: Global, items: &[OrderItem]) -> Result<Vec<SortColumn>, AllocError> {
+    let mut columns = Vec::new(alloc);
+    for OrderItem { column, key } in items {
+        columns.push(SortColumn {
+            column: *column,
+            key: *key,
+        })?;
+    }
+    Ok(columns)
+}
+
+fn push_compared(
+    rows: &[Row],
+    columns: &[SortColumn],
+    given: &[u64],
+    out: &mut String,
+) -> Result<(), Refusal> {
+    let first = given.first().copied().unwrap_or(0);
+    let last = given.last().copied().unwrap_or(0);
+    push_comparison(out, compare_rows_at(rows, columns, first, last))
+}
+
+/// What is asked of the class of the line.
+pub fn class_answer(
+    alloc: Global,
+    state: &State,
+    line: Line,
+    out: &mut String,
+) -> Result<(), Refusal> {
+    let class = read(state.stacks.classes.first())?;
+    match line.name {
+        "sorted_ordering" => push_ordering(alloc, state.rows(), class, line.arguments, out),
+        "is_ordering" => push_is_ordering(alloc, state, class, out),
+        _ => push_partition(alloc, state, class, line.arguments, out),
+    }
+}
+
+/// `sorted_ordering CLASS` or `sorted_ordering(flipped) CLASS`
+fn push_ordering(
+    alloc: Global,
+    rows: &[Row],
+    class: &Class,
+    arguments: &str,
+    out: &mut String,
+) -> Result<(), Refusal> {
+    let flipped = arguments == "flipped";
+    let ordering = sorted_ordering(alloc, rows, &class.partition, &class.order, flipped)?;
+    push_numbers(out, &ordering)
+}
+
+/// `is_ordering CLASS : ORDERING`
+fn push_is_ordering(
+    alloc: Global,
+    state: &State,
+    class: &Class,
+    out: &mut String,
+) -> Result<(), Refusal> {
+    let (rows, given) = (state.rows(), state.ordering());
+    push_truth(
+        out,
+        is_ordering(alloc, rows, &class.partition, &class.order, given)?,
+    )
+}
+
+/// `partitions(POSITION) CLASS : ORDERING`, or `partitions(POSITION,numbers)`: the partition of the
+/// row at that position.
+fn push_partition(
+    alloc: Global,
+    state: &State,
+    class: &Class,
+    arguments: &str,
+    out: &mut String,
+) -> Result<(), Refusal> {
+    let position = read(number_at(arguments, 0))? as usize;
+    let asked = argument(arguments, 1) == Some("numbers");
+    match partitions_of(alloc, state.rows(), class, state.ordering(), asked)? {
+        Some(found) => push_member(out, found.member(position)),
+        None => push(out, "no ordering"),
+    }
+}
+
+fn partitions_of(
+    alloc: Global,
+    rows: &[Row],
+    class: &Class,
+    ordering: &[u64],
+    asked: bool,
+) -> Result<Option<Partitions>, Refusal> {
+    if rows.len() > u32::MAX as usize {
+        return Err(Refusal::NoSuchCase);
+    }
+    Ok(partitions(alloc, rows, &class.partition, &class.order, ordering, asked)?)
+}
+
+/// The positions, the groups, the numbers, and the place of the row itself.
+fn push_member(out: &mut String, member: Option<Member>) -> Result<(), Refusal> {
+    match member {
+        None => push(out, "no row"),
+        Some(member) => {
+            let (positions, groups, place) = (member.positions, member.groups, member.place);
+            write!(out, "{place} of {positions:?} {groups:?}")?;
+            push(out, if member.numbers.is_empty() { "" } else { " " })?;
+            push_row(out, member.numbers)
+        }
+    }
+}
