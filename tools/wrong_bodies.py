@@ -1,7 +1,7 @@
 #!/usr/bin/env python3
 """Tries the wrong bodies of wrong-bodies/: the prover must refuse each of them, in the function that it changes.
 
-    python3 tools/wrong_bodies.py [--after-gate] [CRATE..]
+    python3 tools/wrong_bodies.py [--after-gate] [--logs FOLDER] [CRATE..]
 
 A file wrong-bodies/CRATE/NAME.edit has the line 'fn: PATH' (the function, as the check names it in its crate) and then
 'file: src/..' with pairs of lines 'old: TEXT' and 'new: TEXT'; each TEXT stands in that file exactly once. A line
@@ -9,8 +9,9 @@ A file wrong-bodies/CRATE/NAME.edit has the line 'fn: PATH' (the function, as th
 that a refusal is no accident of the run.
 
 All edits of a crate are put into one copy of it, at most one for a function, and one check of those functions alone
-judges them. An edit is refused where the check says of its own function that a goal of it 'did not prove'; that a
-function which it calls isn't proved is no refusal. What a run leaves unclear goes into a further run with fewer edits.
+judges them. An edit is refused where the check says of its own function that it 'did not prove' a goal of it, or that
+the written proof of a goal of it no longer holds. That a function which it calls isn't proved is no refusal, nor is a
+written proof that names what the edit took away. What a run leaves unclear goes into a further run with fewer edits.
 An edit of a definition (a file of specs/) stands in a run of its own; it is refused where the law that it names is not
 proved any more.
 
@@ -60,7 +61,7 @@ def copy_with(crate, edits, room):
     return bad
 
 
-def check(crate, edits):
+def check(crate, edits, log):
     """Checks the edited functions in one copy of the crate; returns the lines that are said, and the edits that can't be applied."""
     with tempfile.TemporaryDirectory(prefix="wrong-bodies-") as room:
         bad = copy_with(crate, edits, room)
@@ -72,7 +73,27 @@ def check(crate, edits):
             words += ["--only", name]
         ran = subprocess.run([*rt.rtlib.guarded(), *words], cwd=room, stdin=subprocess.DEVNULL,
                              stdout=subprocess.PIPE, stderr=subprocess.STDOUT, text=True, errors="replace")
+    if log:
+        with open(log, "w", encoding="utf-8") as file:
+            file.write(ran.stdout)
     return ran.stdout.splitlines(), bad
+
+
+# What a written proof is told where it names something that the edit took away.
+LOST_NAME = re.compile(r"has no field|is not in scope|has no `|was not admitted")
+
+
+def lost_goals(edit, lines):
+    """The goals of the edit's function whose written proof no longer holds."""
+    module, _, name = edit.function.rpartition("::")
+    own, cycle = f"{edit.function.replace('::', '/')}/", f"{module.replace('::', '/')}/+"
+    goals = []
+    for line in lines:
+        error = re.match(r"(?:\./)?proofs/(\S+?):\d+:\d+: error: `(\S+?)`: (.*)", line)
+        if error and not LOST_NAME.search(error[3]):
+            is_own = error[1].startswith(own) or error[1].startswith(cycle) and error[2].startswith(f"{name}-")
+            goals += [f"`{error[2]}`"] * is_own
+    return sorted(set(goals))
 
 
 def verdict(edit, lines):
@@ -86,6 +107,9 @@ def verdict(edit, lines):
     told = next((line for line in lines if re.match(r"(\./)?(src|specs)/\S+: error|rattle: error", line)), None)
     if edit.of_definition and said and not told:
         return True, next((line for line in lines if re.match(r"(\./)?proofs/\S+: error", line)), said)
+    goals = lost_goals(edit, lines)
+    if said and goals and not told:
+        return True, f"{', '.join(goals)}, by its written proof"
     return None, said or told or (lines[-1] if lines else "nothing was said")
 
 
@@ -101,12 +125,12 @@ def rounds(edits):
     return groups
 
 
-def judge(crate, edits):
+def judge(crate, edits, logs):
     """For each edit whether it is as it must be; it is said of each what the check said."""
-    judged, groups = [], rounds(edits)
+    judged, groups, number = [], rounds(edits), 0
     while groups:
-        group = groups.pop(0)
-        lines, bad = check(crate, group)
+        group, number = groups.pop(0), number + 1
+        lines, bad = check(crate, group, logs and f"{logs}/{crate.name}.{number}.log")
         unclear = []
         for edit in group:
             refused, said = (None, bad[edit]) if edit in bad else verdict(edit, lines)
@@ -136,7 +160,11 @@ def main():
     parser = argparse.ArgumentParser(description=__doc__.split("\n")[0])
     parser.add_argument("crates", nargs="*", metavar="CRATE")
     parser.add_argument("--after-gate", action="store_true", help="use the libraries that rt ci left")
+    parser.add_argument("--logs", metavar="FOLDER", help="keep there what each check said")
     arguments = parser.parse_args()
+    if arguments.logs:
+        os.makedirs(arguments.logs, exist_ok=True)
+    logs = arguments.logs and os.path.abspath(arguments.logs)
     os.chdir(TOP)
     known = {crate.name: crate for crate in rt.rtlib.crates_below(TOP)}
     edits = {}
@@ -152,7 +180,7 @@ def main():
     tasks = {}
     for crate in crates:
         size = crate.count(rb"\n") + 30 * len(edits[crate.name])
-        tasks[crate.name, "edits"] = [], size, rt.need(crate), lambda _given, _jobs, it=crate: judge(it, edits[it.name])
+        tasks[crate.name, "edits"] = [], size, rt.need(crate), lambda _given, _jobs, it=crate: judge(it, edits[it.name], logs)
     judged = [well for each in rt.in_lanes(tasks).values() for well in each]
     used = resource.getrusage(resource.RUSAGE_CHILDREN)
     print(f"processor seconds: {used.ru_utime + used.ru_stime:.0f}")

@@ -1,4 +1,4 @@
-use Rattle.std.proofs.Common.{◌≡◌, ◌∙◌, sym, ap, map, refl, []}
+use Rattle.std.proofs.Common.{◌≡◌, ◌∙◌, sym, ap, map, refl, [], Err}
 use Rattle.std.proofs.lemmas.Result.{err_from_is_err_and}
 use Rattle.wd_syntax.specs.declared.expression.Expr.TheViews.{out-Window}
 use Rattle.wd_syntax.specs.Tree.{Tree, Call, Case, window, trees_of, arms_of, keys_of}
@@ -19,16 +19,19 @@ resolved-returns-in_err-arguments-in-Call t c =
     let calls = calls_of c.args.calls.now in
     let name = c.in-Call.name in
     let over = c.in-Call.over in
-    let shown : view c.args.tree.now ≡ Call name (trees_of (map view c.deref.result.now)) (view_over_option over) = ap view c.in-Call.is ∙ view_call name c.in-Call.arguments over ∙ ap (λ xs. Call name (trees_of (map view xs)) (view_over_option over)) (sym c.deref.ensures.value) in
+    let trees = trees_of (map view c.deref.result.now) in
+    let shown : view c.args.tree.now ≡ Call name trees (view_over_option over) = ap view c.in-Call.is ∙ view_call name c.in-Call.arguments over ∙ ap (λ xs. Call name (trees_of (map view xs)) (view_over_option over)) (sym c.deref.ensures.value) in
     let p = err_from_is_err_and c.from_residual-in_err-arguments-in-Call.result c.from_residual-in_err-arguments-in-Call.ensures.1 in
-    rw (p.1, p.2) (rw shown (fails_too c.in_err-arguments-in-Call.field-0.0 (all_resolved (arguments_in context (view_over_option over)) (trees_of (map view c.deref.result.now)) []) (resolved context (Call name (trees_of (map view c.deref.result.now)) (view_over_option over)) calls) c.in_err-arguments-in-Call.ensures (λ cause h. rw h refl)))
+    rw (p.1, p.2) (rw shown (fails_too c.in_err-arguments-in-Call.field-0.0 (all_resolved (context_of c.arguments_in.result) trees []) (resolved context (Call name trees (view_over_option over)) calls) c.in_err-arguments-in-Call.ensures (λ cause h. (let g : all_resolved (arguments_in context (view_over_option over)) trees [] ≡ Err cause = ap (λ d. all_resolved d trees []) (sym c.arguments_in.ensures) ∙ h in rw g refl))))
 
 pub resolved-returns-in_ok-arguments-in-Call : goal.resolved-returns-in_ok-arguments-in-Call
 resolved-returns-in_ok-arguments-in-Call t c =
     let name = c.in-Call.name in
     let over = c.in-Call.over in
-    let shown : view c.args.tree.now ≡ Call name (trees_of (map view c.deref.result.now)) (view_over_option over) = ap view c.in-Call.is ∙ view_call name c.in-Call.arguments over ∙ ap (λ xs. Call name (trees_of (map view xs)) (view_over_option over)) (sym c.deref.ensures.value) in
-    rw shown (rw c.in_ok-arguments-in-Call.ensures c.call_over.ensures)
+    let trees = trees_of (map view c.deref.result.now) in
+    let shown : view c.args.tree.now ≡ Call name trees (view_over_option over) = ap view c.in-Call.is ∙ view_call name c.in-Call.arguments over ∙ ap (λ xs. Call name (trees_of (map view xs)) (view_over_option over)) (sym c.deref.ensures.value) in
+    let g = ap (λ d. all_resolved d trees []) (sym c.arguments_in.ensures) ∙ c.in_ok-arguments-in-Call.ensures in
+    rw shown (rw g c.call_over.ensures)
 
 pub resolved-returns-in_err-arms-in-Case : goal.resolved-returns-in_err-arms-in-Case
 resolved-returns-in_err-arms-in-Case t c =
@@ -74,7 +77,7 @@ window_resolved-returns-in_err-partition t c =
     let keys = keys_of (map view_key w.order.items) in
     let shown : view_window c.args.window.now ≡ window w.base trees keys w.frame = view_window_out c.args.window.now ∙ ap (λ xs. window w.base (trees_of (map view xs)) keys w.frame) (sym c.deref.ensures.value) in
     let p = err_from_is_err_and c.from_residual-in_err-partition.result c.from_residual-in_err-partition.ensures.1 in
-    rw (p.1, p.2) (rw shown (fails_too c.in_err-partition.field-0.0 (all_resolved (within_call context) trees []) (window_resolved context (window w.base trees keys w.frame)) c.in_err-partition.ensures (λ cause h. rw c.in_ok-base.ensures (rw h refl))))
+    rw (p.1, p.2) (rw shown (fails_too c.in_err-partition.field-0.0 (all_resolved (context_of c.within_call.result) trees []) (window_resolved context (window w.base trees keys w.frame)) c.in_err-partition.ensures (λ cause h. (let g : all_resolved (within_call context) trees [] ≡ Err cause = ap (λ d. all_resolved d trees []) (sym c.within_call.ensures) ∙ h in rw c.in_ok-base.ensures (rw g refl)))))
 
 pub window_resolved-returns-in_err-order : goal.window_resolved-returns-in_err-order
 window_resolved-returns-in_err-order t c =
@@ -84,7 +87,7 @@ window_resolved-returns-in_err-order t c =
     let keys = keys_of (map view_key c.deref-2.result.now) in
     let shown : view_window c.args.window.now ≡ window w.base trees keys w.frame = view_window_out c.args.window.now ∙ ap (λ xs. window w.base (trees_of (map view xs)) (keys_of (map view_key w.order.items)) w.frame) (sym c.deref.ensures.value) ∙ ap (λ ks. window w.base trees (keys_of (map view_key ks)) w.frame) (sym c.deref-2.ensures.value) in
     let p = err_from_is_err_and c.from_residual-in_err-order.result c.from_residual-in_err-order.ensures.1 in
-    rw (p.1, p.2) (rw shown (fails_too c.in_err-order.field-0.0 (keys_resolved context keys []) (window_resolved context (window w.base trees keys w.frame)) c.in_err-order.ensures (λ cause h. rw c.in_ok-base.ensures (rw c.in_ok-partition.ensures (rw h refl)))))
+    rw (p.1, p.2) (rw shown (fails_too c.in_err-order.field-0.0 (keys_resolved context keys []) (window_resolved context (window w.base trees keys w.frame)) c.in_err-order.ensures (λ cause h. (let g = ap (λ d. all_resolved d trees []) (sym c.within_call.ensures) ∙ c.in_ok-partition.ensures in rw c.in_ok-base.ensures (rw g (rw h refl))))))
 
 pub window_resolved-returns : goal.window_resolved-returns
 window_resolved-returns t c =
@@ -94,7 +97,8 @@ window_resolved-returns t c =
     let keys = keys_of (map view_key c.deref-2.result.now) in
     let shown : view_window c.args.window.now ≡ window w.base trees keys w.frame = view_window_out c.args.window.now ∙ ap (λ xs. window w.base (trees_of (map view xs)) (keys_of (map view_key w.order.items)) w.frame) (sym c.deref.ensures.value) ∙ ap (λ ks. window w.base trees (keys_of (map view_key ks)) w.frame) (sym c.deref-2.ensures.value) in
     let given : map settled (map operand_of c.in_ok-partition.partition.items) ≡ map expression_of c.in_ok-partition-2.partition.items = settled_as (map operand_of c.in_ok-partition.partition.items) (map expression_of c.in_ok-partition-2.partition.items) c.in_ok-partition-2.ensures in
-    rw shown (rw c.in_ok-base.ensures (rw c.in_ok-partition.ensures (rw c.in_ok-order.ensures (rw given c.window_meant.ensures))))
+    let g = ap (λ d. all_resolved d trees []) (sym c.within_call.ensures) ∙ c.in_ok-partition.ensures in
+    rw shown (rw c.in_ok-base.ensures (rw g (rw c.in_ok-order.ensures (rw given c.window_meant.ensures))))
 
 pub resolved-returns-in-Tests : goal.resolved-returns-in-Tests
 resolved-returns-in-Tests t c =
