@@ -6,7 +6,7 @@ use Rattle.wd_schema.specs.Meets.{is_met}
 use Rattle.wd_schema.specs.Schemas.{schema_of}
 use Rattle.wd_schema.specs.Tables.{TableRule}
 use Rattle.wd_schema.proofs.MeetsFacts.{met_from_test, test_from_met, some_within, table_get}
-use Rattle.wd_schema.proofs.schema.each_meets.Goals as goal
+use Rattle.wd_schema.proofs.instances.each_meets.Goals as goal
 
 pub returns-then-not-meets_at : goal.returns-then-not-meets_at
 returns-then-not-meets_at c =

@@ -1,8 +1,8 @@
 use Rattle.std.proofs.Common.{◌≡◌, ◌∙◌, sym, length, rules}
 use Rattle.std.proofs.lemmas.Bool.{false≢true}
 use Rattle.std.proofs.lemmas.List.{length-map}
-use Rattle.wd_schema.proofs.schema.meets.Goals as goal
-use Rattle.wd_schema.proofs.schema.meets.Goals.{else-len-via-then-len+else-each_meets, else-len-via-else-len}
+use Rattle.wd_schema.proofs.instances.meets.Goals as goal
+use Rattle.wd_schema.proofs.instances.meets.Goals.{else-len-via-then-len+else-each_meets, else-len-via-else-len}
 
 pub returns-then-each_meets-clause-met : goal.returns-then-each_meets-clause-met
 returns-then-each_meets-clause-met c =
