@@ -2,7 +2,6 @@ use crate::tables::Tree::{
     And, Arithmetic, Case, Compare, IsNull, Mismarked, Negate, Not, Null, Or,
 };
 use crate::tables::{ASCENDING, DEFAULT_FRAME, DESCENDING, Make, Node, Tree, plan};
-use indexmap::IndexMap;
 use std::alloc::{AllocError, Global};
 use std::test::Fail;
 use wd_plan::ArithmeticOp::Add;
@@ -11,8 +10,7 @@ use wd_plan::ComparisonOp::Less;
 use wd_plan::FrameMode::{Groups, Range, Rows};
 use wd_plan::ValueKind;
 use wd_plan::laws::agreeing_is_an_equivalence;
-use wd_schema::{Column, Schema, Table};
-use wd_value::{ColumnType, Text};
+use wd_schema::read_schema;
 
 // The columns of the one table.
 const NUMBER: u16 = 0;
@@ -52,42 +50,11 @@ fn counts_an_ordering_for_each_sort(rt: HostRuntime) -> Result<(), Fail> {
     Ok(())
 }
 
-fn column(alloc: Global, name: &str, kind: ColumnType) -> Result<Column, AllocError> {
-    Ok(Column {
-        name: Text::from_str(alloc, name)?,
-        kind,
-        not_null: false,
-    })
-}
-
-fn columns(alloc: Global) -> Result<Vec<Column>, AllocError> {
-    let mut columns = Vec::new(alloc);
-    for (name, kind) in [
-        ("number", ColumnType::SmallInt),
-        ("text", ColumnType::Text),
-        ("truth", ColumnType::Boolean),
-    ] {
-        columns.push(column(alloc, name, kind)?)?;
-    }
-    Ok(columns)
-}
-
-fn table(alloc: Global) -> Result<Table, AllocError> {
-    Ok(Table {
-        name: Text::from_str(alloc, "t")?,
-        columns: columns(alloc)?,
-        keys: Vec::new(alloc),
-    })
-}
-
-fn schema(alloc: Global) -> Result<Schema, Fail> {
-    let mut tables = IndexMap::new(alloc);
-    tables.insert(String::from_str(alloc, "t")?, table(alloc)?)?;
-    Ok(Schema { tables })
-}
+/// The one table.
+const SCHEMA: &[u8] = b"CREATE TABLE t (number SMALLINT, text TEXT, truth BOOLEAN)";
 
 fn fits(alloc: Global, node: &Node) -> Result<bool, Fail> {
-    let schema = schema(alloc)?;
+    let schema = read_schema(alloc, SCHEMA)?;
     Ok(plan(alloc, node)?.fits(&schema))
 }
 
