@@ -12,3 +12,4 @@ pub mod CommentLaw
 pub mod Boundaries
 pub mod NumberFacts
 pub mod Progress
+pub mod Worked

@@ -11,8 +11,8 @@ use Rattle.wd_lex.specs.declared.token.Span.{Span}
 use Rattle.wd_lex.specs.declared.token.Token.{Token}
 use Rattle.wd_lex.specs.declared.token.TokenKind.{TokenKind}
 use Rattle.wd_lex.specs.Pieces.{Piece, spelling, spellings, kind_of, ArePieces}
-use Rattle.wd_lex.specs.Lexed.{byte_order_mark, start_of, token_before, tokens_from, IsCut, IsLexed, AreInOrder}
-use Rattle.wd_lex.specs.Causes.{most_bytes, IsReadable, HasCause, IsAnswer, Gives, Fails}
+use Rattle.wd_lex.specs.Lexed.{byte_order_mark, most_bytes, start_of, token_before, tokens_from, IsCut, IsLexed, IsReadable, AreInOrder}
+use Rattle.wd_lex.specs.Causes.{HasCause, IsAnswer, Gives, Fails}
 use Rattle.wd_lex.specs.Laws.{HasAnswer}
 use Rattle.wd_lex.specs.Reading.{Reading, piece_at, as_token}
 use Rattle.wd_lex.proofs.KindFacts.{spelling_some}
@@ -70,9 +70,9 @@ cut_len text pieces rest cut = omega (arith, start_within text, length-drop (sta
 pub rest_within : (text : List ℕ) (tokens : List Token) (rest : List ℕ) → IsReadUpTo text tokens rest → length rest ≤ length text
 rest_within text tokens rest h = omega (arith, cut_len text h.pieces rest h.cut)
 
-pub all_read : (text : List ℕ) (tokens : List Token) (rest : List ℕ) → IsReadUpTo text tokens rest → length rest ≡ 0 → IsLexed text tokens
-all_read text tokens [] h none = (h.pieces, h.cut, h.are)
-all_read text tokens (b ∷ rest) h none = absurd (omega arith)
+pub all_read : (text : List ℕ) (tokens : List Token) (rest : List ℕ) → IsReadable text → IsReadUpTo text tokens rest → length rest ≡ 0 → IsLexed text tokens
+all_read text tokens [] readable h none = record { readable = readable; pieces = h.pieces; cut = h.cut; are = h.are }
+all_read text tokens (b ∷ rest) readable h none = absurd (omega arith)
 
 -- ---- one more piece
 
@@ -185,23 +185,23 @@ read_some text tokens rest after found kind step is =
 
 -- the tokens of a text stand in order, within it
 pub lexed_in_order : (text : List ℕ) (tokens : List Token) → IsLexed text tokens → AreInOrder 0 tokens (length text)
-lexed_in_order text tokens (pieces, cut, are) =
-    let end : start_of text + length (spellings pieces) ≡ length text = omega (arith, cut_len text pieces [] cut) in
+lexed_in_order text tokens lexed =
+    let end : start_of text + length (spellings lexed.pieces) ≡ length text = omega (arith, cut_len text lexed.pieces [] lexed.cut) in
     order_later 0 (start_of text) tokens (length text) (omega arith)
-    (subst (λ n. AreInOrder (start_of text) tokens n) end (subst (λ ts. AreInOrder (start_of text) ts (start_of text + length (spellings pieces))) (sym are) (tokens_in_order (start_of text) pieces [] cut.each)))
+    (subst (λ n. AreInOrder (start_of text) tokens n) end (subst (λ ts. AreInOrder (start_of text) ts (start_of text + length (spellings lexed.pieces))) (sym lexed.are) (tokens_in_order (start_of text) lexed.pieces [] lexed.cut.each)))
 
 -- what the definitions answer is given
-pub gives_by : {X : Type 0} (view : X → List Token) (text : List ℕ) (result : Result X LexError) → IfOk result (λ found. IsReadable text) → IfOk result (λ found. IsLexed text (view found))
+pub gives_by : {X : Type 0} (view : X → List Token) (text : List ℕ) (result : Result X LexError) → IfOk result (λ found. IsLexed text (view found))
     → IfErr result (λ refusal. refusal ≢ OutOfMemory → HasCause refusal text) → (answer : Result (List Token) LexError) → IsAnswer text answer → Gives view result answer
-gives_by view text (Ok found) readable lexed cause answer is = one_answer text answer (Ok (view found)) is (readable, lexed)
-gives_by view text (Err OutOfMemory) readable lexed cause answer is = tt
-gives_by view text (Err (UnknownCharacter place)) readable lexed cause answer is = one_answer text answer (Err (UnknownCharacter place)) is (cause (λ e. cc))
-gives_by view text (Err (TextNotClosed place)) readable lexed cause answer is = one_answer text answer (Err (TextNotClosed place)) is (cause (λ e. cc))
-gives_by view text (Err (NameNotClosed place)) readable lexed cause answer is = one_answer text answer (Err (NameNotClosed place)) is (cause (λ e. cc))
-gives_by view text (Err (BadNumber place)) readable lexed cause answer is = one_answer text answer (Err (BadNumber place)) is (cause (λ e. cc))
-gives_by view text (Err (CommentNotClosed place)) readable lexed cause answer is = one_answer text answer (Err (CommentNotClosed place)) is (cause (λ e. cc))
-gives_by view text (Err NotUtf8) readable lexed cause answer is = one_answer text answer (Err NotUtf8) is (cause (λ e. cc))
-gives_by view text (Err TooLong) readable lexed cause answer is = one_answer text answer (Err TooLong) is (cause (λ e. cc))
+gives_by view text (Ok found) lexed cause answer is = one_answer text answer (Ok (view found)) is lexed
+gives_by view text (Err OutOfMemory) lexed cause answer is = tt
+gives_by view text (Err (UnknownCharacter place)) lexed cause answer is = one_answer text answer (Err (UnknownCharacter place)) is (cause (λ e. cc))
+gives_by view text (Err (TextNotClosed place)) lexed cause answer is = one_answer text answer (Err (TextNotClosed place)) is (cause (λ e. cc))
+gives_by view text (Err (NameNotClosed place)) lexed cause answer is = one_answer text answer (Err (NameNotClosed place)) is (cause (λ e. cc))
+gives_by view text (Err (BadNumber place)) lexed cause answer is = one_answer text answer (Err (BadNumber place)) is (cause (λ e. cc))
+gives_by view text (Err (CommentNotClosed place)) lexed cause answer is = one_answer text answer (Err (CommentNotClosed place)) is (cause (λ e. cc))
+gives_by view text (Err NotUtf8) lexed cause answer is = one_answer text answer (Err NotUtf8) is (cause (λ e. cc))
+gives_by view text (Err TooLong) lexed cause answer is = one_answer text answer (Err TooLong) is (cause (λ e. cc))
 
 pub order_by : {X : Type 0} (view : X → List Token) (text : List ℕ) (result : Result X LexError) → IfOk result (λ found. IsLexed text (view found)) → IfOk result (λ found. AreInOrder 0 (view found) (length text))
 order_by view text (Ok found) lexed = lexed_in_order text (view found) lexed
@@ -221,7 +221,7 @@ answered_by text tokens rest place (Ok (piece, after)) readable h there front go
 answered_by text tokens rest place (Err refusal) readable h there refused go_on = (Err refusal, refused_by text tokens rest place (Err refusal) refusal readable h there refused refl)
 
 answered_from : (n : ℕ) (text : List ℕ) (tokens : List Token) (rest : List ℕ) → IsReadable text → IsReadUpTo text tokens rest → length rest ≤ n → Answered text
-answered_from n text tokens [] readable h le = (Ok tokens, (readable, all_read text tokens [] h refl))
+answered_from n text tokens [] readable h le = (Ok tokens, all_read text tokens [] readable h refl)
 answered_from zero text tokens (b ∷ rest) readable h le = absurd (omega arith)
 answered_from (suc n) text tokens (b ∷ rest) readable h le =
     let place = length text - length (b ∷ rest) in

@@ -8,8 +8,8 @@ use Rattle.wd_lex.specs.declared.token.Span.{Span}
 use Rattle.wd_lex.specs.declared.token.Token.{Token}
 use Rattle.wd_lex.specs.declared.token.TokenKind.{TokenKind}
 use Rattle.wd_lex.specs.Pieces.{Piece, Number, spelling, spellings, kind_of, IsPiece, IsLongest, Stands, ArePieces}
-use Rattle.wd_lex.specs.Lexed.{start_of, token_before, tokens_from, IsCut, IsLexed, AreInOrder}
-use Rattle.wd_lex.specs.Causes.{IsReadable, IsRefused, IsRefusedAt, HasCause, place_of}
+use Rattle.wd_lex.specs.Lexed.{start_of, token_before, tokens_from, IsCut, IsLexed, IsReadable, AreInOrder}
+use Rattle.wd_lex.specs.Causes.{IsRefused, IsRefusedAt, HasCause, place_of}
 use Rattle.wd_lex.specs.Reading.{Reading, piece_at}
 use Rattle.wd_lex.specs.Laws.{HasOneListOfTokens, HasOneAnswer, IsLongestFront}
 use Rattle.wd_lex.proofs.KindFacts.{spelling_some}
@@ -109,8 +109,8 @@ one_cut text pieces others rest more cut again stuck ends = same_cut pieces othe
 -- ---- the laws
 
 pub one_list_of_tokens : HasOneListOfTokens
-one_list_of_tokens text first second (pieces, cut, is) (others, again, are) =
-    is ∙ ap (tokens_from (start_of text)) (one_cut text pieces others [] [] cut again IsStuck-nil IsStuck-nil).0 ∙ sym are
+one_list_of_tokens text first second lexed again =
+    lexed.are ∙ ap (tokens_from (start_of text)) (one_cut text lexed.pieces again.pieces [] [] lexed.cut again.cut IsStuck-nil IsStuck-nil).0 ∙ sym again.are
 
 pub longest_front : IsLongestFront
 longest_front piece longer rest more stands longer_is same =
@@ -183,8 +183,8 @@ readable_refusals text e e' h h' =
 
 -- a text with tokens has no cause
 lexed_or_refused : (text : List ℕ) (tokens : List Token) (e : LexError) → IsLexed text tokens → IsPlaced e text → ⊥
-lexed_or_refused text tokens e (pieces, cut, is) h =
-    let same = one_cut text pieces h.at.pieces [] h.at.rest cut h.at.before IsStuck-nil (IsStuck-refused e h.at.rest h.at.refused) in
+lexed_or_refused text tokens e lexed h =
+    let same = one_cut text lexed.pieces h.at.pieces [] h.at.rest lexed.cut h.at.before IsStuck-nil (IsStuck-refused e h.at.rest h.at.refused) in
     nothing_refused e (subst (IsRefused e) (sym same.1) h.at.refused)
   where
     nothing_refused : (e : LexError) → IsRefused e [] → ⊥
@@ -235,11 +235,11 @@ pub one_refusal : (text : List ℕ) (e e' : LexError) → HasCause e text → Ha
 one_refusal text e e' h h' =
     ⊎_elim (λ readable. readable_refusals text e e' (placed e text readable h) (placed e' text readable h')) (unreadable text e e' h h') (readable_or_not text e h)
 
-pub no_cause : (text : List ℕ) (tokens : List Token) (e : LexError) → IsReadable text → IsLexed text tokens → HasCause e text → ⊥
-no_cause text tokens e readable lexed h = lexed_or_refused text tokens e lexed (placed e text readable h)
+pub no_cause : (text : List ℕ) (tokens : List Token) (e : LexError) → IsLexed text tokens → HasCause e text → ⊥
+no_cause text tokens e lexed h = lexed_or_refused text tokens e lexed (placed e text lexed.readable h)
 
 pub one_answer : HasOneAnswer
-one_answer text (Ok first) (Ok second) h h' = ap Ok (one_list_of_tokens text first second h.1 h'.1)
-one_answer text (Ok first) (Err e) h h' = absurd (no_cause text first e h.0 h.1 h')
-one_answer text (Err e) (Ok second) h h' = absurd (no_cause text second e h'.0 h'.1 h)
+one_answer text (Ok first) (Ok second) h h' = ap Ok (one_list_of_tokens text first second h h')
+one_answer text (Ok first) (Err e) h h' = absurd (no_cause text first e h h')
+one_answer text (Err e) (Ok second) h h' = absurd (no_cause text second e h' h)
 one_answer text (Err e) (Err e') h h' = ap Err (one_refusal text e e' h h')

@@ -6,7 +6,7 @@ use Rattle.wd_lex.specs.declared.error.LexError.TheVariants.{UnknownCharacter, T
 use Rattle.wd_lex.specs.Characters.{is_blank, is_digit, begins_word, single_quote, double_quote}
 use Rattle.wd_lex.specs.Pieces.{Piece, Number, Symbol, IsPiece, EndsComment, IsLongest, IsGoodNumber, doubled, spellings}
 use Rattle.wd_lex.specs.declared.token.Token.{Token}
-use Rattle.wd_lex.specs.Lexed.{IsCut, IsLexed, start_of}
+use Rattle.wd_lex.specs.Lexed.{IsCut, IsLexed, IsReadable, most_bytes, start_of}
 
 -- the number of a refusal
 abbrev pub number_of : LexError → Option ℕ
@@ -29,15 +29,6 @@ place_of (CommentNotClosed place) = Some place
 place_of NotUtf8 = None
 place_of TooLong = None
 place_of OutOfMemory = None
-
--- the most bytes of a text (this project's choice)
-abbrev pub most_bytes : ℕ
-most_bytes = 65536
-
--- a text that can be cut at all: short enough, and UTF-8
-pub record IsReadable (text : List ℕ) : Type 0 where
-  pub short : length text ≤ most_bytes
-  pub utf8 : IsUtf8 text
 
 -- the bytes begin with this one
 abbrev pub BeginsWith : ℕ → List ℕ → Type 0
@@ -105,7 +96,7 @@ HasCause OutOfMemory text = ⊥
 
 -- the answer to a text: its tokens, or the refusal whose cause stands in it
 abbrev pub IsAnswer : List ℕ → Result (List Token) LexError → Type 0
-IsAnswer text (Ok tokens) = IsReadable text × IsLexed text tokens
+IsAnswer text (Ok tokens) = IsLexed text tokens
 IsAnswer text (Err refusal) = HasCause refusal text
 
 -- a refusal is the answer; want of memory may stand for any

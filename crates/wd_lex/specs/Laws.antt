@@ -10,7 +10,7 @@ use Rattle.wd_lex.specs.Causes.{IsAnswer}
 abbrev pub HasOneListOfTokens : Type 0
 HasOneListOfTokens = (text : List ℕ) (first second : List Token) → IsLexed text first → IsLexed text second → first ≡ second
 
--- A text has at most one answer: tokens or a refusal, and no two of either.
+-- A text has at most one answer: no two lists of tokens, no two refusals, and no list of tokens beside a refusal.
 abbrev pub HasOneAnswer : Type 0
 HasOneAnswer = (text : List ℕ) (first second : Result (List Token) LexError) → IsAnswer text first → IsAnswer text second → first ≡ second
 

@@ -5,3 +5,4 @@ pub mod Lexed
 pub mod Causes
 pub mod Reading
 pub mod Laws
+pub mod Examples

@@ -1,5 +1,6 @@
 //! Laws of texts and their tokens, over the definitions alone.
 
+ghost use Rattle.wd_lex.specs.Examples.{TextsComeOut};
 ghost use Rattle.wd_lex.specs.Laws.{HasOneListOfTokens, HasOneAnswer, HasAnswer, IsLongestFront, CommentsComeFirst};
 
 /// A text has at most one list of tokens.
@@ -25,4 +26,9 @@ pub fn longest_front()
 /// Where `--` or `/*` begins a piece, the piece is a comment.
 pub fn comments_come_first()
     ensures { CommentsComeFirst }
+{}
+
+/// Worked texts: bytes that are no UTF-8, and byte order marks.
+pub fn texts_come_out()
+    ensures { TextsComeOut }
 {}

@@ -3,8 +3,8 @@
 ghost use Rattle.std.specs.Prelude.{◌≡◌, ◌≢◌, ◌≤◌, List, length, drop, Ok, Err, IfOk, IfErr};
 ghost use Rattle.wd_lex.specs.declared.error.LexError.{LexError};
 ghost use Rattle.wd_lex.specs.declared.token.Token.{Token};
-ghost use Rattle.wd_lex.specs.Causes.{HasCause, IsReadable, Gives, most_bytes};
-ghost use Rattle.wd_lex.specs.Lexed.{IsLexed, AreInOrder, start_of};
+ghost use Rattle.wd_lex.specs.Causes.{HasCause, Gives};
+ghost use Rattle.wd_lex.specs.Lexed.{IsLexed, AreInOrder, most_bytes, start_of};
 
 use crate::error::LexError;
 use crate::pieces::token_at;
@@ -49,7 +49,6 @@ fn tokens_of(alloc: Global, text: &str) -> Result<Vec<Token>, LexError>
 
 /// The tokens of a text, or its refusal.
 fn answer(alloc: Global, text: &[u8]) -> Result<Vec<Token>, LexError>
-    ensures readable { IfOk result (λ tokens. IsReadable text.now) }
     ensures tokens { IfOk result (λ tokens. IsLexed text.now tokens.items) }
     ensures cause { IfErr result (λ refusal. refusal ≢ LexError.OutOfMemory → HasCause refusal text.now) }
 {
@@ -68,11 +67,8 @@ fn answer(alloc: Global, text: &[u8]) -> Result<Vec<Token>, LexError>
 /// most 65,536 bytes long. The refusal is 107 where a text is longer, else 106 where it is not UTF-8, else that of the
 /// first piece in the text that is no white space, comment or token.
 pub fn lex(alloc: Global, text: &[u8]) -> Result<Vec<Token>, LexError>
-    // The tokens are the text's.
+    // The text is short enough and UTF-8, and the tokens are its own.
     ensures tokens { IfOk result (λ found. IsLexed text.now found.items) }
-
-    // The text is short enough, and UTF-8.
-    ensures readable { IfOk result (λ found. IsReadable text.now) }
 
     // The tokens stand in order, within the text.
     ensures order { IfOk result (λ found. AreInOrder 0 found.items (length text.now)) }
@@ -84,7 +80,7 @@ pub fn lex(alloc: Global, text: &[u8]) -> Result<Vec<Token>, LexError>
     ensures refused { (refusal : LexError) → HasCause refusal text.now → Gives (λ found. found.items) result (Err refusal) }
 
     // Where none does, its tokens are given, unless memory runs out.
-    ensures lexed { (tokens : List Token) → IsReadable text.now → IsLexed text.now tokens → Gives (λ found. found.items) result (Ok tokens) }
+    ensures lexed { (tokens : List Token) → IsLexed text.now tokens → Gives (λ found. found.items) result (Ok tokens) }
 {
     answer(alloc, text)
 }

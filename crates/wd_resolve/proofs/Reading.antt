@@ -6,7 +6,6 @@ use Rattle.wd_lex.proofs.TextLaws.{one_list_of_tokens}
 use Rattle.wd_syntax.specs.Spelling.{spell}
 use Rattle.wd_syntax.specs.Tree.{QueryTree}
 use Rattle.wd_syntax.proofs.Unique.{one_tree}
-use Rattle.wd_schema.specs.Schemas.{schema_of}
 use Rattle.wd_schema.specs.Tables.{TableRule}
 use Rattle.wd_schema.proofs.TextFacts.{one_meaning}
 use Rattle.wd_resolve.specs.Answers.{Answer, answer}
@@ -23,4 +22,4 @@ one_plan schema query a b first second =
     let tokens : first.tokens ≡ second.tokens = one_list_of_tokens query first.tokens second.tokens first.lexed second.lexed in
     let spelled : spell first.tree ≡ kinds_of second.tokens = first.spelled ∙ ap kinds_of tokens in
     let trees : first.tree ≡ second.tree = one_tree (kinds_of second.tokens) first.tree second.tree first.levelled second.levelled spelled second.spelled in
-    same_answer (schema_of first.declared) (schema_of second.declared) first.tree second.tree a b (one_meaning schema first.declared second.declared first.declares second.declares) trees first.means second.means
+    same_answer first.tables second.tables first.tree second.tree a b (one_meaning schema first.tables second.tables first.declares second.declares) trees first.means second.means

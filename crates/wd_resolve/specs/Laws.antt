@@ -5,24 +5,22 @@ use Rattle.wd_lex.specs.Lexed.{IsLexed, kinds_of}
 use Rattle.wd_syntax.specs.Levels.{IsWellLevelled}
 use Rattle.wd_syntax.specs.Spelling.{spell}
 use Rattle.wd_syntax.specs.Tree.{QueryTree}
-use Rattle.wd_schema.specs.declared.schema.Schema.{Schema}
-use Rattle.wd_schema.specs.Schemas.{schema_of}
 use Rattle.wd_schema.specs.Tables.{TableRule}
 use Rattle.wd_schema.specs.Texts.{Declares}
 use Rattle.wd_plan.specs.Fits.{fits}
 use Rattle.wd_resolve.specs.Answers.{Answer, answer}
 
 -- The plan and the names read a schema's text and a query's text: they are those of the well-levelled tree that spells the
--- query's tokens, under the schema that the other text declares.
+-- query's tokens, over the tables that the other text declares.
 pub record Reads (schema query : List ℕ) (a : Answer) : Type 0 where
-  pub declared : Schema
+  pub tables : List TableRule
   pub tokens : List Token
   pub tree : QueryTree
-  pub declares : Declares schema declared
+  pub declares : Declares schema tables
   pub lexed : IsLexed query tokens
   pub levelled : IsWellLevelled tree
   pub spelled : spell tree ≡ kinds_of tokens
-  pub means : answer (schema_of declared) tree ≡ Ok a
+  pub means : answer tables tree ≡ Ok a
 
 -- A schema's text and a query's text have at most one plan.
 abbrev pub HasOnePlan : Type 0

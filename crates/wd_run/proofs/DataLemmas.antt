@@ -11,14 +11,7 @@ use Rattle.std.proofs.lemmas.List.Quantifiers.{all_pairs_push}
 use Rattle.std.proofs.lemmas.Slice.Eq.{bytes_eq-Decides}
 use Rattle.std.proofs.lemmas.Option.{get_or_from_slice_get, slice_get_within}
 use Rattle.wd_value.specs.Rows.{Row, Instance, table_at}
-use Rattle.wd_schema.specs.declared.schema.Schema.{Schema}
-use Rattle.wd_schema.specs.declared.error.SchemaError.TheVariants.{TableTwice}
-use Rattle.wd_statements.specs.declared.syntax.Name.TheVariants.{Unquoted}
-use Rattle.wd_schema.specs.Declares.{table_declared}
-use Rattle.wd_schema.specs.Schemas.{schema_of}
 use Rattle.wd_schema.specs.Tables.{TableRule}
-use Rattle.wd_schema.specs.Texts.{Declares}
-use Rattle.wd_statements.specs.Written.{TableTree}
 use Rattle.wd_tables.specs.Data.{HoldsRows}
 use Rattle.wd_plan.specs.Plans.{PlanTree}
 use Rattle.wd_run.specs.Causes.{HasDataCause, IsGivenTwice, IsNoTable, LacksData}
@@ -28,19 +21,6 @@ use Rattle.wd_run.specs.declared.error.RunError.{RunError}
 use Rattle.wd_run.specs.declared.error.RunError.TheVariants as run
 
 -- ---- names
-
--- the tables of a schema that a text declares have different names
-pub NamesDiffer-declared : (text : List ℕ) (schema : Schema) → Declares text schema → NamesDiffer (schema_of schema)
-NamesDiffer-declared text schema d = subst NamesDiffer (sym d.tables) differ
-  where
-    none : TableTree
-    none = record { name = Unquoted []; elements = [] }
-
-    differ : NamesDiffer (map table_declared d.tree.tables)
-    differ i j e less within =
-        let long : j < length d.tree.tables = rw (length-map d.tree.tables table_declared) at within in
-        let apart = d.kept TableTwice i j none less long in
-        λ same. apart (ap (λ (t : TableRule). t.name) (sym (get_or-map table_declared d.tree.tables i none e (omega arith))) ∙ same ∙ ap (λ (t : TableRule). t.name) (get_or-map table_declared d.tree.tables j none e long))
 
 pub some_same : {X : Type 0} (a b : X) → Some a ≡ Some b → a ≡ b
 some_same a b e = cc

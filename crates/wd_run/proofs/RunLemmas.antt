@@ -1,7 +1,5 @@
 -- Readings, answers and refusals of runs from those of their parts.
 use Rattle.std.proofs.Common.{ℕ, List, inl, inr, refl}
-use Rattle.wd_schema.specs.declared.schema.Schema.{Schema}
-use Rattle.wd_schema.specs.Schemas.{schema_of}
 use Rattle.wd_schema.specs.Tables.{TableRule}
 use Rattle.wd_schema.specs.Texts.{Declares}
 use Rattle.wd_plan.specs.declared.plan.Outcome.{Outcome}
@@ -16,12 +14,12 @@ use Rattle.wd_run.specs.Runs.{IsAnswer}
 use Rattle.wd_run.specs.declared.error.RunError.{RunError}
 use Rattle.wd_run.specs.declared.error.RunError.TheVariants as run
 
--- the texts read as the plan of the query's tree under the schema that is declared
-module _ (schema query : List ℕ) (given : List (List ℕ × List ℕ)) (declared : Schema) (r : Resolved) (declares : Declares schema declared)
-    (planned : IsPlanned (schema_of declared) query (resolved_of r)) where
+-- the texts read as the plan of the query's tree over the tables that are declared
+module _ (schema query : List ℕ) (given : List (List ℕ × List ℕ)) (tables : List TableRule) (r : Resolved) (declares : Declares schema tables)
+    (planned : IsPlanned tables query (resolved_of r)) where
   reads : Reads schema query (resolved_of r)
   reads = record {
-    declared = declared;
+    tables = tables;
     tokens = planned.tokens;
     tree = planned.tree;
     declares = declares;
@@ -31,7 +29,7 @@ module _ (schema query : List ℕ) (given : List (List ℕ × List ℕ)) (declar
     means = planned.means;
   }
 
-  pub IsAnswer-from_outcome : (o : Outcome) → GivesOutcome (schema_of declared) given (plan_of r.plan) o → IsAnswer schema query given r.names.items (outcome_of o)
+  pub IsAnswer-from_outcome : (o : Outcome) → GivesOutcome tables given (plan_of r.plan) o → IsAnswer schema query given r.names.items (outcome_of o)
   unfolding reads
   IsAnswer-from_outcome o gives = record {
     read = resolved_of r;
@@ -43,7 +41,7 @@ module _ (schema query : List ℕ) (given : List (List ℕ × List ℕ)) (declar
     named = refl;
   }
 
-  pub HasCause-from_outcome : (e : RunError) → RefusesOutcome (schema_of declared) given (plan_of r.plan) e → HasCause schema query given e
+  pub HasCause-from_outcome : (e : RunError) → RefusesOutcome tables given (plan_of r.plan) e → HasCause schema query given e
   unfolding reads
   HasCause-from_outcome (run.Given name) cause = (resolved_of r, reads, cause)
   HasCause-from_outcome (run.Data name error) cause = (resolved_of r, reads, cause)

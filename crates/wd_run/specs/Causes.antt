@@ -9,12 +9,10 @@ use Rattle.wd_syntax.specs.Tree.{QueryTree}
 use Rattle.wd_parse.specs.Causes as trees
 use Rattle.wd_parse.specs.declared.error.ParseError.{ParseError}
 use Rattle.wd_schema.specs.Refusals as tables
-use Rattle.wd_schema.specs.Schemas.{schema_of}
 use Rattle.wd_schema.specs.Tables.{TableRule}
 use Rattle.wd_schema.specs.Texts as schemas
 use Rattle.wd_schema.specs.Texts.{Declares}
 use Rattle.wd_schema.specs.declared.error.SchemaError.TheVariants as schema_error
-use Rattle.wd_schema.specs.declared.schema.Schema.{Schema}
 use Rattle.wd_operand.specs.Causes as meanings
 use Rattle.wd_operand.specs.declared.cause.ResolveError.{ResolveError}
 use Rattle.wd_resolve.specs.Answers.{Answer, answer}
@@ -135,12 +133,12 @@ pub record HasStepCause (tables : List TableRule) (given : List (List ℕ × Lis
 
 -- the texts read as a plan over the schema's tables, of which this holds
 abbrev pub ForReading : List ℕ → List ℕ → (List TableRule → PlanTree → Type 0) → Type 0
-ForReading schema query P = (read : Answer) × (reads : Reads schema query read) × P (schema_of reads.declared) read.plan
+ForReading schema query P = (read : Answer) × (reads : Reads schema query read) × P reads.tables read.plan
 
 -- a refusal's cause stands in the inputs; for want of memory none need
 abbrev pub HasCause : List ℕ → List ℕ → List (List ℕ × List ℕ) → RunError → Type 0
 HasCause schema query given (run.Schema error) = error ≢ schema_error.OutOfMemory → schemas.HasCause schema error
-HasCause schema query given (run.Query error) = (declared : Schema) × Declares schema declared × HasQueryCause (schema_of declared) query error
+HasCause schema query given (run.Query error) = (tables : List TableRule) × Declares schema tables × HasQueryCause tables query error
 HasCause schema query given (run.Given name) = ForReading schema query (λ tables plan. HasNameCause tables given plan name)
 HasCause schema query given (run.Data name error) = ForReading schema query (λ tables plan. HasDataCause tables given name error)
 HasCause schema query given (run.Evaluation error) = ForReading schema query (λ tables plan. HasStepCause tables given plan error)

@@ -1,3 +1,4 @@
 pub mod Runs
 pub mod Causes
 pub mod Loads
+pub mod Laws

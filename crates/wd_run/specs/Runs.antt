@@ -3,7 +3,6 @@ use Rattle.std.specs.Prelude.{◌≡◌, ◌≢◌, ℕ, List, [], ◌∷◌, �
 use Rattle.std.specs.Borrow.{Bor}
 use Rattle.std.specs.List.{list_any}
 use Rattle.wd_value.specs.Rows.{Row, Instance, table_at}
-use Rattle.wd_schema.specs.Schemas.{schema_of}
 use Rattle.wd_schema.specs.Tables.{TableRule}
 use Rattle.wd_plan.specs.Choices.{IsAnswerOf}
 use Rattle.wd_plan.specs.Outcomes.{RowsOrFault}
@@ -76,7 +75,7 @@ pub record IsAnswer (schema query : List ℕ) (given : List (List ℕ × List �
   pub read : Answer
   pub reads : Reads schema query read
   pub instance : Instance
-  pub has_data : HasData (schema_of reads.declared) given read.plan
-  pub data_holds : HoldsData (schema_of reads.declared) given instance
+  pub has_data : HasData reads.tables given read.plan
+  pub data_holds : HoldsData reads.tables given instance
   pub answers : IsAnswerOf read.plan instance answer
   pub named : names ≡ read.names

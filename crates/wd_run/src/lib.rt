@@ -4,6 +4,7 @@
 mod data;
 mod engine;
 mod error;
+pub mod laws;
 mod query;
 #[cfg(test)]
 mod tests;

@@ -3,3 +3,4 @@ pub mod TextFacts
 pub mod SchemaFacts
 pub mod RefusalFacts
 pub mod CheckFacts
+pub mod WellFormedFacts

@@ -58,7 +58,7 @@ known_from_test names keys h = λ k d lt i e within.
     Contains-from_any (λ a b. (bytes_eq-Decides a b).0) (get_or (get_or keys k d).columns i e) names
     (all_from_test (λ name. list_any (bytes_eq name) names) (get_or keys k d).columns (all_from_test (λ key. list_all (λ name. list_any (bytes_eq name) names) key.columns) keys h k d lt) i e within)
 
-is_found : (names : List (List ℕ)) (name : List ℕ) → Contains names name → list_any (bytes_eq name) names ≡ true
+pub is_found : (names : List (List ℕ)) (name : List ℕ) → Contains names name → list_any (bytes_eq name) names ≡ true
 is_found names name at = list_any_at (bytes_eq name) names at.0 name at.1 ((bytes_eq-Decides name (get_or names at.0 name)).1 (sym at.2))
 
 pub test_from_known : (names : List (List ℕ)) (keys : List SaidKey) → All (λ key. All (Contains names) key.columns) keys → list_all (λ key. list_all (λ name. list_any (bytes_eq name) names) key.columns) keys ≡ true

@@ -1,19 +1,23 @@
 -- The tables of a schema, one after the other.
-use Rattle.std.proofs.Common.{◌≡◌, ◌≢◌, ◌∙◌, ◌<◌, ℕ, sym, ap, List, [], ◌∷◌, ◌++◌, map, take, length, length-append, get_or, Bool, true, false, String, refl, arith, is_some, ◌||◌}
+use Rattle.std.proofs.Common.{◌≡◌, ◌≢◌, ◌∙◌, ◌<◌, ℕ, sym, ap, List, [], ◌∷◌, ◌++◌, map, take, length, length-append, get_or, Bool, true, false, Global, String, Some, cond, refl, arith, is_some, ◌||◌}
 use Rattle.std.proofs.lemmas.Bool.{true≢false, or_parts}
 use Rattle.std.proofs.lemmas.List.{get_or-map, get_or-take, length-map, length-take, map_push}
-use Rattle.std.proofs.lemmas.List.Elements.{All-push}
+use Rattle.std.proofs.lemmas.List.Elements.{All-cons, All-head, All-nil, All-push, All-tail}
 use Rattle.std.proofs.lemmas.List.Quantifiers.{all_pairs_push}
 use Rattle.std.proofs.lemmas.Map.Views.{Contains-from_any}
 use Rattle.std.proofs.lemmas.Slice.Eq.{bytes_eq-Decides}
-use Rattle.std.specs.List.{list_any, Contains}
+use Rattle.std.specs.List.{list_any, All, Contains}
+use Rattle.std.specs.Option.{option_map}
 use Rattle.std.specs.Map.{lookup}
 use Rattle.std.specs.Str.{bytes_eq}
 use Rattle.std.specs.String.{string_bytes, string_eq}
 use Rattle.indexmap.specs.IndexMap.{insert_entry}
 use Rattle.wd_schema.specs.declared.error.SchemaError.{SchemaError}
 use Rattle.wd_schema.specs.declared.error.SchemaError.TheVariants.{Tokens, TableTwice, ColumnTwice, UnknownColumn, SecondPrimaryKey, KeyColumnTwice, TooMany, UnknownType, NullForbidden, Unexpected, OutOfMemory}
-use Rattle.wd_schema.specs.Declares.{AllKeep, ColumnsDiffer, HasOnePrimary, IsAllowed, IsSmall, Keeps, KeyColumnsDiffer, KeysNameColumns, NullsAreAllowed, TablesDiffer, TypesAreKnown}
+use Rattle.wd_schema.specs.Declares.{AllKeep, ColumnsDiffer, HasOnePrimary, IsAllowed, IsSmall, Keeps, KeyColumnsDiffer, KeysNameColumns, NullsAreAllowed, TablesDiffer, TypesAreKnown, table_declared}
+use Rattle.wd_schema.specs.Schemas.{table_named}
+use Rattle.wd_schema.specs.Tables.{TableRule, table_of}
+use Rattle.wd_schema.specs.declared.table.Table.{Table}
 use Rattle.wd_statements.specs.Written.{TableTree, name_text}
 use Rattle.wd_schema.proofs.MeetsFacts.{none_from_test}
 
@@ -86,3 +90,27 @@ module _ {Y X : Type 0} where
 
 pub map_push_both : {A B C : Type 0} (f : A → C) (g : B → C) (xs : List A) (x : A) (ys : List B) (y : B) → map f xs ≡ map g ys → f x ≡ g y → map f (xs ++ x ∷ []) ≡ map g (ys ++ y ∷ [])
 map_push_both f g xs x ys y many one = map_push f xs x ∙ ap (λ zs. zs ++ f x ∷ []) many ∙ ap (λ z. map g ys ++ z ∷ []) one ∙ sym (map_push g ys y)
+
+-- each entry stands under its table's name, where their keys are the names of tables as written, and they are what these declare
+pub named_by : (es : List (String Global × Table)) (tables : List TableTree) → map (λ e. string_bytes e.0) es ≡ names tables → map (λ e. table_of e.1) es ≡ map table_declared tables → All (λ e. string_bytes e.0 ≡ e.1.name) es
+named_by [] tables keys are = All-nil (λ e. string_bytes e.0 ≡ e.1.name)
+named_by (e ∷ es) [] keys are = absurd cc
+named_by (e ∷ es) (table ∷ tables) keys are =
+    let key : string_bytes e.0 ≡ name_text table.name = cc in
+    let others : map (λ e. string_bytes e.0) es ≡ names tables = cc in
+    let is : table_of e.1 ≡ table_declared table = cc in
+    let more : map (λ e. table_of e.1) es ≡ map table_declared tables = cc in
+    All-cons (λ e. string_bytes e.0 ≡ e.1.name) e es (key ∙ sym (ap (λ (t : TableRule). t.name) is)) (named_by es tables others more)
+
+-- a table is found by its name
+pub found_by_name : (es : List (String Global × Table)) (name : List ℕ) → All (λ e. string_bytes e.0 ≡ e.1.name) es → option_map table_of (lookup (λ k. bytes_eq name (string_bytes k)) es) ≡ table_named name (map (λ e. table_of e.1) es)
+found_by_name [] name named = refl
+found_by_name (e ∷ es) name named =
+    by (bytes_eq name (string_bytes e.0)) refl (bytes_eq name e.1.name) (ap (bytes_eq name) (All-head (λ e. string_bytes e.0 ≡ e.1.name) e es named)) (found_by_name es name (All-tail (λ e. string_bytes e.0 ≡ e.1.name) e es named))
+  where
+    by : (b : Bool) → bytes_eq name (string_bytes e.0) ≡ b → (t : Bool) → bytes_eq name (string_bytes e.0) ≡ t → option_map table_of (lookup (λ k. bytes_eq name (string_bytes k)) es) ≡ table_named name (map (λ e. table_of e.1) es)
+        → option_map table_of (cond b (Some e.1) (lookup (λ k. bytes_eq name (string_bytes k)) es)) ≡ cond t (Some (table_of e.1)) (table_named name (map (λ e. table_of e.1) es))
+    by true h true g rest = refl
+    by false h false g rest = rest
+    by true h false g rest = absurd (true≢false (sym h ∙ g))
+    by false h true g rest = absurd (true≢false (sym g ∙ h))

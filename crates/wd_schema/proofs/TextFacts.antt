@@ -1,21 +1,23 @@
 -- What stands in a schema text.
-use Rattle.std.proofs.Common.{◌≡◌, ◌≢◌, ◌∙◌, ℕ, suc, sym, ap, subst, List, [], ◌∷◌, ◌++◌, length-append, map, take, Result, Ok, Err, arith}
+use Rattle.std.proofs.Common.{◌≡◌, ◌≢◌, ◌∙◌, ℕ, suc, sym, ap, subst, List, [], ◌∷◌, ◌++◌, length-append, map, take, Result, Ok, Err, IfOk, IfErr, OnOk, refl, arith}
 use Rattle.std.proofs.lemmas.List.Elements.{All-nil, All-cons, All-head, All-tail}
 use Rattle.std.proofs.lemmas.List.Kept.{AllPairs-cons}
 use Rattle.std.specs.List.{All, AllPairs}
-use Rattle.wd_lex.proofs.TextLaws.{one_list_of_tokens}
-use Rattle.wd_lex.specs.Causes as lexer
-use Rattle.wd_lex.specs.Lexed.{IsLexed, kinds_of}
-use Rattle.wd_lex.specs.declared.error.LexError.{LexError}
-use Rattle.wd_lex.specs.declared.token.Token.{Token}
+use Rattle.wd_lex.proofs.TextLaws.{no_cause, one_list_of_tokens}
+use Rattle.wd_lex.specs.Lexed.{kinds_of}
 use Rattle.wd_schema.specs.declared.error.SchemaError.{SchemaError}
 use Rattle.wd_schema.specs.declared.error.SchemaError.TheVariants.{Tokens, TableTwice, ColumnTwice, UnknownColumn, SecondPrimaryKey, KeyColumnTwice, TooMany, UnknownType, NullForbidden, Unexpected, OutOfMemory}
 use Rattle.wd_schema.specs.Declares.{AllKeep, ColumnsDiffer, HasOnePrimary, IsSmall, KeyColumnsDiffer, KeysNameColumns, NullsAreAllowed, TypesAreKnown, table_declared}
-use Rattle.wd_schema.specs.Laws.{HasOneMeaning}
-use Rattle.wd_statements.specs.Grammar.{IsSchema, IsUnexpected, spell_schema}
-use Rattle.wd_schema.specs.Texts.{Breaks, HasCause}
+use Rattle.wd_schema.specs.Laws.{HasMeaningOrCause, HasOneMeaning}
+use Rattle.wd_schema.specs.Schemas.{schema_of}
+use Rattle.wd_schema.specs.Tables.{TableRule}
+use Rattle.wd_schema.specs.Texts.{Breaks, Declares, GivesTables, HasCause, Stops}
+use Rattle.wd_schema.specs.WellFormed.{IsWellFormed}
+use Rattle.wd_schema.specs.declared.schema.Schema.{Schema}
+use Rattle.wd_statements.specs.Grammar.{Begins, spell_schema}
 use Rattle.wd_statements.specs.Written.{SchemaTree, TableTree, name_text}
-use Rattle.wd_statements.proofs.SchemaLaws.{begins_front, one_tree}
+use Rattle.wd_statements.proofs.SchemaLaws.{one_tree, schema_statements}
+use Rattle.wd_schema.proofs.WellFormedFacts.{well_formed}
 
 -- ---- what the first tables keep
 
@@ -56,43 +58,61 @@ broken_is_cause text (Tokens error) breaks = absurd (breaks.broken tt)
 broken_is_cause text (Unexpected place) breaks = absurd (breaks.broken tt)
 broken_is_cause text OutOfMemory breaks = absurd (breaks.broken tt)
 
--- the tokens spell a schema that keeps all that it has to
-pub record IsSound (tokens : List Token) (tree : SchemaTree) : Type 0 where
-  pub spelled : kinds_of tokens ≡ spell_schema tree
-  pub whole : IsSchema tree
-  pub kept : (refusal : SchemaError) → AllKeep refusal tree.tables
+-- the first tables of a text that declares others keep what these keep
+not_broken : (text : List ℕ) (tables : List TableRule) (refusal : SchemaError) → Declares text tables → Breaks text refusal → ⊥
+not_broken text tables refusal d breaks =
+    let same : kinds_of breaks.tokens ≡ spell_schema d.tree = ap kinds_of (one_list_of_tokens text breaks.tokens d.tokens breaks.lexed d.lexed) ∙ d.spelled in
+    let front = (schema_statements d.tree d.whole).all breaks.tables (subst (λ ks. Begins ks breaks.tables) same breaks.begins) in
+    breaks.broken (keeps_front refusal breaks.tables front.0 (subst (AllKeep refusal) front.1 (d.kept refusal)))
 
-pub not_broken : (text : List ℕ) (tokens : List Token) (tree : SchemaTree) (refusal : SchemaError) → IsSound tokens tree → (breaks : Breaks text refusal) → breaks.tokens ≡ tokens → ⊥
-not_broken text tokens tree refusal sound breaks same =
-    let begins = breaks.begins in
-    let found = begins_front tree.tables tree.ended sound.whole breaks.tables begins.rest begins.each begins.ends (sym sound.spelled ∙ sym (ap kinds_of same) ∙ begins.spelled) in
-    breaks.broken (keeps_front refusal breaks.tables found.0 (subst (AllKeep refusal) found.1 (sound.kept refusal)))
+not_unexpected : (text : List ℕ) (tables : List TableRule) (place : ℕ) → Declares text tables → Stops text place → ⊥
+not_unexpected text tables place d stops =
+    let same : kinds_of stops.tokens ≡ spell_schema d.tree = ap kinds_of (one_list_of_tokens text stops.tokens d.tokens stops.lexed d.lexed) ∙ d.spelled in
+    stops.stops.none d.tree d.whole (ap (take (suc place)) (sym same))
 
-pub not_unexpected : (tokens : List Token) (tree : SchemaTree) (place : ℕ) → IsSound tokens tree → IsUnexpected (kinds_of tokens) place → ⊥
-not_unexpected tokens tree place sound unexpected = unexpected.none tree sound.whole (ap (take (suc place)) (sym sound.spelled))
-
--- a text whose tokens spell such a schema has no cause
-pub no_cause : (text : List ℕ) (tokens : List Token) (tree : SchemaTree) → ((error : LexError) → lexer.HasCause error text → ⊥) → ((others : List Token) → IsLexed text others → others ≡ tokens) → IsSound tokens tree → (refusal : SchemaError) → HasCause text refusal → ⊥
-no_cause text tokens tree clean one sound (Tokens error) cause = clean error cause
-no_cause text tokens tree clean one sound (Unexpected place) cause = not_unexpected tokens tree place sound (subst (λ ts. IsUnexpected (kinds_of ts) place) (one cause.tokens cause.lexed) cause.stops)
-no_cause text tokens tree clean one sound OutOfMemory cause = cause
-no_cause text tokens tree clean one sound TableTwice cause = not_broken text tokens tree TableTwice sound cause (one cause.tokens cause.lexed)
-no_cause text tokens tree clean one sound ColumnTwice cause = not_broken text tokens tree ColumnTwice sound cause (one cause.tokens cause.lexed)
-no_cause text tokens tree clean one sound UnknownColumn cause = not_broken text tokens tree UnknownColumn sound cause (one cause.tokens cause.lexed)
-no_cause text tokens tree clean one sound SecondPrimaryKey cause = not_broken text tokens tree SecondPrimaryKey sound cause (one cause.tokens cause.lexed)
-no_cause text tokens tree clean one sound KeyColumnTwice cause = not_broken text tokens tree KeyColumnTwice sound cause (one cause.tokens cause.lexed)
-no_cause text tokens tree clean one sound TooMany cause = not_broken text tokens tree TooMany sound cause (one cause.tokens cause.lexed)
-no_cause text tokens tree clean one sound UnknownType cause = not_broken text tokens tree UnknownType sound cause (one cause.tokens cause.lexed)
-no_cause text tokens tree clean one sound NullForbidden cause = not_broken text tokens tree NullForbidden sound cause (one cause.tokens cause.lexed)
-
-pub no_error : (error : LexError) (tokens : List Token) → Err error ≡ Ok tokens → ⊥
-no_error error tokens e = cc
-
-pub same_tokens : (others tokens : List Token) (answer : Result (List Token) LexError) → answer ≡ Ok others → answer ≡ Ok tokens → others ≡ tokens
-same_tokens others tokens answer e f = cc
+pub meaning_or_cause : HasMeaningOrCause
+meaning_or_cause text tables (Tokens error) d cause = no_cause text d.tokens error d.lexed cause
+meaning_or_cause text tables (Unexpected place) d cause = not_unexpected text tables place d cause
+meaning_or_cause text tables OutOfMemory d cause = cause
+meaning_or_cause text tables TableTwice d cause = not_broken text tables TableTwice d cause
+meaning_or_cause text tables ColumnTwice d cause = not_broken text tables ColumnTwice d cause
+meaning_or_cause text tables UnknownColumn d cause = not_broken text tables UnknownColumn d cause
+meaning_or_cause text tables SecondPrimaryKey d cause = not_broken text tables SecondPrimaryKey d cause
+meaning_or_cause text tables KeyColumnTwice d cause = not_broken text tables KeyColumnTwice d cause
+meaning_or_cause text tables TooMany d cause = not_broken text tables TooMany d cause
+meaning_or_cause text tables UnknownType d cause = not_broken text tables UnknownType d cause
+meaning_or_cause text tables NullForbidden d cause = not_broken text tables NullForbidden d cause
 
 pub one_meaning : HasOneMeaning
 one_meaning text first second a b =
     let tokens : a.tokens ≡ b.tokens = one_list_of_tokens text a.tokens b.tokens a.lexed b.lexed in
     let tree : a.tree ≡ b.tree = one_tree a.tree b.tree a.whole b.whole (sym a.spelled ∙ ap kinds_of tokens ∙ b.spelled) in
-    a.tables ∙ ap (λ (t : SchemaTree). map table_declared t.tables) tree ∙ sym b.tables
+    a.are ∙ ap (λ (t : SchemaTree). map table_declared t.tables) tree ∙ sym b.are
+
+-- ---- what is answered
+
+refusal_is : (refusal : SchemaError) (Cause : SchemaError → Type 0) → (refusal ≢ OutOfMemory → Cause refusal) → ((other : SchemaError) → Cause other → ⊥) → refusal ≡ OutOfMemory
+refusal_is OutOfMemory Cause cause none = refl
+refusal_is (Tokens error) Cause cause none = absurd (none (Tokens error) (cause (λ e. cc)))
+refusal_is (Unexpected place) Cause cause none = absurd (none (Unexpected place) (cause (λ e. cc)))
+refusal_is TableTwice Cause cause none = absurd (none TableTwice (cause (λ e. cc)))
+refusal_is ColumnTwice Cause cause none = absurd (none ColumnTwice (cause (λ e. cc)))
+refusal_is UnknownColumn Cause cause none = absurd (none UnknownColumn (cause (λ e. cc)))
+refusal_is SecondPrimaryKey Cause cause none = absurd (none SecondPrimaryKey (cause (λ e. cc)))
+refusal_is KeyColumnTwice Cause cause none = absurd (none KeyColumnTwice (cause (λ e. cc)))
+refusal_is TooMany Cause cause none = absurd (none TooMany (cause (λ e. cc)))
+refusal_is UnknownType Cause cause none = absurd (none UnknownType (cause (λ e. cc)))
+refusal_is NullForbidden Cause cause none = absurd (none NullForbidden (cause (λ e. cc)))
+
+pub gives_by : (text : List ℕ) (result : Result Schema SchemaError) → IfOk result (λ schema. Declares text (schema_of schema)) → IfErr result (λ refusal. refusal ≢ OutOfMemory → HasCause text refusal)
+    → (tables : List TableRule) → Declares text tables → GivesTables tables result
+gives_by text (Ok schema) declares cause tables d = one_meaning text (schema_of schema) tables declares d
+gives_by text (Err refusal) declares cause tables d = refusal_is refusal (HasCause text) cause (λ other. meaning_or_cause text tables other d)
+
+pub refused_by : (text : List ℕ) (result : Result Schema SchemaError) → IfOk result (λ schema. Declares text (schema_of schema)) → OnOk result ((refusal : SchemaError) → HasCause text refusal → ⊥)
+refused_by text (Ok schema) declares = λ refusal. meaning_or_cause text (schema_of schema) refusal declares
+refused_by text (Err refusal) declares = tt
+
+pub well_formed_by : (text : List ℕ) (result : Result Schema SchemaError) → IfOk result (λ schema. Declares text (schema_of schema)) → IfOk result (λ schema. IsWellFormed (schema_of schema))
+well_formed_by text (Ok schema) declares = well_formed text (schema_of schema) declares
+well_formed_by text (Err refusal) declares = tt

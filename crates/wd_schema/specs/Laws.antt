@@ -1,9 +1,13 @@
 -- Laws of schema texts, over the definitions alone.
 use Rattle.std.specs.Prelude.{◌≡◌, ℕ, List}
-use Rattle.wd_schema.specs.declared.schema.Schema.{Schema}
-use Rattle.wd_schema.specs.Schemas.{schema_of}
-use Rattle.wd_schema.specs.Texts.{Declares}
+use Rattle.wd_schema.specs.declared.error.SchemaError.{SchemaError}
+use Rattle.wd_schema.specs.Tables.{TableRule}
+use Rattle.wd_schema.specs.Texts.{Declares, HasCause}
 
--- A text declares the tables of at most one schema.
+-- A text declares at most one list of tables.
 abbrev pub HasOneMeaning : Type 0
-HasOneMeaning = (text : List ℕ) (first second : Schema) → Declares text first → Declares text second → schema_of first ≡ schema_of second
+HasOneMeaning = (text : List ℕ) (first second : List TableRule) → Declares text first → Declares text second → first ≡ second
+
+-- In a text that declares tables no refusal's cause stands.
+abbrev pub HasMeaningOrCause : Type 0
+HasMeaningOrCause = (text : List ℕ) (tables : List TableRule) (refusal : SchemaError) → Declares text tables → HasCause text refusal → ⊥

@@ -5,4 +5,5 @@ pub mod Declares
 pub mod Refusals
 pub mod Keys
 pub mod Texts
+pub mod WellFormed
 pub mod Laws

@@ -1,6 +1,6 @@
 -- Schemas as pure data, and how contracts see those of the code.
-use Rattle.std.specs.Prelude.{ℕ, List, map}
-use Rattle.std.specs.String.{string_bytes}
+use Rattle.std.specs.Prelude.{ℕ, List, map, find, Option}
+use Rattle.std.specs.Str.{bytes_eq}
 use Rattle.wd_schema.specs.declared.schema.Schema.{Schema}
 use Rattle.wd_schema.specs.Tables.{TableRule, table_of}
 
@@ -8,6 +8,6 @@ use Rattle.wd_schema.specs.Tables.{TableRule, table_of}
 abbrev pub schema_of : Schema → List TableRule
 schema_of s = map (λ e. table_of e.1) s.tables.entries
 
--- the names under which the tables of a schema are found
-abbrev pub names_of : Schema → List (List ℕ)
-names_of s = map (λ e. string_bytes e.0) s.tables.entries
+-- the table of that name: the first, of which a schema that is read has no second
+abbrev pub table_named : List ℕ → List TableRule → Option TableRule
+table_named name tables = find (λ table. bytes_eq name table.name) tables

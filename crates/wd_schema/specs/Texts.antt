@@ -1,28 +1,27 @@
--- Schema texts: the schema that a text declares, and why a text is refused.
-use Rattle.std.specs.Prelude.{◌≡◌, ℕ, List, map}
+-- Schema texts: the tables that a text declares, and why a text is refused.
+use Rattle.std.specs.Prelude.{◌≡◌, ℕ, List, map, Result, Ok, Err}
 use Rattle.wd_lex.specs.Lexed.{IsLexed, kinds_of}
 use Rattle.wd_lex.specs.Causes as tokens
 use Rattle.wd_lex.specs.declared.token.Token.{Token}
-use Rattle.wd_lex.specs.declared.token.TokenKind.{TokenKind}
 use Rattle.wd_schema.specs.declared.error.SchemaError.{SchemaError}
 use Rattle.wd_schema.specs.declared.error.SchemaError.TheVariants.{Tokens, TableTwice, ColumnTwice, UnknownColumn, SecondPrimaryKey, KeyColumnTwice, TooMany, UnknownType, NullForbidden, Unexpected, OutOfMemory}
 use Rattle.wd_schema.specs.declared.schema.Schema.{Schema}
 use Rattle.wd_schema.specs.Declares.{AllKeep, table_declared}
 use Rattle.wd_statements.specs.Grammar.{Begins, IsSchema, IsUnexpected, spell_schema}
-use Rattle.wd_schema.specs.Schemas.{schema_of, names_of}
-use Rattle.wd_statements.specs.Written.{SchemaTree, TableTree, name_text}
+use Rattle.wd_schema.specs.Schemas.{schema_of}
+use Rattle.wd_schema.specs.Tables.{TableRule}
+use Rattle.wd_statements.specs.Written.{SchemaTree, TableTree}
 
--- The text declares the schema: its tokens spell a tree that is refused for nothing, and the tables are those that the tree
--- declares, under their names.
-pub record Declares (text : List ℕ) (schema : Schema) : Type 0 where
+-- The text declares the tables: its tokens spell a tree that is refused for nothing, and they are the tables that the tree
+-- declares, in its order.
+pub record Declares (text : List ℕ) (tables : List TableRule) : Type 0 where
   pub tokens : List Token
   pub tree : SchemaTree
   pub lexed : IsLexed text tokens
   pub spelled : kinds_of tokens ≡ spell_schema tree
   pub whole : IsSchema tree
   pub kept : (refusal : SchemaError) → AllKeep refusal tree.tables
-  pub tables : schema_of schema ≡ map table_declared tree.tables
-  pub names : names_of schema ≡ map (λ table. name_text table.name) tree.tables
+  pub are : tables ≡ map table_declared tree.tables
 
 -- the first statements of the text are tables that do not keep what the refusal is about
 pub record Breaks (text : List ℕ) (refusal : SchemaError) : Type 0 where
@@ -51,3 +50,8 @@ HasCause text KeyColumnTwice = Breaks text KeyColumnTwice
 HasCause text TooMany = Breaks text TooMany
 HasCause text UnknownType = Breaks text UnknownType
 HasCause text NullForbidden = Breaks text NullForbidden
+
+-- the answer is a schema of these tables, or memory ran out
+abbrev pub GivesTables : List TableRule → Result Schema SchemaError → Type 0
+GivesTables tables (Ok schema) = schema_of schema ≡ tables
+GivesTables tables (Err refusal) = refusal ≡ OutOfMemory

@@ -1,8 +1,13 @@
-//! The law of schema texts, over the definitions alone.
+//! The laws of schema texts, over the definitions alone.
 
-ghost use Rattle.wd_schema.specs.Laws.{HasOneMeaning};
+ghost use Rattle.wd_schema.specs.Laws.{HasMeaningOrCause, HasOneMeaning};
 
-/// A text declares the tables of at most one schema.
+/// A text declares at most one list of tables.
 pub fn one_meaning()
     ensures { HasOneMeaning }
+{}
+
+/// No refusal's cause stands in a text that declares tables.
+pub fn meaning_or_cause()
+    ensures { HasMeaningOrCause }
 {}

@@ -3,12 +3,14 @@
 
 mod declare;
 mod error;
+mod instances;
 pub mod laws;
 mod schema;
 mod table;
 mod text;
 
 pub use error::SchemaError;
-pub use schema::{Schema, Violation, meets};
+pub use instances::{Violation, meets};
+pub use schema::Schema;
 pub use table::{Column, Key, Table};
 pub use text::read_schema;

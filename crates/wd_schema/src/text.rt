@@ -1,10 +1,12 @@
 //! Reads schema texts.
 
-ghost use Rattle.std.specs.Prelude.{◌≡◌, ◌≢◌, map, IfOk, IfErr, OnOk};
+ghost use Rattle.std.specs.Prelude.{◌≡◌, ◌≢◌, map, List, IfOk, IfErr, OnOk};
 ghost use Rattle.wd_schema.specs.Declares.{AllKeep, table_declared};
-ghost use Rattle.wd_schema.specs.Schemas.{names_of, schema_of};
-ghost use Rattle.wd_schema.specs.Texts.{Declares, HasCause};
-ghost use Rattle.wd_statements.specs.Written.{name_text, table_tree};
+ghost use Rattle.wd_schema.specs.Schemas.{schema_of};
+ghost use Rattle.wd_schema.specs.Tables.{TableRule};
+ghost use Rattle.wd_schema.specs.Texts.{Declares, GivesTables, HasCause};
+ghost use Rattle.wd_schema.specs.WellFormed.{IsWellFormed};
+ghost use Rattle.wd_statements.specs.Written.{table_tree};
 ghost use Rattle.wd_schema.specs.declared.error.SchemaError.{SchemaError as Refusal};
 
 use crate::declare::declare;
@@ -23,14 +25,28 @@ const MOST_TABLES: usize = 64;
 /// The first refusal in the text is answered; 309 of a statement comes before its others. A statement's names are compared
 /// one with another, so the time goes at most with the square of their number, in a text of at most 65,536 bytes.
 pub fn read_schema(alloc: Global, text: &[u8]) -> Result<Schema, SchemaError>
-    // The schema is the one that the text's tokens spell.
-    ensures schema { IfOk result (Declares text.now) }
+    // The schema's tables are those that the text declares.
+    ensures schema { IfOk result (λ schema. Declares text.now (schema_of schema)) }
+
+    // They keep the limits; keys name their columns, and those of a primary key are NOT NULL.
+    ensures well_formed { IfOk result (λ schema. IsWellFormed (schema_of schema)) }
+
+    // Tables that the text declares are given, unless memory runs out.
+    ensures declared { (tables : List TableRule) → Declares text.now tables → GivesTables tables result }
 
     // A refusal comes only where its cause stands in the text.
     ensures cause { IfErr result (λ refusal. refusal ≢ SchemaError.OutOfMemory → HasCause text.now refusal) }
 
     // Where a cause stands, the text is refused.
     ensures refused { OnOk result ((refusal : Refusal) → HasCause text.now refusal → ⊥) }
+{
+    answer(alloc, text)
+}
+
+/// The schema that a text declares, or its refusal.
+fn answer(alloc: Global, text: &[u8]) -> Result<Schema, SchemaError>
+    ensures schema { IfOk result (λ schema. Declares text.now (schema_of schema)) }
+    ensures cause { IfErr result (λ refusal. refusal ≢ SchemaError.OutOfMemory → HasCause text.now refusal) }
 {
     let tokens = match lex(alloc, text) {
         Ok(tokens) => tokens,
@@ -59,7 +75,6 @@ fn lexer_refusal(error: LexError) -> SchemaError
 /// The schema of these tables.
 fn declared_schema(alloc: Global, tables: &[WrittenTable]) -> Result<Schema, SchemaError>
     ensures tables { IfOk result (λ schema. schema_of schema ≡ map table_declared (map table_tree tables.now)) }
-    ensures names { IfOk result (λ schema. names_of schema ≡ map (λ table. name_text table.name) (map table_tree tables.now)) }
     ensures kept { OnOk result ((refusal : Refusal) → AllKeep refusal (map table_tree tables.now)) }
     ensures refused { IfErr result (λ refusal. refusal ≢ SchemaError.OutOfMemory → AllKeep refusal (map table_tree tables.now) → ⊥) }
 {

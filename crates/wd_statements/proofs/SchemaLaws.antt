@@ -1,5 +1,5 @@
 -- Token lists and the schemas that they spell.
-use Rattle.std.proofs.Common.{inl, inr, ◌≡◌, ◌≢◌, ◌∙◌, ℕ, zero, suc, ◌+◌, ◌-◌, ◌<◌, ◌≤◌, sym, ap, subst, List, [], ◌∷◌, ◌++◌, length, Bool, true, false, Option, Some, None, Ok, Err, refl, arith, take}
+use Rattle.std.proofs.Common.{inl, inr, ◌≡◌, ◌≢◌, ◌∙◌, ℕ, zero, suc, ◌+◌, ◌-◌, ◌<◌, ◌≤◌, sym, ap, subst, List, [], ◌∷◌, ◌++◌, length, Bool, true, false, Option, Some, None, Ok, Err, refl, arith, eqb-true, take}
 use Rattle.std.specs.Prelude.{⊤, ◌==◌}
 use Rattle.std.proofs.lemmas.Bool.{cases_order, true≢false}
 use Rattle.std.proofs.lemmas.List.Elements.{All-head, All-push, All-tail}
@@ -14,10 +14,9 @@ use Rattle.wd_statements.specs.declared.syntax.KeyWords.{KeyWords}
 use Rattle.wd_statements.specs.declared.syntax.KeyWords.TheVariants.{Primary, Unique}
 use Rattle.wd_statements.specs.declared.syntax.Name.{Name}
 use Rattle.wd_statements.specs.declared.syntax.Nulls.TheVariants.{Unsaid, Distinct, NotDistinct}
-use Rattle.wd_statements.specs.Grammar.{IsEnd, IsSchema, IsTable, listed, spell_constraint, spell_element, spell_key, spell_name, spell_rule, spell_rules, spell_schema, spell_stop, spell_table, spell_tables, spell_words}
+use Rattle.wd_statements.specs.Grammar.{AreStatements, Begins, IsEnd, IsSchema, IsTable, IsUnexpected, listed, spell_constraint, spell_element, spell_key, spell_name, spell_rule, spell_rules, spell_schema, spell_stop, spell_tables, spell_words}
 use Rattle.wd_statements.specs.Reading.{Reading, ◌>>=◌, some_or, eat, expect, statement_at, stop_at, table_at}
 use Rattle.wd_statements.specs.Laws.{HasOnePlace}
-use Rattle.wd_statements.specs.Grammar.{IsUnexpected}
 use Rattle.wd_statements.specs.Written.{ElementTree, Column, Key, SchemaTree, TableTree}
 use Rattle.wd_statements.proofs.Exactness.{Agree, Before, Exact, IsRead, IsRefused}
 use Rattle.wd_statements.proofs.ReaderFacts.{push-some, tables-push}
@@ -128,32 +127,6 @@ one_schema (t ∷ ts) (u ∷ us) e f a b same =
 pub one_tree : (a b : SchemaTree) → IsSchema a → IsSchema b → spell_schema a ≡ spell_schema b → a ≡ b
 one_tree a b wa wb same = one_schema a.tables b.tables a.ended b.ended wa wb same
 
--- ---- the first statements of a schema
-
-end_cases : (rest : List TokenKind) → IsEnd rest → (stop : Bool) × (more : List TokenKind) × (rest ≡ spell_stop stop more) × (stop ≡ false → more ≡ [])
-end_cases [] is = (false, [], refl, λ e. refl)
-end_cases (k.Mark m.Semicolon ∷ more) is = (true, more, refl, λ e. absurd (true≢false e))
-end_cases (k.Mark _ ∷ more) is = absurd is
-end_cases (k.Word text ∷ more) is = absurd is
-end_cases (k.Quoted text ∷ more) is = absurd is
-end_cases (k.Literal text ∷ more) is = absurd is
-end_cases (k.Number n ∷ more) is = absurd is
-
-pub begins_front : (ts : List TableTree) (ended : Bool) → IsSchema (schema_of ts ended) → (us : List TableTree) (rest : List TokenKind) → All IsTable us → (us ≢ [] → IsEnd rest) → spell_schema (schema_of ts ended) ≡ spell_tables us rest → (more : List TableTree) × (ts ≡ us ++ more)
-begins_front ts ended whole [] rest each ends same = (ts, refl)
-begins_front [] ended whole (u ∷ []) rest each ends same = absurd (cons_nil _ _ (sym same ∙ none_spelled ended (whole.ended refl)))
-begins_front [] ended whole (u ∷ v ∷ us) rest each ends same = absurd (cons_nil _ _ (sym same ∙ none_spelled ended (whole.ended refl)))
-begins_front (t ∷ ts) ended whole (u ∷ []) rest each ends same =
-    let end = end_cases rest (ends (λ e. cons≢nil u [] e)) in
-    let first = unique_statement (t, first_stop ts ended) (u, end.0) (spell_schema (schema_of ts (next_ended ts ended))) end.1
-    (All-head IsTable t ts whole.tables) (first_may t ts ended) (All-head IsTable u [] each) end.3 (sym (first_is t ts ended) ∙ same ∙ ap (spell_table u) end.2) in
-    (ts, ap (λ x. x ∷ ts) (ap (λ (y : TableTree × Bool). y.0) first.0))
-begins_front (t ∷ ts) ended whole (u ∷ v ∷ us) rest each ends same =
-    let first = unique_statement (t, first_stop ts ended) (u, true) (spell_schema (schema_of ts (next_ended ts ended))) (spell_tables (v ∷ us) rest)
-    (All-head IsTable t ts whole.tables) (first_may t ts ended) (All-head IsTable u (v ∷ us) each) (λ e. absurd (true≢false e)) (sym (first_is t ts ended) ∙ same) in
-    let others = begins_front ts (next_ended ts ended) (next_whole t ts ended whole.tables) (v ∷ us) rest (All-tail IsTable u (v ∷ us) each) (λ some. ends (λ e. cons≢nil u (v ∷ us) e)) first.1 in
-    (others.0, ap (λ x. x ∷ ts) (ap (λ (y : TableTree × Bool). y.0) first.0) ∙ ap (λ xs. u ∷ xs) others.1)
-
 -- ---- a statement has tokens
 
 rules_longer : (ys : List ColumnRule) (after : List TokenKind) → length after ≤ length (spell_rules ys after)
@@ -199,6 +172,84 @@ statement_longer y after =
     let a : length after ≤ length (spell_stop y.1 after) = stop_longer y.1 after in
     let b : suc (length (spell_stop y.1 after)) ≤ length (listed m.Comma spell_element y.0.elements (k.Mark m.RightBracket ∷ spell_stop y.1 after)) = listed_longer spell_element element_longer y.0.elements (k.Mark m.RightBracket ∷ spell_stop y.1 after) in
     omega arith
+
+-- ---- the statements that tokens begin with
+
+end_cases : (rest : List TokenKind) → IsEnd rest → (stop : Bool) × (more : List TokenKind) × (rest ≡ spell_stop stop more) × (stop ≡ false → more ≡ [])
+end_cases [] is = (false, [], refl, λ e. refl)
+end_cases (k.Mark m.Semicolon ∷ more) is = (true, more, refl, λ e. absurd (true≢false e))
+end_cases (k.Mark _ ∷ more) is = absurd is
+end_cases (k.Word text ∷ more) is = absurd is
+end_cases (k.Quoted text ∷ more) is = absurd is
+end_cases (k.Literal text ∷ more) is = absurd is
+end_cases (k.Number n ∷ more) is = absurd is
+
+-- a semicolon stands behind the tables, or there are none
+abbrev pub MayGoOn : List TableTree → Bool → List TokenKind → Type 0
+MayGoOn tables ended rest = (tables ≢ [] → ended ≡ false → rest ≡ []) × (tables ≡ [] → ended ≡ false)
+
+-- no statement stands there
+abbrev pub IsOver : List TokenKind → Type 0
+IsOver rest = (x : TableTree × Bool) (after : List TokenKind) → WholeStatement x → MayStatement x after → rest ≡ spell_statement x after → ⊥
+
+pub nothing_over : IsOver []
+nothing_over x after whole may e = absurd (omega (arith, ap length e, statement_longer x after))
+
+pub refused_over : (rest : List TokenKind) (left : ℕ) → statement_at rest ≡ Err left → IsOver rest
+refused_over rest left e x after whole may is =
+    let refused : IsRefused spell_statement WholeStatement MayStatement rest left = subst (Exact spell_statement WholeStatement MayStatement rest) e (statement_exact rest) in
+    refused.none x after whole may (subst (Agree left (spell_statement x after)) (sym is) (agree_same left (spell_statement x after)))
+
+-- tables, their semicolon, and the rest
+abbrev onto : List TableTree → Bool → List TokenKind → List TokenKind
+onto [] ended rest = rest
+onto (table ∷ tables) ended rest = spell_tables (table ∷ tables) (spell_stop ended rest)
+
+onto_is : (tables : List TableTree) (ended : Bool) (rest : List TokenKind) → (tables ≡ [] → ended ≡ false) → spell_tables tables (spell_stop ended rest) ≡ onto tables ended rest
+onto_is [] ended rest fresh = ap (λ b. spell_stop b rest) (fresh refl)
+onto_is (table ∷ tables) ended rest fresh = refl
+
+statement_is : (table : TableTree) (tables : List TableTree) (ended : Bool) (rest : List TokenKind) → onto (table ∷ tables) ended rest ≡ spell_statement (table, first_stop tables ended) (onto tables ended rest)
+statement_is table [] ended rest = refl
+statement_is table (other ∷ tables) ended rest = refl
+
+statement_may : (table : TableTree) (tables : List TableTree) (ended : Bool) (rest : List TokenKind) → (ended ≡ false → rest ≡ []) → MayStatement (table, first_stop tables ended) (onto tables ended rest)
+statement_may table [] ended rest over = over
+statement_may table (other ∷ tables) ended rest over = λ e. absurd (true≢false e)
+
+-- tables behind which no statement stands: others that are spelled alike are the first of them
+fronts : (ts us : List TableTree) (e f : Bool) (rest more : List TokenKind) → All IsTable ts → All IsTable us → (ts ≢ [] → e ≡ false → rest ≡ []) → (f ≡ false → more ≡ []) → IsOver rest
+    → onto ts e rest ≡ onto us f more → (others : List TableTree) × (ts ≡ us ++ others)
+fronts ts [] e f rest more all each may ends over same = (ts, refl)
+fronts [] (u ∷ us) e f rest more all each may ends over same =
+    absurd (over (u, first_stop us f) (onto us f more) (All-head IsTable u us each) (statement_may u us f more ends) (same ∙ statement_is u us f more))
+fronts (t ∷ ts) (u ∷ us) e f rest more all each may ends over same =
+    let ended = may (cons≢nil t ts) in
+    let first = unique_statement (t, first_stop ts e) (u, first_stop us f) (onto ts e rest) (onto us f more)
+    (All-head IsTable t ts all) (statement_may t ts e rest ended) (All-head IsTable u us each) (statement_may u us f more ends) (sym (statement_is t ts e rest) ∙ same ∙ statement_is u us f more) in
+    let others = fronts ts us e f rest more (All-tail IsTable t ts all) (All-tail IsTable u us each) (λ some. ended) ends over first.1 in
+    (others.0, ap (λ x. x ∷ ts) (ap (λ (y : TableTree × Bool). y.0) first.0) ∙ ap (λ xs. u ∷ xs) others.1)
+
+end_of : (ended : Bool) (rest : List TokenKind) → (ended ≡ false → rest ≡ []) → IsEnd (spell_stop ended rest)
+end_of true rest over = tt
+end_of false rest over = subst IsEnd (sym (over refl)) tt
+
+pub statements_are : (kinds : List TokenKind) (tables : List TableTree) (ended : Bool) (rest : List TokenKind) → All IsTable tables → kinds ≡ spell_tables tables (spell_stop ended rest) → MayGoOn tables ended rest → IsOver rest
+    → AreStatements kinds tables
+statements_are kinds tables ended rest each spelled may over = record {
+  begins = record { rest = spell_stop ended rest; each = each; spelled = spelled; ends = λ some. end_of ended rest (may.0 some) };
+  all = all;
+}
+  where
+    all : (others : List TableTree) → Begins kinds others → (more : List TableTree) × (tables ≡ others ++ more)
+    all [] begins = (tables, refl)
+    all (u ∷ us) begins =
+        let end = end_cases begins.rest (begins.ends (cons≢nil u us)) in
+        fronts tables (u ∷ us) ended end.0 rest end.1 each begins.each may.0 end.3 over (sym (onto_is tables ended rest may.1) ∙ sym spelled ∙ begins.spelled ∙ ap (spell_tables (u ∷ us)) end.2)
+
+-- the tables of a schema are all its statements
+pub schema_statements : (tree : SchemaTree) → IsSchema tree → AreStatements (spell_schema tree) tree.tables
+schema_statements tree whole = statements_are (spell_schema tree) tree.tables tree.ended [] whole.tables refl ((λ some e. refl), whole.ended) nothing_over
 
 -- ---- what a read statement tells
 
@@ -260,10 +311,6 @@ settled_step left (t ∷ ts) ended rest x after some whole e le agree =
     (subst (λ ks. Agree left ks rest) (first_is t ts ended) agree) in
     (schema_of ts (next_ended ts ended), next_whole t ts ended whole.tables, both.1)
 
--- a semicolon stands behind the tables, or there are none
-abbrev pub MayGoOn : List TableTree → Bool → List TokenKind → Type 0
-MayGoOn tables ended rest = (tables ≢ [] → ended ≡ false → rest ≡ []) × (tables ≡ [] → ended ≡ false)
-
 -- a further statement behind the tables
 push_is : (tables : List TableTree) (ended : Bool) (rest : List TokenKind) (x : TableTree × Bool) (after : List TokenKind) → rest ≢ [] → MayGoOn tables ended rest → spell_tables tables (spell_stop ended (spell_statement x after)) ≡ spell_tables (tables ++ x.0 ∷ []) (spell_stop x.1 after)
 push_is tables ended rest x after some may =
@@ -324,3 +371,7 @@ one_place kinds p q first second = elim (cases_order p q) [
 pub kinds_some : (tokens : List Token) → (length tokens == 0) ≡ false → kinds_of tokens ≢ []
 kinds_some [] h = absurd (true≢false h)
 kinds_some (token ∷ tokens) h = λ e. cons_nil token.kind (kinds_of tokens) e
+
+pub kinds_none : (tokens : List Token) → (length tokens == 0) ≡ true → kinds_of tokens ≡ []
+kinds_none [] h = refl
+kinds_none (token ∷ tokens) h = absurd (omega (arith, eqb-true (length (token ∷ tokens)) 0 h))

@@ -1,5 +1,5 @@
 -- How a schema is spelled in tokens (this project's grammar of schemas, a part of SQL's CREATE TABLE).
-use Rattle.std.specs.Prelude.{◌≡◌, ◌≢◌, ℕ, suc, ◌≤◌, Bool, true, false, codes, List, [], ◌∷◌, All, Option, Some, None, ⊤, length, take}
+use Rattle.std.specs.Prelude.{◌≡◌, ◌≢◌, ℕ, suc, ◌≤◌, Bool, true, false, codes, List, [], ◌∷◌, ◌++◌, All, Option, Some, None, ⊤, length, take}
 use Rattle.wd_lex.specs.declared.token.Mark.{Mark}
 use Rattle.wd_lex.specs.declared.token.Mark.TheVariants as m
 use Rattle.wd_lex.specs.declared.token.TokenKind.{TokenKind}
@@ -113,6 +113,11 @@ pub record Begins (kinds : List TokenKind) (tables : List TableTree) : Type 0 wh
   pub each : All IsTable tables
   pub spelled : kinds ≡ spell_tables tables rest
   pub ends : tables ≢ [] → IsEnd rest
+
+-- the tables are all the statements that the tokens begin with: any others that they begin with are the first of these
+pub record AreStatements (kinds : List TokenKind) (tables : List TableTree) : Type 0 where
+  pub begins : Begins kinds tables
+  pub all : (others : List TableTree) → Begins kinds others → (more : List TableTree) × (tables ≡ others ++ more)
 
 -- The first place where no schema goes on: some schema has the tokens before it, and none has the token there behind them,
 -- or ends there, where it is the number of tokens.

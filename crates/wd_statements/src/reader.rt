@@ -3,9 +3,8 @@
 ghost use Rattle.std.specs.Prelude.{◌≡◌, ◌-◌, List, length, map, None, IfOk, IfSome};
 ghost use Rattle.wd_lex.specs.Lexed.{kinds_of};
 ghost use Rattle.wd_lex.specs.declared.token.TokenKind.{TokenKind as Kind};
-ghost use Rattle.wd_statements.specs.Grammar.{Begins, IsSchema, spell_schema};
+ghost use Rattle.wd_statements.specs.Grammar.{AreStatements, IsSchema, IsUnexpected, spell_schema};
 ghost use Rattle.wd_statements.specs.Reading.{Finds, Gives, Reading, begins_key, column_at, column_rule_at, constraint_at, eat, eat_word, element_at, ends_column, expect, expect_word, key_at, list_at, name_at, nulls_at, rule_at, rules_at, statement_at, stop_at, table_at, words_at};
-ghost use Rattle.wd_statements.specs.Grammar.{IsUnexpected};
 ghost use Rattle.wd_statements.specs.declared.reader.ReadError.TheVariants.{OutOfMemory};
 ghost use Rattle.wd_statements.specs.Written.{column_tree, key_tree, schema_tree, table_tree};
 
@@ -354,6 +353,7 @@ fn read_stop(tokens: &[Token]) -> Result<(bool, &[Token]), ReadError>
     let rest = expect(tokens, Mark::Semicolon)?;
     Ok((true, rest))
 }
+
 /// The tables that tokens declare.
 #[derive(Drop)]
 pub struct Statements {
@@ -364,9 +364,9 @@ pub struct Statements {
     pub unexpected: Option<u64>,
 }
 
-/// The statements of a schema, up to the first that can't be read.
+/// All statements of a schema that the tokens begin with, up to the first that can't be read.
 pub fn read_statements(alloc: Global, tokens: &[Token]) -> Result<Statements, OutOfMemory>
-    ensures begins { IfOk result (λ s. Begins (kinds_of tokens.now) (map table_tree s.tables.items)) }
+    ensures statements { IfOk result (λ s. AreStatements (kinds_of tokens.now) (map table_tree s.tables.items)) }
     ensures schema { IfOk result (λ s. s.unexpected ≡ None → IsSchema (schema_tree s.tables.items s.ended)) }
     ensures spelled { IfOk result (λ s. s.unexpected ≡ None → kinds_of tokens.now ≡ spell_schema (schema_tree s.tables.items s.ended)) }
     ensures unexpected { IfOk result (λ s. IfSome s.unexpected (IsUnexpected (kinds_of tokens.now))) }

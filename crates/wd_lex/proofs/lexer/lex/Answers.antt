@@ -7,8 +7,8 @@ returns-clause-order c = order_by (λ found. found.items) c.args.text.now c.answ
 
 pub returns-clause-refused : goal.returns-clause-refused
 returns-clause-refused c = λ refusal cause.
-    gives_by (λ found. found.items) c.args.text.now c.answer.result c.answer.ensures.readable c.answer.ensures.tokens c.answer.ensures.cause (Err refusal) cause
+    gives_by (λ found. found.items) c.args.text.now c.answer.result c.answer.ensures.tokens c.answer.ensures.cause (Err refusal) cause
 
 pub returns-clause-lexed : goal.returns-clause-lexed
-returns-clause-lexed c = λ tokens readable lexed.
-    gives_by (λ found. found.items) c.args.text.now c.answer.result c.answer.ensures.readable c.answer.ensures.tokens c.answer.ensures.cause (Ok tokens) (readable, lexed)
+returns-clause-lexed c = λ tokens lexed.
+    gives_by (λ found. found.items) c.args.text.now c.answer.result c.answer.ensures.tokens c.answer.ensures.cause (Ok tokens) lexed

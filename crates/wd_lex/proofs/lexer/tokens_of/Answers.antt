@@ -1,8 +1,8 @@
-use Rattle.std.proofs.Common.{◌-◌, length, is_ok, refl, sym, ap, subst, arith}
+use Rattle.std.proofs.Common.{◌-◌, length, is_ok, refl, sym, ap, ◌∙◌, subst, arith, eqb-true}
 use Rattle.std.proofs.ResultArms.{chosen}
 use Rattle.std.proofs.lemmas.Bool.{eqb-false}
 use Rattle.std.proofs.lemmas.Result.{err_from_is_err_and}
-use Rattle.wd_lex.proofs.Progress.{IsStep, IsReadUpTo, read_step, read_none, read_some, step_refused, rest_within}
+use Rattle.wd_lex.proofs.Progress.{IsStep, IsReadUpTo, all_read, read_step, read_none, read_some, step_refused, rest_within}
 use Rattle.wd_lex.proofs.lexer.tokens_of.Goals as goal
 use Rattle.wd_lex.proofs.lexer.tokens_of.Goals.{In_ok-kind}
 
@@ -46,3 +46,6 @@ returns-in_err-kind-clause-cause c =
     rw (given.1, given.2)
     (step_refused c.args.text.now c.loop-rest.tokens.items c.loop-rest.rest.now (length c.args.text.now - length c.loop-rest.rest.now) c.in_err-kind.field-0.0
     (record { short = c.requires; utf8 = c.utf8.text }) c.loop-rest.invariant.read refl (eqb-false (length c.loop-rest.rest.now) 0 (sym c.loop-rest-test.ensures)) c.in_err-kind.ensures)
+
+pub returns-clause-tokens : goal.returns-clause-tokens
+returns-clause-tokens c = all_read c.args.text.now c.loop-rest.tokens.items c.loop-rest.rest.now (record { short = c.requires; utf8 = c.utf8.text }) c.loop-rest.invariant.read (eqb-true (length c.loop-rest.rest.now) 0 (sym c.is_empty.ensures ∙ c.loop-rest-test.false))

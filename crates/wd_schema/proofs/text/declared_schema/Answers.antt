@@ -8,7 +8,7 @@ use Rattle.std.specs.String.{string_bytes}
 use Rattle.wd_schema.specs.Declares.{AllKeep, Keeps, table_declared}
 use Rattle.wd_schema.specs.Tables.{table_of}
 use Rattle.wd_statements.specs.Written.{TableTree, name_text, table_tree}
-use Rattle.wd_schema.proofs.SchemaFacts.{found_name, insert_new, keeps_at, keeps_more, map_push_both, table_repeats}
+use Rattle.wd_schema.proofs.SchemaFacts.{found_name, insert_new, keeps_at, keeps_more, map_push_both, named_by, table_repeats}
 use Rattle.wd_schema.proofs.text.declared_schema.Goals as goal
 
 pub returns-then-contains_key-clause-refused : goal.returns-then-contains_key-clause-refused
@@ -59,3 +59,6 @@ loop-t-preserved c =
       names = rw (entries, next) (map_push_both (λ e. string_bytes e.0) (λ (x : TableTree). name_text x.name) old (key, value) before (table_tree table) c.loop-t.invariant.names named);
       kept = λ refusal. subst (AllKeep refusal) (sym next) (keeps_more before (table_tree table) few fresh c.in_ok-declared.ensures.allowed refusal (c.loop-t.invariant.kept refusal));
     }
+
+pub invariant_of-result : goal.invariant_of-result
+invariant_of-result c = record { named = named_by c.loop-t.schema.entries (map table_tree (take c.loop-t.t c.args.tables.now)) c.loop-t.invariant.names c.loop-t.invariant.tables }

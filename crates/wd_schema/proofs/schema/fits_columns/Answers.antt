@@ -1,5 +1,0 @@
-use Rattle.wd_schema.proofs.MeetsFacts.{fits_columns-length}
-use Rattle.wd_schema.proofs.schema.fits_columns.Goals as goal
-
-pub returns-then-columns-row : goal.returns-then-columns-row
-returns-then-columns-row c = fits_columns-length c.args.columns.now c.args.row.now c.if-columns-row.true
