@@ -1,8 +1,11 @@
 -- What a plan gives under the choice that leaves rows that tie as they are, or why it gives nothing.
-use Rattle.std.specs.Prelude.{ℕ, List, None}
+use Rattle.std.specs.Prelude.{◌≡◌, ℕ, false, List, None}
 use Rattle.wd_value.specs.Rows.{Instance}
 use Rattle.wd_plan.specs.declared.plan.Outcome.{Outcome}
+use Rattle.wd_plan.specs.Choices.{IsValidChoice}
+use Rattle.wd_plan.specs.Outcomes.{RowsOrFault, outcome}
 use Rattle.wd_plan.specs.Plans.{PlanTree}
+use Rattle.wd_eval.specs.Steps.{has_large_step}
 use Rattle.wd_eval.specs.Judged.{IsOutcome}
 use Rattle.wd_eval.specs.Tied.{IsTiedChoice, IsTiedRefused}
 use Rattle.wd_eval.specs.declared.error.EvalError.{EvalError}
@@ -16,3 +19,10 @@ pub record IsRun (most : ℕ) (plan : PlanTree) (instance : Instance) (o : Outco
 -- why a plan has no outcome under that choice
 abbrev pub IsRunRefused : ℕ → PlanTree → Instance → EvalError → Type 0
 IsRunRefused most plan instance e = IsTiedRefused most plan instance None e
+
+-- an answer of a plan: its outcome under some valid choice, under which no step has more rows than this
+pub record IsAnswerWithin (most : ℕ) (plan : PlanTree) (instance : Instance) (answer : RowsOrFault) : Type 0 where
+  pub choice : List (List ℕ)
+  pub valid : IsValidChoice plan instance choice
+  pub small : has_large_step most plan instance choice ≡ false
+  pub is : answer ≡ outcome plan instance choice

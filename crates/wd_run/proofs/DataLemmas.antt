@@ -11,6 +11,7 @@ use Rattle.std.proofs.lemmas.List.Quantifiers.{all_pairs_push}
 use Rattle.std.proofs.lemmas.Slice.Eq.{bytes_eq-Decides}
 use Rattle.std.proofs.lemmas.Option.{get_or_from_slice_get, slice_get_within}
 use Rattle.wd_value.specs.Rows.{Row, Instance, table_at}
+use Rattle.wd_schema.specs.Meets.{Meets, MeetsTable}
 use Rattle.wd_schema.specs.Tables.{TableRule}
 use Rattle.wd_tables.specs.Data.{HoldsRows}
 use Rattle.wd_plan.specs.Plans.{PlanTree}
@@ -75,6 +76,13 @@ data_of-more given i g within is = ap data_of (take_more given i g within ∙ ap
 
 -- ---- one text more
 
+no_rows_meet : (table : TableRule) → MeetsTable table []
+no_rows_meet table = record { values = λ k d l. absurd (omega arith); keys = λ k d l. (λ i j e less m. absurd (omega arith)) }
+
+-- data whose rows meet each table meet the schema
+pub data_meets : (tables : List TableRule) (given : List (List ℕ × List ℕ)) (instance : Instance) → HoldsData tables given instance → Meets tables instance
+data_meets tables given instance h = record { lists = h.lists; tables = λ n table found. (h.each n table found).meets }
+
 module _ (tables : List TableRule) (differ : NamesDiffer tables) where
   -- without data there are no rows
   pub HoldsData-none : (instance : Instance) → length instance ≡ length tables → All (λ rows. rows ≡ []) instance → HoldsData tables [] instance
@@ -83,21 +91,24 @@ module _ (tables : List TableRule) (differ : NamesDiffer tables) where
     named = λ k d l. absurd (omega arith);
     once = λ i j d less l. absurd (omega arith);
     each = λ n table found. record {
+      meets = (let l : n < length instance = (let w = slice_get_within tables n table found in omega arith) in subst (MeetsTable table) (sym (none n [] l)) (no_rows_meet table));
       held = λ k d l. absurd (omega arith);
       empty = λ all. (let l : n < length instance = (let w = slice_get_within tables n table found in omega arith) in none n [] l);
     };
   }
 
   module _ (given : List (List ℕ × List ℕ)) (instance : Instance) (n : ℕ) (table : TableRule) (g : List ℕ × List ℕ) (rows : List Row)
-      (found : slice_get tables n ≡ Some table) (name_is : table.name ≡ g.0) (first : All (λ h. h.0 ≢ g.0) given) (holds : HoldsRows table g.1 rows) (before : HoldsData tables given instance) where
+      (found : slice_get tables n ≡ Some table) (name_is : table.name ≡ g.0) (first : All (λ h. h.0 ≢ g.0) given) (holds : HoldsRows table g.1 rows) (met : MeetsTable table rows) (before : HoldsData tables given instance) where
     this_table : HoldsTable table (given ++ g ∷ []) rows
     this_table = record {
+      meets = met;
       held = All-push (λ h. h.0 ≡ table.name → HoldsRows table h.1 rows) given g (λ k d l e. absurd (first k d l (e ∙ name_is))) (λ e. holds);
       empty = λ none. absurd (none (length given) g (omega (arith, length-append given (g ∷ []))) (ap (λ (h : List ℕ × List ℕ). h.0) (get_or_at given g [] g (length given) refl) ∙ sym name_is));
     }
 
     other_table : (other : TableRule) (others : List Row) → other.name ≢ table.name → HoldsTable other given others → HoldsTable other (given ++ g ∷ []) others
     other_table other others differs h = record {
+      meets = h.meets;
       held = All-push (λ h. h.0 ≡ other.name → HoldsRows other h.1 others) given g h.held (λ e. absurd (differs (sym e ∙ sym name_is)));
       empty = λ none. h.empty (λ k d l. subst (λ (h : List ℕ × List ℕ). h.0 ≢ other.name) (get_or_append_left given (g ∷ []) d k l) (none k d (omega (arith, length-append given (g ∷ [])))));
     }

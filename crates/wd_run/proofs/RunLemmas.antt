@@ -37,7 +37,7 @@ module _ (schema query : List ℕ) (given : List (List ℕ × List ℕ)) (tables
     instance = gives.instance;
     has_data = gives.has_data;
     data_holds = gives.data_holds;
-    answers = record { choice = gives.ran.choice; valid = gives.ran.outcome.valid; is = gives.ran.outcome.is };
+    answers = record { choice = gives.ran.choice; valid = gives.ran.outcome.valid; small = gives.ran.outcome.small; is = gives.ran.outcome.is };
     named = refl;
   }
 

@@ -1,10 +1,14 @@
--- The law of texts that have a meaning, over the definitions alone.
+-- Laws of texts and of data, over the definitions alone.
 use Rattle.std.specs.Prelude.{ℕ, List, IsSome}
+use Rattle.wd_value.specs.Rows.{Instance}
 use Rattle.wd_syntax.specs.Limits.{KeepsLimits}
+use Rattle.wd_schema.specs.Meets.{Meets}
 use Rattle.wd_schema.specs.Refusals as tables
+use Rattle.wd_schema.specs.Tables.{TableRule}
 use Rattle.wd_resolve.specs.Answers.{Answer}
 use Rattle.wd_resolve.specs.Laws.{Reads}
 use Rattle.wd_run.specs.Causes.{HasCause, query_number}
+use Rattle.wd_run.specs.Runs.{HoldsData}
 use Rattle.wd_run.specs.declared.error.RunError.{RunError}
 use Rattle.wd_run.specs.declared.error.RunError.TheVariants as run
 
@@ -22,6 +26,10 @@ RefusesTexts (run.Given name) = ⊥
 RefusesTexts (run.Data name error) = ⊥
 RefusesTexts (run.Evaluation error) = ⊥
 RefusesTexts run.OutOfMemory = ⊥
+
+-- The rows that data holds meet the schema: an instance of `run` is one.
+abbrev pub DataMeets : Type 0
+DataMeets = (tables : List TableRule) (given : List (List ℕ × List ℕ)) (instance : Instance) → HoldsData tables given instance → Meets tables instance
 
 -- Texts that have a meaning are refused for nothing that stands in them, on the whole way from their bytes to the plan.
 abbrev pub HasMeaningOrCause : Type 0

@@ -3,10 +3,12 @@ use Rattle.std.specs.Prelude.{◌≡◌, ◌≢◌, ℕ, List, [], ◌∷◌, �
 use Rattle.std.specs.Borrow.{Bor}
 use Rattle.std.specs.List.{list_any}
 use Rattle.wd_value.specs.Rows.{Row, Instance, table_at}
+use Rattle.wd_schema.specs.Meets.{MeetsTable}
 use Rattle.wd_schema.specs.Tables.{TableRule}
-use Rattle.wd_plan.specs.Choices.{IsAnswerOf}
 use Rattle.wd_plan.specs.Outcomes.{RowsOrFault}
 use Rattle.wd_plan.specs.Plans.{PlanTree, Scan, Join, Filter, Map, Window, Distinct, Limit}
+use Rattle.wd_eval.specs.Runs.{IsAnswerWithin}
+use Rattle.wd_eval.specs.Steps.{most_rows}
 use Rattle.wd_tables.specs.Data.{HoldsRows}
 use Rattle.wd_resolve.specs.Answers.{Answer}
 use Rattle.wd_resolve.specs.Laws.{Reads}
@@ -27,8 +29,9 @@ pub record IsNamed (tables : List TableRule) (name : List ℕ) (number : ℕ) : 
   pub found : slice_get tables number ≡ Some table
   pub name_is : table.name ≡ name
 
--- a text that is given under the table's name holds the rows, and without one there are none
+-- a text that is given under the table's name holds the rows, and without one there are none; the rows meet the table
 pub record HoldsTable (table : TableRule) (given : List (List ℕ × List ℕ)) (rows : List Row) : Type 0 where
+  pub meets : MeetsTable table rows
   pub held : All (λ g. g.0 ≡ table.name → HoldsRows table g.1 rows) given
   pub empty : All (λ g. g.0 ≢ table.name) given → rows ≡ []
 
@@ -70,12 +73,13 @@ HasData tables given plan = (number : ℕ) → HasDataAt tables given plan numbe
 -- ---- answers
 
 -- The plan and the names read the schema's text and the query's text, each table that the plan scans has data, the data holds
--- the instance, and the answer is one of the plan over it: its outcome under some valid choice of orderings.
+-- the instance, and the answer is one of the plan over it: its outcome under some valid choice of orderings, under which no
+-- step is larger than allowed.
 pub record IsAnswer (schema query : List ℕ) (given : List (List ℕ × List ℕ)) (names : List (List ℕ)) (answer : RowsOrFault) : Type 0 where
   pub read : Answer
   pub reads : Reads schema query read
   pub instance : Instance
   pub has_data : HasData reads.tables given read.plan
   pub data_holds : HoldsData reads.tables given instance
-  pub answers : IsAnswerOf read.plan instance answer
+  pub answers : IsAnswerWithin most_rows read.plan instance answer
   pub named : names ≡ read.names

@@ -4,6 +4,7 @@ ghost use Rattle.std.specs.Prelude.{◌≡◌, ◌<◌, [], ◌∷◌, ◌++◌,
 ghost use Rattle.std.specs.List.{list_any};
 ghost use Rattle.std.specs.Str.{bytes_eq};
 ghost use Rattle.wd_plan.specs.Plans.{plan_of};
+ghost use Rattle.wd_schema.specs.Meets.{MeetsTable};
 ghost use Rattle.wd_schema.specs.Schemas.{schema_of};
 ghost use Rattle.wd_schema.specs.Tables.{table_of};
 ghost use Rattle.wd_tables.specs.Data.{HoldsRows};
@@ -103,6 +104,7 @@ fn find_table<'a>(schema: &'a Schema, name: &str) -> Option<(usize, &'a Table)>
 
 fn load_table(alloc: Global, table: &Table, text: &[u8]) -> Result<Vec<Row>, RunError>
     ensures held { IfOk result (λ v. HoldsRows (table_of table.now) text.now (rows_of v.items)) }
+    ensures meets { IfOk result (λ v. MeetsTable (table_of table.now) (rows_of v.items)) }
     ensures refused { IfErr result (λ e. RefusesRows (table_of table.now) text.now e) }
 {
     match load(alloc, table, text) {

@@ -24,7 +24,7 @@ returns-clause-holds c =
     let found : FindsTable tables name n table = c.in-Some.ensures.found in
     let first : All (λ h. h.0 ≢ name) (data_of earlier) = none_given name earlier (sym c.is_given.ensures ∙ c.if-is_given.false) in
     let holds : HoldsRows table text (rows_of rows.items) = c.in_ok-rows.ensures.held in
-    let more = HoldsData-more tables c.requires.differ (data_of earlier) (instance_of items) n table (name, text) (rows_of rows.items) found.0 found.1 first holds c.requires.held in
+    let more = HoldsData-more tables c.requires.differ (data_of earlier) (instance_of items) n table (name, text) (rows_of rows.items) found.0 found.1 first holds c.in_ok-rows.ensures.meets c.requires.held in
     subst (HoldsData tables (data_of earlier ++ (name, text) ∷ [])) (sym (map-set (λ t. rows_of t.items) items n rows)) more
 
 -- the name was given before
