@@ -1,0 +1,63 @@
+//! What earlier lines gave: a schema, data of tables, and what was met over the schema since.
+use crate::escape::unescaped;
+use crate::failure::Failure;
+use std::alloc::Global;
+use wd_plan::Expr;
+use wd_schema::{Schema, read_schema};
+use wd_scope::Calls;
+use wd_value::Text;
+
+/// The data under a name, which may be a table's.
+#[derive(Drop)]
+pub struct NamedData {
+    pub name: Text,
+    pub text: Vec<u8>,
+}
+
+#[derive(Drop)]
+pub struct Given {
+    /// The text of the schema.
+    pub schema: Vec<u8>,
+    pub data: Vec<NamedData>,
+    /// The window calls that were met.
+    pub calls: Calls,
+    /// The expressions that were needed.
+    pub inputs: Vec<Expr>,
+}
+
+impl Given {
+    /// The schema without tables, and no data.
+    pub fn new(alloc: Global) -> Given {
+        Given {
+            schema: Vec::new(alloc),
+            data: Vec::new(alloc),
+            calls: Calls::new(alloc),
+            inputs: Vec::new(alloc),
+        }
+    }
+
+    /// `schema TEXT`: from here on the schema is this one, there is no data, and nothing is met yet.
+    pub fn set_schema(&mut self, alloc: Global, text: &str) -> Result<String, Failure> {
+        *self = Given::new(alloc);
+        self.schema = unescaped(alloc, text)?;
+        let tables = self.tables(alloc)?.tables.len();
+        Ok(format!(in alloc; "tables: {tables}")?)
+    }
+
+    pub fn tables(&self, alloc: Global) -> Result<Schema, Failure> {
+        Ok(read_schema(alloc, &self.schema)?)
+    }
+
+    /// `data NAME TEXT` is further data, and `data` alone takes all data away.
+    pub fn add_data(&mut self, alloc: Global, text: &str) -> Result<String, Failure> {
+        match text.split_once(' ') {
+            Some((name, text)) => self.data.push(NamedData {
+                name: Text::from_str(alloc, name)?,
+                text: unescaped(alloc, text)?,
+            })?,
+            None => self.data.clear(),
+        }
+        let count = self.data.len();
+        Ok(format!(in alloc; "given: {count}")?)
+    }
+}

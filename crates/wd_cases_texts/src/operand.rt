@@ -1,0 +1,167 @@
+//! What wd_operand makes of operands. An operand is written as one to four words with a blank between two of them: a literal
+//! (`5`, `TRUE`, `NULL`) or a column with its kind (`#3:Text`), or a sign, an operator, a test or a CASE over such.
+use crate::failure::Failure;
+use std::alloc::Global;
+use wd_operand::{
+    CaseArm, Meaning, case_of, combined, copy_expression, literal, negated, same_expression,
+    same_kind, signed, signed_number, tested,
+};
+use wd_plan::{Expr, ValueKind};
+use wd_syntax::{Literal, Operator, Sign};
+
+fn kind_named(word: &str) -> Result<ValueKind, Failure> {
+    match word {
+        "Number" => Ok(ValueKind::Number),
+        "Text" => Ok(ValueKind::Text),
+        "Truth" => Ok(ValueKind::Truth),
+        _ => Err(Failure::NoCase),
+    }
+}
+
+fn number_of(word: &str) -> Result<u64, Failure> {
+    word.parse().map_err(|_| Failure::NoCase)
+}
+
+/// The column of a number, with its kind.
+fn column(alloc: Global, word: &str) -> Result<Meaning, Failure> {
+    let (number, kind) = word.split_once(':').ok_or(Failure::NoCase)?;
+    let number = number.parse().map_err(|_| Failure::NoCase)?;
+    let kind = kind_named(kind)?;
+    Ok(Meaning::typed(alloc, Expr::Column(number), kind)?)
+}
+
+/// What a word stands for.
+fn meaning(alloc: Global, word: &str) -> Result<Meaning, Failure> {
+    if let Some(column_word) = word.strip_prefix('#') {
+        return column(alloc, column_word);
+    }
+    let written = match word {
+        "TRUE" => Literal::Truth(true),
+        "FALSE" => Literal::Truth(false),
+        "NULL" => Literal::Null,
+        _ => Literal::Number(number_of(word)?),
+    };
+    Ok(literal(alloc, &written)?)
+}
+
+fn sign_named(word: &str) -> Option<Sign> {
+    match word {
+        "+" => Some(Sign::Plus),
+        "-" => Some(Sign::Minus),
+        _ => None,
+    }
+}
+
+/// `- 5` is a sign over an operand, and `NOT NULL` a NOT.
+fn over_one(alloc: Global, word: &str, operand: &str) -> Result<Meaning, Failure> {
+    let operand = meaning(alloc, operand)?;
+    match sign_named(word) {
+        Some(sign) => Ok(signed(alloc, sign, operand)?),
+        None if word == "NOT" => Ok(negated(alloc, operand)?),
+        None => Err(Failure::NoCase),
+    }
+}
+
+fn operator_named(word: &str) -> Result<Operator, Failure> {
+    match word {
+        "OR" => Ok(Operator::Or),
+        "=" => Ok(Operator::Equal),
+        "<" => Ok(Operator::Less),
+        "+" => Ok(Operator::Add),
+        _ => Err(Failure::NoCase),
+    }
+}
+
+/// `NULL = 5` is an operator between operands, `NULL IS NULL` and `NULL IS NOT-NULL` are tests, and `sign - 5` is a number
+/// behind its sign.
+fn over_two(alloc: Global, left: &str, word: &str, right: &str) -> Result<Meaning, Failure> {
+    if left == "sign" {
+        let sign = sign_named(word).ok_or(Failure::NoCase)?;
+        return Ok(signed_number(alloc, sign, number_of(right)?)?);
+    }
+    let left = meaning(alloc, left)?;
+    if word == "IS" {
+        return Ok(tested(alloc, right == "NOT-NULL", left)?);
+    }
+    let operator = operator_named(word)?;
+    Ok(combined(alloc, operator, left, meaning(alloc, right)?)?)
+}
+
+/// `CASE when gives otherwise`
+fn case(alloc: Global, when: &str, gives: &str, otherwise: &str) -> Result<Meaning, Failure> {
+    let when = meaning(alloc, when)?;
+    let gives = meaning(alloc, gives)?;
+    let mut arms = Vec::new(alloc);
+    arms.push(CaseArm { when, gives })?;
+    Ok(case_of(alloc, arms, meaning(alloc, otherwise)?)?)
+}
+
+fn meant(alloc: Global, text: &str) -> Result<Meaning, Failure> {
+    let words = text.split(' ').collect::<Vec<&str>>(alloc)?;
+    match words.as_slice() {
+        [word] => meaning(alloc, word),
+        [word, operand] => over_one(alloc, word, operand),
+        [left, word, right] => over_two(alloc, left, word, right),
+        ["CASE", when, gives, otherwise] => case(alloc, when, gives, otherwise),
+        _ => Err(Failure::NoCase),
+    }
+}
+
+/// The expression that an operand means, of a kind where ` of_kind KIND` stands behind it.
+fn expression_of(alloc: Global, text: &str) -> Result<Expr, Failure> {
+    match text.split_once(" of_kind ") {
+        Some((operand, kind)) => {
+            let operand = meant(alloc, operand)?;
+            let expression = operand.of_kind(alloc, kind_named(kind)?)?;
+            Ok(Box::into_inner(expression))
+        }
+        None => Ok(meant(alloc, text)?.settled()),
+    }
+}
+
+/// `number N`: the number where it fits 64 bits with a sign.
+pub fn number(alloc: Global, text: &str) -> Result<String, Failure> {
+    let number = wd_operand::number(number_of(text)?)?;
+    Ok(number.to_string(alloc)?)
+}
+
+/// `operand OPERAND`
+pub fn operand(alloc: Global, text: &str) -> Result<String, Failure> {
+    let meaning = meant(alloc, text)?;
+    Ok(format!(in alloc; "{meaning:?}")?)
+}
+
+/// `expression OPERAND [of_kind KIND]`
+pub fn expression(alloc: Global, text: &str) -> Result<String, Failure> {
+    let expression = expression_of(alloc, text)?;
+    Ok(format!(in alloc; "{expression:?}")?)
+}
+
+/// `kind OPERAND`
+pub fn kind(alloc: Global, text: &str) -> Result<String, Failure> {
+    let kind = meant(alloc, text)?.kind();
+    Ok(format!(in alloc; "{kind:?}")?)
+}
+
+/// `same_kind KIND KIND`
+pub fn kinds_are_same(alloc: Global, text: &str) -> Result<String, Failure> {
+    let (one, other) = text.split_once(' ').ok_or(Failure::NoCase)?;
+    let same = same_kind(kind_named(one)?, kind_named(other)?);
+    Ok(same.to_string(alloc)?)
+}
+
+/// `same_expression EXPRESSION ; EXPRESSION`
+pub fn expressions_are_same(alloc: Global, text: &str) -> Result<String, Failure> {
+    let (one, other) = text.split_once(" ; ").ok_or(Failure::NoCase)?;
+    let one = expression_of(alloc, one)?;
+    let other = expression_of(alloc, other)?;
+    Ok(same_expression(&one, &other).to_string(alloc)?)
+}
+
+/// `copy_expression EXPRESSION`: a copy, and whether it is the same expression.
+pub fn copied(alloc: Global, text: &str) -> Result<String, Failure> {
+    let expression = expression_of(alloc, text)?;
+    let copy = copy_expression(alloc, &expression)?;
+    let same = same_expression(&expression, &copy);
+    Ok(format!(in alloc; "{copy:?}, same: {same}")?)
+}

@@ -1,0 +1,104 @@
+use crate::failure::Failure;
+use crate::token::tokens_of;
+use std::alloc::{AllocError, Global};
+use wd_parse::{Alias, Expr, Item, Link, Literal, Quantifier, Query, Select, parse};
+
+/// The tree of a query.
+pub fn query_of(alloc: Global, text: &str) -> Result<Query, Failure> {
+    let tokens = tokens_of(alloc, text)?;
+    Ok(parse(alloc, &tokens)?)
+}
+
+/// The expression that stands first in a select list.
+pub fn first_expression(select: &Select) -> Result<&Expr, Failure> {
+    match select.items.first() {
+        Some(Item::Expr(tree, _)) => Ok(tree),
+        _ => Err(Failure::NoCase),
+    }
+}
+
+/// `query TEXT`: whether it is read, or why not.
+pub fn query(alloc: Global, text: &str) -> Result<String, Failure> {
+    let tokens = tokens_of(alloc, text)?;
+    match parse(alloc, &tokens) {
+        Ok(_) => Ok(String::from_str(alloc, "read")?),
+        Err(error) => Failure::from(error).explained(alloc, &error),
+    }
+}
+
+/// `items TEXT`: the trees of a query's select list, each chain of operators or of tests in square brackets.
+pub fn items(alloc: Global, text: &str) -> Result<String, Failure> {
+    let query = query_of(alloc, text)?;
+    let mut out = String::new(alloc);
+    out.push_str(match query.select.quantifier {
+        None => "",
+        Some(Quantifier::All) => "ALL ",
+        Some(Quantifier::Distinct) => "DISTINCT ",
+    })?;
+    for (place, item) in query.select.items.iter().enumerate() {
+        out.push_str(if place > 0 { ", " } else { "" })?;
+        push_item(&mut out, item)?;
+    }
+    out.push_str(if query.semicolon { ";" } else { "" })?;
+    Ok(out)
+}
+
+fn push_item(out: &mut String, item: &Item) -> Result<(), AllocError> {
+    match item {
+        Item::All => out.push('*'),
+        Item::AllOf(table) => {
+            let table = table.text.as_str();
+            write!(out, "{table}.*")
+        }
+        Item::Expr(tree, alias) => {
+            push_expression(tree, out)?;
+            push_alias(out, alias)
+        }
+    }
+}
+
+fn push_alias(out: &mut String, alias: &Option<Alias>) -> Result<(), AllocError> {
+    let Some(alias) = alias else {
+        return Ok(());
+    };
+    let word = if alias.with_as { " AS" } else { "" };
+    let quote = if alias.name.quoted { "\"" } else { "" };
+    let name = alias.name.text.as_str();
+    write!(out, "{word} {quote}{name}{quote}")
+}
+
+/// Chains, tests, brackets, numbers and columns; of another expression that it is one.
+fn push_expression(tree: &Expr, out: &mut String) -> Result<(), AllocError> {
+    match tree {
+        Expr::Literal(Literal::Number(number)) => write!(out, "{number}"),
+        Expr::Column(name) => out.push_str(name.text.as_str()),
+        Expr::Bracket(inside) => {
+            out.push('(')?;
+            push_expression(inside, out)?;
+            out.push(')')
+        }
+        Expr::Chain(first, links) => {
+            out.push('[')?;
+            push_expression(first, out)?;
+            for Link { operator, operand } in links {
+                write!(out, " {operator:?} ")?;
+                push_expression(operand, out)?;
+            }
+            out.push(']')
+        }
+        Expr::Tests(operand, nots) => {
+            out.push('[')?;
+            push_expression(operand, out)?;
+            push_tests(out, nots)?;
+            out.push(']')
+        }
+        _ => out.push_str("other"),
+    }
+}
+
+fn push_tests(out: &mut String, nots: &[bool]) -> Result<(), AllocError> {
+    for not in nots {
+        out.push_str(if *not { " IS NOT NULL" } else { " IS NULL" })?;
+    }
+    Ok(())
+}
