@@ -1,7 +1,7 @@
 //! What earlier lines gave: a schema, data of tables, and what was met over the schema since.
-use crate::escape::unescaped;
-use crate::failure::Failure;
+use crate::refusal::of_schema;
 use std::alloc::Global;
+use wd_cases::{Failure, unescaped};
 use wd_plan::Expr;
 use wd_schema::{Schema, read_schema};
 use wd_scope::Calls;
@@ -38,14 +38,15 @@ impl Given {
 
     /// `schema TEXT`: from here on the schema is this one, there is no data, and nothing is met yet.
     pub fn set_schema(&mut self, alloc: Global, text: &str) -> Result<String, Failure> {
-        *self = Given::new(alloc);
-        self.schema = unescaped(alloc, text)?;
+        let mut given = Given::new(alloc);
+        given.schema = unescaped(alloc, text)?;
+        *self = given;
         let tables = self.tables(alloc)?.tables.len();
         Ok(format!(in alloc; "tables: {tables}")?)
     }
 
     pub fn tables(&self, alloc: Global) -> Result<Schema, Failure> {
-        Ok(read_schema(alloc, &self.schema)?)
+        read_schema(alloc, &self.schema).map_err(of_schema)
     }
 
     /// `data NAME TEXT` is further data, and `data` alone takes all data away.
@@ -59,5 +60,11 @@ impl Given {
         }
         let count = self.data.len();
         Ok(format!(in alloc; "given: {count}")?)
+    }
+
+    /// `met`: how many window calls were met.
+    pub fn met(&self, alloc: Global) -> Result<String, Failure> {
+        let count = self.calls.list.len();
+        Ok(format!(in alloc; "met: {count}")?)
     }
 }

@@ -1,8 +1,8 @@
 //! What the calls of wd_phrase give at the front of a text's tokens, and how many tokens are left behind it.
-use crate::failure::Failure;
 use crate::token::tokens_of;
 use std::alloc::Global;
 use std::fmt::Debug;
+use wd_cases::Failure;
 use wd_lex::{Mark, Token, TokenKind};
 use wd_phrase::{
     Refusal, direction_at, eat, eat_name, expect, frame_at, limits_at, name_at, nulls_at,

@@ -1,9 +1,9 @@
 //! What expressions, windows and sort keys mean over the columns of the schema's tables.
-use crate::escape::text_of;
-use crate::failure::Failure;
 use crate::given::Given;
+use crate::refusal::of_meaning;
 use crate::tree::{first_expression, query_of};
 use std::alloc::Global;
+use wd_cases::Failure;
 use wd_operand::Meaning;
 use wd_plan::ValueKind;
 use wd_schema::Table;
@@ -63,7 +63,7 @@ pub fn select_of(alloc: Global, words: &str) -> Result<Select, Failure> {
 /// `has_table NAME`
 pub fn has_table(alloc: Global, given: &Given, text: &str) -> Result<String, Failure> {
     let scope = scope_of(alloc, given)?;
-    let name = Text::new(text_of(alloc, text)?);
+    let name = Text::from_str(alloc, text)?;
     Ok(scope.has_table(&name).to_string(alloc)?)
 }
 
@@ -71,7 +71,8 @@ pub fn has_table(alloc: Global, given: &Given, text: &str) -> Result<String, Fai
 pub fn plain(alloc: Global, given: &Given, text: &str) -> Result<String, Failure> {
     let select = select_of(alloc, text)?;
     let scope = scope_of(alloc, given)?;
-    let meaning = wd_scope::plain(alloc, &scope, first_expression(&select)?)?;
+    let meaning = wd_scope::plain(alloc, &scope, first_expression(&select)?);
+    let meaning = meaning.map_err(of_meaning)?;
     Ok(format!(in alloc; "{meaning:?}")?)
 }
 
@@ -79,7 +80,8 @@ pub fn plain(alloc: Global, given: &Given, text: &str) -> Result<String, Failure
 pub fn condition(alloc: Global, given: &Given, text: &str) -> Result<String, Failure> {
     let select = select_of(alloc, text)?;
     let scope = scope_of(alloc, given)?;
-    let condition = wd_scope::condition(alloc, &scope, first_expression(&select)?)?;
+    let condition = wd_scope::condition(alloc, &scope, first_expression(&select)?);
+    let condition = condition.map_err(of_meaning)?;
     Ok(format!(in alloc; "{condition:?}")?)
 }
 
@@ -101,7 +103,7 @@ fn in_list(
         windows: &[],
         calls_allowed: true,
     };
-    Ok(wd_scope::resolved(alloc, &context, tree, calls)?)
+    wd_scope::resolved(alloc, &context, tree, calls).map_err(of_meaning)
 }
 
 /// `resolved EXPRESSION`: what it means in a select list, after the calls that were met before it.
@@ -117,7 +119,7 @@ pub fn windows(alloc: Global, given: &Given, text: &str) -> Result<String, Failu
     let words = format!(in alloc; "WINDOW {text}")?;
     let select = select_behind(alloc, words.as_str())?;
     let scope = scope_of(alloc, given)?;
-    let windows = all_defined(alloc, &scope, &select.windows)?;
+    let windows = all_defined(alloc, &scope, &select.windows).map_err(of_meaning)?;
     let mut out = String::new(alloc);
     for window in &windows {
         push_window(&mut out, window)?;
@@ -128,7 +130,7 @@ pub fn windows(alloc: Global, given: &Given, text: &str) -> Result<String, Failu
 /// A window's name, whether it has a frame, and its sort keys, which are those of what is shared of it.
 fn push_window(out: &mut String, known: &KnownWindow) -> Result<(), Failure> {
     let name = known.name.as_str();
-    let shared = known.window.share()?;
+    let shared = known.window.share().map_err(of_meaning)?;
     let framed = if known.window.framed { ", framed" } else { "" };
     let (keys, again) = (known.window.order.len(), shared.order.len());
     write!(out, "{name}{framed}, keys: {keys}, shared: {again}; ")?;
@@ -142,10 +144,4 @@ pub fn sort_key(alloc: Global, text: &str) -> Result<String, Failure> {
     let written = select.order.first().ok_or(Failure::NoCase)?;
     let key = wd_scope::sort_key(written.direction, written.nulls);
     Ok(format!(in alloc; "{key:?}")?)
-}
-
-/// `calls`: how many window calls were met.
-pub fn met_calls(alloc: Global, given: &Given) -> Result<String, Failure> {
-    let count = given.calls.list.len();
-    Ok(format!(in alloc; "met: {count}")?)
 }

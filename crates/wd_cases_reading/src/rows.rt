@@ -1,14 +1,12 @@
-//! Data of tables, and queries over them.
+//! The rows of a table from its text, and the text of an answer.
 use crate::cell::rows_of;
-use crate::escape::{in_one_line, text_of, unescaped};
-use crate::failure::Failure;
-use crate::given::{Given, NamedData};
+use crate::given::Given;
+use crate::refusal::of_rows;
 use std::alloc::Global;
-use wd_plan::Outcome;
-use wd_run::{Origin, RunError};
+use wd_cases::{Failure, in_one_line, text_of, unescaped};
 use wd_schema::Table;
 use wd_tables::{DataError, answer_text, load};
-use wd_value::{Fault, Row, Text, Value};
+use wd_value::{Row, Text, Value};
 
 fn names_of(alloc: Global, table: &Table) -> Result<Vec<Text>, Failure> {
     let mut names = Vec::new(alloc);
@@ -36,7 +34,7 @@ fn loaded_into(
             Ok(format!(in alloc; "rows: {count}")?)
         }
         Ok(rows) => answered(alloc, &names_of(alloc, table)?, &rows),
-        Err(error) => Err(Failure::from(&error)),
+        Err(error) => Err(of_rows(&error)),
     }
 }
 
@@ -57,7 +55,7 @@ pub fn explained(alloc: Global, given: &Given, text: &str) -> Result<String, Fai
     let text = unescaped(alloc, text)?;
     match load(alloc, table, &text) {
         Ok(_) => Ok(String::from_str(alloc, "loaded")?),
-        Err(error) => Failure::from(&error).explained(alloc, &error),
+        Err(error) => of_rows(&error).explained(alloc, &error),
     }
 }
 
@@ -80,46 +78,5 @@ pub fn answer(alloc: Global, text: &str) -> Result<String, Failure> {
     match rows.split_first() {
         Some((names, rows)) => answered(alloc, &names_in(alloc, names)?, rows),
         None => Err(Failure::NoCase),
-    }
-}
-
-fn fault_name(fault: Fault) -> &'static str {
-    match fault {
-        Fault::DivisionByZero => "fault F1",
-        Fault::OutOfRange => "fault F2",
-    }
-}
-
-fn refused(alloc: Global, error: &RunError) -> Result<String, Failure> {
-    let failure = Failure::Refused {
-        number: error.number(),
-        place: error.place(),
-    };
-    let shown = failure.shown(alloc)?;
-    Ok(match error.origin() {
-        Origin::Schema => format!(in alloc; "schema {shown}")?,
-        Origin::Query => format!(in alloc; "query {shown}")?,
-        Origin::Data(name) => format!(in alloc; "data {name} {shown}")?,
-        Origin::Run => format!(in alloc; "run {shown}")?,
-    })
-}
-
-/// The data, as names and texts.
-fn pairs(alloc: Global, data: &[NamedData]) -> Result<Vec<(&str, &[u8])>, Failure> {
-    let mut pairs = Vec::new(alloc);
-    for NamedData { name, text } in data {
-        pairs.push((name.as_str(), text.as_slice()))?;
-    }
-    Ok(pairs)
-}
-
-/// `run QUERY`: its answer over the schema and the data, its fault or its refusal.
-pub fn ran(alloc: Global, given: &Given, text: &str) -> Result<String, Failure> {
-    let query = unescaped(alloc, text)?;
-    let data = pairs(alloc, &given.data)?;
-    match wd_run::run(alloc, &given.schema, &query, &data) {
-        Ok((names, Outcome::Rows(rows))) => answered(alloc, &names, &rows),
-        Ok((_, Outcome::Fault(fault))) => Ok(String::from_str(alloc, fault_name(fault))?),
-        Err(error) => refused(alloc, &error),
     }
 }

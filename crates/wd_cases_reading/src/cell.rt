@@ -1,7 +1,7 @@
 //! Rows as a line writes them: a `|` ends a table, a `;` a row, and a blank stands between two values, which are written
 //! `null`, `true`, `7` and `'text'`.
-use crate::failure::Failure;
 use std::alloc::Global;
+use wd_cases::Failure;
 use wd_value::{Instance, Row, Text, Value};
 
 pub fn instance_of(alloc: Global, text: &str) -> Result<Instance, Failure> {
@@ -41,6 +41,6 @@ fn value_of(alloc: Global, cell: &str) -> Result<Value, Failure> {
 }
 
 /// What stands between single quotes.
-pub fn unquoted(cell: &str) -> Option<&str> {
+fn unquoted(cell: &str) -> Option<&str> {
     cell.strip_prefix('\'')?.strip_suffix('\'')
 }

@@ -1,6 +1,6 @@
-use crate::failure::Failure;
 use crate::token::tokens_of;
 use std::alloc::{AllocError, Global};
+use wd_cases::Failure;
 use wd_statements::{
     ColumnRule, Element, KeyWords, Name, Nulls, Rule, Statements, WrittenColumn, WrittenKey,
     WrittenTable, read_statements,

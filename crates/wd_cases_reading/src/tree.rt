@@ -1,20 +1,13 @@
-use crate::failure::Failure;
+use crate::refusal::of_tree;
 use crate::token::tokens_of;
 use std::alloc::{AllocError, Global};
-use wd_parse::{Alias, Expr, Item, Link, Literal, Quantifier, Query, Select, parse};
+use wd_cases::Failure;
+use wd_parse::{Alias, Expr, Item, Link, Literal, Quantifier, Query, parse};
 
 /// The tree of a query.
-pub fn query_of(alloc: Global, text: &str) -> Result<Query, Failure> {
+fn query_of(alloc: Global, text: &str) -> Result<Query, Failure> {
     let tokens = tokens_of(alloc, text)?;
-    Ok(parse(alloc, &tokens)?)
-}
-
-/// The expression that stands first in a select list.
-pub fn first_expression(select: &Select) -> Result<&Expr, Failure> {
-    match select.items.first() {
-        Some(Item::Expr(tree, _)) => Ok(tree),
-        _ => Err(Failure::NoCase),
-    }
+    parse(alloc, &tokens).map_err(of_tree)
 }
 
 /// `query TEXT`: whether it is read, or why not.
@@ -22,7 +15,7 @@ pub fn query(alloc: Global, text: &str) -> Result<String, Failure> {
     let tokens = tokens_of(alloc, text)?;
     match parse(alloc, &tokens) {
         Ok(_) => Ok(String::from_str(alloc, "read")?),
-        Err(error) => Failure::from(error).explained(alloc, &error),
+        Err(error) => of_tree(error).explained(alloc, &error),
     }
 }
 

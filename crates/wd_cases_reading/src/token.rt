@@ -1,16 +1,12 @@
-use crate::escape::unescaped;
-use crate::failure::Failure;
+use crate::refusal::of_tokens;
 use std::alloc::{AllocError, Global};
-use wd_lex::{LexError, Span, Token, TokenKind, lex};
-use wd_operand::ResolveError;
-use wd_parse::ParseError;
-use wd_schema::SchemaError;
-use wd_tables::DataError;
+use wd_cases::{Failure, unescaped};
+use wd_lex::{Span, Token, TokenKind, lex};
 
 /// The tokens of a text.
 pub fn tokens_of(alloc: Global, text: &str) -> Result<Vec<Token>, Failure> {
     let text = unescaped(alloc, text)?;
-    Ok(lex(alloc, &text)?)
+    lex(alloc, &text).map_err(of_tokens)
 }
 
 /// `tokens TEXT`: each token as `kind@start..end`, or why there are none.
@@ -18,7 +14,7 @@ pub fn tokens(alloc: Global, text: &str) -> Result<String, Failure> {
     let text = unescaped(alloc, text)?;
     match lex(alloc, &text) {
         Ok(tokens) => Ok(listed(alloc, &tokens)?),
-        Err(error) => Failure::from(error).explained(alloc, &error),
+        Err(error) => of_tokens(error).explained(alloc, &error),
     }
 }
 
@@ -49,22 +45,4 @@ fn push_kind(out: &mut String, kind: &TokenKind) -> Result<(), AllocError> {
     };
     out.push_str(word)?;
     out.push_str(text.as_str())
-}
-
-/// `memory WORD`: the number, the place and the message of the want of memory that a call answers.
-pub fn want_of_memory(alloc: Global, word: &str) -> Result<String, Failure> {
-    match word {
-        "lex" => {
-            let error = LexError::OutOfMemory;
-            Failure::from(error).explained(alloc, &error)
-        }
-        "parse" => {
-            let error = ParseError::OutOfMemory;
-            Failure::from(error).explained(alloc, &error)
-        }
-        "read_schema" => Err(Failure::from(SchemaError::OutOfMemory)),
-        "load" => Err(Failure::from(&DataError::OutOfMemory)),
-        "resolve" => Err(Failure::from(ResolveError::OutOfMemory)),
-        _ => Err(Failure::NoCase),
-    }
 }

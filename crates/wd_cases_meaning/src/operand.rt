@@ -1,7 +1,8 @@
 //! What wd_operand makes of operands. An operand is written as one to four words with a blank between two of them: a literal
 //! (`5`, `TRUE`, `NULL`) or a column with its kind (`#3:Text`), or a sign, an operator, a test or a CASE over such.
-use crate::failure::Failure;
+use crate::refusal::of_meaning;
 use std::alloc::Global;
+use wd_cases::Failure;
 use wd_operand::{
     CaseArm, Meaning, case_of, combined, copy_expression, literal, negated, same_expression,
     same_kind, signed, signed_number, tested,
@@ -27,7 +28,7 @@ fn column(alloc: Global, word: &str) -> Result<Meaning, Failure> {
     let (number, kind) = word.split_once(':').ok_or(Failure::NoCase)?;
     let number = number.parse().map_err(|_| Failure::NoCase)?;
     let kind = kind_named(kind)?;
-    Ok(Meaning::typed(alloc, Expr::Column(number), kind)?)
+    Meaning::typed(alloc, Expr::Column(number), kind).map_err(of_meaning)
 }
 
 /// What a word stands for.
@@ -41,7 +42,7 @@ fn meaning(alloc: Global, word: &str) -> Result<Meaning, Failure> {
         "NULL" => Literal::Null,
         _ => Literal::Number(number_of(word)?),
     };
-    Ok(literal(alloc, &written)?)
+    literal(alloc, &written).map_err(of_meaning)
 }
 
 fn sign_named(word: &str) -> Option<Sign> {
@@ -56,8 +57,8 @@ fn sign_named(word: &str) -> Option<Sign> {
 fn over_one(alloc: Global, word: &str, operand: &str) -> Result<Meaning, Failure> {
     let operand = meaning(alloc, operand)?;
     match sign_named(word) {
-        Some(sign) => Ok(signed(alloc, sign, operand)?),
-        None if word == "NOT" => Ok(negated(alloc, operand)?),
+        Some(sign) => signed(alloc, sign, operand).map_err(of_meaning),
+        None if word == "NOT" => negated(alloc, operand).map_err(of_meaning),
         None => Err(Failure::NoCase),
     }
 }
@@ -77,14 +78,14 @@ fn operator_named(word: &str) -> Result<Operator, Failure> {
 fn over_two(alloc: Global, left: &str, word: &str, right: &str) -> Result<Meaning, Failure> {
     if left == "sign" {
         let sign = sign_named(word).ok_or(Failure::NoCase)?;
-        return Ok(signed_number(alloc, sign, number_of(right)?)?);
+        return signed_number(alloc, sign, number_of(right)?).map_err(of_meaning);
     }
     let left = meaning(alloc, left)?;
     if word == "IS" {
-        return Ok(tested(alloc, right == "NOT-NULL", left)?);
+        return tested(alloc, right == "NOT-NULL", left).map_err(of_meaning);
     }
     let operator = operator_named(word)?;
-    Ok(combined(alloc, operator, left, meaning(alloc, right)?)?)
+    combined(alloc, operator, left, meaning(alloc, right)?).map_err(of_meaning)
 }
 
 /// `CASE when gives otherwise`
@@ -93,7 +94,7 @@ fn case(alloc: Global, when: &str, gives: &str, otherwise: &str) -> Result<Meani
     let gives = meaning(alloc, gives)?;
     let mut arms = Vec::new(alloc);
     arms.push(CaseArm { when, gives })?;
-    Ok(case_of(alloc, arms, meaning(alloc, otherwise)?)?)
+    case_of(alloc, arms, meaning(alloc, otherwise)?).map_err(of_meaning)
 }
 
 fn meant(alloc: Global, text: &str) -> Result<Meaning, Failure> {
@@ -112,8 +113,8 @@ fn expression_of(alloc: Global, text: &str) -> Result<Expr, Failure> {
     match text.split_once(" of_kind ") {
         Some((operand, kind)) => {
             let operand = meant(alloc, operand)?;
-            let expression = operand.of_kind(alloc, kind_named(kind)?)?;
-            Ok(Box::into_inner(expression))
+            let expression = operand.of_kind(alloc, kind_named(kind)?);
+            Ok(Box::into_inner(expression.map_err(of_meaning)?))
         }
         None => Ok(meant(alloc, text)?.settled()),
     }
@@ -121,7 +122,7 @@ fn expression_of(alloc: Global, text: &str) -> Result<Expr, Failure> {
 
 /// `number N`: the number where it fits 64 bits with a sign.
 pub fn number(alloc: Global, text: &str) -> Result<String, Failure> {
-    let number = wd_operand::number(number_of(text)?)?;
+    let number = wd_operand::number(number_of(text)?).map_err(of_meaning)?;
     Ok(number.to_string(alloc)?)
 }
 

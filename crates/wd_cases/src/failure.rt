@@ -1,10 +1,5 @@
 use std::alloc::{AllocError, AllocFailed, Global};
 use std::fmt::Display;
-use wd_lex::LexError;
-use wd_operand::ResolveError;
-use wd_parse::ParseError;
-use wd_schema::SchemaError;
-use wd_tables::DataError;
 use wd_value::OutOfMemory;
 
 /// Why a case has nothing to show.
@@ -64,50 +59,5 @@ impl<T: Drop> From<AllocFailed<T>> for Failure {
 impl From<OutOfMemory> for Failure {
     fn from(_error: OutOfMemory) -> Failure {
         MEMORY
-    }
-}
-
-impl From<LexError> for Failure {
-    fn from(error: LexError) -> Failure {
-        Failure::Refused {
-            number: error.number(),
-            place: error.place(),
-        }
-    }
-}
-
-impl From<ParseError> for Failure {
-    fn from(error: ParseError) -> Failure {
-        Failure::Refused {
-            number: error.number(),
-            place: error.place(),
-        }
-    }
-}
-
-impl From<SchemaError> for Failure {
-    fn from(error: SchemaError) -> Failure {
-        Failure::Refused {
-            number: error.number(),
-            place: error.place(),
-        }
-    }
-}
-
-impl From<ResolveError> for Failure {
-    fn from(error: ResolveError) -> Failure {
-        Failure::Refused {
-            number: error.number(),
-            place: error.place(),
-        }
-    }
-}
-
-impl From<&DataError> for Failure {
-    fn from(error: &DataError) -> Failure {
-        Failure::Refused {
-            number: error.number(),
-            place: error.place(),
-        }
     }
 }

@@ -1,8 +1,9 @@
 //! Whole queries over the schema's tables.
-use crate::failure::Failure;
 use crate::given::Given;
+use crate::refusal::of_meaning;
 use crate::tree::query_of;
 use std::alloc::{AllocError, Global};
+use wd_cases::Failure;
 use wd_resolve::{Resolved, resolve};
 
 /// What is written short in plans.
@@ -22,7 +23,7 @@ const SHORT: &[(&str, &str)] = &[
 fn resolved(alloc: Global, given: &Given, text: &str) -> Result<Resolved, Failure> {
     let query = query_of(alloc, text)?;
     let schema = given.tables(alloc)?;
-    Ok(resolve(alloc, &schema, &query)?)
+    resolve(alloc, &schema, &query).map_err(of_meaning)
 }
 
 /// The text with `by` in place of each `part`.
@@ -59,31 +60,4 @@ pub fn refusal(alloc: Global, given: &Given, text: &str) -> Result<String, Failu
 pub fn orderings(alloc: Global, given: &Given, text: &str) -> Result<String, Failure> {
     let orderings = resolved(alloc, given, text)?.plan.orderings();
     Ok(orderings.to_string(alloc)?)
-}
-
-/// `laws`: the laws of the crates are functions, which return.
-pub fn laws(alloc: Global) -> Result<String, Failure> {
-    reading_laws();
-    meaning_laws();
-    Ok(String::from_str(alloc, "hold")?)
-}
-
-fn reading_laws() {
-    wd_lex::laws::one_list_of_tokens();
-    wd_lex::laws::one_answer();
-    wd_lex::laws::has_answer();
-    wd_lex::laws::longest_front();
-    wd_lex::laws::comments_come_first();
-    wd_syntax::laws::one_tree();
-    wd_statements::laws::one_tree();
-    wd_statements::laws::one_place();
-    wd_schema::laws::one_meaning();
-}
-
-fn meaning_laws() {
-    wd_scope::laws::meanings_are_typed();
-    wd_scope::laws::windows_are_typed();
-    wd_scope::laws::met_calls_are_shown();
-    wd_resolve::laws::one_plan();
-    wd_resolve::laws::plans_fit();
 }

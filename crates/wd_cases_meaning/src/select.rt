@@ -1,9 +1,10 @@
 //! The parts of a select, over the columns of the schema's tables.
-use crate::failure::Failure;
 use crate::given::Given;
+use crate::refusal::of_meaning;
 use crate::scope::{scope_of, select_behind, select_of};
 use crate::tree::query_of;
 use std::alloc::{AllocError, Global};
+use wd_cases::Failure;
 use wd_plan::{Expr, Plan};
 use wd_scope::{Calls, Context, Scope};
 use wd_select::{
@@ -32,7 +33,7 @@ fn listed(
         windows: &[],
         calls_allowed: true,
     };
-    Ok(item_meant(alloc, &context, item, calls)?)
+    item_meant(alloc, &context, item, calls).map_err(of_meaning)
 }
 
 fn push_outputs(out: &mut String, outputs: &[Output]) -> Result<(), AllocError> {
@@ -108,7 +109,7 @@ fn keys_over(
         outputs,
         calls,
     };
-    Ok(keys_sorted(alloc, &shown, &select.order, inputs)?)
+    keys_sorted(alloc, &shown, &select.order, inputs).map_err(of_meaning)
 }
 
 /// The outputs of a query, its calls and its sort keys.
@@ -183,7 +184,7 @@ pub fn mapped(alloc: Global, given: &Given, text: &str) -> Result<String, Failur
 }
 
 fn cut_of(select: &Select) -> Result<Option<Cut>, Failure> {
-    Ok(cut_meant(!select.order.is_empty(), select.limits)?)
+    cut_meant(!select.order.is_empty(), select.limits).map_err(of_meaning)
 }
 
 /// `cut WORDS`: what the limits mean that stand behind a query's FROM, perhaps behind ORDER BY.
@@ -195,7 +196,7 @@ pub fn cut(alloc: Global, text: &str) -> Result<String, Failure> {
 
 /// The rows that WHERE keeps, each once where the query says so.
 fn kept(alloc: Global, scope: &Scope, select: &Select) -> Result<Plan, Failure> {
-    let plan = filtered(alloc, scope, &select.filter, scan(scope))?;
+    let plan = filtered(alloc, scope, &select.filter, scan(scope)).map_err(of_meaning)?;
     let distinct = select.quantifier == Some(Quantifier::Distinct);
     Ok(deduplicated(alloc, distinct, plan)?)
 }

@@ -1,8 +1,8 @@
 use crate::cell::instance_of;
-use crate::escape::{text_of, unescaped};
-use crate::failure::Failure;
 use crate::given::Given;
+use crate::refusal::of_schema;
 use std::alloc::{AllocError, Global};
+use wd_cases::{Failure, text_of, unescaped};
 use wd_schema::{Column, Key, Schema, Table, meets, read_schema};
 
 fn push_column(out: &mut String, column: &Column) -> Result<(), AllocError> {
@@ -46,7 +46,7 @@ fn push_schema(out: &mut String, schema: &Schema) -> Result<(), AllocError> {
 /// `tables TEXT`: the tables of a schema with their columns (`!` is NOT NULL) and keys.
 pub fn tables(alloc: Global, text: &str) -> Result<String, Failure> {
     let text = unescaped(alloc, text)?;
-    let schema = read_schema(alloc, &text)?;
+    let schema = read_schema(alloc, &text).map_err(of_schema)?;
     let mut out = String::new(alloc);
     push_schema(&mut out, &schema)?;
     Ok(out)
