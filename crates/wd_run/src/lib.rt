@@ -5,8 +5,6 @@ mod data;
 mod engine;
 mod error;
 mod query;
-#[cfg(test)]
-mod tests;
 
 pub use engine::run;
 pub use error::{Origin, RunError};
