@@ -1,8 +1,12 @@
 //! Which call each word of a line asks for.
 use crate::given::Given;
+use crate::scope::scope_of;
+use crate::tree::query_for;
 use crate::{operand, plan, refusal, run, scope, select};
 use std::alloc::{AllocError, Global};
 use wd_cases::{Failure, answered, case_in};
+use wd_scope::Scope;
+use wd_syntax::{Query, Select};
 
 /// A line and what its case gives; a line without a case as it is.
 pub fn shown(alloc: Global, given: &mut Given, line: &str) -> Result<String, AllocError> {
@@ -12,7 +16,7 @@ pub fn shown(alloc: Global, given: &mut Given, line: &str) -> Result<String, All
     }
 }
 
-/// Operands, and lines that later ones build on.
+/// Operands, runs, and lines that later ones build on.
 fn found(alloc: Global, given: &mut Given, word: &str, text: &str) -> Result<String, Failure> {
     match word {
         "schema" => given.set_schema(alloc, text),
@@ -25,40 +29,66 @@ fn found(alloc: Global, given: &mut Given, word: &str, text: &str) -> Result<Str
         "same_kind" => operand::kinds_are_same(alloc, text),
         "same_expression" => operand::expressions_are_same(alloc, text),
         "copy_expression" => operand::copied(alloc, text),
+        "has_table" => scope::has_table(alloc, given, text),
+        "is_wide" => select::is_wide(alloc, text),
+        "run" => run::ran(alloc, given, text),
         "memory" => refusal::want_of_memory(text),
         "laws" => refusal::laws(alloc),
-        _ => in_scope(alloc, given, word, text),
+        _ => over_text(alloc, given, word, text),
     }
+}
+
+fn over_text(alloc: Global, given: &mut Given, word: &str, text: &str) -> Result<String, Failure> {
+    let query = query_for(alloc, word, text)?;
+    over_query(alloc, given, word, &query)
+}
+
+/// Whole queries, and parts that mean the same over all tables.
+fn over_query(
+    alloc: Global,
+    given: &mut Given,
+    word: &str,
+    query: &Query,
+) -> Result<String, Failure> {
+    match word {
+        "plan" => plan::plan(alloc, given, query),
+        "refusal" => plan::refusal(alloc, given, query),
+        "orderings" => plan::orderings(alloc, given, query),
+        "written_number" => scope::written_number(alloc, &query.select),
+        "sort_key" => scope::sort_key(alloc, &query.select),
+        "cut" => select::cut(alloc, &query.select),
+        _ => over_schema(alloc, given, word, &query.select),
+    }
+}
+
+fn over_schema(
+    alloc: Global,
+    given: &mut Given,
+    word: &str,
+    select: &Select,
+) -> Result<String, Failure> {
+    let scope = scope_of(alloc, given)?;
+    in_scope(alloc, given, word, &scope, select)
 }
 
 /// The parts of a query over the tables of the schema.
-fn in_scope(alloc: Global, given: &mut Given, word: &str, text: &str) -> Result<String, Failure> {
+fn in_scope(
+    alloc: Global,
+    given: &mut Given,
+    word: &str,
+    scope: &Scope,
+    select: &Select,
+) -> Result<String, Failure> {
     match word {
-        "has_table" => scope::has_table(alloc, given, text),
-        "plain" => scope::plain(alloc, given, text),
-        "condition" => scope::condition(alloc, given, text),
-        "written_number" => scope::written_number(alloc, text),
-        "resolved" => scope::resolved(alloc, given, text),
-        "windows" => scope::windows(alloc, given, text),
-        "sort_key" => scope::sort_key(alloc, text),
-        "item" => select::item(alloc, given, text),
-        "needed" => select::needed(alloc, given, text),
-        "is_wide" => select::is_wide(alloc, text),
-        "sorted" => select::sorted(alloc, given, text),
-        "mapped" => select::mapped(alloc, given, text),
-        "cut" => select::cut(alloc, text),
-        "steps" => select::steps(alloc, given, text),
-        _ => whole(alloc, given, word, text),
-    }
-}
-
-/// Whole queries.
-fn whole(alloc: Global, given: &Given, word: &str, text: &str) -> Result<String, Failure> {
-    match word {
-        "plan" => plan::plan(alloc, given, text),
-        "refusal" => plan::refusal(alloc, given, text),
-        "orderings" => plan::orderings(alloc, given, text),
-        "run" => run::ran(alloc, given, text),
+        "plain" => scope::plain(alloc, scope, select),
+        "condition" => scope::condition(alloc, scope, select),
+        "resolved" => scope::resolved(alloc, scope, select, &mut given.calls),
+        "windows" => scope::windows(alloc, scope, select),
+        "item" => select::item(alloc, scope, select, &mut given.calls),
+        "needed" => select::needed(alloc, scope, select, given),
+        "sorted" => select::sorted(alloc, scope, select),
+        "mapped" => select::mapped(alloc, scope, select),
+        "steps" => select::steps(alloc, scope, select),
         _ => Err(Failure::NoCase),
     }
 }

@@ -26,23 +26,30 @@ pub struct Given {
 }
 
 impl Given {
-    /// The schema without tables, and no data.
-    pub fn new(alloc: Global) -> Given {
+    /// The schema of a text, and no data.
+    fn over(alloc: Global, schema: Vec<u8>) -> Given {
         Given {
-            schema: Vec::new(alloc),
+            schema,
             data: Vec::new(alloc),
             calls: Calls::new(alloc),
             inputs: Vec::new(alloc),
         }
     }
 
+    /// The schema without tables, and no data.
+    pub fn new(alloc: Global) -> Given {
+        Given::over(alloc, Vec::new(alloc))
+    }
+
     /// `schema TEXT`: from here on the schema is this one, there is no data, and nothing is met yet.
     pub fn set_schema(&mut self, alloc: Global, text: &str) -> Result<String, Failure> {
-        let mut given = Given::new(alloc);
-        given.schema = unescaped(alloc, text)?;
-        *self = given;
-        let tables = self.tables(alloc)?.tables.len();
-        Ok(format!(in alloc; "tables: {tables}")?)
+        *self = Given::over(alloc, unescaped(alloc, text)?);
+        self.tables_counted(alloc)
+    }
+
+    fn tables_counted(&self, alloc: Global) -> Result<String, Failure> {
+        let count = self.tables(alloc)?.tables.len();
+        Ok(format!(in alloc; "tables: {count}")?)
     }
 
     pub fn tables(&self, alloc: Global) -> Result<Schema, Failure> {
@@ -52,10 +59,7 @@ impl Given {
     /// `data NAME TEXT` is further data, and `data` alone takes all data away.
     pub fn add_data(&mut self, alloc: Global, text: &str) -> Result<String, Failure> {
         match text.split_once(' ') {
-            Some((name, text)) => self.data.push(NamedData {
-                name: Text::from_str(alloc, name)?,
-                text: unescaped(alloc, text)?,
-            })?,
+            Some((name, text)) => self.data.push(named_data(alloc, name, text)?)?,
             None => self.data.clear(),
         }
         let count = self.data.len();
@@ -66,5 +70,13 @@ impl Given {
     pub fn met(&self, alloc: Global) -> Result<String, Failure> {
         let count = self.calls.list.len();
         Ok(format!(in alloc; "met: {count}")?)
+    }
+}
+
+fn named_data(alloc: Global, name: &str, text: &str) -> Result<NamedData, Failure> {
+    let name = Text::from_str(alloc, name)?;
+    match unescaped(alloc, text) {
+        Ok(text) => Ok(NamedData { name, text }),
+        Err(error) => Err(Failure::from(error)),
     }
 }

@@ -1,6 +1,7 @@
 //! What wd_operand makes of operands. An operand is written as one to four words with a blank between two of them: a literal
 //! (`5`, `TRUE`, `NULL`) or a column with its kind (`#3:Text`), or a sign, an operator, a test or a CASE over such.
 use crate::refusal::of_meaning;
+use crate::tree::written;
 use std::alloc::Global;
 use wd_cases::Failure;
 use wd_operand::{
@@ -20,13 +21,13 @@ fn kind_named(word: &str) -> Result<ValueKind, Failure> {
 }
 
 fn number_of(word: &str) -> Result<u64, Failure> {
-    word.parse().map_err(|_| Failure::NoCase)
+    word.parse().ok().ok_or(Failure::NoCase)
 }
 
 /// The column of a number, with its kind.
 fn column(alloc: Global, word: &str) -> Result<Meaning, Failure> {
     let (number, kind) = word.split_once(':').ok_or(Failure::NoCase)?;
-    let number = number.parse().map_err(|_| Failure::NoCase)?;
+    let number = number.parse().ok().ok_or(Failure::NoCase)?;
     let kind = kind_named(kind)?;
     Meaning::typed(alloc, Expr::Column(number), kind).map_err(of_meaning)
 }
@@ -89,22 +90,33 @@ fn over_two(alloc: Global, left: &str, word: &str, right: &str) -> Result<Meanin
 }
 
 /// `CASE when gives otherwise`
-fn case(alloc: Global, when: &str, gives: &str, otherwise: &str) -> Result<Meaning, Failure> {
+fn case(alloc: Global, when: &str, other: &str) -> Result<Meaning, Failure> {
+    let (gives, otherwise) = other.split_once(' ').ok_or(Failure::NoCase)?;
     let when = meaning(alloc, when)?;
+    let arms = arms(alloc, when, gives)?;
+    case_over(alloc, arms, otherwise)
+}
+
+fn arms(alloc: Global, when: Meaning, gives: &str) -> Result<Vec<CaseArm>, Failure> {
     let gives = meaning(alloc, gives)?;
     let mut arms = Vec::new(alloc);
     arms.push(CaseArm { when, gives })?;
-    case_of(alloc, arms, meaning(alloc, otherwise)?).map_err(of_meaning)
+    Ok(arms)
+}
+
+fn case_over(alloc: Global, arms: Vec<CaseArm>, otherwise: &str) -> Result<Meaning, Failure> {
+    let otherwise = meaning(alloc, otherwise)?;
+    case_of(alloc, arms, otherwise).map_err(of_meaning)
 }
 
 fn meant(alloc: Global, text: &str) -> Result<Meaning, Failure> {
-    let words = text.split(' ').collect::<Vec<&str>>(alloc)?;
-    match words.as_slice() {
-        [word] => meaning(alloc, word),
-        [word, operand] => over_one(alloc, word, operand),
-        [left, word, right] => over_two(alloc, left, word, right),
-        ["CASE", when, gives, otherwise] => case(alloc, when, gives, otherwise),
-        _ => Err(Failure::NoCase),
+    let Some((first, rest)) = text.split_once(' ') else {
+        return meaning(alloc, text);
+    };
+    match rest.split_once(' ') {
+        None => over_one(alloc, first, rest),
+        Some((when, other)) if first == "CASE" => case(alloc, when, other),
+        Some((word, right)) => over_two(alloc, first, word, right),
     }
 }
 
@@ -123,46 +135,52 @@ fn expression_of(alloc: Global, text: &str) -> Result<Expr, Failure> {
 /// `number N`: the number where it fits 64 bits with a sign.
 pub fn number(alloc: Global, text: &str) -> Result<String, Failure> {
     let number = wd_operand::number(number_of(text)?).map_err(of_meaning)?;
-    Ok(number.to_string(alloc)?)
+    written(alloc, &number)
 }
 
 /// `operand OPERAND`
 pub fn operand(alloc: Global, text: &str) -> Result<String, Failure> {
     let meaning = meant(alloc, text)?;
-    Ok(format!(in alloc; "{meaning:?}")?)
+    written(alloc, &meaning)
 }
 
 /// `expression OPERAND [of_kind KIND]`
 pub fn expression(alloc: Global, text: &str) -> Result<String, Failure> {
     let expression = expression_of(alloc, text)?;
-    Ok(format!(in alloc; "{expression:?}")?)
+    written(alloc, &expression)
 }
 
 /// `kind OPERAND`
 pub fn kind(alloc: Global, text: &str) -> Result<String, Failure> {
-    let kind = meant(alloc, text)?.kind();
-    Ok(format!(in alloc; "{kind:?}")?)
+    let meaning = meant(alloc, text)?;
+    written(alloc, &meaning.kind())
 }
 
 /// `same_kind KIND KIND`
 pub fn kinds_are_same(alloc: Global, text: &str) -> Result<String, Failure> {
     let (one, other) = text.split_once(' ').ok_or(Failure::NoCase)?;
-    let same = same_kind(kind_named(one)?, kind_named(other)?);
-    Ok(same.to_string(alloc)?)
+    written(alloc, &same_kind(kind_named(one)?, kind_named(other)?))
 }
 
 /// `same_expression EXPRESSION ; EXPRESSION`
 pub fn expressions_are_same(alloc: Global, text: &str) -> Result<String, Failure> {
     let (one, other) = text.split_once(" ; ").ok_or(Failure::NoCase)?;
     let one = expression_of(alloc, one)?;
+    is_same_as(alloc, &one, other)
+}
+
+fn is_same_as(alloc: Global, one: &Expr, other: &str) -> Result<String, Failure> {
     let other = expression_of(alloc, other)?;
-    Ok(same_expression(&one, &other).to_string(alloc)?)
+    written(alloc, &same_expression(one, &other))
 }
 
 /// `copy_expression EXPRESSION`: a copy, and whether it is the same expression.
 pub fn copied(alloc: Global, text: &str) -> Result<String, Failure> {
     let expression = expression_of(alloc, text)?;
-    let copy = copy_expression(alloc, &expression)?;
-    let same = same_expression(&expression, &copy);
-    Ok(format!(in alloc; "{copy:?}, same: {same}")?)
+    copy_shown(alloc, &expression)
+}
+
+fn copy_shown(alloc: Global, expression: &Expr) -> Result<String, Failure> {
+    let copy = copy_expression(alloc, expression)?;
+    written(alloc, &(same_expression(expression, &copy), &copy))
 }

@@ -1,10 +1,13 @@
 //! Whole queries over the schema's tables.
 use crate::given::Given;
 use crate::refusal::of_meaning;
-use crate::tree::query_of;
+use crate::tree::written;
 use std::alloc::{AllocError, Global};
 use wd_cases::Failure;
+use wd_plan::Plan;
 use wd_resolve::{Resolved, resolve};
+use wd_syntax::Query;
+use wd_value::Text;
 
 /// What is written short in plans.
 const SHORT: &[(&str, &str)] = &[
@@ -20,10 +23,9 @@ const SHORT: &[(&str, &str)] = &[
     ),
 ];
 
-fn resolved(alloc: Global, given: &Given, text: &str) -> Result<Resolved, Failure> {
-    let query = query_of(alloc, text)?;
+fn resolved(alloc: Global, given: &Given, query: &Query) -> Result<Resolved, Failure> {
     let schema = given.tables(alloc)?;
-    resolve(alloc, &schema, &query).map_err(of_meaning)
+    resolve(alloc, &schema, query).map_err(of_meaning)
 }
 
 /// The text with `by` in place of each `part`.
@@ -36,28 +38,44 @@ fn replaced(alloc: Global, text: &str, part: &str, by: &str) -> Result<String, A
     Ok(out)
 }
 
-/// `plan QUERY`: its plan, written short, and the names of its outputs.
-pub fn plan(alloc: Global, given: &Given, text: &str) -> Result<String, Failure> {
-    let Resolved { plan, names } = resolved(alloc, given, text)?;
-    let mut out = format!(in alloc; "{plan:?}")?;
+fn shortened(alloc: Global, plan: &Plan) -> Result<String, AllocError> {
+    let mut text = format!(in alloc; "{plan:?}")?;
     for &(long, short) in SHORT {
-        out = replaced(alloc, out.as_str(), long, short)?;
+        text = replaced(alloc, text.as_str(), long, short)?;
     }
-    for name in &names {
+    Ok(text)
+}
+
+fn push_names(out: &mut String, names: &[Text]) -> Result<(), AllocError> {
+    for name in names {
         out.push(' ')?;
         out.push_str(name.as_str())?;
     }
+    Ok(())
+}
+
+fn with_names(alloc: Global, resolved: &Resolved) -> Result<String, Failure> {
+    let mut out = shortened(alloc, &resolved.plan)?;
+    push_names(&mut out, &resolved.names)?;
     Ok(out)
 }
 
+/// `plan QUERY`: its plan, written short, and the names of its outputs.
+pub fn plan(alloc: Global, given: &Given, query: &Query) -> Result<String, Failure> {
+    let resolved = resolved(alloc, given, query)?;
+    with_names(alloc, &resolved)
+}
+
 /// `refusal QUERY`: why it has no plan, or that it has one.
-pub fn refusal(alloc: Global, given: &Given, text: &str) -> Result<String, Failure> {
-    resolved(alloc, given, text)?;
-    Ok(String::from_str(alloc, "a plan")?)
+pub fn refusal(alloc: Global, given: &Given, query: &Query) -> Result<String, Failure> {
+    match resolved(alloc, given, query) {
+        Ok(_) => Ok(String::from_str(alloc, "a plan")?),
+        Err(failure) => Err(failure),
+    }
 }
 
 /// `orderings QUERY`: how many orderings a choice for its plan has.
-pub fn orderings(alloc: Global, given: &Given, text: &str) -> Result<String, Failure> {
-    let orderings = resolved(alloc, given, text)?.plan.orderings();
-    Ok(orderings.to_string(alloc)?)
+pub fn orderings(alloc: Global, given: &Given, query: &Query) -> Result<String, Failure> {
+    let resolved = resolved(alloc, given, query)?;
+    written(alloc, &resolved.plan.orderings())
 }

@@ -46,10 +46,20 @@ fn pairs(alloc: Global, data: &[NamedData]) -> Result<Vec<(&str, &[u8])>, Failur
 /// `run QUERY`: its answer over the schema and the data, its fault or its refusal.
 pub fn ran(alloc: Global, given: &Given, text: &str) -> Result<String, Failure> {
     let query = unescaped(alloc, text)?;
+    ran_over(alloc, given, &query)
+}
+
+fn ran_over(alloc: Global, given: &Given, query: &[u8]) -> Result<String, Failure> {
     let data = pairs(alloc, &given.data)?;
-    match wd_run::run(alloc, &given.schema, &query, &data) {
-        Ok((names, Outcome::Rows(rows))) => answered(alloc, &names, &rows),
-        Ok((_, Outcome::Fault(fault))) => Ok(String::from_str(alloc, fault_name(fault))?),
+    match wd_run::run(alloc, &given.schema, query, &data) {
+        Ok((names, outcome)) => outcome_shown(alloc, &names, &outcome),
         Err(error) => refused(alloc, &error),
+    }
+}
+
+fn outcome_shown(alloc: Global, names: &[Text], outcome: &Outcome) -> Result<String, Failure> {
+    match outcome {
+        Outcome::Rows(rows) => answered(alloc, names, rows),
+        Outcome::Fault(fault) => Ok(String::from_str(alloc, fault_name(*fault))?),
     }
 }

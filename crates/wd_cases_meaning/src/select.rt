@@ -1,8 +1,7 @@
 //! The parts of a select, over the columns of the schema's tables.
 use crate::given::Given;
 use crate::refusal::of_meaning;
-use crate::scope::{scope_of, select_behind, select_of};
-use crate::tree::query_of;
+use crate::tree::written;
 use std::alloc::{AllocError, Global};
 use wd_cases::Failure;
 use wd_plan::{Expr, Plan};
@@ -45,15 +44,22 @@ fn push_outputs(out: &mut String, outputs: &[Output]) -> Result<(), AllocError> 
     Ok(())
 }
 
-/// `item ITEM`: the outputs of a member of a select list, after the calls that were met before it.
-pub fn item(alloc: Global, given: &mut Given, text: &str) -> Result<String, Failure> {
-    let select = select_of(alloc, text)?;
-    let scope = scope_of(alloc, given)?;
-    let item = select.items.first().ok_or(Failure::NoCase)?;
-    let outputs = listed(alloc, &scope, item, &mut given.calls)?;
+fn outputs_shown(alloc: Global, outputs: &[Output]) -> Result<String, Failure> {
     let mut out = String::new(alloc);
-    push_outputs(&mut out, &outputs)?;
+    push_outputs(&mut out, outputs)?;
     Ok(out)
+}
+
+/// `item ITEM`: the outputs of a member of a select list, after the calls that were met before it.
+pub fn item(
+    alloc: Global,
+    scope: &Scope,
+    select: &Select,
+    calls: &mut Calls,
+) -> Result<String, Failure> {
+    let item = select.items.first().ok_or(Failure::NoCase)?;
+    let outputs = listed(alloc, scope, item, calls)?;
+    outputs_shown(alloc, &outputs)
 }
 
 /// The outputs of a select list.
@@ -73,21 +79,30 @@ fn outputs_of(
 }
 
 /// `needed ITEMS`: the expressions that a select list needs, behind those that were needed before it.
-pub fn needed(alloc: Global, given: &mut Given, text: &str) -> Result<String, Failure> {
-    let select = select_of(alloc, text)?;
-    let scope = scope_of(alloc, given)?;
-    let outputs = outputs_of(alloc, &scope, &select, &mut given.calls)?;
-    let width = scope.columns.len();
-    add_all_met(alloc, &mut given.inputs, width, &given.calls, &outputs)?;
-    let inputs = &given.inputs;
-    Ok(format!(in alloc; "{inputs:?}")?)
+pub fn needed(
+    alloc: Global,
+    scope: &Scope,
+    select: &Select,
+    given: &mut Given,
+) -> Result<String, Failure> {
+    let outputs = outputs_of(alloc, scope, select, &mut given.calls)?;
+    add_needed(alloc, scope.columns.len(), &outputs, given)
+}
+
+fn add_needed(
+    alloc: Global,
+    width: usize,
+    outputs: &[Output],
+    given: &mut Given,
+) -> Result<String, Failure> {
+    add_all_met(alloc, &mut given.inputs, width, &given.calls, outputs)?;
+    written(alloc, &given.inputs)
 }
 
 /// `is_wide N`: whether so many outputs without a call are too many.
 pub fn is_wide(alloc: Global, text: &str) -> Result<String, Failure> {
-    let count = text.parse().map_err(|_| Failure::NoCase)?;
-    let wide = wd_select::is_wide(count, &[], &Calls::new(alloc));
-    Ok(wide.to_string(alloc)?)
+    let count = text.parse().ok().ok_or(Failure::NoCase)?;
+    written(alloc, &wd_select::is_wide(count, &[], &Calls::new(alloc)))
 }
 
 /// The sort keys of a query over its outputs. A select list that is too wide is no case.
@@ -120,26 +135,43 @@ struct Parts {
     sorted: Sorted,
 }
 
-fn parts_of(alloc: Global, scope: &Scope, text: &str) -> Result<Parts, Failure> {
-    let query = query_of(alloc, text)?;
+fn parts_of(alloc: Global, scope: &Scope, select: &Select) -> Result<Parts, Failure> {
     let mut calls = Calls::new(alloc);
-    let outputs = outputs_of(alloc, scope, &query.select, &mut calls)?;
-    let sorted = keys_over(alloc, scope, &query.select, &outputs, &calls)?;
-    Ok(Parts {
-        outputs,
-        calls,
-        sorted,
-    })
+    match outputs_of(alloc, scope, select, &mut calls) {
+        Ok(outputs) => parts_with(alloc, scope, select, outputs, calls),
+        Err(failure) => Err(failure),
+    }
+}
+
+fn parts_with(
+    alloc: Global,
+    scope: &Scope,
+    select: &Select,
+    outputs: Vec<Output>,
+    calls: Calls,
+) -> Result<Parts, Failure> {
+    match keys_over(alloc, scope, select, &outputs, &calls) {
+        Ok(sorted) => Ok(Parts {
+            outputs,
+            calls,
+            sorted,
+        }),
+        Err(failure) => Err(failure),
+    }
 }
 
 /// `sorted QUERY`: its sort keys, the hidden columns behind its outputs, and the expressions that it needs.
-pub fn sorted(alloc: Global, given: &Given, text: &str) -> Result<String, Failure> {
-    let scope = scope_of(alloc, given)?;
+pub fn sorted(alloc: Global, scope: &Scope, select: &Select) -> Result<String, Failure> {
+    let parts = parts_of(alloc, scope, select)?;
+    keys_shown(alloc, &parts.sorted)
+}
+
+fn keys_shown(alloc: Global, sorted: &Sorted) -> Result<String, Failure> {
     let Sorted {
         items,
         hidden,
         inputs,
-    } = &parts_of(alloc, &scope, text)?.sorted;
+    } = sorted;
     Ok(format!(in alloc; "{items:?} {hidden:?} {inputs:?}")?)
 }
 
@@ -167,7 +199,20 @@ fn mapped_parts(alloc: Global, scope: &Scope, parts: Parts) -> Result<Plan, Fail
         calls,
         sorted: Sorted { hidden, inputs, .. },
     } = parts;
-    let expressions = expressions_of(alloc, outputs, hidden)?;
+    match expressions_of(alloc, outputs, hidden) {
+        Ok(expressions) => mapped_over(alloc, scope, calls, inputs, expressions),
+        Err(failure) => Err(failure),
+    }
+}
+
+/// What is too wide is no case.
+fn mapped_over(
+    alloc: Global,
+    scope: &Scope,
+    calls: Calls,
+    inputs: Vec<Expr>,
+    expressions: Vec<Expr>,
+) -> Result<Plan, Failure> {
     if wd_select::is_wide(expressions.len(), &inputs, &calls) {
         return Err(Failure::NoCase);
     }
@@ -176,11 +221,10 @@ fn mapped_parts(alloc: Global, scope: &Scope, parts: Parts) -> Result<Plan, Fail
 }
 
 /// `mapped QUERY`: its outputs and hidden columns over its calls and the first table.
-pub fn mapped(alloc: Global, given: &Given, text: &str) -> Result<String, Failure> {
-    let scope = scope_of(alloc, given)?;
-    let parts = parts_of(alloc, &scope, text)?;
-    let plan = mapped_parts(alloc, &scope, parts)?;
-    Ok(format!(in alloc; "{plan:?}")?)
+pub fn mapped(alloc: Global, scope: &Scope, select: &Select) -> Result<String, Failure> {
+    let parts = parts_of(alloc, scope, select)?;
+    let plan = mapped_parts(alloc, scope, parts)?;
+    written(alloc, &plan)
 }
 
 fn cut_of(select: &Select) -> Result<Option<Cut>, Failure> {
@@ -188,10 +232,9 @@ fn cut_of(select: &Select) -> Result<Option<Cut>, Failure> {
 }
 
 /// `cut WORDS`: what the limits mean that stand behind a query's FROM, perhaps behind ORDER BY.
-pub fn cut(alloc: Global, text: &str) -> Result<String, Failure> {
-    let select = select_behind(alloc, text)?;
-    let cut = cut_of(&select)?;
-    Ok(format!(in alloc; "{cut:?}")?)
+pub fn cut(alloc: Global, select: &Select) -> Result<String, Failure> {
+    let cut = cut_of(select)?;
+    written(alloc, &cut)
 }
 
 /// The rows that WHERE keeps, each once where the query says so.
@@ -202,11 +245,10 @@ fn kept(alloc: Global, scope: &Scope, select: &Select) -> Result<Plan, Failure> 
 }
 
 /// `steps QUERY`: WHERE, DISTINCT and the limits of a query over the first table, and of what is left the first column.
-pub fn steps(alloc: Global, given: &Given, text: &str) -> Result<String, Failure> {
-    let scope = scope_of(alloc, given)?;
-    let query = query_of(alloc, text)?;
-    let plan = kept(alloc, &scope, &query.select)?;
-    let plan = limited(alloc, Vec::new(alloc), cut_of(&query.select)?, plan)?;
-    let plan = without_hidden(alloc, 1, 1, plan)?;
-    Ok(format!(in alloc; "{plan:?}")?)
+pub fn steps(alloc: Global, scope: &Scope, select: &Select) -> Result<String, Failure> {
+    let cut = cut_of(select)?;
+    let kept = kept(alloc, scope, select)?;
+    let limited = limited(alloc, Vec::new(alloc), cut, kept)?;
+    let plan = without_hidden(alloc, 1, 1, limited)?;
+    written(alloc, &plan)
 }
