@@ -197,8 +197,9 @@ fn mapped_parts(alloc: Global, scope: &Scope, parts: Parts) -> Result<Plan, Fail
     let Parts {
         outputs,
         calls,
-        sorted: Sorted { hidden, inputs, .. },
+        sorted,
     } = parts;
+    let Sorted { hidden, inputs, .. } = sorted;
     match expressions_of(alloc, outputs, hidden) {
         Ok(expressions) => mapped_over(alloc, scope, calls, inputs, expressions),
         Err(failure) => Err(failure),
