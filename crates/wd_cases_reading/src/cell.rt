@@ -35,7 +35,7 @@ fn value_of(alloc: Global, cell: &str) -> Result<Value, Failure> {
         "false" => Ok(Value::Bool(false)),
         _ => match unquoted(cell) {
             Some(text) => Ok(Value::Text(Text::from_str(alloc, text)?)),
-            None => Ok(Value::Int(cell.parse().map_err(|_| Failure::NoCase)?)),
+            None => Ok(Value::Int(cell.parse().ok().ok_or(Failure::NoCase)?)),
         },
     }
 }

@@ -21,8 +21,12 @@ impl Given {
     /// `schema TEXT`: from here on the schema is this one.
     pub fn set_schema(&mut self, alloc: Global, text: &str) -> Result<String, Failure> {
         self.schema = unescaped(alloc, text)?;
-        let tables = self.tables(alloc)?.tables.len();
-        Ok(format!(in alloc; "tables: {tables}")?)
+        self.tables_counted(alloc)
+    }
+
+    fn tables_counted(&self, alloc: Global) -> Result<String, Failure> {
+        let count = self.tables(alloc)?.tables.len();
+        Ok(format!(in alloc; "tables: {count}")?)
     }
 
     pub fn tables(&self, alloc: Global) -> Result<Schema, Failure> {

@@ -1,5 +1,4 @@
 //! What the calls of wd_phrase give at the front of a text's tokens, and how many tokens are left behind it.
-use crate::token::tokens_of;
 use std::alloc::Global;
 use std::fmt::Debug;
 use wd_cases::Failure;
@@ -57,10 +56,25 @@ fn first_mark(tokens: &[Token]) -> Result<(Mark, &[Token]), Failure> {
     }
 }
 
+/// The number that stands first, and the tokens behind it.
+fn first_number(tokens: &[Token]) -> Result<(u8, &[Token]), Failure> {
+    match tokens.split_first() {
+        Some(
+            (
+                Token {
+                    kind: TokenKind::Number(number),
+                    ..
+                },
+                rest,
+            ),
+        ) if *number < 256 => Ok((*number as u8, rest)),
+        _ => Err(Failure::NoCase),
+    }
+}
+
 /// `eat MARK TEXT`
-pub fn eaten(alloc: Global, text: &str) -> Result<String, Failure> {
-    let tokens = tokens_of(alloc, text)?;
-    let (mark, tokens) = first_mark(&tokens)?;
+pub fn eaten(alloc: Global, tokens: &[Token]) -> Result<String, Failure> {
+    let (mark, tokens) = first_mark(tokens)?;
     match eat(tokens, mark) {
         Some(rest) => left(alloc, rest),
         None => none(alloc),
@@ -68,9 +82,8 @@ pub fn eaten(alloc: Global, text: &str) -> Result<String, Failure> {
 }
 
 /// `expect MARK TEXT`
-pub fn expected(alloc: Global, text: &str) -> Result<String, Failure> {
-    let tokens = tokens_of(alloc, text)?;
-    let (mark, tokens) = first_mark(&tokens)?;
+pub fn expected(alloc: Global, tokens: &[Token]) -> Result<String, Failure> {
+    let (mark, tokens) = first_mark(tokens)?;
     match expect(tokens, mark) {
         Ok(rest) => left(alloc, rest),
         Err(refusal) => refused(alloc, refusal),
@@ -78,9 +91,8 @@ pub fn expected(alloc: Global, text: &str) -> Result<String, Failure> {
 }
 
 /// `eat_name TEXT`
-pub fn eaten_name(alloc: Global, text: &str) -> Result<String, Failure> {
-    let tokens = tokens_of(alloc, text)?;
-    match eat_name(alloc, &tokens) {
+pub fn eaten_name(alloc: Global, tokens: &[Token]) -> Result<String, Failure> {
+    match eat_name(alloc, tokens) {
         Ok(Some((name, rest))) => named(alloc, &name, rest),
         Ok(None) => none(alloc),
         Err(refusal) => refused(alloc, refusal),
@@ -88,38 +100,33 @@ pub fn eaten_name(alloc: Global, text: &str) -> Result<String, Failure> {
 }
 
 /// `name_at TEXT`
-pub fn name(alloc: Global, text: &str) -> Result<String, Failure> {
-    let tokens = tokens_of(alloc, text)?;
-    match name_at(alloc, &tokens) {
+pub fn name(alloc: Global, tokens: &[Token]) -> Result<String, Failure> {
+    match name_at(alloc, tokens) {
         Ok((name, rest)) => named(alloc, &name, rest),
         Err(refusal) => refused(alloc, refusal),
     }
 }
 
 /// `operator_at HEIGHT TEXT`
-pub fn operator(alloc: Global, text: &str) -> Result<String, Failure> {
-    let (height, text) = text.split_once(' ').ok_or(Failure::NoCase)?;
-    let height = height.parse().map_err(|_| Failure::NoCase)?;
-    let tokens = tokens_of(alloc, text)?;
-    match operator_at(&tokens, height) {
+pub fn operator(alloc: Global, tokens: &[Token]) -> Result<String, Failure> {
+    let (height, tokens) = first_number(tokens)?;
+    match operator_at(tokens, height) {
         Some((operator, rest)) => found(alloc, &operator, rest),
         None => none(alloc),
     }
 }
 
 /// `sign_at TEXT`
-pub fn sign(alloc: Global, text: &str) -> Result<String, Failure> {
-    let tokens = tokens_of(alloc, text)?;
-    match sign_at(&tokens) {
+pub fn sign(alloc: Global, tokens: &[Token]) -> Result<String, Failure> {
+    match sign_at(tokens) {
         Some((sign, rest)) => found(alloc, &sign, rest),
         None => none(alloc),
     }
 }
 
 /// `order_at TEXT`: a direction and a place of NULLs.
-pub fn order(alloc: Global, text: &str) -> Result<String, Failure> {
-    let tokens = tokens_of(alloc, text)?;
-    let (direction, rest) = direction_at(&tokens);
+pub fn order(alloc: Global, tokens: &[Token]) -> Result<String, Failure> {
+    let (direction, rest) = direction_at(tokens);
     match nulls_at(rest) {
         Ok((nulls, rest)) => found(alloc, &(direction, nulls), rest),
         Err(refusal) => refused(alloc, refusal),
@@ -127,18 +134,16 @@ pub fn order(alloc: Global, text: &str) -> Result<String, Failure> {
 }
 
 /// `frame_at TEXT`
-pub fn frame(alloc: Global, text: &str) -> Result<String, Failure> {
-    let tokens = tokens_of(alloc, text)?;
-    match frame_at(&tokens) {
+pub fn frame(alloc: Global, tokens: &[Token]) -> Result<String, Failure> {
+    match frame_at(tokens) {
         Ok((frame, rest)) => found(alloc, &frame, rest),
         Err(refusal) => refused(alloc, refusal),
     }
 }
 
 /// `limits_at TEXT`
-pub fn limits(alloc: Global, text: &str) -> Result<String, Failure> {
-    let tokens = tokens_of(alloc, text)?;
-    match limits_at(&tokens) {
+pub fn limits(alloc: Global, tokens: &[Token]) -> Result<String, Failure> {
+    match limits_at(tokens) {
         Ok((limits, rest)) => found(alloc, &limits, rest),
         Err(refusal) => refused(alloc, refusal),
     }

@@ -22,18 +22,20 @@ fn answered(alloc: Global, names: &[Text], rows: &[Row]) -> Result<String, Failu
     in_one_line(alloc, &text)
 }
 
-/// The data of a table of the schema: its rows as the text of an answer, or their number where there are many.
-fn loaded_into(
-    alloc: Global,
-    table: &Table,
-    rows: Result<Vec<Row>, DataError>,
-) -> Result<String, Failure> {
-    match rows {
-        Ok(rows) if rows.len() > 100 => {
-            let count = rows.len();
-            Ok(format!(in alloc; "rows: {count}")?)
-        }
-        Ok(rows) => answered(alloc, &names_of(alloc, table)?, &rows),
+/// Rows of a table as the text of an answer, or their number where there are many.
+fn rows_shown(alloc: Global, table: &Table, rows: &[Row]) -> Result<String, Failure> {
+    let count = rows.len();
+    if count > 100 {
+        return Ok(format!(in alloc; "rows: {count}")?);
+    }
+    let names = names_of(alloc, table)?;
+    answered(alloc, &names, rows)
+}
+
+fn loaded_into(alloc: Global, table: &Table, text: &str) -> Result<String, Failure> {
+    let text = unescaped(alloc, text)?;
+    match load(alloc, table, &text) {
+        Ok(rows) => rows_shown(alloc, table, &rows),
         Err(error) => Err(of_rows(&error)),
     }
 }
@@ -42,20 +44,31 @@ fn loaded_into(
 pub fn loaded(alloc: Global, given: &Given, text: &str) -> Result<String, Failure> {
     let (name, text) = text.split_once(' ').unwrap_or((text, ""));
     let schema = given.tables(alloc)?;
-    let table = schema.table(name).ok_or(Failure::NoCase)?;
+    match schema.table(name) {
+        Some(table) => loaded_into(alloc, table, text),
+        None => Err(Failure::NoCase),
+    }
+}
+
+fn refusal_of(alloc: Global, table: &Table, text: &str) -> Result<Option<DataError>, Failure> {
     let text = unescaped(alloc, text)?;
-    loaded_into(alloc, table, load(alloc, table, &text))
+    Ok(load(alloc, table, &text).err())
+}
+
+fn why_not(alloc: Global, table: &Table, text: &str) -> Result<String, Failure> {
+    match refusal_of(alloc, table, text)? {
+        None => Ok(String::from_str(alloc, "loaded")?),
+        Some(error) => of_rows(&error).explained(alloc, &error),
+    }
 }
 
 /// `why NAME TEXT`: why such data is refused.
 pub fn explained(alloc: Global, given: &Given, text: &str) -> Result<String, Failure> {
     let (name, text) = text.split_once(' ').unwrap_or((text, ""));
     let schema = given.tables(alloc)?;
-    let table = schema.table(name).ok_or(Failure::NoCase)?;
-    let text = unescaped(alloc, text)?;
-    match load(alloc, table, &text) {
-        Ok(_) => Ok(String::from_str(alloc, "loaded")?),
-        Err(error) => of_rows(&error).explained(alloc, &error),
+    match schema.table(name) {
+        Some(table) => why_not(alloc, table, text),
+        None => Err(Failure::NoCase),
     }
 }
 
@@ -71,12 +84,21 @@ fn names_in(alloc: Global, row: &[Value]) -> Result<Vec<Text>, Failure> {
     Ok(names)
 }
 
+fn answer_of(alloc: Global, names: &[Value], rows: &[Row]) -> Result<String, Failure> {
+    let names = names_in(alloc, names)?;
+    answered(alloc, &names, rows)
+}
+
+fn rows_in(alloc: Global, text: &str) -> Result<Vec<Row>, Failure> {
+    let text = text_of(alloc, text)?;
+    rows_of(alloc, text.as_str())
+}
+
 /// `answer NAMES;ROW;..`: the text of an answer.
 pub fn answer(alloc: Global, text: &str) -> Result<String, Failure> {
-    let text = text_of(alloc, text)?;
-    let rows = rows_of(alloc, text.as_str())?;
+    let rows = rows_in(alloc, text)?;
     match rows.split_first() {
-        Some((names, rows)) => answered(alloc, &names_in(alloc, names)?, rows),
+        Some((names, rows)) => answer_of(alloc, names, rows),
         None => Err(Failure::NoCase),
     }
 }

@@ -4,6 +4,7 @@ use crate::refusal::of_schema;
 use std::alloc::{AllocError, Global};
 use wd_cases::{Failure, text_of, unescaped};
 use wd_schema::{Column, Key, Schema, Table, meets, read_schema};
+use wd_value::Instance;
 
 fn push_column(out: &mut String, column: &Column) -> Result<(), AllocError> {
     let name = column.name.as_str();
@@ -43,30 +44,50 @@ fn push_schema(out: &mut String, schema: &Schema) -> Result<(), AllocError> {
     Ok(())
 }
 
+fn schema_shown(alloc: Global, schema: &Schema) -> Result<String, Failure> {
+    let mut out = String::new(alloc);
+    push_schema(&mut out, schema)?;
+    Ok(out)
+}
+
+fn schema_of(alloc: Global, text: &str) -> Result<Schema, Failure> {
+    let text = unescaped(alloc, text)?;
+    read_schema(alloc, &text).map_err(of_schema)
+}
+
 /// `tables TEXT`: the tables of a schema with their columns (`!` is NOT NULL) and keys.
 pub fn tables(alloc: Global, text: &str) -> Result<String, Failure> {
-    let text = unescaped(alloc, text)?;
-    let schema = read_schema(alloc, &text).map_err(of_schema)?;
-    let mut out = String::new(alloc);
-    push_schema(&mut out, &schema)?;
-    Ok(out)
+    let schema = schema_of(alloc, text)?;
+    schema_shown(alloc, &schema)
 }
 
 /// `table NAME`: how many columns and keys the schema's table of that name has.
 pub fn table(alloc: Global, given: &Given, name: &str) -> Result<String, Failure> {
     let schema = given.tables(alloc)?;
-    let Some(table) = schema.table(name) else {
+    counts_shown(alloc, schema.table(name))
+}
+
+fn counts_shown(alloc: Global, table: Option<&Table>) -> Result<String, Failure> {
+    let Some(table) = table else {
         return Ok(String::from_str(alloc, "none")?);
     };
     let (columns, keys) = (table.columns.len(), table.keys.len());
     Ok(format!(in alloc; "columns: {columns}, keys: {keys}")?)
 }
 
+fn instance_in(alloc: Global, text: &str) -> Result<Instance, Failure> {
+    let text = text_of(alloc, text)?;
+    instance_of(alloc, text.as_str())
+}
+
 /// `meets TABLES`: whether tables with these rows meet the schema.
 pub fn met(alloc: Global, given: &Given, text: &str) -> Result<String, Failure> {
-    let text = text_of(alloc, text)?;
-    let instance = instance_of(alloc, text.as_str())?;
+    let instance = instance_in(alloc, text)?;
+    met_by(alloc, given, &instance)
+}
+
+fn met_by(alloc: Global, given: &Given, instance: &Instance) -> Result<String, Failure> {
     let schema = given.tables(alloc)?;
-    let met = meets(&schema, &instance).is_ok();
+    let met = meets(&schema, instance).is_ok();
     Ok(met.to_string(alloc)?)
 }

@@ -1,6 +1,6 @@
-use crate::token::tokens_of;
 use std::alloc::{AllocError, Global};
 use wd_cases::Failure;
+use wd_lex::Token;
 use wd_statements::{
     ColumnRule, Element, KeyWords, Name, Nulls, Rule, Statements, WrittenColumn, WrittenKey,
     WrittenTable, read_statements,
@@ -91,10 +91,13 @@ fn push_statements(out: &mut String, statements: &Statements) -> Result<(), Allo
 }
 
 /// `statements TEXT`
-pub fn statements(alloc: Global, text: &str) -> Result<String, Failure> {
-    let tokens = tokens_of(alloc, text)?;
-    let statements = read_statements(alloc, &tokens)?;
+pub fn statements(alloc: Global, tokens: &[Token]) -> Result<String, Failure> {
+    let statements = read_statements(alloc, tokens)?;
+    statements_shown(alloc, &statements)
+}
+
+fn statements_shown(alloc: Global, statements: &Statements) -> Result<String, Failure> {
     let mut out = String::new(alloc);
-    push_statements(&mut out, &statements)?;
+    push_statements(&mut out, statements)?;
     Ok(out)
 }

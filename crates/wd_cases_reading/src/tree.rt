@@ -1,28 +1,30 @@
 use crate::refusal::of_tree;
-use crate::token::tokens_of;
 use std::alloc::{AllocError, Global};
 use wd_cases::Failure;
+use wd_lex::Token;
 use wd_parse::{Alias, Expr, Item, Link, Literal, Quantifier, Query, parse};
 
-/// The tree of a query.
-fn query_of(alloc: Global, text: &str) -> Result<Query, Failure> {
-    let tokens = tokens_of(alloc, text)?;
-    parse(alloc, &tokens).map_err(of_tree)
-}
-
 /// `query TEXT`: whether it is read, or why not.
-pub fn query(alloc: Global, text: &str) -> Result<String, Failure> {
-    let tokens = tokens_of(alloc, text)?;
-    match parse(alloc, &tokens) {
-        Ok(_) => Ok(String::from_str(alloc, "read")?),
-        Err(error) => of_tree(error).explained(alloc, &error),
+pub fn query(alloc: Global, tokens: &[Token]) -> Result<String, Failure> {
+    match parse(alloc, tokens).err() {
+        None => Ok(String::from_str(alloc, "read")?),
+        Some(error) => of_tree(error).explained(alloc, &error),
     }
 }
 
 /// `items TEXT`: the trees of a query's select list, each chain of operators or of tests in square brackets.
-pub fn items(alloc: Global, text: &str) -> Result<String, Failure> {
-    let query = query_of(alloc, text)?;
+pub fn items(alloc: Global, tokens: &[Token]) -> Result<String, Failure> {
+    let query = parse(alloc, tokens).map_err(of_tree)?;
+    items_shown(alloc, &query)
+}
+
+fn items_shown(alloc: Global, query: &Query) -> Result<String, Failure> {
     let mut out = String::new(alloc);
+    push_items(&mut out, query)?;
+    Ok(out)
+}
+
+fn push_items(out: &mut String, query: &Query) -> Result<(), AllocError> {
     out.push_str(match query.select.quantifier {
         None => "",
         Some(Quantifier::All) => "ALL ",
@@ -30,10 +32,9 @@ pub fn items(alloc: Global, text: &str) -> Result<String, Failure> {
     })?;
     for (place, item) in query.select.items.iter().enumerate() {
         out.push_str(if place > 0 { ", " } else { "" })?;
-        push_item(&mut out, item)?;
+        push_item(out, item)?;
     }
-    out.push_str(if query.semicolon { ";" } else { "" })?;
-    Ok(out)
+    out.push_str(if query.semicolon { ";" } else { "" })
 }
 
 fn push_item(out: &mut String, item: &Item) -> Result<(), AllocError> {
