@@ -6,8 +6,6 @@ mod engine;
 mod error;
 pub mod laws;
 mod query;
-#[cfg(test)]
-mod tests;
 
 pub use engine::run;
 pub use error::{Origin, RunError};

@@ -6,8 +6,6 @@ mod frame;
 pub mod laws;
 mod name;
 mod query;
-#[cfg(test)]
-mod tests;
 mod words;
 
 pub use expression::{

@@ -9,8 +9,6 @@ mod header;
 mod key;
 mod record;
 mod row;
-#[cfg(test)]
-mod tests;
 
 pub use answer::answer_text;
 pub use data::load;

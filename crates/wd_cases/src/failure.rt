@@ -1,0 +1,63 @@
+use std::alloc::{AllocError, AllocFailed, Global};
+use std::fmt::Display;
+use wd_value::OutOfMemory;
+
+/// Why a case has nothing to show.
+#[derive(Clone, Copy)]
+pub enum Failure {
+    /// The line is no case.
+    NoCase,
+    /// A call refuses, by this number and at this place; want of memory has no number.
+    Refused {
+        number: Option<u32>,
+        place: Option<u64>,
+    },
+}
+
+impl Failure {
+    pub fn shown(self, alloc: Global) -> Result<String, AllocError> {
+        match self {
+            Failure::NoCase => String::from_str(alloc, "no such case"),
+            Failure::Refused { number, place } => refused(alloc, number, place),
+        }
+    }
+
+    /// The failure, and a message behind it.
+    pub fn explained<E: Display>(self, alloc: Global, message: &E) -> Result<String, Failure> {
+        let shown = self.shown(alloc)?;
+        Ok(format!(in alloc; "{shown}: {message}")?)
+    }
+}
+
+fn refused(alloc: Global, number: Option<u32>, place: Option<u64>) -> Result<String, AllocError> {
+    match (number, place) {
+        (Some(number), Some(place)) => format!(in alloc; "refused {number} at {place}"),
+        (Some(number), None) => format!(in alloc; "refused {number}"),
+        (None, Some(place)) => format!(in alloc; "out of memory at {place}"),
+        (None, None) => String::from_str(alloc, "out of memory"),
+    }
+}
+
+/// Want of memory.
+const MEMORY: Failure = Failure::Refused {
+    number: None,
+    place: None,
+};
+
+impl From<AllocError> for Failure {
+    fn from(_error: AllocError) -> Failure {
+        MEMORY
+    }
+}
+
+impl<T: Drop> From<AllocFailed<T>> for Failure {
+    fn from(_error: AllocFailed<T>) -> Failure {
+        MEMORY
+    }
+}
+
+impl From<OutOfMemory> for Failure {
+    fn from(_error: OutOfMemory) -> Failure {
+        MEMORY
+    }
+}

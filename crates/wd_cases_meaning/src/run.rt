@@ -1,0 +1,65 @@
+//! Queries over data.
+use crate::given::{Given, NamedData};
+use std::alloc::Global;
+use wd_cases::{Failure, in_one_line, unescaped};
+use wd_plan::Outcome;
+use wd_run::{Origin, RunError};
+use wd_tables::answer_text;
+use wd_value::{Fault, Row, Text};
+
+/// The text of an answer, in one line.
+fn answered(alloc: Global, names: &[Text], rows: &[Row]) -> Result<String, Failure> {
+    let text = answer_text(alloc, names, rows)?;
+    in_one_line(alloc, &text)
+}
+
+fn fault_name(fault: Fault) -> &'static str {
+    match fault {
+        Fault::DivisionByZero => "fault F1",
+        Fault::OutOfRange => "fault F2",
+    }
+}
+
+fn refused(alloc: Global, error: &RunError) -> Result<String, Failure> {
+    let failure = Failure::Refused {
+        number: error.number(),
+        place: error.place(),
+    };
+    let shown = failure.shown(alloc)?;
+    Ok(match error.origin() {
+        Origin::Schema => format!(in alloc; "schema {shown}")?,
+        Origin::Query => format!(in alloc; "query {shown}")?,
+        Origin::Data(name) => format!(in alloc; "data {name} {shown}")?,
+        Origin::Run => format!(in alloc; "run {shown}")?,
+    })
+}
+
+/// The data, as names and texts.
+fn pairs(alloc: Global, data: &[NamedData]) -> Result<Vec<(&str, &[u8])>, Failure> {
+    let mut pairs = Vec::new(alloc);
+    for NamedData { name, text } in data {
+        pairs.push((name.as_str(), text.as_slice()))?;
+    }
+    Ok(pairs)
+}
+
+/// `run QUERY`: its answer over the schema and the data, its fault or its refusal.
+pub fn ran(alloc: Global, given: &Given, text: &str) -> Result<String, Failure> {
+    let query = unescaped(alloc, text)?;
+    ran_over(alloc, given, &query)
+}
+
+fn ran_over(alloc: Global, given: &Given, query: &[u8]) -> Result<String, Failure> {
+    let data = pairs(alloc, &given.data)?;
+    match wd_run::run(alloc, &given.schema, query, &data) {
+        Ok((names, outcome)) => outcome_shown(alloc, &names, &outcome),
+        Err(error) => refused(alloc, &error),
+    }
+}
+
+fn outcome_shown(alloc: Global, names: &[Text], outcome: &Outcome) -> Result<String, Failure> {
+    match outcome {
+        Outcome::Rows(rows) => answered(alloc, names, rows),
+        Outcome::Fault(fault) => Ok(String::from_str(alloc, fault_name(*fault))?),
+    }
+}

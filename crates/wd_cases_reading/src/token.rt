@@ -1,0 +1,48 @@
+use crate::refusal::of_tokens;
+use std::alloc::{AllocError, Global};
+use wd_cases::{Failure, unescaped};
+use wd_lex::{Span, Token, TokenKind, lex};
+
+/// The tokens of a text.
+pub fn tokens_of(alloc: Global, text: &str) -> Result<Vec<Token>, Failure> {
+    let text = unescaped(alloc, text)?;
+    lex(alloc, &text).map_err(of_tokens)
+}
+
+/// `tokens TEXT`: each token as `kind@start..end`, or why there are none.
+pub fn tokens(alloc: Global, text: &str) -> Result<String, Failure> {
+    let text = unescaped(alloc, text)?;
+    match lex(alloc, &text) {
+        Ok(tokens) => Ok(listed(alloc, &tokens)?),
+        Err(error) => of_tokens(error).explained(alloc, &error),
+    }
+}
+
+fn listed(alloc: Global, tokens: &[Token]) -> Result<String, AllocError> {
+    let mut out = String::new(alloc);
+    for token in tokens {
+        if !out.is_empty() {
+            out.push(' ')?;
+        }
+        push_token(&mut out, token)?;
+    }
+    Ok(out)
+}
+
+fn push_token(out: &mut String, token: &Token) -> Result<(), AllocError> {
+    let Span { start, end } = token.span;
+    push_kind(out, &token.kind)?;
+    write!(out, "@{start}..{end}")
+}
+
+fn push_kind(out: &mut String, kind: &TokenKind) -> Result<(), AllocError> {
+    let (word, text) = match kind {
+        TokenKind::Mark(mark) => return write!(out, "{mark:?}"),
+        TokenKind::Number(number) => return write!(out, "number {number}"),
+        TokenKind::Word(text) => ("word ", text),
+        TokenKind::Quoted(text) => ("quoted ", text),
+        TokenKind::Literal(text) => ("literal ", text),
+    };
+    out.push_str(word)?;
+    out.push_str(text.as_str())
+}

@@ -1,6 +1,0 @@
-use crate::laws;
-
-#[test]
-fn laws_hold() {
-    laws::one_tree();
-}
