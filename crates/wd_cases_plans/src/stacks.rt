@@ -9,7 +9,7 @@ use crate::words::{
 };
 use std::alloc::Global;
 use std::mem::replace;
-use wd_plan::{Call, Class, Expr, Frame, Function, OrderItem, Plan, ValueKind};
+use wd_plan::{Branch, Call, Class, Expr, Frame, Function, OrderItem, Plan, ValueKind};
 use wd_value::Value;
 
 #[derive(Drop)]
@@ -143,7 +143,7 @@ impl Stacks {
         let other = self.expression()?;
         let chosen = self.expression()?;
         let condition = self.expression()?;
-        self.push_expression(Expr::Case(condition, chosen, other))
+        self.push_expression(Expr::Case(Branch::First, condition, chosen, other))
     }
 
     fn push_call(&mut self, function: Function) -> Result<(), Refusal> {
