@@ -1,5 +1,5 @@
 -- What a node gives, and why it stops, from what the nodes below it give.
-use Rattle.std.proofs.Common.{◌≡◌, ℕ, ◌+◌, ◌≤◌, Bool, true, false, ◌||◌, List, [], take, drop, length, Option, Ok, inl, inr, refl, sym, ap, ◌∙◌, subst, arith, length-drop, drop-drop}
+use Rattle.std.proofs.Common.{◌≡◌, ℕ, ◌+◌, ◌<◌, ◌≤◌, Bool, true, false, ◌||◌, List, [], take, drop, length, Option, Ok, inl, inr, refl, sym, ap, ◌∙◌, subst, arith, length-drop, drop-drop}
 use Rattle.std.specs.List.{AllByRecursion}
 use Rattle.std.proofs.lemmas.List.{get_or-drop}
 use Rattle.wd_value.specs.Rows.{Instance, table_at}
@@ -15,7 +15,7 @@ use Rattle.wd_eval.specs.Steps.{has_large_step, is_large}
 use Rattle.wd_eval.specs.Nodes.{given_of, IsEvaluated, IsStopped, IsSmall, IsLarge, join_over, cut_over, IsCut, IsUnserved}
 use Rattle.wd_eval.specs.Wrong.{IsWrongFrom}
 use Rattle.wd_window.specs.Windows as window
-use Rattle.wd_window.specs.Windows.{IsExtended, IsWrong, IsWrongIn, window_over}
+use Rattle.wd_window.specs.Windows.{IsExtended, IsLeast, IsWrong, IsWrongIn, window_over}
 use Rattle.wd_window.specs.declared.error.WindowError.{WindowError}
 use Rattle.wd_window.specs.declared.error.WindowError.TheVariants as error
 use Rattle.wd_eval.specs.Errors.{window_error_of}
@@ -24,6 +24,7 @@ use Rattle.wd_eval.specs.declared.error.EvalError.TheVariants.{NotValid, TooMany
 use Rattle.wd_eval.specs.declared.given.Given.{Given}
 use Rattle.wd_eval.specs.declared.given.Given.TheVariants.{Made}
 use Rattle.wd_eval.specs.declared.node.Evaluated.{Evaluated}
+use Rattle.wd_eval.proofs.Wrong.{none_wrong, wrong_within}
 use Rattle.wd_eval.proofs.Sizes.{fewer_filter, fewer_map, fewer_distinct, fewer_window, fewer_cut}
 
 pub or_left : (a b : Bool) → a ≡ true → (a || b) ≡ true
@@ -131,13 +132,26 @@ module _ (most : ℕ) (instance : Instance) (choice : List (List ℕ)) (first : 
         }
 
   pub window_stopped : (w : WindowRule) (input : PlanTree) (below : Evaluated) → IsEvaluated most input instance choice first below → (e : EvalError)
-      → IsUnserved (IsWrongIn w.classes (given_of instance below.outcome) choice below.next) e → IsStopped most (Window w input) instance choice first e
-  window_stopped w input below b (NotValid p) h = inr (subst (λ (n : ℕ). IsWrongIn w.classes (outcome input instance rest) choice n p) b.next (subst (λ (r : RowsOrFault). IsWrongIn w.classes r choice below.next p) b.is h))
+      → IsUnserved (IsLeast (IsWrongIn w.classes (given_of instance below.outcome) choice below.next)) e → IsStopped most (Window w input) instance choice first e
+  window_stopped w input below b (NotValid p) h =
+      let own = subst (λ (n : ℕ). IsLeast (IsWrongIn w.classes (outcome input instance rest) choice n) p) b.next (subst (λ (r : RowsOrFault). IsLeast (IsWrongIn w.classes r choice below.next) p) b.is h) in (
+        inr own.0,
+        λ m earlier x. elim x [
+            | inl y ↦ none_wrong instance choice m input first b.served.present b.served.lawful y
+            | inr y ↦ own.1 m earlier y
+          ],
+      )
   window_stopped w input below b TooManyRows h = absurd h
   window_stopped w input below b OutOfMemory h = tt
 
   pub window_stopped_below : (w : WindowRule) (input : PlanTree) (e : EvalError) → IsStopped most input instance choice first e → IsStopped most (Window w input) instance choice first e
-  window_stopped_below w input (NotValid p) h = inl h
+  window_stopped_below w input (NotValid p) h = (
+    inl h.0,
+    λ m earlier x. elim x [
+        | inl y ↦ h.1 m earlier y
+        | inr y ↦ (let past = y.wrong.0 in let within = (wrong_within instance choice p input first h.0).1 in omega arith)
+      ],
+  )
   window_stopped_below w input TooManyRows h = or_left (has_large_step most input instance rest) (is_large most (Window w input) instance rest) h
   window_stopped_below w input OutOfMemory h = tt
 
@@ -169,12 +183,25 @@ module _ (most : ℕ) (instance : Instance) (choice : List (List ℕ)) (first : 
 
   pub limit_stopped : (limit : LimitRule) (input : PlanTree) (below : Evaluated) → IsEvaluated most input instance choice first below → (e : EvalError)
       → IsUnserved (IsWrong (limit_class limit) (given_of instance below.outcome) choice below.next) e → IsStopped most (Limit limit input) instance choice first e
-  limit_stopped limit input below b (NotValid p) h = inr (subst (λ (n : ℕ). IsWrong (limit_class limit) (outcome input instance rest) choice n p) b.next (subst (λ (r : RowsOrFault). IsWrong (limit_class limit) r choice below.next p) b.is h))
+  limit_stopped limit input below b (NotValid p) h =
+      let own = subst (λ (n : ℕ). IsWrong (limit_class limit) (outcome input instance rest) choice n p) b.next (subst (λ (r : RowsOrFault). IsWrong (limit_class limit) r choice below.next p) b.is h) in (
+        inr own,
+        λ m earlier x. elim x [
+            | inl y ↦ none_wrong instance choice m input first b.served.present b.served.lawful y
+            | inr y ↦ (let here = own.0 in let there = y.0 in omega arith)
+          ],
+      )
   limit_stopped limit input below b TooManyRows h = absurd h
   limit_stopped limit input below b OutOfMemory h = tt
 
   pub limit_stopped_below : (limit : LimitRule) (input : PlanTree) (e : EvalError) → IsStopped most input instance choice first e → IsStopped most (Limit limit input) instance choice first e
-  limit_stopped_below limit input (NotValid p) h = inl h
+  limit_stopped_below limit input (NotValid p) h = (
+    inl h.0,
+    λ m earlier x. elim x [
+        | inl y ↦ h.1 m earlier y
+        | inr y ↦ (let past = y.0 in let within = (wrong_within instance choice p input first h.0).1 in omega arith)
+      ],
+  )
   limit_stopped_below limit input TooManyRows h = or_left (has_large_step most input instance rest) (is_large most (Limit limit input) instance rest) h
   limit_stopped_below limit input OutOfMemory h = tt
 
@@ -188,7 +215,13 @@ module _ (most : ℕ) (instance : Instance) (choice : List (List ℕ)) (first : 
   on_right = drop (ordering_count left) all
 
   pub join_stopped_left : (e : EvalError) → IsStopped most left instance choice first e → IsStopped most (Join condition left right) instance choice first e
-  join_stopped_left (NotValid p) h = inl h
+  join_stopped_left (NotValid p) h = (
+    inl h.0,
+    λ m earlier x. elim x [
+        | inl y ↦ h.1 m earlier y
+        | inr y ↦ (let past = (wrong_within instance choice m right (first + ordering_count left) y).0 in let within = (wrong_within instance choice p left first h.0).1 in omega arith)
+      ],
+  )
   join_stopped_left TooManyRows h = or_left (has_large_step most left instance all || has_large_step most right instance on_right) (is_large most (Join condition left right) instance all) (or_left (has_large_step most left instance all) (has_large_step most right instance on_right) h)
   join_stopped_left OutOfMemory h = tt
 
@@ -197,7 +230,14 @@ module _ (most : ℕ) (instance : Instance) (choice : List (List ℕ)) (first : 
     right_is = behind most instance choice first (ordering_count left) l.next a.next
 
     pub join_stopped_right : (e : EvalError) → IsStopped most right instance choice l.next e → IsStopped most (Join condition left right) instance choice first e
-    join_stopped_right (NotValid p) h = inr (subst (λ (n : ℕ). IsWrongFrom right instance choice n p) a.next h)
+    join_stopped_right (NotValid p) h =
+        let own = subst (λ (n : ℕ). IsLeast (IsWrongFrom right instance choice n) p) a.next h in (
+          inr own.0,
+          λ m earlier x. elim x [
+              | inl y ↦ none_wrong instance choice m left first a.served.present a.served.lawful y
+              | inr y ↦ own.1 m earlier y
+            ],
+        )
     join_stopped_right TooManyRows h =
         let large : has_large_step most right instance on_right ≡ true = ap (has_large_step most right instance) (sym right_is) ∙ h in
         or_left (has_large_step most left instance all || has_large_step most right instance on_right) (is_large most (Join condition left right) instance all) (or_right (has_large_step most left instance all) (has_large_step most right instance on_right) large)

@@ -11,7 +11,7 @@ use Rattle.wd_plan.specs.Plans.{ClassRule, LimitRule, WindowRule, class_of}
 use Rattle.wd_plan.specs.Sorting.{IsOrdering, limit_class}
 use Rattle.wd_partition.proofs.Grouping.{IsOrdering-from_given}
 use Rattle.wd_eval.specs.Nodes.{IsCut, IsUnserved}
-use Rattle.wd_window.specs.Windows.{HasOrdering, IsWindowServed, IsWrong, IsWrongIn}
+use Rattle.wd_window.specs.Windows.{HasOrdering, IsLeast, IsWindowServed, IsWrong, IsWrongIn}
 use Rattle.wd_eval.specs.Tied.{IsSortedOver, is_flipped}
 use Rattle.wd_eval.specs.Ties.{ArePut, AreSortedOver, IsTiedLimit, IsWantOfMemory}
 use Rattle.wd_window.specs.Listings.{class_in}
@@ -28,8 +28,8 @@ served_memory IsPlace OutOfMemory none h = tt
 pub limit_memory : (class : ClassRule) (input : RowsOrFault) (choice : List (List ℕ)) (number : ℕ) (e : EvalError) → HasOrdering class input choice number → IsUnserved (IsWrong class input choice number) e → IsWantOfMemory e
 limit_memory class input choice number e s = served_memory (IsWrong class input choice number) e (λ place h. h.1 s)
 
-pub window_memory : (w : WindowRule) (input : RowsOrFault) (choice : List (List ℕ)) (first : ℕ) (e : EvalError) → IsWindowServed w input choice first → IsUnserved (IsWrongIn w.classes input choice first) e → IsWantOfMemory e
-window_memory w input choice first e s = served_memory (IsWrongIn w.classes input choice first) e (λ place h. h.wrong.1 (class_served w input choice first h.number s h.within))
+pub window_memory : (w : WindowRule) (input : RowsOrFault) (choice : List (List ℕ)) (first : ℕ) (e : EvalError) → IsWindowServed w input choice first → IsUnserved (IsLeast (IsWrongIn w.classes input choice first)) e → IsWantOfMemory e
+window_memory w input choice first e s = served_memory (IsLeast (IsWrongIn w.classes input choice first)) e (λ place h. h.0.wrong.1 (class_served w input choice first h.0.number s h.0.within))
 
 lawful_over : (class : ClassRule) (flipped : Bool) (input : RowsOrFault) (ordering : List ℕ) → IsSortedOver class flipped input ordering → AtRows input (λ rows. IsOrdering class rows ordering) (ordering ≡ [])
 lawful_over class flipped (Ok rows) ordering s = IsOrdering-from_given class rows flipped ordering s

@@ -14,7 +14,7 @@ use Rattle.wd_plan.specs.Outcomes.{RowsOrFault, cut, join_outcome, ordering_at, 
 use Rattle.wd_plan.specs.Plans.{PlanTree, LimitRule, Scan, Join, Filter, Map, Window, Distinct, Limit, ordering_count}
 use Rattle.wd_plan.specs.Sorting.{limit_class}
 use Rattle.wd_steps.specs.Joins.{has_more_rows}
-use Rattle.wd_window.specs.Windows.{EachNames, HasOrdering}
+use Rattle.wd_window.specs.Windows.{EachNames, HasOrdering, IsLeast}
 use Rattle.wd_eval.specs.Steps.{has_large_step}
 use Rattle.wd_eval.specs.Wrong.{IsWrongFrom}
 use Rattle.wd_eval.specs.declared.cut.Cut.{Cut}
@@ -59,7 +59,7 @@ pub record IsEvaluated (most : ℕ) (plan : PlanTree) (instance : Instance) (cho
 
 -- each error only where its cause stands, under the orderings from `first` on
 abbrev pub IsStopped : ℕ → PlanTree → Instance → List (List ℕ) → ℕ → EvalError → Type 0
-IsStopped most plan instance choice first (NotValid place) = IsWrongFrom plan instance choice first place
+IsStopped most plan instance choice first (NotValid place) = IsLeast (IsWrongFrom plan instance choice first) place
 IsStopped most plan instance choice first TooManyRows = has_large_step most plan instance (drop first choice) ≡ true
 IsStopped most plan instance choice first OutOfMemory = ⊤
 

@@ -10,8 +10,8 @@ use Rattle.wd_plan.specs.declared.window.Class.{Class}
 use Rattle.wd_plan.specs.Outcomes.{RowsOrFault, class_at, ordering_at, outcome_of, window_outcome}
 use Rattle.wd_plan.specs.Plans.{ClassRule, WindowRule, class_of}
 use Rattle.wd_plan.specs.Sorting.{IsOrdering}
-use Rattle.wd_window.specs.Windows.{HasOrdering, IsExtended, IsUnserved, IsWindowServed, IsWrong, IsWrongIn}
-use Rattle.wd_window.specs.Listings.{AreEmpty, AreListed, AreListings, IsListed, IsListing, IsNotEmptyIn}
+use Rattle.wd_window.specs.Windows.{HasOrdering, IsExtended, IsLeast, IsUnserved, IsWindowServed, IsWrong, IsWrongIn}
+use Rattle.wd_window.specs.Listings.{AreEmpty, AreListed, AreListings, IsEmptyAt, IsListed, IsListing, IsNotEmptyIn}
 use Rattle.wd_window.specs.declared.error.WindowError.{WindowError}
 use Rattle.wd_window.specs.declared.error.WindowError.TheVariants.{NotValid, OutOfMemory}
 use Rattle.wd_window.specs.declared.listing.Listing.{Listing}
@@ -22,17 +22,27 @@ own_at choice first m k h = get_or-take m (drop first choice) k [] h ∙ get_or-
 length_own : (choice : List (List ℕ)) (first m : ℕ) → first + m ≤ length choice → length (take m (drop first choice)) ≡ m
 length_own choice first m h = let a = length-take m (drop first choice) in let b = length-drop first choice in omega arith
 
--- a class that does not serve stops its Window
-pub class_unserved : (classes : List Class) (class : Class) (input : RowsOrFault) (choice : List (List ℕ)) (first k : ℕ) (e : WindowError) → k < length classes → class ≡ get_or classes k class
-    → IsUnserved (IsWrong (class_of class) input choice (first + k)) e → IsUnserved (IsWrongIn (map class_of classes) input choice first) e
-class_unserved classes class input choice first k (NotValid p) lt is h =
+-- the first class that does not serve stops its Window
+pub class_unserved : (classes : List Class) (class : Class) (rows : List Row) (choice : List (List ℕ)) (first k : ℕ) (e : WindowError) (listings : List Listing) → k < length classes → class ≡ get_or classes k class
+    → AreListings (map class_of classes) rows choice first k listings → IsUnserved (IsWrong (class_of class) (Ok rows) choice (first + k)) e → IsUnserved (IsLeast (IsWrongIn (map class_of classes) (Ok rows) choice first)) e
+class_unserved classes class rows choice first k (NotValid p) listings lt is a h =
     let long = length-map classes class_of in
-    record {
-      number = k;
-      within = omega arith;
-      wrong = subst (λ (rule : ClassRule). IsWrong rule input choice (first + k) p) (ap class_of is ∙ sym (get_or-map class_of classes k class (record { partition = []; order = [] }) lt)) h;
-    }
-class_unserved classes class input choice first k OutOfMemory lt is h = tt
+    let here = h.0 in
+    let there = a.present in (
+      record {
+        number = k;
+        within = omega arith;
+        wrong = subst (λ (rule : ClassRule). IsWrong rule (Ok rows) choice (first + k) p) (ap class_of is ∙ sym (get_or-map class_of classes k class (record { partition = []; order = [] }) lt)) h;
+      },
+      λ m earlier w. (
+          let at = w.wrong.0 in
+          let before : w.number < k = omega arith in
+          w.wrong.1 (record {
+            present = omega arith;
+            lawful = (a.each w.number (record { partition = []; order = [] }) (record { partitions = []; desc = false }) before).lawful;
+          })),
+    )
+class_unserved classes class rows choice first k OutOfMemory listings lt is a h = tt
 
 -- the partitions of one class more
 pub listings_more : (classes : List Class) (class : Class) (rows : List Row) (choice : List (List ℕ)) (first n : ℕ) (ls more : List Listing) (l : Listing) → n < length classes → class ≡ get_or classes n class
@@ -101,15 +111,33 @@ module _ (w : WindowRule) (fault : Fault) (choice : List (List ℕ)) (first n : 
         is = is;
       }
 
-  pub fault_unserved : (classes : List ClassRule) → n ≡ length classes → (e : WindowError) → IsUnserved (IsNotEmptyIn n choice first) e → IsUnserved (IsWrongIn classes (Err fault) choice first) e
-  fault_unserved classes many (NotValid p) h =
-      let small = h.within in
-      record {
-        number = h.number;
-        within = omega arith;
-        wrong = (h.at, λ o. h.wrong (record { present = o.present; empty = o.lawful }));
-      }
-  fault_unserved classes many OutOfMemory h = tt
+  pub fault_unserved : (e : WindowError) → IsUnserved (IsLeast (IsNotEmptyIn n choice first)) e → IsUnserved (IsLeast (IsWrongIn w.classes (Err fault) choice first)) e
+  fault_unserved (NotValid p) h =
+      let small = h.0.within in (
+        record {
+          number = h.0.number;
+          within = omega arith;
+          wrong = (h.0.at, λ o. h.0.wrong (record { present = o.present; empty = o.lawful }));
+        },
+        λ m earlier x. (let few = x.within in h.1 m earlier (record {
+          number = x.number;
+          within = omega arith;
+          at = x.wrong.0;
+          wrong = λ o. x.wrong.1 (record { present = o.present; lawful = o.empty });
+        })),
+      )
+  fault_unserved OutOfMemory h = tt
+
+-- the first ordering that is not empty
+pub empty_unserved : (count : ℕ) (choice : List (List ℕ)) (first k : ℕ) → k < count → AreEmpty k choice first → (IsEmptyAt choice (first + k) → ⊥) → IsLeast (IsNotEmptyIn count choice first) (first + k)
+empty_unserved count choice first k lt a filled = (
+  record { number = k; within = lt; at = refl; wrong = filled },
+  λ m earlier w. (
+      let at = w.at in
+      let there = a.present in
+      let before : w.number < k = omega arith in
+      w.wrong (record { present = omega arith; empty = a.empty w.number before })),
+)
 
 -- ---- each class of a Window that is served
 

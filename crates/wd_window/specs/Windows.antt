@@ -63,6 +63,10 @@ pub record IsWrongIn (classes : List ClassRule) (input : RowsOrFault) (choice : 
   pub within : number < length classes
   pub wrong : IsWrong (class_in classes number) input choice (first + number) place
 
+-- the least number of which this holds
+abbrev pub IsLeast : (ℕ → Type 0) → ℕ → Type 0
+IsLeast Holds n = Holds n × ((m : ℕ) → m < n → Holds m → ⊥)
+
 -- a place of which this holds, or want of memory
 abbrev pub IsUnserved : (ℕ → Type 0) → WindowError → Type 0
 IsUnserved IsPlace (NotValid place) = IsPlace place

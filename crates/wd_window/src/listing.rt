@@ -1,7 +1,7 @@
 //! The partitions of a Window's classes under the orderings of a choice.
 
 ghost use Rattle.std.specs.Prelude.{◌≡◌, ◌^◌, ◌<◌, ◌≤◌, length, map, MatchResult, Ok};
-ghost use Rattle.wd_window.specs.Windows.{IsUnserved, IsWrong, IsWrongIn, orderings_of};
+ghost use Rattle.wd_window.specs.Windows.{IsLeast, IsUnserved, IsWrong, IsWrongIn, orderings_of};
 ghost use Rattle.wd_window.specs.Listings as spec;
 ghost use Rattle.wd_window.specs.Listings.{AreListings, IsListed};
 ghost use Rattle.wd_frame.specs.Laws as frames;
@@ -33,7 +33,7 @@ pub(crate) fn listings(
 ) -> Result<Vec<Listing>, WindowError>
     requires short { length rows.now < 2 ^ 32 }
     requires within { first ≤ length choice.now }
-    ensures { MatchResult result (λ v. AreListings (map class_of classes.now) (rows_of rows.now) (orderings_of choice.now) first (length classes.now) v.items) (λ e. IsUnserved (IsWrongIn (map class_of classes.now) (Ok (rows_of rows.now)) (orderings_of choice.now) first) e) }
+    ensures { MatchResult result (λ v. AreListings (map class_of classes.now) (rows_of rows.now) (orderings_of choice.now) first (length classes.now) v.items) (λ e. IsUnserved (IsLeast (IsWrongIn (map class_of classes.now) (Ok (rows_of rows.now)) (orderings_of choice.now) first)) e) }
 {
     let mut listings = Vec::new(alloc);
     for (number, class) in classes.iter().enumerate() {

@@ -1,7 +1,7 @@
 //! A Window under the orderings of a choice.
 
 ghost use Rattle.std.specs.Prelude.{◌≡◌, ◌↔◌, ℕ, ◌+◌, ◌-◌, ◌++◌, ◌^◌, ◌<◌, ◌≤◌, List, IfOk, IsTrue, OnOk, length, map, MatchResult};
-ghost use Rattle.wd_window.specs.Windows.{AreFew, EachNames, IsExtended, IsUnserved, IsWrongIn, orderings_of, window_of};
+ghost use Rattle.wd_window.specs.Windows.{AreFew, EachNames, IsExtended, IsLeast, IsUnserved, IsWrongIn, orderings_of, window_of};
 ghost use Rattle.wd_window.specs.Columns.{AreColumns, IsColumn, columns_of};
 ghost use Rattle.wd_window.specs.Listings as spec;
 ghost use Rattle.wd_window.specs.Listings.{AreEmpty, AreListed, IsEmptyAt, IsNotEmptyIn, IsListing, calls_at};
@@ -36,7 +36,7 @@ pub fn evaluate_window(
     requires few { AreFew (2 ^ 32 - 1) (outcome_of input) }
     requires within { first ≤ length choice.now }
     requires named { EachNames (length classes.now) calls.now }
-    ensures { MatchResult result (λ o. IsExtended (window_of classes.now calls.now) (outcome_of input) (orderings_of choice.now) first o) (λ e. IsUnserved (IsWrongIn (map class_of classes.now) (outcome_of input) (orderings_of choice.now) first) e) }
+    ensures { MatchResult result (λ o. IsExtended (window_of classes.now calls.now) (outcome_of input) (orderings_of choice.now) first o) (λ e. IsUnserved (IsLeast (IsWrongIn (map class_of classes.now) (outcome_of input) (orderings_of choice.now) first)) e) }
 {
     match input {
         Outcome::Fault(fault) => {
@@ -214,7 +214,7 @@ fn listed_value(
 /// Refuses the first of so many orderings from `first` on that is not there or not empty.
 fn all_empty(count: usize, choice: &[Vec<u64>], first: usize) -> Result<(), WindowError>
     requires { first ≤ length choice.now }
-    ensures { MatchResult result (λ u. AreEmpty count (orderings_of choice.now) first) (λ e. IsUnserved (IsNotEmptyIn count (orderings_of choice.now) first) e) }
+    ensures { MatchResult result (λ u. AreEmpty count (orderings_of choice.now) first) (λ e. IsUnserved (IsLeast (IsNotEmptyIn count (orderings_of choice.now) first)) e) }
 {
     for number in 0..count {
         if !is_empty_at(choice, first + number) {

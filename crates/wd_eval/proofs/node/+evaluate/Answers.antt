@@ -1,14 +1,17 @@
 use Rattle.std.proofs.Common.{◌≡◌, ◌+◌, ◌≤◌, ◌∙◌, sym, ap, subst, map, length, rules, Ok}
+use Rattle.std.specs.Prelude.{option_map}
 use Rattle.std.proofs.lemmas.List.{length-map}
+use Rattle.std.proofs.lemmas.Result.{err_from_is_err_and}
 use Rattle.wd_value.specs.Rows.{instance_of}
 use Rattle.wd_plan.specs.Expressions.{expression_of}
 use Rattle.wd_plan.specs.Faults.{and_then}
 use Rattle.wd_plan.specs.Outcomes.{distinct, filter_outcome, map_outcome, outcome_of}
-use Rattle.wd_plan.specs.Plans.{class_of, plan_of}
-use Rattle.wd_window.specs.Windows.{IsExtended, orderings_of, window_of}
-use Rattle.wd_eval.specs.Nodes.{given_of, IsCut, IsEvaluated}
+use Rattle.wd_plan.specs.Plans.{LimitRule, class_of, plan_of}
+use Rattle.wd_plan.specs.Sorting.{limit_class}
+use Rattle.wd_window.specs.Windows.{IsExtended, IsLeast, IsWrong, IsWrongIn, orderings_of, window_of}
+use Rattle.wd_eval.specs.Nodes.{given_of, IsCut, IsEvaluated, IsStopped, IsUnserved}
 use Rattle.wd_eval.specs.declared.given.Given.TheVariants.{Made}
-use Rattle.wd_eval.proofs.Nodes.{filter_done, map_done, distinct_done, window_done, limit_done}
+use Rattle.wd_eval.proofs.Nodes.{filter_done, map_done, distinct_done, window_done, limit_done, join_done, join_stopped_left, join_stopped_right, window_stopped, window_stopped_below, limit_stopped, limit_stopped_below}
 use Rattle.wd_eval.proofs.node.+evaluate.Goals as goal
 
 pub returns-in_ok-outcome-in-Filter : goal.returns-in_ok-outcome-in-Filter
@@ -93,3 +96,106 @@ returns-in_ok-outcome-in-Limit t c =
     let same : next ≡ below.next + 1 = (λ i. next) in
     subst (λ p. IsEvaluated most p instance choice first (record { outcome = Made o; next = next })) (sym (ap plan_of c.in-Limit.is))
     (limit_done most instance choice first (record { keys = c.in-Limit.keys.items; offset = c.in-Limit.offset; count = c.in-Limit.count; ties = c.in-Limit.ties }) (plan_of c.in-Limit.input.value) below (subst (λ n. first ≤ n) (sym (length-map c.args.choice.now (λ v. v.items))) c.requires.within) b o next own same)
+
+pub returns-in_err-left-in-Join : goal.returns-in_err-left-in-Join
+returns-in_err-left-in-Join t c =
+    let most = c.args.most in
+    let instance = instance_of c.args.instance.now in
+    let choice = orderings_of c.args.choice.now in
+    let first = c.args.first in
+    let left = plan_of c.in-Join.left.value in
+    let right = plan_of c.in-Join.right.value in
+    let condition = option_map expression_of c.in-Join.condition in
+    let e = c.in_err-left-in-Join.field-0.0 in
+    let err = err_from_is_err_and c.from_residual-in_err-left-in-Join.result c.from_residual-in_err-left-in-Join.ensures.1 in
+    let h = subst (λ p. IsStopped most (plan_of p) instance choice first e) c.deref.ensures c.in_err-left-in-Join.ensures in
+    rw (err.1, err.2) (subst (λ p. IsStopped most p instance choice first e) (sym (ap plan_of c.in-Join.is)) (join_stopped_left most instance choice first condition left right e h))
+
+pub returns-in_err-right-in-Join : goal.returns-in_err-right-in-Join
+returns-in_err-right-in-Join t c =
+    let most = c.args.most in
+    let instance = instance_of c.args.instance.now in
+    let choice = orderings_of c.args.choice.now in
+    let first = c.args.first in
+    let left = plan_of c.in-Join.left.value in
+    let right = plan_of c.in-Join.right.value in
+    let condition = option_map expression_of c.in-Join.condition in
+    let e = c.in_err-right-in-Join.field-0.0 in
+    let err = err_from_is_err_and c.from_residual-in_err-right-in-Join.result c.from_residual-in_err-right-in-Join.ensures.1 in
+    let l = c.in_ok-left-in-Join.left in
+    let a = subst (λ p. IsEvaluated most (plan_of p) instance choice first l) c.deref.ensures c.in_ok-left-in-Join.ensures in
+    let h = subst (λ p. IsStopped most (plan_of p) instance choice l.next e) c.deref-in-Join.ensures c.in_err-right-in-Join.ensures in
+    rw (err.1, err.2) (subst (λ p. IsStopped most p instance choice first e) (sym (ap plan_of c.in-Join.is)) (join_stopped_right most instance choice first condition left right l a e h))
+
+pub returns-in_ok-outcome-in-Join : goal.returns-in_ok-outcome-in-Join
+returns-in_ok-outcome-in-Join t c =
+    let most = c.args.most in
+    let instance = instance_of c.args.instance.now in
+    let choice = orderings_of c.args.choice.now in
+    let first = c.args.first in
+    let left = plan_of c.in-Join.left.value in
+    let right = plan_of c.in-Join.right.value in
+    let condition = option_map expression_of c.in-Join.condition in
+    let l = c.in_ok-left-in-Join.left in
+    let r = c.in_ok-right-in-Join.right in
+    let o = c.in_ok-outcome-in-Join.outcome in
+    let a = subst (λ p. IsEvaluated most (plan_of p) instance choice first l) c.deref.ensures c.in_ok-left-in-Join.ensures in
+    let b = subst (λ p. IsEvaluated most (plan_of p) instance choice l.next r) c.deref-in-Join.ensures c.in_ok-right-in-Join.ensures in
+    subst (λ p. IsEvaluated most p instance choice first (record { outcome = Made o; next = r.next })) (sym (ap plan_of c.in-Join.is))
+    (join_done most instance choice first condition left right l a r b o c.in_ok-outcome-in-Join.ensures)
+
+pub returns-in_err-below-in-Window : goal.returns-in_err-below-in-Window
+returns-in_err-below-in-Window t c =
+    let most = c.args.most in
+    let instance = instance_of c.args.instance.now in
+    let choice = orderings_of c.args.choice.now in
+    let first = c.args.first in
+    let w = window_of c.in-Window.classes.items c.in-Window.calls.items in
+    let input = plan_of c.in-Window.input.value in
+    let e = c.in_err-below-in-Window.field-0.0 in
+    let err = err_from_is_err_and c.from_residual-in_err-below-in-Window.result c.from_residual-in_err-below-in-Window.ensures.1 in
+    let h = subst (λ p. IsStopped most (plan_of p) instance choice first e) c.deref-in-Window.ensures c.in_err-below-in-Window.ensures in
+    rw (err.1, err.2) (subst (λ p. IsStopped most p instance choice first e) (sym (ap plan_of c.in-Window.is)) (window_stopped_below most instance choice first w input e h))
+
+pub returns-in_err-outcome-in-Window : goal.returns-in_err-outcome-in-Window
+returns-in_err-outcome-in-Window t c =
+    let most = c.args.most in
+    let instance = instance_of c.args.instance.now in
+    let choice = orderings_of c.args.choice.now in
+    let first = c.args.first in
+    let w = window_of c.in-Window.classes.items c.in-Window.calls.items in
+    let input = plan_of c.in-Window.input.value in
+    let e = c.in_err-outcome-in-Window.field-0.0 in
+    let err = err_from_is_err_and c.from_residual-in_err-outcome-in-Window.result c.from_residual-in_err-outcome-in-Window.ensures.1 in
+    let below = c.in_ok-below-in-Window.below in
+    let b = subst (λ p. IsEvaluated most (plan_of p) instance choice first below) c.deref-in-Window.ensures c.in_ok-below-in-Window.ensures in
+    let h = subst (λ ks. IsUnserved (IsLeast (IsWrongIn (map class_of ks) (given_of instance below.outcome) choice below.next)) e) c.deref-in-Window-2.ensures.value c.in_err-outcome-in-Window.ensures in
+    rw (err.1, err.2) (subst (λ p. IsStopped most p instance choice first e) (sym (ap plan_of c.in-Window.is)) (window_stopped most instance choice first w input below b e h))
+
+pub returns-in_err-below-in-Limit : goal.returns-in_err-below-in-Limit
+returns-in_err-below-in-Limit t c =
+    let most = c.args.most in
+    let instance = instance_of c.args.instance.now in
+    let choice = orderings_of c.args.choice.now in
+    let first = c.args.first in
+    let limit : LimitRule = record { keys = c.in-Limit.keys.items; offset = c.in-Limit.offset; count = c.in-Limit.count; ties = c.in-Limit.ties } in
+    let input = plan_of c.in-Limit.input.value in
+    let e = c.in_err-below-in-Limit.field-0.0 in
+    let err = err_from_is_err_and c.from_residual-in_err-below-in-Limit.result c.from_residual-in_err-below-in-Limit.ensures.1 in
+    let h = subst (λ p. IsStopped most (plan_of p) instance choice first e) c.deref-in-Limit.ensures c.in_err-below-in-Limit.ensures in
+    rw (err.1, err.2) (subst (λ p. IsStopped most p instance choice first e) (sym (ap plan_of c.in-Limit.is)) (limit_stopped_below most instance choice first limit input e h))
+
+pub returns-in_err-outcome-in-Limit : goal.returns-in_err-outcome-in-Limit
+returns-in_err-outcome-in-Limit t c =
+    let most = c.args.most in
+    let instance = instance_of c.args.instance.now in
+    let choice = orderings_of c.args.choice.now in
+    let first = c.args.first in
+    let limit : LimitRule = record { keys = c.in-Limit.keys.items; offset = c.in-Limit.offset; count = c.in-Limit.count; ties = c.in-Limit.ties } in
+    let input = plan_of c.in-Limit.input.value in
+    let e = c.in_err-outcome-in-Limit.field-0.0 in
+    let err = err_from_is_err_and c.from_residual-in_err-outcome-in-Limit.result c.from_residual-in_err-outcome-in-Limit.ensures.1 in
+    let below = c.in_ok-below-in-Limit.below in
+    let b = subst (λ p. IsEvaluated most (plan_of p) instance choice first below) c.deref-in-Limit.ensures c.in_ok-below-in-Limit.ensures in
+    let h = subst (λ ks. IsUnserved (IsWrong (limit_class (record { keys = ks; offset = c.in-Limit.offset; count = c.in-Limit.count; ties = c.in-Limit.ties })) (given_of instance below.outcome) choice below.next) e) c.deref-in-Limit-2.ensures.value c.in_err-outcome-in-Limit.ensures in
+    rw (err.1, err.2) (subst (λ p. IsStopped most p instance choice first e) (sym (ap plan_of c.in-Limit.is)) (limit_stopped most instance choice first limit input below b e h))

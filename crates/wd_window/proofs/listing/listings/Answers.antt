@@ -1,7 +1,6 @@
 use Rattle.std.proofs.Common.{◌+◌, ◌<◌, length, Ok, arith, rules}
 use Rattle.std.proofs.lemmas.Result.{err_from_is_err_and}
 use Rattle.wd_value.specs.Rows.{rows_of}
-use Rattle.wd_plan.specs.Outcomes.{RowsOrFault}
 use Rattle.wd_plan.specs.Plans.{class_of}
 use Rattle.wd_window.specs.Windows.{IsUnserved, IsWrong, orderings_of}
 use Rattle.wd_window.specs.Listings.{IsListed}
@@ -15,9 +14,9 @@ returns-in_err-listing c =
     let class = c.index-classes-number.result in
     let e = c.in_err-listing.field-0.0 in
     let within : k < length c.args.classes.now = omega arith in
-    let rows : RowsOrFault = Ok (rows_of c.args.rows.now) in
-    let h : IsUnserved (IsWrong (class_of class) rows (orderings_of c.args.choice.now) (c.args.first + k)) e = search rules in
-    rw (p.1, p.2) (class_unserved c.args.classes.now class rows (orderings_of c.args.choice.now) c.args.first k e within c.index-classes-number.is h)
+    let rows = rows_of c.args.rows.now in
+    let h : IsUnserved (IsWrong (class_of class) (Ok rows) (orderings_of c.args.choice.now) (c.args.first + k)) e = search rules in
+    rw (p.1, p.2) (class_unserved c.args.classes.now class rows (orderings_of c.args.choice.now) c.args.first k e c.loop-number.listings.items within c.index-classes-number.is c.loop-number.invariant h)
 
 pub loop-number-preserved : goal.loop-number-preserved
 loop-number-preserved c =
