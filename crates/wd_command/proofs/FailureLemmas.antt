@@ -1,15 +1,16 @@
 -- Failures: what is handed up by `?`, statuses, and reasons from those of the parts.
-use Rattle.std.proofs.Common.{◌≡◌, ◌≢◌, ℕ, List, [], Option, Result, Ok, Err, IfErr, IsErrAnd, All, Any, sym, subst}
+use Rattle.std.proofs.Common.{◌≡◌, ◌≢◌, ◌++◌, ℕ, List, [], Option, Result, Ok, Err, IfErr, IsErrAnd, All, Any, sym, subst}
 use Rattle.std.proofs.KnownBytes.{Keeps-refl}
 use Rattle.clap.specs.Values.{kind_of}
 use Rattle.clap.specs.declared.error.Error.{Error}
 use Rattle.clap.specs.declared.error.kind.ErrorKind.TheVariants as kind
 use Rattle.wd_run.specs.declared.error.RunError.{RunError}
+use Rattle.wd_command.proofs.FilesLemmas.{HandsOver-trans}
 use Rattle.wd_command.specs.Commands.{AreInputsOf, Inputs, IsRefusedWith, files_of}
-use Rattle.wd_command.specs.Failures.{HasReason, IsFaultOfWords, IsOfCommandLine, IsRefusal, IsUnanswered, IsUncut, IsUnread, status_of}
-use Rattle.wd_command.specs.Files.{File, HandsOver}
+use Rattle.wd_command.specs.Failures.{AskNext, HasReason, IsFaultOfWords, IsOfCommandLine, IsRefusal, IsUnanswered, IsUncut, IsUnread, status_of}
+use Rattle.wd_command.specs.Files.{File, HandsOver, ReadsNothing}
 use Rattle.wd_command.specs.Statuses.{IsEnding}
-use Rattle.wd_command.specs.Words.{AreRunWords, AskFor, HasNoEquals, IsPlain, IsTableWord}
+use Rattle.wd_command.specs.Words.{AreRunWords, HasNoEquals, IsPlain, IsTableWord}
 use Rattle.wd_command.specs.declared.failure.Failure.{Failure}
 use Rattle.wd_command.specs.declared.failure.Failure.TheVariants.{CommandLine, NotText, Unassigned, Refused, Fault, CannotRead, CannotWrite, OutOfMemory}
 
@@ -56,17 +57,23 @@ IsOfCommandLine-from_words error (Unassigned word) h = absurd h
 IsOfCommandLine-from_words error (CannotRead path) h = absurd h
 IsOfCommandLine-from_words error CannotWrite h = absurd h
 
--- what is known of the path says what is wanted of it
-pub IsUnread-weaker : (Known Asked : List ℕ → Type 0) (failures failures_after : ℕ) → ((path : List ℕ) → Known path → Asked path)
-    → (failure : Failure) → IsUnread Known failures failures_after failure → IsUnread Asked failures failures_after failure
-IsUnread-weaker Known Asked failures failures_after step (CannotRead path) h = (step path.now h.0, h.1)
-IsUnread-weaker Known Asked failures failures_after step OutOfMemory h = tt
-IsUnread-weaker Known Asked failures failures_after step (CommandLine error) h = absurd h
-IsUnread-weaker Known Asked failures failures_after step (Refused refusal number) h = absurd h
-IsUnread-weaker Known Asked failures failures_after step (Fault fault) h = absurd h
-IsUnread-weaker Known Asked failures failures_after step NotText h = absurd h
-IsUnread-weaker Known Asked failures failures_after step (Unassigned word) h = absurd h
-IsUnread-weaker Known Asked failures failures_after step CannotWrite h = absurd h
+-- a read that failed behind files that were handed over before
+pub IsUnread-behind : (before middle after : Option (List File)) (first : List File) (Known Wanted : List File → List ℕ → Type 0) (failures failures_after : ℕ) → HandsOver before middle first
+    → ((files : List File) (path : List ℕ) → Known files path → Wanted (first ++ files) path)
+    → (failure : Failure) → IsUnread Known middle after failures failures_after failure → IsUnread Wanted before after failures failures_after failure
+IsUnread-behind before middle after first Known Wanted failures failures_after handed step (CannotRead path) h = record {
+  files = first ++ h.files;
+  before = HandsOver-trans before middle after first h.files handed h.before;
+  one_failed = h.one_failed;
+  next = step h.files path.now h.next;
+}
+IsUnread-behind before middle after first Known Wanted failures failures_after handed step OutOfMemory h = tt
+IsUnread-behind before middle after first Known Wanted failures failures_after handed step (CommandLine error) h = absurd h
+IsUnread-behind before middle after first Known Wanted failures failures_after handed step (Refused refusal number) h = absurd h
+IsUnread-behind before middle after first Known Wanted failures failures_after handed step (Fault fault) h = absurd h
+IsUnread-behind before middle after first Known Wanted failures failures_after handed step NotText h = absurd h
+IsUnread-behind before middle after first Known Wanted failures failures_after handed step (Unassigned word) h = absurd h
+IsUnread-behind before middle after first Known Wanted failures failures_after handed step CannotWrite h = absurd h
 
 module _ (words : List (List ℕ)) (handed handed_after : Option (List File)) (failures failures_after : ℕ) where
   -- the inputs were read, and have no answer
@@ -82,41 +89,40 @@ module _ (words : List (List ℕ)) (handed handed_after : Option (List File)) (f
   HasReason-from_inputs inputs asked read CannotWrite h = absurd h
 
   -- `clap` refused the words
-  pub HasReason-from_words : (error : Error) → words ≢ [] → (AreRunWords words → kind_of error ≡ kind.OutOfMemory)
+  pub HasReason-from_words : ReadsNothing handed handed_after failures failures_after → (error : Error) → words ≢ [] → (AreRunWords words → kind_of error ≡ kind.OutOfMemory)
       → (failure : Failure) → IsFaultOfWords error failure → HasReason words handed handed_after failures failures_after failure
-  HasReason-from_words error some memory (CommandLine fault) h = record { some = some; other = λ form. h (memory form) }
-  HasReason-from_words error some memory OutOfMemory h = tt
-  HasReason-from_words error some memory (Refused refusal number) h = absurd h
-  HasReason-from_words error some memory (Fault fault) h = absurd h
-  HasReason-from_words error some memory NotText h = absurd h
-  HasReason-from_words error some memory (Unassigned word) h = absurd h
-  HasReason-from_words error some memory (CannotRead path) h = absurd h
-  HasReason-from_words error some memory CannotWrite h = absurd h
+  HasReason-from_words before error some memory (CommandLine fault) h = (record { some = some; other = λ form. h (memory form) }, before)
+  HasReason-from_words before error some memory OutOfMemory h = tt
+  HasReason-from_words before error some memory (Refused refusal number) h = absurd h
+  HasReason-from_words before error some memory (Fault fault) h = absurd h
+  HasReason-from_words before error some memory NotText h = absurd h
+  HasReason-from_words before error some memory (Unassigned word) h = absurd h
+  HasReason-from_words before error some memory (CannotRead path) h = absurd h
+  HasReason-from_words before error some memory CannotWrite h = absurd h
 
   -- a word has no `=`
-  pub HasReason-from_uncut : (tables : List (List ℕ)) → words ≢ [] → (AreRunWords words → (word : List ℕ) → HasNoEquals word → Any (λ w. w ≡ word) tables → ⊥)
+  pub HasReason-from_uncut : ReadsNothing handed handed_after failures failures_after → (tables : List (List ℕ)) → words ≢ [] → (AreRunWords words → (word : List ℕ) → HasNoEquals word → Any (λ w. w ≡ word) tables → ⊥)
       → ((word : List ℕ) → Any (λ w. w ≡ word) tables → All IsPlain words → IsTableWord words word)
       → (failure : Failure) → IsUncut tables failure → HasReason words handed handed_after failures failures_after failure
-  HasReason-from_uncut tables some none there (Unassigned word) h = (record { some = some; other = λ form. none form word.now h.0 h.1 }, h.0, there word.now h.1)
-  HasReason-from_uncut tables some none there OutOfMemory h = tt
-  HasReason-from_uncut tables some none there (CommandLine error) h = absurd h
-  HasReason-from_uncut tables some none there (Refused refusal number) h = absurd h
-  HasReason-from_uncut tables some none there (Fault fault) h = absurd h
-  HasReason-from_uncut tables some none there NotText h = absurd h
-  HasReason-from_uncut tables some none there (CannotRead path) h = absurd h
-  HasReason-from_uncut tables some none there CannotWrite h = absurd h
+  HasReason-from_uncut before tables some none there (Unassigned word) h = (record { some = some; other = λ form. none form word.now h.0 h.1 }, h.0, there word.now h.1, before)
+  HasReason-from_uncut before tables some none there OutOfMemory h = tt
+  HasReason-from_uncut before tables some none there (CommandLine error) h = absurd h
+  HasReason-from_uncut before tables some none there (Refused refusal number) h = absurd h
+  HasReason-from_uncut before tables some none there (Fault fault) h = absurd h
+  HasReason-from_uncut before tables some none there NotText h = absurd h
+  HasReason-from_uncut before tables some none there (CannotRead path) h = absurd h
+  HasReason-from_uncut before tables some none there CannotWrite h = absurd h
 
   -- a file could not be read
-  pub HasReason-from_unread : (Asked : List ℕ → Type 0) → ((path : List ℕ) → Asked path → All IsPlain words → AskFor words path)
-      → (failure : Failure) → IsUnread Asked failures failures_after failure → HasReason words handed handed_after failures failures_after failure
-  HasReason-from_unread Asked there (CannotRead path) h = (h.1, there path.now h.0)
-  HasReason-from_unread Asked there OutOfMemory h = tt
-  HasReason-from_unread Asked there (CommandLine error) h = absurd h
-  HasReason-from_unread Asked there (Refused refusal number) h = absurd h
-  HasReason-from_unread Asked there (Fault fault) h = absurd h
-  HasReason-from_unread Asked there NotText h = absurd h
-  HasReason-from_unread Asked there (Unassigned word) h = absurd h
-  HasReason-from_unread Asked there CannotWrite h = absurd h
+  pub HasReason-from_unread : (failure : Failure) → IsUnread (AskNext words) handed handed_after failures failures_after failure → HasReason words handed handed_after failures failures_after failure
+  HasReason-from_unread (CannotRead path) h = h
+  HasReason-from_unread OutOfMemory h = tt
+  HasReason-from_unread (CommandLine error) h = absurd h
+  HasReason-from_unread (Refused refusal number) h = absurd h
+  HasReason-from_unread (Fault fault) h = absurd h
+  HasReason-from_unread NotText h = absurd h
+  HasReason-from_unread (Unassigned word) h = absurd h
+  HasReason-from_unread CannotWrite h = absurd h
 
   -- nothing was written
   pub IsEnding-from_reason : (out : Option (List ℕ)) (failure : Failure) → HasReason words handed handed_after failures failures_after failure

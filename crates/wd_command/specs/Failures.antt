@@ -1,5 +1,5 @@
 -- Why the program ends without its output: the exit status, the line on standard error, and what stands behind it.
-use Rattle.std.specs.Prelude.{◌≡◌, ◌≢◌, ◌+◌, ℕ, ⊤, List, [], ◌++◌, codes, All, Any, Option, Some, None, IfSome}
+use Rattle.std.specs.Prelude.{◌≡◌, ◌≢◌, ℕ, ⊤, List, [], ◌++◌, codes, All, Any, Option, Some, None, IfSome}
 use Rattle.std.specs.Fmt.{decimal}
 use Rattle.clap.specs.Values.{kind_of}
 use Rattle.clap.specs.declared.error.Error.{Error}
@@ -10,9 +10,9 @@ use Rattle.wd_run.specs.Causes.{run_number, run_place}
 use Rattle.wd_run.specs.declared.error.RunError.{RunError}
 use Rattle.wd_run.specs.declared.error.RunError.TheVariants as run
 use Rattle.wd_command.specs.Commands.{AreInputsOf, HasFault, Inputs, IsRefusedWith, files_of, line}
-use Rattle.wd_command.specs.Files.{File, HandsOver}
+use Rattle.wd_command.specs.Files.{File, HandsOver, ReadsNothing, StandsNext, StopsAt}
 use Rattle.wd_command.specs.Streams.{AppendsPart}
-use Rattle.wd_command.specs.Words.{AreOtherWords, AskFor, HasNoEquals, IsPlain, IsTableWord}
+use Rattle.wd_command.specs.Words.{AreOtherWords, ArePathsOf, HasNoEquals, IsPlain, IsTableWord}
 use Rattle.wd_command.specs.declared.failure.Failure.{Failure}
 use Rattle.wd_command.specs.declared.failure.Failure.TheVariants.{CommandLine, NotText, Unassigned, Refused, Fault, CannotRead, CannotWrite, OutOfMemory}
 
@@ -99,11 +99,11 @@ IsUncut words (Unassigned word) = HasNoEquals word.now × Any (λ w. w ≡ word.
 IsUncut words OutOfMemory = ⊤
 IsUncut words failure = ⊥
 
--- one read failed, that of such a path, or memory is wanting
-abbrev pub IsUnread : (List ℕ → Type 0) → ℕ → ℕ → Failure → Type 0
-IsUnread Asked failures failures_after (CannotRead path) = Asked path.now × (failures_after ≡ failures + 1)
-IsUnread Asked failures failures_after OutOfMemory = ⊤
-IsUnread Asked failures failures_after failure = ⊥
+-- one read failed, of a path that comes next so after the files that were handed over, or memory is wanting
+abbrev pub IsUnread : (List File → List ℕ → Type 0) → Option (List File) → Option (List File) → ℕ → ℕ → Failure → Type 0
+IsUnread IsNext handed handed_after failures failures_after (CannotRead path) = StopsAt IsNext handed handed_after failures failures_after path.now
+IsUnread IsNext handed handed_after failures failures_after OutOfMemory = ⊤
+IsUnread IsNext handed handed_after failures failures_after failure = ⊥
 
 -- the inputs are refused by this number, the query faults over them, or memory is wanting
 abbrev pub IsUnanswered : Inputs → Failure → Type 0
@@ -119,14 +119,19 @@ pub record ComesOfInputs (words : List (List ℕ)) (handed handed_after : Option
   pub read : HandsOver handed handed_after (files_of inputs)
   pub unanswered : IsUnanswered inputs failure
 
--- The reason of a failure to make the output: a refusal and a fault come of the inputs; a file cannot be read only where one read failed, of a path that
--- the words ask for. Words of which one begins with a hyphen are read as `clap` reads them.
+-- where none begins with a hyphen, the words are those of `run`, and ask for the paths of these files, in their order, and then for this one
+abbrev pub AskNext : List (List ℕ) → List File → List ℕ → Type 0
+AskNext words files path = All IsPlain words → (paths : List (List ℕ)) × ArePathsOf words paths × StandsNext paths files path
+
+-- The reason of a failure to make the output. A fault of the command line and a word without an `=` come before any file is read. A file cannot be read only
+-- where one read failed, of a path that the words ask for; what was handed over is what the words before that one ask for. A refusal and a fault come of the
+-- inputs. Words of which one begins with a hyphen are read as `clap` reads them.
 abbrev pub HasReason : List (List ℕ) → Option (List File) → Option (List File) → ℕ → ℕ → Failure → Type 0
-HasReason words handed handed_after failures failures_after (CommandLine error) = AreOtherWords words
+HasReason words handed handed_after failures failures_after (CommandLine error) = AreOtherWords words × ReadsNothing handed handed_after failures failures_after
 HasReason words handed handed_after failures failures_after NotText = ⊥
-HasReason words handed handed_after failures failures_after (Unassigned word) = AreOtherWords words × HasNoEquals word.now × (All IsPlain words → IsTableWord words word.now)
+HasReason words handed handed_after failures failures_after (Unassigned word) = AreOtherWords words × HasNoEquals word.now × (All IsPlain words → IsTableWord words word.now) × ReadsNothing handed handed_after failures failures_after
 HasReason words handed handed_after failures failures_after (Refused error number) = ComesOfInputs words handed handed_after (Refused error number)
 HasReason words handed handed_after failures failures_after (Fault fault) = ComesOfInputs words handed handed_after (Fault fault)
-HasReason words handed handed_after failures failures_after (CannotRead path) = (failures_after ≡ failures + 1) × (All IsPlain words → AskFor words path.now)
+HasReason words handed handed_after failures failures_after (CannotRead path) = StopsAt (AskNext words) handed handed_after failures failures_after path.now
 HasReason words handed handed_after failures failures_after CannotWrite = ⊥
 HasReason words handed handed_after failures failures_after OutOfMemory = ⊤

@@ -1,5 +1,5 @@
 -- What the words of the command line ask for.
-use Rattle.std.specs.Prelude.{◌≡◌, ◌≢◌, ◌⊎◌, ℕ, List, [], ◌∷◌, ◌++◌, map, codes, All, Any, Contains, ⊤}
+use Rattle.std.specs.Prelude.{◌≡◌, ◌≢◌, ℕ, List, [], ◌∷◌, ◌++◌, map, codes, All, Any, Contains, ⊤}
 use Rattle.wd_command.specs.declared.words.RunWords.{RunWords}
 use Rattle.wd_command.specs.declared.words.Assignment.{Assignment}
 
@@ -51,14 +51,11 @@ pub record IsTableWord (words : List (List ℕ)) (word : List ℕ) : Type 0 wher
   pub line : words ≡ run_line schema query tables
   pub there : Any (λ w. w ≡ word) tables
 
--- the path of a word NAME=PATH, behind its first `=`
-abbrev pub IsPathIn : List ℕ → List ℕ → Type 0
-IsPathIn path word = (name : List ℕ) × HasNoEquals name × (word ≡ word_of name path)
-
--- the words of `run` name the path: it is that of the schema, that of the query, or stands in a word NAME=PATH
-pub record AskFor (words : List (List ℕ)) (path : List ℕ) : Type 0 where
+-- the paths that the words of `run` name, in their order: the schema's, the query's, and the one behind the first `=` of each word NAME=PATH
+pub record ArePathsOf (words paths : List (List ℕ)) : Type 0 where
   pub schema : List ℕ
   pub query : List ℕ
-  pub tables : List (List ℕ)
-  pub line : words ≡ run_line schema query tables
-  pub there : (path ≡ schema) ⊎ ((path ≡ query) ⊎ Any (IsPathIn path) tables)
+  pub tables : List (List ℕ × List ℕ)
+  pub line : words ≡ run_line schema query (map (λ t. word_of t.0 t.1) tables)
+  pub first : All (λ t. HasNoEquals t.0) tables
+  pub order : paths ≡ schema ∷ query ∷ map (λ t. t.1) tables

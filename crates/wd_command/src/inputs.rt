@@ -1,8 +1,8 @@
 //! What `run` reads: the files that its words name.
 
-ghost use Rattle.std.specs.Prelude.{◌≡◌, ◌≢◌, ◌-◌, ◌^◌, ◌<◌, [], ◌∷◌, map, Any, IfOk, IfErr};
+ghost use Rattle.std.specs.Prelude.{◌≡◌, ◌≢◌, ◌-◌, ◌^◌, ◌<◌, [], ◌∷◌, map, IfOk, IfErr};
 ghost use Rattle.wd_command.specs.Commands.{AreInputsOf, files_of};
-ghost use Rattle.wd_command.specs.Files.{HandsOver};
+ghost use Rattle.wd_command.specs.Files.{HandsOver, StandsNext};
 ghost use Rattle.wd_command.specs.Inputs.{file_of, inputs_of};
 ghost use Rattle.wd_command.specs.Failures.{HasReason, IsOfCommandLine, IsUnread};
 ghost use Rattle.wd_command.specs.Words.{word_of};
@@ -68,7 +68,8 @@ fn read_file<'a, F: Files>(
     ensures path { IfOk result (λ file. file.path.now ≡ path.entry.now) }
     ensures read { IfOk result (λ file. HandsOver (F.handed files.old) (F.handed files.new) (file_of file ∷ [])) }
     ensures failures { IfOk result (λ _. F.failures files.new ≡ F.failures files.old) }
-    ensures err { IfErr result (IsUnread (λ asked. asked ≡ path.now) (F.failures files.old) (F.failures files.new)) }
+    ensures err { IfErr result (IsUnread (λ before asked. (before ≡ []) × (asked ≡ path.now))
+        (F.handed files.old) (F.handed files.new) (F.failures files.old) (F.failures files.new)) }
 {
     match files.read(alloc, path) {
         Ok(bytes) => Ok(InputFile { path, bytes }),
@@ -88,8 +89,8 @@ fn read_tables<'a, F: Files>(
         ≡ map (λ a. word_of a.name.now a.path.now) assignments.now) }
     ensures read { IfOk result (λ tables. HandsOver (F.handed files.old) (F.handed files.new)
         (map (λ t. file_of t.file) tables.items)) }
-    ensures err { IfErr result (IsUnread (λ asked. Any (λ a. a.path.now ≡ asked) assignments.now)
-        (F.failures files.old) (F.failures files.new)) }
+    ensures err { IfErr result (IsUnread (StandsNext (map (λ a. a.path.now) assignments.now))
+        (F.handed files.old) (F.handed files.new) (F.failures files.old) (F.failures files.new)) }
 {
     let mut tables = Vec::new(alloc);
     for assignment in assignments {
