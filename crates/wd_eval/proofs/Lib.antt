@@ -1,5 +1,6 @@
 pub mod Sizes
 pub mod Nodes
+pub mod Wrong
 pub mod Fitting
 pub mod Stable
 pub mod Tying

@@ -1,5 +1,5 @@
 -- What a node gives, and why it stops, from what the nodes below it give.
-use Rattle.std.proofs.Common.{◌≡◌, ℕ, ◌+◌, ◌≤◌, Bool, true, false, ◌||◌, List, [], take, drop, length, Option, Ok, refl, sym, ap, ◌∙◌, subst, arith, length-drop, drop-drop}
+use Rattle.std.proofs.Common.{◌≡◌, ℕ, ◌+◌, ◌≤◌, Bool, true, false, ◌||◌, List, [], take, drop, length, Option, Ok, inl, inr, refl, sym, ap, ◌∙◌, subst, arith, length-drop, drop-drop}
 use Rattle.std.specs.List.{AllByRecursion}
 use Rattle.std.proofs.lemmas.List.{get_or-drop}
 use Rattle.wd_value.specs.Rows.{Instance, table_at}
@@ -12,9 +12,10 @@ use Rattle.wd_plan.specs.Plans.{PlanTree, Scan, Join, Filter, Map, Window, Disti
 use Rattle.wd_plan.specs.Sorting.{IsOrdering, limit_class}
 use Rattle.wd_steps.specs.Joins.{has_more_rows}
 use Rattle.wd_eval.specs.Steps.{has_large_step, is_large}
-use Rattle.wd_eval.specs.Nodes.{given_of, IsEvaluated, IsStopped, IsSmall, IsLarge, join_over, IsLimitServed, cut_over, IsCut, IsUnserved}
+use Rattle.wd_eval.specs.Nodes.{given_of, IsEvaluated, IsStopped, IsSmall, IsLarge, join_over, cut_over, IsCut, IsUnserved}
+use Rattle.wd_eval.specs.Wrong.{IsWrongFrom}
 use Rattle.wd_window.specs.Windows as window
-use Rattle.wd_window.specs.Windows.{IsExtended, IsWindowServed, window_over}
+use Rattle.wd_window.specs.Windows.{IsExtended, IsWrong, IsWrongIn, window_over}
 use Rattle.wd_window.specs.declared.error.WindowError.{WindowError}
 use Rattle.wd_window.specs.declared.error.WindowError.TheVariants as error
 use Rattle.wd_eval.specs.Errors.{window_error_of}
@@ -51,7 +52,7 @@ module _ (most : ℕ) (instance : Instance) (choice : List (List ℕ)) (first : 
   pub scan_done : (table columns : ℕ) (o : Given) → IsSmall most (Ok (table_at instance table)) (given_of instance o) → IsEvaluated most (Scan table columns) instance choice first (record { outcome = o; next = first })
   scan_done table columns o s = record { is = s.is; next = omega arith; served = record { present = omega arith; lawful = tt }; small = s.small; each = s.small }
 
-  pub scan_stopped : (table columns : ℕ) (e : EvalError) → IsLarge most (Ok (table_at instance table)) e → IsStopped most (Scan table columns) instance rest e
+  pub scan_stopped : (table columns : ℕ) (e : EvalError) → IsLarge most (Ok (table_at instance table)) e → IsStopped most (Scan table columns) instance choice first e
   scan_stopped table columns (NotValid p) h = absurd h
   scan_stopped table columns TooManyRows h = h
   scan_stopped table columns OutOfMemory h = tt
@@ -86,18 +87,18 @@ module _ (most : ℕ) (instance : Instance) (choice : List (List ℕ)) (first : 
       each = neither (has_large_step most input instance rest) (is_large most (Distinct input) instance rest) b.each (fewer_distinct most (outcome input instance rest) b.small);
     }
 
-  pub filter_stopped : (condition : Expression) (input : PlanTree) (e : EvalError) → IsStopped most input instance rest e → IsStopped most (Filter condition input) instance rest e
-  filter_stopped condition input (NotValid p) h = λ s. h (record { present = s.present; lawful = s.lawful })
+  pub filter_stopped : (condition : Expression) (input : PlanTree) (e : EvalError) → IsStopped most input instance choice first e → IsStopped most (Filter condition input) instance choice first e
+  filter_stopped condition input (NotValid p) h = h
   filter_stopped condition input TooManyRows h = or_left (has_large_step most input instance rest) (is_large most (Filter condition input) instance rest) h
   filter_stopped condition input OutOfMemory h = tt
 
-  pub map_stopped : (outputs : List Expression) (input : PlanTree) (e : EvalError) → IsStopped most input instance rest e → IsStopped most (Map outputs input) instance rest e
-  map_stopped outputs input (NotValid p) h = λ s. h (record { present = s.present; lawful = s.lawful })
+  pub map_stopped : (outputs : List Expression) (input : PlanTree) (e : EvalError) → IsStopped most input instance choice first e → IsStopped most (Map outputs input) instance choice first e
+  map_stopped outputs input (NotValid p) h = h
   map_stopped outputs input TooManyRows h = or_left (has_large_step most input instance rest) (is_large most (Map outputs input) instance rest) h
   map_stopped outputs input OutOfMemory h = tt
 
-  pub distinct_stopped : (input : PlanTree) (e : EvalError) → IsStopped most input instance rest e → IsStopped most (Distinct input) instance rest e
-  distinct_stopped input (NotValid p) h = λ s. h (record { present = s.present; lawful = s.lawful })
+  pub distinct_stopped : (input : PlanTree) (e : EvalError) → IsStopped most input instance choice first e → IsStopped most (Distinct input) instance choice first e
+  distinct_stopped input (NotValid p) h = h
   distinct_stopped input TooManyRows h = or_left (has_large_step most input instance rest) (is_large most (Distinct input) instance rest) h
   distinct_stopped input OutOfMemory h = tt
 
@@ -129,17 +130,14 @@ module _ (most : ℕ) (instance : Instance) (choice : List (List ℕ)) (first : 
           each = neither (has_large_step most input instance rest) (is_large most (Window w input) instance rest) b.each (fewer_window most w (own_window w input) (outcome input instance rest) b.small);
         }
 
-    pub window_stopped : (e : EvalError) → IsUnserved (IsWindowServed w (given_of instance below.outcome) choice below.next) e → IsStopped most (Window w input) instance rest e
-    window_stopped (NotValid p) h = λ s. (let long = long_rest within in let at = b.next in let there = s.present in
-        h (record {
-          present = omega arith;
-          lawful = subst (IsLawfulWindow w (given_of instance below.outcome)) (sym own_is) (subst (λ (r : RowsOrFault). IsLawfulWindow w r (own_window w input)) (sym b.is) s.lawful.1);
-        }))
-    window_stopped TooManyRows h = absurd h
-    window_stopped OutOfMemory h = tt
+  pub window_stopped : (w : WindowRule) (input : PlanTree) (below : Evaluated) → IsEvaluated most input instance choice first below → (e : EvalError)
+      → IsUnserved (IsWrongIn w.classes (given_of instance below.outcome) choice below.next) e → IsStopped most (Window w input) instance choice first e
+  window_stopped w input below b (NotValid p) h = inr (subst (λ (n : ℕ). IsWrongIn w.classes (outcome input instance rest) choice n p) b.next (subst (λ (r : RowsOrFault). IsWrongIn w.classes r choice below.next p) b.is h))
+  window_stopped w input below b TooManyRows h = absurd h
+  window_stopped w input below b OutOfMemory h = tt
 
-  pub window_stopped_below : (w : WindowRule) (input : PlanTree) (e : EvalError) → IsStopped most input instance rest e → IsStopped most (Window w input) instance rest e
-  window_stopped_below w input (NotValid p) h = λ s. (let there = s.present in h (record { present = omega arith; lawful = s.lawful.0 }))
+  pub window_stopped_below : (w : WindowRule) (input : PlanTree) (e : EvalError) → IsStopped most input instance choice first e → IsStopped most (Window w input) instance choice first e
+  window_stopped_below w input (NotValid p) h = inl h
   window_stopped_below w input TooManyRows h = or_left (has_large_step most input instance rest) (is_large most (Window w input) instance rest) h
   window_stopped_below w input OutOfMemory h = tt
 
@@ -169,17 +167,14 @@ module _ (most : ℕ) (instance : Instance) (choice : List (List ℕ)) (first : 
           each = neither (has_large_step most input instance rest) (is_large most (Limit limit input) instance rest) b.each (fewer_cut most limit (ordering_at rest (ordering_count input)) (outcome input instance rest) lawful b.small);
         }
 
-    pub limit_stopped : (e : EvalError) → IsUnserved (IsLimitServed limit (given_of instance below.outcome) choice below.next) e → IsStopped most (Limit limit input) instance rest e
-    limit_stopped (NotValid p) h = λ s. (let long = long_rest within in let at = b.next in let there = s.present in
-        h (record {
-          present = omega arith;
-          lawful = subst (IsLawfulLimit limit (given_of instance below.outcome)) (sym own_at) (subst (λ (r : RowsOrFault). IsLawfulLimit limit r (ordering_at rest (ordering_count input))) (sym b.is) s.lawful.1);
-        }))
-    limit_stopped TooManyRows h = absurd h
-    limit_stopped OutOfMemory h = tt
+  pub limit_stopped : (limit : LimitRule) (input : PlanTree) (below : Evaluated) → IsEvaluated most input instance choice first below → (e : EvalError)
+      → IsUnserved (IsWrong (limit_class limit) (given_of instance below.outcome) choice below.next) e → IsStopped most (Limit limit input) instance choice first e
+  limit_stopped limit input below b (NotValid p) h = inr (subst (λ (n : ℕ). IsWrong (limit_class limit) (outcome input instance rest) choice n p) b.next (subst (λ (r : RowsOrFault). IsWrong (limit_class limit) r choice below.next p) b.is h))
+  limit_stopped limit input below b TooManyRows h = absurd h
+  limit_stopped limit input below b OutOfMemory h = tt
 
-  pub limit_stopped_below : (limit : LimitRule) (input : PlanTree) (e : EvalError) → IsStopped most input instance rest e → IsStopped most (Limit limit input) instance rest e
-  limit_stopped_below limit input (NotValid p) h = λ s. (let there = s.present in h (record { present = omega arith; lawful = s.lawful.0 }))
+  pub limit_stopped_below : (limit : LimitRule) (input : PlanTree) (e : EvalError) → IsStopped most input instance choice first e → IsStopped most (Limit limit input) instance choice first e
+  limit_stopped_below limit input (NotValid p) h = inl h
   limit_stopped_below limit input TooManyRows h = or_left (has_large_step most input instance rest) (is_large most (Limit limit input) instance rest) h
   limit_stopped_below limit input OutOfMemory h = tt
 
@@ -192,8 +187,8 @@ module _ (most : ℕ) (instance : Instance) (choice : List (List ℕ)) (first : 
   abbrev on_right : List (List ℕ)
   on_right = drop (ordering_count left) all
 
-  pub join_stopped_left : (e : EvalError) → IsStopped most left instance all e → IsStopped most (Join condition left right) instance all e
-  join_stopped_left (NotValid p) h = λ s. (let there = s.present in h (record { present = omega arith; lawful = s.lawful.0 }))
+  pub join_stopped_left : (e : EvalError) → IsStopped most left instance choice first e → IsStopped most (Join condition left right) instance choice first e
+  join_stopped_left (NotValid p) h = inl h
   join_stopped_left TooManyRows h = or_left (has_large_step most left instance all || has_large_step most right instance on_right) (is_large most (Join condition left right) instance all) (or_left (has_large_step most left instance all) (has_large_step most right instance on_right) h)
   join_stopped_left OutOfMemory h = tt
 
@@ -201,13 +196,12 @@ module _ (most : ℕ) (instance : Instance) (choice : List (List ℕ)) (first : 
     right_is : drop l.next choice ≡ on_right
     right_is = behind most instance choice first (ordering_count left) l.next a.next
 
-    pub join_stopped_right : (e : EvalError) → IsStopped most right instance (drop l.next choice) e → IsStopped most (Join condition left right) instance all e
-    join_stopped_right e h = by e (subst (λ ch. IsStopped most right instance ch e) right_is h)
-      where
-        by : (d : EvalError) → IsStopped most right instance on_right d → IsStopped most (Join condition left right) instance all d
-        by (NotValid p) g = λ s. (let there = s.present in let d = length-drop (ordering_count left) all in g (record { present = omega arith; lawful = s.lawful.1 }))
-        by TooManyRows g = or_left (has_large_step most left instance all || has_large_step most right instance on_right) (is_large most (Join condition left right) instance all) (or_right (has_large_step most left instance all) (has_large_step most right instance on_right) g)
-        by OutOfMemory g = tt
+    pub join_stopped_right : (e : EvalError) → IsStopped most right instance choice l.next e → IsStopped most (Join condition left right) instance choice first e
+    join_stopped_right (NotValid p) h = inr (subst (λ (n : ℕ). IsWrongFrom right instance choice n p) a.next h)
+    join_stopped_right TooManyRows h =
+        let large : has_large_step most right instance on_right ≡ true = ap (has_large_step most right instance) (sym right_is) ∙ h in
+        or_left (has_large_step most left instance all || has_large_step most right instance on_right) (is_large most (Join condition left right) instance all) (or_right (has_large_step most left instance all) (has_large_step most right instance on_right) large)
+    join_stopped_right OutOfMemory h = tt
 
     module _ (r : Evaluated) (b : IsEvaluated most right instance choice l.next r) where
       abbrev below : RowsOrFault
@@ -237,12 +231,12 @@ module _ (most : ℕ) (instance : Instance) (choice : List (List ℕ)) (first : 
             each = neither (has_large_step most left instance all || has_large_step most right instance on_right) (is_large most (Join condition left right) instance all) (neither (has_large_step most left instance all) (has_large_step most right instance on_right) a.each (subst (λ ch. has_large_step most right instance ch ≡ false) right_is b.each)) (ap (has_more_rows most) (sym below_is) ∙ s.small);
           }
 
-      pub join_stopped : (e : EvalError) → IsLarge most below e → IsStopped most (Join condition left right) instance all e
+      pub join_stopped : (e : EvalError) → IsLarge most below e → IsStopped most (Join condition left right) instance choice first e
       join_stopped (NotValid p) h = absurd h
       join_stopped TooManyRows h = or_right (has_large_step most left instance all || has_large_step most right instance on_right) (is_large most (Join condition left right) instance all) (ap (has_more_rows most) (sym below_is) ∙ h)
       join_stopped OutOfMemory h = tt
 
 -- a Window's error where its orderings do not serve, as an error of the plan
-pub unserved_from : (Served : Type 0) (e : WindowError) → window.IsUnserved Served e → IsUnserved Served (window_error_of e)
-unserved_from Served (error.NotValid place) h = h
-unserved_from Served error.OutOfMemory h = h
+pub unserved_from : (IsPlace : ℕ → Type 0) (e : WindowError) → window.IsUnserved IsPlace e → IsUnserved IsPlace (window_error_of e)
+unserved_from IsPlace (error.NotValid place) h = h
+unserved_from IsPlace error.OutOfMemory h = h

@@ -10,20 +10,26 @@ use Rattle.wd_plan.specs.Outcomes.{RowsOrFault, class_at, ordering_at}
 use Rattle.wd_plan.specs.Plans.{ClassRule, LimitRule, WindowRule, class_of}
 use Rattle.wd_plan.specs.Sorting.{IsOrdering, limit_class}
 use Rattle.wd_partition.proofs.Grouping.{IsOrdering-from_given}
-use Rattle.wd_eval.specs.Nodes.{IsCut, IsLimitServed, IsUnserved}
-use Rattle.wd_window.specs.Windows.{IsWindowServed}
+use Rattle.wd_eval.specs.Nodes.{IsCut, IsUnserved}
+use Rattle.wd_window.specs.Windows.{HasOrdering, IsWindowServed, IsWrong, IsWrongIn}
 use Rattle.wd_eval.specs.Tied.{IsSortedOver, is_flipped}
 use Rattle.wd_eval.specs.Ties.{ArePut, AreSortedOver, IsTiedLimit, IsWantOfMemory}
 use Rattle.wd_window.specs.Listings.{class_in}
 use Rattle.wd_eval.specs.declared.error.EvalError.{EvalError}
 use Rattle.wd_eval.specs.declared.error.EvalError.TheVariants.{NotValid, TooManyRows, OutOfMemory}
-use Rattle.wd_window.proofs.Serving.{all_from_each}
+use Rattle.wd_window.proofs.Serving.{all_from_each, class_served}
 
 -- where the orderings serve, only memory can be wanting
-pub served_memory : (Served : Type 0) (e : EvalError) → Served → IsUnserved Served e → IsWantOfMemory e
-served_memory Served (NotValid p) s h = h s
-served_memory Served TooManyRows s h = h
-served_memory Served OutOfMemory s h = tt
+served_memory : (IsPlace : ℕ → Type 0) (e : EvalError) → ((place : ℕ) → IsPlace place → ⊥) → IsUnserved IsPlace e → IsWantOfMemory e
+served_memory IsPlace (NotValid p) none h = none p h
+served_memory IsPlace TooManyRows none h = h
+served_memory IsPlace OutOfMemory none h = tt
+
+pub limit_memory : (class : ClassRule) (input : RowsOrFault) (choice : List (List ℕ)) (number : ℕ) (e : EvalError) → HasOrdering class input choice number → IsUnserved (IsWrong class input choice number) e → IsWantOfMemory e
+limit_memory class input choice number e s = served_memory (IsWrong class input choice number) e (λ place h. h.1 s)
+
+pub window_memory : (w : WindowRule) (input : RowsOrFault) (choice : List (List ℕ)) (first : ℕ) (e : EvalError) → IsWindowServed w input choice first → IsUnserved (IsWrongIn w.classes input choice first) e → IsWantOfMemory e
+window_memory w input choice first e s = served_memory (IsWrongIn w.classes input choice first) e (λ place h. h.wrong.1 (class_served w input choice first h.number s h.within))
 
 lawful_over : (class : ClassRule) (flipped : Bool) (input : RowsOrFault) (ordering : List ℕ) → IsSortedOver class flipped input ordering → AtRows input (λ rows. IsOrdering class rows ordering) (ordering ≡ [])
 lawful_over class flipped (Ok rows) ordering s = IsOrdering-from_given class rows flipped ordering s
@@ -35,7 +41,7 @@ module _ (limit : LimitRule) (input : RowsOrFault) (flipped : Option ℕ) (old n
   own_is : ordering_at new number ≡ own
   own_is = (λ i. ordering_at (grown i) (at i)) ∙ get_or-append_seam old own [] []
 
-  pub limit_put : IsLimitServed limit input new number
+  pub limit_put : HasOrdering (limit_class limit) input new number
   limit_put =
       let long = ap length grown ∙ length-append old (own ∷ []) in
       record {

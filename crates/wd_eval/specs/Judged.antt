@@ -6,12 +6,13 @@ use Rattle.wd_plan.specs.Choices.{IsValidChoice}
 use Rattle.wd_plan.specs.Outcomes.{outcome, outcome_of}
 use Rattle.wd_plan.specs.Plans.{PlanTree}
 use Rattle.wd_eval.specs.Steps.{has_large_step}
+use Rattle.wd_eval.specs.Wrong.{IsWrongOrdering}
 use Rattle.wd_eval.specs.declared.error.EvalError.{EvalError}
 use Rattle.wd_eval.specs.declared.error.EvalError.TheVariants.{NotValid, TooManyRows, OutOfMemory}
 
 -- why a plan has no outcome under a choice: each error only where its cause stands
 abbrev pub IsRefused : ℕ → PlanTree → Instance → List (List ℕ) → EvalError → Type 0
-IsRefused most plan instance choice (NotValid place) = IsValidChoice plan instance choice → ⊥
+IsRefused most plan instance choice (NotValid place) = IsWrongOrdering plan instance choice place
 IsRefused most plan instance choice TooManyRows = has_large_step most plan instance choice ≡ true
 IsRefused most plan instance choice OutOfMemory = ⊤
 

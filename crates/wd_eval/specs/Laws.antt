@@ -1,9 +1,11 @@
--- Laws of the choices that leave rows that tie as they are.
+-- Laws of choices: of those that leave rows that tie as they are, and of wrong orderings.
 use Rattle.std.specs.Prelude.{◌≡◌, ℕ, List, Option}
 use Rattle.wd_value.specs.Rows.{Instance}
+use Rattle.wd_plan.specs.Choices.{IsValidChoice}
 use Rattle.wd_plan.specs.Outcomes.{outcome}
 use Rattle.wd_plan.specs.Plans.{PlanTree}
 use Rattle.wd_eval.specs.Tied.{IsTiedChoice}
+use Rattle.wd_eval.specs.Wrong.{IsWrongOrdering}
 
 -- each plan has such a choice over each instance
 abbrev pub HasTiedChoice : Type 0
@@ -12,3 +14,7 @@ HasTiedChoice = (plan : PlanTree) (instance : Instance) (flipped : Option ℕ) �
 -- all such choices give one outcome
 abbrev pub HasOneTiedOutcome : Type 0
 HasOneTiedOutcome = (plan : PlanTree) (instance : Instance) (flipped : Option ℕ) (a b : List (List ℕ)) → IsTiedChoice plan instance flipped a → IsTiedChoice plan instance flipped b → outcome plan instance a ≡ outcome plan instance b
+
+-- a valid choice has no wrong ordering
+abbrev pub HasNoWrongOrdering : Type 0
+HasNoWrongOrdering = (plan : PlanTree) (instance : Instance) (choice : List (List ℕ)) (place : ℕ) → IsWrongOrdering plan instance choice place → IsValidChoice plan instance choice → ⊥

@@ -1,5 +1,6 @@
 pub mod Errors
 pub mod Steps
+pub mod Wrong
 pub mod Judged
 pub mod Nodes
 pub mod Tied

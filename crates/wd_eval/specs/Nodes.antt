@@ -1,5 +1,5 @@
 -- A node of a plan under the orderings from a number on.
-use Rattle.std.specs.Prelude.{◌≡◌, ℕ, ◌+◌, ◌<◌, ◌≤◌, true, false, List, [], drop, length, ⊤, Option, Result, Ok, Err}
+use Rattle.std.specs.Prelude.{◌≡◌, ℕ, ◌+◌, ◌≤◌, true, false, List, drop, length, ⊤, Option, Result, Ok, Err}
 use Rattle.std.specs.Borrow.{Bor}
 use Rattle.std.specs.declared.alloc.Global.{Global}
 use Rattle.std.specs.declared.vec.Vec.{Vec}
@@ -7,15 +7,16 @@ use Rattle.wd_value.specs.declared.value.Value.{Value}
 use Rattle.wd_value.specs.declared.value.Fault.{Fault}
 use Rattle.wd_value.specs.Rows.{Instance, rows_at, rows_of, table_at}
 use Rattle.wd_plan.specs.declared.plan.Outcome.{Outcome}
-use Rattle.wd_plan.specs.Choices.{AtRows, AreLawful}
+use Rattle.wd_plan.specs.Choices.{AreLawful}
 use Rattle.wd_plan.specs.Expressions.{Expression}
 use Rattle.wd_plan.specs.Faults.{and_then}
 use Rattle.wd_plan.specs.Outcomes.{RowsOrFault, cut, join_outcome, ordering_at, outcome, outcome_of, pairs}
 use Rattle.wd_plan.specs.Plans.{PlanTree, LimitRule, Scan, Join, Filter, Map, Window, Distinct, Limit, ordering_count}
-use Rattle.wd_plan.specs.Sorting.{IsOrdering, limit_class}
+use Rattle.wd_plan.specs.Sorting.{limit_class}
 use Rattle.wd_steps.specs.Joins.{has_more_rows}
-use Rattle.wd_window.specs.Windows.{EachNames}
+use Rattle.wd_window.specs.Windows.{EachNames, HasOrdering}
 use Rattle.wd_eval.specs.Steps.{has_large_step}
+use Rattle.wd_eval.specs.Wrong.{IsWrongFrom}
 use Rattle.wd_eval.specs.declared.cut.Cut.{Cut}
 use Rattle.wd_eval.specs.declared.error.EvalError.{EvalError}
 use Rattle.wd_eval.specs.declared.error.EvalError.TheVariants.{NotValid, TooManyRows, OutOfMemory}
@@ -56,11 +57,11 @@ pub record IsEvaluated (most : ℕ) (plan : PlanTree) (instance : Instance) (cho
   pub small : has_more_rows most (outcome plan instance (drop first choice)) ≡ false
   pub each : has_large_step most plan instance (drop first choice) ≡ false
 
--- each error only where its cause stands
-abbrev pub IsStopped : ℕ → PlanTree → Instance → List (List ℕ) → EvalError → Type 0
-IsStopped most plan instance choice (NotValid place) = IsServed plan instance choice → ⊥
-IsStopped most plan instance choice TooManyRows = has_large_step most plan instance choice ≡ true
-IsStopped most plan instance choice OutOfMemory = ⊤
+-- each error only where its cause stands, under the orderings from `first` on
+abbrev pub IsStopped : ℕ → PlanTree → Instance → List (List ℕ) → ℕ → EvalError → Type 0
+IsStopped most plan instance choice first (NotValid place) = IsWrongFrom plan instance choice first place
+IsStopped most plan instance choice first TooManyRows = has_large_step most plan instance (drop first choice) ≡ true
+IsStopped most plan instance choice first OutOfMemory = ⊤
 
 -- ---- steps over the outcomes below them
 
@@ -82,21 +83,16 @@ join_over condition left right = and_then left (λ ls. and_then right (λ rs. jo
 abbrev pub limit_of : Cut → LimitRule
 limit_of limit = record { keys = limit.keys.now; offset = limit.offset; count = limit.count; ties = limit.ties }
 
--- the ordering with this number is there and serves a Limit over its input; the empty list where that is a fault
-pub record IsLimitServed (limit : LimitRule) (input : RowsOrFault) (choice : List (List ℕ)) (number : ℕ) : Type 0 where
-  pub present : number < length choice
-  pub lawful : AtRows input (λ rows. IsOrdering (limit_class limit) rows (ordering_at choice number)) (ordering_at choice number ≡ [])
-
 -- what a Limit gives over its input
 abbrev pub cut_over : LimitRule → List ℕ → RowsOrFault → RowsOrFault
 cut_over limit ordering input = and_then input (λ rows. Ok (cut limit (rows_at rows ordering)))
 
 pub record IsCut (limit : LimitRule) (input : RowsOrFault) (choice : List (List ℕ)) (number : ℕ) (o : Outcome) : Type 0 where
-  pub served : IsLimitServed limit input choice number
+  pub served : HasOrdering (limit_class limit) input choice number
   pub is : outcome_of o ≡ cut_over limit (ordering_at choice number) input
 
--- only an ordering that does not serve, or want of memory
-abbrev pub IsUnserved : Type 0 → EvalError → Type 0
-IsUnserved Served (NotValid place) = Served → ⊥
-IsUnserved Served TooManyRows = ⊥
-IsUnserved Served OutOfMemory = ⊤
+-- a place of which this holds, or want of memory
+abbrev pub IsUnserved : (ℕ → Type 0) → EvalError → Type 0
+IsUnserved IsPlace (NotValid place) = IsPlace place
+IsUnserved IsPlace TooManyRows = ⊥
+IsUnserved IsPlace OutOfMemory = ⊤

@@ -1,10 +1,11 @@
 //! What a Limit keeps under its ordering.
 
 ghost use Rattle.std.specs.Prelude.{◌≡◌, ◌<◌, ◌≤◌, length, MatchResult, IfOk};
-ghost use Rattle.wd_window.specs.Windows.{orderings_of};
-ghost use Rattle.wd_eval.specs.Nodes.{IsCut, IsLimitServed, IsUnserved, given_of, limit_of};
+ghost use Rattle.wd_window.specs.Windows.{IsWrong, orderings_of};
+ghost use Rattle.wd_eval.specs.Nodes.{IsCut, IsUnserved, given_of, limit_of};
 ghost use Rattle.wd_plan.specs.Outcomes.{ordering_at};
 ghost use Rattle.wd_plan.specs.Outcomes as spec;
+ghost use Rattle.wd_plan.specs.Sorting.{limit_class};
 ghost use Rattle.wd_value.specs.Rows.{instance_of, rows_at, rows_of};
 
 use crate::error::EvalError;
@@ -35,7 +36,7 @@ pub(crate) fn limited(
     choice: &[Vec<u64>],
     number: usize,
 ) -> Result<Outcome, EvalError>
-    ensures { MatchResult result (λ o. IsCut (limit_of limit.now) (given_of (instance_of instance.now) input) (orderings_of choice.now) number o) (λ e. IsUnserved (IsLimitServed (limit_of limit.now) (given_of (instance_of instance.now) input) (orderings_of choice.now) number) e) }
+    ensures { MatchResult result (λ o. IsCut (limit_of limit.now) (given_of (instance_of instance.now) input) (orderings_of choice.now) number o) (λ e. IsUnserved (IsWrong (limit_class (limit_of limit.now)) (given_of (instance_of instance.now) input) (orderings_of choice.now) number) e) }
 {
     let Some(ordering) = choice.get(number) else {
         return Err(EvalError::NotValid(number as u64));

@@ -1,6 +1,7 @@
-//! Laws of the choices that leave rows that tie as they are, for all plans and instances.
+//! Laws of choices, for all plans and instances: of those that leave rows that tie as they are, and
+//! of wrong orderings.
 
-ghost use Rattle.wd_eval.specs.Laws.{HasOneTiedOutcome, HasTiedChoice};
+ghost use Rattle.wd_eval.specs.Laws.{HasNoWrongOrdering, HasOneTiedOutcome, HasTiedChoice};
 
 /// Each plan has such a choice over each instance, whichever ordering is flipped.
 pub fn has_tied_choice()
@@ -10,4 +11,9 @@ pub fn has_tied_choice()
 /// All such choices give one outcome.
 pub fn has_one_tied_outcome()
     ensures { HasOneTiedOutcome }
+{}
+
+/// A valid choice has no wrong ordering: none that is missing, not lawful or left over.
+pub fn has_no_wrong_ordering()
+    ensures { HasNoWrongOrdering }
 {}

@@ -1,6 +1,6 @@
 //! A plan under given orderings, node by node.
 
-ghost use Rattle.std.specs.Prelude.{◌≡◌, ◌^◌, ◌<◌, ◌≤◌, drop, length, MatchResult};
+ghost use Rattle.std.specs.Prelude.{◌≡◌, ◌^◌, ◌<◌, ◌≤◌, length, MatchResult};
 ghost use Rattle.wd_window.specs.Windows.{orderings_of};
 ghost use Rattle.wd_eval.specs.Nodes.{HasClasses, IsEvaluated, IsStopped};
 ghost use Rattle.wd_plan.specs.Plans.{plan_of};
@@ -34,7 +34,7 @@ pub(crate) fn evaluate(
     requires within { first ≤ length choice.now }
     requires few { most < 2 ^ 32 }
     requires named { HasClasses (plan_of plan.now) }
-    ensures { MatchResult result (λ e. IsEvaluated most (plan_of plan.now) (instance_of instance.now) (orderings_of choice.now) first e) (λ e. IsStopped most (plan_of plan.now) (instance_of instance.now) (drop first (orderings_of choice.now)) e) }
+    ensures { MatchResult result (λ e. IsEvaluated most (plan_of plan.now) (instance_of instance.now) (orderings_of choice.now) first e) (λ e. IsStopped most (plan_of plan.now) (instance_of instance.now) (orderings_of choice.now) first e) }
 {
     match plan {
         Plan::Scan { table, .. } => {

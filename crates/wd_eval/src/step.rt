@@ -7,7 +7,7 @@ ghost use Rattle.wd_plan.specs.Faults.{and_then};
 ghost use Rattle.wd_plan.specs.Outcomes as spec;
 ghost use Rattle.wd_plan.specs.Outcomes.{outcome_of};
 ghost use Rattle.wd_value.specs.Rows.{instance_of, rows_of, table_at};
-ghost use Rattle.wd_window.specs.Windows.{AreFew, EachNames, IsExtended, IsWindowServed, orderings_of, window_of};
+ghost use Rattle.wd_window.specs.Windows.{AreFew, EachNames, IsExtended, IsWrongIn, orderings_of, window_of};
 
 use crate::error::EvalError;
 use crate::given::{Given, owned, shown, table_in};
@@ -95,7 +95,7 @@ pub(crate) fn extended(
     requires few { AreFew (2 ^ 32 - 1) (given_of (instance_of instance.now) input) }
     requires within { first ≤ length choice.now }
     requires named { EachNames (length classes.now) calls.now }
-    ensures { let w = window_of classes.now calls.now in let below = given_of (instance_of instance.now) input in MatchResult result (λ o. IsExtended w below (orderings_of choice.now) first o) (λ e. IsUnserved (IsWindowServed w below (orderings_of choice.now) first) e) }
+    ensures { let w = window_of classes.now calls.now in let below = given_of (instance_of instance.now) input in MatchResult result (λ o. IsExtended w below (orderings_of choice.now) first o) (λ e. IsUnserved (IsWrongIn w.classes below (orderings_of choice.now) first) e) }
 {
     let input = owned(alloc, instance, input)?;
     let outcome = evaluate_window(alloc, classes, calls, input, choice, first)?;

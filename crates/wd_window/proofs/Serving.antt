@@ -7,11 +7,11 @@ use Rattle.wd_value.specs.declared.value.Fault.{Fault}
 use Rattle.wd_value.specs.Rows.{Row}
 use Rattle.wd_plan.specs.declared.plan.Outcome.{Outcome}
 use Rattle.wd_plan.specs.declared.window.Class.{Class}
-use Rattle.wd_plan.specs.Outcomes.{class_at, ordering_at, outcome_of, window_outcome}
+use Rattle.wd_plan.specs.Outcomes.{RowsOrFault, class_at, ordering_at, outcome_of, window_outcome}
 use Rattle.wd_plan.specs.Plans.{ClassRule, WindowRule, class_of}
 use Rattle.wd_plan.specs.Sorting.{IsOrdering}
-use Rattle.wd_window.specs.Windows.{IsExtended, IsUnserved, IsWindowServed}
-use Rattle.wd_window.specs.Listings.{AreEmpty, AreGiven, AreListed, AreListings, IsGiven, IsListed, IsListing}
+use Rattle.wd_window.specs.Windows.{HasOrdering, IsExtended, IsUnserved, IsWindowServed, IsWrong, IsWrongIn}
+use Rattle.wd_window.specs.Listings.{AreEmpty, AreListed, AreListings, IsListed, IsListing, IsNotEmptyIn}
 use Rattle.wd_window.specs.declared.error.WindowError.{WindowError}
 use Rattle.wd_window.specs.declared.error.WindowError.TheVariants.{NotValid, OutOfMemory}
 use Rattle.wd_window.specs.declared.listing.Listing.{Listing}
@@ -23,16 +23,16 @@ length_own : (choice : List (List ℕ)) (first m : ℕ) → first + m ≤ length
 length_own choice first m h = let a = length-take m (drop first choice) in let b = length-drop first choice in omega arith
 
 -- a class that does not serve stops its Window
-pub class_unserved : (classes : List Class) (class : Class) (rows : List Row) (choice : List (List ℕ)) (first k : ℕ) (e : WindowError) → k < length classes → class ≡ get_or classes k class
-    → IsUnserved (IsGiven (class_of class) rows choice (first + k)) e → IsUnserved (AreGiven (map class_of classes) rows choice first) e
-class_unserved classes class rows choice first k (NotValid p) lt is h = λ g. (
+pub class_unserved : (classes : List Class) (class : Class) (input : RowsOrFault) (choice : List (List ℕ)) (first k : ℕ) (e : WindowError) → k < length classes → class ≡ get_or classes k class
+    → IsUnserved (IsWrong (class_of class) input choice (first + k)) e → IsUnserved (IsWrongIn (map class_of classes) input choice first) e
+class_unserved classes class input choice first k (NotValid p) lt is h =
     let long = length-map classes class_of in
-    let there = g.present in
-    h (record {
-      present = omega arith;
-      lawful = subst (λ (rule : ClassRule). IsOrdering rule rows (ordering_at choice (first + k))) (get_or-map class_of classes k class (record { partition = []; order = [] }) lt ∙ ap class_of (sym is)) (g.lawful k (omega arith));
-    }))
-class_unserved classes class rows choice first k OutOfMemory lt is h = tt
+    record {
+      number = k;
+      within = omega arith;
+      wrong = subst (λ (rule : ClassRule). IsWrong rule input choice (first + k) p) (ap class_of is ∙ sym (get_or-map class_of classes k class (record { partition = []; order = [] }) lt)) h;
+    }
+class_unserved classes class input choice first k OutOfMemory lt is h = tt
 
 -- the partitions of one class more
 pub listings_more : (classes : List Class) (class : Class) (rows : List Row) (choice : List (List ℕ)) (first n : ℕ) (ls more : List Listing) (l : Listing) → n < length classes → class ≡ get_or classes n class
@@ -72,19 +72,9 @@ module _ (w : WindowRule) (rows : List Row) (choice : List (List ℕ)) (first : 
     };
   }
 
-  given : IsWindowServed w (Ok rows) choice first → AreGiven w.classes rows choice first
-  given s = record {
-    present = s.present;
-    lawful = λ k h. subst (λ (o : List ℕ). IsOrdering (class_at w k) rows o) (own_at choice first (length w.classes) k h) (s.lawful.each k h);
-  }
-
   pub rows_done : (listings : List Listing) (o : Outcome) → AreListings w.classes rows choice first (length w.classes) listings
       → ((orderings : List (List ℕ)) → AreListed w rows orderings listings → outcome_of o ≡ window_outcome w rows orderings) → IsExtended w (Ok rows) choice first o
   rows_done listings o a is = record { served = served listings a; is = is own (listed listings a) }
-
-  pub rows_unserved : (e : WindowError) → IsUnserved (AreGiven w.classes rows choice first) e → IsUnserved (IsWindowServed w (Ok rows) choice first) e
-  rows_unserved (NotValid p) h = λ s. h (given s)
-  rows_unserved OutOfMemory h = tt
 
 -- ---- an input that is a fault
 
@@ -111,9 +101,28 @@ module _ (w : WindowRule) (fault : Fault) (choice : List (List ℕ)) (first n : 
         is = is;
       }
 
-  pub fault_unserved : (e : WindowError) → IsUnserved (AreEmpty n choice first) e → IsUnserved (IsWindowServed w (Err fault) choice first) e
-  fault_unserved (NotValid p) h = λ s. (let there = s.present in h (record {
-    present = omega arith;
-    empty = λ k lt. (let small : k < length w.classes = omega arith in sym (own_at choice first (length w.classes) k small) ∙ each_from_all (take (length w.classes) (drop first choice)) k s.lawful);
-  }))
-  fault_unserved OutOfMemory h = tt
+  pub fault_unserved : (classes : List ClassRule) → n ≡ length classes → (e : WindowError) → IsUnserved (IsNotEmptyIn n choice first) e → IsUnserved (IsWrongIn classes (Err fault) choice first) e
+  fault_unserved classes many (NotValid p) h =
+      let small = h.within in
+      record {
+        number = h.number;
+        within = omega arith;
+        wrong = (h.at, λ o. h.wrong (record { present = o.present; empty = o.lawful }));
+      }
+  fault_unserved classes many OutOfMemory h = tt
+
+-- ---- each class of a Window that is served
+
+pub class_served : (w : WindowRule) (input : RowsOrFault) (choice : List (List ℕ)) (first k : ℕ) → IsWindowServed w input choice first → k < length w.classes → HasOrdering (class_at w k) input choice (first + k)
+class_served w (Ok rows) choice first k s lt =
+    let there = s.present in
+    record {
+      present = omega arith;
+      lawful = subst (λ (o : List ℕ). IsOrdering (class_at w k) rows o) (own_at choice first (length w.classes) k lt) (s.lawful.each k lt);
+    }
+class_served w (Err fault) choice first k s lt =
+    let there = s.present in
+    record {
+      present = omega arith;
+      lawful = sym (own_at choice first (length w.classes) k lt) ∙ each_from_all (take (length w.classes) (drop first choice)) k s.lawful;
+    }

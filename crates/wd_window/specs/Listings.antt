@@ -14,11 +14,6 @@ use Rattle.wd_frame.specs.Laws.{is_descending}
 use Rattle.wd_partition.specs.Members.{members_of}
 use Rattle.wd_window.specs.declared.listing.Listing.{Listing}
 
--- the ordering with this number is there, and is one of the class over the rows
-pub record IsGiven (class : ClassRule) (rows : List Row) (choice : List (List ℕ)) (number : ℕ) : Type 0 where
-  pub present : number < length choice
-  pub lawful : IsOrdering class rows (ordering_at choice number)
-
 -- the partitions of a class under a lawful ordering, row by row
 pub record IsListing (class : ClassRule) (rows : List Row) (ordering : List ℕ) (listing : Listing) : Type 0 where
   pub lawful : IsOrdering class rows ordering
@@ -33,11 +28,6 @@ pub record IsListed (class : ClassRule) (rows : List Row) (choice : List (List �
 -- the class with this number, and one without columns past the last
 abbrev pub class_in : List ClassRule → ℕ → ClassRule
 class_in classes n = slice_index_or classes n (record { partition = []; order = [] })
-
--- the orderings from the number `first` on are there, one for each class over the rows
-pub record AreGiven (classes : List ClassRule) (rows : List Row) (choice : List (List ℕ)) (first : ℕ) : Type 0 where
-  pub present : first + length classes ≤ length choice
-  pub lawful : (k : ℕ) → k < length classes → IsOrdering (class_in classes k) rows (ordering_at choice (first + k))
 
 -- those of the first n classes, under the orderings from the number `first` on
 pub record AreListings (classes : List ClassRule) (rows : List Row) (choice : List (List ℕ)) (first n : ℕ) (listings : List Listing) : Type 0 where
@@ -79,3 +69,10 @@ pub record IsEmptyAt (choice : List (List ℕ)) (number : ℕ) : Type 0 where
 pub record AreEmpty (count : ℕ) (choice : List (List ℕ)) (first : ℕ) : Type 0 where
   pub present : first + count ≤ length choice
   pub empty : (k : ℕ) → k < count → ordering_at choice (first + k) ≡ []
+
+-- the place is the number of one of them that is missing or not empty
+pub record IsNotEmptyIn (count : ℕ) (choice : List (List ℕ)) (first place : ℕ) : Type 0 where
+  pub number : ℕ
+  pub within : number < count
+  pub at : place ≡ first + number
+  pub wrong : IsEmptyAt choice (first + number) → ⊥

@@ -8,8 +8,10 @@ use Rattle.wd_plan.specs.declared.window.Call.{Call}
 use Rattle.wd_plan.specs.declared.window.Class.{Class}
 use Rattle.wd_plan.specs.Choices.{AtRows, AreOrderings}
 use Rattle.wd_plan.specs.Faults.{and_then}
-use Rattle.wd_plan.specs.Outcomes.{RowsOrFault, outcome_of, window_outcome}
-use Rattle.wd_plan.specs.Plans.{WindowRule, class_of}
+use Rattle.wd_plan.specs.Outcomes.{RowsOrFault, ordering_at, outcome_of, window_outcome}
+use Rattle.wd_plan.specs.Plans.{ClassRule, WindowRule, class_of}
+use Rattle.wd_plan.specs.Sorting.{IsOrdering}
+use Rattle.wd_window.specs.Listings.{class_in}
 use Rattle.wd_window.specs.declared.error.WindowError.{WindowError}
 use Rattle.wd_window.specs.declared.error.WindowError.TheVariants.{NotValid, OutOfMemory}
 
@@ -45,7 +47,23 @@ pub record IsExtended (w : WindowRule) (input : RowsOrFault) (choice : List (Lis
   pub served : IsWindowServed w input choice first
   pub is : outcome_of o ≡ window_over w (take (length w.classes) (drop first choice)) input
 
--- only an ordering that does not serve, or want of memory
-abbrev pub IsUnserved : Type 0 → WindowError → Type 0
-IsUnserved Served (NotValid place) = Served → ⊥
-IsUnserved Served OutOfMemory = ⊤
+-- the ordering with this number is there, and is one of the class over its input: of the rows, and the empty list where the
+-- input is a fault
+pub record HasOrdering (class : ClassRule) (input : RowsOrFault) (choice : List (List ℕ)) (number : ℕ) : Type 0 where
+  pub present : number < length choice
+  pub lawful : AtRows input (λ rows. IsOrdering class rows (ordering_at choice number)) (ordering_at choice number ≡ [])
+
+-- the place is this number, and the class has no such ordering there: it is missing or not lawful
+abbrev pub IsWrong : ClassRule → RowsOrFault → List (List ℕ) → ℕ → ℕ → Type 0
+IsWrong class input choice number place = (place ≡ number) × (HasOrdering class input choice number → ⊥)
+
+-- the place is that of a class with no such ordering, where the orderings of the classes stand from the number `first` on
+pub record IsWrongIn (classes : List ClassRule) (input : RowsOrFault) (choice : List (List ℕ)) (first place : ℕ) : Type 0 where
+  pub number : ℕ
+  pub within : number < length classes
+  pub wrong : IsWrong (class_in classes number) input choice (first + number) place
+
+-- a place of which this holds, or want of memory
+abbrev pub IsUnserved : (ℕ → Type 0) → WindowError → Type 0
+IsUnserved IsPlace (NotValid place) = IsPlace place
+IsUnserved IsPlace OutOfMemory = ⊤

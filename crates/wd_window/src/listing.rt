@@ -1,9 +1,9 @@
 //! The partitions of a Window's classes under the orderings of a choice.
 
-ghost use Rattle.std.specs.Prelude.{◌≡◌, ◌^◌, ◌<◌, ◌≤◌, length, map, MatchResult};
-ghost use Rattle.wd_window.specs.Windows.{IsUnserved, orderings_of};
+ghost use Rattle.std.specs.Prelude.{◌≡◌, ◌^◌, ◌<◌, ◌≤◌, length, map, MatchResult, Ok};
+ghost use Rattle.wd_window.specs.Windows.{IsUnserved, IsWrong, IsWrongIn, orderings_of};
 ghost use Rattle.wd_window.specs.Listings as spec;
-ghost use Rattle.wd_window.specs.Listings.{AreGiven, AreListings, IsGiven, IsListed};
+ghost use Rattle.wd_window.specs.Listings.{AreListings, IsListed};
 ghost use Rattle.wd_frame.specs.Laws as frames;
 ghost use Rattle.wd_plan.specs.Outcomes.{ordering_at};
 ghost use Rattle.wd_plan.specs.Plans.{class_of};
@@ -22,8 +22,8 @@ pub(crate) struct Listing {
     pub desc: bool,
 }
 
-/// The partitions of each class under the orderings from `first` on, each of which has to be there
-/// and lawful.
+/// The partitions of each class under the orderings from `first` on, the first of which that is
+/// missing or not lawful is refused.
 pub(crate) fn listings(
     alloc: Global,
     rows: &[Row],
@@ -33,7 +33,7 @@ pub(crate) fn listings(
 ) -> Result<Vec<Listing>, WindowError>
     requires short { length rows.now < 2 ^ 32 }
     requires within { first ≤ length choice.now }
-    ensures { MatchResult result (λ v. AreListings (map class_of classes.now) (rows_of rows.now) (orderings_of choice.now) first (length classes.now) v.items) (λ e. IsUnserved (AreGiven (map class_of classes.now) (rows_of rows.now) (orderings_of choice.now) first) e) }
+    ensures { MatchResult result (λ v. AreListings (map class_of classes.now) (rows_of rows.now) (orderings_of choice.now) first (length classes.now) v.items) (λ e. IsUnserved (IsWrongIn (map class_of classes.now) (Ok (rows_of rows.now)) (orderings_of choice.now) first) e) }
 {
     let mut listings = Vec::new(alloc);
     for (number, class) in classes.iter().enumerate() {
@@ -52,7 +52,7 @@ fn listing_of(
     number: usize,
 ) -> Result<Listing, WindowError>
     requires { length rows.now < 2 ^ 32 }
-    ensures { MatchResult result (λ l. IsListed (class_of class.now) (rows_of rows.now) (orderings_of choice.now) number l) (λ e. IsUnserved (IsGiven (class_of class.now) (rows_of rows.now) (orderings_of choice.now) number) e) }
+    ensures { MatchResult result (λ l. IsListed (class_of class.now) (rows_of rows.now) (orderings_of choice.now) number l) (λ e. IsUnserved (IsWrong (class_of class.now) (Ok (rows_of rows.now)) (orderings_of choice.now) number) e) }
 {
     let Some(ordering) = choice.get(number) else {
         return Err(WindowError::NotValid(number as u64));

@@ -1,14 +1,14 @@
 //! A Window under the orderings of a choice.
 
 ghost use Rattle.std.specs.Prelude.{◌≡◌, ◌↔◌, ℕ, ◌+◌, ◌-◌, ◌++◌, ◌^◌, ◌<◌, ◌≤◌, List, IfOk, IsTrue, OnOk, length, map, MatchResult};
-ghost use Rattle.wd_window.specs.Windows.{AreFew, EachNames, IsExtended, IsUnserved, IsWindowServed, orderings_of, window_of};
+ghost use Rattle.wd_window.specs.Windows.{AreFew, EachNames, IsExtended, IsUnserved, IsWrongIn, orderings_of, window_of};
 ghost use Rattle.wd_window.specs.Columns.{AreColumns, IsColumn, columns_of};
 ghost use Rattle.wd_window.specs.Listings as spec;
-ghost use Rattle.wd_window.specs.Listings.{AreEmpty, AreListed, IsEmptyAt, IsListing, calls_at};
+ghost use Rattle.wd_window.specs.Listings.{AreEmpty, AreListed, IsEmptyAt, IsNotEmptyIn, IsListing, calls_at};
 ghost use Rattle.wd_plan.specs.Calls as calls;
 ghost use Rattle.wd_plan.specs.Faults.{all_ok};
 ghost use Rattle.wd_plan.specs.Outcomes.{call_at, outcome_of, window_outcome};
-ghost use Rattle.wd_plan.specs.Plans.{ClassRule, WindowRule};
+ghost use Rattle.wd_plan.specs.Plans.{ClassRule, WindowRule, class_of};
 ghost use Rattle.wd_value.specs.Bags.{positions};
 ghost use Rattle.wd_value.specs.Rows.{rows_of};
 
@@ -23,7 +23,8 @@ use wd_steps::with_fault;
 use wd_value::{Fault, OutOfMemory, Row, Value};
 
 /// The input's rows with the values of the calls behind each of them, under the choice's orderings
-/// from `first` on: one for each class, each lawful, and empty where the input is a fault.
+/// from `first` on: one for each class, each lawful, and empty where the input is a fault. The first
+/// that is not is refused by its number in the choice.
 pub fn evaluate_window(
     alloc: Global,
     classes: &[Class],
@@ -35,7 +36,7 @@ pub fn evaluate_window(
     requires few { AreFew (2 ^ 32 - 1) (outcome_of input) }
     requires within { first ≤ length choice.now }
     requires named { EachNames (length classes.now) calls.now }
-    ensures { MatchResult result (λ o. IsExtended (window_of classes.now calls.now) (outcome_of input) (orderings_of choice.now) first o) (λ e. IsUnserved (IsWindowServed (window_of classes.now calls.now) (outcome_of input) (orderings_of choice.now) first) e) }
+    ensures { MatchResult result (λ o. IsExtended (window_of classes.now calls.now) (outcome_of input) (orderings_of choice.now) first o) (λ e. IsUnserved (IsWrongIn (map class_of classes.now) (outcome_of input) (orderings_of choice.now) first) e) }
 {
     match input {
         Outcome::Fault(fault) => {
@@ -210,10 +211,10 @@ fn listed_value(
     }
 }
 
-/// Refuses the choice unless so many orderings from `first` on are there and empty.
+/// Refuses the first of so many orderings from `first` on that is not there or not empty.
 fn all_empty(count: usize, choice: &[Vec<u64>], first: usize) -> Result<(), WindowError>
     requires { first ≤ length choice.now }
-    ensures { MatchResult result (λ u. AreEmpty count (orderings_of choice.now) first) (λ e. IsUnserved (AreEmpty count (orderings_of choice.now) first) e) }
+    ensures { MatchResult result (λ u. AreEmpty count (orderings_of choice.now) first) (λ e. IsUnserved (IsNotEmptyIn count (orderings_of choice.now) first) e) }
 {
     for number in 0..count {
         if !is_empty_at(choice, first + number) {

@@ -3,10 +3,10 @@ use Rattle.std.proofs.lemmas.List.{length-map, map_push}
 use Rattle.std.proofs.lemmas.Result.{MatchResult-weaker}
 use Rattle.wd_value.specs.Rows.{instance_of}
 use Rattle.wd_plan.specs.Sorting.{limit_class}
-use Rattle.wd_window.specs.Windows.{orderings_of}
-use Rattle.wd_eval.specs.Nodes.{given_of, IsCut, IsLimitServed, limit_of}
+use Rattle.wd_window.specs.Windows.{HasOrdering, orderings_of}
+use Rattle.wd_eval.specs.Nodes.{given_of, IsCut, limit_of}
 use Rattle.wd_eval.specs.Tied.{IsSortedOver}
-use Rattle.wd_eval.proofs.Putting.{limit_put, limit_tied_from, served_memory}
+use Rattle.wd_eval.proofs.Putting.{limit_memory, limit_put, limit_tied_from}
 use Rattle.wd_eval.proofs.tie.tied_limit.Goals as goal
 
 pub returns : goal.returns
@@ -25,4 +25,4 @@ returns c =
     let served = limit_put limit input flipped old new own number turned at grown sorted in
     MatchResult-weaker c.limited.result c.limited.ensures
     (λ o is. limit_tied_from limit input flipped old new own number turned at grown sorted o c.is_flipped-turned.ensures (subst (λ ch. IsCut limit input (orderings_of ch) number o) c.deref.ensures.value is))
-    (λ e h. served_memory (IsLimitServed limit input (orderings_of c.deref.result.now) number) e (subst (λ ch. IsLimitServed limit input (orderings_of ch) number) (sym c.deref.ensures.value) served) h)
+    (λ e h. limit_memory (limit_class limit) input (orderings_of c.deref.result.now) number e (subst (λ ch. HasOrdering (limit_class limit) input (orderings_of ch) number) (sym c.deref.ensures.value) served) h)

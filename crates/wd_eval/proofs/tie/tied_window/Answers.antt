@@ -6,7 +6,7 @@ use Rattle.wd_plan.specs.Plans.{class_of}
 use Rattle.wd_window.specs.Windows.{IsExtended, IsWindowServed, orderings_of, window_of}
 use Rattle.wd_eval.specs.Nodes.{given_of}
 use Rattle.wd_eval.specs.Ties.{ArePut}
-use Rattle.wd_eval.proofs.Putting.{served_memory, window_put}
+use Rattle.wd_eval.proofs.Putting.{window_memory, window_put}
 use Rattle.wd_eval.proofs.tie.tied_window.Goals as goal
 
 pub returns : goal.returns
@@ -23,4 +23,4 @@ returns c =
     let served_here = subst (λ n. IsWindowServed w input (orderings_of c.deref.result.now) n) (sym at) (subst (λ ch. IsWindowServed w input (orderings_of ch) (length old)) (sym c.deref.ensures.value) served) in
     MatchResult-weaker c.extended.result c.extended.ensures
     (λ o is. record { put = put; extended = subst (λ n. IsExtended w input new n o) at (subst (λ ch. IsExtended w input (orderings_of ch) first o) c.deref.ensures.value is) })
-    (λ e h. served_memory (IsWindowServed w input (orderings_of c.deref.result.now) first) e served_here h)
+    (λ e h. window_memory w input (orderings_of c.deref.result.now) first e served_here h)

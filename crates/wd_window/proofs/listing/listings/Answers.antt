@@ -1,9 +1,10 @@
-use Rattle.std.proofs.Common.{◌+◌, ◌<◌, length, arith, rules}
+use Rattle.std.proofs.Common.{◌+◌, ◌<◌, length, Ok, arith, rules}
 use Rattle.std.proofs.lemmas.Result.{err_from_is_err_and}
 use Rattle.wd_value.specs.Rows.{rows_of}
+use Rattle.wd_plan.specs.Outcomes.{RowsOrFault}
 use Rattle.wd_plan.specs.Plans.{class_of}
-use Rattle.wd_window.specs.Windows.{IsUnserved, orderings_of}
-use Rattle.wd_window.specs.Listings.{IsGiven, IsListed}
+use Rattle.wd_window.specs.Windows.{IsUnserved, IsWrong, orderings_of}
+use Rattle.wd_window.specs.Listings.{IsListed}
 use Rattle.wd_window.proofs.Serving.{class_unserved, listings_more}
 use Rattle.wd_window.proofs.listing.listings.Goals as goal
 
@@ -14,8 +15,9 @@ returns-in_err-listing c =
     let class = c.index-classes-number.result in
     let e = c.in_err-listing.field-0.0 in
     let within : k < length c.args.classes.now = omega arith in
-    let h : IsUnserved (IsGiven (class_of class) (rows_of c.args.rows.now) (orderings_of c.args.choice.now) (c.args.first + k)) e = search rules in
-    rw (p.1, p.2) (class_unserved c.args.classes.now class (rows_of c.args.rows.now) (orderings_of c.args.choice.now) c.args.first k e within c.index-classes-number.is h)
+    let rows : RowsOrFault = Ok (rows_of c.args.rows.now) in
+    let h : IsUnserved (IsWrong (class_of class) rows (orderings_of c.args.choice.now) (c.args.first + k)) e = search rules in
+    rw (p.1, p.2) (class_unserved c.args.classes.now class rows (orderings_of c.args.choice.now) c.args.first k e within c.index-classes-number.is h)
 
 pub loop-number-preserved : goal.loop-number-preserved
 loop-number-preserved c =
