@@ -26,8 +26,9 @@ wdcheck refute SCHEMA QUERY WITNESS
 wdcheck run SCHEMA QUERY [NAME=PATH]...
 ";
 
-/// Runs the program on the words after its own name, and gives its exit status. All files are read
-/// before anything is judged, and the output is made whole before it is written.
+/// Runs the program on the words after its own name, and gives its exit status. The words are judged
+/// before any file is read, the files are read in the order of the words, up to one that fails,
+/// before any of them is judged, and the output is made whole before it is written.
 pub fn command<F: Files, O: Write, E: Write>(
     alloc: Global,
     words: &[&str],
