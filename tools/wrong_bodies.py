@@ -61,7 +61,7 @@ def copy_with(crate, edits, room):
     return bad
 
 
-def check(crate, edits, log):
+def check(crate, edits, log, kept):
     """Checks the edited functions in one copy of the crate; returns the lines that are said, and the edits that can't be applied."""
     with tempfile.TemporaryDirectory(prefix="wrong-bodies-") as room:
         bad = copy_with(crate, edits, room)
@@ -69,6 +69,7 @@ def check(crate, edits, log):
         if not names:
             return [], bad
         words = [rt.rtlib.RATTLE, "check", *crate.words(["--jobs", "1"], keeps=False)]
+        words += ["--incremental", kept] if kept else []
         for name in names:
             words += ["--only", name]
         ran = subprocess.run([*rt.rtlib.guarded(), *words], cwd=room, stdin=subprocess.DEVNULL,
@@ -127,10 +128,19 @@ def rounds(edits):
 
 def judge(crate, edits, logs):
     """For each edit whether it is as it must be; it is said of each what the check said."""
-    judged, groups, number = [], rounds(edits), 0
+    groups = rounds(edits)
+    if len(groups) == 1:
+        return judge_groups(crate, groups, logs, None)
+    # The later checks go on from what the first one proved.
+    with tempfile.TemporaryDirectory(prefix="wrong-bodies-kept-") as kept:
+        return judge_groups(crate, groups, logs, kept)
+
+
+def judge_groups(crate, groups, logs, kept):
+    judged, number = [], 0
     while groups:
         group, number = groups.pop(0), number + 1
-        lines, bad = check(crate, group, logs and f"{logs}/{crate.name}.{number}.log")
+        lines, bad = check(crate, group, logs and f"{logs}/{crate.name}.{number}.log", kept)
         unclear = []
         for edit in group:
             refused, said = (None, bad[edit]) if edit in bad else verdict(edit, lines)

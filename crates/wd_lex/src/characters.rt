@@ -6,7 +6,7 @@ ghost use Rattle.wd_lex.specs.Characters as spec;
 ghost use Rattle.wd_lex.specs.Reading.{is_in, drop_while};
 
 /// What a run of characters is made of.
-#[derive(Clone, Copy, Debug)]
+#[derive(Clone, Copy)]
 pub enum Class {
     /// White space.
     Blank,

@@ -19,7 +19,7 @@ use std::alloc::{AllocError, Global};
 use wd_value::Text;
 
 /// The kinds of pieces.
-#[derive(Clone, Copy, Debug)]
+#[derive(Clone, Copy)]
 pub enum Kind {
     Blanks,
     LineComment,

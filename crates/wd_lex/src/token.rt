@@ -1,7 +1,7 @@
 use wd_value::Text;
 
 /// Where a token stands: the bytes of the text from `start` up to `end`.
-#[derive(Clone, Copy, Debug, PartialEq, Eq)]
+#[derive(Clone, Copy, PartialEq, Eq)]
 pub struct Span {
     pub start: u64,
     pub end: u64,
@@ -99,7 +99,7 @@ pub enum Mark {
 }
 
 /// What a token says.
-#[derive(Debug, Drop)]
+#[derive(Drop)]
 pub enum TokenKind {
     /// A reserved word or a symbol.
     Mark(Mark),
@@ -114,7 +114,7 @@ pub enum TokenKind {
 }
 
 /// A token, and where it stands.
-#[derive(Debug, Drop)]
+#[derive(Drop)]
 pub struct Token {
     pub kind: TokenKind,
     pub span: Span,

@@ -132,7 +132,7 @@ pub fn combined(
 }
 
 /// WHEN .. THEN ..
-#[derive(Debug, Drop)]
+#[derive(Drop)]
 pub struct CaseArm {
     pub when: Meaning,
     pub gives: Meaning,

@@ -2,7 +2,7 @@
 
 /// The stretch of a row's partition among the positions sorted by partition, from `start` up to
 /// `end`, and the place of the row itself there.
-#[derive(Clone, Copy, PartialEq, Eq, Debug)]
+#[derive(Clone, Copy, PartialEq, Eq)]
 pub struct Place {
     pub start: usize,
     pub end: usize,

@@ -6,7 +6,7 @@ ghost use Rattle.wd_phrase.specs.declared.refusal.Refusal.TheVariants.{OutOfMemo
 use std::alloc::{AllocError, AllocFailed};
 
 /// A refusal while reading: `left` counts the tokens from the refused one on, and is 0 where more tokens are wanted.
-#[derive(Clone, Copy, Debug)]
+#[derive(Clone, Copy)]
 pub enum Refusal {
     /// No query goes on with that token.
     Unexpected { left: usize },

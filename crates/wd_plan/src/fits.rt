@@ -17,7 +17,7 @@ use wd_value::{ColumnType, Value};
 const MAX_COLUMNS: u32 = 1024;
 
 /// What gives the kind of an expression's values: a column of the input, or the expression itself.
-#[derive(Clone, Copy, PartialEq, Eq, Debug)]
+#[derive(Clone, Copy, PartialEq, Eq)]
 pub enum KindSource {
     OfColumn(u16),
     Always(ValueKind),

@@ -59,7 +59,7 @@ pub enum Plan {
 }
 
 /// What a plan gives: rows, or the least fault of the first step that has one.
-#[derive(Debug, Drop)]
+#[derive(Drop)]
 pub enum Outcome {
     Rows(Vec<Row>),
     Fault(Fault),
@@ -67,7 +67,7 @@ pub enum Outcome {
 
 /// All that a query's text leaves open, as data: for each class of each Window and for each Limit,
 /// in postorder, the positions of that node's input rows in the order that they take.
-#[derive(Debug, Drop)]
+#[derive(Drop)]
 pub struct Choice {
     pub orderings: Vec<Vec<u64>>,
 }

@@ -8,7 +8,7 @@ use wd_scope::Scope;
 use wd_select::OutputColumn;
 
 /// A plan, and the names and kinds of its columns, at most 1,024.
-#[derive(Debug, Drop)]
+#[derive(Drop)]
 pub struct LoweredSelect {
     pub plan: Plan,
     pub columns: Vec<OutputColumn>,
@@ -16,14 +16,14 @@ pub struct LoweredSelect {
 }
 
 /// Tables joined to one another: their columns, and the plan that gives them.
-#[derive(Debug, Drop)]
+#[derive(Drop)]
 pub struct Part {
     pub scope: Scope,
     pub plan: Plan,
 }
 
 /// The tables of FROM so far, at most 8 with at most 1,024 columns: those before the last comma, and those that are joined behind it.
-#[derive(Debug, Drop)]
+#[derive(Drop)]
 pub struct FromSoFar {
     pub before: Option<Part>,
     pub current: Part,

@@ -19,7 +19,7 @@ use wd_syntax::Query;
 use wd_value::{OutOfMemory, Text};
 
 /// The plan of a query, and the names of its outputs.
-#[derive(Debug, Drop)]
+#[derive(Drop)]
 pub struct Resolved {
     pub plan: Plan,
     pub names: Vec<Text>,

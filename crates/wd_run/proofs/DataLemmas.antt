@@ -1,11 +1,11 @@
 -- The rows of tables, as one text more is given.
-use Rattle.std.proofs.Common.{◌≡◌, ◌≢◌, ◌∙◌, ◌⊎◌, ℕ, ◌+◌, ◌<◌, ◌≤◌, Bool, true, false, List, [], ◌∷◌, ◌++◌, map, set, get_or, length, nat_eq, Some, take, drop, ◌||◌, zero, suc, refl, sym, ap, subst, arith, inl, inr}
+use Rattle.std.proofs.Common.{◌≡◌, ◌≢◌, ◌∙◌, ◌⊎◌, ℕ, ◌+◌, ◌<◌, ◌≤◌, Bool, true, false, List, [], ◌∷◌, ◌++◌, set, get_or, length, nat_eq, Some, take, drop, ◌||◌, zero, suc, refl, sym, ap, subst, arith, inl, inr}
 use Rattle.std.specs.Prelude.{All, Any, slice_get}
 use Rattle.std.specs.Borrow.{Bor}
 use Rattle.std.specs.List.{AllByRecursion, list_any}
 use Rattle.std.specs.Str.{bytes_eq}
 use Rattle.std.proofs.lemmas.Bool.{cases_lt, eqb-true, eqb-false, false≢true}
-use Rattle.std.proofs.lemmas.List.{at_drop_more, get_or_append_left, get_or_at, get_or-map, get_or-set_other, get_or-set_same, length-append, length-map, length-set, map-append, map_push, take_more, take-append-drop}
+use Rattle.std.proofs.lemmas.List.{at_drop_more, get_or_append_left, get_or_at, get_or-set_other, get_or-set_same, length-append, length-set, map-append, map_push, take_more, take-append-drop}
 use Rattle.std.proofs.lemmas.List.Elements.{All-from_recursion, All-push}
 use Rattle.std.proofs.lemmas.List.Quantifiers.{all_pairs_push}
 use Rattle.std.proofs.lemmas.Slice.Eq.{bytes_eq-Decides}

@@ -35,7 +35,7 @@ pub enum RunError {
 }
 
 /// Which of its inputs a run's refusal is about.
-#[derive(Clone, Copy, Debug)]
+#[derive(Clone, Copy)]
 pub enum Origin<'a> {
     Schema,
     Query,

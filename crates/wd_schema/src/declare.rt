@@ -25,7 +25,7 @@ const MOST_COLUMNS: usize = 256;
 const MOST_KEYS: usize = 64;
 
 /// Where something stands in a table's declaration: in which of its elements, and at which part of it.
-#[derive(Clone, Copy, Debug, PartialEq, Eq)]
+#[derive(Clone, Copy, PartialEq, Eq)]
 pub struct Place {
     pub element: usize,
     pub part: usize,
@@ -393,7 +393,7 @@ fn column_twice(columns: &[Text], elements: &[Element]) -> Option<Place>
 }
 
 /// A refusal, and where its cause stands.
-#[derive(Clone, Copy, Debug, PartialEq, Eq)]
+#[derive(Clone, Copy, PartialEq, Eq)]
 struct Refusal {
     place: Place,
     error: SchemaError,

@@ -16,7 +16,7 @@ use crate::table::{Column, Key, Table};
 use wd_value::{ColumnType, Instance, Row, Value, same};
 
 /// The instance does not meet the schema.
-#[derive(Clone, Copy, Debug, PartialEq, Eq)]
+#[derive(Clone, Copy, PartialEq, Eq)]
 pub struct Violation;
 
 /// Whether an instance meets a schema: for each table, in order of declaration, a list of rows, and no further list. Each

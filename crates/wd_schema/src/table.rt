@@ -1,7 +1,7 @@
 use wd_value::{ColumnType, Text};
 
 /// A column of a table.
-#[derive(Debug, Drop)]
+#[derive(Drop)]
 pub struct Column {
     pub name: Text,
     pub kind: ColumnType,
@@ -10,7 +10,7 @@ pub struct Column {
 }
 
 /// A key of a table: no two of its rows may be the same on these columns.
-#[derive(Debug, Drop)]
+#[derive(Drop)]
 pub struct Key {
     /// The numbers of the columns, from 0.
     pub columns: Vec<u16>,
@@ -20,7 +20,7 @@ pub struct Key {
 }
 
 /// A table of a schema.
-#[derive(Debug, Drop)]
+#[derive(Drop)]
 pub struct Table {
     pub name: Text,
     pub columns: Vec<Column>,

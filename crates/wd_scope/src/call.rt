@@ -7,7 +7,7 @@ use wd_plan::{Expr, ValueKind};
 use wd_value::Value;
 
 /// The functions of window calls.
-#[derive(Clone, Copy, Debug, PartialEq, Eq)]
+#[derive(Clone, Copy, PartialEq, Eq)]
 pub enum FunctionName {
     RowNumber,
     Rank,
@@ -25,7 +25,7 @@ pub enum FunctionName {
 }
 
 /// A function over its arguments.
-#[derive(Debug, Drop)]
+#[derive(Drop)]
 pub struct AppliedFunction {
     pub name: FunctionName,
     /// The value argument. COUNT(*) has none.
@@ -39,7 +39,7 @@ pub struct AppliedFunction {
 }
 
 /// A window call.
-#[derive(Debug, Drop)]
+#[derive(Drop)]
 pub struct WindowCall {
     pub function: AppliedFunction,
     pub window: Window,
@@ -50,7 +50,7 @@ pub struct WindowCall {
 pub(crate) const MOST_CALLS: usize = 64_512;
 
 /// The distinct window calls of a select list, as many as have columns.
-#[derive(Debug, Drop)]
+#[derive(Drop)]
 pub struct Calls {
     pub list: Vec<WindowCall>,
     pub ghost few: { vec_len list ≤ 64512 },

@@ -9,7 +9,7 @@ use wd_value::Text;
 pub const MOST_COLUMNS: usize = 1024;
 
 /// A column in scope: what its table is called in FROM, its name, and the kind of its values.
-#[derive(Debug, Drop)]
+#[derive(Drop)]
 pub struct ScopeColumn {
     pub table: Text,
     pub name: Text,
@@ -17,7 +17,7 @@ pub struct ScopeColumn {
 }
 
 /// What the tables of FROM are called, and their columns from left to right, at most 1,024.
-#[derive(Debug, Drop)]
+#[derive(Drop)]
 pub struct Scope {
     pub tables: Vec<Text>,
     pub columns: Vec<ScopeColumn>,

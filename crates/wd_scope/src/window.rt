@@ -16,7 +16,7 @@ use wd_syntax::{Extent, Name, NullsPlace, SortDirection};
 use wd_value::{SortKey, Text};
 
 /// An expression to sort by, the kind of its values, and how they are sorted.
-#[derive(Debug, Drop)]
+#[derive(Drop)]
 pub struct OrderKey {
     pub expression: Expr,
     pub kind: ValueKind,
@@ -24,7 +24,7 @@ pub struct OrderKey {
 }
 
 /// A window. Windows that copy one another share their lists.
-#[derive(Debug, Drop)]
+#[derive(Drop)]
 pub struct Window {
     pub partition: Rc<Vec<Expr>>,
     pub order: Rc<Vec<OrderKey>>,
@@ -34,7 +34,7 @@ pub struct Window {
 }
 
 /// A window of a WINDOW clause.
-#[derive(Debug, Drop)]
+#[derive(Drop)]
 pub struct KnownWindow {
     pub name: Text,
     pub window: Window,

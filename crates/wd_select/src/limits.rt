@@ -9,7 +9,7 @@ use wd_operand::{Cause, ResolveError, number};
 use wd_syntax::{Count, Limits, Offset};
 
 /// How many rows are left out, how many are then given at most, and whether with ties.
-#[derive(Clone, Copy, Debug, PartialEq, Eq)]
+#[derive(Clone, Copy, PartialEq, Eq, Debug)]
 pub struct Cut {
     pub offset: u64,
     pub count: Option<u64>,

@@ -4,14 +4,14 @@ use wd_plan::{Expr, ValueKind};
 use wd_value::Text;
 
 /// The name and the kind of an output.
-#[derive(Debug, Drop)]
+#[derive(Drop)]
 pub struct OutputColumn {
     pub name: Text,
     pub kind: ValueKind,
 }
 
 /// An output: its name, its expression over the columns of FROM and, behind these, the calls, and the kind of its values.
-#[derive(Debug, Drop)]
+#[derive(Drop)]
 pub struct Output {
     pub name: Text,
     pub expression: Expr,

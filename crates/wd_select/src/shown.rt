@@ -17,7 +17,7 @@ pub struct Shown<'a> {
 }
 
 /// What is sorted by: the output of that number, or an expression that is no output.
-#[derive(Debug, Drop)]
+#[derive(Drop)]
 pub enum Place {
     Output(u16),
     Hidden(Expr),
@@ -25,7 +25,7 @@ pub enum Place {
 
 /// The sort keys over the outputs and the hidden columns behind them, the expressions that are hidden there, and the distinct
 /// expressions that a Map below a Window would show.
-#[derive(Debug, Drop)]
+#[derive(Drop)]
 pub struct Sorted {
     pub items: Vec<OrderItem>,
     pub hidden: Vec<Expr>,

@@ -15,7 +15,7 @@ use wd_value::{OutOfMemory, Row, SortKey, Value, compare};
 
 /// A column to sort by: its number, from 0, and the direction and where NULL stands. Past a row's
 /// last column it holds NULL.
-#[derive(Clone, Copy, PartialEq, Eq, Debug)]
+#[derive(Clone, Copy, PartialEq, Eq)]
 pub struct SortColumn {
     pub column: u16,
     pub key: SortKey,

@@ -16,7 +16,7 @@ use wd_lex::{Mark, Token, TokenKind};
 use wd_value::OutOfMemory;
 
 /// Why tokens can't be read.
-#[derive(Clone, Copy, Debug, PartialEq, Eq)]
+#[derive(Clone, Copy, PartialEq, Eq)]
 pub enum ReadError {
     /// The first of the last `left` tokens stands where it may not, or the tokens end too early.
     Unexpected { left: usize },

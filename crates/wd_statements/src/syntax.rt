@@ -13,7 +13,7 @@ pub enum Name {
 }
 
 /// What stands behind UNIQUE.
-#[derive(Clone, Copy, Debug, PartialEq, Eq)]
+#[derive(Clone, Copy, PartialEq, Eq)]
 pub enum Nulls {
     /// Nothing, which takes NULLs as distinct.
     Unsaid,
@@ -24,14 +24,14 @@ pub enum Nulls {
 }
 
 /// The words that declare a key.
-#[derive(Clone, Copy, Debug, PartialEq, Eq)]
+#[derive(Clone, Copy, PartialEq, Eq)]
 pub enum KeyWords {
     Primary,
     Unique(Nulls),
 }
 
 /// A rule for a column.
-#[derive(Clone, Copy, Debug, PartialEq, Eq)]
+#[derive(Clone, Copy, PartialEq, Eq)]
 pub enum Rule {
     NotNull,
     Null,

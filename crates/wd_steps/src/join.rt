@@ -18,7 +18,7 @@ use wd_scalar::{has_arithmetic, value_of};
 use wd_value::{Fault, OutOfMemory, Row, Value};
 
 /// Why a join gives no outcome.
-#[derive(Clone, Copy, PartialEq, Eq, Debug)]
+#[derive(Clone, Copy, PartialEq, Eq)]
 pub enum JoinError {
     /// It has more rows than the caller allows.
     TooManyRows,

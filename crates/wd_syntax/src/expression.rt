@@ -28,7 +28,7 @@ pub enum Sign {
     Minus,
 }
 
-#[derive(Debug, Drop)]
+#[derive(Drop)]
 pub enum Literal {
     /// At most 9223372036854775808.
     Number(u64),

@@ -4,7 +4,7 @@ use crate::expression::{Expr, SortKey, Window};
 use crate::name::Name;
 
 /// `[AS] name`
-#[derive(Debug, Drop)]
+#[derive(Drop)]
 pub struct Alias {
     /// Whether `AS` is written.
     pub with_as: bool,
@@ -21,7 +21,7 @@ pub enum Item {
     Expr(Expr, Option<Alias>),
 }
 
-#[derive(Clone, Copy, Debug, PartialEq, Eq)]
+#[derive(Clone, Copy, PartialEq, Eq)]
 pub enum Quantifier {
     All,
     Distinct,

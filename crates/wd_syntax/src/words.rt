@@ -1,7 +1,7 @@
 //! Words that are key words in their place, and may be names elsewhere.
 
 /// A key word that is not reserved.
-#[derive(Clone, Copy, Debug, PartialEq, Eq)]
+#[derive(Clone, Copy, PartialEq, Eq)]
 pub enum KeyWord {
     Between,
     Current,

@@ -3,27 +3,16 @@
 #![tactic(auto)]
 
 ghost use Rattle.std.specs.Prelude.{◌≡◌, map, string_bytes, IfOk, IfErr};
-ghost use Rattle.wdcheck.specs.Failures.{IsOfArguments};
-ghost use Rattle.wdcheck.specs.declared.failure.Failure.TheVariants as failed;
+ghost use Rattle.wd_command.specs.Failures.{IsOfArguments};
+ghost use Rattle.wd_command.specs.declared.failure.Failure.TheVariants as failed;
 
-mod command;
-#[cfg(test)]
-mod command_tests;
-mod failure;
-mod files;
-mod inputs;
-mod memory;
-mod streams;
-mod words;
-
-use command::command;
-use failure::{Failure, report};
-use files::MachineFiles;
 use std::alloc::Global;
 use std::env;
 use std::io::ErrorKind;
 use std::process::ExitCode;
 use std::rt::Env;
+pub use wd_command::command;
+use wd_command::{Failure, MachineFiles, report};
 pub use wd_run::{RunError, run};
 
 fn main(rt: HostRuntime) -> ExitCode {

@@ -1,0 +1,103 @@
+//! How the program ends.
+
+ghost use Rattle.std.specs.Prelude.{◌≡◌};
+ghost use Rattle.wd_command.specs.Memory.{failures_of};
+
+use crate::files::AskedFiles;
+use crate::given::Given;
+use crate::settings::{Settings, settings_in};
+use crate::stream::Stream;
+use std::alloc::Global;
+use wd_cases::{Failure, in_one_line};
+use wd_command::{MemoryFiles, command};
+
+/// The program's status, the paths that it read, and what stands on standard output and standard error.
+#[derive(Drop)]
+struct Ending {
+    status: u8,
+    read: String,
+    out: Vec<u8>,
+    err: Vec<u8>,
+}
+
+/// `command WORDS | SETTINGS`: how the program ends on the words.
+pub fn ended(alloc: Global, given: &Given, text: &str) -> Result<String, Failure> {
+    let ending = ending_of(alloc, given, text)?;
+    let err = in_one_line(alloc, &ending.err)?;
+    shown(alloc, &ending, err.as_str())
+}
+
+/// `fault WORDS | SETTINGS`: the same, but of standard error only whether there is text.
+pub fn faulted(alloc: Global, given: &Given, text: &str) -> Result<String, Failure> {
+    let ending = ending_of(alloc, given, text)?;
+    let err = if ending.err.is_empty() {
+        ""
+    } else {
+        "some text"
+    };
+    shown(alloc, &ending, err)
+}
+
+fn shown(alloc: Global, ending: &Ending, err: &str) -> Result<String, Failure> {
+    let out = in_one_line(alloc, &ending.out)?;
+    let status = ending.status;
+    let read = or_nothing(ending.read.as_str().trim());
+    let out = or_nothing(out.as_str());
+    let err = or_nothing(err);
+    Ok(format!(in alloc; "{status}; read: {read}; out: {out}; err: {err}")?)
+}
+
+fn or_nothing(text: &str) -> &str {
+    if text.is_empty() { "nothing" } else { text }
+}
+
+fn ending_of(alloc: Global, given: &Given, text: &str) -> Result<Ending, Failure> {
+    let (words, settings) = text.split_once('|').unwrap_or((text, ""));
+    let words = words_in(alloc, words)?;
+    match settings_in(settings) {
+        Some(settings) => ending_under(alloc, given, &words, settings),
+        None => Err(Failure::NoCase),
+    }
+}
+
+fn words_in(alloc: Global, text: &str) -> Result<Vec<&str>, Failure> {
+    let mut words = Vec::new(alloc);
+    for word in text.split_whitespace() {
+        words.push(word)?;
+    }
+    Ok(words)
+}
+
+fn ending_under(
+    alloc: Global,
+    given: &Given,
+    words: &[&str],
+    settings: Settings,
+) -> Result<Ending, Failure> {
+    let pairs = given.pairs(alloc)?;
+    let mut files = AskedFiles::over(alloc, files_in(alloc, &pairs, settings.reads));
+    let mut out = Stream::new(alloc, settings.out);
+    let mut err = Stream::new(alloc, settings.err);
+    let status = command(alloc, words, &mut files, &mut out, &mut err);
+    Ok(Ending {
+        status,
+        read: files.asked,
+        out: out.bytes,
+        err: err.bytes,
+    })
+}
+
+/// The files in memory, of which no read has failed yet.
+fn files_in<'a>(
+    alloc: Global,
+    pairs: &'a [(&'a str, &'a [u8])],
+    reads: Option<u64>,
+) -> MemoryFiles<'a>
+    ensures { failures_of result ≡ 0 }
+{
+    let files = MemoryFiles::new(alloc, pairs);
+    match reads {
+        Some(reads) => files.failing_after(reads),
+        None => files,
+    }
+}

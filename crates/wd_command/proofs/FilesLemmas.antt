@@ -1,0 +1,18 @@
+-- What was handed over by several reads.
+use Rattle.std.proofs.Common.{◌∙◌, ◌++◌, ℕ, List, [], Option, Some, None, ap, append_assoc, append-nil, refl, sym}
+use Rattle.wd_command.specs.Files.{File, HandsOver, ReadsNothing}
+
+pub HandsOver-trans : (before middle after : Option (List File)) (files more : List File) → HandsOver before middle files → HandsOver middle after more
+    → HandsOver before after (files ++ more)
+HandsOver-trans None middle after files more first second = tt
+HandsOver-trans (Some before) middle after files more first second =
+    let after_first : HandsOver (Some (before ++ files)) after more = rw first at second in
+    after_first ∙ ap Some (append_assoc before files more)
+
+pub HandsOver-nil : (before : Option (List File)) → HandsOver before before []
+HandsOver-nil None = tt
+HandsOver-nil (Some before) = ap Some (sym (append-nil before))
+
+-- nothing was read yet
+pub ReadsNothing-refl : (handed : Option (List File)) (failures : ℕ) → ReadsNothing handed handed failures failures
+ReadsNothing-refl handed failures = record { nothing = HandsOver-nil handed; none_failed = refl }

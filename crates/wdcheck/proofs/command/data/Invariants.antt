@@ -1,8 +1,0 @@
-use Rattle.std.proofs.Common.{◌≡◌, map, take}
-use Rattle.wdcheck.specs.Commands.{data_in}
-use Rattle.wdcheck.specs.Inputs.{table_of}
-use Rattle.wd_run.specs.Runs.{data_of}
-use Rattle.wdcheck.proofs.command.data.Given as goal
-
-abbrev pub invariant-loop-table : goal.invariant-loop-table
-invariant-loop-table l = data_of l.data.items ≡ data_in (map table_of (take l.table-index l.tables))

@@ -1,7 +1,0 @@
-use Rattle.std.proofs.Common.{take, flat_map}
-use Rattle.std.specs.Io.KnownBytes.{Appends}
-use Rattle.wdcheck.specs.Streams.{piece_text}
-use Rattle.wdcheck.proofs.streams.write_pieces.Given as goal
-
-abbrev pub invariant-loop-piece : goal.invariant-loop-piece
-invariant-loop-piece g l = Appends (g.O.Write.contents l.initial.out) (g.O.Write.contents l.out) (flat_map piece_text (take l.piece-index l.pieces))
