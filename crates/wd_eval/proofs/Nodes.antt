@@ -137,9 +137,9 @@ module _ (most : ℕ) (instance : Instance) (choice : List (List ℕ)) (first : 
       let own = subst (λ (n : ℕ). IsLeast (IsWrongIn w.classes (outcome input instance rest) choice n) p) b.next (subst (λ (r : RowsOrFault). IsLeast (IsWrongIn w.classes r choice below.next) p) b.is h) in (
         inr own.0,
         λ m earlier x. elim x [
-            | inl y ↦ none_wrong instance choice m input first b.served.present b.served.lawful y
-            | inr y ↦ own.1 m earlier y
-          ],
+          | inl y ↦ none_wrong instance choice m input first b.served.present b.served.lawful y
+          | inr y ↦ own.1 m earlier y
+        ],
       )
   window_stopped w input below b TooManyRows h = absurd h
   window_stopped w input below b OutOfMemory h = tt
@@ -148,9 +148,9 @@ module _ (most : ℕ) (instance : Instance) (choice : List (List ℕ)) (first : 
   window_stopped_below w input (NotValid p) h = (
     inl h.0,
     λ m earlier x. elim x [
-        | inl y ↦ h.1 m earlier y
-        | inr y ↦ (let past = y.wrong.0 in let within = (wrong_within instance choice p input first h.0).1 in omega arith)
-      ],
+      | inl y ↦ h.1 m earlier y
+      | inr y ↦ (let past = y.wrong.0 in let within = (wrong_within instance choice p input first h.0).1 in omega arith)
+    ],
   )
   window_stopped_below w input TooManyRows h = or_left (has_large_step most input instance rest) (is_large most (Window w input) instance rest) h
   window_stopped_below w input OutOfMemory h = tt
@@ -187,9 +187,9 @@ module _ (most : ℕ) (instance : Instance) (choice : List (List ℕ)) (first : 
       let own = subst (λ (n : ℕ). IsWrong (limit_class limit) (outcome input instance rest) choice n p) b.next (subst (λ (r : RowsOrFault). IsWrong (limit_class limit) r choice below.next p) b.is h) in (
         inr own,
         λ m earlier x. elim x [
-            | inl y ↦ none_wrong instance choice m input first b.served.present b.served.lawful y
-            | inr y ↦ (let here = own.0 in let there = y.0 in omega arith)
-          ],
+          | inl y ↦ none_wrong instance choice m input first b.served.present b.served.lawful y
+          | inr y ↦ (let here = own.0 in let there = y.0 in omega arith)
+        ],
       )
   limit_stopped limit input below b TooManyRows h = absurd h
   limit_stopped limit input below b OutOfMemory h = tt
@@ -198,9 +198,9 @@ module _ (most : ℕ) (instance : Instance) (choice : List (List ℕ)) (first : 
   limit_stopped_below limit input (NotValid p) h = (
     inl h.0,
     λ m earlier x. elim x [
-        | inl y ↦ h.1 m earlier y
-        | inr y ↦ (let past = y.0 in let within = (wrong_within instance choice p input first h.0).1 in omega arith)
-      ],
+      | inl y ↦ h.1 m earlier y
+      | inr y ↦ (let past = y.0 in let within = (wrong_within instance choice p input first h.0).1 in omega arith)
+    ],
   )
   limit_stopped_below limit input TooManyRows h = or_left (has_large_step most input instance rest) (is_large most (Limit limit input) instance rest) h
   limit_stopped_below limit input OutOfMemory h = tt
@@ -218,9 +218,9 @@ module _ (most : ℕ) (instance : Instance) (choice : List (List ℕ)) (first : 
   join_stopped_left (NotValid p) h = (
     inl h.0,
     λ m earlier x. elim x [
-        | inl y ↦ h.1 m earlier y
-        | inr y ↦ (let past = (wrong_within instance choice m right (first + ordering_count left) y).0 in let within = (wrong_within instance choice p left first h.0).1 in omega arith)
-      ],
+      | inl y ↦ h.1 m earlier y
+      | inr y ↦ (let past = (wrong_within instance choice m right (first + ordering_count left) y).0 in let within = (wrong_within instance choice p left first h.0).1 in omega arith)
+    ],
   )
   join_stopped_left TooManyRows h = or_left (has_large_step most left instance all || has_large_step most right instance on_right) (is_large most (Join condition left right) instance all) (or_left (has_large_step most left instance all) (has_large_step most right instance on_right) h)
   join_stopped_left OutOfMemory h = tt
@@ -234,9 +234,9 @@ module _ (most : ℕ) (instance : Instance) (choice : List (List ℕ)) (first : 
         let own = subst (λ (n : ℕ). IsLeast (IsWrongFrom right instance choice n) p) a.next h in (
           inr own.0,
           λ m earlier x. elim x [
-              | inl y ↦ none_wrong instance choice m left first a.served.present a.served.lawful y
-              | inr y ↦ own.1 m earlier y
-            ],
+            | inl y ↦ none_wrong instance choice m left first a.served.present a.served.lawful y
+            | inr y ↦ own.1 m earlier y
+          ],
         )
     join_stopped_right TooManyRows h =
         let large : has_large_step most right instance on_right ≡ true = ap (has_large_step most right instance) (sym right_is) ∙ h in

@@ -65,9 +65,9 @@ module _ (plan : PlanTree) (instance : Instance) (choice : List (List ℕ)) wher
   stopped_refused most (NotValid p) h = (
     inl h.0,
     λ m earlier x. elim x [
-        | inl y ↦ h.1 m earlier y
-        | inr y ↦ (let past = y.0 in let within = (wrong_within instance choice p plan 0 h.0).1 in omega arith)
-      ],
+      | inl y ↦ h.1 m earlier y
+      | inr y ↦ (let past = y.0 in let within = (wrong_within instance choice p plan 0 h.0).1 in omega arith)
+    ],
   )
   stopped_refused most TooManyRows h = h
   stopped_refused most OutOfMemory h = tt
@@ -77,9 +77,9 @@ module _ (plan : PlanTree) (instance : Instance) (choice : List (List ℕ)) wher
   surplus_refused p s e lt = (
     inr (omega arith, lt),
     λ m earlier x. elim x [
-        | inl y ↦ none_wrong instance choice m plan 0 s.present s.lawful y
-        | inr y ↦ (let past = y.0 in omega arith)
-      ],
+      | inl y ↦ none_wrong instance choice m plan 0 s.present s.lawful y
+      | inr y ↦ (let past = y.0 in omega arith)
+    ],
   )
 
 -- a valid choice has none
