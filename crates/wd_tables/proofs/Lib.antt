@@ -6,3 +6,5 @@ pub mod RowFacts
 pub mod LoadFacts
 pub mod KeyFacts
 pub mod KeyOrder
+pub mod RefusedFacts
+pub mod RefusalLaws

@@ -1,44 +1,90 @@
 -- The rows of a text, record by record, and why a text has none.
-use Rattle.std.proofs.Common.{◌≡◌, ◌∙◌, ℕ, ◌+◌, ◌<◌, ◌≤◌, true, List, [], ◌∷◌, ◌++◌, get_or, length, map, Some, None, ext_get_or, refl, sym, ap, arith, inl, inr}
-use Rattle.std.specs.Prelude.{All}
-use Rattle.std.proofs.lemmas.Bool.{cases_lt}
+use Rattle.std.proofs.Common.{◌≡◌, ◌∙◌, ℕ, zero, suc, ◌+◌, ◌<◌, ◌≤◌, true, List, [], ◌∷◌, ◌++◌, get_or, length, map, Some, None, ext_get_or, refl, sym, ap, arith, inl, inr}
+use Rattle.std.specs.Prelude.{All, not, ◌&&◌}
+use Rattle.std.proofs.lemmas.Bool.{and_parts, cases_lt, false≢true}
 use Rattle.std.proofs.lemmas.List.{get_or-drop, get_or-map, get_or_append_left, get_or_at, get_or_default, length-append, length-drop, length-map}
-use Rattle.wd_value.specs.Rows.{Row}
+use Rattle.wd_value.specs.Rows.{Row, row_at}
 use Rattle.wd_value.specs.declared.value.Value.{Value}
-use Rattle.wd_schema.specs.Meets.{MeetsTable, fits_columns}
+use Rattle.wd_value.specs.declared.value.Value.TheVariants.{Null}
+use Rattle.wd_schema.specs.Meets.{MeetsTable, fits_columns, is_null, is_of_type, may_hold}
 use Rattle.wd_schema.specs.Tables.{KeyRule, TableRule}
-use Rattle.wd_tables.specs.Causes.{HasCause, IsLeast, Repeats}
-use Rattle.wd_tables.specs.Refusals.{RefusesHeader, RefusesRecord}
-use Rattle.wd_tables.specs.Data.{HoldsRows, NamesEachOnce, data_of, header_of, most_records, record_at, records_of, values_in}
+use Rattle.wd_tables.specs.Causes.{AreAccepted, HasCause, IsLeast, IsWellFormed, RefusesAt, Repeats}
+use Rattle.wd_tables.specs.Refusals.{IsRefusedIn, RefusesHeader, RefusesRecord}
+use Rattle.wd_tables.specs.Data.{HoldsRows, NamesEachOnce, data_of, header_of, most_records, record_at, records_of, value_in, values_in}
 use Rattle.wd_tables.proofs.KeyFacts.{keeps_all}
-use Rattle.wd_tables.specs.Reading.{HoldsFirst, IsRecord}
+use Rattle.wd_tables.specs.Reading.{HoldsFirst, IsRecord, RefusesRead}
 use Rattle.wd_tables.specs.declared.error.DataError.{DataError}
 use Rattle.wd_tables.specs.declared.error.DataError.TheVariants.{Header, Value as NoValue, Null as NullValue, Key, Malformed, TooManyRecords, OutOfMemory}
 use Rattle.wd_schema.specs.declared.table.Column.{Column}
 
--- a header that is refused
-pub header_refused : (table : TableRule) (text : List ℕ) (fields : List (List ℕ)) (e : DataError) → record_at text 0 ≡ fields → RefusesHeader table.columns fields e → HasCause table text e
-header_refused table text fields Header same h = inr (λ n. h (rw (← same) n))
-header_refused table text fields OutOfMemory same h = tt
-header_refused table text fields (NoValue n) same h = absurd h
-header_refused table text fields (NullValue n) same h = absurd h
-header_refused table text fields (Key n) same h = absurd h
-header_refused table text fields Malformed same h = absurd h
-header_refused table text fields TooManyRecords same h = absurd h
+-- ---- what is refused
 
--- a record that is refused
-pub record_refused : (table : TableRule) (text : List ℕ) (number : ℕ) (fields : List (List ℕ)) (e : DataError) → 0 < number → IsRecord text number fields → RefusesRecord table.columns (header_of text) fields number e → HasCause table text e
-record_refused table text number fields (NoValue n) some r (same, h) = ((rw same some, rw same r.within), rw (same, r.same) h)
-record_refused table text number fields (NullValue n) some r (same, h) = ((rw same some, rw same r.within), rw (same, r.same) h)
-record_refused table text number fields OutOfMemory some r h = tt
-record_refused table text number fields Header some r h = absurd h
-record_refused table text number fields (Key n) some r h = absurd h
-record_refused table text number fields Malformed some r h = absurd h
-record_refused table text number fields TooManyRecords some r h = absurd h
+well_formed : (text : List ℕ) (n : ℕ) (fields : List (List ℕ)) → IsRecord text n fields → IsWellFormed text n
+well_formed text n fields r = (rw r.same r.encoded, rw r.same r.even)
+
+-- a header that is refused
+pub header_refused : (table : TableRule) (text : List ℕ) (fields : List (List ℕ)) (e : DataError) → IsRecord text 0 fields → RefusesHeader table.columns fields e → HasCause table text e
+header_refused table text fields Header r h = inr (record { number = 0; within = r.within; before = λ m lt. absurd (omega arith); why = (well_formed text 0 fields r, refl, λ names. h (rw (← r.same) names)) })
+header_refused table text fields OutOfMemory r h = tt
+header_refused table text fields (NoValue n) r h = absurd h
+header_refused table text fields (NullValue n) r h = absurd h
+header_refused table text fields (Key n) r h = absurd h
+header_refused table text fields Malformed r h = absurd h
+header_refused table text fields TooManyRecords r h = absurd h
+
+-- a record that is refused for a field
+pub record_refused : (table : TableRule) (text : List ℕ) (number : ℕ) (fields : List (List ℕ)) (e : DataError) → 0 < number → number ≤ most_records → AreAccepted table text number → IsRecord text number fields
+    → RefusesRecord table.columns (header_of text) fields number e → HasCause table text e
+record_refused table text number fields (NoValue n) some few before r h =
+    let why : RefusesAt table text number (NoValue n) = (well_formed text number fields r, some, few, rw r.same h) in
+    record { number = number; within = r.within; before = before; why = why }
+record_refused table text number fields (NullValue n) some few before r h =
+    let why : RefusesAt table text number (NullValue n) = (well_formed text number fields r, some, few, rw r.same h) in
+    record { number = number; within = r.within; before = before; why = why }
+record_refused table text number fields OutOfMemory some few before r h = tt
+record_refused table text number fields Header some few before r h = absurd h
+record_refused table text number fields (Key n) some few before r h = absurd h
+record_refused table text number fields Malformed some few before r h = absurd h
+record_refused table text number fields TooManyRecords some few before r h = absurd h
+
+-- a record that can't be read
+pub read_refused : (table : TableRule) (text : List ℕ) (n : ℕ) (e : DataError) → AreAccepted table text n → RefusesRead text n e → HasCause table text e
+read_refused table text n Malformed before h = record { number = n; within = h.0; before = before; why = h.1 }
+read_refused table text n OutOfMemory before h = tt
+read_refused table text n Header before h = absurd h
+read_refused table text n (NoValue m) before h = absurd h
+read_refused table text n (NullValue m) before h = absurd h
+read_refused table text n (Key m) before h = absurd h
+read_refused table text n TooManyRecords before h = absurd h
 
 -- one more record than may follow the header
-pub too_many : (table : TableRule) (text : List ℕ) (fields : List (List ℕ)) → IsRecord text (most_records + 1) fields → HasCause table text TooManyRecords
-too_many table text fields r = rw (length-drop 1 (records_of text)) (omega (arith, r.within))
+pub too_many : (table : TableRule) (text : List ℕ) (fields : List (List ℕ)) → AreAccepted table text (most_records + 1) → IsRecord text (most_records + 1) fields → HasCause table text TooManyRecords
+too_many table text fields before r = record { number = most_records + 1; within = r.within; before = before; why = (well_formed text (most_records + 1) fields r, refl) }
+
+-- ---- what is accepted
+
+-- a value that the column may hold
+pub fits_field : (header fields : List (List ℕ)) (column : Column) (v : Value) → value_in header fields column ≡ Some v → may_hold column v ≡ true → ¬ (IsRefusedIn header fields column)
+fits_field header fields column v is fits (inl none) = cc (sym is ∙ none)
+fits_field header fields column v is fits (inr (not_null, null)) = null_held column v (cc (sym is ∙ null)) not_null fits
+  where
+    null_held : (column : Column) (v : Value) → v ≡ Null → column.not_null ≡ true → may_hold column v ≡ true → ⊥
+    null_held column v null not_null fits = false≢true (rw (null, not_null) at (and_parts (is_of_type column.kind v) (not (column.not_null && is_null v)) fits).1)
+
+-- a record whose values fit the columns
+pub fits_record : (columns : List Column) (header fields : List (List ℕ)) (row : Row) → values_in columns header fields ≡ map (λ v. Some v) row → fits_columns columns row ≡ true → All (λ column. ¬ (IsRefusedIn header fields column)) columns
+fits_record [] header fields row is fits k d lt = absurd (omega arith)
+fits_record (c ∷ cs) header fields [] is fits k d lt = absurd (false≢true fits)
+fits_record (c ∷ cs) header fields (v ∷ vs) is fits zero d lt = fits_field header fields c v (cc is) (and_parts (may_hold c v) (fits_columns cs vs) fits).0
+fits_record (c ∷ cs) header fields (v ∷ vs) is fits (suc k) d lt = fits_record cs header fields vs (cc is) (and_parts (may_hold c v) (fits_columns cs vs) fits).1 k d (omega arith)
+
+-- the header and the first n records under it
+pub first_accepted : (table : TableRule) (text : List ℕ) (n : ℕ) (rows : List Row) → HoldsFirst table.columns text n rows → n ≤ most_records → AreAccepted table text (n + 1)
+first_accepted table text n rows h few zero lt = (h.records 0 (omega arith), h.names)
+first_accepted table text n rows h few (suc k) lt =
+    let next : k + 1 ≡ suc k = omega arith in
+    let values = rw next at (h.values k (omega arith)) in
+    (h.records (suc k) (omega arith), omega arith, fits_record table.columns (header_of text) (record_at text (suc k)) (row_at rows k) values (h.fits k (omega arith)))
 
 -- no record under the header yet
 pub holds_none : (columns : List Column) (text : List ℕ) (fields : List (List ℕ)) → IsRecord text 0 fields → NamesEachOnce columns fields → HoldsFirst columns text 0 []
@@ -110,8 +156,8 @@ pub meets : (table : TableRule) (rows : List Row) → All (λ row. fits_columns 
 meets table rows fits none = record { values = fits; keys = keeps_all table.keys rows none }
 
 -- the first that does
-pub repeats : (table : TableRule) (text : List ℕ) (rows : List Row) (q : ℕ) → HoldsRows table text rows → IsLeast (Repeats table.keys rows) (Some q) → HasCause table text (Key (q + 1))
-repeats table text rows q held first = (rows, held, q, refl, first)
+pub repeats : (table : TableRule) (text : List ℕ) (rows : List Row) (q : ℕ) → HoldsRows table text rows → All (λ row. fits_columns table.columns row ≡ true) rows → IsLeast (Repeats table.keys rows) (Some q) → HasCause table text (Key (q + 1))
+repeats table text rows q held fits first = (rows, held, fits, q, refl, first)
 
 pub repeats_within : (keys : List KeyRule) (rows : List Row) (q : ℕ) → IsLeast (Repeats keys rows) (Some q) → q < length rows
 repeats_within keys rows q ((k, key, within, is, repeats), least) = repeats.0

@@ -3,7 +3,7 @@ use Rattle.std.proofs.Common.{Bor, ◌≡◌, ◌≢◌, ◌∙◌, ℕ, zero, s
 use Rattle.std.specs.Prelude.{if◌then◌else◌}
 use Rattle.std.specs.Bool.{MatchBool}
 use Rattle.std.proofs.lemmas.Bool.{false≢true}
-use Rattle.std.proofs.lemmas.List.{append-nil, get_or_at, get_or_default}
+use Rattle.std.proofs.lemmas.List.{append-nil, get_or_at}
 use Rattle.csv.specs.declared.parser.Config.{Config}
 use Rattle.csv.specs.Machine.{Read, after_end, carriage_return, line_feed, ends_at_end, ends_with, is_end, next_record, step, start_record, start_field, in_field, fields_after, field_after}
 use Rattle.csv.specs.Reading.{ExplainsRead, Reached, ReadRecord, ReadsNext, Ready, NextIs, TookRecord, default_config, is_flexible, pending_of, records, records_from, source_of, strip_bom}
@@ -12,10 +12,9 @@ use Rattle.csv.specs.declared.error.ErrorKind.{ErrorKind}
 use Rattle.csv.specs.declared.error.ErrorKind.TheVariants as kind
 use Rattle.csv.specs.declared.reader.Reader.{Reader}
 use Rattle.csv.specs.declared.reader.Trim.TheVariants as trim
-use Rattle.wd_schema.specs.Tables.{TableRule}
-use Rattle.wd_tables.specs.Causes.{HasCause, HasMalformed}
 use Rattle.wd_tables.specs.Data.{header_of, record_at, records_of}
-use Rattle.wd_tables.specs.Reading.{HasRead, IsRecord, length_after, refusal_of}
+use Rattle.wd_tables.specs.Reading.{HasRead, IsRecord, RefusesRead, length_after, refusal_of}
+use Rattle.wd_tables.specs.declared.error.DataError.TheVariants.{Malformed}
 use Rattle.csv.specs.declared.parser.Action.{Action}
 use Rattle.csv.specs.declared.parser.Action.TheVariants as act
 use Rattle.csv.specs.declared.parser.Terminator.TheVariants as term
@@ -200,11 +199,12 @@ read_ended false text n old new fields h r ready flexible encoded = found_none t
 
 -- a record that the reader refused
 refused_record : (text : List ℕ) (n : ℕ) (old new : Reader (Bor (List ℕ))) (fields : List (List ℕ)) → HasRead text n old → TookRecord bytes_left old new fields
-    → ((length fields ≢ length (header_of text)) ⊎ ¬ (AllText fields)) → HasMalformed text
+    → ((length fields ≢ length (header_of text)) ⊎ ¬ (AllText fields)) → RefusesRead text n Malformed
 refused_record text n old new fields h r wrong =
     let (p, next, is) = taken default_config old.state new.state h.rest fields (pending_of (bytes_left new.rdr) new) (rw (h.config, h.source) at r) in
     let (within, at) = next_of old.state (strip_bom text) h.rest h.before p h.reached next in
-    (length h.before, fields, within, get_or_default (records_of text) (length h.before) fields [] within ∙ at ∙ sym is, wrong)
+    let same : record_at text n ≡ fields = rw (← h.count) (at ∙ sym is) in
+    (rw (← h.count) within, λ formed. elim wrong [ inl differ ↦ differ (ap length (sym same) ∙ formed.1) | inr bad ↦ bad (rw (← same) formed.0) ])
 
 header_length : (text : List ℕ) (n expected : ℕ) → Some expected ≡ length_after text n → expected ≡ length (header_of text)
 header_length text zero expected e = absurd (cc e)
@@ -214,14 +214,14 @@ header_length text (suc m) expected e = inside expected (length (header_of text)
     inside a b e = cc
 
 -- a read that failed
-pub failed_read : (text : List ℕ) (n : ℕ) (old new : Reader (Bor (List ℕ))) (why : ErrorKind) → HasRead text n old → ExplainsRead bytes_left old new true why → (table : TableRule) → HasCause table text (refusal_of why)
-failed_read text n old new (kind.UnequalLengths pos expected len) h (strict, expects, differ, fields, took, has) table =
+pub failed_read : (text : List ℕ) (n : ℕ) (old new : Reader (Bor (List ℕ))) (why : ErrorKind) → HasRead text n old → ExplainsRead bytes_left old new true why → RefusesRead text n (refusal_of why)
+failed_read text n old new (kind.UnequalLengths pos expected len) h (strict, expects, differ, fields, took, has) =
     refused_record text n old new fields h took (inl (λ even. differ (header_length text n expected (sym expects ∙ h.expected) ∙ sym even ∙ has)))
-failed_read text n old new (kind.Utf8 pos err) h (t, fields, took, bad) table = refused_record text n old new fields h took (inr bad)
-failed_read text n old new (kind.Io err) h e table = tt
-failed_read text n old new kind.OutOfMemory h e table = tt
-failed_read text n old new (kind.Serialize s) h e table = absurd e
-failed_read text n old new (kind.Deserialize pos err) h e table = absurd e
+failed_read text n old new (kind.Utf8 pos err) h (t, fields, took, bad) = refused_record text n old new fields h took (inr bad)
+failed_read text n old new (kind.Io err) h e = tt
+failed_read text n old new kind.OutOfMemory h e = tt
+failed_read text n old new (kind.Serialize s) h e = absurd e
+failed_read text n old new (kind.Deserialize pos err) h e = absurd e
 
 -- a reader that was just made has read no record
 pub fresh : (text : List ℕ) (reader : Reader (Bor (List ℕ))) → reader.config ≡ default_config → reader.trim ≡ trim.None → reader.flexible ≡ false → reader.has_headers ≡ false → reader.headers ≡ None → reader.expected ≡ None → reader.state ≡ st.StartRecord

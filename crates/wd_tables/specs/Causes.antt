@@ -1,29 +1,43 @@
 -- Why the data of a table is refused.
-use Rattle.std.specs.Prelude.{◌≡◌, ◌≢◌, ◌⊎◌, ◌+◌, ◌<◌, ℕ, true, List, [], Option, Some, None, length, Any, ⊤}
+use Rattle.std.specs.Prelude.{◌≡◌, ◌⊎◌, ◌+◌, ◌<◌, ◌≤◌, ℕ, zero, suc, true, List, [], Option, Some, None, length, All, Any, ⊤}
 use Rattle.csv.specs.Records.{AllText}
-use Rattle.wd_value.specs.declared.value.Value.TheVariants.{Null}
 use Rattle.wd_value.specs.Rows.{Row, row_at}
 use Rattle.wd_schema.specs.Tables.{KeyRule, TableRule}
-use Rattle.wd_schema.specs.Meets.{violates}
-use Rattle.wd_tables.specs.Data.{records_of, record_at, header_of, data_of, most_records, NamesEachOnce, value_in, HoldsRows}
+use Rattle.wd_schema.specs.Meets.{fits_columns, violates}
+use Rattle.wd_tables.specs.Data.{HoldsRows, NamesEachOnce, header_of, most_records, record_at, records_of}
+use Rattle.wd_tables.specs.Refusals.{IsRefusedIn, RefusesRecord}
 use Rattle.wd_tables.specs.declared.error.DataError.{DataError}
 use Rattle.wd_tables.specs.declared.error.DataError.TheVariants.{Header, Value, Null as NullValue, Key, Malformed, TooManyRecords, OutOfMemory}
 
--- there is no header, or it doesn't name each column once
-abbrev pub LacksHeader : TableRule → List ℕ → Type 0
-LacksHeader table text = (records_of text ≡ []) ⊎ ¬ (NamesEachOnce table.columns (header_of text))
+-- the record with a number is in UTF-8 and as long as the header
+abbrev pub IsWellFormed : List ℕ → ℕ → Type 0
+IsWellFormed text n = AllText (record_at text n) × (length (record_at text n) ≡ length (header_of text))
 
--- the text has a record with this number after the header
-abbrev pub HasRecord : List ℕ → ℕ → Type 0
-HasRecord text n = (0 < n) × (n < length (records_of text))
+-- the record is accepted: the header names each column once; one under it is within the limit, and none of its fields is refused
+abbrev pub IsAccepted : TableRule → List ℕ → ℕ → Type 0
+IsAccepted table text zero = IsWellFormed text 0 × NamesEachOnce table.columns (header_of text)
+IsAccepted table text (suc n) = IsWellFormed text (suc n) × (suc n ≤ most_records) × All (λ column. ¬ (IsRefusedIn (header_of text) (record_at text (suc n)) column)) table.columns
 
--- some field of the record denotes no value of its column
-abbrev pub LacksValue : TableRule → List ℕ → ℕ → Type 0
-LacksValue table text n = Any (λ column. value_in (header_of text) (record_at text n) column ≡ None) table.columns
+-- all records before the one with this number are accepted
+abbrev pub AreAccepted : TableRule → List ℕ → ℕ → Type 0
+AreAccepted table text n = (m : ℕ) → m < n → IsAccepted table text m
 
--- some field of the record denotes NULL in a NOT NULL column
-abbrev pub HasNull : TableRule → List ℕ → ℕ → Type 0
-HasNull table text n = Any (λ column. (column.not_null ≡ true) × (value_in (header_of text) (record_at text n) column ≡ Some Null)) table.columns
+-- why the record with a number is refused
+abbrev pub RefusesAt : TableRule → List ℕ → ℕ → DataError → Type 0
+RefusesAt table text n Malformed = ¬ (IsWellFormed text n)
+RefusesAt table text n Header = IsWellFormed text n × (n ≡ 0) × ¬ (NamesEachOnce table.columns (header_of text))
+RefusesAt table text n TooManyRecords = IsWellFormed text n × (n ≡ most_records + 1)
+RefusesAt table text n (Value m) = IsWellFormed text n × (0 < n) × (n ≤ most_records) × RefusesRecord table.columns (header_of text) (record_at text n) n (Value m)
+RefusesAt table text n (NullValue m) = IsWellFormed text n × (0 < n) × (n ≤ most_records) × RefusesRecord table.columns (header_of text) (record_at text n) n (NullValue m)
+RefusesAt table text n (Key m) = ⊥
+RefusesAt table text n OutOfMemory = ⊥
+
+-- the first record that is not accepted is refused so
+pub record IsFirstRefused (table : TableRule) (text : List ℕ) (e : DataError) : Type 0 where
+  pub number : ℕ
+  pub within : number < length (records_of text)
+  pub before : AreAccepted table text number
+  pub why : RefusesAt table text number e
 
 -- the row at a position repeats an earlier one in a key
 abbrev pub RepeatsIn : KeyRule → List Row → ℕ → Type 0
@@ -38,22 +52,18 @@ abbrev pub IsLeast : (ℕ → Type 0) → Option ℕ → Type 0
 IsLeast P None = (n : ℕ) → ¬ (P n)
 IsLeast P (Some n) = P n × ((m : ℕ) → m < n → ¬ (P m))
 
--- all records hold rows, of which the one of this number is the first that repeats an earlier one in a key
+-- all records are accepted, and this one holds the first row that repeats an earlier one in a key
 abbrev pub IsFirstRepeat : TableRule → List ℕ → ℕ → Type 0
-IsFirstRepeat table text n = (rows : List Row) × HoldsRows table text rows × (q : ℕ) × (n ≡ q + 1) × IsLeast (Repeats table.keys rows) (Some q)
+IsFirstRepeat table text n = (rows : List Row) × HoldsRows table text rows × All (λ row. fits_columns table.columns row ≡ true) rows × (q : ℕ) × (n ≡ q + 1) × IsLeast (Repeats table.keys rows) (Some q)
 
--- some record has another length than the header, or a field that is not UTF-8
-abbrev pub HasMalformed : List ℕ → Type 0
-HasMalformed text = Any (λ fields. (length fields ≢ length (header_of text)) ⊎ ¬ (AllText fields)) (records_of text)
-
--- what stands in the text where the error is answered
+-- what stands in the text where the error is answered: records are judged in order, the header first, and the keys after all of them
 abbrev pub HasCause : TableRule → List ℕ → DataError → Type 0
-HasCause table text Header = LacksHeader table text
-HasCause table text (Value n) = HasRecord text n × LacksValue table text n
-HasCause table text (NullValue n) = HasRecord text n × HasNull table text n
+HasCause table text Header = (records_of text ≡ []) ⊎ IsFirstRefused table text Header
+HasCause table text (Value n) = IsFirstRefused table text (Value n)
+HasCause table text (NullValue n) = IsFirstRefused table text (NullValue n)
+HasCause table text Malformed = IsFirstRefused table text Malformed
+HasCause table text TooManyRecords = IsFirstRefused table text TooManyRecords
 HasCause table text (Key n) = IsFirstRepeat table text n
-HasCause table text Malformed = HasMalformed text
-HasCause table text TooManyRecords = most_records < length (data_of text)
 HasCause table text OutOfMemory = ⊤
 
 -- the number of a refusal, and none for want of memory

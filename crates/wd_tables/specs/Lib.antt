@@ -5,3 +5,5 @@ pub mod Refusals
 pub mod Answers
 pub mod Reading
 pub mod Keys
+pub mod Laws
+pub mod Refused

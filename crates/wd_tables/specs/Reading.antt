@@ -1,5 +1,5 @@
 -- Where a reader stands in a CSV text.
-use Rattle.std.specs.Prelude.{◌≡◌, ℕ, zero, suc, ◌+◌, ◌<◌, ◌≤◌, true, false, List, length, map, Option, Some, None}
+use Rattle.std.specs.Prelude.{◌≡◌, ℕ, zero, suc, ◌+◌, ◌<◌, ◌≤◌, true, false, List, length, map, Option, Some, None, ⊤}
 use Rattle.std.specs.Borrow.{Bor}
 use Rattle.csv.specs.Reading.{Reached, Ready, default_config, expected_len, is_flexible, reader_config, reader_state, reader_trim, source_of, strip_bom}
 use Rattle.csv.specs.Records.{AllText}
@@ -9,7 +9,8 @@ use Rattle.csv.specs.declared.reader.Trim.TheVariants as trim
 use Rattle.csv.specs.declared.error.ErrorKind.{ErrorKind}
 use Rattle.csv.specs.declared.error.ErrorKind.TheVariants as kind
 use Rattle.wd_tables.specs.declared.error.DataError.{DataError}
-use Rattle.wd_tables.specs.declared.error.DataError.TheVariants.{Malformed, OutOfMemory}
+use Rattle.wd_tables.specs.declared.error.DataError.TheVariants.{Header, Value, Null as NullValue, Key, Malformed, TooManyRecords, OutOfMemory}
+use Rattle.wd_tables.specs.Causes.{IsWellFormed}
 use Rattle.wd_value.specs.Rows.{Row, row_at}
 use Rattle.wd_schema.specs.declared.table.Column.{Column}
 use Rattle.wd_schema.specs.Meets.{fits_columns}
@@ -48,6 +49,16 @@ refusal_of (kind.Io e) = OutOfMemory
 refusal_of kind.OutOfMemory = OutOfMemory
 refusal_of (kind.Serialize text) = OutOfMemory
 refusal_of (kind.Deserialize pos err) = OutOfMemory
+
+-- the next record of the text, which has this number, is refused: it is not well-formed
+abbrev pub RefusesRead : List ℕ → ℕ → DataError → Type 0
+RefusesRead text n Malformed = (n < length (records_of text)) × ¬ (IsWellFormed text n)
+RefusesRead text n OutOfMemory = ⊤
+RefusesRead text n Header = ⊥
+RefusesRead text n (Value m) = ⊥
+RefusesRead text n (NullValue m) = ⊥
+RefusesRead text n (Key m) = ⊥
+RefusesRead text n TooManyRecords = ⊥
 
 -- the header names each column once, and the first n records under it hold these rows, which fit the columns
 pub record HoldsFirst (columns : List Column) (text : List ℕ) (n : ℕ) (rows : List Row) : Type 0 where

@@ -1,9 +1,9 @@
 -- Why a header, a field or a record is refused, whatever text it stands in.
-use Rattle.std.specs.Prelude.{◌≡◌, ℕ, true, List, Some, None, Any, ⊤}
+use Rattle.std.specs.Prelude.{◌≡◌, ◌⊎◌, ◌<◌, ℕ, true, List, Some, None, All, Any, ⊤}
 use Rattle.wd_value.specs.declared.value.Value.TheVariants.{Null}
 use Rattle.wd_schema.specs.declared.table.Column.{Column}
 use Rattle.wd_tables.specs.Fields.{field_value}
-use Rattle.wd_tables.specs.Data.{NamesEachOnce, value_in}
+use Rattle.wd_tables.specs.Data.{NamesEachOnce, place_of, value_in}
 use Rattle.wd_tables.specs.declared.error.DataError.{DataError}
 use Rattle.wd_tables.specs.declared.error.DataError.TheVariants.{Header, Value, Null as NullValue, Key, Malformed, TooManyRecords, OutOfMemory}
 
@@ -27,10 +27,26 @@ RefusesField column bytes number (Key n) = ⊥
 RefusesField column bytes number Malformed = ⊥
 RefusesField column bytes number TooManyRecords = ⊥
 
--- why a record is refused
+-- the field of a record under the column's name denotes no value of the column
+abbrev pub LacksValue : List (List ℕ) → List (List ℕ) → Column → Type 0
+LacksValue header fields column = value_in header fields column ≡ None
+
+-- it denotes NULL, and the column is NOT NULL
+abbrev pub HasNull : List (List ℕ) → List (List ℕ) → Column → Type 0
+HasNull header fields column = (column.not_null ≡ true) × (value_in header fields column ≡ Some Null)
+
+-- the field is refused in the column
+abbrev pub IsRefusedIn : List (List ℕ) → List (List ℕ) → Column → Type 0
+IsRefusedIn header fields column = LacksValue header fields column ⊎ HasNull header fields column
+
+-- no field that stands before the column's own in the record is refused
+abbrev pub IsFirstIn : List Column → List (List ℕ) → List (List ℕ) → Column → Type 0
+IsFirstIn columns header fields column = All (λ other. place_of header other.name < place_of header column.name → ¬ (IsRefusedIn header fields other)) columns
+
+-- why a record is refused: for the first of its fields that is refused
 abbrev pub RefusesRecord : List Column → List (List ℕ) → List (List ℕ) → ℕ → DataError → Type 0
-RefusesRecord columns header fields number (Value n) = (n ≡ number) × Any (λ column. value_in header fields column ≡ None) columns
-RefusesRecord columns header fields number (NullValue n) = (n ≡ number) × Any (λ column. (column.not_null ≡ true) × (value_in header fields column ≡ Some Null)) columns
+RefusesRecord columns header fields number (Value n) = (n ≡ number) × Any (λ column. LacksValue header fields column × IsFirstIn columns header fields column) columns
+RefusesRecord columns header fields number (NullValue n) = (n ≡ number) × Any (λ column. HasNull header fields column × IsFirstIn columns header fields column) columns
 RefusesRecord columns header fields number OutOfMemory = ⊤
 RefusesRecord columns header fields number Header = ⊥
 RefusesRecord columns header fields number (Key n) = ⊥

@@ -1,8 +1,8 @@
-ghost use Rattle.std.specs.Prelude.{◌≡◌, ◌+◌, ◌<◌, ℕ, List, [], true, length, All, IfOk, IfErr, MatchOption};
+ghost use Rattle.std.specs.Prelude.{◌≡◌, ◌+◌, ◌<◌, ◌≤◌, ℕ, List, [], true, length, All, IfOk, IfErr, MatchOption};
 ghost use Rattle.wd_schema.specs.Meets.{MeetsTable, fits_columns};
 ghost use Rattle.wd_schema.specs.Tables.{table_of};
-ghost use Rattle.wd_tables.specs.Causes.{HasCause};
-ghost use Rattle.wd_tables.specs.Data.{HoldsRows, records_of};
+ghost use Rattle.wd_tables.specs.Causes.{AreAccepted, HasCause};
+ghost use Rattle.wd_tables.specs.Data.{HoldsRows, most_records, records_of};
 ghost use Rattle.wd_tables.specs.Reading.{HasPlaces, HasRead, HoldsFirst, HoldsRecord};
 ghost use Rattle.wd_value.specs.Rows.{rows_of};
 
@@ -105,7 +105,7 @@ fn next_row(
 ) -> Result<Option<Row>, DataError>
     requires { length places.now ≡ length table.now.columns.items }
     ensures read { (text : List ℕ) → HasRead text number reader.old → HasPlaces table.now.columns.items text places.now → IfOk result (λ o. MatchOption o (length (records_of text) ≡ number) (λ row. HasRead text (number + 1) reader.new × HoldsRecord table.now.columns.items text number row.items)) }
-    ensures refused { (text : List ℕ) → HasRead text number reader.old → HasPlaces table.now.columns.items text places.now → 0 < number → IfErr result (λ e. HasCause (table_of table.now) text e) }
+    ensures refused { (text : List ℕ) → HasRead text number reader.old → HasPlaces table.now.columns.items text places.now → 0 < number → number ≤ most_records → AreAccepted (table_of table.now) text number → IfErr result (λ e. HasCause (table_of table.now) text e) }
 {
     let found = next_record(reader, fields)?;
     if !found {

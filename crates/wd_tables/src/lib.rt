@@ -7,9 +7,11 @@ mod error;
 mod field;
 mod header;
 mod key;
+mod laws;
 mod record;
 mod row;
 
 pub use answer::answer_text;
 pub use data::load;
 pub use error::DataError;
+pub use laws::{one_refusal, rows_or_refusal};

@@ -1,10 +1,8 @@
 ghost use Rattle.std.specs.Prelude.{◌≡◌, ◌+◌, ℕ, List, [], length, slice_index_or, IfOk, IfErr};
 ghost use Rattle.std.specs.Bool.{MatchBool};
 ghost use Rattle.csv.specs.Records.{fields_of};
-ghost use Rattle.wd_schema.specs.Tables.{TableRule};
-ghost use Rattle.wd_tables.specs.Causes.{HasCause};
 ghost use Rattle.wd_tables.specs.Data.{records_of};
-ghost use Rattle.wd_tables.specs.Reading.{HasRead, IsRecord, refusal_of};
+ghost use Rattle.wd_tables.specs.Reading.{HasRead, IsRecord, RefusesRead, refusal_of};
 
 use crate::error::DataError;
 use csv::{ErrorKind, Reader, StringRecord};
@@ -12,7 +10,7 @@ use csv::{ErrorKind, Reader, StringRecord};
 /// Reads the next record of a text in place of the one before, and says whether there was one.
 pub fn next_record(reader: &mut Reader<&[u8]>, fields: &mut StringRecord) -> Result<bool, DataError>
     ensures read { (text : List ℕ) (n : ℕ) → HasRead text n reader.old → IfOk result (λ found. MatchBool found (HasRead text (n + 1) reader.new × IsRecord text n (fields_of fields.new)) (length (records_of text) ≡ n)) }
-    ensures refused { (text : List ℕ) (n : ℕ) → HasRead text n reader.old → IfErr result (λ e. (table : TableRule) → HasCause table text e) }
+    ensures refused { (text : List ℕ) (n : ℕ) → HasRead text n reader.old → IfErr result (λ e. RefusesRead text n e) }
 {
     match reader.read_record(fields) {
         Ok(found) => Ok(found),

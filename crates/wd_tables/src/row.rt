@@ -1,8 +1,9 @@
-ghost use Rattle.std.specs.Prelude.{◌≡◌, ℕ, List, true, length, map, Some, IfOk, IfErr};
+ghost use Rattle.std.specs.Prelude.{◌≡◌, ℕ, List, true, length, map, Some, All, IfOk, IfErr};
 ghost use Rattle.csv.specs.Records.{fields_of};
 ghost use Rattle.wd_schema.specs.Meets.{fits_columns, may_hold};
 ghost use Rattle.wd_schema.specs.Meets as meets;
-ghost use Rattle.wd_tables.specs.Refusals.{RefusesField, RefusesRecord};
+ghost use Rattle.wd_tables.specs.Refusals.{IsRefusedIn, RefusesField, RefusesRecord};
+ghost use Rattle.wd_tables.specs.Refused.{leftmost as leftmost_of};
 ghost use Rattle.wd_tables.specs.Data.{place_of, values_in};
 ghost use Rattle.wd_tables.specs.Fields as spec;
 
@@ -40,7 +41,14 @@ pub fn row_of(
     Ok(row)
 }
 
-// Refuses a record for the first of its fields that is refused.
+// A field that is refused, and its place in the record.
+#[derive(Drop)]
+struct Refused {
+    place: usize,
+    refusal: DataError,
+}
+
+// Refuses a record for the first of its fields that is refused, if there is one.
 fn refuse_first(
     alloc: Global,
     columns: &[Column],
@@ -49,16 +57,31 @@ fn refuse_first(
     number: u64,
 ) -> Result<(), DataError>
     requires { length places.now ≡ length columns.now }
-    ensures { (header : List (List ℕ)) → places.now ≡ map (λ column. place_of header column.name) columns.now → IfErr result (λ e. RefusesRecord columns.now header (fields_of fields.now) number e) }
+    ensures passed { (header : List (List ℕ)) → places.now ≡ map (λ column. place_of header column.name) columns.now → IfOk result (λ u. All (λ column. ¬ (IsRefusedIn header (fields_of fields.now) column)) columns.now) }
+    ensures refused { (header : List (List ℕ)) → places.now ≡ map (λ column. place_of header column.name) columns.now → IfErr result (λ e. RefusesRecord columns.now header (fields_of fields.now) number e) }
 {
-    for place in 0..fields.len() {
-        for c in 0..columns.len() {
-            if places[c] == place {
-                value_of(alloc, &columns[c], field_at(fields, places[c]), number)?;
-            }
+    let mut first = None;
+    for c in 0..columns.len() {
+        let place = places[c];
+        match value_of(alloc, &columns[c], field_at(fields, place), number) {
+            Ok(_) => {}
+            Err(refusal) => first = Some(leftmost(first, Refused { place, refusal })),
         }
     }
-    Ok(())
+    match first {
+        Some(refused) => Err(refused.refusal),
+        None => Ok(()),
+    }
+}
+
+// The one of two refused fields that stands further left.
+fn leftmost(first: Option<Refused>, other: Refused) -> Refused
+    ensures { result ≡ leftmost_of first other }
+{
+    match first {
+        Some(refused) if refused.place <= other.place => refused,
+        _ => other,
+    }
 }
 
 // The value of a field of a record in a column.

@@ -6,7 +6,7 @@ use Rattle.wd_tables.proofs.data.load.Goals as goal
 pub returns-in-Some-clause-refused : goal.returns-in-Some-clause-refused
 returns-in-Some-clause-refused c =
     let first = rw (c.deref.ensures.value, c.deref-2.ensures.value, c.in-Some.is) at c.in_ok-position.ensures in
-    repeats (table_of c.args.table.now) c.args.text.now (rows_of c.in_ok-rows.rows.items) c.in-Some.position c.in_ok-rows.ensures.holds first
+    repeats (table_of c.args.table.now) c.args.text.now (rows_of c.in_ok-rows.rows.items) c.in-Some.position c.in_ok-rows.ensures.holds c.in_ok-rows.ensures.fits first
 
 pub returns-in-None-clause-meets : goal.returns-in-None-clause-meets
 returns-in-None-clause-meets c =

@@ -1,15 +1,15 @@
-use Rattle.std.proofs.Common.{inl}
+use Rattle.std.proofs.Common.{arith, inl}
 use Rattle.std.proofs.lemmas.Result.{err_from_is_err_and}
 use Rattle.wd_schema.specs.Tables.{table_of}
 use Rattle.wd_tables.specs.Data.{records_of}
 use Rattle.wd_tables.specs.Reading.{HasPlaces}
-use Rattle.wd_tables.proofs.LoadFacts.{header_refused, holds_none, no_records}
+use Rattle.wd_tables.proofs.LoadFacts.{header_refused, holds_none, no_records, read_refused}
 use Rattle.wd_tables.proofs.data.read_all.Goals as goal
 
 pub returns-in_err-headed-clause-refused : goal.returns-in_err-headed-clause-refused
 returns-in_err-headed-clause-refused c text start =
     let p = err_from_is_err_and c.from_residual.result c.from_residual.ensures.1 in
-    rw (p.1, p.2) (c.in_err-headed.ensures.refused text 0 start (table_of c.args.table.now))
+    rw (p.1, p.2) (read_refused (table_of c.args.table.now) text 0 _ (λ m lt. absurd (omega arith)) (c.in_err-headed.ensures.refused text 0 start))
 
 pub returns-then-not-headed-clause-refused : goal.returns-then-not-headed-clause-refused
 returns-then-not-headed-clause-refused c text start =
@@ -21,7 +21,7 @@ returns-in_err-places-clause-refused c text start =
     let (read, is) = rw c.if-not-headed.false at (c.in_ok-headed.ensures.read text 0 start) in
     let refused = rw c.deref.ensures.value at c.in_err-places.ensures.refused in
     let p = err_from_is_err_and c.from_residual-in_err-places.result c.from_residual-in_err-places.ensures.1 in
-    rw (p.1, p.2) (header_refused (table_of c.args.table.now) text _ _ is.same refused)
+    rw (p.1, p.2) (header_refused (table_of c.args.table.now) text _ _ is refused)
 
 pub returns-in_err-rows-clause-refused : goal.returns-in_err-rows-clause-refused
 returns-in_err-rows-clause-refused c text start =

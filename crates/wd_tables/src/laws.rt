@@ -1,0 +1,13 @@
+//! Laws of the data of a table, over the definitions alone.
+
+ghost use Rattle.wd_tables.specs.Laws.{HasOneRefusal, HasRowsOrRefusal};
+
+/// A text has at most one refusal, but for want of memory.
+pub fn one_refusal()
+    ensures { HasOneRefusal }
+{}
+
+/// No refusal's cause stands in a text that holds rows which meet the table.
+pub fn rows_or_refusal()
+    ensures { HasRowsOrRefusal }
+{}
