@@ -12,7 +12,7 @@ use crate::columns::{partition_columns, sort_columns};
 use crate::once::has_each_once;
 use std::alloc::Global;
 use wd_plan::OrderItem;
-use wd_sort::{is_sorted, sorted_from};
+use wd_sort::{all_positions, is_sorted, sorted_from};
 use wd_value::{OutOfMemory, Row};
 
 /// The ordering that a stable sort gives: the positions of the rows by the partition columns,
@@ -35,14 +35,10 @@ pub fn sorted_ordering(
     Ok(ordering)
 }
 
-#[tactic(auto, using(wd_sort::proofs::Positions::positions_push))]
 fn given_positions(alloc: Global, count: usize, flipped: bool) -> Result<Vec<u64>, OutOfMemory>
     ensures { IfOk result (λ v. v.items ≡ columns_of_class.given_positions flipped count) }
 {
-    let mut all = Vec::with_capacity(alloc, count)?;
-    for i in 0..count {
-        all.push(i as u64)?;
-    }
+    let mut all = all_positions(alloc, count)?;
     if flipped {
         all.reverse();
     }

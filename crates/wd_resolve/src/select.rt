@@ -200,17 +200,17 @@ fn item_listed(
     ensures { Gives listing_of result (outputs_spec.item_listed (context_of context.now) (view_item item.now) (listing_of listed)) }
 {
     let Listed {
-        outputs,
+        mut outputs,
         mut calls,
         mut inputs,
     } = listed;
     let width = context.scope.columns.len();
-    let more = item_meant(alloc, context, item, &mut calls)?;
+    let mut more = item_meant(alloc, context, item, &mut calls)?;
     if calls.list.len() > MOST_COLUMNS {
         return Err(ResolveError::Refused(Cause::TooMany));
     }
     add_all_met(alloc, &mut inputs, width, &calls, &more)?;
-    let outputs = joined_outputs(outputs, more)?;
+    outputs.append(&mut more)?;
     if is_wide(outputs.len(), &inputs, &calls) {
         return Err(ResolveError::Refused(Cause::TooMany));
     }
@@ -219,17 +219,6 @@ fn item_listed(
         calls,
         inputs,
     })
-}
-
-/// Outputs behind others.
-fn joined_outputs(first: Vec<Output>, more: Vec<Output>) -> Result<Vec<Output>, OutOfMemory>
-    ensures { IfOk result (λ v. map output_of v.items ≡ map output_of first.items ++ map output_of more.items) }
-{
-    let mut all = first;
-    for output in more {
-        all.push(output)?;
-    }
-    Ok(all)
 }
 
 /// Whether there are sort keys.
@@ -287,12 +276,12 @@ fn plan_shown(
 {
     let Sorted {
         items,
-        hidden,
+        mut hidden,
         inputs,
     } = sorted;
     let hidden_count = hidden.len();
-    let (columns, expressions) = parts_of(alloc, outputs)?;
-    let expressions = joined_lists(expressions, hidden)?;
+    let (columns, mut expressions) = parts_of(alloc, outputs)?;
+    expressions.append(&mut hidden)?;
     let plan = mapped(alloc, width, calls, inputs, expressions, plan)?;
     let plan = deduplicated(alloc, distinct, plan)?;
     let plan = limited(alloc, items, cut, plan)?;
@@ -321,16 +310,4 @@ fn parts_of(
         expressions.push(expression)?;
     }
     Ok((columns, expressions))
-}
-
-/// One list behind another.
-fn joined_lists(first: Vec<Expr>, second: Vec<Expr>) -> Result<Vec<Expr>, OutOfMemory>
-    ensures joined { IfOk result (λ v. map expression_of v.items ≡ map expression_of first.items ++ map expression_of second.items) }
-    ensures as_many { IfOk result (λ v. vec_len v ≡ vec_len first + vec_len second) }
-{
-    let mut all = first;
-    for expression in second {
-        all.push(expression)?;
-    }
-    Ok(all)
 }

@@ -153,33 +153,6 @@ pub fn derived_table(
     })
 }
 
-/// Names behind others.
-fn joined_names(first: Vec<Text>, more: Vec<Text>) -> Result<Vec<Text>, OutOfMemory>
-    ensures joined { IfOk result (λ v. v.items ≡ first.items ++ more.items) }
-    ensures as_many { IfOk result (λ v. vec_len v ≡ vec_len first + vec_len more) }
-{
-    let mut all = first;
-    for name in more {
-        all.push(name)?;
-    }
-    Ok(all)
-}
-
-/// Columns behind others.
-fn joined_columns(
-    first: Vec<ScopeColumn>,
-    more: Vec<ScopeColumn>,
-) -> Result<Vec<ScopeColumn>, OutOfMemory>
-    ensures joined { IfOk result (λ v. v.items ≡ first.items ++ more.items) }
-    ensures as_many { IfOk result (λ v. vec_len v ≡ vec_len first + vec_len more) }
-{
-    let mut all = first;
-    for column in more {
-        all.push(column)?;
-    }
-    Ok(all)
-}
-
 /// Two scopes, one beside the other.
 fn beside(left: Scope, right: Scope) -> Result<Scope, OutOfMemory>
     requires { vec_len left.columns + vec_len right.columns ≤ 1024 }
@@ -187,10 +160,14 @@ fn beside(left: Scope, right: Scope) -> Result<Scope, OutOfMemory>
     ensures tables { IfOk result (λ s. vec_len s.tables ≡ vec_len left.tables + vec_len right.tables) }
     ensures columns { IfOk result (λ s. vec_len s.columns ≡ vec_len left.columns + vec_len right.columns) }
 {
-    Ok(Scope {
-        tables: joined_names(left.tables, right.tables)?,
-        columns: joined_columns(left.columns, right.columns)?,
-    })
+    let Scope {
+        mut tables,
+        mut columns,
+    } = left;
+    let mut more = right;
+    tables.append(&mut more.tables)?;
+    columns.append(&mut more.columns)?;
+    Ok(Scope { tables, columns })
 }
 
 /// Two parts, one beside the other, with the condition that joins them.

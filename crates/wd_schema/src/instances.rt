@@ -97,7 +97,8 @@ fn may_hold(column: &Column, value: &Value) -> bool
     is_of_type(column.kind, value) && !(column.not_null && is_null(value))
 }
 
-fn is_of_type(kind: ColumnType, value: &Value) -> bool
+/// Whether a value is NULL or of the type, a number within its range.
+pub fn is_of_type(kind: ColumnType, value: &Value) -> bool
     ensures { result ≡ spec.is_of_type kind value.now }
 {
     match (kind, value) {
@@ -121,7 +122,8 @@ fn is_in_range(kind: ColumnType, number: i64) -> bool
     }
 }
 
-fn is_null(value: &Value) -> bool
+/// Whether a value is NULL.
+pub fn is_null(value: &Value) -> bool
     ensures { result ≡ spec.is_null value.now }
 {
     matches!(value, Value::Null)
@@ -162,8 +164,9 @@ fn violates_any(key: &Key, row: &[Value], rows: &[Row]) -> bool
     false
 }
 
-/// Whether two rows may not both stand in a table with this key.
-fn violates(key: &Key, a: &[Value], b: &[Value]) -> bool
+/// Whether two rows may not both stand in a table with this key: they are the same on its columns, and where it takes NULLs as
+/// distinct none stands there (SQL, table constraint definition; PostgreSQL, NULLS NOT DISTINCT).
+pub fn violates(key: &Key, a: &[Value], b: &[Value]) -> bool
     ensures { result ≡ spec.violates (key_of key.now) a.now b.now }
 {
     is_same_on(&key.columns, a, b) && !(key.nulls_distinct && has_null(&key.columns, a))

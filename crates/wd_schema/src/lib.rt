@@ -10,7 +10,7 @@ mod table;
 mod text;
 
 pub use error::SchemaError;
-pub use instances::{Violation, meets};
+pub use instances::{Violation, is_null, is_of_type, meets, violates};
 pub use schema::Schema;
 pub use table::{Column, Key, Table};
 pub use text::read_schema;

@@ -81,8 +81,9 @@ pub fn is_sorted(rows: &[Row], columns: &[SortColumn], positions: &[u64]) -> boo
     true
 }
 
+/// The positions of so many rows, from the first to the last.
 #[tactic(auto, using(crate::proofs::Positions::positions_push))]
-fn all_positions(alloc: Global, count: usize) -> Result<Vec<u64>, OutOfMemory>
+pub fn all_positions(alloc: Global, count: usize) -> Result<Vec<u64>, OutOfMemory>
     ensures { IfOk result (λ v. v.items ≡ positions count) }
 {
     let mut all = Vec::with_capacity(alloc, count)?;
@@ -235,7 +236,7 @@ fn value_in<'a>(row: &'a [Value], column: u16, null: &'a Value) -> &'a Value
 }
 
 /// The row at a position, and the empty row past the last.
-fn row_in(rows: &[Row], position: u64) -> &[Value]
+pub fn row_in(rows: &[Row], position: u64) -> &[Value]
     ensures { result.now ≡ table.row_at (rows_of rows.now) position }
 {
     match rows.get(position as usize) {

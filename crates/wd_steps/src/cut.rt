@@ -5,9 +5,10 @@ ghost use Rattle.wd_plan.specs.Outcomes.{cut, first_rows, peers};
 ghost use Rattle.wd_value.specs.Rows.{rows_of, rows_at};
 
 use crate::peers::are_peers;
-use crate::rows::{row_in, rows_in};
+use crate::rows::rows_in;
 use std::alloc::Global;
 use wd_plan::OrderItem;
+use wd_sort::row_in;
 use wd_value::{OutOfMemory, Row, Value};
 
 /// What a Limit keeps of the rows as an ordering of their positions has them: those behind the

@@ -4,14 +4,13 @@ ghost use Rattle.std.specs.Prelude.{◌≡◌, IfOk, length};
 ghost use Rattle.wd_plan.specs.Outcomes.{distinct};
 ghost use Rattle.wd_steps.specs.Repeats as spec;
 ghost use Rattle.wd_steps.specs.Repeats.{AreMarked, AreRepeats, IsRowSort};
-ghost use Rattle.wd_value.specs.Bags.{positions};
 ghost use Rattle.wd_value.specs.Order as order;
 ghost use Rattle.wd_value.specs.Rows as table;
 ghost use Rattle.wd_value.specs.Rows.{rows_of, row_at};
 
-use crate::rows::row_in;
 use std::alloc::Global;
 use std::cmp::Ordering;
+use wd_sort::{all_positions, row_in};
 use wd_value::{OutOfMemory, Row, SortKey, Value, compare};
 
 /// The first of rows that are not distinct, in the order of the rows.
@@ -61,17 +60,6 @@ fn sorted_rows(alloc: Global, rows: &[Row]) -> Result<Vec<u64>, OutOfMemory>
     let mut order = all_positions(alloc, rows.len())?;
     order.sort_unstable_by(|p, q| compare_positions(rows, *p, *q));
     Ok(order)
-}
-
-#[tactic(auto, using(wd_sort::proofs::Positions::positions_push))]
-fn all_positions(alloc: Global, count: usize) -> Result<Vec<u64>, OutOfMemory>
-    ensures { IfOk result (λ v. v.items ≡ positions count) }
-{
-    let mut all = Vec::with_capacity(alloc, count)?;
-    for i in 0..count {
-        all.push(i as u64)?;
-    }
-    Ok(all)
 }
 
 fn compare_positions(rows: &[Row], p: u64, q: u64) -> Ordering

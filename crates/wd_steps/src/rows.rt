@@ -1,10 +1,11 @@
 //! Rows at positions.
 
 ghost use Rattle.std.specs.Prelude.{◌≡◌, IfOk};
-ghost use Rattle.wd_value.specs.Rows.{rows_of, row_at, rows_at};
+ghost use Rattle.wd_value.specs.Rows.{rows_of, rows_at};
 
 use std::alloc::Global;
-use wd_value::{OutOfMemory, Row, Value, copy_row};
+use wd_sort::row_in;
+use wd_value::{OutOfMemory, Row, copy_row};
 
 /// Copies of the rows at these positions, in their order.
 pub(crate) fn rows_in(
@@ -19,14 +20,4 @@ pub(crate) fn rows_in(
         picked.push(copy_row(alloc, row_in(rows, *position))?)?;
     }
     Ok(picked)
-}
-
-/// The row at a position, and the empty row past the last.
-pub(crate) fn row_in(rows: &[Row], position: u64) -> &[Value]
-    ensures { result.now ≡ row_at (rows_of rows.now) position }
-{
-    match rows.get(position as usize) {
-        Some(row) => row,
-        None => &[],
-    }
 }

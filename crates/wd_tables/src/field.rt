@@ -1,10 +1,8 @@
 ghost use Rattle.std.specs.Prelude.{◌≡◌, [], IfOk, option_and_then};
-ghost use Rattle.wd_schema.specs.Meets.{is_of_type};
 ghost use Rattle.wd_tables.specs.Fields as spec;
-ghost use Rattle.wd_value.specs.declared.value.Value.TheVariants as values;
 
 use std::alloc::Global;
-use wd_schema::Column;
+use wd_schema::{Column, is_of_type};
 use wd_value::{ColumnType, OutOfMemory, Text, Value};
 
 /// The value that a field denotes in a column, if it denotes one.
@@ -66,20 +64,10 @@ fn number_value(kind: ColumnType, field: &str) -> Option<Value>
 fn number_in(kind: ColumnType, number: i64) -> Option<Value>
     ensures { result ≡ spec.number_in kind number }
 {
-    if is_in_range(kind, number) {
-        Some(Value::Int(number))
+    let value = Value::Int(number);
+    if is_of_type(kind, &value) {
+        Some(value)
     } else {
         None
-    }
-}
-
-fn is_in_range(kind: ColumnType, number: i64) -> bool
-    ensures { result ≡ is_of_type kind (values.Int number) }
-{
-    match kind {
-        ColumnType::SmallInt => i16::MIN as i64 <= number && number <= i16::MAX as i64,
-        ColumnType::Integer => i32::MIN as i64 <= number && number <= i32::MAX as i64,
-        ColumnType::BigInt => true,
-        ColumnType::Text | ColumnType::Boolean => false,
     }
 }

@@ -1,17 +1,13 @@
-ghost use Rattle.std.specs.Prelude.{◌≡◌, ◌↔◌, IsTrue, IfOk, map};
-ghost use Rattle.std.specs.List.{list_any};
-ghost use Rattle.wd_schema.specs.Meets as meets;
+ghost use Rattle.std.specs.Prelude.{◌≡◌, IfOk, map};
 ghost use Rattle.wd_schema.specs.Tables.{key_of};
 ghost use Rattle.wd_tables.specs.Causes.{IsLeast, Repeats, RepeatsIn};
 ghost use Rattle.wd_tables.specs.Keys as spec;
-ghost use Rattle.wd_value.specs.Rows as values;
-ghost use Rattle.wd_value.specs.Values.{same as same_values};
 ghost use Rattle.wd_value.specs.Rows.{rows_of};
 
 use std::alloc::Global;
-use wd_schema::Key;
-use wd_sort::{SortColumn, sorted_positions};
-use wd_value::{OutOfMemory, Row, SortKey, Value, same};
+use wd_schema::{Key, violates};
+use wd_sort::{SortColumn, row_in, sorted_positions};
+use wd_value::{OutOfMemory, Row, SortKey};
 
 /// The first row that repeats an earlier one in some key.
 pub fn first_repeat(alloc: Global, keys: &[Key], rows: &[Row]) -> Result<Option<u64>, OutOfMemory>
@@ -66,67 +62,9 @@ fn first_violation(key: &Key, rows: &[Row], order: &[u64]) -> Option<u64>
 {
     let mut first = None;
     for i in 1..order.len() {
-        if violates(key, row_at(rows, order[i - 1]), row_at(rows, order[i])) {
+        if violates(key, row_in(rows, order[i - 1]), row_in(rows, order[i])) {
             first = least(first, Some(order[i]));
         }
     }
     first
-}
-
-// Whether two rows may not both stand in a table with this key.
-fn violates(key: &Key, a: &[Value], b: &[Value]) -> bool
-    ensures { result ≡ meets.violates (key_of key.now) a.now b.now }
-{
-    is_same_on(&key.columns, a, b) && !(key.nulls_distinct && has_null(&key.columns, a))
-}
-
-fn is_same_on(columns: &[u16], a: &[Value], b: &[Value]) -> bool
-    ensures { result ≡ values.same_row (values.columns_of columns.now a.now) (values.columns_of columns.now b.now) }
-{
-    for column in columns {
-        if !is_same_at(*column, a, b) {
-            return false;
-        }
-    }
-    true
-}
-
-fn is_same_at(column: u16, a: &[Value], b: &[Value]) -> bool
-    ensures { result ≡ same_values (values.column_of a.now column) (values.column_of b.now column) }
-{
-    let null = Value::Null;
-    same(
-        a.get(column as usize).unwrap_or(&null),
-        b.get(column as usize).unwrap_or(&null),
-    )
-}
-
-fn has_null(columns: &[u16], a: &[Value]) -> bool
-    ensures { result ≡ list_any meets.is_null (values.columns_of columns.now a.now) }
-{
-    for column in columns {
-        if is_null_at(*column, a) {
-            return true;
-        }
-    }
-    false
-}
-
-fn is_null_at(column: u16, a: &[Value]) -> bool
-    ensures { result ≡ meets.is_null (values.column_of a.now column) }
-{
-    match a.get(column as usize) {
-        None | Some(Value::Null) => true,
-        Some(_) => false,
-    }
-}
-
-// The row at a position, and the empty row past the last.
-fn row_at(rows: &[Row], position: u64) -> &[Value]
-    ensures { result.now ≡ values.row_at (rows_of rows.now) position }
-{
-    match rows.get(position as usize) {
-        Some(row) => row,
-        None => &[],
-    }
 }

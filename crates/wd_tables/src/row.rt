@@ -1,7 +1,6 @@
 ghost use Rattle.std.specs.Prelude.{◌≡◌, ℕ, List, true, length, map, Some, All, IfOk, IfErr};
 ghost use Rattle.csv.specs.Records.{fields_of};
 ghost use Rattle.wd_schema.specs.Meets.{fits_columns, may_hold};
-ghost use Rattle.wd_schema.specs.Meets as meets;
 ghost use Rattle.wd_tables.specs.Refusals.{IsRefusedIn, RefusesField, RefusesRecord};
 ghost use Rattle.wd_tables.specs.Refused.{leftmost as leftmost_of};
 ghost use Rattle.wd_tables.specs.Data.{place_of, values_in};
@@ -12,7 +11,7 @@ use crate::field::field_value;
 use crate::record::field_at;
 use csv::StringRecord;
 use std::alloc::Global;
-use wd_schema::Column;
+use wd_schema::{Column, is_null};
 use wd_value::{Row, Value};
 
 /// The row of a record, whose field for each column stands at the column's place.
@@ -97,10 +96,4 @@ fn value_of(alloc: Global, column: &Column, field: &str, number: u64) -> Result<
         return Err(DataError::Null { record: number });
     }
     Ok(value)
-}
-
-fn is_null(value: &Value) -> bool
-    ensures { result ≡ meets.is_null value.now }
-{
-    matches!(value, Value::Null)
 }

@@ -13,7 +13,7 @@ loop-i-preserved c =
     let key = key_of c.args.key.now in
     let rows = rows_of c.args.rows.now in
     let order = c.args.order.now in
-    let test = rw (c.row_at.ensures, c.row_at-in-loop-i.ensures) at c.violates.ensures in (
+    let test = rw (c.row_in.ensures, c.row_in-in-loop-i.ensures) at c.violates.ensures in (
       omega arith,
       elim c.if-violates.branch [
         | then-violates w ↦ rw (w.first-is, w.least-first.ensures) (within_more key rows order c.loop-i.i c.loop-i.first c.loop-i.auto.i (sym test ∙ w.if-violates.true) c.loop-i.invariant.1)
