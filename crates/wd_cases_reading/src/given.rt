@@ -1,4 +1,3 @@
-use crate::refusal::of_schema;
 use std::alloc::Global;
 use wd_cases::{Failure, unescaped};
 use wd_schema::{Schema, read_schema};
@@ -30,6 +29,6 @@ impl Given {
     }
 
     pub fn tables(&self, alloc: Global) -> Result<Schema, Failure> {
-        read_schema(alloc, &self.schema).map_err(of_schema)
+        Ok(read_schema(alloc, &self.schema)?)
     }
 }

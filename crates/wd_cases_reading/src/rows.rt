@@ -1,9 +1,8 @@
 //! The rows of a table from its text, and the text of an answer.
-use crate::cell::rows_of;
 use crate::given::Given;
 use crate::refusal::of_rows;
 use std::alloc::Global;
-use wd_cases::{Failure, in_one_line, text_of, unescaped};
+use wd_cases::{Failure, in_one_line, rows_of, text_of, unescaped};
 use wd_schema::Table;
 use wd_tables::{DataError, answer_text, load};
 use wd_value::{Row, Text, Value};
@@ -91,7 +90,7 @@ fn answer_of(alloc: Global, names: &[Value], rows: &[Row]) -> Result<String, Fai
 
 fn rows_in(alloc: Global, text: &str) -> Result<Vec<Row>, Failure> {
     let text = text_of(alloc, text)?;
-    rows_of(alloc, text.as_str())
+    rows_of(alloc, text.as_str(), ' ')
 }
 
 /// `answer NAMES;ROW;..`: the text of an answer.

@@ -1,8 +1,6 @@
-use crate::cell::instance_of;
 use crate::given::Given;
-use crate::refusal::of_schema;
 use std::alloc::{AllocError, Global};
-use wd_cases::{Failure, text_of, unescaped};
+use wd_cases::{Failure, rows_of, text_of, unescaped};
 use wd_schema::{Column, Key, Schema, Table, meets, read_schema};
 use wd_value::Instance;
 
@@ -52,7 +50,7 @@ fn schema_shown(alloc: Global, schema: &Schema) -> Result<String, Failure> {
 
 fn schema_of(alloc: Global, text: &str) -> Result<Schema, Failure> {
     let text = unescaped(alloc, text)?;
-    read_schema(alloc, &text).map_err(of_schema)
+    Ok(read_schema(alloc, &text)?)
 }
 
 /// `tables TEXT`: the tables of a schema with their columns (`!` is NOT NULL) and keys.
@@ -73,6 +71,15 @@ fn counts_shown(alloc: Global, table: Option<&Table>) -> Result<String, Failure>
     };
     let (columns, keys) = (table.columns.len(), table.keys.len());
     Ok(format!(in alloc; "columns: {columns}, keys: {keys}")?)
+}
+
+/// Tables, each with a `|` behind its rows.
+fn instance_of(alloc: Global, text: &str) -> Result<Instance, Failure> {
+    let mut instance = Vec::new(alloc);
+    for table in text.split_terminator('|') {
+        instance.push(rows_of(alloc, table, ' ')?)?;
+    }
+    Ok(instance)
 }
 
 fn instance_in(alloc: Global, text: &str) -> Result<Instance, Failure> {
