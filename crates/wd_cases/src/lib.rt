@@ -10,9 +10,11 @@ mod failure;
 mod line;
 mod named;
 mod refused;
+mod schema;
 
 pub use cell::{is_nothing, row_of, rows_of, value_of};
 pub use escape::{in_one_line, text_of, tokens_of, unescaped};
 pub use failure::Failure;
 pub use line::{Cases, Comments, answer_lines, or_nothing};
 pub use named::NamedTexts;
+pub use schema::SchemaText;

@@ -23,7 +23,7 @@ const SHORT: &[(&str, &str)] = &[
 ];
 
 fn resolved(alloc: Global, given: &Given, query: &Query) -> Result<Resolved, Failure> {
-    let schema = given.tables(alloc)?;
+    let schema = given.schema.tables(alloc)?;
     Ok(resolve(alloc, &schema, query)?)
 }
 

@@ -38,7 +38,7 @@ pub fn ran(alloc: Global, given: &Given, text: &str) -> Result<String, Failure> 
 
 fn ran_over(alloc: Global, given: &Given, query: &[u8]) -> Result<String, Failure> {
     let data = given.data.pairs(alloc)?;
-    match wd_run::run(alloc, &given.schema, query, &data) {
+    match wd_run::run(alloc, &given.schema.bytes, query, &data) {
         Ok((names, outcome)) => outcome_shown(alloc, &names, &outcome),
         Err(error) => refused(alloc, &error),
     }

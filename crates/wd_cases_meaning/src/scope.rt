@@ -68,7 +68,7 @@ fn scope_over(alloc: Global, schema: &Schema) -> Result<Scope, Failure> {
 
 /// The tables of the schema in their order, as in FROM.
 pub fn scope_of(alloc: Global, given: &Given) -> Result<Scope, Failure> {
-    let schema = given.tables(alloc)?;
+    let schema = given.schema.tables(alloc)?;
     scope_over(alloc, &schema)
 }
 

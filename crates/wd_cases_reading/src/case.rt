@@ -1,20 +1,34 @@
 //! Which call each word of a line asks for.
-use crate::given::Given;
 use crate::{phrase, refusal, rows, schema, statement, token, tree};
 use std::alloc::Global;
-use wd_cases::{Cases, Failure, tokens_of};
+use wd_cases::{Cases, Failure, SchemaText, tokens_of};
 use wd_lex::Token;
+
+/// What earlier lines gave.
+#[derive(Drop)]
+pub struct Given {
+    schema: SchemaText,
+}
+
+impl Given {
+    /// The schema without tables.
+    pub fn new(alloc: Global) -> Given {
+        Given {
+            schema: SchemaText::new(alloc),
+        }
+    }
+}
 
 impl Cases for Given {
     fn answer(&mut self, alloc: Global, word: &str, text: &str) -> Result<String, Failure> {
         match word {
             "tokens" => token::tokens(alloc, text),
             "tables" => schema::tables(alloc, text),
-            "schema" => self.set_schema(alloc, text),
-            "table" => schema::table(alloc, self, text),
-            "meets" => schema::met(alloc, self, text),
-            "load" => rows::loaded(alloc, self, text),
-            "why" => rows::explained(alloc, self, text),
+            "schema" => self.schema.set(alloc, text),
+            "table" => schema::table(alloc, &self.schema, text),
+            "meets" => schema::met(alloc, &self.schema, text),
+            "load" => rows::loaded(alloc, &self.schema, text),
+            "why" => rows::explained(alloc, &self.schema, text),
             "answer" => rows::answer(alloc, text),
             "memory" => refusal::want_of_memory(alloc, text),
             "laws" => refusal::laws(alloc),

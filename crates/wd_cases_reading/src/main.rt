@@ -2,7 +2,6 @@
 #![tactic(auto)]
 
 mod case;
-mod given;
 mod phrase;
 mod refusal;
 mod rows;
@@ -11,7 +10,7 @@ mod statement;
 mod token;
 mod tree;
 
-use given::Given;
+use case::Given;
 use std::io;
 use wd_cases::{Comments, answer_lines};
 

@@ -1,6 +1,5 @@
-use crate::given::Given;
 use std::alloc::{AllocError, Global};
-use wd_cases::{Failure, rows_of, text_of, unescaped};
+use wd_cases::{Failure, SchemaText, rows_of, text_of, unescaped};
 use wd_schema::{Column, Key, Schema, Table, meets, read_schema};
 use wd_value::Instance;
 
@@ -60,8 +59,8 @@ pub fn tables(alloc: Global, text: &str) -> Result<String, Failure> {
 }
 
 /// `table NAME`: how many columns and keys the schema's table of that name has.
-pub fn table(alloc: Global, given: &Given, name: &str) -> Result<String, Failure> {
-    let schema = given.tables(alloc)?;
+pub fn table(alloc: Global, schema: &SchemaText, name: &str) -> Result<String, Failure> {
+    let schema = schema.tables(alloc)?;
     counts_shown(alloc, schema.table(name))
 }
 
@@ -88,13 +87,13 @@ fn instance_in(alloc: Global, text: &str) -> Result<Instance, Failure> {
 }
 
 /// `meets TABLES`: whether tables with these rows meet the schema.
-pub fn met(alloc: Global, given: &Given, text: &str) -> Result<String, Failure> {
+pub fn met(alloc: Global, schema: &SchemaText, text: &str) -> Result<String, Failure> {
     let instance = instance_in(alloc, text)?;
-    met_by(alloc, given, &instance)
+    met_by(alloc, schema, &instance)
 }
 
-fn met_by(alloc: Global, given: &Given, instance: &Instance) -> Result<String, Failure> {
-    let schema = given.tables(alloc)?;
+fn met_by(alloc: Global, schema: &SchemaText, instance: &Instance) -> Result<String, Failure> {
+    let schema = schema.tables(alloc)?;
     let met = meets(&schema, instance).is_ok();
     Ok(met.to_string(alloc)?)
 }
