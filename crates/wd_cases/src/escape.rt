@@ -1,9 +1,11 @@
 //! How a line writes a text that has several lines, parts that repeat, or bytes that are no UTF-8.
 use crate::failure::Failure;
 use std::alloc::{AllocError, Global};
+use wd_lex::{Token, lex};
 
-/// The bytes that a line stands for. `\n` is a line feed and `\xFF` the byte FF; `\3{ab}` is ababab, and so is `\3[ab]`, which
-/// may stand within the braces. In a part that repeats, `\#` is the number of the time, from 0.
+/// The bytes that a line stands for. `\n` is a line feed and `\xFF` the byte FF; `\3{ab}` is
+/// ababab, and so is `\3[ab]`, which may stand within the braces. In a part that repeats, `\#` is
+/// the number of the time, from 0.
 pub fn unescaped(alloc: Global, line: &str) -> Result<Vec<u8>, AllocError> {
     let inner = repeated(alloc, line, '[', ']')?;
     let outer = repeated(alloc, inner.as_str(), '{', '}')?;
@@ -13,6 +15,12 @@ pub fn unescaped(alloc: Global, line: &str) -> Result<Vec<u8>, AllocError> {
 /// The text that a line stands for.
 pub fn text_of(alloc: Global, line: &str) -> Result<String, Failure> {
     String::from_utf8(unescaped(alloc, line)?).map_err(|_| Failure::NoCase)
+}
+
+/// The tokens of the text that a line stands for.
+pub fn tokens_of(alloc: Global, line: &str) -> Result<Vec<Token>, Failure> {
+    let text = unescaped(alloc, line)?;
+    Ok(lex(alloc, &text)?)
 }
 
 /// The text with each group between such brackets as often as the number before it says.

@@ -1,5 +1,6 @@
 use std::alloc::{AllocError, AllocFailed, Global};
 use std::fmt::Display;
+use std::num::ParseIntError;
 use wd_value::OutOfMemory;
 
 /// Why a case has nothing to show.
@@ -15,10 +16,20 @@ pub enum Failure {
 }
 
 impl Failure {
+    pub const OUT_OF_MEMORY: Failure = Failure::Refused {
+        number: None,
+        place: None,
+    };
+
+    /// The refusal of a call with its number and its place, if it has them.
+    pub fn refused(number: Option<u32>, place: Option<u64>) -> Failure {
+        Failure::Refused { number, place }
+    }
+
     pub fn shown(self, alloc: Global) -> Result<String, AllocError> {
         match self {
             Failure::NoCase => String::from_str(alloc, "no such case"),
-            Failure::Refused { number, place } => refused(alloc, number, place),
+            Failure::Refused { number, place } => refusal_shown(alloc, number, place),
         }
     }
 
@@ -29,7 +40,11 @@ impl Failure {
     }
 }
 
-fn refused(alloc: Global, number: Option<u32>, place: Option<u64>) -> Result<String, AllocError> {
+fn refusal_shown(
+    alloc: Global,
+    number: Option<u32>,
+    place: Option<u64>,
+) -> Result<String, AllocError> {
     match (number, place) {
         (Some(number), Some(place)) => format!(in alloc; "refused {number} at {place}"),
         (Some(number), None) => format!(in alloc; "refused {number}"),
@@ -38,26 +53,26 @@ fn refused(alloc: Global, number: Option<u32>, place: Option<u64>) -> Result<Str
     }
 }
 
-/// Want of memory.
-const MEMORY: Failure = Failure::Refused {
-    number: None,
-    place: None,
-};
-
 impl From<AllocError> for Failure {
     fn from(_error: AllocError) -> Failure {
-        MEMORY
+        Failure::OUT_OF_MEMORY
     }
 }
 
 impl<T: Drop> From<AllocFailed<T>> for Failure {
     fn from(_error: AllocFailed<T>) -> Failure {
-        MEMORY
+        Failure::OUT_OF_MEMORY
     }
 }
 
 impl From<OutOfMemory> for Failure {
     fn from(_error: OutOfMemory) -> Failure {
-        MEMORY
+        Failure::OUT_OF_MEMORY
+    }
+}
+
+impl From<ParseIntError> for Failure {
+    fn from(_error: ParseIntError) -> Failure {
+        Failure::NoCase
     }
 }

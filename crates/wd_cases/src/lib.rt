@@ -1,12 +1,20 @@
-//! What programs of cases share. They read cases from standard input, a line each, and print each line with what its case gives;
-//! the file `stdout` beside `src` holds what must be printed. A line is a word for what is asked, a blank and a text; the
-//! lines `#` of the file `stdin` say what the words are. A further case is a line more in both files.
+//! What programs of cases share. They read cases from standard input, a line each, and print each
+//! line with what its case gives; the file `stdout` beside `src` holds what must be printed. A line
+//! is a word for what is asked, a blank and a text; the lines `#` of the file `stdin` say what the
+//! words are. A further case is a line more in both files.
 #![tactic(auto)]
 
+mod cell;
 mod escape;
 mod failure;
 mod line;
+mod named;
+mod refused;
+mod schema;
 
-pub use escape::{in_one_line, text_of, unescaped};
+pub use cell::{is_nothing, row_of, rows_of, value_of};
+pub use escape::{in_one_line, text_of, tokens_of, unescaped};
 pub use failure::Failure;
-pub use line::{answered, case_in};
+pub use line::{Cases, Comments, answer_lines, or_nothing};
+pub use named::NamedTexts;
+pub use schema::SchemaText;

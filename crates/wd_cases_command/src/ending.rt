@@ -4,14 +4,14 @@ ghost use Rattle.std.specs.Prelude.{◌≡◌};
 ghost use Rattle.wd_command.specs.Memory.{failures_of};
 
 use crate::files::AskedFiles;
-use crate::given::Given;
 use crate::settings::{Settings, settings_in};
 use crate::stream::Stream;
 use std::alloc::Global;
-use wd_cases::{Failure, in_one_line};
+use wd_cases::{Failure, NamedTexts, in_one_line, or_nothing};
 use wd_command::{MemoryFiles, command};
 
-/// The program's status, the paths that it read, and what stands on standard output and standard error.
+/// The program's status, the paths that it read, and what stands on standard output and standard
+/// error.
 #[derive(Drop)]
 struct Ending {
     status: u8,
@@ -21,14 +21,14 @@ struct Ending {
 }
 
 /// `command WORDS | SETTINGS`: how the program ends on the words.
-pub fn ended(alloc: Global, given: &Given, text: &str) -> Result<String, Failure> {
+pub fn ended(alloc: Global, given: &NamedTexts, text: &str) -> Result<String, Failure> {
     let ending = ending_of(alloc, given, text)?;
     let err = in_one_line(alloc, &ending.err)?;
     shown(alloc, &ending, err.as_str())
 }
 
 /// `fault WORDS | SETTINGS`: the same, but of standard error only whether there is text.
-pub fn faulted(alloc: Global, given: &Given, text: &str) -> Result<String, Failure> {
+pub fn faulted(alloc: Global, given: &NamedTexts, text: &str) -> Result<String, Failure> {
     let ending = ending_of(alloc, given, text)?;
     let err = if ending.err.is_empty() {
         ""
@@ -47,17 +47,11 @@ fn shown(alloc: Global, ending: &Ending, err: &str) -> Result<String, Failure> {
     Ok(format!(in alloc; "{status}; read: {read}; out: {out}; err: {err}")?)
 }
 
-fn or_nothing(text: &str) -> &str {
-    if text.is_empty() { "nothing" } else { text }
-}
-
-fn ending_of(alloc: Global, given: &Given, text: &str) -> Result<Ending, Failure> {
+fn ending_of(alloc: Global, given: &NamedTexts, text: &str) -> Result<Ending, Failure> {
     let (words, settings) = text.split_once('|').unwrap_or((text, ""));
+    let settings = settings_in(settings)?;
     let words = words_in(alloc, words)?;
-    match settings_in(settings) {
-        Some(settings) => ending_under(alloc, given, &words, settings),
-        None => Err(Failure::NoCase),
-    }
+    ending_under(alloc, given, &words, settings)
 }
 
 fn words_in(alloc: Global, text: &str) -> Result<Vec<&str>, Failure> {
@@ -70,7 +64,7 @@ fn words_in(alloc: Global, text: &str) -> Result<Vec<&str>, Failure> {
 
 fn ending_under(
     alloc: Global,
-    given: &Given,
+    given: &NamedTexts,
     words: &[&str],
     settings: Settings,
 ) -> Result<Ending, Failure> {

@@ -1,51 +1,37 @@
-//! What earlier lines gave.
+//! What earlier lines gave, and what each word of a line asks for.
+use crate::ending::{ended, faulted};
+use crate::reported::reported;
 use std::alloc::Global;
-use wd_cases::{Failure, unescaped};
-
-/// A file in memory.
-#[derive(Drop)]
-pub struct NamedFile {
-    pub path: String,
-    pub bytes: Vec<u8>,
-}
+use wd_cases::{Cases, Failure, NamedTexts};
 
 #[derive(Drop)]
 pub struct Given {
-    pub files: Vec<NamedFile>,
+    files: NamedTexts,
 }
 
 impl Given {
     /// No files.
     pub fn new(alloc: Global) -> Given {
         Given {
-            files: Vec::new(alloc),
+            files: NamedTexts::new(alloc),
         }
     }
 
     /// `file PATH TEXT` is a further file, and `file` alone takes all files away.
-    pub fn add_file(&mut self, alloc: Global, text: &str) -> Result<String, Failure> {
-        match text.split_once(' ') {
-            Some((path, text)) => self.files.push(named_file(alloc, path, text)?)?,
-            None => self.files.clear(),
-        }
-        let count = self.files.len();
+    fn set_files(&mut self, alloc: Global, text: &str) -> Result<String, Failure> {
+        let count = self.files.set(alloc, text)?;
         Ok(format!(in alloc; "files: {count}")?)
-    }
-
-    /// The files, as paths and bytes.
-    pub fn pairs(&self, alloc: Global) -> Result<Vec<(&str, &[u8])>, Failure> {
-        let mut pairs = Vec::new(alloc);
-        for NamedFile { path, bytes } in &self.files {
-            pairs.push((path.as_str(), bytes.as_slice()))?;
-        }
-        Ok(pairs)
     }
 }
 
-fn named_file(alloc: Global, path: &str, text: &str) -> Result<NamedFile, Failure> {
-    let path = String::from_str(alloc, path)?;
-    match unescaped(alloc, text) {
-        Ok(bytes) => Ok(NamedFile { path, bytes }),
-        Err(error) => Err(Failure::from(error)),
+impl Cases for Given {
+    fn answer(&mut self, alloc: Global, word: &str, text: &str) -> Result<String, Failure> {
+        match word {
+            "file" => self.set_files(alloc, text),
+            "command" => ended(alloc, &self.files, text),
+            "fault" => faulted(alloc, &self.files, text),
+            "report" => reported(alloc, text),
+            _ => Err(Failure::NoCase),
+        }
     }
 }

@@ -1,7 +1,6 @@
 //! Cases of the program over its words, files and streams.
 #![tactic(auto)]
 
-mod case;
 mod ending;
 mod files;
 mod given;
@@ -9,16 +8,10 @@ mod reported;
 mod settings;
 mod stream;
 
-use case::shown;
 use given::Given;
 use std::io;
+use wd_cases::{Comments, answer_lines};
 
 fn main(rt: HostRuntime) -> io::Result<()> {
-    let mut given = Given::new(rt.alloc());
-    for line in rt.lines(rt.alloc()) {
-        let line = line?;
-        let shown = shown(rt.alloc(), &mut given, line.as_str())?;
-        println!(rt; "{shown}")?;
-    }
-    Ok(())
+    answer_lines(&rt, &mut Given::new(rt.alloc()), Comments::Printed)
 }

@@ -1,4 +1,5 @@
 //! What of the files and the streams fails in a case.
+use wd_cases::Failure;
 
 /// How many writes a stream takes before one fails, and whether it can be flushed.
 #[derive(Clone, Copy)]
@@ -27,45 +28,33 @@ const NOTHING_FAILS: Settings = Settings {
 };
 
 /// Settings as a line writes them: `reads N`, `out N` and `err N`, with a `|` between two of them.
-pub fn settings_in(text: &str) -> Option<Settings> {
+pub fn settings_in(text: &str) -> Result<Settings, Failure> {
     let mut settings = NOTHING_FAILS;
     for setting in text.split_terminator('|') {
-        settings = with(settings, setting.trim())?;
+        settings.set(setting.trim())?;
     }
-    Some(settings)
+    Ok(settings)
 }
 
-fn with(settings: Settings, setting: &str) -> Option<Settings> {
-    let (name, value) = setting.split_once(' ')?;
-    match name {
-        "reads" => with_reads(settings, value),
-        "out" => with_out(settings, value),
-        "err" => with_err(settings, value),
-        _ => None,
+impl Settings {
+    fn set(&mut self, setting: &str) -> Result<(), Failure> {
+        let (name, value) = setting.split_once(' ').ok_or(Failure::NoCase)?;
+        match name {
+            "reads" => self.reads = Some(value.parse::<u64>()?),
+            "out" => self.out = limit_of(value)?,
+            "err" => self.err = limit_of(value)?,
+            _ => return Err(Failure::NoCase),
+        }
+        Ok(())
     }
-}
-
-fn with_reads(settings: Settings, value: &str) -> Option<Settings> {
-    let reads = Some(value.parse().ok()?);
-    Some(Settings { reads, ..settings })
-}
-
-fn with_out(settings: Settings, value: &str) -> Option<Settings> {
-    let out = limit_of(value)?;
-    Some(Settings { out, ..settings })
-}
-
-fn with_err(settings: Settings, value: &str) -> Option<Settings> {
-    let err = limit_of(value)?;
-    Some(Settings { err, ..settings })
 }
 
 /// `N`, or `N unflushed`.
-fn limit_of(value: &str) -> Option<Limit> {
+fn limit_of(value: &str) -> Result<Limit, Failure> {
     let (writes, flushes) = match value.strip_suffix(" unflushed") {
         Some(writes) => (writes, false),
         None => (value, true),
     };
-    let writes = writes.parse().ok()?;
-    Some(Limit { writes, flushes })
+    let writes = writes.parse::<u64>()?;
+    Ok(Limit { writes, flushes })
 }

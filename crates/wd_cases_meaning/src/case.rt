@@ -3,38 +3,32 @@ use crate::given::Given;
 use crate::scope::scope_of;
 use crate::tree::query_for;
 use crate::{operand, plan, refusal, run, scope, select};
-use std::alloc::{AllocError, Global};
-use wd_cases::{Failure, answered, case_in};
+use std::alloc::Global;
+use wd_cases::{Cases, Failure};
 use wd_scope::Scope;
 use wd_syntax::{Query, Select};
 
-/// A line and what its case gives; a line without a case as it is.
-pub fn shown(alloc: Global, given: &mut Given, line: &str) -> Result<String, AllocError> {
-    match case_in(line) {
-        Some((word, text)) => answered(alloc, line, found(alloc, given, word, text)),
-        None => String::from_str(alloc, line),
-    }
-}
-
-/// Operands, runs, and lines that later ones build on.
-fn found(alloc: Global, given: &mut Given, word: &str, text: &str) -> Result<String, Failure> {
-    match word {
-        "schema" => given.set_schema(alloc, text),
-        "data" => given.add_data(alloc, text),
-        "met" => given.met(alloc),
-        "number" => operand::number(alloc, text),
-        "operand" => operand::operand(alloc, text),
-        "expression" => operand::expression(alloc, text),
-        "kind" => operand::kind(alloc, text),
-        "same_kind" => operand::kinds_are_same(alloc, text),
-        "same_expression" => operand::expressions_are_same(alloc, text),
-        "copy_expression" => operand::copied(alloc, text),
-        "has_table" => scope::has_table(alloc, given, text),
-        "is_wide" => select::is_wide(alloc, text),
-        "run" => run::ran(alloc, given, text),
-        "memory" => refusal::want_of_memory(text),
-        "laws" => refusal::laws(alloc),
-        _ => over_text(alloc, given, word, text),
+impl Cases for Given {
+    /// Operands, runs, and lines that later ones build on.
+    fn answer(&mut self, alloc: Global, word: &str, text: &str) -> Result<String, Failure> {
+        match word {
+            "schema" => self.set_schema(alloc, text),
+            "data" => self.set_data(alloc, text),
+            "met" => self.met(alloc),
+            "number" => operand::number(alloc, text),
+            "operand" => operand::operand(alloc, text),
+            "expression" => operand::expression(alloc, text),
+            "kind" => operand::kind(alloc, text),
+            "same_kind" => operand::kinds_are_same(alloc, text),
+            "same_expression" => operand::expressions_are_same(alloc, text),
+            "copy_expression" => operand::copied(alloc, text),
+            "has_table" => scope::has_table(alloc, self, text),
+            "is_wide" => select::is_wide(alloc, text),
+            "run" => run::ran(alloc, self, text),
+            "memory" => refusal::want_of_memory(text),
+            "laws" => refusal::laws(alloc),
+            _ => over_text(alloc, self, word, text),
+        }
     }
 }
 

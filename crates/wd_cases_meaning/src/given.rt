@@ -1,24 +1,14 @@
 //! What earlier lines gave: a schema, data of tables, and what was met over the schema since.
-use crate::refusal::of_schema;
 use std::alloc::Global;
-use wd_cases::{Failure, unescaped};
+use wd_cases::{Failure, NamedTexts, SchemaText};
 use wd_plan::Expr;
-use wd_schema::{Schema, read_schema};
 use wd_scope::Calls;
-use wd_value::Text;
-
-/// The data under a name, which may be a table's.
-#[derive(Drop)]
-pub struct NamedData {
-    pub name: Text,
-    pub text: Vec<u8>,
-}
 
 #[derive(Drop)]
 pub struct Given {
-    /// The text of the schema.
-    pub schema: Vec<u8>,
-    pub data: Vec<NamedData>,
+    pub schema: SchemaText,
+    /// The data under names, which may be tables'.
+    pub data: NamedTexts,
     /// The window calls that were met.
     pub calls: Calls,
     /// The expressions that were needed.
@@ -26,43 +16,26 @@ pub struct Given {
 }
 
 impl Given {
-    /// The schema of a text, and no data.
-    fn over(alloc: Global, schema: Vec<u8>) -> Given {
+    /// The schema without tables, and no data.
+    pub fn new(alloc: Global) -> Given {
         Given {
-            schema,
-            data: Vec::new(alloc),
+            schema: SchemaText::new(alloc),
+            data: NamedTexts::new(alloc),
             calls: Calls::new(alloc),
             inputs: Vec::new(alloc),
         }
     }
 
-    /// The schema without tables, and no data.
-    pub fn new(alloc: Global) -> Given {
-        Given::over(alloc, Vec::new(alloc))
-    }
-
-    /// `schema TEXT`: from here on the schema is this one, there is no data, and nothing is met yet.
+    /// `schema TEXT`: from here on the schema is this one, there is no data, and nothing is met
+    /// yet.
     pub fn set_schema(&mut self, alloc: Global, text: &str) -> Result<String, Failure> {
-        *self = Given::over(alloc, unescaped(alloc, text)?);
-        self.tables_counted(alloc)
-    }
-
-    fn tables_counted(&self, alloc: Global) -> Result<String, Failure> {
-        let count = self.tables(alloc)?.tables.len();
-        Ok(format!(in alloc; "tables: {count}")?)
-    }
-
-    pub fn tables(&self, alloc: Global) -> Result<Schema, Failure> {
-        read_schema(alloc, &self.schema).map_err(of_schema)
+        *self = Given::new(alloc);
+        self.schema.set(alloc, text)
     }
 
     /// `data NAME TEXT` is further data, and `data` alone takes all data away.
-    pub fn add_data(&mut self, alloc: Global, text: &str) -> Result<String, Failure> {
-        match text.split_once(' ') {
-            Some((name, text)) => self.data.push(named_data(alloc, name, text)?)?,
-            None => self.data.clear(),
-        }
-        let count = self.data.len();
+    pub fn set_data(&mut self, alloc: Global, text: &str) -> Result<String, Failure> {
+        let count = self.data.set(alloc, text)?;
         Ok(format!(in alloc; "given: {count}")?)
     }
 
@@ -70,13 +43,5 @@ impl Given {
     pub fn met(&self, alloc: Global) -> Result<String, Failure> {
         let count = self.calls.list.len();
         Ok(format!(in alloc; "met: {count}")?)
-    }
-}
-
-fn named_data(alloc: Global, name: &str, text: &str) -> Result<NamedData, Failure> {
-    let name = Text::from_str(alloc, name)?;
-    match unescaped(alloc, text) {
-        Ok(text) => Ok(NamedData { name, text }),
-        Err(error) => Err(Failure::from(error)),
     }
 }

@@ -1,6 +1,6 @@
-//! What wd_operand makes of operands. An operand is written as one to four words with a blank between two of them: a literal
-//! (`5`, `TRUE`, `NULL`) or a column with its kind (`#3:Text`), or a sign, an operator, a test or a CASE over such.
-use crate::refusal::of_meaning;
+//! What wd_operand makes of operands. An operand is written as one to four words with a blank
+//! between two of them: a literal (`5`, `TRUE`, `NULL`) or a column with its kind (`#3:Text`), or a
+//! sign, an operator, a test or a CASE over such.
 use crate::tree::written;
 use std::alloc::Global;
 use wd_cases::Failure;
@@ -21,15 +21,15 @@ fn kind_named(word: &str) -> Result<ValueKind, Failure> {
 }
 
 fn number_of(word: &str) -> Result<u64, Failure> {
-    word.parse().ok().ok_or(Failure::NoCase)
+    Ok(word.parse::<u64>()?)
 }
 
 /// The column of a number, with its kind.
 fn column(alloc: Global, word: &str) -> Result<Meaning, Failure> {
     let (number, kind) = word.split_once(':').ok_or(Failure::NoCase)?;
-    let number = number.parse().ok().ok_or(Failure::NoCase)?;
+    let number = number.parse::<u16>()?;
     let kind = kind_named(kind)?;
-    Meaning::typed(alloc, Expr::Column(number), kind).map_err(of_meaning)
+    Ok(Meaning::typed(alloc, Expr::Column(number), kind)?)
 }
 
 /// What a word stands for.
@@ -43,7 +43,7 @@ fn meaning(alloc: Global, word: &str) -> Result<Meaning, Failure> {
         "NULL" => Literal::Null,
         _ => Literal::Number(number_of(word)?),
     };
-    literal(alloc, &written).map_err(of_meaning)
+    Ok(literal(alloc, &written)?)
 }
 
 fn sign_named(word: &str) -> Option<Sign> {
@@ -58,8 +58,8 @@ fn sign_named(word: &str) -> Option<Sign> {
 fn over_one(alloc: Global, word: &str, operand: &str) -> Result<Meaning, Failure> {
     let operand = meaning(alloc, operand)?;
     match sign_named(word) {
-        Some(sign) => signed(alloc, sign, operand).map_err(of_meaning),
-        None if word == "NOT" => negated(alloc, operand).map_err(of_meaning),
+        Some(sign) => Ok(signed(alloc, sign, operand)?),
+        None if word == "NOT" => Ok(negated(alloc, operand)?),
         None => Err(Failure::NoCase),
     }
 }
@@ -74,19 +74,19 @@ fn operator_named(word: &str) -> Result<Operator, Failure> {
     }
 }
 
-/// `NULL = 5` is an operator between operands, `NULL IS NULL` and `NULL IS NOT-NULL` are tests, and `sign - 5` is a number
-/// behind its sign.
+/// `NULL = 5` is an operator between operands, `NULL IS NULL` and `NULL IS NOT-NULL` are tests, and
+/// `sign - 5` is a number behind its sign.
 fn over_two(alloc: Global, left: &str, word: &str, right: &str) -> Result<Meaning, Failure> {
     if left == "sign" {
         let sign = sign_named(word).ok_or(Failure::NoCase)?;
-        return signed_number(alloc, sign, number_of(right)?).map_err(of_meaning);
+        return Ok(signed_number(alloc, sign, number_of(right)?)?);
     }
     let left = meaning(alloc, left)?;
     if word == "IS" {
-        return tested(alloc, right == "NOT-NULL", left).map_err(of_meaning);
+        return Ok(tested(alloc, right == "NOT-NULL", left)?);
     }
     let operator = operator_named(word)?;
-    combined(alloc, operator, left, meaning(alloc, right)?).map_err(of_meaning)
+    Ok(combined(alloc, operator, left, meaning(alloc, right)?)?)
 }
 
 /// `CASE when gives otherwise`
@@ -106,7 +106,7 @@ fn arms(alloc: Global, when: Meaning, gives: &str) -> Result<Vec<CaseArm>, Failu
 
 fn case_over(alloc: Global, arms: Vec<CaseArm>, otherwise: &str) -> Result<Meaning, Failure> {
     let otherwise = meaning(alloc, otherwise)?;
-    case_of(alloc, arms, otherwise).map_err(of_meaning)
+    Ok(case_of(alloc, arms, otherwise)?)
 }
 
 fn meant(alloc: Global, text: &str) -> Result<Meaning, Failure> {
@@ -125,8 +125,8 @@ fn expression_of(alloc: Global, text: &str) -> Result<Expr, Failure> {
     match text.split_once(" of_kind ") {
         Some((operand, kind)) => {
             let operand = meant(alloc, operand)?;
-            let expression = operand.of_kind(alloc, kind_named(kind)?);
-            Ok(Box::into_inner(expression.map_err(of_meaning)?))
+            let expression = operand.of_kind(alloc, kind_named(kind)?)?;
+            Ok(Box::into_inner(expression))
         }
         None => Ok(meant(alloc, text)?.settled()),
     }
@@ -134,7 +134,7 @@ fn expression_of(alloc: Global, text: &str) -> Result<Expr, Failure> {
 
 /// `number N`: the number where it fits 64 bits with a sign.
 pub fn number(alloc: Global, text: &str) -> Result<String, Failure> {
-    let number = wd_operand::number(number_of(text)?).map_err(of_meaning)?;
+    let number = wd_operand::number(number_of(text)?)?;
     written(alloc, &number)
 }
 

@@ -1,6 +1,5 @@
 //! Whole queries over the schema's tables.
 use crate::given::Given;
-use crate::refusal::of_meaning;
 use crate::tree::written;
 use std::alloc::{AllocError, Global};
 use wd_cases::Failure;
@@ -24,8 +23,8 @@ const SHORT: &[(&str, &str)] = &[
 ];
 
 fn resolved(alloc: Global, given: &Given, query: &Query) -> Result<Resolved, Failure> {
-    let schema = given.tables(alloc)?;
-    resolve(alloc, &schema, query).map_err(of_meaning)
+    let schema = given.schema.tables(alloc)?;
+    Ok(resolve(alloc, &schema, query)?)
 }
 
 /// The text with `by` in place of each `part`.
@@ -68,10 +67,8 @@ pub fn plan(alloc: Global, given: &Given, query: &Query) -> Result<String, Failu
 
 /// `refusal QUERY`: why it has no plan, or that it has one.
 pub fn refusal(alloc: Global, given: &Given, query: &Query) -> Result<String, Failure> {
-    match resolved(alloc, given, query) {
-        Ok(_) => Ok(String::from_str(alloc, "a plan")?),
-        Err(failure) => Err(failure),
-    }
+    resolved(alloc, given, query)?;
+    Ok(String::from_str(alloc, "a plan")?)
 }
 
 /// `orderings QUERY`: how many orderings a choice for its plan has.

@@ -1,43 +1,12 @@
-//! Refusals by their numbers and places, and the laws of the crates.
+//! Want of memory, and the laws of the crates.
 use std::alloc::Global;
 use wd_cases::Failure;
-use wd_lex::LexError;
 use wd_operand::ResolveError;
-use wd_parse::ParseError;
-use wd_schema::SchemaError;
-
-pub fn of_tokens(error: LexError) -> Failure {
-    Failure::Refused {
-        number: error.number(),
-        place: error.place(),
-    }
-}
-
-pub fn of_tree(error: ParseError) -> Failure {
-    Failure::Refused {
-        number: error.number(),
-        place: error.place(),
-    }
-}
-
-pub fn of_schema(error: SchemaError) -> Failure {
-    Failure::Refused {
-        number: error.number(),
-        place: error.place(),
-    }
-}
-
-pub fn of_meaning(error: ResolveError) -> Failure {
-    Failure::Refused {
-        number: error.number(),
-        place: error.place(),
-    }
-}
 
 /// `memory resolve`: the number and the place of want of memory.
 pub fn want_of_memory(call: &str) -> Result<String, Failure> {
     match call {
-        "resolve" => Err(of_meaning(ResolveError::OutOfMemory)),
+        "resolve" => Err(Failure::from(ResolveError::OutOfMemory)),
         _ => Err(Failure::NoCase),
     }
 }

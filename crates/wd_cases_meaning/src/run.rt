@@ -1,5 +1,5 @@
 //! Queries over data.
-use crate::given::{Given, NamedData};
+use crate::given::Given;
 use std::alloc::Global;
 use wd_cases::{Failure, in_one_line, unescaped};
 use wd_plan::Outcome;
@@ -21,26 +21,13 @@ fn fault_name(fault: Fault) -> &'static str {
 }
 
 fn refused(alloc: Global, error: &RunError) -> Result<String, Failure> {
-    let failure = Failure::Refused {
-        number: error.number(),
-        place: error.place(),
-    };
-    let shown = failure.shown(alloc)?;
+    let shown = Failure::refused(error.number(), error.place()).shown(alloc)?;
     Ok(match error.origin() {
         Origin::Schema => format!(in alloc; "schema {shown}")?,
         Origin::Query => format!(in alloc; "query {shown}")?,
         Origin::Data(name) => format!(in alloc; "data {name} {shown}")?,
         Origin::Run => format!(in alloc; "run {shown}")?,
     })
-}
-
-/// The data, as names and texts.
-fn pairs(alloc: Global, data: &[NamedData]) -> Result<Vec<(&str, &[u8])>, Failure> {
-    let mut pairs = Vec::new(alloc);
-    for NamedData { name, text } in data {
-        pairs.push((name.as_str(), text.as_slice()))?;
-    }
-    Ok(pairs)
 }
 
 /// `run QUERY`: its answer over the schema and the data, its fault or its refusal.
@@ -50,8 +37,8 @@ pub fn ran(alloc: Global, given: &Given, text: &str) -> Result<String, Failure> 
 }
 
 fn ran_over(alloc: Global, given: &Given, query: &[u8]) -> Result<String, Failure> {
-    let data = pairs(alloc, &given.data)?;
-    match wd_run::run(alloc, &given.schema, query, &data) {
+    let data = given.data.pairs(alloc)?;
+    match wd_run::run(alloc, &given.schema.bytes, query, &data) {
         Ok((names, outcome)) => outcome_shown(alloc, &names, &outcome),
         Err(error) => refused(alloc, &error),
     }

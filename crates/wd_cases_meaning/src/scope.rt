@@ -1,6 +1,5 @@
 //! What expressions, windows and sort keys mean over the columns of the schema's tables.
 use crate::given::Given;
-use crate::refusal::of_meaning;
 use crate::tree::{first_expression, written};
 use std::alloc::Global;
 use wd_cases::Failure;
@@ -69,7 +68,7 @@ fn scope_over(alloc: Global, schema: &Schema) -> Result<Scope, Failure> {
 
 /// The tables of the schema in their order, as in FROM.
 pub fn scope_of(alloc: Global, given: &Given) -> Result<Scope, Failure> {
-    let schema = given.tables(alloc)?;
+    let schema = given.schema.tables(alloc)?;
     scope_over(alloc, &schema)
 }
 
@@ -85,27 +84,19 @@ fn is_table(alloc: Global, scope: &Scope, text: &str) -> Result<String, Failure>
 }
 
 fn meaning_shown(alloc: Global, meaning: Result<Meaning, ResolveError>) -> Result<String, Failure> {
-    match meaning {
-        Ok(meaning) => written(alloc, &meaning),
-        Err(error) => Err(of_meaning(error)),
-    }
+    written(alloc, &meaning?)
 }
 
 /// `plain EXPRESSION`: what it means where no window call may stand.
 pub fn plain(alloc: Global, scope: &Scope, select: &Select) -> Result<String, Failure> {
-    match first_expression(select) {
-        Some(tree) => meaning_shown(alloc, wd_scope::plain(alloc, scope, tree)),
-        None => Err(Failure::NoCase),
-    }
+    let tree = first_expression(select).ok_or(Failure::NoCase)?;
+    meaning_shown(alloc, wd_scope::plain(alloc, scope, tree))
 }
 
 /// `condition EXPRESSION`
 pub fn condition(alloc: Global, scope: &Scope, select: &Select) -> Result<String, Failure> {
     let tree = first_expression(select).ok_or(Failure::NoCase)?;
-    match wd_scope::condition(alloc, scope, tree) {
-        Ok(condition) => written(alloc, &condition),
-        Err(error) => Err(of_meaning(error)),
-    }
+    written(alloc, &wd_scope::condition(alloc, scope, tree)?)
 }
 
 /// `written_number EXPRESSION`
@@ -141,10 +132,8 @@ pub fn resolved(
 
 /// `windows WINDOW, ..`: the windows of a WINDOW clause.
 pub fn windows(alloc: Global, scope: &Scope, select: &Select) -> Result<String, Failure> {
-    match all_defined(alloc, scope, &select.windows) {
-        Ok(windows) => windows_shown(alloc, &windows),
-        Err(error) => Err(of_meaning(error)),
-    }
+    let windows = all_defined(alloc, scope, &select.windows)?;
+    windows_shown(alloc, &windows)
 }
 
 fn windows_shown(alloc: Global, windows: &[KnownWindow]) -> Result<String, Failure> {
@@ -155,10 +144,11 @@ fn windows_shown(alloc: Global, windows: &[KnownWindow]) -> Result<String, Failu
     Ok(out)
 }
 
-/// A window's name, whether it has a frame, and its sort keys, which are those of what is shared of it.
+/// A window's name, whether it has a frame, and its sort keys, which are those of what is shared of
+/// it.
 fn push_window(out: &mut String, known: &KnownWindow) -> Result<(), Failure> {
     let name = known.name.as_str();
-    let shared = known.window.share().map_err(of_meaning)?;
+    let shared = known.window.share()?;
     let framed = if known.window.framed { ", framed" } else { "" };
     let (keys, again) = (known.window.order.len(), shared.order.len());
     write!(out, "{name}{framed}, keys: {keys}, shared: {again}; ")?;

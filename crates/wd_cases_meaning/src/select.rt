@@ -1,6 +1,5 @@
 //! The parts of a select, over the columns of the schema's tables.
 use crate::given::Given;
-use crate::refusal::of_meaning;
 use crate::tree::written;
 use std::alloc::{AllocError, Global};
 use wd_cases::Failure;
@@ -32,7 +31,7 @@ fn listed(
         windows: &[],
         calls_allowed: true,
     };
-    item_meant(alloc, &context, item, calls).map_err(of_meaning)
+    Ok(item_meant(alloc, &context, item, calls)?)
 }
 
 fn push_outputs(out: &mut String, outputs: &[Output]) -> Result<(), AllocError> {
@@ -78,7 +77,8 @@ fn outputs_of(
     Ok(outputs)
 }
 
-/// `needed ITEMS`: the expressions that a select list needs, behind those that were needed before it.
+/// `needed ITEMS`: the expressions that a select list needs, behind those that were needed before
+/// it.
 pub fn needed(
     alloc: Global,
     scope: &Scope,
@@ -101,7 +101,7 @@ fn add_needed(
 
 /// `is_wide N`: whether so many outputs without a call are too many.
 pub fn is_wide(alloc: Global, text: &str) -> Result<String, Failure> {
-    let count = text.parse().ok().ok_or(Failure::NoCase)?;
+    let count = text.parse::<usize>()?;
     written(alloc, &wd_select::is_wide(count, &[], &Calls::new(alloc)))
 }
 
@@ -124,7 +124,7 @@ fn keys_over(
         outputs,
         calls,
     };
-    keys_sorted(alloc, &shown, &select.order, inputs).map_err(of_meaning)
+    Ok(keys_sorted(alloc, &shown, &select.order, inputs)?)
 }
 
 /// The outputs of a query, its calls and its sort keys.
@@ -160,7 +160,8 @@ fn parts_with(
     }
 }
 
-/// `sorted QUERY`: its sort keys, the hidden columns behind its outputs, and the expressions that it needs.
+/// `sorted QUERY`: its sort keys, the hidden columns behind its outputs, and the expressions that
+/// it needs.
 pub fn sorted(alloc: Global, scope: &Scope, select: &Select) -> Result<String, Failure> {
     let parts = parts_of(alloc, scope, select)?;
     keys_shown(alloc, &parts.sorted)
@@ -229,7 +230,7 @@ pub fn mapped(alloc: Global, scope: &Scope, select: &Select) -> Result<String, F
 }
 
 fn cut_of(select: &Select) -> Result<Option<Cut>, Failure> {
-    cut_meant(!select.order.is_empty(), select.limits).map_err(of_meaning)
+    Ok(cut_meant(!select.order.is_empty(), select.limits)?)
 }
 
 /// `cut WORDS`: what the limits mean that stand behind a query's FROM, perhaps behind ORDER BY.
@@ -240,12 +241,13 @@ pub fn cut(alloc: Global, select: &Select) -> Result<String, Failure> {
 
 /// The rows that WHERE keeps, each once where the query says so.
 fn kept(alloc: Global, scope: &Scope, select: &Select) -> Result<Plan, Failure> {
-    let plan = filtered(alloc, scope, &select.filter, scan(scope)).map_err(of_meaning)?;
+    let plan = filtered(alloc, scope, &select.filter, scan(scope))?;
     let distinct = select.quantifier == Some(Quantifier::Distinct);
     Ok(deduplicated(alloc, distinct, plan)?)
 }
 
-/// `steps QUERY`: WHERE, DISTINCT and the limits of a query over the first table, and of what is left the first column.
+/// `steps QUERY`: WHERE, DISTINCT and the limits of a query over the first table, and of what is
+/// left the first column.
 pub fn steps(alloc: Global, scope: &Scope, select: &Select) -> Result<String, Failure> {
     let cut = cut_of(select)?;
     let kept = kept(alloc, scope, select)?;

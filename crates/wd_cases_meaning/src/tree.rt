@@ -1,9 +1,7 @@
 //! Trees of queries, and how values are shown.
-use crate::refusal::{of_tokens, of_tree};
 use std::alloc::Global;
 use std::fmt::Debug;
-use wd_cases::{Failure, unescaped};
-use wd_lex::{Token, lex};
+use wd_cases::{Failure, tokens_of};
 use wd_parse::parse;
 use wd_syntax::{Expr, Item, Query, Select};
 
@@ -23,14 +21,9 @@ fn query_text(alloc: Global, word: &str, text: &str) -> Result<String, Failure> 
     })
 }
 
-fn tokens_of(alloc: Global, text: &str) -> Result<Vec<Token>, Failure> {
-    let text = unescaped(alloc, text)?;
-    lex(alloc, &text).map_err(of_tokens)
-}
-
 fn query_of(alloc: Global, text: &str) -> Result<Query, Failure> {
     let tokens = tokens_of(alloc, text)?;
-    parse(alloc, &tokens).map_err(of_tree)
+    Ok(parse(alloc, &tokens)?)
 }
 
 /// The tree of the query that a case is about.

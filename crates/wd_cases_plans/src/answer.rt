@@ -1,45 +1,48 @@
 //! From a line to what is printed behind it.
 
-use crate::refusal::Refusal;
 use crate::shown::push;
-use crate::state::State;
-use crate::words::{Line, line_of, push_repeated};
 use crate::{calls, plans, sorts, steps, values};
 use std::alloc::Global;
+use wd_cases::{Cases, Failure, text_of};
+use wd_cases_notation::{Line, State};
 use wd_eval::laws::{has_one_tied_outcome, has_tied_choice};
 use wd_frame::laws::places_are_frames;
 use wd_plan::laws::agreeing_is_an_equivalence;
 use wd_value::laws::compare_is_a_total_order;
 
-/// Writes what a line gives in place of what stood there.
-pub fn write_answer(alloc: Global, state: &mut State, line: &str, out: &mut String) {
-    out.clear();
-    if let Err(refusal) = answer_text(alloc, state, line, out) {
-        out.clear();
-        let _ = out.push_str(match refusal {
-            Refusal::NoSuchCase => "no such case",
-            Refusal::OutOfMemory => "out of memory",
-        });
+/// The cases, over what earlier lines have set.
+#[derive(Drop)]
+pub struct PlanCases {
+    state: State,
+}
+
+impl PlanCases {
+    /// Nothing is set yet.
+    pub fn new(alloc: Global) -> PlanCases {
+        PlanCases {
+            state: State::new(alloc),
+        }
+    }
+
+    fn answer_line(&mut self, alloc: Global, line: Line) -> Result<String, Failure> {
+        let mut out = String::new(alloc);
+        answer(alloc, &mut self.state, line, &mut out)?;
+        Ok(out)
     }
 }
 
-fn answer_text(
-    alloc: Global,
-    state: &mut State,
-    line: &str,
-    out: &mut String,
-) -> Result<(), Refusal> {
-    let mut text = String::new(alloc);
-    push_repeated(&mut text, line)?;
-    answer(alloc, state, line_of(text.as_str()), out)
+impl Cases for PlanCases {
+    fn answer(&mut self, alloc: Global, word: &str, text: &str) -> Result<String, Failure> {
+        let text = text_of(alloc, text)?;
+        self.answer_line(alloc, Line::of(word, text.as_str()))
+    }
 }
 
-fn answer(alloc: Global, state: &mut State, line: Line, out: &mut String) -> Result<(), Refusal> {
-    match line.name {
-        "schema" | "rows" | "right" | "plan" | "part" => {
-            state.set(alloc, line)?;
-            push(out, "set")
-        }
+fn answer(alloc: Global, state: &mut State, line: Line, out: &mut String) -> Result<(), Failure> {
+    if state.set(alloc, line)? {
+        return push(out, "set");
+    }
+    match line.word.name {
         "copies" | "compare" | "same_bag" | "copy_row" | "text" => values::answer(alloc, line, out),
         _ => {
             state.read(alloc, line)?;
@@ -49,33 +52,38 @@ fn answer(alloc: Global, state: &mut State, line: Line, out: &mut String) -> Res
 }
 
 /// What is asked of the words and lists that were read.
-fn asked(alloc: Global, state: &State, line: Line, out: &mut String) -> Result<(), Refusal> {
-    match line.name {
+fn asked(alloc: Global, state: &State, line: Line, out: &mut String) -> Result<(), Failure> {
+    match line.word.name {
         "sorted_positions" | "sorted_from" | "is_sorted" | "compare_rows_at" => {
-            sorts::answer(alloc, state, line.name, out)
+            sorts::answer(alloc, state, line.word.name, out)
         }
         "sorted_ordering" | "is_ordering" | "partitions" => {
             sorts::class_answer(alloc, state, line, out)
         }
         "members" => calls::frame_members(alloc, state, line, out),
-        "call_value" | "call_values" | "is_running" => calls::answer(alloc, state, line.name, out),
+        "call_value" | "call_values" | "is_running" => calls::answer(
+            alloc,
+            state,
+            line.word.name,
+            out,
+        ),
         "map_rows" | "join_rows" | "distinct_rows" | "cut_rows" => {
             steps::answer(alloc, state, line, out)
         }
-        "with_fault" => steps::faults(line.arguments, out),
-        "evaluate_window" => plans::window(alloc, state, line.arguments, out),
-        "fits" | "orderings" => plans::plan_answer(state, line.name, out),
+        "with_fault" => steps::faults(line.word, out),
+        "evaluate_window" => plans::window(alloc, state, line.word, out),
+        "fits" | "orderings" => plans::plan_answer(state, line.word.name, out),
         "eval_with" | "run_plan" | "first_choice" | "tied_choice" => {
             plans::answer(alloc, state, line, out)
         }
         "refusals" => plans::refusals(out),
         "laws" => laws(out),
-        _ => steps::expression_answer(alloc, state, line.name, out),
+        _ => steps::expression_answer(alloc, state, line.word.name, out),
     }
 }
 
 /// Calls the laws, which give nothing.
-fn laws(out: &mut String) -> Result<(), Refusal> {
+fn laws(out: &mut String) -> Result<(), Failure> {
     compare_is_a_total_order();
     places_are_frames();
     agreeing_is_an_equivalence();

@@ -1,11 +1,10 @@
 //! Frames, and window calls over the part that a line has set.
 
-use crate::refusal::{Refusal, read};
 use crate::shown::{push, push_between, push_truth, push_value_or_fault};
-use crate::state::State;
-use crate::words::{Line, number_at};
 use std::alloc::Global;
 use wd_calls::{Partition, call_value, call_values, is_running};
+use wd_cases::Failure;
+use wd_cases_notation::{Line, State};
 use wd_frame::{Part, members};
 use wd_plan::Call;
 use wd_value::{Fault, Value};
@@ -16,16 +15,16 @@ pub fn frame_members(
     state: &State,
     line: Line,
     out: &mut String,
-) -> Result<(), Refusal> {
-    let place = read(number_at(line.arguments, 0))? as usize;
+) -> Result<(), Failure> {
+    let place = line.word.number(0).ok_or(Failure::NoCase)? as usize;
     let places = members(alloc, &state.part(), &state.stacks.frame, place)?;
     write!(out, "{places:?}")?;
     Ok(())
 }
 
 /// `call_value FRAME CALL : POSITIONS`, `call_values ..` and `is_running FRAME CALL`
-pub fn answer(alloc: Global, state: &State, name: &str, out: &mut String) -> Result<(), Refusal> {
-    let call = read(state.stacks.calls.first())?;
+pub fn answer(alloc: Global, state: &State, name: &str, out: &mut String) -> Result<(), Failure> {
+    let call = state.stacks.calls.first().ok_or(Failure::NoCase)?;
     let partition = Partition {
         rows: state.rows(),
         positions: state.ordering(),
@@ -44,12 +43,12 @@ fn push_all(
     partition: &Partition,
     part: &Part,
     out: &mut String,
-) -> Result<(), Refusal> {
+) -> Result<(), Failure> {
     let values = call_values(alloc, call, partition, part)?;
     push_values(out, &values)
 }
 
-fn push_values(out: &mut String, values: &[Result<Value, Fault>]) -> Result<(), Refusal> {
+fn push_values(out: &mut String, values: &[Result<Value, Fault>]) -> Result<(), Failure> {
     for (i, value) in values.iter().enumerate() {
         push_between(out, i, ",")?;
         push_value_or_fault(out, value)?;
@@ -64,7 +63,7 @@ fn push_each(
     partition: &Partition,
     part: &Part,
     out: &mut String,
-) -> Result<(), Refusal> {
+) -> Result<(), Failure> {
     for place in 0..partition.positions.len() {
         push_between(out, place, ",")?;
         push_at(alloc, call, partition, part, place, out)?;
@@ -79,7 +78,7 @@ fn push_at(
     part: &Part,
     place: usize,
     out: &mut String,
-) -> Result<(), Refusal> {
+) -> Result<(), Failure> {
     let value = call_value(alloc, call, partition, part, place)?;
     push_value_or_fault(out, &value)
 }

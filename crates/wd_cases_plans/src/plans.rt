@@ -7,12 +7,11 @@ ghost use Rattle.wd_plan.specs.Plans.{plan_of};
 ghost use Rattle.wd_schema.specs.Schemas.{schema_of};
 ghost use Rattle.wd_window.specs.Windows.{AreFew, EachNames};
 
-use crate::refusal::{Refusal, read};
 use crate::shown::{push, push_between, push_number, push_outcome, push_refusal, push_truth};
-use crate::state::State;
 use crate::steps::{copied, fault_of};
-use crate::words::{Line, argument, number_at};
 use std::alloc::Global;
+use wd_cases::Failure;
+use wd_cases_notation::{Line, State, Word};
 use wd_eval::{EvalError, check_choice, eval_with, first_choice, run_plan, tied_choice};
 use wd_plan::{Call, Choice, Outcome, Plan};
 use wd_schema::Schema;
@@ -21,31 +20,25 @@ use wd_window::{WindowError, evaluate_window};
 
 /// `evaluate_window(FIRST) CLASSES CALLS : ORDERINGS`: the rows with the calls' values, under the
 /// orderings from that number on; over a fault with `evaluate_window(FIRST,FAULT)`.
-pub fn window(
-    alloc: Global,
-    state: &State,
-    arguments: &str,
-    out: &mut String,
-) -> Result<(), Refusal> {
-    let first = read(number_at(arguments, 0))? as usize;
-    let input = input_of(alloc, state.rows(), argument(arguments, 1))?;
+pub fn window(alloc: Global, state: &State, word: Word, out: &mut String) -> Result<(), Failure> {
+    let first = word.number(0).ok_or(Failure::NoCase)? as usize;
+    let input = input_of(alloc, state.rows(), word.argument(1))?;
     match evaluated(alloc, state, input, first) {
         Ok(outcome) => push_outcome(out, &outcome),
         Err(WindowError::NotValid(place)) => push_not_valid(out, place),
-        Err(WindowError::OutOfMemory) => Err(Refusal::OutOfMemory),
+        Err(WindowError::OutOfMemory) => Err(Failure::OUT_OF_MEMORY),
     }
 }
 
-fn input_of(alloc: Global, rows: &[Row], fault: Option<&str>) -> Result<Outcome, Refusal> {
+fn input_of(alloc: Global, rows: &[Row], fault: Option<&str>) -> Result<Outcome, Failure> {
     match fault {
         None => Ok(Outcome::Rows(copied(alloc, rows)?)),
-        _ => Ok(Outcome::Fault(read(fault_of(fault))?)),
+        _ => Ok(Outcome::Fault(fault_of(fault).ok_or(Failure::NoCase)?)),
     }
 }
 
-fn push_not_valid(out: &mut String, place: u64) -> Result<(), Refusal> {
-    write!(out, "not valid at {place}")?;
-    Ok(())
+fn push_not_valid(out: &mut String, place: u64) -> Result<(), Failure> {
+    Ok(write!(out, "not valid at {place}")?)
 }
 
 /// What the Window gives; want of memory where it can't be asked.
@@ -85,22 +78,22 @@ fn is_few(input: &Outcome) -> bool
 }
 
 /// `fits PLAN` and `orderings PLAN`
-pub fn plan_answer(state: &State, name: &str, out: &mut String) -> Result<(), Refusal> {
-    let plan = read(state.stacks.plans.first())?;
+pub fn plan_answer(state: &State, name: &str, out: &mut String) -> Result<(), Failure> {
+    let plan = state.stacks.plans.first().ok_or(Failure::NoCase)?;
     match (name, &state.schema) {
         ("fits", Some(schema)) => push_truth(out, plan.fits(schema)),
         ("orderings", _) => push_number(out, i64::from(plan.orderings())),
-        _ => Err(Refusal::NoSuchCase),
+        _ => Err(Failure::NoCase),
     }
 }
 
 /// What is asked of the plan that is set, where it fits the schema.
-pub fn answer(alloc: Global, state: &State, line: Line, out: &mut String) -> Result<(), Refusal> {
+pub fn answer(alloc: Global, state: &State, line: Line, out: &mut String) -> Result<(), Failure> {
     match (&state.plan, &state.schema) {
         (Some(plan), Some(schema)) if plan.fits(schema) => {
             push_of(alloc, plan, schema, state, line, out)
         }
-        _ => Err(Refusal::NoSuchCase),
+        _ => Err(Failure::NoCase),
     }
 }
 
@@ -111,15 +104,15 @@ fn push_of(
     state: &State,
     line: Line,
     out: &mut String,
-) -> Result<(), Refusal>
+) -> Result<(), Failure>
     requires { spec.fits (schema_of schema.now) (plan_of plan.now) ≡ true }
 {
     let instance = &state.instance;
-    match line.name {
+    match line.word.name {
         "eval_with" => push_evaluated(alloc, plan, schema, state, out),
         "run_plan" => push_given(out, run_plan(alloc, plan, schema, instance)),
         "first_choice" => push_choice(out, first_choice(alloc, plan, schema, instance)),
-        _ => push_tied(alloc, plan, schema, instance, line.arguments, out),
+        _ => push_tied(alloc, plan, schema, instance, line.word.arguments, out),
     }
 }
 
@@ -130,7 +123,7 @@ fn push_evaluated(
     schema: &Schema,
     state: &State,
     out: &mut String,
-) -> Result<(), Refusal>
+) -> Result<(), Failure>
     requires { spec.fits (schema_of schema.now) (plan_of plan.now) ≡ true }
 {
     let (instance, choice) = (&state.instance, &state.choice);
@@ -138,7 +131,7 @@ fn push_evaluated(
     push_given(out, eval_with(alloc, plan, schema, instance, choice))
 }
 
-fn push_checked(out: &mut String, checked: Result<(), EvalError>) -> Result<(), Refusal> {
+fn push_checked(out: &mut String, checked: Result<(), EvalError>) -> Result<(), Failure> {
     match checked {
         Ok(()) => push(out, "valid | "),
         Err(error) => {
@@ -148,7 +141,7 @@ fn push_checked(out: &mut String, checked: Result<(), EvalError>) -> Result<(), 
     }
 }
 
-fn push_given(out: &mut String, given: Result<Outcome, EvalError>) -> Result<(), Refusal> {
+fn push_given(out: &mut String, given: Result<Outcome, EvalError>) -> Result<(), Failure> {
     match given {
         Ok(outcome) => push_outcome(out, &outcome),
         Err(error) => push_refusal(out, &error),
@@ -163,26 +156,25 @@ fn push_tied(
     instance: &Instance,
     arguments: &str,
     out: &mut String,
-) -> Result<(), Refusal>
+) -> Result<(), Failure>
     requires { spec.fits (schema_of schema.now) (plan_of plan.now) ≡ true }
 {
-    let flipped = read(arguments.parse::<u32>().ok())?;
+    let flipped = arguments.parse::<u32>()?;
     push_choice(
         out,
         tied_choice(alloc, plan, schema, instance, Some(flipped)),
     )
 }
 
-fn push_choice(out: &mut String, choice: Result<Choice, EvalError>) -> Result<(), Refusal> {
+fn push_choice(out: &mut String, choice: Result<Choice, EvalError>) -> Result<(), Failure> {
     match choice {
         Ok(Choice { orderings }) => push_orderings(out, &orderings),
         Err(error) => push_refusal(out, &error),
     }
 }
 
-fn push_orderings(out: &mut String, orderings: &[Vec<u64>]) -> Result<(), Refusal> {
-    write!(out, "{orderings:?}")?;
-    Ok(())
+fn push_orderings(out: &mut String, orderings: &[Vec<u64>]) -> Result<(), Failure> {
+    Ok(write!(out, "{orderings:?}")?)
 }
 
 const REFUSALS: [EvalError; 3] = [
@@ -192,7 +184,7 @@ const REFUSALS: [EvalError; 3] = [
 ];
 
 /// `refusals`: each refusal of a plan, with its number and the place of the wrong ordering.
-pub fn refusals(out: &mut String) -> Result<(), Refusal> {
+pub fn refusals(out: &mut String) -> Result<(), Failure> {
     for (i, refusal) in REFUSALS.iter().enumerate() {
         push_between(out, i, "; ")?;
         push_refusal(out, refusal)?;

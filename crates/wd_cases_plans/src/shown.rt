@@ -1,17 +1,16 @@
 //! How answers are written.
 
-use crate::refusal::Refusal;
 use std::cmp::Ordering;
+use wd_cases::Failure;
 use wd_eval::EvalError;
 use wd_plan::Outcome;
 use wd_value::{Fault, Row, Value};
 
-pub fn push(out: &mut String, text: &str) -> Result<(), Refusal> {
-    out.push_str(text)?;
-    Ok(())
+pub fn push(out: &mut String, text: &str) -> Result<(), Failure> {
+    Ok(out.push_str(text)?)
 }
 
-pub fn push_value(out: &mut String, value: &Value) -> Result<(), Refusal> {
+pub fn push_value(out: &mut String, value: &Value) -> Result<(), Failure> {
     match value {
         Value::Null => push(out, "null"),
         Value::Int(n) => push_number(out, *n),
@@ -20,32 +19,29 @@ pub fn push_value(out: &mut String, value: &Value) -> Result<(), Refusal> {
     }
 }
 
-pub fn push_number(out: &mut String, n: i64) -> Result<(), Refusal> {
-    write!(out, "{n}")?;
-    Ok(())
+pub fn push_number(out: &mut String, n: i64) -> Result<(), Failure> {
+    Ok(write!(out, "{n}")?)
 }
 
-pub fn push_numbers(out: &mut String, numbers: &[u64]) -> Result<(), Refusal> {
-    write!(out, "{numbers:?}")?;
-    Ok(())
+pub fn push_numbers(out: &mut String, numbers: &[u64]) -> Result<(), Failure> {
+    Ok(write!(out, "{numbers:?}")?)
 }
 
-fn push_text(out: &mut String, text: &str) -> Result<(), Refusal> {
-    write!(out, "'{text}'")?;
-    Ok(())
+fn push_text(out: &mut String, text: &str) -> Result<(), Failure> {
+    Ok(write!(out, "'{text}'")?)
 }
 
-pub fn push_truth(out: &mut String, truth: bool) -> Result<(), Refusal> {
+pub fn push_truth(out: &mut String, truth: bool) -> Result<(), Failure> {
     push(out, if truth { "true" } else { "false" })
 }
 
 /// What parts the element at a place from the one before.
-pub fn push_between(out: &mut String, place: usize, mark: &str) -> Result<(), Refusal> {
+pub fn push_between(out: &mut String, place: usize, mark: &str) -> Result<(), Failure> {
     push(out, if place == 0 { "" } else { mark })
 }
 
 /// Values with `,` between them.
-pub fn push_row(out: &mut String, row: &[Value]) -> Result<(), Refusal> {
+pub fn push_row(out: &mut String, row: &[Value]) -> Result<(), Failure> {
     for (i, value) in row.iter().enumerate() {
         push_between(out, i, ",")?;
         push_value(out, value)?;
@@ -54,7 +50,7 @@ pub fn push_row(out: &mut String, row: &[Value]) -> Result<(), Refusal> {
 }
 
 /// Rows with `;` between them, or `-` for none.
-pub fn push_rows(out: &mut String, rows: &[Row]) -> Result<(), Refusal> {
+pub fn push_rows(out: &mut String, rows: &[Row]) -> Result<(), Failure> {
     for (i, row) in rows.iter().enumerate() {
         push_between(out, i, "; ")?;
         push_row(out, row)?;
@@ -62,7 +58,7 @@ pub fn push_rows(out: &mut String, rows: &[Row]) -> Result<(), Refusal> {
     push(out, if rows.is_empty() { "-" } else { "" })
 }
 
-pub fn push_fault(out: &mut String, fault: Fault) -> Result<(), Refusal> {
+pub fn push_fault(out: &mut String, fault: Fault) -> Result<(), Failure> {
     push(
         out,
         match fault {
@@ -72,21 +68,21 @@ pub fn push_fault(out: &mut String, fault: Fault) -> Result<(), Refusal> {
     )
 }
 
-pub fn push_value_or_fault(out: &mut String, value: &Result<Value, Fault>) -> Result<(), Refusal> {
+pub fn push_value_or_fault(out: &mut String, value: &Result<Value, Fault>) -> Result<(), Failure> {
     match value {
         Ok(value) => push_value(out, value),
         Err(fault) => push_fault(out, *fault),
     }
 }
 
-pub fn push_outcome(out: &mut String, outcome: &Outcome) -> Result<(), Refusal> {
+pub fn push_outcome(out: &mut String, outcome: &Outcome) -> Result<(), Failure> {
     match outcome {
         Outcome::Rows(rows) => push_rows(out, rows),
         Outcome::Fault(fault) => push_fault(out, *fault),
     }
 }
 
-pub fn push_comparison(out: &mut String, ordering: Ordering) -> Result<(), Refusal> {
+pub fn push_comparison(out: &mut String, ordering: Ordering) -> Result<(), Failure> {
     push(
         out,
         match ordering {
@@ -98,8 +94,7 @@ pub fn push_comparison(out: &mut String, ordering: Ordering) -> Result<(), Refus
 }
 
 /// The number of a refusal and its place, where it has them.
-pub fn push_refusal(out: &mut String, refusal: &EvalError) -> Result<(), Refusal> {
+pub fn push_refusal(out: &mut String, refusal: &EvalError) -> Result<(), Failure> {
     let (number, place) = (refusal.number(), refusal.place());
-    write!(out, "refused {number:?} {place:?}")?;
-    Ok(())
+    Ok(write!(out, "refused {number:?} {place:?}")?)
 }

@@ -1,18 +1,17 @@
 //! Sorts of the rows, and orderings under classes.
 
-use crate::refusal::{Refusal, read};
 use crate::shown::{push, push_comparison, push_numbers, push_row, push_truth};
-use crate::state::State;
-use crate::words::{Line, argument, number_at};
 use std::alloc::{AllocError, Global};
+use wd_cases::Failure;
+use wd_cases_notation::{Line, State, Word};
 use wd_partition::{Member, Partitions, is_ordering, partitions, sorted_ordering};
 use wd_plan::{Class, OrderItem};
 use wd_sort::{SortColumn, compare_rows_at, is_sorted, sorted_from, sorted_positions};
 use wd_value::Row;
 
-/// `sorted_positions COLUMNS`, `sorted_from COLUMNS : POSITIONS`, `is_sorted COLUMNS : POSITIONS`, and
-/// `compare_rows_at COLUMNS : 0 3`, how the first of these rows stands beside the last.
-pub fn answer(alloc: Global, state: &State, name: &str, out: &mut String) -> Result<(), Refusal> {
+/// `sorted_positions COLUMNS`, `sorted_from COLUMNS : POSITIONS`, `is_sorted COLUMNS : POSITIONS`,
+/// and `compare_rows_at COLUMNS : 0 3`, how the first of these rows stands beside the last.
+pub fn answer(alloc: Global, state: &State, name: &str, out: &mut String) -> Result<(), Failure> {
     let columns = columns_of(alloc, &state.stacks.items)?;
     let (rows, given) = (state.rows(), state.ordering());
     match name {
@@ -39,7 +38,7 @@ fn push_compared(
     columns: &[SortColumn],
     given: &[u64],
     out: &mut String,
-) -> Result<(), Refusal> {
+) -> Result<(), Failure> {
     let first = given.first().copied().unwrap_or(0);
     let last = given.last().copied().unwrap_or(0);
     push_comparison(out, compare_rows_at(rows, columns, first, last))
@@ -51,12 +50,12 @@ pub fn class_answer(
     state: &State,
     line: Line,
     out: &mut String,
-) -> Result<(), Refusal> {
-    let class = read(state.stacks.classes.first())?;
-    match line.name {
-        "sorted_ordering" => push_ordering(alloc, state.rows(), class, line.arguments, out),
+) -> Result<(), Failure> {
+    let class = state.stacks.classes.first().ok_or(Failure::NoCase)?;
+    match line.word.name {
+        "sorted_ordering" => push_ordering(alloc, state.rows(), class, line.word.arguments, out),
         "is_ordering" => push_is_ordering(alloc, state, class, out),
-        _ => push_partition(alloc, state, class, line.arguments, out),
+        _ => push_partition(alloc, state, class, line.word, out),
     }
 }
 
@@ -67,7 +66,7 @@ fn push_ordering(
     class: &Class,
     arguments: &str,
     out: &mut String,
-) -> Result<(), Refusal> {
+) -> Result<(), Failure> {
     let flipped = arguments == "flipped";
     let ordering = sorted_ordering(alloc, rows, &class.partition, &class.order, flipped)?;
     push_numbers(out, &ordering)
@@ -79,7 +78,7 @@ fn push_is_ordering(
     state: &State,
     class: &Class,
     out: &mut String,
-) -> Result<(), Refusal> {
+) -> Result<(), Failure> {
     let (rows, given) = (state.rows(), state.ordering());
     push_truth(
         out,
@@ -93,11 +92,11 @@ fn push_partition(
     alloc: Global,
     state: &State,
     class: &Class,
-    arguments: &str,
+    word: Word,
     out: &mut String,
-) -> Result<(), Refusal> {
-    let position = read(number_at(arguments, 0))? as usize;
-    let asked = argument(arguments, 1) == Some("numbers");
+) -> Result<(), Failure> {
+    let position = word.number(0).ok_or(Failure::NoCase)? as usize;
+    let asked = word.argument(1) == Some("numbers");
     match partitions_of(alloc, state.rows(), class, state.ordering(), asked)? {
         Some(found) => push_member(out, found.member(position)),
         None => push(out, "no ordering"),
@@ -110,15 +109,15 @@ fn partitions_of(
     class: &Class,
     ordering: &[u64],
     asked: bool,
-) -> Result<Option<Partitions>, Refusal> {
+) -> Result<Option<Partitions>, Failure> {
     if rows.len() > u32::MAX as usize {
-        return Err(Refusal::NoSuchCase);
+        return Err(Failure::NoCase);
     }
     Ok(partitions(alloc, rows, &class.partition, &class.order, ordering, asked)?)
 }
 
 /// The positions, the groups, the numbers, and the place of the row itself.
-fn push_member(out: &mut String, member: Option<Member>) -> Result<(), Refusal> {
+fn push_member(out: &mut String, member: Option<Member>) -> Result<(), Failure> {
     match member {
         None => push(out, "no row"),
         Some(member) => {

@@ -1,10 +1,9 @@
 //! Expressions over a row, and steps over the rows.
 
-use crate::refusal::{Refusal, read};
 use crate::shown::{push, push_fault, push_outcome, push_rows, push_truth, push_value_or_fault};
-use crate::state::State;
-use crate::words::{Line, argument, cut_of, number_at};
 use std::alloc::Global;
+use wd_cases::Failure;
+use wd_cases_notation::{Line, State, Word};
 use wd_plan::{Expr, Outcome};
 use wd_scalar::{has_arithmetic, is_true, value_of};
 use wd_steps::{
@@ -18,20 +17,20 @@ pub fn expression_answer(
     state: &State,
     name: &str,
     out: &mut String,
-) -> Result<(), Refusal> {
-    let expression = read(state.stacks.expressions.first())?;
+) -> Result<(), Failure> {
+    let expression = state.stacks.expressions.first().ok_or(Failure::NoCase)?;
     match name {
         "value_of" => push_value_or_fault(out, &value_of(alloc, expression, state.row())?),
         "has_arithmetic" => push_truth(out, has_arithmetic(expression)),
         "is_true" => push_is_true(out, &value_of(alloc, expression, state.row())?),
         "filter_rows" => push_outcome(out, &filtered(alloc, expression, state.rows())?),
         "copy_filtered" => push_outcome(out, &copy_filtered(alloc, expression, state.rows())?),
-        _ => Err(Refusal::NoSuchCase),
+        _ => Err(Failure::NoCase),
     }
 }
 
 /// Whether a value is true; a fault is written as it is.
-fn push_is_true(out: &mut String, value: &Result<Value, Fault>) -> Result<(), Refusal> {
+fn push_is_true(out: &mut String, value: &Result<Value, Fault>) -> Result<(), Failure> {
     match value {
         Ok(value) => push_truth(out, is_true(value)),
         Err(fault) => push_fault(out, *fault),
@@ -53,13 +52,13 @@ fn filtered(alloc: Global, condition: &Expr, rows: &[Row]) -> Result<Outcome, Ou
 }
 
 /// `map_rows EXPRESSIONS`, `distinct_rows`, and joins and cuts
-pub fn answer(alloc: Global, state: &State, line: Line, out: &mut String) -> Result<(), Refusal> {
+pub fn answer(alloc: Global, state: &State, line: Line, out: &mut String) -> Result<(), Failure> {
     let expressions = &state.stacks.expressions;
-    match line.name {
+    match line.word.name {
         "map_rows" => push_outcome(out, &map_rows(alloc, expressions, state.rows())?),
         "distinct_rows" => push_rows(out, &distinct(alloc, state.rows())?),
-        "join_rows" => push_joined(alloc, state, line.arguments, out),
-        _ => push_cut(alloc, state, line.arguments, out),
+        "join_rows" => push_joined(alloc, state, line.word, out),
+        _ => push_cut(alloc, state, line.word, out),
     }
 }
 
@@ -68,41 +67,33 @@ fn distinct(alloc: Global, rows: &[Row]) -> Result<Vec<Row>, OutOfMemory> {
     distinct_rows(alloc, copied)
 }
 
-/// `join_rows(MOST) CONDITION`, or without a condition: of the rows with those that `right` has set.
-fn push_joined(
-    alloc: Global,
-    state: &State,
-    arguments: &str,
-    out: &mut String,
-) -> Result<(), Refusal> {
-    let most = read(number_at(arguments, 0))?;
+/// `join_rows(MOST) CONDITION`, or without a condition: of the rows with those that `right` has
+/// set.
+fn push_joined(alloc: Global, state: &State, word: Word, out: &mut String) -> Result<(), Failure> {
+    let most = word.number(0).ok_or(Failure::NoCase)?;
     let condition = state.stacks.expressions.first();
     match join_rows(alloc, condition, state.rows(), &state.right, most) {
         Ok(outcome) => push_outcome(out, &outcome),
         Err(JoinError::TooManyRows) => push(out, "too many rows"),
-        Err(JoinError::OutOfMemory) => Err(Refusal::OutOfMemory),
+        Err(JoinError::OutOfMemory) => Err(Failure::OUT_OF_MEMORY),
     }
 }
 
 /// `cut_rows(OFFSET,COUNT) KEYS : ORDERING`, as a limit has them.
-fn push_cut(
-    alloc: Global,
-    state: &State,
-    arguments: &str,
-    out: &mut String,
-) -> Result<(), Refusal> {
-    let cut = read(cut_of(arguments))?;
+fn push_cut(alloc: Global, state: &State, word: Word, out: &mut String) -> Result<(), Failure> {
+    let cut = word.cut().ok_or(Failure::NoCase)?;
     let (keys, rows, ordering) = (&state.stacks.items, state.rows(), state.ordering());
     let kept = cut_rows(alloc, keys, cut.offset, cut.count, cut.ties, rows, ordering)?;
     push_rows(out, &kept)
 }
 
 /// `with_fault(FAULT)`, or with a fault that was met before, as `with_fault(FAULT,FAULT)`.
-pub fn faults(arguments: &str, out: &mut String) -> Result<(), Refusal> {
-    let found = read(fault_of(argument(arguments, 0)))?;
-    push_fault(out, with_fault(fault_of(argument(arguments, 1)), found))
+pub fn faults(word: Word, out: &mut String) -> Result<(), Failure> {
+    let found = fault_of(word.argument(0)).ok_or(Failure::NoCase)?;
+    push_fault(out, with_fault(fault_of(word.argument(1)), found))
 }
 
+/// The fault that an argument names.
 pub fn fault_of(word: Option<&str>) -> Option<Fault> {
     match word {
         Some("division_by_zero") => Some(Fault::DivisionByZero),

@@ -1,44 +1,39 @@
 //! Which call each word of a line asks for.
-use crate::given::Given;
-use crate::token::tokens_of;
 use crate::{phrase, refusal, rows, schema, statement, token, tree};
-use std::alloc::{AllocError, Global};
-use wd_cases::{Failure, answered, case_in};
+use std::alloc::Global;
+use wd_cases::{Cases, Failure, SchemaText, tokens_of};
 use wd_lex::Token;
 
-/// A line and what its case gives; a line without a case as it is.
-pub fn shown(alloc: Global, given: &mut Given, line: &str) -> Result<String, AllocError> {
-    match case_in(line) {
-        Some((word, text)) => answered(alloc, line, found(alloc, given, word, text)),
-        None => String::from_str(alloc, line),
+/// What earlier lines gave.
+#[derive(Drop)]
+pub struct Given {
+    schema: SchemaText,
+}
+
+impl Given {
+    /// The schema without tables.
+    pub fn new(alloc: Global) -> Given {
+        Given {
+            schema: SchemaText::new(alloc),
+        }
     }
 }
 
-fn found(alloc: Global, given: &mut Given, word: &str, text: &str) -> Result<String, Failure> {
-    match word {
-        "tokens" => token::tokens(alloc, text),
-        "tables" => schema::tables(alloc, text),
-        "schema" => given.set_schema(alloc, text),
-        "table" => schema::table(alloc, given, text),
-        "meets" => schema::met(alloc, given, text),
-        "load" => rows::loaded(alloc, given, text),
-        "why" => rows::explained(alloc, given, text),
-        "answer" => rows::answer(alloc, text),
-        "memory" => refusal::want_of_memory(alloc, text),
-        "laws" => refusal::laws(alloc),
-        "eat"
-        | "expect"
-        | "eat_name"
-        | "name_at"
-        | "operator_at"
-        | "sign_at"
-        | "order_at"
-        | "frame_at"
-        | "limits_at"
-        | "query"
-        | "items"
-        | "statements" => { over_text(alloc, word, text) }
-        _ => Err(Failure::NoCase),
+impl Cases for Given {
+    fn answer(&mut self, alloc: Global, word: &str, text: &str) -> Result<String, Failure> {
+        match word {
+            "tokens" => token::tokens(alloc, text),
+            "tables" => schema::tables(alloc, text),
+            "schema" => self.schema.set(alloc, text),
+            "table" => schema::table(alloc, &self.schema, text),
+            "meets" => schema::met(alloc, &self.schema, text),
+            "load" => rows::loaded(alloc, &self.schema, text),
+            "why" => rows::explained(alloc, &self.schema, text),
+            "answer" => rows::answer(alloc, text),
+            "memory" => refusal::want_of_memory(alloc, text),
+            "laws" => refusal::laws(alloc),
+            _ => over_text(alloc, word, text),
+        }
     }
 }
 

@@ -2,8 +2,6 @@
 #![tactic(auto)]
 
 mod case;
-mod cell;
-mod given;
 mod phrase;
 mod refusal;
 mod rows;
@@ -12,16 +10,10 @@ mod statement;
 mod token;
 mod tree;
 
-use case::shown;
-use given::Given;
+use case::Given;
 use std::io;
+use wd_cases::{Comments, answer_lines};
 
 fn main(rt: HostRuntime) -> io::Result<()> {
-    let mut given = Given::new(rt.alloc());
-    for line in rt.lines(rt.alloc()) {
-        let line = line?;
-        let shown = shown(rt.alloc(), &mut given, line.as_str())?;
-        println!(rt; "{shown}")?;
-    }
-    Ok(())
+    answer_lines(&rt, &mut Given::new(rt.alloc()), Comments::Printed)
 }

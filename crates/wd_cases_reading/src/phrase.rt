@@ -1,4 +1,5 @@
-//! What the calls of wd_phrase give at the front of a text's tokens, and how many tokens are left behind it.
+//! What the calls of wd_phrase give at the front of a text's tokens, and how many tokens are left
+//! behind it.
 use std::alloc::Global;
 use std::fmt::Debug;
 use wd_cases::Failure;

@@ -6,40 +6,19 @@ use wd_parse::ParseError;
 use wd_schema::SchemaError;
 use wd_tables::DataError;
 
-pub fn of_tokens(error: LexError) -> Failure {
-    Failure::Refused {
-        number: error.number(),
-        place: error.place(),
-    }
-}
-
-pub fn of_tree(error: ParseError) -> Failure {
-    Failure::Refused {
-        number: error.number(),
-        place: error.place(),
-    }
-}
-
-pub fn of_schema(error: SchemaError) -> Failure {
-    Failure::Refused {
-        number: error.number(),
-        place: error.place(),
-    }
-}
-
 pub fn of_rows(error: &DataError) -> Failure {
-    Failure::Refused {
-        number: error.number(),
-        place: error.place(),
-    }
+    Failure::refused(error.number(), error.place())
 }
 
 /// `memory CALL`: the number, the place and the message of the want of memory that a call answers.
 pub fn want_of_memory(alloc: Global, call: &str) -> Result<String, Failure> {
     match call {
-        "lex" => of_tokens(LexError::OutOfMemory).explained(alloc, &LexError::OutOfMemory),
-        "parse" => of_tree(ParseError::OutOfMemory).explained(alloc, &ParseError::OutOfMemory),
-        "read_schema" => Err(of_schema(SchemaError::OutOfMemory)),
+        "lex" => Failure::from(LexError::OutOfMemory).explained(alloc, &LexError::OutOfMemory),
+        "parse" => Failure::from(ParseError::OutOfMemory).explained(
+            alloc,
+            &ParseError::OutOfMemory,
+        ),
+        "read_schema" => Err(Failure::from(SchemaError::OutOfMemory)),
         "load" => Err(of_rows(&DataError::OutOfMemory)),
         _ => Err(Failure::NoCase),
     }

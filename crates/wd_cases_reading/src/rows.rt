@@ -1,9 +1,7 @@
 //! The rows of a table from its text, and the text of an answer.
-use crate::cell::rows_of;
-use crate::given::Given;
 use crate::refusal::of_rows;
 use std::alloc::Global;
-use wd_cases::{Failure, in_one_line, text_of, unescaped};
+use wd_cases::{Failure, SchemaText, in_one_line, rows_of, text_of, unescaped};
 use wd_schema::Table;
 use wd_tables::{DataError, answer_text, load};
 use wd_value::{Row, Text, Value};
@@ -41,9 +39,9 @@ fn loaded_into(alloc: Global, table: &Table, text: &str) -> Result<String, Failu
 }
 
 /// `load NAME TEXT`: the rows of a table of the schema, from their text.
-pub fn loaded(alloc: Global, given: &Given, text: &str) -> Result<String, Failure> {
+pub fn loaded(alloc: Global, schema: &SchemaText, text: &str) -> Result<String, Failure> {
     let (name, text) = text.split_once(' ').unwrap_or((text, ""));
-    let schema = given.tables(alloc)?;
+    let schema = schema.tables(alloc)?;
     match schema.table(name) {
         Some(table) => loaded_into(alloc, table, text),
         None => Err(Failure::NoCase),
@@ -63,9 +61,9 @@ fn why_not(alloc: Global, table: &Table, text: &str) -> Result<String, Failure> 
 }
 
 /// `why NAME TEXT`: why such data is refused.
-pub fn explained(alloc: Global, given: &Given, text: &str) -> Result<String, Failure> {
+pub fn explained(alloc: Global, schema: &SchemaText, text: &str) -> Result<String, Failure> {
     let (name, text) = text.split_once(' ').unwrap_or((text, ""));
-    let schema = given.tables(alloc)?;
+    let schema = schema.tables(alloc)?;
     match schema.table(name) {
         Some(table) => why_not(alloc, table, text),
         None => Err(Failure::NoCase),
@@ -91,7 +89,7 @@ fn answer_of(alloc: Global, names: &[Value], rows: &[Row]) -> Result<String, Fai
 
 fn rows_in(alloc: Global, text: &str) -> Result<Vec<Row>, Failure> {
     let text = text_of(alloc, text)?;
-    rows_of(alloc, text.as_str())
+    rows_of(alloc, text.as_str(), ' ')
 }
 
 /// `answer NAMES;ROW;..`: the text of an answer.

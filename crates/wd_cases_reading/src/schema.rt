@@ -1,8 +1,5 @@
-use crate::cell::instance_of;
-use crate::given::Given;
-use crate::refusal::of_schema;
 use std::alloc::{AllocError, Global};
-use wd_cases::{Failure, text_of, unescaped};
+use wd_cases::{Failure, SchemaText, rows_of, text_of, unescaped};
 use wd_schema::{Column, Key, Schema, Table, meets, read_schema};
 use wd_value::Instance;
 
@@ -52,7 +49,7 @@ fn schema_shown(alloc: Global, schema: &Schema) -> Result<String, Failure> {
 
 fn schema_of(alloc: Global, text: &str) -> Result<Schema, Failure> {
     let text = unescaped(alloc, text)?;
-    read_schema(alloc, &text).map_err(of_schema)
+    Ok(read_schema(alloc, &text)?)
 }
 
 /// `tables TEXT`: the tables of a schema with their columns (`!` is NOT NULL) and keys.
@@ -62,8 +59,8 @@ pub fn tables(alloc: Global, text: &str) -> Result<String, Failure> {
 }
 
 /// `table NAME`: how many columns and keys the schema's table of that name has.
-pub fn table(alloc: Global, given: &Given, name: &str) -> Result<String, Failure> {
-    let schema = given.tables(alloc)?;
+pub fn table(alloc: Global, schema: &SchemaText, name: &str) -> Result<String, Failure> {
+    let schema = schema.tables(alloc)?;
     counts_shown(alloc, schema.table(name))
 }
 
@@ -75,19 +72,28 @@ fn counts_shown(alloc: Global, table: Option<&Table>) -> Result<String, Failure>
     Ok(format!(in alloc; "columns: {columns}, keys: {keys}")?)
 }
 
+/// Tables, each with a `|` behind its rows.
+fn instance_of(alloc: Global, text: &str) -> Result<Instance, Failure> {
+    let mut instance = Vec::new(alloc);
+    for table in text.split_terminator('|') {
+        instance.push(rows_of(alloc, table, ' ')?)?;
+    }
+    Ok(instance)
+}
+
 fn instance_in(alloc: Global, text: &str) -> Result<Instance, Failure> {
     let text = text_of(alloc, text)?;
     instance_of(alloc, text.as_str())
 }
 
 /// `meets TABLES`: whether tables with these rows meet the schema.
-pub fn met(alloc: Global, given: &Given, text: &str) -> Result<String, Failure> {
+pub fn met(alloc: Global, schema: &SchemaText, text: &str) -> Result<String, Failure> {
     let instance = instance_in(alloc, text)?;
-    met_by(alloc, given, &instance)
+    met_by(alloc, schema, &instance)
 }
 
-fn met_by(alloc: Global, given: &Given, instance: &Instance) -> Result<String, Failure> {
-    let schema = given.tables(alloc)?;
+fn met_by(alloc: Global, schema: &SchemaText, instance: &Instance) -> Result<String, Failure> {
+    let schema = schema.tables(alloc)?;
     let met = meets(&schema, instance).is_ok();
     Ok(met.to_string(alloc)?)
 }

@@ -1,20 +1,13 @@
-use crate::refusal::of_tokens;
 use std::alloc::{AllocError, Global};
 use wd_cases::{Failure, unescaped};
 use wd_lex::{Span, Token, TokenKind, lex};
-
-/// The tokens of a text.
-pub fn tokens_of(alloc: Global, text: &str) -> Result<Vec<Token>, Failure> {
-    let text = unescaped(alloc, text)?;
-    lex(alloc, &text).map_err(of_tokens)
-}
 
 /// `tokens TEXT`: each token as `kind@start..end`, or why there are none.
 pub fn tokens(alloc: Global, text: &str) -> Result<String, Failure> {
     let text = unescaped(alloc, text)?;
     match lex(alloc, &text) {
         Ok(tokens) => Ok(listed(alloc, &tokens)?),
-        Err(error) => of_tokens(error).explained(alloc, &error),
+        Err(error) => Failure::from(error).explained(alloc, &error),
     }
 }
 

@@ -1,4 +1,3 @@
-use crate::refusal::of_tree;
 use std::alloc::{AllocError, Global};
 use wd_cases::Failure;
 use wd_lex::Token;
@@ -8,13 +7,14 @@ use wd_parse::{Alias, Expr, Item, Link, Literal, Quantifier, Query, parse};
 pub fn query(alloc: Global, tokens: &[Token]) -> Result<String, Failure> {
     match parse(alloc, tokens).err() {
         None => Ok(String::from_str(alloc, "read")?),
-        Some(error) => of_tree(error).explained(alloc, &error),
+        Some(error) => Failure::from(error).explained(alloc, &error),
     }
 }
 
-/// `items TEXT`: the trees of a query's select list, each chain of operators or of tests in square brackets.
+/// `items TEXT`: the trees of a query's select list, each chain of operators or of tests in square
+/// brackets.
 pub fn items(alloc: Global, tokens: &[Token]) -> Result<String, Failure> {
-    let query = parse(alloc, tokens).map_err(of_tree)?;
+    let query = parse(alloc, tokens)?;
     items_shown(alloc, &query)
 }
 

@@ -1,15 +1,16 @@
 //! What lines set for the lines behind them.
 
-use crate::lists::{is_nothing, orderings_of, row_of, rows_of};
-use crate::refusal::{Refusal, read};
+use crate::lists::{groups_of, orderings_of};
 use crate::stacks::Stacks;
 use crate::words::Line;
 use std::alloc::Global;
+use wd_cases::{Failure, row_of, rows_of};
 use wd_frame::Part;
 use wd_plan::{Choice, Plan};
 use wd_schema::{Schema, read_schema};
 use wd_value::{Instance, Row, Value};
 
+/// What lines have set, and what was read of the last one.
 #[derive(Drop)]
 pub struct State {
     pub schema: Option<Schema>,
@@ -28,6 +29,7 @@ pub struct State {
 }
 
 impl State {
+    /// Nothing is set yet.
     pub fn new(alloc: Global) -> State {
         State {
             schema: None,
@@ -44,6 +46,7 @@ impl State {
         }
     }
 
+    /// The rows of the first table.
     pub fn rows(&self) -> &[Row] {
         match self.instance.first() {
             Some(rows) => rows,
@@ -59,6 +62,7 @@ impl State {
         }
     }
 
+    /// The partition that `part` has set.
     pub fn part(&self) -> Part<'_> {
         Part {
             groups: &self.groups,
@@ -76,73 +80,56 @@ impl State {
     }
 
     /// Reads the line's words and its lists.
-    pub fn read(&mut self, alloc: Global, line: Line) -> Result<(), Refusal> {
+    pub fn read(&mut self, alloc: Global, line: Line) -> Result<(), Failure> {
         self.choice.orderings = orderings_of(alloc, line.lists)?;
         self.stacks.read(line.words)
     }
 
-    /// Sets what the line's name says.
-    pub fn set(&mut self, alloc: Global, line: Line) -> Result<(), Refusal> {
-        match line.name {
-            "schema" => self.set_schema(alloc, line),
-            "rows" => self.set_rows(alloc, line),
-            "right" => self.set_right(alloc, line),
-            "plan" => self.set_plan(line),
-            _ => self.set_part(alloc, line),
+    /// Sets what the line's name says; answers whether that is something to be set.
+    pub fn set(&mut self, alloc: Global, line: Line) -> Result<bool, Failure> {
+        match line.word.name {
+            "schema" => self.set_schema(alloc, line.words)?,
+            "rows" => self.set_rows(alloc, line.words)?,
+            "right" => self.right = rows_of(alloc, line.words, ',')?,
+            "plan" => self.set_plan(line.words)?,
+            "part" => self.set_part(alloc, line)?,
+            _ => return Ok(false),
         }
+        Ok(true)
     }
 
     /// `schema TEXT`
-    fn set_schema(&mut self, alloc: Global, line: Line) -> Result<(), Refusal> {
-        let schema = read(read_schema(alloc, line.words.as_bytes()).ok())?;
-        self.schema = Some(schema);
+    fn set_schema(&mut self, alloc: Global, text: &str) -> Result<(), Failure> {
+        self.schema = Some(read_schema(alloc, text.as_bytes())?);
         Ok(())
     }
 
     /// `rows ROWS`
-    fn set_rows(&mut self, alloc: Global, line: Line) -> Result<(), Refusal> {
-        let rows = rows_of(alloc, line.words)?;
+    fn set_rows(&mut self, alloc: Global, text: &str) -> Result<(), Failure> {
+        let rows = rows_of(alloc, text, ',')?;
         self.instance.clear();
-        self.instance.push(rows)?;
-        Ok(())
-    }
-
-    /// `right ROWS`
-    fn set_right(&mut self, alloc: Global, line: Line) -> Result<(), Refusal> {
-        self.right = rows_of(alloc, line.words)?;
-        Ok(())
+        Ok(self.instance.push(rows)?)
     }
 
     /// `plan WORDS`
-    fn set_plan(&mut self, line: Line) -> Result<(), Refusal> {
-        self.stacks.read(line.words)?;
+    fn set_plan(&mut self, words: &str) -> Result<(), Failure> {
+        self.stacks.read(words)?;
         self.plan = self.stacks.plans.pop();
         Ok(())
     }
 
     /// `part GROUPS : KEYS`, or with `part(desc)`
-    fn set_part(&mut self, alloc: Global, line: Line) -> Result<(), Refusal> {
-        self.groups.clear();
-        push_groups(&mut self.groups, line.words)?;
+    fn set_part(&mut self, alloc: Global, line: Line) -> Result<(), Failure> {
+        self.groups = groups_of(alloc, line.words)?;
         self.keys = keys_of(alloc, line.lists)?;
-        self.desc = line.arguments == "desc";
+        self.desc = line.word.arguments == "desc";
         Ok(())
     }
 }
 
-/// Numbers parted by blanks, or `-` for none.
-fn push_groups(groups: &mut Vec<u32>, text: &str) -> Result<(), Refusal> {
-    for word in text.split(' ') {
-        if !is_nothing(word) {
-            groups.push(read(word.parse::<u32>().ok())?)?;
-        }
-    }
-    Ok(())
-}
-
-fn keys_of(alloc: Global, text: &str) -> Result<Vec<Value>, Refusal> {
+fn keys_of(alloc: Global, text: &str) -> Result<Vec<Value>, Failure> {
     if text.is_empty() {
         return Ok(Vec::new(alloc));
     }
-    row_of(alloc, text)
+    row_of(alloc, text, ',')
 }

@@ -1,6 +1,6 @@
 //! The operators and functions that words name.
 
-use crate::words::{column_at, number_at};
+use crate::words::Word;
 use wd_plan::{ArithmeticOp, ComparisonOp, Expr, Function};
 use wd_value::Value;
 
@@ -29,13 +29,10 @@ const BINARY: [(&str, Binary); 13] = [
     ("or", Binary::Or),
 ];
 
+/// The operator that a word names.
 pub fn operator_of(word: &str) -> Option<Binary> {
-    for (name, operator) in &BINARY {
-        if *name == word {
-            return Some(*operator);
-        }
-    }
-    None
+    let (_, operator) = BINARY.iter().find(|named| named.0 == word)?;
+    Some(*operator)
 }
 
 impl Binary {
@@ -50,22 +47,22 @@ impl Binary {
 }
 
 /// The function of a word such as `rank`, `ntile(2)`, `nth_value(c1,2)` or `count(*)`.
-pub fn function(name: &str, arguments: &str) -> Option<Function> {
-    match name {
+pub fn function(word: Word) -> Option<Function> {
+    match word.name {
         "row_number" => Some(Function::RowNumber),
         "rank" => Some(Function::Rank),
         "dense_rank" => Some(Function::DenseRank),
-        "ntile" => Some(Function::Ntile(number_at(arguments, 0)?)),
-        "count" if arguments == "*" => Some(Function::CountRows),
-        _ => of_column(name, column_at(arguments, 0)?, number_at(arguments, 1)),
+        "ntile" => Some(Function::Ntile(word.number(0)?)),
+        "count" if word.arguments == "*" => Some(Function::CountRows),
+        _ => of_column(word, word.column(0)?),
     }
 }
 
-fn of_column(name: &str, column: u16, number: Option<u64>) -> Option<Function> {
-    match name {
+fn of_column(word: Word, column: u16) -> Option<Function> {
+    match word.name {
         "first_value" => Some(Function::FirstValue(column)),
         "last_value" => Some(Function::LastValue(column)),
-        "nth_value" => Some(Function::NthValue(column, number?)),
+        "nth_value" => Some(Function::NthValue(column, word.number(1)?)),
         "count" => Some(Function::Count(column)),
         "sum" => Some(Function::Sum(column)),
         "min" => Some(Function::Min(column)),
@@ -75,10 +72,10 @@ fn of_column(name: &str, column: u16, number: Option<u64>) -> Option<Function> {
 }
 
 /// The function of a word such as `lag(c0,1,null)`, whose default is given.
-pub fn neighbour(name: &str, arguments: &str, default: Value) -> Option<Function> {
-    let argument = column_at(arguments, 0)?;
-    let offset = number_at(arguments, 1)?;
-    match name {
+pub fn neighbour(word: Word, default: Value) -> Option<Function> {
+    let argument = word.column(0)?;
+    let offset = word.number(1)?;
+    match word.name {
         "lag" => Some(Function::Lag {
             argument,
             offset,

@@ -1,17 +1,15 @@
-//! Words in postfix notation: an operand goes onto the stack of its kind, and an operator takes what
-//! it needs from the stacks.
+//! Words in postfix notation: an operand goes onto the stack of its kind, and an operator takes
+//! what it needs from the stacks.
 
-use crate::lists::value_of;
 use crate::operators::{Binary, function, neighbour, operator_of};
-use crate::refusal::{Refusal, read};
-use crate::words::{
-    Cut, DEFAULT_FRAME, argument, column_of, cut_of, frame_of, item_of, kind_of, named, table_of,
-};
+use crate::words::{Cut, DEFAULT_FRAME, Word, column_of, frame_of, item_of, kind_of, table_of};
 use std::alloc::Global;
 use std::mem::replace;
+use wd_cases::{Failure, value_of};
 use wd_plan::{Branch, Call, Class, Expr, Frame, Function, OrderItem, Plan, ValueKind};
 use wd_value::Value;
 
+/// What the words of a line have left.
 #[derive(Drop)]
 pub struct Stacks {
     alloc: Global,
@@ -27,7 +25,8 @@ pub struct Stacks {
 }
 
 impl Stacks {
-    pub fn new(alloc: Global) -> Stacks {
+    /// Nothing yet.
+    pub(crate) fn new(alloc: Global) -> Stacks {
         Stacks {
             alloc,
             class: 0,
@@ -41,8 +40,8 @@ impl Stacks {
     }
 
     /// Empties the stacks, and goes through the words.
-    pub fn read(&mut self, words: &str) -> Result<(), Refusal> {
-        self.clear();
+    pub(crate) fn read(&mut self, words: &str) -> Result<(), Failure> {
+        *self = Stacks::new(self.alloc);
         for word in words.split(' ') {
             if !word.is_empty() {
                 self.push(word)?;
@@ -51,22 +50,12 @@ impl Stacks {
         Ok(())
     }
 
-    fn clear(&mut self) {
-        self.class = 0;
-        self.frame = DEFAULT_FRAME;
-        self.expressions.clear();
-        self.items.clear();
-        self.classes.clear();
-        self.calls.clear();
-        self.plans.clear();
-    }
-
-    fn push(&mut self, word: &str) -> Result<(), Refusal> {
+    fn push(&mut self, word: &str) -> Result<(), Failure> {
         if let Some(column) = column_of(word) {
             return self.push_expression(Expr::Column(column));
         }
         if let Some(item) = item_of(word) {
-            return self.push_item(item);
+            return Ok(self.items.push(item)?);
         }
         if let Some(operator) = operator_of(word) {
             return self.push_binary(operator);
@@ -74,7 +63,7 @@ impl Stacks {
         self.push_operator(word)
     }
 
-    fn push_operator(&mut self, word: &str) -> Result<(), Refusal> {
+    fn push_operator(&mut self, word: &str) -> Result<(), Failure> {
         match word {
             "negate" | "not" | "is_null" | "is_not_null" => self.push_unary(word),
             "case" => self.push_case(),
@@ -83,53 +72,46 @@ impl Stacks {
             "join" => self.push_join(),
             "window" => self.push_window(),
             "distinct" => self.push_distinct(),
-            _ => self.push_named(word),
+            _ => self.push_named(Word::of(word)),
         }
     }
 
-    fn push_named(&mut self, word: &str) -> Result<(), Refusal> {
-        let (name, arguments) = named(word);
-        if let Some(frame) = frame_of(name, arguments) {
+    fn push_named(&mut self, word: Word) -> Result<(), Failure> {
+        if let Some(frame) = frame_of(word) {
             self.frame = frame;
             return Ok(());
         }
-        if let Some(function) = function(name, arguments) {
+        if let Some(function) = function(word) {
             return self.push_call(function);
         }
-        if let Some(table) = table_of(name) {
-            return self.push_table(table, arguments);
+        if let Some(table) = table_of(word.name) {
+            return self.push_table(table, word.arguments);
         }
-        match name {
-            "lag" | "lead" => self.push_neighbour(name, arguments),
-            "over" => self.push_class(arguments),
-            "class" => self.set_class(arguments),
-            "limit" => self.push_limit(arguments),
-            _ => self.push_literal(name, arguments),
+        match word.name {
+            "lag" | "lead" => self.push_neighbour(word),
+            "over" => self.push_class(word.arguments),
+            "class" => self.set_class(word.arguments),
+            "limit" => self.push_limit(word),
+            _ => self.push_literal(word),
         }
     }
 
-    fn push_item(&mut self, item: OrderItem) -> Result<(), Refusal> {
-        self.items.push(item)?;
-        Ok(())
+    fn push_expression(&mut self, expression: Expr) -> Result<(), Failure> {
+        Ok(self.expressions.push(expression)?)
     }
 
-    fn push_expression(&mut self, expression: Expr) -> Result<(), Refusal> {
-        self.expressions.push(expression)?;
-        Ok(())
-    }
-
-    fn expression(&mut self) -> Result<Box<Expr>, Refusal> {
-        let expression = read(self.expressions.pop())?;
+    fn expression(&mut self) -> Result<Box<Expr>, Failure> {
+        let expression = self.expressions.pop().ok_or(Failure::NoCase)?;
         Ok(Box::new(self.alloc, expression)?)
     }
 
-    fn push_binary(&mut self, operator: Binary) -> Result<(), Refusal> {
+    fn push_binary(&mut self, operator: Binary) -> Result<(), Failure> {
         let right = self.expression()?;
         let left = self.expression()?;
         self.push_expression(operator.over(left, right))
     }
 
-    fn push_unary(&mut self, word: &str) -> Result<(), Refusal> {
+    fn push_unary(&mut self, word: &str) -> Result<(), Failure> {
         let operand = self.expression()?;
         self.push_expression(match word {
             "negate" => Expr::Negate(operand),
@@ -139,54 +121,56 @@ impl Stacks {
         })
     }
 
-    fn push_case(&mut self) -> Result<(), Refusal> {
+    fn push_case(&mut self) -> Result<(), Failure> {
         let other = self.expression()?;
         let chosen = self.expression()?;
         let condition = self.expression()?;
         self.push_expression(Expr::Case(Branch::First, condition, chosen, other))
     }
 
-    fn push_call(&mut self, function: Function) -> Result<(), Refusal> {
-        self.calls.push(Call {
-            class: self.class,
-            function,
-            frame: self.frame,
-        })?;
-        Ok(())
+    fn push_call(&mut self, function: Function) -> Result<(), Failure> {
+        Ok(
+            self.calls.push(Call {
+                class: self.class,
+                function,
+                frame: self.frame,
+            })?,
+        )
     }
 
     /// `lag(c0,1,null)`
-    fn push_neighbour(&mut self, name: &str, arguments: &str) -> Result<(), Refusal> {
-        let default = value_of(self.alloc, read(argument(arguments, 2))?)?;
-        self.push_call(read(neighbour(name, arguments, default))?)
+    fn push_neighbour(&mut self, word: Word) -> Result<(), Failure> {
+        let default = value_of(self.alloc, word.argument(2).ok_or(Failure::NoCase)?)?;
+        self.push_call(neighbour(word, default).ok_or(Failure::NoCase)?)
     }
 
-    /// `over(c1,c2+)`: a class partitioned by c1 and sorted by c2, of which the calls are that follow.
-    fn push_class(&mut self, arguments: &str) -> Result<(), Refusal> {
-        self.class = read(u16::try_from(self.classes.len()).ok())?;
+    /// `over(c1,c2+)`: a class partitioned by c1 and sorted by c2, of which the calls are that
+    /// follow.
+    fn push_class(&mut self, arguments: &str) -> Result<(), Failure> {
+        self.class = u16::try_from(self.classes.len())
+            .ok()
+            .ok_or(Failure::NoCase)?;
         let class = class_of(self.alloc, arguments)?;
-        self.classes.push(class)?;
-        Ok(())
+        Ok(self.classes.push(class)?)
     }
 
     /// `class(1)`: the calls that follow are of that class.
-    fn set_class(&mut self, arguments: &str) -> Result<(), Refusal> {
-        self.class = read(arguments.parse::<u16>().ok())?;
+    fn set_class(&mut self, arguments: &str) -> Result<(), Failure> {
+        self.class = arguments.parse::<u16>()?;
         Ok(())
     }
 
-    fn push_plan(&mut self, plan: Plan) -> Result<(), Refusal> {
-        self.plans.push(plan)?;
-        Ok(())
+    fn push_plan(&mut self, plan: Plan) -> Result<(), Failure> {
+        Ok(self.plans.push(plan)?)
     }
 
-    fn plan(&mut self) -> Result<Box<Plan>, Refusal> {
-        let plan = read(self.plans.pop())?;
+    fn plan(&mut self) -> Result<Box<Plan>, Failure> {
+        let plan = self.plans.pop().ok_or(Failure::NoCase)?;
         Ok(Box::new(self.alloc, plan)?)
     }
 
     /// A join under the expression that stands there, if any.
-    fn push_join(&mut self) -> Result<(), Refusal> {
+    fn push_join(&mut self) -> Result<(), Failure> {
         let right = self.plan()?;
         let left = self.plan()?;
         let condition = self.expressions.pop();
@@ -197,21 +181,21 @@ impl Stacks {
         })
     }
 
-    fn push_filter(&mut self) -> Result<(), Refusal> {
+    fn push_filter(&mut self) -> Result<(), Failure> {
         let input = self.plan()?;
-        let condition = read(self.expressions.pop())?;
+        let condition = self.expressions.pop().ok_or(Failure::NoCase)?;
         self.push_plan(Plan::Filter { input, condition })
     }
 
     /// A Map to all expressions that stand there.
-    fn push_map(&mut self) -> Result<(), Refusal> {
+    fn push_map(&mut self) -> Result<(), Failure> {
         let input = self.plan()?;
         let outputs = replace(&mut self.expressions, Vec::new(self.alloc));
         self.push_plan(Plan::Map { input, outputs })
     }
 
     /// A Window of all classes and calls that stand there.
-    fn push_window(&mut self) -> Result<(), Refusal> {
+    fn push_window(&mut self) -> Result<(), Failure> {
         let input = self.plan()?;
         let classes = replace(&mut self.classes, Vec::new(self.alloc));
         let calls = replace(&mut self.calls, Vec::new(self.alloc));
@@ -223,19 +207,19 @@ impl Stacks {
         })
     }
 
-    fn push_distinct(&mut self) -> Result<(), Refusal> {
+    fn push_distinct(&mut self) -> Result<(), Failure> {
         let input = self.plan()?;
         self.push_plan(Plan::Distinct { input })
     }
 
     /// `limit(OFFSET,COUNT)`, with `all` for no count, or `limit(OFFSET,COUNT,ties)`, by all keys
     /// that stand there.
-    fn push_limit(&mut self, arguments: &str) -> Result<(), Refusal> {
+    fn push_limit(&mut self, word: Word) -> Result<(), Failure> {
         let Cut {
             offset,
             count,
             ties,
-        } = read(cut_of(arguments))?;
+        } = word.cut().ok_or(Failure::NoCase)?;
         let input = self.plan()?;
         let keys = replace(&mut self.items, Vec::new(self.alloc));
         self.push_plan(Plan::Limit {
@@ -248,17 +232,17 @@ impl Stacks {
     }
 
     /// `t0(3)`: the table with number 0, of 3 columns.
-    fn push_table(&mut self, table: u16, arguments: &str) -> Result<(), Refusal> {
-        let columns = read(arguments.parse::<u16>().ok())?;
+    fn push_table(&mut self, table: u16, arguments: &str) -> Result<(), Failure> {
+        let columns = arguments.parse::<u16>()?;
         self.push_plan(Plan::Scan { table, columns })
     }
 
     /// `7`, `'a'`, `true`, `null`, or marked with a kind, as `null(truth)`.
-    fn push_literal(&mut self, name: &str, kind: &str) -> Result<(), Refusal> {
-        let value = value_of(self.alloc, name)?;
-        let kind = match kind {
+    fn push_literal(&mut self, word: Word) -> Result<(), Failure> {
+        let value = value_of(self.alloc, word.name)?;
+        let kind = match word.arguments {
             "" => kind_of_value(&value),
-            _ => read(kind_of(kind))?,
+            kind => kind_of(kind).ok_or(Failure::NoCase)?,
         };
         self.push_expression(Expr::Literal(value, kind))
     }
@@ -274,7 +258,7 @@ fn kind_of_value(value: &Value) -> ValueKind {
 }
 
 /// The class of words such as `c1,c2+`.
-fn class_of(alloc: Global, words: &str) -> Result<Class, Refusal> {
+fn class_of(alloc: Global, words: &str) -> Result<Class, Failure> {
     let mut class = Class {
         partition: Vec::new(alloc),
         order: Vec::new(alloc),
@@ -285,13 +269,13 @@ fn class_of(alloc: Global, words: &str) -> Result<Class, Refusal> {
     Ok(class)
 }
 
-fn push_key(class: &mut Class, word: &str) -> Result<(), Refusal> {
+fn push_key(class: &mut Class, word: &str) -> Result<(), Failure> {
     if let Some(column) = column_of(word) {
         class.partition.push(column)?;
     } else if let Some(item) = item_of(word) {
         class.order.push(item)?;
     } else if !word.is_empty() {
-        return Err(Refusal::NoSuchCase);
+        return Err(Failure::NoCase);
     }
     Ok(())
 }
