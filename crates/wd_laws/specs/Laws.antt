@@ -1,0 +1,151 @@
+-- Laws over the definitions.
+use Rattle.std.specs.Prelude.{◌≡◌, ◌⊎◌, ℕ, pos, ◌+◌, ◌<◌, Bool, true, List, map, length, take, drop, count_by, slice_index_or, Option, Result, Ok}
+use Rattle.std.specs.List.{AllByRecursion}
+use Rattle.wd_value.specs.Bags.{SameBag, EachOnce, positions}
+use Rattle.wd_value.specs.Rows.{Row, Instance, same_row, row_at, rows_at, table_at}
+use Rattle.wd_plan.specs.declared.window.Bound.TheVariants.{UnboundedFollowing, UnboundedPreceding}
+use Rattle.wd_plan.specs.declared.window.Exclusion.TheVariants.{NoOthers}
+use Rattle.wd_plan.specs.declared.window.Frame.{Frame}
+use Rattle.wd_plan.specs.declared.window.Function.{Function}
+use Rattle.wd_plan.specs.declared.window.Function.TheVariants.{RowNumber}
+use Rattle.wd_value.specs.declared.value.Fault.{Fault}
+use Rattle.wd_value.specs.declared.value.Value.{Value}
+use Rattle.wd_value.specs.declared.value.Value.TheVariants.{Int}
+use Rattle.wd_plan.specs.Calls.{value_at}
+use Rattle.wd_plan.specs.Choices.{AreOrderings, IsAnswerOf, IsValidChoice}
+use Rattle.wd_plan.specs.Expressions.{Expression}
+use Rattle.wd_plan.specs.Facts.{GivesAll, HasWidth}
+use Rattle.wd_plan.specs.Faults.{all_ok}
+use Rattle.wd_plan.specs.Frames.{frame_of, in_frame}
+use Rattle.wd_plan.specs.Justified.{IsByRow, IsJustified, IsJustifiedLimit, IsJustifiedPlan, NamesClasses}
+use Rattle.wd_plan.specs.Outcomes.{RowsOrFault, Agree, outcome, filter_outcome, map_outcome, join_outcome, pairs, distinct, window_outcome, extended, cut}
+use Rattle.wd_plan.specs.Partitions.{GroupsRise, members, partition_of, group_of}
+use Rattle.wd_plan.specs.Plans.{ClassRule, WindowRule, LimitRule, PlanTree}
+use Rattle.wd_plan.specs.Sorting.{IsOrdering, class_columns, limit_class}
+
+-- agreeing is reflexive, symmetric and transitive
+pub record AgreeingIsAnEquivalence : Type 0 where
+  pub itself : (a : RowsOrFault) → Agree a a
+  pub back : (a b : RowsOrFault) → Agree a b → Agree b a
+  pub on : (a b c : RowsOrFault) → Agree a b → Agree b c → Agree a c
+
+-- The local calls law: the value or fault of a call that goes by the row is a function of the row's columns and of the rows of
+-- the input, in any order and under any lawful orderings.
+abbrev pub ValuesGoByRows : Type 0
+ValuesGoByRows = (class : ClassRule) (frame : Frame) (function : Function) (rows others : List Row) (o1 o2 : List ℕ) (p q : ℕ)
+    → IsByRow class frame function rows → SameBag same_row rows others → IsOrdering class rows o1 → IsOrdering class others o2
+    → p < length rows → q < length others → row_at rows p ≡ row_at others q
+    → value_at class frame function rows o1 p ≡ value_at class frame function others o2 q
+
+-- the exchange law: two orderings of a class that gives every column put the same rows at each place of each partition
+abbrev pub SameRowsAtPlaces : Type 0
+SameRowsAtPlaces = (class : ClassRule) (width : ℕ) (rows : List Row) (o1 o2 : List ℕ) (p : ℕ)
+    → HasWidth width rows → GivesAll rows width (class_columns class) → IsOrdering class rows o1 → IsOrdering class rows o2
+    → partition_of class rows o1 p ≡ partition_of class rows o2 p
+
+-- a row with the results of calls of a class: their values, or their faults
+abbrev pub with_results : ClassRule → List (Frame × Function) → List Row → List ℕ → ℕ → Row × List (Result Value Fault)
+with_results class calls rows ordering r = (row_at rows r, map (λ call. value_at class call.0 call.1 rows ordering r) calls)
+
+-- The exchange law's other half: under two orderings of a class that gives every column, each row with its results stands
+-- equally often, faults included: any test finds as many of them.
+abbrev pub SameResults : Type 0
+SameResults = (class : ClassRule) (calls : List (Frame × Function)) (width : ℕ) (rows : List Row) (o1 o2 : List ℕ) (test : Row × List (Result Value Fault) → Bool)
+    → HasWidth width rows → GivesAll rows width (class_columns class) → IsOrdering class rows o1 → IsOrdering class rows o2
+    → let all = positions (length rows) in
+    count_by test (map (with_results class calls rows o1) all) ≡ count_by test (map (with_results class calls rows o2) all)
+
+-- a Window whose calls are justified, at most one class of them by exchange, has one outcome over rearranged rows
+abbrev pub WindowHasOne : Type 0
+WindowHasOne = (w : WindowRule) (exchange width : ℕ) (rows others : List Row) (os1 os2 : List (List ℕ))
+    → SameBag same_row rows others → AreOrderings w rows os1 → AreOrderings w others os2 → HasWidth width rows → NamesClasses w
+    → AllByRecursion (IsJustified w exchange width rows) w.calls → Agree (window_outcome w rows os1) (window_outcome w others os2)
+
+-- the limit law: a justified limit cuts the same rows under every ordering
+abbrev pub LimitHasOne : Type 0
+LimitHasOne = (limit : LimitRule) (width : ℕ) (rows others : List Row) (o1 o2 : List ℕ)
+    → SameBag same_row rows others → IsOrdering (limit_class limit) rows o1 → IsOrdering (limit_class limit) others o2
+    → HasWidth width rows → IsJustifiedLimit limit width rows → SameBag same_row (cut limit (rows_at rows o1)) (cut limit (rows_at others o2))
+
+-- the tables of one instance are rearrangements of the other's
+abbrev pub SameTables : Instance → Instance → Type 0
+SameTables instance other = (table : ℕ) → SameBag same_row (table_at instance table) (table_at other table)
+
+-- The composition law: a plan that is justified under one valid choice has outcomes that agree under every valid choice, over
+-- the same tables in any row order, faults included.
+abbrev pub PlanHasOne : Type 0
+PlanHasOne = (plan : PlanTree) (instance other : Instance) (c1 c2 : List (List ℕ))
+    → SameTables instance other → IsValidChoice plan instance c1 → IsValidChoice plan other c2 → IsJustifiedPlan plan instance c1
+    → Agree (outcome plan instance c1) (outcome plan other c2)
+
+-- the position that stands at a place of a rearrangement; past its end, one that names no row
+abbrev pub renamed : List Row → List ℕ → ℕ → ℕ
+renamed rows ps q = slice_index_or ps q (length rows)
+
+-- over rearranged rows a Window gives the rearranged rows of the renamed orderings, which are lawful too
+pub record Commutes (w : WindowRule) (rows : List Row) (ps : List ℕ) (os : List (List ℕ)) : Type 0 where
+  pub valid : AreOrderings w rows (map (map (renamed rows ps)) os)
+  pub same_rows : window_outcome w (rows_at rows ps) os ≡ all_ok (map (extended w rows (map (map (renamed rows ps)) os)) ps)
+
+-- the renaming law of a Window
+abbrev pub WindowCommutes : Type 0
+WindowCommutes = (w : WindowRule) (rows : List Row) (ps : List ℕ) (os : List (List ℕ)) → EachOnce (length rows) ps → AreOrderings w (rows_at rows ps) os → Commutes w rows ps os
+
+-- ROW_NUMBER over the members of a partition, in their ordering, gives 1 to as many as there are
+abbrev pub RowNumbersCount : Type 0
+RowNumbersCount = (class : ClassRule) (frame : Frame) (rows : List Row) (ordering : List ℕ) (p : ℕ)
+    → IsOrdering class rows ordering
+    → let part = members class rows ordering p in
+    map (value_at class frame RowNumber rows ordering) part ≡ map (λ i. Ok (Int (pos (i + 1)))) (positions (length part))
+
+-- along a partition list under a lawful ordering peer group numbers rise so
+abbrev pub PeerGroupsRise : Type 0
+PeerGroupsRise = (class : ClassRule) (rows : List Row) (ordering : List ℕ) (p : ℕ) → IsOrdering class rows ordering → GroupsRise class (partition_of class rows ordering p)
+
+-- every instance has a valid choice for each plan
+abbrev pub HasValidChoice : Type 0
+HasValidChoice = (plan : PlanTree) (instance : Instance) → (choice : List (List ℕ)) × IsValidChoice plan instance choice
+
+-- rearranged rows, on both sides of a Join, have rearranged outcomes under a Filter, a Map, a Join and a Distinct, faults included
+pub record StepsCommute : Type 0 where
+  pub filter : (condition : Expression) (rows others : List Row) → SameBag same_row rows others → Agree (filter_outcome condition rows) (filter_outcome condition others)
+  pub map : (outputs : List Expression) (rows others : List Row) → SameBag same_row rows others → Agree (map_outcome outputs rows) (map_outcome outputs others)
+  pub join : (condition : Option Expression) (left others right more : List Row) → SameBag same_row left others → SameBag same_row right more
+      → Agree (join_outcome condition (pairs left right)) (join_outcome condition (pairs others more))
+  pub distinct : (rows others : List Row) → SameBag same_row rows others → SameBag same_row (distinct rows) (distinct others)
+
+-- over rearranged rows a Limit keeps the very list that it keeps under the renamed ordering, which is lawful too
+pub record CutCommutes (limit : LimitRule) (rows : List Row) (ps ordering : List ℕ) : Type 0 where
+  pub valid : IsOrdering (limit_class limit) rows (map (renamed rows ps) ordering)
+  pub same_rows : cut limit (rows_at (rows_at rows ps) ordering) ≡ cut limit (rows_at rows (map (renamed rows ps) ordering))
+
+-- the renaming law of a Limit
+abbrev pub LimitCommutes : Type 0
+LimitCommutes = (limit : LimitRule) (rows : List Row) (ps ordering : List ℕ)
+    → EachOnce (length rows) ps → IsOrdering (limit_class limit) (rows_at rows ps) ordering → CutCommutes limit rows ps ordering
+
+-- The renaming law of a plan: over rearranged tables it has no other answers, faults included, but for the order of their rows.
+abbrev pub PlanCommutes : Type 0
+PlanCommutes = (plan : PlanTree) (instance other : Instance) (answer : RowsOrFault) → SameTables instance other → IsAnswerOf plan other answer
+    → (same : RowsOrFault) × IsAnswerOf plan instance same × Agree same answer
+
+-- whether the frame of the member at place m of a partition list takes the one at place n
+abbrev pub frame_takes : ClassRule → Frame → List Row → ℕ → ℕ → Bool
+frame_takes class frame partition m n = in_frame class frame (group_of class partition) m (row_at partition m) n (row_at partition n)
+
+-- The frame of the member at place m of a partition list has no gap: it takes each member between two that it takes, up to
+-- UNBOUNDED FOLLOWING each one behind, from UNBOUNDED PRECEDING each one before, and so its rows are a stretch of the list.
+pub record IsContiguous (class : ClassRule) (frame : Frame) (partition : List Row) (m : ℕ) : Type 0 where
+  pub between : (i j k : ℕ) → i < j → j < k → k < length partition
+      → frame_takes class frame partition m i ≡ true → frame_takes class frame partition m k ≡ true → frame_takes class frame partition m j ≡ true
+  pub behind : frame.end ≡ UnboundedFollowing → (i j : ℕ) → i < j → j < length partition
+      → frame_takes class frame partition m i ≡ true → frame_takes class frame partition m j ≡ true
+  pub before : frame.start ≡ UnboundedPreceding → (i j : ℕ) → i < j → j < length partition
+      → frame_takes class frame partition m j ≡ true → frame_takes class frame partition m i ≡ true
+  pub stretch : (start : ℕ) × (count : ℕ) × (frame_of class frame partition m ≡ take count (drop start partition))
+
+-- along a partition list under a lawful ordering, a frame without exclusion is contiguous
+abbrev pub FramesAreContiguous : Type 0
+FramesAreContiguous = (class : ClassRule) (frame : Frame) (rows : List Row) (ordering : List ℕ) (p m : ℕ)
+    → IsOrdering class rows ordering → frame.exclusion ≡ NoOthers → m < length (partition_of class rows ordering p)
+    → IsContiguous class frame (partition_of class rows ordering p) m
