@@ -1,5 +1,5 @@
 -- Laws over the definitions.
-use Rattle.std.specs.Prelude.{◌≡◌, ◌⊎◌, ℕ, pos, ◌+◌, ◌<◌, Bool, true, List, map, length, take, drop, count_by, slice_index_or, Option, Result, Ok}
+use Rattle.std.specs.Prelude.{◌≡◌, ℕ, pos, ◌+◌, ◌<◌, Bool, true, List, map, length, take, drop, count_by, slice_index_or, Option, Result, Ok}
 use Rattle.std.specs.List.{AllByRecursion}
 use Rattle.wd_value.specs.Bags.{SameBag, EachOnce, positions}
 use Rattle.wd_value.specs.Rows.{Row, Instance, same_row, row_at, rows_at, table_at}
@@ -98,7 +98,7 @@ RowNumbersCount = (class : ClassRule) (frame : Frame) (rows : List Row) (orderin
     → let part = members class rows ordering p in
     map (value_at class frame RowNumber rows ordering) part ≡ map (λ i. Ok (Int (pos (i + 1)))) (positions (length part))
 
--- along a partition list under a lawful ordering peer group numbers rise so
+-- along a partition list under a lawful ordering peer group numbers begin at 0 and rise by at most one
 abbrev pub PeerGroupsRise : Type 0
 PeerGroupsRise = (class : ClassRule) (rows : List Row) (ordering : List ℕ) (p : ℕ) → IsOrdering class rows ordering → GroupsRise class (partition_of class rows ordering p)
 
