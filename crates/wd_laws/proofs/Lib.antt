@@ -19,3 +19,8 @@ pub mod NodesCommute
 pub mod PlanCommutes
 pub mod Stretches
 pub mod Contiguous
+pub mod Buckets
+pub mod Extremes
+pub mod ValueKinds
+pub mod AllValues
+pub mod Widths

@@ -1,21 +1,27 @@
 -- Laws over the definitions.
-use Rattle.std.specs.Prelude.{◌≡◌, ℕ, pos, ◌+◌, ◌<◌, Bool, true, List, map, length, take, drop, count_by, slice_index_or, Option, Result, Ok}
-use Rattle.std.specs.List.{AllByRecursion}
+use Rattle.std.specs.Prelude.{◌≡◌, ℕ, pos, ◌+◌, ◌/◌, ◌%◌, ◌<◌, ◌≤◌, Bool, true, false, List, map, length, take, drop, count_by, nat_eq, nat_lt, slice_index_or, if◌then◌else◌, Option, Some, Result, Ok, ⊤}
+use Rattle.std.specs.List.{AllByRecursion, sum_by}
+use Rattle.std.specs.Ordering.{is_gt, is_lt}
 use Rattle.wd_value.specs.Bags.{SameBag, EachOnce, positions}
-use Rattle.wd_value.specs.Rows.{Row, Instance, same_row, row_at, rows_at, table_at}
+use Rattle.wd_value.specs.Order.{compare_ascending}
+use Rattle.wd_value.specs.Rows.{Row, Instance, same_row, column_of, row_at, rows_at, table_at}
+use Rattle.wd_value.specs.declared.value.Fault.{Fault}
+use Rattle.wd_value.specs.declared.value.Value.{Value}
+use Rattle.wd_value.specs.declared.value.Value.TheVariants.{Int, Null}
+use Rattle.wd_schema.specs.Meets.{Meets}
+use Rattle.wd_schema.specs.Tables.{TableRule}
+use Rattle.wd_plan.specs.declared.expression.ValueKind.{ValueKind}
 use Rattle.wd_plan.specs.declared.window.Bound.TheVariants.{UnboundedFollowing, UnboundedPreceding}
 use Rattle.wd_plan.specs.declared.window.Exclusion.TheVariants.{NoOthers}
 use Rattle.wd_plan.specs.declared.window.Frame.{Frame}
 use Rattle.wd_plan.specs.declared.window.Function.{Function}
 use Rattle.wd_plan.specs.declared.window.Function.TheVariants.{RowNumber}
-use Rattle.wd_value.specs.declared.value.Fault.{Fault}
-use Rattle.wd_value.specs.declared.value.Value.{Value}
-use Rattle.wd_value.specs.declared.value.Value.TheVariants.{Int}
-use Rattle.wd_plan.specs.Calls.{value_at}
-use Rattle.wd_plan.specs.Choices.{AreOrderings, IsAnswerOf, IsValidChoice}
-use Rattle.wd_plan.specs.Expressions.{Expression}
+use Rattle.wd_plan.specs.Calls.{bucket, greatest, least, value_at}
+use Rattle.wd_plan.specs.Choices.{AreLawful, AreOrderings, AtRows, IsAnswerOf, IsValidChoice}
+use Rattle.wd_plan.specs.Expressions.{Expression, is_null}
 use Rattle.wd_plan.specs.Facts.{GivesAll, HasWidth}
 use Rattle.wd_plan.specs.Faults.{all_ok}
+use Rattle.wd_plan.specs.Fits.{Kinds, fits, is_of_kind, kinds_of, width}
 use Rattle.wd_plan.specs.Frames.{frame_of, in_frame}
 use Rattle.wd_plan.specs.Justified.{IsByRow, IsJustified, IsJustifiedLimit, IsJustifiedPlan, NamesClasses}
 use Rattle.wd_plan.specs.Outcomes.{RowsOrFault, Agree, outcome, filter_outcome, map_outcome, join_outcome, pairs, distinct, window_outcome, extended, cut}
@@ -149,3 +155,45 @@ abbrev pub FramesAreContiguous : Type 0
 FramesAreContiguous = (class : ClassRule) (frame : Frame) (rows : List Row) (ordering : List ℕ) (p m : ℕ)
     → IsOrdering class rows ordering → frame.exclusion ≡ NoOthers → m < length (partition_of class rows ordering p)
     → IsContiguous class frame (partition_of class rows ordering p) m
+
+-- how many of so many members NTILE(n) gives to the bucket that stands behind g others
+abbrev pub bucket_size : ℕ → ℕ → ℕ → ℕ
+bucket_size n members g = count_by (λ place. nat_eq (bucket n members place) (g + 1)) (positions members)
+
+-- NTILE(n) deals the members out evenly: the sizes of its n buckets differ by at most one, the larger ones come first, and
+-- together they hold all members; where there are fewer members than buckets the last ones are empty
+pub record BucketsAreEven (n members : ℕ) : Type 0 where
+  pub sizes : (g : ℕ) → g < n → bucket_size n members g ≡ members / n + (if nat_lt g (members % n) then 1 else 0)
+  pub larger_first : (g h : ℕ) → g < h → h < n → bucket_size n members h ≤ bucket_size n members g
+  pub close : (g h : ℕ) → g < n → h < n → bucket_size n members g ≤ bucket_size n members h + 1
+  pub all : sum_by (bucket_size n members) (positions n) ≡ members
+  pub none_left : (g : ℕ) → members ≤ g → bucket_size n members g ≡ 0
+  pub in_order : (i j : ℕ) → i ≤ j → j < members → bucket n members i ≤ bucket n members j
+
+abbrev pub NtileIsEven : Type 0
+NtileIsEven = (n members : ℕ) → 0 < n → BucketsAreEven n members
+
+-- v is one of the values, none of them that is not NULL comes before it, and it is NULL only where all are
+pub record IsFirstOf (comes_before : Value → Value → Bool) (values : List Value) (v : Value) : Type 0 where
+  pub member : 0 < length values → (i : ℕ) × (i < length values) × (slice_index_or values i Null ≡ v)
+  pub over_nothing : length values ≡ 0 → v ≡ Null
+  pub first : AllByRecursion (λ w. is_null w ≡ false → (is_null v ≡ false) × (comes_before w v ≡ false)) values
+
+-- MIN's value is the least and MAX's the greatest
+pub record ExtremesAreFirst : Type 0 where
+  pub of_least : (values : List Value) → IsFirstOf (λ w v. is_lt (compare_ascending w v)) values (least values)
+  pub of_greatest : (values : List Value) → IsFirstOf (λ w v. is_gt (compare_ascending w v)) values (greatest values)
+
+-- The rows of a node have its width: for a plan that fits, over an instance that meets the schema, under lawful orderings.
+abbrev pub HasWidths : Type 0
+HasWidths = (tables : List TableRule) (plan : PlanTree) (instance : Instance) (choice : List (List ℕ))
+    → fits tables plan ≡ true → Meets tables instance → AreLawful plan instance choice → AtRows (outcome plan instance choice) (HasWidth (width plan)) ⊤
+
+-- each value of a row is of its column's kind, where the column has one
+abbrev pub IsOfKinds : Kinds → Row → Type 0
+IsOfKinds kinds row = (c : ℕ) (kind : ValueKind) → kinds c ≡ Some kind → is_of_kind kind (column_of row c) ≡ true
+
+-- and their values are of their columns' kinds
+abbrev pub HasKinds : Type 0
+HasKinds = (tables : List TableRule) (plan : PlanTree) (instance : Instance) (choice : List (List ℕ))
+    → fits tables plan ≡ true → Meets tables instance → AreLawful plan instance choice → AtRows (outcome plan instance choice) (AllByRecursion (IsOfKinds (kinds_of tables plan))) ⊤

@@ -1,6 +1,6 @@
 //! Laws over the definitions alone: no choice changes what they speak of.
 
-ghost use Rattle.wd_laws.specs.Laws.{AgreeingIsAnEquivalence, ValuesGoByRows, SameRowsAtPlaces, SameResults, WindowHasOne, LimitHasOne, PlanHasOne, WindowCommutes, HasValidChoice, PeerGroupsRise, RowNumbersCount, StepsCommute, LimitCommutes, PlanCommutes, FramesAreContiguous};
+ghost use Rattle.wd_laws.specs.Laws.{AgreeingIsAnEquivalence, ValuesGoByRows, SameRowsAtPlaces, SameResults, WindowHasOne, LimitHasOne, PlanHasOne, WindowCommutes, HasValidChoice, PeerGroupsRise, RowNumbersCount, StepsCommute, LimitCommutes, PlanCommutes, FramesAreContiguous, NtileIsEven, ExtremesAreFirst, HasWidths, HasKinds};
 
 pub use crate::examples::{
     agreeing_comes_out, choices_come_out, faults_come_out, frames_come_out, functions_come_out,
@@ -85,4 +85,24 @@ pub fn plan_commutes()
 /// A frame without exclusion is contiguous along its partition list.
 pub fn frames_are_contiguous()
     ensures { FramesAreContiguous }
+{}
+
+/// NTILE's buckets differ in size by at most one, the larger first, and hold all members, in order.
+pub fn ntile_is_even()
+    ensures { NtileIsEven }
+{}
+
+/// MIN and MAX give one of the values, the least and the greatest, and NULL only where all are.
+pub fn extremes_are_first()
+    ensures { ExtremesAreFirst }
+{}
+
+/// The rows of each node of a plan that fits have the node's width, under lawful orderings.
+pub fn has_widths()
+    ensures { HasWidths }
+{}
+
+/// Each value of these rows is of its column's kind.
+pub fn has_kinds()
+    ensures { HasKinds }
 {}
