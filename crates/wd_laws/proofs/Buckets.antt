@@ -1,5 +1,5 @@
 -- NTILE's buckets hold stretches of the places: as even as can be, the larger ones first.
-use Rattle.std.proofs.Common.{◌≡◌, ℕ, zero, suc, ◌+◌, ◌-◌, ◌*◌, ◌/◌, ◌%◌, min, ◌<◌, ◌≤◌, Bool, true, false, cond, List, [], ◌∷◌, ◌++◌, length, count_by, refl, sym, ◌∙◌, ap, subst, arith, nat_lt, nat_eq, le_trans}
+use Rattle.std.proofs.Common.{◌≡◌, ℕ, zero, suc, ◌+◌, ◌-◌, ◌*◌, ◌/◌, ◌%◌, min, ◌<◌, ◌≤◌, Bool, true, false, cond, ◌∷◌, count_by, refl, sym, ◌∙◌, ap, subst, arith, nat_lt, nat_eq, le_trans}
 use Rattle.std.specs.List.{range_with_len, sum_by}
 use Rattle.std.proofs.Math.Nat.{div-add-mod, min-eq_left, min-eq_right, min-le_left, min-le_right, mod-eq_of_lt, mod-lt, mul-le-mul_right, suc-mul, zero-add, zero-mul, zero-min}
 use Rattle.std.proofs.lemmas.Bool.{eq-eqb, ltb-false, ltb-true, ne_eqb}
@@ -7,7 +7,7 @@ use Rattle.std.proofs.lemmas.List.Sums.{sum_by-cons}
 use Rattle.wd_value.proofs.Perms.{count_by-cons, count_by-no, count_by-yes}
 use Rattle.wd_value.specs.Bags.{positions}
 use Rattle.wd_plan.specs.Calls.{bucket, bucket_from}
-use Rattle.wd_laws.specs.Laws.{BucketsAreEven, NtileIsEven, bucket_size}
+use Rattle.wd_laws.specs.Laws.{NtileIsEven, bucket_size}
 
 -- ---- sums
 

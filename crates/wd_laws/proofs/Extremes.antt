@@ -1,6 +1,5 @@
 -- The least and the greatest of some values are among them, and none that is not NULL comes before them.
-use Rattle.std.proofs.Common.{◌≡◌, ℕ, zero, suc, ◌<◌, Bool, true, false, cond, List, [], ◌∷◌, length, get_or, refl, sym, ◌∙◌, ap, subst, arith, Ordering, Less, Equal, Greater, is_lt, is_gt}
-use Rattle.std.specs.Cmp.{IsTotalOrder}
+use Rattle.std.proofs.Common.{◌≡◌, ℕ, suc, ◌<◌, Bool, true, false, cond, List, [], ◌∷◌, length, get_or, refl, sym, ap, arith, Ordering, Less, Equal, Greater, is_lt, is_gt}
 use Rattle.std.specs.List.{AllByRecursion}
 use Rattle.std.specs.Ordering.{ordering_reverse}
 use Rattle.std.proofs.lemmas.Cmp.{tied_itself, upto}
@@ -11,7 +10,7 @@ use Rattle.wd_value.specs.declared.value.Value.{Value}
 use Rattle.wd_value.specs.declared.value.Value.TheVariants.{Int, Null, Text, Bool as Truth}
 use Rattle.wd_plan.specs.Calls.{first_by, greatest, least}
 use Rattle.wd_plan.specs.Expressions.{is_null}
-use Rattle.wd_laws.specs.Laws.{ExtremesAreFirst, IsFirstOf}
+use Rattle.wd_laws.specs.Laws.{ExtremesAreFirst}
 
 -- ---- none comes before the first
 

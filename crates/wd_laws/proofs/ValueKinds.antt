@@ -1,5 +1,5 @@
 -- The values of expressions and of window calls are of the kinds that types give them.
-use Rattle.std.proofs.Common.{◌≡◌, ℕ, zero, suc, ◌+◌, ◌-◌, ◌<◌, ℤ, pos, negsuc, Bool, true, false, cond, ◌&&◌, List, [], ◌∷◌, map, reverse, length, filter, get_or, refl, sym, ◌∙◌, ap, subst, arith, is_gt, nat_le, nat_lt, Option, Some, None, is_some, Result, Ok, Err}
+use Rattle.std.proofs.Common.{◌≡◌, ℕ, zero, suc, ◌+◌, ◌-◌, ◌<◌, ℤ, pos, negsuc, Bool, true, false, cond, ◌&&◌, List, [], ◌∷◌, map, reverse, length, filter, get_or, refl, sym, ◌∙◌, ap, subst, arith, is_gt, nat_le, nat_lt, Option, Some, None, Result, Ok, Err}
 use Rattle.std.specs.Prelude.{◌+ℤ◌, ◌-ℤ◌, ◌*ℤ◌, neg_ℤ, int_div, int_rem}
 use Rattle.std.specs.List.{AllByRecursion, enumerate_from}
 use Rattle.std.proofs.lemmas.Bool.{and_parts, false≢true}
@@ -20,7 +20,7 @@ use Rattle.wd_plan.specs.declared.window.Frame.{Frame}
 use Rattle.wd_plan.specs.declared.window.Function.{Function}
 use Rattle.wd_plan.specs.declared.window.Function.TheVariants.{Count, CountRows, DenseRank, FirstValue, Lag, LastValue, Lead, Max, Min, NthValue, Ntile, Rank, RowNumber, Sum}
 use Rattle.wd_plan.specs.Calls.{call_value, first_by, frame_values, sum_of, total}
-use Rattle.wd_plan.specs.Expressions.{Expression, Column, Literal, Negate, Arithmetic, Compare, Not, And, Or, IsNull, IsNotNull, Case, and_result, and_value, arithmetic, arithmetic_value, comparison, fits_64, in_64, is_null, is_true, negated, not_value, or_result, or_value, unless_zero, value_of}
+use Rattle.wd_plan.specs.Expressions.{Expression, Column, Literal, Negate, Arithmetic, Compare, Not, And, Or, IsNull, IsNotNull, Case, and_result, and_value, arithmetic, arithmetic_value, comparison, fits_64, in_64, is_true, negated, not_value, or_result, or_value, unless_zero, value_of}
 use Rattle.wd_plan.specs.Faults.{and_then}
 use Rattle.wd_plan.specs.Fits.{Kinds, are_alike, is_default, is_kind, is_of_kind, is_typed, kind_from, kind_of, same_kind, source_of_call, takes}
 use Rattle.wd_plan.specs.Frames.{frame_of, in_frame}

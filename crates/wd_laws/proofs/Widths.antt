@@ -1,6 +1,6 @@
 -- The rows of a node have its width, and their values its columns' kinds.
-use Rattle.std.proofs.Common.{◌≡◌, ℕ, zero, suc, ◌+◌, ◌-◌, ◌<◌, ◌≤◌, Bool, true, false, cond, not, ◌&&◌, List, [], ◌∷◌, ◌++◌, map, filter, flat_map, length, take, take_while, drop, get_or, refl, sym, ◌∙◌, ap, subst, arith, nat_eq, nat_lt, Option, Some, None, option_and_then, option_map, slice_get, Result, Ok, Err}
-use Rattle.std.specs.List.{AllByRecursion, list_all, range_with_len}
+use Rattle.std.proofs.Common.{◌≡◌, ℕ, zero, suc, ◌+◌, ◌-◌, ◌<◌, Bool, true, false, cond, not, ◌&&◌, List, [], ◌∷◌, ◌++◌, map, length, take, take_while, drop, refl, sym, ◌∙◌, ap, subst, arith, nat_eq, nat_lt, Option, Some, None, option_and_then, option_map, slice_get, Result, Ok, Err}
+use Rattle.std.specs.List.{AllByRecursion, list_all}
 use Rattle.std.proofs.lemmas.Bool.{and_parts, eqb-true, false≢true, ltb-false, ltb-true}
 use Rattle.std.proofs.lemmas.List.{get_or-append_right, get_or_append_left, length-append}
 use Rattle.std.proofs.lemmas.List.Sums.{take_while-cons}
@@ -11,7 +11,6 @@ use Rattle.wd_value.specs.Rows.{Instance, Row, column_of, row_at, rows_at, same_
 use Rattle.wd_value.specs.declared.value.ColumnType.{ColumnType}
 use Rattle.wd_value.specs.declared.value.ColumnType.TheVariants as type
 use Rattle.wd_value.specs.declared.value.Fault.{Fault}
-use Rattle.wd_value.specs.declared.value.Fault.TheVariants.{DivisionByZero, OutOfRange}
 use Rattle.wd_value.specs.declared.value.Value.{Value}
 use Rattle.wd_value.specs.declared.value.Value.TheVariants.{Int, Null, Text as TextValue, Bool as TruthValue}
 use Rattle.wd_schema.specs.declared.table.Column.{Column as TableColumn}
@@ -21,10 +20,10 @@ use Rattle.wd_plan.specs.declared.expression.ValueKind.{ValueKind}
 use Rattle.wd_plan.specs.declared.fits.KindSource.{KindSource}
 use Rattle.wd_plan.specs.declared.plan.OrderItem.{OrderItem}
 use Rattle.wd_plan.specs.declared.window.Call.{Call}
-use Rattle.wd_plan.specs.Choices.{AreLawful, AreOrderings, AtRows}
+use Rattle.wd_plan.specs.Choices.{AreLawful, AtRows}
 use Rattle.wd_plan.specs.Expressions.{Expression, value_of}
 use Rattle.wd_plan.specs.Faults.{all_ok, and_then, least_fault, unless, values_among}
-use Rattle.wd_plan.specs.Fits.{Kinds, are_bounds, are_outputs, fits, has_class, has_keys_for, has_table, is_call, is_condition, is_join, is_limit, is_narrow, is_of_kind, is_typed, is_window, kind_from, kind_of_type, kinds_of, may_join, source_of, source_of_call_at, table_kind, takes, width}
+use Rattle.wd_plan.specs.Fits.{Kinds, are_bounds, are_outputs, fits, has_class, has_keys_for, has_table, is_call, is_condition, is_join, is_limit, is_narrow, is_of_kind, is_typed, is_window, kind_from, kind_of_type, kinds_of, source_of, source_of_call_at, table_kind, takes, width}
 use Rattle.wd_plan.specs.Outcomes.{RowsOrFault, call_at, class_at, cut, distinct, extended, filter_outcome, first_rows, join_outcome, map_outcome, ordering_at, outcome, pairs, passes, peers, window_outcome}
 use Rattle.wd_plan.specs.Partitions.{members, partition_of, place_of}
 use Rattle.wd_plan.specs.Plans.{ClassRule, LimitRule, PlanTree, Scan, Join, Filter, Map, Window, Distinct, Limit, WindowRule, ordering_count}
