@@ -1,5 +1,5 @@
 -- NTILE's buckets hold stretches of the places: as even as can be, the larger ones first.
-use Rattle.std.proofs.Common.{◌≡◌, ℕ, zero, suc, ◌+◌, ◌-◌, ◌*◌, ◌/◌, ◌%◌, min, ◌<◌, ◌≤◌, Bool, true, false, cond, ◌∷◌, count_by, refl, sym, ◌∙◌, ap, subst, arith, nat_lt, nat_eq, le_trans}
+use Rattle.std.proofs.Common.{◌≡◌, ℕ, zero, suc, ◌+◌, ◌-◌, ◌*◌, ◌/◌, ◌%◌, min, ◌<◌, ◌≤◌, Bool, true, false, cond, ◌∷◌, length, count_by, refl, sym, ◌∙◌, ap, subst, arith, nat_lt, nat_eq, le_trans}
 use Rattle.std.specs.List.{range_with_len, sum_by}
 use Rattle.std.proofs.Math.Nat.{div-add-mod, min-eq_left, min-eq_right, min-le_left, min-le_right, mod-eq_of_lt, mod-lt, mul-le-mul_right, suc-mul, zero-add, zero-mul, zero-min}
 use Rattle.std.proofs.lemmas.Bool.{eq-eqb, ltb-false, ltb-true, ne_eqb}
@@ -173,7 +173,7 @@ module _ (n members : ℕ) where
         number_is : (x : ℕ) → x + 1 ≡ b + 1 → x ≡ b
         number_is x e = omega arith
 
-    sizes : (b : ℕ) → b < n → bucket_size n members b ≡ size b
+    sizes : (b : ℕ) → b < n → bucket_size (bucket n members) members b ≡ size b
     sizes b k =
         let rest = members - (start b + size b) in
         let next = start_next b in
@@ -191,14 +191,14 @@ module _ (n members : ℕ) where
         all_parts a s m h = omega arith
 
     -- the first buckets' sizes add up to where the next one starts
-    sum_from : (a k : ℕ) → a + k ≤ n → sum_by (bucket_size n members) (range_with_len a k) + start a ≡ start (a + k)
+    sum_from : (a k : ℕ) → a + k ≤ n → sum_by (bucket_size (bucket n members) members) (range_with_len a k) + start a ≡ start (a + k)
     sum_from a zero h = zero-add (start a) ∙ ap start same
       where
         same : a ≡ a + 0
         same = omega arith
     sum_from a (suc k) h =
         let own = sizes a (omega arith) in
-        let sum = sum_by-cons (bucket_size n members) a (range_with_len (a + 1) k) in
+        let sum = sum_by-cons (bucket_size (bucket n members) members) a (range_with_len (a + 1) k) in
         let next = start_next a in
         let more = sum_from (a + 1) k (omega arith) in
         let at_end : start ((a + 1) + k) ≡ start (a + suc k) = ap start further in
@@ -207,7 +207,7 @@ module _ (n members : ℕ) where
         further : (a + 1) + k ≡ a + suc k
         further = omega arith
 
-    sums : sum_by (bucket_size n members) (positions n) ≡ members
+    sums : sum_by (bucket_size (bucket n members) members) (positions n) ≡ members
     sums =
         let all = sum_from 0 n (omega arith) in
         let none = start_none in
@@ -233,7 +233,7 @@ module _ (n members : ℕ) where
             behind x y = omega arith
         by false e = subst (λ x. x ≤ start b) start_end (start_rises n b (ltb-false b n e))
 
-    empty : (b : ℕ) → members ≤ b → bucket_size n members b ≡ 0
+    empty : (b : ℕ) → members ≤ b → bucket_size (bucket n members) members b ≡ 0
     empty b h = let l = none_left b h in none_pass (is_in b) 0 members (λ i g m. not_in_it b i (omega arith) (λ f t. omega arith))
 
     in_order : (i j : ℕ) → i ≤ j → j < members → bucket n members i ≤ bucket n members j
@@ -271,11 +271,15 @@ module _ (n members : ℕ) where
         by false false = omega arith
 
 pub ntile_is_even : NtileIsEven
-ntile_is_even n members some = record {
-  sizes = λ g h. sizes n members some g h;
-  larger_first = λ g h k l. (let a = sizes n members some g (omega arith) in let b = sizes n members some h l in let c = size_falls n members some g h k in omega arith);
-  close = λ g h k l. (let a = sizes n members some g k in let b = sizes n members some h l in let c = size_close n members some g h in omega arith);
-  all = sums n members some;
-  none_left = λ g h. empty n members some g h;
-  in_order = λ i j h k. in_order n members some i j h k;
-}
+ntile_is_even class frame partition n some = let members = length partition in (
+  bucket n members,
+  λ i. refl,
+  record {
+    sizes = λ g h. sizes n members some g h;
+    larger_first = λ g h k l. (let a = sizes n members some g (omega arith) in let b = sizes n members some h l in let c = size_falls n members some g h k in omega arith);
+    close = λ g h k l. (let a = sizes n members some g k in let b = sizes n members some h l in let c = size_close n members some g h in omega arith);
+    all = sums n members some;
+    none_left = λ g h. empty n members some g h;
+    in_order = λ i j h k. in_order n members some i j h k;
+  },
+)

@@ -15,8 +15,8 @@ use Rattle.wd_plan.specs.declared.window.Bound.TheVariants.{UnboundedFollowing, 
 use Rattle.wd_plan.specs.declared.window.Exclusion.TheVariants.{NoOthers}
 use Rattle.wd_plan.specs.declared.window.Frame.{Frame}
 use Rattle.wd_plan.specs.declared.window.Function.{Function}
-use Rattle.wd_plan.specs.declared.window.Function.TheVariants.{RowNumber}
-use Rattle.wd_plan.specs.Calls.{bucket, greatest, least, value_at}
+use Rattle.wd_plan.specs.declared.window.Function.TheVariants.{Ntile, RowNumber}
+use Rattle.wd_plan.specs.Calls.{call_value, greatest, least, value_at}
 use Rattle.wd_plan.specs.Choices.{AreLawful, AreOrderings, AtRows, IsAnswerOf, IsValidChoice}
 use Rattle.wd_plan.specs.Expressions.{Expression, is_null}
 use Rattle.wd_plan.specs.Facts.{GivesAll, HasWidth}
@@ -156,22 +156,24 @@ FramesAreContiguous = (class : ClassRule) (frame : Frame) (rows : List Row) (ord
     → IsOrdering class rows ordering → frame.exclusion ≡ NoOthers → m < length (partition_of class rows ordering p)
     → IsContiguous class frame (partition_of class rows ordering p) m
 
--- how many of so many members NTILE(n) gives to the bucket that stands behind g others
-abbrev pub bucket_size : ℕ → ℕ → ℕ → ℕ
-bucket_size n members g = count_by (λ place. nat_eq (bucket n members place) (g + 1)) (positions members)
+-- the size of the bucket behind g others: how many of so many places have its number
+abbrev pub bucket_size : (ℕ → ℕ) → ℕ → ℕ → ℕ
+bucket_size number members g = count_by (λ place. nat_eq (number place) (g + 1)) (positions members)
 
--- NTILE(n) deals the members out evenly: the sizes of its n buckets differ by at most one, the larger ones come first, and
--- together they hold all members; where there are fewer members than buckets the last ones are empty
-pub record BucketsAreEven (n members : ℕ) : Type 0 where
-  pub sizes : (g : ℕ) → g < n → bucket_size n members g ≡ members / n + (if nat_lt g (members % n) then 1 else 0)
-  pub larger_first : (g h : ℕ) → g < h → h < n → bucket_size n members h ≤ bucket_size n members g
-  pub close : (g h : ℕ) → g < n → h < n → bucket_size n members g ≤ bucket_size n members h + 1
-  pub all : sum_by (bucket_size n members) (positions n) ≡ members
-  pub none_left : (g : ℕ) → members ≤ g → bucket_size n members g ≡ 0
-  pub in_order : (i j : ℕ) → i ≤ j → j < members → bucket n members i ≤ bucket n members j
+-- So many members are dealt to n buckets, numbered from 1, as evenly as can be: the sizes differ by at most one, the larger
+-- ones come first, and together they are all members. Where there are fewer members than buckets the last ones are empty.
+pub record BucketsAreEven (n members : ℕ) (number : ℕ → ℕ) : Type 0 where
+  pub sizes : (g : ℕ) → g < n → bucket_size number members g ≡ members / n + (if nat_lt g (members % n) then 1 else 0)
+  pub larger_first : (g h : ℕ) → g < h → h < n → bucket_size number members h ≤ bucket_size number members g
+  pub close : (g h : ℕ) → g < n → h < n → bucket_size number members g ≤ bucket_size number members h + 1
+  pub all : sum_by (bucket_size number members) (positions n) ≡ members
+  pub none_left : (g : ℕ) → members ≤ g → bucket_size number members g ≡ 0
+  pub in_order : (i j : ℕ) → i ≤ j → j < members → number i ≤ number j
 
+-- NTILE(n) gives each place of a partition list its bucket's number
 abbrev pub NtileIsEven : Type 0
-NtileIsEven = (n members : ℕ) → 0 < n → BucketsAreEven n members
+NtileIsEven = (class : ClassRule) (frame : Frame) (partition : List Row) (n : ℕ) → 0 < n
+    → (number : ℕ → ℕ) × ((i : ℕ) → call_value class frame (Ntile n) partition i ≡ Ok (Int (pos (number i)))) × BucketsAreEven n (length partition) number
 
 -- v is one of the values, none of them that is not NULL comes before it, and it is NULL only where all are
 pub record IsFirstOf (comes_before : Value → Value → Bool) (values : List Value) (v : Value) : Type 0 where

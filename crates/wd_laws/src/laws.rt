@@ -1,4 +1,4 @@
-//! Laws over the definitions alone: no choice changes what they speak of.
+//! Laws over the definitions of plans alone.
 
 ghost use Rattle.wd_laws.specs.Laws.{AgreeingIsAnEquivalence, ValuesGoByRows, SameRowsAtPlaces, SameResults, WindowHasOne, LimitHasOne, PlanHasOne, WindowCommutes, HasValidChoice, PeerGroupsRise, RowNumbersCount, StepsCommute, LimitCommutes, PlanCommutes, FramesAreContiguous, NtileIsEven, ExtremesAreFirst, HasWidths, HasKinds};
 
