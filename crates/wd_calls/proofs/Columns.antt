@@ -16,8 +16,7 @@ use Rattle.wd_value.specs.Order.{compare}
 use Rattle.wd_value.specs.Rows.{Row, column_of, row_at}
 use Rattle.wd_plan.specs.Calls.{first_by, total}
 use Rattle.wd_plan.specs.Expressions.{is_null}
-use Rattle.wd_plan.specs.Laws.{GroupsRise}
-use Rattle.wd_plan.specs.Partitions.{group_of}
+use Rattle.wd_plan.specs.Partitions.{GroupsRise, group_of}
 use Rattle.wd_plan.specs.Plans.{ClassRule}
 use Rattle.wd_calls.specs.Values.{number_of, present, values_at}
 

@@ -7,8 +7,7 @@ use Rattle.wd_plan.specs.declared.window.Frame.{Frame}
 use Rattle.wd_plan.specs.declared.window.Function.{Function}
 use Rattle.wd_plan.specs.Calls.{call_value}
 use Rattle.wd_plan.specs.Frames.{key_distance, value_distance}
-use Rattle.wd_plan.specs.Laws.{GroupsRise}
-use Rattle.wd_plan.specs.Partitions.{group_of}
+use Rattle.wd_plan.specs.Partitions.{GroupsRise, group_of}
 use Rattle.wd_plan.specs.Plans.{ClassRule}
 use Rattle.wd_frame.specs.Laws.{has_range_offset}
 use Rattle.wd_frame.specs.Places.{PartRule, key_at}

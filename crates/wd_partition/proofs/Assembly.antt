@@ -12,9 +12,8 @@ use Rattle.wd_plan.specs.declared.plan.OrderItem.{OrderItem}
 use Rattle.wd_plan.specs.Partitions.{group_of, members, partition_of, place_of}
 use Rattle.wd_plan.specs.Plans.{ClassRule}
 use Rattle.wd_plan.specs.Sorting.{same_partition}
-use Rattle.wd_plan.proofs.Calls as calls
-use Rattle.wd_plan.proofs.Exchange.{same_shows}
-use Rattle.wd_plan.proofs.Grouped.{filter_passes_at}
+use Rattle.wd_plan.proofs.Places as laws
+use Rattle.wd_plan.proofs.Places.{same_shows, filter_passes_at}
 use Rattle.wd_plan.proofs.Parts.{same_partition_is}
 use Rattle.wd_partition.specs.declared.places.Place.{Place}
 use Rattle.wd_partition.specs.Members.{ArePartitions, AreWithin, IsWithin, MemberRule, key_numbers, member_at, member_of, members_of, number_of, own_group}
@@ -81,7 +80,7 @@ module _ (class : ClassRule) (asked : Bool) (rows : List Row) (s : List ℕ) (gr
       (λ i within.
       let q = get_or (members class rows s p) i 0 in
       let passes : same_partition class (row_at rows p) (row_at rows q) ≡ true = filter_passes_at (λ q. same_partition class (row_at rows p) (row_at rows q)) s i 0 within in
-      ap (λ (ms : List ℕ). group_of class (rows_at rows ms) (row_at rows q)) (calls.same_members class rows s (row_at rows p) q (same_partition_is class (row_at rows p) (row_at rows q) passes)))
+      ap (λ (ms : List ℕ). group_of class (rows_at rows ms) (row_at rows q)) (laws.same_members class rows s (row_at rows p) q (same_partition_is class (row_at rows p) (row_at rows q) passes)))
 
   groups_stretch : (p : ℕ) → take (finish p - begin p) (drop (begin p) (map (own_group class rows s) s)) ≡ map (group_of class (partition_of class rows s p)) (partition_of class rows s p)
   groups_stretch p =
@@ -110,7 +109,7 @@ module _ (class : ClassRule) (asked : Bool) (rows : List Row) (s : List ℕ) (gr
       let found = found_once (length rows) s p grouped.lawful.once low in
       let within = long_enough class rows s grouped p (place_of s p) found.0 (finish_high p low) (begins_low p low) in
       let here : get_or (members class rows s p) (place_of s p - begin p) 0 ≡ p = member_here class rows s grouped p (place_of s p) found.0 (finish_high p low) (begins_low p low) ∙ found.1 in
-      sym (ap (place_of (members class rows s p)) (sym here) ∙ calls.place_member class rows s p (place_of s p - begin p) grouped.lawful.once within)
+      sym (ap (place_of (members class rows s p)) (sym here) ∙ laws.place_member class rows s p (place_of s p - begin p) grouped.lawful.once within)
 
   member_is : (p : ℕ) → p < length rows → member_at s (map (own_group class rows s) s) (key_numbers asked class.order (rows_at rows s)) (place_at p) ≡ member_of class asked rows s p
   member_is p low = λ i. record {

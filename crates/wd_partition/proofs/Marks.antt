@@ -8,7 +8,7 @@ use Rattle.std.proofs.lemmas.List.FromFn.{length-range_with_len}
 use Rattle.std.proofs.lemmas.List.Sums.{count_by-le-length, sum_by_more_le}
 use Rattle.wd_value.specs.Bags.{EachOnce, positions, times}
 use Rattle.wd_value.proofs.Perms.{Perm-from_SameBag, Perm-length, count_by-cons}
-use Rattle.wd_plan.proofs.Grouped.{found_at_place, place-get_or, range-times, times-get_or, times-range, times-range-le}
+use Rattle.wd_plan.proofs.Places.{found_at_place, place-get_or, range-times, times-get_or, times-range, times-range-le}
 use Rattle.wd_plan.specs.Partitions.{place_of}
 use Rattle.wd_partition.specs.Seen.{AreSeen}
 

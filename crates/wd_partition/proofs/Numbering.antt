@@ -6,11 +6,10 @@ use Rattle.std.proofs.lemmas.List.{get_or-take, get_or-drop, get_or-map, length-
 use Rattle.wd_value.specs.Rows.{Row, columns_of, row_at, rows_at}
 use Rattle.wd_sort.specs.Sorting.{compare_rows, compare_rows_at}
 use Rattle.wd_plan.specs.Keys.{compare_keys}
-use Rattle.wd_plan.specs.Laws.{GroupsRise}
-use Rattle.wd_plan.specs.Partitions.{group_of, members, partition_of}
+use Rattle.wd_plan.specs.Partitions.{GroupsRise, group_of, members, partition_of}
 use Rattle.wd_plan.specs.Plans.{ClassRule}
 use Rattle.wd_plan.specs.Sorting.{IsOrdering, order_columns, same_partition}
-use Rattle.wd_plan.proofs.Calls as calls
+use Rattle.wd_plan.proofs.Places as laws
 use Rattle.wd_plan.proofs.Groups.{key_from_group}
 use Rattle.wd_plan.proofs.GroupsRise.{peer_groups_rise}
 use Rattle.wd_plan.proofs.KeyLaws.{compare_keys-exact, compare_keys-ties}
@@ -92,7 +91,7 @@ module _ (class : ClassRule) (rows : List Row) (s : List ℕ) (grouped : IsGroup
     same_partition_rows : partition_of class rows s q ≡ partition_of class rows s p
     same_partition_rows =
         let is : same_partition class (row_at rows q) (row_at rows p) ≡ true = sym (tie_is_partition class.partition (row_at rows q) (row_at rows p)) ∙ tie in
-        sym (ap (rows_at rows) (calls.same_members class rows s (row_at rows q) p (same_partition_is class (row_at rows q) (row_at rows p) is)))
+        sym (ap (rows_at rows) (laws.same_members class rows s (row_at rows q) p (same_partition_is class (row_at rows q) (row_at rows p) is)))
 
     starts_low : start p ≤ k
     starts_low = subst (λ n. n ≤ k) (same_start by_partition (rows_total (partition_columns class.partition) rows) s q p tie) (start_low k (omega arith))

@@ -4,17 +4,30 @@ use Rattle.std.specs.List.{AllByRecursion, list_any}
 use Rattle.std.specs.Ordering.{ordering_reverse}
 use Rattle.std.proofs.lemmas.List.{map-append}
 use Rattle.std.proofs.lemmas.Cmp.{alike_right, tied_itself}
-use Rattle.wd_plan.proofs.Frames.{Perm-different}
 use Rattle.wd_plan.proofs.KeyLaws.{compare_keys-exact, compare_keys-ties, compare_keys_total}
 use Rattle.wd_plan.specs.Keys.{compare_keys}
 use Rattle.wd_plan.specs.Partitions.{different, group_of}
 use Rattle.wd_plan.specs.Plans.{ClassRule}
 use Rattle.wd_plan.specs.Sorting.{order_columns}
 use Rattle.wd_plan.specs.declared.plan.OrderItem.{OrderItem}
-use Rattle.wd_value.proofs.Perms.{Perm, Perm-map, Perm-middle, Perm-refl, Perm-sym, both, keep}
+use Rattle.wd_value.proofs.Perms.{Perm, Perm-map, Perm-middle, Perm-refl, Perm-sym, both, keep, Perm-list_any, done, flip}
 use Rattle.wd_value.proofs.SameLaws.{same_row-Decides}
 use Rattle.wd_value.specs.Rows.{Row, columns_of, row_at, same_row}
 use Rattle.wd_value.specs.declared.value.Value.{Value}
+
+-- ---- different keys
+
+if_swaps : (ks : List (List Value)) (k l : List Value) (a b : Bool) → same_row k l ≡ a → same_row l k ≡ b → different (k ∷ l ∷ ks) ≡ different (l ∷ k ∷ ks)
+if_swaps ks k l true true e f = ap (λ m. different (m ∷ l ∷ ks)) ((same_row-Decides k l).0 e) ∙ ap (λ m. different (l ∷ m ∷ ks)) (sym ((same_row-Decides k l).0 e))
+if_swaps ks k l true false e f = absurd (let g = (same_row-Decides l k).1 (sym ((same_row-Decides k l).0 e)) in cc)
+if_swaps ks k l false true e f = absurd (let g = (same_row-Decides k l).1 (sym ((same_row-Decides l k).0 f)) in cc)
+if_swaps ks k l false false e f = rw (e, f) (omega arith)
+
+pub Perm-different : {ks ls : List (List Value)} → Perm (List Value) ks ls → different ks ≡ different ls
+Perm-different done = refl
+Perm-different (keep k {xs = xs} {ys = ys} p) = (λ i. cond (Perm-list_any (same_row k) p i) 0 1 + Perm-different p i)
+Perm-different (flip k l ks) = if_swaps ks k l (same_row k l) (same_row l k) refl refl
+Perm-different (both p q) = Perm-different p ∙ Perm-different q
 
 pub any_append : {X : Type 0} (t : X → Bool) (xs ys : List X) → list_any t (xs ++ ys) ≡ (list_any t xs || list_any t ys)
 any_append t [] ys = refl

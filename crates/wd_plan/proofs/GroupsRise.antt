@@ -3,9 +3,9 @@ use Rattle.std.proofs.Common.{◌≡◌, ℕ, ◌+◌, ◌<◌, ◌⊎◌, inl, 
 use Rattle.std.proofs.lemmas.List.{take-append-drop, drop_more}
 use Rattle.wd_value.specs.Rows.{Row, row_at}
 use Rattle.wd_plan.specs.Keys.{compare_keys}
-use Rattle.wd_plan.specs.Laws.{GroupsRise, PeerGroupsRise}
-use Rattle.wd_plan.specs.Partitions.{group_of}
+use Rattle.wd_plan.specs.Partitions.{GroupsRise, group_of, partition_of}
 use Rattle.wd_plan.specs.Plans.{ClassRule}
+use Rattle.wd_plan.specs.Sorting.{IsOrdering}
 use Rattle.wd_plan.proofs.Parts.{NotAfter, partition_of-is, part, ordered, rising_part}
 use Rattle.wd_plan.proofs.Sorted.{Rising}
 use Rattle.wd_plan.proofs.SortedGroups.{first_group, tied_group, next_group}
@@ -40,6 +40,6 @@ rises class rows h = record {
     first_of [] g some = absurd (omega arith)
     first_of (r ∷ rs) g some = first_group class r rs g.0
 
-pub peer_groups_rise : PeerGroupsRise
+pub peer_groups_rise : (class : ClassRule) (rows : List Row) (ordering : List ℕ) (p : ℕ) → IsOrdering class rows ordering → GroupsRise class (partition_of class rows ordering p)
 peer_groups_rise class rows ordering p lawful =
     subst (GroupsRise class) (sym (partition_of-is class rows ordering p)) (rises class (part class (row_at rows p) (ordered rows ordering)) (rising_part class (row_at rows p) (ordered rows ordering) lawful.in_order))

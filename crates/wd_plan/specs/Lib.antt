@@ -11,5 +11,3 @@ pub mod Choices
 pub mod Facts
 pub mod Justified
 pub mod Fits
-pub mod Laws
-pub mod examples

@@ -1,5 +1,5 @@
 -- The partition list of a row, places in it, and peer groups.
-use Rattle.std.specs.Prelude.{ℕ, suc, ◌+◌, List, [], ◌∷◌, map, filter, nat_eq, if◌then◌else◌}
+use Rattle.std.specs.Prelude.{◌≡◌, ◌⊎◌, ℕ, suc, ◌+◌, ◌<◌, List, [], ◌∷◌, map, filter, length, nat_eq, if◌then◌else◌}
 use Rattle.std.specs.List.{list_any}
 use Rattle.std.specs.Ordering.{is_lt}
 use Rattle.wd_value.specs.declared.value.Value.{Value}
@@ -30,3 +30,10 @@ different (k ∷ ks) = (if list_any (same_row k) ks then 0 else 1) + different k
 -- without sort keys all rows are of group 0
 abbrev pub group_of : ClassRule → List Row → Row → ℕ
 group_of class partition r = different (map (columns_of (key_columns class.order)) (filter (λ q. is_lt (compare_keys class.order q r)) partition))
+
+-- the first peer group number along a partition list is 0, and each is that before it or one more
+pub record GroupsRise (class : ClassRule) (partition : List Row) : Type 0 where
+  pub first : 0 < length partition → group_of class partition (row_at partition 0) ≡ 0
+  pub next : (i : ℕ) → i + 1 < length partition
+      → (group_of class partition (row_at partition (i + 1)) ≡ group_of class partition (row_at partition i))
+      ⊎ (group_of class partition (row_at partition (i + 1)) ≡ group_of class partition (row_at partition i) + 1)

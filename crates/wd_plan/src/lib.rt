@@ -1,10 +1,8 @@
 //! Plans of queries, and what a plan gives over an instance under a choice of orderings.
 #![tactic(auto)]
 
-mod examples;
 mod expression;
 mod fits;
-pub mod laws;
 mod plan;
 mod window;
 

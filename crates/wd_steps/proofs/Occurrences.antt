@@ -20,7 +20,7 @@ use Rattle.std.specs.declared.alloc.Global.{Global}
 use Rattle.std.specs.declared.vec.Vec.{Vec}
 use Rattle.wd_value.specs.Rows.{Row, row_at, rows_of, same_row}
 use Rattle.wd_steps.proofs.Filtering.{items, same_at}
-use Rattle.wd_plan.proofs.Grouped.{times-range-le}
+use Rattle.wd_plan.proofs.Places.{times-range-le}
 use Rattle.wd_plan.specs.Outcomes.{distinct}
 use Rattle.wd_steps.specs.Repeats.{AreMarked, IsRowSort, SameBefore, are_same, ascending, compare_positions, compare_rows, repeats}
 use Rattle.wd_steps.proofs.Results.{map_more}

@@ -12,8 +12,7 @@ use Rattle.wd_plan.specs.Calls.{call_value, value_at}
 use Rattle.wd_plan.specs.Partitions.{members, partition_of, place_of}
 use Rattle.wd_plan.specs.Plans.{ClassRule}
 use Rattle.wd_plan.specs.Sorting.{IsOrdering, same_partition}
-use Rattle.wd_plan.proofs.Calls.{in_part, place_member, same_members}
-use Rattle.wd_plan.proofs.Grouped.{filter_passes_at, range-times, times-filter-le, times-get_or}
+use Rattle.wd_plan.proofs.Places.{in_part, place_member, same_members, filter_passes_at, range-times, times-filter-le, times-get_or}
 use Rattle.wd_plan.proofs.Parts.{same_partition_is}
 use Rattle.wd_frame.specs.Laws.{is_descending}
 use Rattle.wd_partition.specs.Members.{MemberRule, member_of}

@@ -17,7 +17,7 @@ use Rattle.wd_plan.specs.Frames.{key_distance, value_distance}
 use Rattle.wd_plan.specs.Partitions.{partition_of}
 use Rattle.wd_plan.specs.Plans.{ClassRule}
 use Rattle.wd_plan.specs.Sorting.{IsOrdering}
-use Rattle.wd_plan.proofs.Calls.{in_part}
+use Rattle.wd_plan.proofs.Places.{in_part}
 use Rattle.wd_plan.proofs.GroupsRise.{peer_groups_rise}
 use Rattle.wd_frame.specs.Laws.{is_descending}
 use Rattle.wd_frame.specs.Places.{PartRule}

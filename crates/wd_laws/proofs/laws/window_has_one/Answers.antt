@@ -1,0 +1,5 @@
+use Rattle.wd_laws.proofs.TheLaws as laws
+use Rattle.wd_laws.proofs.laws.window_has_one.Goals as goal
+
+pub returns : goal.returns
+returns c = laws.window_has_one

@@ -1,0 +1,201 @@
+-- Laws over the definitions.
+use Rattle.std.specs.Prelude.{◌≡◌, ℕ, pos, ◌+◌, ◌/◌, ◌%◌, ◌<◌, ◌≤◌, Bool, true, false, List, map, length, take, drop, count_by, nat_eq, nat_lt, slice_index_or, if◌then◌else◌, Option, Some, Result, Ok, ⊤}
+use Rattle.std.specs.List.{AllByRecursion, sum_by}
+use Rattle.std.specs.Ordering.{is_gt, is_lt}
+use Rattle.wd_value.specs.Bags.{SameBag, EachOnce, positions}
+use Rattle.wd_value.specs.Order.{compare_ascending}
+use Rattle.wd_value.specs.Rows.{Row, Instance, same_row, column_of, row_at, rows_at, table_at}
+use Rattle.wd_value.specs.declared.value.Fault.{Fault}
+use Rattle.wd_value.specs.declared.value.Value.{Value}
+use Rattle.wd_value.specs.declared.value.Value.TheVariants.{Int, Null}
+use Rattle.wd_schema.specs.Meets.{Meets}
+use Rattle.wd_schema.specs.Tables.{TableRule}
+use Rattle.wd_plan.specs.declared.expression.ValueKind.{ValueKind}
+use Rattle.wd_plan.specs.declared.window.Bound.TheVariants.{UnboundedFollowing, UnboundedPreceding}
+use Rattle.wd_plan.specs.declared.window.Exclusion.TheVariants.{NoOthers}
+use Rattle.wd_plan.specs.declared.window.Frame.{Frame}
+use Rattle.wd_plan.specs.declared.window.Function.{Function}
+use Rattle.wd_plan.specs.declared.window.Function.TheVariants.{Ntile, RowNumber}
+use Rattle.wd_plan.specs.Calls.{call_value, greatest, least, value_at}
+use Rattle.wd_plan.specs.Choices.{AreLawful, AreOrderings, AtRows, IsAnswerOf, IsValidChoice}
+use Rattle.wd_plan.specs.Expressions.{Expression, is_null}
+use Rattle.wd_plan.specs.Facts.{GivesAll, HasWidth}
+use Rattle.wd_plan.specs.Faults.{all_ok}
+use Rattle.wd_plan.specs.Fits.{Kinds, fits, is_of_kind, kinds_of, width}
+use Rattle.wd_plan.specs.Frames.{frame_of, in_frame}
+use Rattle.wd_plan.specs.Justified.{IsByRow, IsJustified, IsJustifiedLimit, IsJustifiedPlan, NamesClasses}
+use Rattle.wd_plan.specs.Outcomes.{RowsOrFault, Agree, outcome, filter_outcome, map_outcome, join_outcome, pairs, distinct, window_outcome, extended, cut}
+use Rattle.wd_plan.specs.Partitions.{GroupsRise, members, partition_of, group_of}
+use Rattle.wd_plan.specs.Plans.{ClassRule, WindowRule, LimitRule, PlanTree}
+use Rattle.wd_plan.specs.Sorting.{IsOrdering, class_columns, limit_class}
+
+-- agreeing is reflexive, symmetric and transitive
+pub record AgreeingIsAnEquivalence : Type 0 where
+  pub itself : (a : RowsOrFault) → Agree a a
+  pub back : (a b : RowsOrFault) → Agree a b → Agree b a
+  pub on : (a b c : RowsOrFault) → Agree a b → Agree b c → Agree a c
+
+-- The local calls law: the value or fault of a call that goes by the row is a function of the row's columns and of the rows of
+-- the input, in any order and under any lawful orderings.
+abbrev pub ValuesGoByRows : Type 0
+ValuesGoByRows = (class : ClassRule) (frame : Frame) (function : Function) (rows others : List Row) (o1 o2 : List ℕ) (p q : ℕ)
+    → IsByRow class frame function rows → SameBag same_row rows others → IsOrdering class rows o1 → IsOrdering class others o2
+    → p < length rows → q < length others → row_at rows p ≡ row_at others q
+    → value_at class frame function rows o1 p ≡ value_at class frame function others o2 q
+
+-- the exchange law: two orderings of a class that gives every column put the same rows at each place of each partition
+abbrev pub SameRowsAtPlaces : Type 0
+SameRowsAtPlaces = (class : ClassRule) (width : ℕ) (rows : List Row) (o1 o2 : List ℕ) (p : ℕ)
+    → HasWidth width rows → GivesAll rows width (class_columns class) → IsOrdering class rows o1 → IsOrdering class rows o2
+    → partition_of class rows o1 p ≡ partition_of class rows o2 p
+
+-- a row with the results of calls of a class: their values, or their faults
+abbrev pub with_results : ClassRule → List (Frame × Function) → List Row → List ℕ → ℕ → Row × List (Result Value Fault)
+with_results class calls rows ordering r = (row_at rows r, map (λ call. value_at class call.0 call.1 rows ordering r) calls)
+
+-- The exchange law's other half: under two orderings of a class that gives every column, each row with its results stands
+-- equally often, faults included: any test finds as many of them.
+abbrev pub SameResults : Type 0
+SameResults = (class : ClassRule) (calls : List (Frame × Function)) (width : ℕ) (rows : List Row) (o1 o2 : List ℕ) (test : Row × List (Result Value Fault) → Bool)
+    → HasWidth width rows → GivesAll rows width (class_columns class) → IsOrdering class rows o1 → IsOrdering class rows o2
+    → let all = positions (length rows) in
+    count_by test (map (with_results class calls rows o1) all) ≡ count_by test (map (with_results class calls rows o2) all)
+
+-- a Window whose calls are justified, at most one class of them by exchange, has one outcome over rearranged rows
+abbrev pub WindowHasOne : Type 0
+WindowHasOne = (w : WindowRule) (exchange width : ℕ) (rows others : List Row) (os1 os2 : List (List ℕ))
+    → SameBag same_row rows others → AreOrderings w rows os1 → AreOrderings w others os2 → HasWidth width rows → NamesClasses w
+    → AllByRecursion (IsJustified w exchange width rows) w.calls → Agree (window_outcome w rows os1) (window_outcome w others os2)
+
+-- the limit law: a justified limit cuts the same rows under every ordering
+abbrev pub LimitHasOne : Type 0
+LimitHasOne = (limit : LimitRule) (width : ℕ) (rows others : List Row) (o1 o2 : List ℕ)
+    → SameBag same_row rows others → IsOrdering (limit_class limit) rows o1 → IsOrdering (limit_class limit) others o2
+    → HasWidth width rows → IsJustifiedLimit limit width rows → SameBag same_row (cut limit (rows_at rows o1)) (cut limit (rows_at others o2))
+
+-- the tables of one instance are rearrangements of the other's
+abbrev pub SameTables : Instance → Instance → Type 0
+SameTables instance other = (table : ℕ) → SameBag same_row (table_at instance table) (table_at other table)
+
+-- The composition law: a plan that is justified under one valid choice has outcomes that agree under every valid choice, over
+-- the same tables in any row order, faults included.
+abbrev pub PlanHasOne : Type 0
+PlanHasOne = (plan : PlanTree) (instance other : Instance) (c1 c2 : List (List ℕ))
+    → SameTables instance other → IsValidChoice plan instance c1 → IsValidChoice plan other c2 → IsJustifiedPlan plan instance c1
+    → Agree (outcome plan instance c1) (outcome plan other c2)
+
+-- the position that stands at a place of a rearrangement; past its end, one that names no row
+abbrev pub renamed : List Row → List ℕ → ℕ → ℕ
+renamed rows ps q = slice_index_or ps q (length rows)
+
+-- over rearranged rows a Window gives the rearranged rows of the renamed orderings, which are lawful too
+pub record Commutes (w : WindowRule) (rows : List Row) (ps : List ℕ) (os : List (List ℕ)) : Type 0 where
+  pub valid : AreOrderings w rows (map (map (renamed rows ps)) os)
+  pub same_rows : window_outcome w (rows_at rows ps) os ≡ all_ok (map (extended w rows (map (map (renamed rows ps)) os)) ps)
+
+-- the renaming law of a Window
+abbrev pub WindowCommutes : Type 0
+WindowCommutes = (w : WindowRule) (rows : List Row) (ps : List ℕ) (os : List (List ℕ)) → EachOnce (length rows) ps → AreOrderings w (rows_at rows ps) os → Commutes w rows ps os
+
+-- ROW_NUMBER over the members of a partition, in their ordering, gives 1 to as many as there are
+abbrev pub RowNumbersCount : Type 0
+RowNumbersCount = (class : ClassRule) (frame : Frame) (rows : List Row) (ordering : List ℕ) (p : ℕ)
+    → IsOrdering class rows ordering
+    → let part = members class rows ordering p in
+    map (value_at class frame RowNumber rows ordering) part ≡ map (λ i. Ok (Int (pos (i + 1)))) (positions (length part))
+
+-- along a partition list under a lawful ordering peer group numbers begin at 0 and rise by at most one
+abbrev pub PeerGroupsRise : Type 0
+PeerGroupsRise = (class : ClassRule) (rows : List Row) (ordering : List ℕ) (p : ℕ) → IsOrdering class rows ordering → GroupsRise class (partition_of class rows ordering p)
+
+-- every instance has a valid choice for each plan
+abbrev pub HasValidChoice : Type 0
+HasValidChoice = (plan : PlanTree) (instance : Instance) → (choice : List (List ℕ)) × IsValidChoice plan instance choice
+
+-- rearranged rows, on both sides of a Join, have rearranged outcomes under a Filter, a Map, a Join and a Distinct, faults included
+pub record StepsCommute : Type 0 where
+  pub filter : (condition : Expression) (rows others : List Row) → SameBag same_row rows others → Agree (filter_outcome condition rows) (filter_outcome condition others)
+  pub map : (outputs : List Expression) (rows others : List Row) → SameBag same_row rows others → Agree (map_outcome outputs rows) (map_outcome outputs others)
+  pub join : (condition : Option Expression) (left others right more : List Row) → SameBag same_row left others → SameBag same_row right more
+      → Agree (join_outcome condition (pairs left right)) (join_outcome condition (pairs others more))
+  pub distinct : (rows others : List Row) → SameBag same_row rows others → SameBag same_row (distinct rows) (distinct others)
+
+-- over rearranged rows a Limit keeps the very list that it keeps under the renamed ordering, which is lawful too
+pub record CutCommutes (limit : LimitRule) (rows : List Row) (ps ordering : List ℕ) : Type 0 where
+  pub valid : IsOrdering (limit_class limit) rows (map (renamed rows ps) ordering)
+  pub same_rows : cut limit (rows_at (rows_at rows ps) ordering) ≡ cut limit (rows_at rows (map (renamed rows ps) ordering))
+
+-- the renaming law of a Limit
+abbrev pub LimitCommutes : Type 0
+LimitCommutes = (limit : LimitRule) (rows : List Row) (ps ordering : List ℕ)
+    → EachOnce (length rows) ps → IsOrdering (limit_class limit) (rows_at rows ps) ordering → CutCommutes limit rows ps ordering
+
+-- The renaming law of a plan: over rearranged tables it has no other answers, faults included, but for the order of their rows.
+abbrev pub PlanCommutes : Type 0
+PlanCommutes = (plan : PlanTree) (instance other : Instance) (answer : RowsOrFault) → SameTables instance other → IsAnswerOf plan other answer
+    → (same : RowsOrFault) × IsAnswerOf plan instance same × Agree same answer
+
+-- whether the frame of the member at place m of a partition list takes the one at place n
+abbrev pub frame_takes : ClassRule → Frame → List Row → ℕ → ℕ → Bool
+frame_takes class frame partition m n = in_frame class frame (group_of class partition) m (row_at partition m) n (row_at partition n)
+
+-- The frame of the member at place m of a partition list has no gap: it takes each member between two that it takes, up to
+-- UNBOUNDED FOLLOWING each one behind, from UNBOUNDED PRECEDING each one before, and so its rows are a stretch of the list.
+pub record IsContiguous (class : ClassRule) (frame : Frame) (partition : List Row) (m : ℕ) : Type 0 where
+  pub between : (i j k : ℕ) → i < j → j < k → k < length partition
+      → frame_takes class frame partition m i ≡ true → frame_takes class frame partition m k ≡ true → frame_takes class frame partition m j ≡ true
+  pub behind : frame.end ≡ UnboundedFollowing → (i j : ℕ) → i < j → j < length partition
+      → frame_takes class frame partition m i ≡ true → frame_takes class frame partition m j ≡ true
+  pub before : frame.start ≡ UnboundedPreceding → (i j : ℕ) → i < j → j < length partition
+      → frame_takes class frame partition m j ≡ true → frame_takes class frame partition m i ≡ true
+  pub stretch : (start : ℕ) × (count : ℕ) × (frame_of class frame partition m ≡ take count (drop start partition))
+
+-- along a partition list under a lawful ordering, a frame without exclusion is contiguous
+abbrev pub FramesAreContiguous : Type 0
+FramesAreContiguous = (class : ClassRule) (frame : Frame) (rows : List Row) (ordering : List ℕ) (p m : ℕ)
+    → IsOrdering class rows ordering → frame.exclusion ≡ NoOthers → m < length (partition_of class rows ordering p)
+    → IsContiguous class frame (partition_of class rows ordering p) m
+
+-- the size of the bucket behind g others: how many of so many places have its number
+abbrev pub bucket_size : (ℕ → ℕ) → ℕ → ℕ → ℕ
+bucket_size number members g = count_by (λ place. nat_eq (number place) (g + 1)) (positions members)
+
+-- So many members are dealt to n buckets, numbered from 1, as evenly as can be: the sizes differ by at most one, the larger
+-- ones come first, and together they are all members. Where there are fewer members than buckets the last ones are empty.
+pub record BucketsAreEven (n members : ℕ) (number : ℕ → ℕ) : Type 0 where
+  pub sizes : (g : ℕ) → g < n → bucket_size number members g ≡ members / n + (if nat_lt g (members % n) then 1 else 0)
+  pub larger_first : (g h : ℕ) → g < h → h < n → bucket_size number members h ≤ bucket_size number members g
+  pub close : (g h : ℕ) → g < n → h < n → bucket_size number members g ≤ bucket_size number members h + 1
+  pub all : sum_by (bucket_size number members) (positions n) ≡ members
+  pub none_left : (g : ℕ) → members ≤ g → bucket_size number members g ≡ 0
+  pub in_order : (i j : ℕ) → i ≤ j → j < members → number i ≤ number j
+
+-- NTILE(n) gives each place of a partition list its bucket's number
+abbrev pub NtileIsEven : Type 0
+NtileIsEven = (class : ClassRule) (frame : Frame) (partition : List Row) (n : ℕ) → 0 < n
+    → (number : ℕ → ℕ) × ((i : ℕ) → call_value class frame (Ntile n) partition i ≡ Ok (Int (pos (number i)))) × BucketsAreEven n (length partition) number
+
+-- v is one of the values, none of them that is not NULL comes before it, and it is NULL only where all are
+pub record IsFirstOf (comes_before : Value → Value → Bool) (values : List Value) (v : Value) : Type 0 where
+  pub member : 0 < length values → (i : ℕ) × (i < length values) × (slice_index_or values i Null ≡ v)
+  pub over_nothing : length values ≡ 0 → v ≡ Null
+  pub first : AllByRecursion (λ w. is_null w ≡ false → (is_null v ≡ false) × (comes_before w v ≡ false)) values
+
+-- MIN's value is the least and MAX's the greatest
+pub record ExtremesAreFirst : Type 0 where
+  pub of_least : (values : List Value) → IsFirstOf (λ w v. is_lt (compare_ascending w v)) values (least values)
+  pub of_greatest : (values : List Value) → IsFirstOf (λ w v. is_gt (compare_ascending w v)) values (greatest values)
+
+-- The rows of a node have its width: for a plan that fits, over an instance that meets the schema, under lawful orderings.
+abbrev pub HasWidths : Type 0
+HasWidths = (tables : List TableRule) (plan : PlanTree) (instance : Instance) (choice : List (List ℕ))
+    → fits tables plan ≡ true → Meets tables instance → AreLawful plan instance choice → AtRows (outcome plan instance choice) (HasWidth (width plan)) ⊤
+
+-- each value of a row is of its column's kind, where the column has one
+abbrev pub IsOfKinds : Kinds → Row → Type 0
+IsOfKinds kinds row = (c : ℕ) (kind : ValueKind) → kinds c ≡ Some kind → is_of_kind kind (column_of row c) ≡ true
+
+-- and their values are of their columns' kinds
+abbrev pub HasKinds : Type 0
+HasKinds = (tables : List TableRule) (plan : PlanTree) (instance : Instance) (choice : List (List ℕ))
+    → fits tables plan ≡ true → Meets tables instance → AreLawful plan instance choice → AtRows (outcome plan instance choice) (AllByRecursion (IsOfKinds (kinds_of tables plan))) ⊤

@@ -1,0 +1,50 @@
+//! Worked examples of the definitions, computed from them.
+
+ghost use Rattle.wd_laws.specs.examples.Functions.{FunctionsComeOut};
+ghost use Rattle.wd_laws.specs.examples.Frames.{FramesComeOut};
+ghost use Rattle.wd_laws.specs.examples.Values.{ValuesComeOut};
+ghost use Rattle.wd_laws.specs.examples.Joins.{JoinsComeOut};
+ghost use Rattle.wd_laws.specs.examples.Limits.{LimitsComeOut};
+ghost use Rattle.wd_laws.specs.examples.Faults.{FaultsComeOut};
+ghost use Rattle.wd_laws.specs.examples.Choosing.{ChoicesComeOut};
+ghost use Rattle.wd_laws.specs.examples.Agreeing.{AgreeingComesOut};
+
+/// What the window functions give over a few rows.
+pub fn functions_come_out()
+    ensures { FunctionsComeOut }
+{}
+
+/// The rows of each frame, for each mode, bound and exclusion.
+pub fn frames_come_out()
+    ensures { FramesComeOut }
+{}
+
+/// The values of expressions.
+pub fn values_come_out()
+    ensures { ValuesComeOut }
+{}
+
+/// The rows of joins, conditions and DISTINCT.
+pub fn joins_come_out()
+    ensures { JoinsComeOut }
+{}
+
+/// The rows that OFFSET, FETCH and LIMIT leave.
+pub fn limits_come_out()
+    ensures { LimitsComeOut }
+{}
+
+/// Which fault a step has, and which it has not.
+pub fn faults_come_out()
+    ensures { FaultsComeOut }
+{}
+
+/// Which choices are valid.
+pub fn choices_come_out()
+    ensures { ChoicesComeOut }
+{}
+
+/// Which outcomes are one answer.
+pub fn agreeing_comes_out()
+    ensures { AgreeingComesOut }
+{}

@@ -1,0 +1,108 @@
+//! Laws over the definitions of plans alone.
+
+ghost use Rattle.wd_laws.specs.Laws.{AgreeingIsAnEquivalence, ValuesGoByRows, SameRowsAtPlaces, SameResults, WindowHasOne, LimitHasOne, PlanHasOne, WindowCommutes, HasValidChoice, PeerGroupsRise, RowNumbersCount, StepsCommute, LimitCommutes, PlanCommutes, FramesAreContiguous, NtileIsEven, ExtremesAreFirst, HasWidths, HasKinds};
+
+pub use crate::examples::{
+    agreeing_comes_out, choices_come_out, faults_come_out, frames_come_out, functions_come_out,
+    joins_come_out, limits_come_out, values_come_out,
+};
+
+/// That two outcomes agree is an equivalence.
+pub fn agreeing_is_an_equivalence()
+    ensures { AgreeingIsAnEquivalence }
+{}
+
+/// Under the rules `peers`, `unique` and `values` a call's value or fault at a row is a function of
+/// the row's columns and of the input's rows, however they are ordered.
+pub fn values_go_by_rows()
+    ensures { ValuesGoByRows }
+{}
+
+/// Two lawful orderings of a class whose columns give every column put the same rows at each place
+/// of each partition.
+pub fn same_rows_at_places()
+    ensures { SameRowsAtPlaces }
+{}
+
+/// Under two lawful orderings of a class whose columns give every column each row stands equally
+/// often with the same results of the class's calls, values or faults.
+pub fn same_results()
+    ensures { SameResults }
+{}
+
+/// A Window with justified calls has outcomes that agree over rearranged rows, under any orderings.
+pub fn window_has_one()
+    ensures { WindowHasOne }
+{}
+
+/// A justified limit cuts the same rows under any orderings.
+pub fn limit_has_one()
+    ensures { LimitHasOne }
+{}
+
+/// A plan whose calls and limits are justified has outcomes that agree over the same tables in any
+/// row order, under any valid choices, faults included.
+pub fn plan_has_one()
+    ensures { PlanHasOne }
+{}
+
+/// Over rearranged rows a Window gives the rearranged rows of the renamed orderings.
+pub fn window_commutes()
+    ensures { WindowCommutes }
+{}
+
+/// Every instance has a valid choice for each plan.
+pub fn has_valid_choice()
+    ensures { HasValidChoice }
+{}
+
+/// Along a partition list the peer group number begins at 0 and rises by at most one.
+pub fn peer_groups_rise()
+    ensures { PeerGroupsRise }
+{}
+
+/// ROW_NUMBER over a partition of n members gives 1 to n.
+pub fn row_numbers_count()
+    ensures { RowNumbersCount }
+{}
+
+/// Over rearranged rows a Filter, a Map, a Join and a Distinct have rearranged outcomes, faults
+/// included.
+pub fn steps_commute()
+    ensures { StepsCommute }
+{}
+
+/// Over rearranged rows a Limit keeps the rows of the renamed ordering, in the same order.
+pub fn limit_commutes()
+    ensures { LimitCommutes }
+{}
+
+/// A plan has the same answers over the same tables in any row order, faults included.
+pub fn plan_commutes()
+    ensures { PlanCommutes }
+{}
+
+/// A frame without exclusion is contiguous along its partition list.
+pub fn frames_are_contiguous()
+    ensures { FramesAreContiguous }
+{}
+
+/// NTILE's buckets differ in size by at most one, the larger first, and hold all members, in order.
+pub fn ntile_is_even()
+    ensures { NtileIsEven }
+{}
+
+/// MIN and MAX give one of the values, the least and the greatest, and NULL only where all are.
+pub fn extremes_are_first()
+    ensures { ExtremesAreFirst }
+{}
+
+/// The rows of each node of a plan that fits have the node's width, under lawful orderings.
+pub fn has_widths()
+    ensures { HasWidths }
+{}
+
+/// Each value of these rows is of its column's kind.
+pub fn has_kinds()
+    ensures { HasKinds }
+{}

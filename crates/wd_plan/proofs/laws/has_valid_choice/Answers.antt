@@ -1,5 +1,0 @@
-use Rattle.wd_plan.proofs.SomeChoice as laws
-use Rattle.wd_plan.proofs.laws.has_valid_choice.Goals as goal
-
-pub returns : goal.returns
-returns c = laws.has_valid_choice

@@ -1,5 +1,0 @@
-use Rattle.wd_plan.proofs.NodesCommute as laws
-use Rattle.wd_plan.proofs.laws.limit_commutes.Goals as goal
-
-pub returns : goal.returns
-returns c = laws.limit_commutes

@@ -1,5 +1,0 @@
-use Rattle.wd_plan.proofs.TheLaws as laws
-use Rattle.wd_plan.proofs.laws.plan_has_one.Goals as goal
-
-pub returns : goal.returns
-returns c = laws.plan_has_one

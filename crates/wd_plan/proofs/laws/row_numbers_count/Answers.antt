@@ -1,5 +1,0 @@
-use Rattle.wd_plan.proofs.RowNumbers as laws
-use Rattle.wd_plan.proofs.laws.row_numbers_count.Goals as goal
-
-pub returns : goal.returns
-returns c = laws.row_numbers_count

@@ -1,5 +1,0 @@
-use Rattle.wd_plan.proofs.TheLaws as laws
-use Rattle.wd_plan.proofs.laws.values_go_by_rows.Goals as goal
-
-pub returns : goal.returns
-returns c = laws.values_go_by_rows
