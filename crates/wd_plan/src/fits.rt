@@ -132,7 +132,8 @@ fn table_kind(schema: &Schema, table: u16, column: u16) -> Option<ValueKind>
     Some(kind_of_type(column.kind))
 }
 
-fn kind_of_type(kind: ColumnType) -> ValueKind
+/// The kind of the values of a column type.
+pub fn kind_of_type(kind: ColumnType) -> ValueKind
     ensures { result ≡ spec.kind_of_type kind }
 {
     match kind {

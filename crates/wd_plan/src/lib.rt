@@ -7,5 +7,6 @@ mod plan;
 mod window;
 
 pub use expression::{ArithmeticOp, Branch, ComparisonOp, Expr, ValueKind};
+pub use fits::kind_of_type;
 pub use plan::{Choice, OrderItem, Outcome, Plan};
 pub use window::{Bound, Call, Class, Exclusion, Frame, FrameMode, Function};

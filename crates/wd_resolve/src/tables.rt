@@ -2,7 +2,6 @@
 
 ghost use Rattle.std.specs.Prelude.{◌≡◌, ◌+◌, ◌≤◌, ◌++◌, map, length, option_map, vec_len, Some, IfOk};
 ghost use Rattle.wd_plan.specs.Expressions.{expression_of};
-ghost use Rattle.wd_plan.specs.Fits as fits;
 ghost use Rattle.wd_schema.specs.Schemas.{schema_of};
 ghost use Rattle.wd_schema.specs.Tables.{table_of};
 ghost use Rattle.std.specs.List.{list_any};
@@ -18,24 +17,14 @@ ghost use Rattle.wd_syntax.specs.View.{view};
 use crate::part::{FromSoFar, LoweredSelect, Part};
 use std::alloc::Global;
 use wd_operand::{Cause, ResolveError};
-use wd_plan::{Expr, Plan, ValueKind};
+use wd_plan::{Expr, Plan, kind_of_type};
 use wd_schema::{Schema, Table};
 use wd_scope::{MOST_COLUMNS, Scope, ScopeColumn, condition};
 use wd_select::OutputColumn;
-use wd_value::{ColumnType, OutOfMemory, Text};
+use wd_value::{OutOfMemory, Text};
 
 /// The most tables of one FROM.
 const MOST_TABLES: usize = 8;
-
-fn kind_of_type(kind: ColumnType) -> ValueKind
-    ensures { result ≡ fits.kind_of_type kind }
-{
-    match kind {
-        ColumnType::SmallInt | ColumnType::Integer | ColumnType::BigInt => ValueKind::Number,
-        ColumnType::Text => ValueKind::Text,
-        ColumnType::Boolean => ValueKind::Truth,
-    }
-}
 
 /// The number of the schema's table of that name.
 fn table_number(schema: &Schema, name: &Text) -> Option<usize>
