@@ -8,7 +8,7 @@ use crate::{calls, plans, sorts, steps, values};
 use std::alloc::Global;
 use wd_eval::laws::{has_one_tied_outcome, has_tied_choice};
 use wd_frame::laws::places_are_frames;
-use wd_plan::laws::agreeing_is_an_equivalence;
+use wd_laws::laws::agreeing_is_an_equivalence;
 use wd_value::laws::compare_is_a_total_order;
 
 /// Writes what a line gives in place of what stood there.
