@@ -26,6 +26,7 @@ impl Failure {
         Failure::Refused { number, place }
     }
 
+    /// The failure as it is printed.
     pub fn shown(self, alloc: Global) -> Result<String, AllocError> {
         match self {
             Failure::NoCase => String::from_str(alloc, "no such case"),

@@ -7,7 +7,7 @@ use wd_cases::{Cases, Failure, text_of};
 use wd_cases_notation::{Line, State};
 use wd_eval::laws::{has_one_tied_outcome, has_tied_choice};
 use wd_frame::laws::places_are_frames;
-use wd_plan::laws::agreeing_is_an_equivalence;
+use wd_laws::laws::agreeing_is_an_equivalence;
 use wd_value::laws::compare_is_a_total_order;
 
 /// The cases, over what earlier lines have set.
