@@ -4,7 +4,8 @@
     python3 tools/wrong_bodies.py [--after-gate] [--logs FOLDER] [CRATE..]
 
 A file wrong-bodies/CRATE/NAME.edit has the line 'fn: PATH' (the function, as the check names it in its crate) and then
-'file: src/..' with pairs of lines 'old: TEXT' and 'new: TEXT'; each TEXT stands in that file exactly once. A line
+'file: src/..' with pairs of lines 'old: TEXT' and 'new: TEXT'; each TEXT stands in that file exactly once. A further
+'file: proofs/..' may put new names into the function's written proof, where the edit changes names there. A line
 'right:' stands first in an edit that changes nothing that a contract says: it must still be proved. Such edits show
 that a refusal is no accident of the run.
 
