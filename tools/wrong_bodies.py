@@ -4,9 +4,10 @@
     python3 tools/wrong_bodies.py [--after-gate] [--logs FOLDER] [CRATE..]
 
 A file wrong-bodies/CRATE/NAME.edit has the line 'fn: PATH' (the function, as the check names it in its crate) and then
-'file: src/..' with pairs of lines 'old: TEXT' and 'new: TEXT'; each TEXT stands in that file exactly once. A line
-'right:' stands first in an edit that changes nothing that a contract says: it must still be proved. Such edits show
-that a refusal is no accident of the run.
+'file: src/..' with pairs of lines 'old: TEXT' and 'new: TEXT'; each TEXT stands in that file exactly once. A further
+'file: proofs/..' may put new names into the function's written proof, or change or take out the answer to a goal that the
+edit leaves true. A line 'right:' stands first in an edit that changes nothing that a contract says: it must still be
+proved. Such edits show that a refusal is no accident of the run.
 
 All edits of a crate are put into one copy of it, at most one for a function, and one check of those functions alone
 judges them. The functions that they call stand there by their contracts: their proofs, which the gate has checked, are
