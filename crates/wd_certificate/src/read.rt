@@ -12,7 +12,9 @@ ghost use Rattle.wd_certificate.specs.declared.misread.Misread.TheVariants as mi
 
 use crate::certificate::{Certificate, Kept, Node, Rule, Target, Trace};
 use crate::error::CertError;
-use crate::json::{list, next_member, no_more_members, number, object, optional_number, text, two_members};
+use crate::json::{
+    list, next_member, no_more_members, number, object, optional_number, text, two_members,
+};
 use crate::misread::Misread;
 use serde_json::Value;
 use std::alloc::Global;
