@@ -1,7 +1,7 @@
 -- A JSON value spells one certificate.
-use Rattle.std.proofs.Common.{◌≡◌, ◌≢◌, ℕ, List, [], ◌∷◌, map, Option, Some, None, refl, sym, ap, ap₂, ◌∙◌, arith}
+use Rattle.std.proofs.Common.{◌≡◌, ℕ, List, [], ◌∷◌, map, Option, Some, None, refl, sym, ap, ap₂, ◌∙◌, arith}
 use Rattle.std.specs.Prelude.{codes}
-use Rattle.serde_json.specs.Data.{Data, string, array, Items, no_items, item}
+use Rattle.serde_json.specs.Data.{Data, string}
 use Rattle.serde_json.specs.View.{items_of}
 use Rattle.wd_certificate.specs.Certificates.{TraceRecord, KeptRecord, NodeRecord}
 use Rattle.wd_certificate.specs.Json.{number_json, list_json, two_members_json, trace_json, target_json, kept_json, rule_json, rule_word, rule_trace, optional_json, node_json, certificate_json, Spells}
@@ -9,7 +9,6 @@ use Rattle.wd_certificate.specs.Refusals.{HasCause}
 use Rattle.wd_certificate.specs.Laws.{SpellsOne, IsReadBack}
 use Rattle.wd_certificate.specs.declared.certificate.Rule.{Rule}
 use Rattle.wd_certificate.specs.declared.certificate.Rule.TheVariants as rule
-use Rattle.wd_certificate.specs.declared.certificate.Target.{Target}
 use Rattle.wd_certificate.specs.declared.certificate.Target.TheVariants as target
 use Rattle.wd_certificate.specs.declared.error.CertError.{CertError}
 use Rattle.wd_certificate.specs.declared.error.CertError.TheVariants as error

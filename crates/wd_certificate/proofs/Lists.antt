@@ -1,6 +1,6 @@
 -- Lists of JSON values, against the lists that they spell.
-use Rattle.std.proofs.Common.{◌≡◌, ◌≢◌, ℕ, zero, suc, ◌<◌, List, [], ◌∷◌, length, get_or, map, refl, sym, ap, ◌∙◌, arith}
-use Rattle.serde_json.specs.Data.{Data, array, Items, no_items, item}
+use Rattle.std.proofs.Common.{◌≡◌, ◌≢◌, ℕ, zero, suc, ◌<◌, List, [], ◌∷◌, length, get_or, map, ap, ◌∙◌, arith}
+use Rattle.serde_json.specs.Data.{Data, array, item}
 use Rattle.serde_json.specs.View.{view, items_view, items_of}
 use Rattle.serde_json.specs.declared.value.Value.{Value}
 use Rattle.wd_certificate.specs.Json.{list_json}

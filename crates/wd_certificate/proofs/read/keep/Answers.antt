@@ -1,4 +1,4 @@
-use Rattle.std.proofs.Common.{◌≡◌, ◌≢◌, ℕ, List, rules}
+use Rattle.std.proofs.Common.{◌≡◌, ◌≢◌, List, rules}
 use Rattle.serde_json.specs.View.{view}
 use Rattle.wd_certificate.specs.Certificates.{KeptRecord}
 use Rattle.wd_certificate.specs.Json.{list_json, kept_json}

@@ -1,5 +1,5 @@
-use Rattle.std.proofs.Common.{◌≡◌, ◌≢◌, codes, ap, sym, rules}
-use Rattle.serde_json.specs.Data.{Data, member, no_members}
+use Rattle.std.proofs.Common.{◌≢◌, codes, ap, sym, rules}
+use Rattle.serde_json.specs.Data.{Data, no_members}
 use Rattle.serde_json.specs.View.{view, members_view}
 use Rattle.wd_certificate.specs.Json.{node_members_json}
 use Rattle.wd_certificate.proofs.Fields.{fourth}

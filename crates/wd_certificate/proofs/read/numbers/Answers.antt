@@ -1,7 +1,6 @@
-use Rattle.std.proofs.Common.{◌≡◌, ◌≢◌, ℕ, List, rules}
+use Rattle.std.proofs.Common.{◌≢◌, ℕ, List, rules}
 use Rattle.serde_json.specs.View.{view}
 use Rattle.wd_certificate.specs.Json.{list_json, number_json}
-use Rattle.wd_certificate.specs.declared.misread.Misread.TheVariants as misread
 use Rattle.wd_certificate.proofs.Lists.{is_no_list}
 use Rattle.wd_certificate.proofs.read.numbers.Goals as goal
 
