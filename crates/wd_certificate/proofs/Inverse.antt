@@ -1,0 +1,136 @@
+-- A JSON value spells one certificate.
+use Rattle.std.proofs.Common.{◌≡◌, ℕ, List, [], ◌∷◌, map, Option, Some, None, refl, sym, ap, ap₂, ◌∙◌, arith}
+use Rattle.std.specs.Prelude.{codes}
+use Rattle.serde_json.specs.Data.{Data, string}
+use Rattle.serde_json.specs.View.{items_of}
+use Rattle.wd_certificate.specs.Certificates.{TraceRecord, KeptRecord, NodeRecord}
+use Rattle.wd_certificate.specs.Json.{number_json, list_json, two_members_json, trace_json, target_json, kept_json, rule_json, rule_word, rule_trace, optional_json, node_json, certificate_json, Spells}
+use Rattle.wd_certificate.specs.Refusals.{HasCause}
+use Rattle.wd_certificate.specs.Laws.{SpellsOne, IsReadBack}
+use Rattle.wd_certificate.specs.declared.certificate.Rule.{Rule}
+use Rattle.wd_certificate.specs.declared.certificate.Rule.TheVariants as rule
+use Rattle.wd_certificate.specs.declared.certificate.Target.TheVariants as target
+use Rattle.wd_certificate.specs.declared.error.CertError.{CertError}
+use Rattle.wd_certificate.specs.declared.error.CertError.TheVariants as error
+
+abbrev One : {A : Type 0} → (A → Data) → Type 0
+One {A} f = (x y : A) → f x ≡ f y → x ≡ y
+
+one_items : {A : Type 0} (f : A → Data) → One f → (xs ys : List A) → items_of (map f xs) ≡ items_of (map f ys) → xs ≡ ys
+one_items f one [] [] e = refl
+one_items f one [] (y ∷ ys) e = absurd (cc)
+one_items f one (x ∷ xs) [] e = absurd (cc)
+one_items f one (x ∷ xs) (y ∷ ys) e =
+    let first : f x ≡ f y = cc in
+    let rest : items_of (map f xs) ≡ items_of (map f ys) = cc in
+    ap₂ (λ a b. a ∷ b) (one x y first) (one_items f one xs ys rest)
+
+one_list : {A : Type 0} (f : A → Data) → One f → One (list_json f)
+one_list f one xs ys e = one_items f one xs ys (let h : items_of (map f xs) ≡ items_of (map f ys) = cc in h)
+
+one_number : One number_json
+one_number m n e = let h : m ≡ n = cc in h
+
+one_target : One target_json
+one_target (target.Column c) (target.Column d) e = let h : c ≡ d = cc in ap (λ x. target.Column x) h
+one_target (target.Column c) target.Row e = absurd (cc)
+one_target target.Row (target.Column d) e = absurd (cc)
+one_target target.Row target.Row e = refl
+
+one_optional : One optional_json
+one_optional None None e = refl
+one_optional None (Some n) e = absurd (cc)
+one_optional (Some m) None e = absurd (cc)
+one_optional (Some m) (Some n) e = let h : m ≡ n = cc in ap (λ x. Some x) h
+
+two_same : (k l : List ℕ) (a b c d : Data) → two_members_json k a l b ≡ two_members_json k c l d → (a ≡ c) × (b ≡ d)
+two_same k l a b c d e = (cc, cc)
+
+string_same : (s t : List ℕ) → string s ≡ string t → s ≡ t
+string_same s t e = cc
+
+abbrev first : List ℕ → ℕ
+first [] = 0
+first (x ∷ xs) = x
+
+none_some : (n : ℕ) → {A : Type 0} → None ≡ Some n → A
+none_some n e = absurd (cc)
+
+some_none : (n : ℕ) → {A : Type 0} → Some n ≡ None → A
+some_none n e = absurd (cc)
+
+one_by : (r s : Rule) → rule_word r ≡ rule_word s → rule_trace r ≡ rule_trace s → r ≡ s
+one_by rule.Peers rule.Peers e f = refl
+one_by rule.Peers (rule.Unique u) e f = none_some u f
+one_by rule.Peers (rule.Values u) e f = none_some u f
+one_by rule.Peers (rule.Exchange u) e f = none_some u f
+one_by (rule.Unique t) rule.Peers e f = some_none t f
+one_by (rule.Unique t) (rule.Unique u) e f = let h : t ≡ u = cc in ap (λ x. rule.Unique x) h
+one_by (rule.Unique t) (rule.Values u) e f = absurd (let h : 117 ≡ 118 = ap first e in omega arith)
+one_by (rule.Unique t) (rule.Exchange u) e f = absurd (let h : 117 ≡ 101 = ap first e in omega arith)
+one_by (rule.Values t) rule.Peers e f = some_none t f
+one_by (rule.Values t) (rule.Unique u) e f = absurd (let h : 118 ≡ 117 = ap first e in omega arith)
+one_by (rule.Values t) (rule.Values u) e f = let h : t ≡ u = cc in ap (λ x. rule.Values x) h
+one_by (rule.Values t) (rule.Exchange u) e f = absurd (let h : 118 ≡ 101 = ap first e in omega arith)
+one_by (rule.Exchange t) rule.Peers e f = some_none t f
+one_by (rule.Exchange t) (rule.Unique u) e f = absurd (let h : 101 ≡ 117 = ap first e in omega arith)
+one_by (rule.Exchange t) (rule.Values u) e f = absurd (let h : 101 ≡ 118 = ap first e in omega arith)
+one_by (rule.Exchange t) (rule.Exchange u) e f = let h : t ≡ u = cc in ap (λ x. rule.Exchange x) h
+
+one_rule : One rule_json
+one_rule r s e =
+    let both = two_same (codes "rule") (codes "trace") _ _ _ _ e in
+    one_by r s (string_same _ _ both.0) (one_optional (rule_trace r) (rule_trace s) both.1)
+
+one_trace : One trace_json
+one_trace t u e =
+    let from : list_json number_json t.from ≡ list_json number_json u.from = cc in
+    let uses : list_json number_json t.uses ≡ list_json number_json u.uses = cc in
+    ap₂ (λ a b. record { from = a; uses = b }) (one_list number_json one_number t.from u.from from) (one_list number_json one_number t.uses u.uses uses)
+
+one_kept : One kept_json
+one_kept k l e =
+    let to : list_json target_json k.to ≡ list_json target_json l.to = cc in
+    let trace : k.trace ≡ l.trace = cc in
+    ap₂ (λ a b. record { to = a; trace = b }) (one_list target_json one_target k.to l.to to) trace
+
+abbrev made : List Rule → List KeptRecord → Option ℕ → List TraceRecord → NodeRecord
+made calls keep limit traces = record { calls = calls; keep = keep; limit = limit; traces = traces }
+
+one_node : One node_json
+one_node m n e =
+    let calls : list_json rule_json m.calls ≡ list_json rule_json n.calls = cc in
+    let keep : list_json kept_json m.keep ≡ list_json kept_json n.keep = cc in
+    let limit : optional_json m.limit ≡ optional_json n.limit = cc in
+    let traces : list_json trace_json m.traces ≡ list_json trace_json n.traces = cc in
+    ap (λ x. made x m.keep m.limit m.traces) (one_list rule_json one_rule m.calls n.calls calls) ∙ ap (λ x. made n.calls x m.limit m.traces) (one_list kept_json one_kept m.keep n.keep keep)
+    ∙ ap (λ x. made n.calls n.keep x m.traces) (one_optional m.limit n.limit limit) ∙ ap (λ x. made n.calls n.keep n.limit x) (one_list trace_json one_trace m.traces n.traces traces)
+
+pub one_certificate : (v w : ℕ) (a b : List NodeRecord) → certificate_json v a ≡ certificate_json w b → (v ≡ w) × (a ≡ b)
+one_certificate v w a b e =
+    let version : v ≡ w = cc in
+    let nodes : list_json node_json a ≡ list_json node_json b = cc in
+    (version, one_list node_json one_node a b nodes)
+
+-- what a list of bytes reads as is one value
+some_same : (d e : Data) → Some d ≡ Some e → d ≡ e
+some_same d e h = cc
+
+pub spells_one : SpellsOne
+spells_one bytes v w a b first second = one_certificate v w a b (some_same _ _ (sym first.1 ∙ second.1))
+
+refused_not : (bytes : List ℕ) (nodes : List NodeRecord) → Spells 1 nodes bytes → (e : CertError) → HasCause e bytes → e ≡ error.OutOfMemory
+refused_not bytes nodes spelled error.NotJson r = absurd (r (certificate_json 1 nodes) spelled)
+refused_not bytes nodes spelled error.Shape r = absurd (r.2 1 nodes (some_same _ _ (sym r.1.1 ∙ spelled.1)))
+refused_not bytes nodes spelled error.Version r = absurd (r.3 (sym (spells_one bytes 1 r.0 nodes r.1 spelled r.2).0))
+refused_not bytes nodes spelled error.Count r = absurd r
+refused_not bytes nodes spelled (error.UnreachedUse node) r = absurd r
+refused_not bytes nodes spelled (error.UnreachedClaim node) r = absurd r
+refused_not bytes nodes spelled (error.UnjustifiedCall node) r = absurd r
+refused_not bytes nodes spelled (error.SecondExchange node) r = absurd r
+refused_not bytes nodes spelled (error.UnjustifiedLimit node) r = absurd r
+refused_not bytes nodes spelled (error.OutOfRange node) r = absurd r
+refused_not bytes nodes spelled error.OutOfMemory r = refl
+
+pub is_read_back : IsReadBack
+is_read_back bytes nodes spelled = (λ others h. sym (spells_one bytes 1 1 nodes others spelled h).1, refused_not bytes nodes spelled)

@@ -1,0 +1,83 @@
+-- The JSON value and the text of a certificate.
+use Rattle.std.specs.Prelude.{◌≡◌, ℕ, List, map, codes, Option, Some, None, IsUtf8}
+use Rattle.serde_json.specs.Data.{Data, null, number, unsigned, string, array, object, member, no_members}
+use Rattle.serde_json.specs.Read.{read}
+use Rattle.serde_json.specs.View.{items_of}
+use Rattle.serde_json.specs.Written.{compact_text}
+use Rattle.wd_certificate.specs.Certificates.{TraceRecord, KeptRecord, NodeRecord}
+use Rattle.wd_certificate.specs.declared.certificate.Rule.{Rule}
+use Rattle.wd_certificate.specs.declared.certificate.Rule.TheVariants as rule
+use Rattle.wd_certificate.specs.declared.certificate.Target.{Target}
+use Rattle.wd_certificate.specs.declared.certificate.Target.TheVariants as target
+
+-- a whole number
+abbrev pub number_json : ℕ → Data
+number_json n = number (unsigned n)
+
+-- the list of what each element is
+abbrev pub list_json : {A : Type 0} → (A → Data) → List A → Data
+list_json f xs = array (items_of (map f xs))
+
+-- a number, or null for none
+abbrev pub optional_json : Option ℕ → Data
+optional_json None = null
+optional_json (Some n) = number_json n
+
+-- an object of exactly two members
+abbrev pub two_members_json : List ℕ → Data → List ℕ → Data → Data
+two_members_json first a second b = object (member first a (member second b no_members))
+
+-- a trace: its columns and its uses
+abbrev pub trace_json : TraceRecord → Data
+trace_json t = two_members_json (codes "from") (list_json number_json t.from) (codes "uses") (list_json number_json t.uses)
+
+-- an output column, or the word for the row
+abbrev pub target_json : Target → Data
+target_json (target.Column c) = number_json c
+target_json target.Row = string (codes "row")
+
+-- a kept fact: its targets and its trace
+abbrev pub kept_json : KeptRecord → Data
+kept_json k = two_members_json (codes "to") (list_json target_json k.to) (codes "trace") (number_json k.trace)
+
+-- the word of a rule
+abbrev pub rule_word : Rule → List ℕ
+rule_word rule.Peers = codes "peers"
+rule_word (rule.Unique t) = codes "unique"
+rule_word (rule.Values t) = codes "values"
+rule_word (rule.Exchange t) = codes "exchange"
+
+-- the trace of a rule, which `peers` has not
+abbrev pub rule_trace : Rule → Option ℕ
+rule_trace rule.Peers = None
+rule_trace (rule.Unique t) = Some t
+rule_trace (rule.Values t) = Some t
+rule_trace (rule.Exchange t) = Some t
+
+-- a call: its rule and its trace
+abbrev pub rule_json : Rule → Data
+rule_json r = two_members_json (codes "rule") (string (rule_word r)) (codes "trace") (optional_json (rule_trace r))
+
+-- an object of exactly a node's four members
+abbrev pub node_members_json : Data → Data → Data → Data → Data
+node_members_json calls keep limit traces = object (member (codes "calls") calls (member (codes "keep") keep (member (codes "limit") limit (member (codes "traces") traces no_members))))
+
+-- a node: its calls, kept facts, limit and traces
+abbrev pub node_json : NodeRecord → Data
+node_json n = node_members_json (list_json rule_json n.calls) (list_json kept_json n.keep) (optional_json n.limit) (list_json trace_json n.traces)
+
+-- a certificate: its nodes and its version
+abbrev pub certificate_json : ℕ → List NodeRecord → Data
+certificate_json version nodes = two_members_json (codes "nodes") (list_json node_json nodes) (codes "version") (number_json version)
+
+-- the text of a certificate of version 1: JSON without white space, members in alphabetical order of their names
+abbrev pub certificate_text : List NodeRecord → List ℕ
+certificate_text nodes = compact_text (certificate_json 1 nodes)
+
+-- the bytes are JSON of this value, in UTF-8
+abbrev pub IsJsonOf : Data → List ℕ → Type 0
+IsJsonOf d bytes = IsUtf8 bytes × (read bytes ≡ Some d)
+
+-- the bytes spell a certificate of this version with these nodes
+abbrev pub Spells : ℕ → List NodeRecord → List ℕ → Type 0
+Spells version nodes bytes = IsJsonOf (certificate_json version nodes) bytes

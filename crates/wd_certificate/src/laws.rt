@@ -1,0 +1,36 @@
+//! Laws over the definitions, and what writing and reading a certificate give together.
+
+ghost use Rattle.std.specs.Prelude.{◌≡◌, IfOk, IfErr};
+ghost use Rattle.wd_certificate.specs.Certificates.{nodes_of};
+ghost use Rattle.wd_certificate.specs.Examples.{HasExampleText};
+ghost use Rattle.wd_certificate.specs.Laws.{SpellsOne, IsReadBack};
+ghost use Rattle.wd_certificate.specs.declared.error.CertError.TheVariants as error;
+
+use crate::certificate::Certificate;
+use crate::error::CertError;
+use crate::read::from_json;
+use std::alloc::Global;
+
+/// Bytes spell at most one certificate, of one version.
+pub fn spells_one()
+    ensures { SpellsOne }
+{}
+
+/// Bytes that spell a certificate spell no other, and are refused for want of memory alone.
+pub fn is_read_back()
+    ensures { IsReadBack }
+{}
+
+/// The text of a certificate of four nodes, byte for byte.
+pub fn example_text()
+    ensures { HasExampleText }
+{}
+
+/// A certificate that is written and read again comes back, or memory is wanting.
+pub fn read_back(alloc: Global, certificate: &Certificate) -> Result<Certificate, CertError>
+    ensures same { IfOk result (λ c. nodes_of c ≡ nodes_of certificate.now) }
+    ensures memory { IfErr result (λ e. e ≡ error.OutOfMemory) }
+{
+    let bytes = certificate.to_json(alloc)?;
+    from_json(alloc, &bytes)
+}

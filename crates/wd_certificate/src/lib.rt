@@ -1,0 +1,14 @@
+//! Certificates, which say why a query has one answer, and their text in JSON.
+#![tactic(auto)]
+
+mod certificate;
+mod error;
+mod json;
+pub mod laws;
+mod misread;
+mod read;
+mod write;
+
+pub use certificate::{Certificate, Kept, Node, Rule, Target, Trace};
+pub use error::CertError;
+pub use read::from_json;
