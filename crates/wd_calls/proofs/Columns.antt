@@ -18,7 +18,7 @@ use Rattle.wd_plan.specs.Calls.{first_by, total}
 use Rattle.wd_plan.specs.Expressions.{is_null}
 use Rattle.wd_plan.specs.Partitions.{GroupsRise, group_of}
 use Rattle.wd_plan.specs.Plans.{ClassRule}
-use Rattle.wd_calls.specs.Values.{number_of, present, values_at}
+use Rattle.wd_calls.specs.Values.{whole_of, present, values_at}
 
 abbrev pub value : List Row → ℕ → ℕ → Value
 value partition column p = column_of (row_at partition p) column
@@ -33,18 +33,18 @@ present_more partition column places i h = ap present (values_more partition col
 
 -- ---- totals
 
-total_cons : (v : Value) (vs : List Value) → total (v ∷ vs) ≡ number_of v +ℤ total vs
+total_cons : (v : Value) (vs : List Value) → total (v ∷ vs) ≡ whole_of v +ℤ total vs
 total_cons (Int n) vs = refl
 total_cons Null vs = omega (arith, ints)
 total_cons (Text bytes) vs = omega (arith, ints)
 total_cons (Truth b) vs = omega (arith, ints)
 
-pub total_push : (vs : List Value) (v : Value) → total (vs ++ v ∷ []) ≡ total vs +ℤ number_of v
+pub total_push : (vs : List Value) (v : Value) → total (vs ++ v ∷ []) ≡ total vs +ℤ whole_of v
 total_push [] v = total_cons v [] ∙ omega (arith, ints)
-total_push (w ∷ vs) v = total_cons w (vs ++ v ∷ []) ∙ ap (λ t. number_of w +ℤ t) (total_push vs v) ∙ (let here = total_cons w vs in omega (arith, ints))
+total_push (w ∷ vs) v = total_cons w (vs ++ v ∷ []) ∙ ap (λ t. whole_of w +ℤ t) (total_push vs v) ∙ (let here = total_cons w vs in omega (arith, ints))
 
 pub total_more : (partition : List Row) (column : ℕ) (places : List ℕ) (i : ℕ) → i < length places
-    → total (values_at partition column (take (i + 1) places)) ≡ total (values_at partition column (take i places)) +ℤ number_of (value partition column (get_or places i 0))
+    → total (values_at partition column (take (i + 1) places)) ≡ total (values_at partition column (take i places)) +ℤ whole_of (value partition column (get_or places i 0))
 total_more partition column places i h = ap total (values_more partition column places i h) ∙ total_push (values_at partition column (take i places)) (value partition column (get_or places i 0))
 
 -- ---- the first under a key

@@ -19,7 +19,7 @@ use Rattle.wd_calls.specs.declared.running.Running.{Running}
 use Rattle.wd_calls.specs.Parts.{AreValues, IsValueAt}
 use Rattle.wd_calls.specs.Running.{is_total}
 use Rattle.wd_calls.specs.Totals.{AreTotals, IsTotalOf}
-use Rattle.wd_calls.specs.Values.{frame_value, number_of, present, values_at}
+use Rattle.wd_calls.specs.Values.{frame_value, whole_of, present, values_at}
 use Rattle.wd_calls.proofs.Columns.{total_push, value}
 
 -- what holds of each element and of one more
@@ -58,11 +58,11 @@ present_next partition column i b e =
     ∙ sym (ap (λ n. so_far + n) (ap one_unless (sym e) ∙ one_unless-is (is_null (value partition column i))))
 
 pub IsTotalOf-next : (partition : List Row) (column i : ℕ) (before after : Running) (b : Bool) → IsTotalOf (values_at partition column (positions i)) before
-    → is_null (value partition column i) ≡ b → after.present ≡ before.present + one_unless b → after.total ≡ before.total +ℤ number_of (value partition column i)
+    → is_null (value partition column i) ≡ b → after.present ≡ before.present + one_unless b → after.total ≡ before.total +ℤ whole_of (value partition column i)
     → IsTotalOf (values_at partition column (positions (i + 1))) after
 IsTotalOf-next partition column i before after b is null counted exact = record {
   counted = counted ∙ ap (λ n. n + one_unless b) is.counted ∙ sym (present_next partition column i b null);
-  exact = exact ∙ ap (λ t. t +ℤ number_of (value partition column i)) is.exact
+  exact = exact ∙ ap (λ t. t +ℤ whole_of (value partition column i)) is.exact
       ∙ sym (ap total (values_next partition column i) ∙ total_push (values_at partition column (positions i)) (value partition column i));
 }
 

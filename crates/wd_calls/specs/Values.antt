@@ -22,11 +22,11 @@ abbrev pub present : List Value → ℕ
 present values = count_by (λ v. not (is_null v)) values
 
 -- the whole number, and 0 where the value is none
-abbrev pub number_of : Value → ℤ
-number_of (Int n) = n
-number_of Null = pos 0
-number_of (Text bytes) = pos 0
-number_of (Truth b) = pos 0
+abbrev pub whole_of : Value → ℤ
+whole_of (Int n) = n
+whole_of Null = pos 0
+whole_of (Text bytes) = pos 0
+whole_of (Truth b) = pos 0
 
 -- the value of a function of a frame, from the frame's places; NULL for a function of none
 abbrev pub frame_value : Function → List Row → List ℕ → Result Value Fault

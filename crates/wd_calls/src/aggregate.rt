@@ -80,7 +80,7 @@ fn total(partition: &Partition, column: u16, places: &[usize]) -> i128
 
 /// The whole number in a column, and 0 where there is none.
 pub(crate) fn number_at(row: &[Value], column: u16) -> i128
-    ensures value { result ≡ values.number_of (column_of row.now column) }
+    ensures value { result ≡ values.whole_of (column_of row.now column) }
     ensures least { neg_ℤ (pos (2 ^ 63)) ≤ℤ result }
     ensures most { result ≤ℤ pos (2 ^ 63) }
 {
@@ -115,7 +115,7 @@ pub(crate) fn extreme(
     value_at(alloc, partition, best, column)
 }
 
-/// Whether a row's value stands behind another's under a key.
+/// Whether a row's value stands after another's under a key.
 fn is_behind(row: &[Value], other: &[Value], column: u16, key: SortKey) -> bool
     ensures { result ≡ is_gt (order.compare key (column_of row.now column) (column_of other.now column)) }
 {

@@ -74,7 +74,7 @@ fn bytes_of(alloc: Global, text: &str) -> Result<Vec<u8>, AllocError> {
     Ok(out)
 }
 
-/// What stands behind a backslash.
+/// What stands after a backslash.
 fn push_escaped(out: &mut Vec<u8>, piece: &str) -> Result<(), AllocError> {
     let (byte, rest) = first_byte(piece).unwrap_or((b'\\', piece));
     out.push(byte)?;

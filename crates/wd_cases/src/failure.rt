@@ -8,7 +8,7 @@ use wd_value::OutOfMemory;
 pub enum Failure {
     /// The line is no case.
     NoCase,
-    /// A call refuses, by this number and at this place; want of memory has no number.
+    /// A call refuses, by this number and at this place; out of memory has no number.
     Refused {
         number: Option<u32>,
         place: Option<u64>,
@@ -34,7 +34,7 @@ impl Failure {
         }
     }
 
-    /// The failure, and a message behind it.
+    /// The failure, and a message after it.
     pub fn explained<E: Display>(self, alloc: Global, message: &E) -> Result<String, Failure> {
         let shown = self.shown(alloc)?;
         Ok(format!(in alloc; "{shown}: {message}")?)

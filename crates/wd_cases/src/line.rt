@@ -5,7 +5,7 @@ use std::io;
 
 /// What a program of cases answers.
 pub trait Cases {
-    /// What a case gives, of its word and the text behind the blank.
+    /// What a case gives, of its word and the text after the blank.
     fn answer(&mut self, alloc: Global, word: &str, text: &str) -> Result<String, Failure>;
 }
 
@@ -46,7 +46,7 @@ fn answer_line<C: Cases>(
     }
 }
 
-/// The word of a line's case, and the text behind the blank.
+/// The word of a line's case, and the text after the blank.
 fn case_in(line: &str) -> Option<(&str, &str)> {
     if line.is_empty() || line.starts_with('#') {
         return None;

@@ -75,7 +75,7 @@ fn operator_named(word: &str) -> Result<Operator, Failure> {
 }
 
 /// `NULL = 5` is an operator between operands, `NULL IS NULL` and `NULL IS NOT-NULL` are tests, and
-/// `sign - 5` is a number behind its sign.
+/// `sign - 5` is a number after its sign.
 fn over_two(alloc: Global, left: &str, word: &str, right: &str) -> Result<Meaning, Failure> {
     if left == "sign" {
         let sign = sign_named(word).ok_or(Failure::NoCase)?;
@@ -120,7 +120,7 @@ fn meant(alloc: Global, text: &str) -> Result<Meaning, Failure> {
     }
 }
 
-/// The expression that an operand means, of a kind where ` of_kind KIND` stands behind it.
+/// The expression that an operand means, of a kind where ` of_kind KIND` stands after it.
 fn expression_of(alloc: Global, text: &str) -> Result<Expr, Failure> {
     match text.split_once(" of_kind ") {
         Some((operand, kind)) => {

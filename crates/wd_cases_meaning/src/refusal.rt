@@ -1,9 +1,9 @@
-//! Want of memory, and the laws of the crates.
+//! Out of memory, and the laws of the crates.
 use std::alloc::Global;
 use wd_cases::Failure;
 use wd_operand::ResolveError;
 
-/// `memory resolve`: the number and the place of want of memory.
+/// `memory resolve`: the number and the place where memory runs out.
 pub fn want_of_memory(call: &str) -> Result<String, Failure> {
     match call {
         "resolve" => Err(Failure::from(ResolveError::OutOfMemory)),

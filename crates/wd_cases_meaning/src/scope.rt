@@ -155,7 +155,7 @@ fn push_window(out: &mut String, known: &KnownWindow) -> Result<(), Failure> {
     Ok(())
 }
 
-/// `sort_key WORDS`: the key of an expression with such words behind it.
+/// `sort_key WORDS`: the key of an expression with such words after it.
 pub fn sort_key(alloc: Global, select: &Select) -> Result<String, Failure> {
     let key = select.order.first().ok_or(Failure::NoCase)?;
     written(alloc, &wd_scope::sort_key(key.direction, key.nulls))

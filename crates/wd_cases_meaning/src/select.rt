@@ -77,7 +77,7 @@ fn outputs_of(
     Ok(outputs)
 }
 
-/// `needed ITEMS`: the expressions that a select list needs, behind those that were needed before
+/// `needed ITEMS`: the expressions that a select list needs, after those that were needed before
 /// it.
 pub fn needed(
     alloc: Global,
@@ -160,7 +160,7 @@ fn parts_with(
     }
 }
 
-/// `sorted QUERY`: its sort keys, the hidden columns behind its outputs, and the expressions that
+/// `sorted QUERY`: its sort keys, the hidden columns after its outputs, and the expressions that
 /// it needs.
 pub fn sorted(alloc: Global, scope: &Scope, select: &Select) -> Result<String, Failure> {
     let parts = parts_of(alloc, scope, select)?;
@@ -176,7 +176,7 @@ fn keys_shown(alloc: Global, sorted: &Sorted) -> Result<String, Failure> {
     Ok(format!(in alloc; "{items:?} {hidden:?} {inputs:?}")?)
 }
 
-/// The expressions of the outputs, and behind them the hidden ones.
+/// The expressions of the outputs, and after them the hidden ones.
 fn expressions_of(
     alloc: Global,
     outputs: Vec<Output>,
@@ -233,7 +233,7 @@ fn cut_of(select: &Select) -> Result<Option<Cut>, Failure> {
     Ok(cut_meant(!select.order.is_empty(), select.limits)?)
 }
 
-/// `cut WORDS`: what the limits mean that stand behind a query's FROM, perhaps behind ORDER BY.
+/// `cut WORDS`: what the limits mean that stand after a query's FROM, perhaps after ORDER BY.
 pub fn cut(alloc: Global, select: &Select) -> Result<String, Failure> {
     let cut = cut_of(select)?;
     written(alloc, &cut)

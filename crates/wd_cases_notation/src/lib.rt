@@ -1,5 +1,5 @@
 //! How the cases of wd_cases_plans are written. A line is `NAME(ARGUMENTS) WORDS : LISTS`, of which
-//! all but the name may be missing. Some lines are only set, for the lines behind them:
+//! all but the name may be missing. Some lines are only set, for the lines after them:
 //! `schema TEXT`, `rows ROWS` (the rows of the one table), `right ROWS` (the right side of joins),
 //! `part GROUPS : KEYS` or `part(desc) ..`, and `plan WORDS`.
 //!

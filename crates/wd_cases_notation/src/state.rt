@@ -1,4 +1,4 @@
-//! What lines set for the lines behind them.
+//! What lines set for the lines after them.
 
 use crate::lists::{groups_of, orderings_of};
 use crate::stacks::Stacks;
@@ -21,7 +21,7 @@ pub struct State {
     pub plan: Option<Plan>,
     /// What the words of the line have left.
     pub stacks: Stacks,
-    /// The lists behind the line's colon.
+    /// The lists after the line's colon.
     pub choice: Choice,
     groups: Vec<u32>,
     keys: Vec<Value>,
@@ -71,7 +71,7 @@ impl State {
         }
     }
 
-    /// The first list behind the line's colon.
+    /// The first list after the line's colon.
     pub fn ordering(&self) -> &[u64] {
         match self.choice.orderings.first() {
             Some(ordering) => ordering,

@@ -12,7 +12,7 @@ pub struct Line<'a> {
 }
 
 impl<'a> Line<'a> {
-    /// The line of a first word and the text behind it.
+    /// The line of a first word and the text after it.
     pub fn of(word: &'a str, text: &'a str) -> Line<'a> {
         let (words, lists) = match text.strip_prefix(": ") {
             Some(lists) => ("", lists),

@@ -1,4 +1,4 @@
-//! From a line to what is printed behind it.
+//! From a line to what is printed after it.
 
 use crate::shown::push;
 use crate::{calls, plans, sorts, steps, values};

@@ -41,7 +41,7 @@ fn push_not_valid(out: &mut String, place: u64) -> Result<(), Failure> {
     Ok(write!(out, "not valid at {place}")?)
 }
 
-/// What the Window gives; want of memory where it can't be asked.
+/// What the Window gives; out of memory where it can't be asked.
 fn evaluated(
     alloc: Global,
     state: &State,

@@ -1,9 +1,9 @@
 //! What the calls of wd_phrase give at the front of a text's tokens, and how many tokens are left
-//! behind it.
+//! after it.
 use std::alloc::Global;
 use std::fmt::Debug;
 use wd_cases::Failure;
-use wd_lex::{Mark, Token, TokenKind};
+use wd_lex::{Delimiter, Token, TokenKind};
 use wd_phrase::{
     Refusal, direction_at, eat, eat_name, expect, frame_at, limits_at, name_at, nulls_at,
     operator_at, sign_at,
@@ -27,7 +27,7 @@ fn left(alloc: Global, rest: &[Token]) -> Result<String, Failure> {
     Ok(format!(in alloc; "{count} left")?)
 }
 
-/// What was found, and how many tokens are left behind it.
+/// What was found, and how many tokens are left after it.
 fn found<T: Debug>(alloc: Global, found: &T, rest: &[Token]) -> Result<String, Failure> {
     let count = rest.len();
     Ok(format!(in alloc; "{found:?}, {count} left")?)
@@ -41,13 +41,13 @@ fn named(alloc: Global, name: &Name, rest: &[Token]) -> Result<String, Failure> 
     Ok(format!(in alloc; "{quote}{text}{quote}, {count} left")?)
 }
 
-/// The mark that stands first, and the tokens behind it.
-fn first_mark(tokens: &[Token]) -> Result<(Mark, &[Token]), Failure> {
+/// The mark that stands first, and the tokens after it.
+fn first_mark(tokens: &[Token]) -> Result<(Delimiter, &[Token]), Failure> {
     match tokens.split_first() {
         Some(
             (
                 Token {
-                    kind: TokenKind::Mark(mark),
+                    kind: TokenKind::Delimiter(mark),
                     ..
                 },
                 rest,
@@ -57,7 +57,7 @@ fn first_mark(tokens: &[Token]) -> Result<(Mark, &[Token]), Failure> {
     }
 }
 
-/// The number that stands first, and the tokens behind it.
+/// The number that stands first, and the tokens after it.
 fn first_number(tokens: &[Token]) -> Result<(u8, &[Token]), Failure> {
     match tokens.split_first() {
         Some(

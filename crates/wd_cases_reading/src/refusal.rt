@@ -10,7 +10,7 @@ pub fn of_rows(error: &DataError) -> Failure {
     Failure::refused(error.number(), error.place())
 }
 
-/// `memory CALL`: the number, the place and the message of the want of memory that a call answers.
+/// `memory CALL`: the number, the place and the message of the answer of a call that runs out of memory.
 pub fn want_of_memory(alloc: Global, call: &str) -> Result<String, Failure> {
     match call {
         "lex" => Failure::from(LexError::OutOfMemory).explained(alloc, &LexError::OutOfMemory),

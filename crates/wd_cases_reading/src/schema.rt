@@ -72,7 +72,7 @@ fn counts_shown(alloc: Global, table: Option<&Table>) -> Result<String, Failure>
     Ok(format!(in alloc; "columns: {columns}, keys: {keys}")?)
 }
 
-/// Tables, each with a `|` behind its rows.
+/// Tables, each with a `|` after its rows.
 fn instance_of(alloc: Global, text: &str) -> Result<Instance, Failure> {
     let mut instance = Vec::new(alloc);
     for table in text.split_terminator('|') {

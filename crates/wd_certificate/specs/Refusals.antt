@@ -6,7 +6,7 @@ use Rattle.wd_certificate.specs.Json.{certificate_json, IsJsonOf, Spells}
 use Rattle.wd_certificate.specs.declared.error.CertError.{CertError}
 use Rattle.wd_certificate.specs.declared.error.CertError.TheVariants.{NotJson, Shape, Version, Count, UnreachedUse, UnreachedClaim, UnjustifiedCall, SecondExchange, UnjustifiedLimit, OutOfRange, OutOfMemory}
 
--- the number of a refusal; want of memory has none
+-- the number of a refusal; out of memory has none
 abbrev pub number_of : CertError → Option ℕ
 number_of NotJson = Some 501
 number_of Shape = Some 502

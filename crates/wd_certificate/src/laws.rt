@@ -16,7 +16,7 @@ pub fn spells_one()
     ensures { SpellsOne }
 {}
 
-/// Bytes that spell a certificate spell no other, and are refused for want of memory alone.
+/// Bytes that spell a certificate spell no other, and are refused only where memory runs out.
 pub fn is_read_back()
     ensures { IsReadBack }
 {}

@@ -157,7 +157,7 @@ fn certificate_value(alloc: Global, certificate: &Certificate) -> Result<Value, 
 
 impl Certificate {
     /// The certificate's text: JSON without white space, members in alphabetical order, its
-    /// numbers in digits. `from_json` reads it back. Refused for want of memory alone.
+    /// numbers in digits. `from_json` reads it back. Refused only where memory runs out.
     pub fn to_json(&self, alloc: Global) -> Result<Vec<u8>, OutOfMemory>
         ensures text { IfOk result (λ b. b.items ≡ certificate_text (nodes_of self.now)) }
         ensures spells { IfOk result (λ b. Spells 1 (nodes_of self.now) b.items) }

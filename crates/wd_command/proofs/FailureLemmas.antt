@@ -57,7 +57,7 @@ IsOfCommandLine-from_words error (Unassigned word) h = absurd h
 IsOfCommandLine-from_words error (CannotRead path) h = absurd h
 IsOfCommandLine-from_words error CannotWrite h = absurd h
 
--- a read that failed behind files that were handed over before
+-- a read that failed after files that were handed over before
 pub IsUnread-behind : (before middle after : Option (List File)) (first : List File) (Known Wanted : List File → List ℕ → Type 0) (failures failures_after : ℕ) → HandsOver before middle first
     → ((files : List File) (path : List ℕ) → Known files path → Wanted (first ++ files) path)
     → (failure : Failure) → IsUnread Known middle after failures failures_after failure → IsUnread Wanted before after failures failures_after failure

@@ -13,7 +13,7 @@ taken_between first text rest n =
     ∙ ap (λ l. first ++ l) (sym (append_assoc (take n text) (drop n text) rest) ∙ ap (λ l. l ++ rest) (take-append-drop n text)) in
     subst (λ l. take (length (first ++ take n text)) l ≡ first ++ take n text) parts (take-append_seam (first ++ take n text) (drop n text ++ rest))
 
--- a beginning of the next text, behind a text that was written whole
+-- a beginning of the next text, after a text that was written whole
 pub AppendsPart-behind : (before middle after : Option (List ℕ)) (first text rest : List ℕ) → Appends before middle first → AppendsPart middle after text
     → AppendsPart before after (first ++ (text ++ rest))
 AppendsPart-behind before middle after first text rest written more =
@@ -27,7 +27,7 @@ AppendsPart-first before after text rest part = AppendsPart-behind before before
 pub AppendsPart-whole : (before after : Option (List ℕ)) (text : List ℕ) → Appends before after text → AppendsPart before after text
 AppendsPart-whole before after text written = (length text, subst (Appends before after) (sym (take-length text)) written)
 
--- the text at a place, between those before and those behind it
+-- the text at a place, between those before and those after it
 pub flat_map_at : {X : Type 0} (f : X → List ℕ) (xs : List X) (i : ℕ) (d : X) → i < length xs
     → flat_map f xs ≡ flat_map f (take i xs) ++ (f (get_or xs i d) ++ flat_map f (drop (suc i) xs))
 flat_map_at f [] i d below = absurd (omega (arith, below))

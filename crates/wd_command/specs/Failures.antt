@@ -1,4 +1,4 @@
--- Why the program ends without its output: the exit status, the line on standard error, and what stands behind it.
+-- Why the program ends without its output: the exit status, the line on standard error, and what stands after it.
 use Rattle.std.specs.Prelude.{◌≡◌, ◌≢◌, ℕ, ⊤, List, [], ◌++◌, codes, All, Any, Option, Some, None, IfSome}
 use Rattle.std.specs.Fmt.{decimal}
 use Rattle.clap.specs.Values.{kind_of}
@@ -67,7 +67,7 @@ line_of OutOfMemory = Some (line (codes "out of memory"))
 abbrev pub Shows : Option (List ℕ) → Option (List ℕ) → Failure → Type 0
 Shows err err_after failure = IfSome (line_of failure) (AppendsPart err err_after)
 
--- ---- what stands behind a failure
+-- ---- what stands after a failure
 
 -- `clap` refuses the words, or memory is wanting
 abbrev pub IsFaultOfWords : Error → Failure → Type 0

@@ -51,7 +51,7 @@ pub record IsTableWord (words : List (List ℕ)) (word : List ℕ) : Type 0 wher
   pub line : words ≡ run_line schema query tables
   pub there : Any (λ w. w ≡ word) tables
 
--- the paths that the words of `run` name, in their order: the schema's, the query's, and the one behind the first `=` of each word NAME=PATH
+-- the paths that the words of `run` name, in their order: the schema's, the query's, and the one after the first `=` of each word NAME=PATH
 pub record ArePathsOf (words paths : List (List ℕ)) : Type 0 where
   pub schema : List ℕ
   pub query : List ℕ

@@ -91,7 +91,7 @@ fn read_whole<R: Read + Drop>(alloc: Global, reader: R) -> Result<Vec<u8>, ReadF
     Ok(bytes)
 }
 
-// Want of memory in the system's own answer is a failure of the file.
+// Out of memory in the system's own answer is a failure of the file.
 fn fault_of(error: io::Error) -> ReadFault
     ensures { (result ≡ fault.OutOfMemory) ↔ IsOwnWant error }
 {

@@ -24,7 +24,7 @@ pub fn write_and_flush<O: Write>(out: &mut O, text: &[u8]) -> io::Result<()>
     out.flush()
 }
 
-/// Writes the pieces, one behind the other. What an error leaves written is a beginning of them.
+/// Writes the pieces, one after the other. What an error leaves written is a beginning of them.
 pub fn write_pieces<O: Write>(out: &mut O, pieces: &[Piece<'_>]) -> io::Result<()>
     ensures whole { OnOk result (Appends (O.contents out.old) (O.contents out.new) (flat_map piece_text pieces.now)) }
     ensures part { AppendsPart (O.contents out.old) (O.contents out.new) (flat_map piece_text pieces.now) }

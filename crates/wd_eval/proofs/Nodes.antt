@@ -12,7 +12,7 @@ use Rattle.wd_plan.specs.Plans.{PlanTree, Scan, Join, Filter, Map, Window, Disti
 use Rattle.wd_plan.specs.Sorting.{IsOrdering, limit_class}
 use Rattle.wd_steps.specs.Joins.{has_more_rows}
 use Rattle.wd_eval.specs.Steps.{has_large_step, is_large}
-use Rattle.wd_eval.specs.Nodes.{given_of, IsEvaluated, IsStopped, IsSmall, IsLarge, join_over, cut_over, IsCut, IsUnserved}
+use Rattle.wd_eval.specs.Nodes.{produced_of, IsEvaluated, IsStopped, IsSmall, IsLarge, join_over, cut_over, IsCut, IsUnserved}
 use Rattle.wd_eval.specs.Wrong.{IsWrongFrom}
 use Rattle.wd_window.specs.Windows as window
 use Rattle.wd_window.specs.Windows.{IsExtended, IsLeast, IsWrong, IsWrongIn, window_over}
@@ -21,8 +21,8 @@ use Rattle.wd_window.specs.declared.error.WindowError.TheVariants as error
 use Rattle.wd_eval.specs.Errors.{window_error_of}
 use Rattle.wd_eval.specs.declared.error.EvalError.{EvalError}
 use Rattle.wd_eval.specs.declared.error.EvalError.TheVariants.{NotValid, TooManyRows, OutOfMemory}
-use Rattle.wd_eval.specs.declared.given.Given.{Given}
-use Rattle.wd_eval.specs.declared.given.Given.TheVariants.{Made}
+use Rattle.wd_eval.specs.declared.produced.Produced.{Produced}
+use Rattle.wd_eval.specs.declared.produced.Produced.TheVariants.{Made}
 use Rattle.wd_eval.specs.declared.node.Evaluated.{Evaluated}
 use Rattle.wd_eval.proofs.Wrong.{none_wrong, wrong_within}
 use Rattle.wd_eval.proofs.Sizes.{fewer_filter, fewer_map, fewer_distinct, fewer_window, fewer_cut}
@@ -41,7 +41,7 @@ module _ (most : ℕ) (instance : Instance) (choice : List (List ℕ)) (first : 
   abbrev rest : List (List ℕ)
   rest = drop first choice
 
-  -- the orderings behind those of a node below
+  -- the orderings after those of a node below
   behind : (n next : ℕ) → next ≡ first + n → drop next choice ≡ drop n rest
   behind n next e = ap (λ k. drop k choice) e ∙ sym (drop-drop n first choice)
 
@@ -50,7 +50,7 @@ module _ (most : ℕ) (instance : Instance) (choice : List (List ℕ)) (first : 
 
   -- ---- Scan
 
-  pub scan_done : (table columns : ℕ) (o : Given) → IsSmall most (Ok (table_at instance table)) (given_of instance o) → IsEvaluated most (Scan table columns) instance choice first (record { outcome = o; next = first })
+  pub scan_done : (table columns : ℕ) (o : Produced) → IsSmall most (Ok (table_at instance table)) (produced_of instance o) → IsEvaluated most (Scan table columns) instance choice first (record { outcome = o; next = first })
   scan_done table columns o s = record { is = s.is; next = omega arith; served = record { present = omega arith; lawful = tt }; small = s.small; each = s.small }
 
   pub scan_stopped : (table columns : ℕ) (e : EvalError) → IsLarge most (Ok (table_at instance table)) e → IsStopped most (Scan table columns) instance choice first e
@@ -61,7 +61,7 @@ module _ (most : ℕ) (instance : Instance) (choice : List (List ℕ)) (first : 
   -- ---- Filter, Map and Distinct
 
   module _ (input : PlanTree) (below : Evaluated) (b : IsEvaluated most input instance choice first below) (o : Outcome) where
-    pub filter_done : (condition : Expression) → outcome_of o ≡ and_then (given_of instance below.outcome) (filter_outcome condition) → IsEvaluated most (Filter condition input) instance choice first (record { outcome = Made o; next = below.next })
+    pub filter_done : (condition : Expression) → outcome_of o ≡ and_then (produced_of instance below.outcome) (filter_outcome condition) → IsEvaluated most (Filter condition input) instance choice first (record { outcome = Made o; next = below.next })
     filter_done condition is = record {
       is = is ∙ ap (λ r. and_then r (filter_outcome condition)) b.is;
       next = b.next;
@@ -70,7 +70,7 @@ module _ (most : ℕ) (instance : Instance) (choice : List (List ℕ)) (first : 
       each = neither (has_large_step most input instance rest) (is_large most (Filter condition input) instance rest) b.each (fewer_filter most condition (outcome input instance rest) b.small);
     }
 
-    pub map_done : (outputs : List Expression) → outcome_of o ≡ and_then (given_of instance below.outcome) (map_outcome outputs) → IsEvaluated most (Map outputs input) instance choice first (record { outcome = Made o; next = below.next })
+    pub map_done : (outputs : List Expression) → outcome_of o ≡ and_then (produced_of instance below.outcome) (map_outcome outputs) → IsEvaluated most (Map outputs input) instance choice first (record { outcome = Made o; next = below.next })
     map_done outputs is = record {
       is = is ∙ ap (λ r. and_then r (map_outcome outputs)) b.is;
       next = b.next;
@@ -79,7 +79,7 @@ module _ (most : ℕ) (instance : Instance) (choice : List (List ℕ)) (first : 
       each = neither (has_large_step most input instance rest) (is_large most (Map outputs input) instance rest) b.each (fewer_map most outputs (outcome input instance rest) b.small);
     }
 
-    pub distinct_done : outcome_of o ≡ and_then (given_of instance below.outcome) (λ rows. Ok (distinct rows)) → IsEvaluated most (Distinct input) instance choice first (record { outcome = Made o; next = below.next })
+    pub distinct_done : outcome_of o ≡ and_then (produced_of instance below.outcome) (λ rows. Ok (distinct rows)) → IsEvaluated most (Distinct input) instance choice first (record { outcome = Made o; next = below.next })
     distinct_done is = record {
       is = is ∙ ap (λ r. and_then r (λ rows. Ok (distinct rows))) b.is;
       next = b.next;
@@ -115,7 +115,7 @@ module _ (most : ℕ) (instance : Instance) (choice : List (List ℕ)) (first : 
     own_is : take (length w.classes) (drop below.next choice) ≡ own_window w input
     own_is = ap (take (length w.classes)) (behind (ordering_count input) below.next b.next)
 
-    pub window_done : (o : Outcome) (next : ℕ) → IsExtended w (given_of instance below.outcome) choice below.next o → next ≡ below.next + length w.classes → IsEvaluated most (Window w input) instance choice first (record { outcome = Made o; next = next })
+    pub window_done : (o : Outcome) (next : ℕ) → IsExtended w (produced_of instance below.outcome) choice below.next o → next ≡ below.next + length w.classes → IsEvaluated most (Window w input) instance choice first (record { outcome = Made o; next = next })
     window_done o next x e =
         let long = long_rest within in
         let there = x.served.present in
@@ -125,14 +125,14 @@ module _ (most : ℕ) (instance : Instance) (choice : List (List ℕ)) (first : 
           next = omega arith;
           served = record {
             present = omega arith;
-            lawful = (b.served.lawful, subst (λ (r : RowsOrFault). IsLawfulWindow w r (own_window w input)) b.is (subst (IsLawfulWindow w (given_of instance below.outcome)) own_is x.served.lawful));
+            lawful = (b.served.lawful, subst (λ (r : RowsOrFault). IsLawfulWindow w r (own_window w input)) b.is (subst (IsLawfulWindow w (produced_of instance below.outcome)) own_is x.served.lawful));
           };
           small = fewer_window most w (own_window w input) (outcome input instance rest) b.small;
           each = neither (has_large_step most input instance rest) (is_large most (Window w input) instance rest) b.each (fewer_window most w (own_window w input) (outcome input instance rest) b.small);
         }
 
   pub window_stopped : (w : WindowRule) (input : PlanTree) (below : Evaluated) → IsEvaluated most input instance choice first below → (e : EvalError)
-      → IsUnserved (IsLeast (IsWrongIn w.classes (given_of instance below.outcome) choice below.next)) e → IsStopped most (Window w input) instance choice first e
+      → IsUnserved (IsLeast (IsWrongIn w.classes (produced_of instance below.outcome) choice below.next)) e → IsStopped most (Window w input) instance choice first e
   window_stopped w input below b (NotValid p) h =
       let own = subst (λ (n : ℕ). IsLeast (IsWrongIn w.classes (outcome input instance rest) choice n) p) b.next (subst (λ (r : RowsOrFault). IsLeast (IsWrongIn w.classes r choice below.next) p) b.is h) in (
         inr own.0,
@@ -164,10 +164,10 @@ module _ (most : ℕ) (instance : Instance) (choice : List (List ℕ)) (first : 
     own_at : ordering_at choice below.next ≡ ordering_at rest (ordering_count input)
     own_at = ap (ordering_at choice) b.next ∙ sym (get_or-drop first choice (ordering_count input) [])
 
-    lawful_here : IsLawfulLimit limit (given_of instance below.outcome) (ordering_at choice below.next) → IsLawfulLimit limit (outcome input instance rest) (ordering_at rest (ordering_count input))
-    lawful_here h = subst (λ (r : RowsOrFault). IsLawfulLimit limit r (ordering_at rest (ordering_count input))) b.is (subst (IsLawfulLimit limit (given_of instance below.outcome)) own_at h)
+    lawful_here : IsLawfulLimit limit (produced_of instance below.outcome) (ordering_at choice below.next) → IsLawfulLimit limit (outcome input instance rest) (ordering_at rest (ordering_count input))
+    lawful_here h = subst (λ (r : RowsOrFault). IsLawfulLimit limit r (ordering_at rest (ordering_count input))) b.is (subst (IsLawfulLimit limit (produced_of instance below.outcome)) own_at h)
 
-    pub limit_done : (o : Outcome) (next : ℕ) → IsCut limit (given_of instance below.outcome) choice below.next o → next ≡ below.next + 1 → IsEvaluated most (Limit limit input) instance choice first (record { outcome = Made o; next = next })
+    pub limit_done : (o : Outcome) (next : ℕ) → IsCut limit (produced_of instance below.outcome) choice below.next o → next ≡ below.next + 1 → IsEvaluated most (Limit limit input) instance choice first (record { outcome = Made o; next = next })
     limit_done o next x e =
         let long = long_rest within in
         let there = x.served.present in
@@ -182,7 +182,7 @@ module _ (most : ℕ) (instance : Instance) (choice : List (List ℕ)) (first : 
         }
 
   pub limit_stopped : (limit : LimitRule) (input : PlanTree) (below : Evaluated) → IsEvaluated most input instance choice first below → (e : EvalError)
-      → IsUnserved (IsWrong (limit_class limit) (given_of instance below.outcome) choice below.next) e → IsStopped most (Limit limit input) instance choice first e
+      → IsUnserved (IsWrong (limit_class limit) (produced_of instance below.outcome) choice below.next) e → IsStopped most (Limit limit input) instance choice first e
   limit_stopped limit input below b (NotValid p) h =
       let own = subst (λ (n : ℕ). IsWrong (limit_class limit) (outcome input instance rest) choice n p) b.next (subst (λ (r : RowsOrFault). IsWrong (limit_class limit) r choice below.next p) b.is h) in (
         inr own,
@@ -245,12 +245,12 @@ module _ (most : ℕ) (instance : Instance) (choice : List (List ℕ)) (first : 
 
     module _ (r : Evaluated) (b : IsEvaluated most right instance choice l.next r) where
       abbrev below : RowsOrFault
-      below = join_over condition (given_of instance l.outcome) (given_of instance r.outcome)
+      below = join_over condition (produced_of instance l.outcome) (produced_of instance r.outcome)
 
       below_is : below ≡ outcome (Join condition left right) instance all
       below_is = λ i. join_over condition (a.is i) (right_outcome i)
         where
-          right_outcome : given_of instance r.outcome ≡ outcome right instance on_right
+          right_outcome : produced_of instance r.outcome ≡ outcome right instance on_right
           right_outcome = b.is ∙ ap (outcome right instance) right_is
 
       pub join_done : (o : Outcome) → IsSmall most below (outcome_of o) → IsEvaluated most (Join condition left right) instance choice first (record { outcome = Made o; next = r.next })

@@ -1,4 +1,4 @@
--- Sorted orderings put behind those that are there serve a Window, or a Limit, over its input.
+-- Sorted orderings put after those that are there serve a Window, or a Limit, over its input.
 use Rattle.std.proofs.Common.{◌≡◌, ℕ, ◌+◌, ◌<◌, Bool, List, [], ◌∷◌, ◌++◌, map, take, drop, length, get_or, Option, Ok, Err, refl, sym, ap, ◌∙◌, subst, arith, append_assoc, below_more, length-append}
 use Rattle.std.specs.List.{AllByRecursion}
 use Rattle.std.proofs.Math.Seq.{drop-append_seam, get_or-append_seam}
@@ -13,22 +13,22 @@ use Rattle.wd_partition.proofs.Grouping.{IsOrdering-from_given}
 use Rattle.wd_eval.specs.Nodes.{IsCut, IsUnserved}
 use Rattle.wd_window.specs.Windows.{HasOrdering, IsLeast, IsWindowServed, IsWrong, IsWrongIn}
 use Rattle.wd_eval.specs.Tied.{IsSortedOver, is_flipped}
-use Rattle.wd_eval.specs.Ties.{ArePut, AreSortedOver, IsTiedLimit, IsWantOfMemory}
+use Rattle.wd_eval.specs.Ties.{ArePut, AreSortedOver, IsTiedLimit, IsOutOfMemory}
 use Rattle.wd_window.specs.Listings.{class_in}
 use Rattle.wd_eval.specs.declared.error.EvalError.{EvalError}
 use Rattle.wd_eval.specs.declared.error.EvalError.TheVariants.{NotValid, TooManyRows, OutOfMemory}
 use Rattle.wd_window.proofs.Serving.{all_from_each, class_served}
 
 -- where the orderings serve, only memory can be wanting
-served_memory : (IsPlace : ℕ → Type 0) (e : EvalError) → ((place : ℕ) → IsPlace place → ⊥) → IsUnserved IsPlace e → IsWantOfMemory e
+served_memory : (IsPlace : ℕ → Type 0) (e : EvalError) → ((place : ℕ) → IsPlace place → ⊥) → IsUnserved IsPlace e → IsOutOfMemory e
 served_memory IsPlace (NotValid p) none h = none p h
 served_memory IsPlace TooManyRows none h = h
 served_memory IsPlace OutOfMemory none h = tt
 
-pub limit_memory : (class : ClassRule) (input : RowsOrFault) (choice : List (List ℕ)) (number : ℕ) (e : EvalError) → HasOrdering class input choice number → IsUnserved (IsWrong class input choice number) e → IsWantOfMemory e
+pub limit_memory : (class : ClassRule) (input : RowsOrFault) (choice : List (List ℕ)) (number : ℕ) (e : EvalError) → HasOrdering class input choice number → IsUnserved (IsWrong class input choice number) e → IsOutOfMemory e
 limit_memory class input choice number e s = served_memory (IsWrong class input choice number) e (λ place h. h.1 s)
 
-pub window_memory : (w : WindowRule) (input : RowsOrFault) (choice : List (List ℕ)) (first : ℕ) (e : EvalError) → IsWindowServed w input choice first → IsUnserved (IsLeast (IsWrongIn w.classes input choice first)) e → IsWantOfMemory e
+pub window_memory : (w : WindowRule) (input : RowsOrFault) (choice : List (List ℕ)) (first : ℕ) (e : EvalError) → IsWindowServed w input choice first → IsUnserved (IsLeast (IsWrongIn w.classes input choice first)) e → IsOutOfMemory e
 window_memory w input choice first e s = served_memory (IsLeast (IsWrongIn w.classes input choice first)) e (λ place h. h.0.wrong.1 (class_served w input choice first h.0.number s h.0.within))
 
 lawful_over : (class : ClassRule) (flipped : Bool) (input : RowsOrFault) (ordering : List ℕ) → IsSortedOver class flipped input ordering → AtRows input (λ rows. IsOrdering class rows ordering) (ordering ≡ [])

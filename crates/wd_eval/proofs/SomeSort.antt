@@ -14,7 +14,7 @@ use Rattle.wd_sort.proofs.Order.{rows_order}
 use Rattle.wd_eval.proofs.Stable.{NotLess, keep_head}
 
 module _ {X : Type 0} (lt : X → X → Bool) (order : IsStrictWeakOrder lt) where
-  -- behind all that are less, before those that tie
+  -- after all that are less, before those that tie
   abbrev inserted : X → List X → List X
   inserted x [] = x ∷ []
   inserted x (y ∷ ys) = cond (lt y x) (y ∷ inserted x ys) (x ∷ y ∷ ys)

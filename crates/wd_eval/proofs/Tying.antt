@@ -13,15 +13,15 @@ use Rattle.wd_plan.proofs.ChoiceLaws.{AreLawful-append, outcome-append}
 use Rattle.wd_partition.specs.Columns.{given_positions, sort_columns}
 use Rattle.wd_steps.specs.Joins.{has_more_rows}
 use Rattle.wd_eval.specs.Judged.{IsOutcome}
-use Rattle.wd_eval.specs.Nodes.{given_of, IsEvaluated, IsLarge, IsSmall, cut_over, join_over}
+use Rattle.wd_eval.specs.Nodes.{produced_of, IsEvaluated, IsLarge, IsSmall, cut_over, join_over}
 use Rattle.wd_window.specs.Windows.{window_over}
 use Rattle.wd_eval.specs.Steps.{has_large_step, is_large}
 use Rattle.wd_eval.specs.Tied.{AreTied, IsSortedOver, IsValidTiedChoice, is_flipped}
-use Rattle.wd_eval.specs.Ties.{IsTied, IsTiedLimit, IsTiedWindow, IsUntied, IsWantOfMemory}
+use Rattle.wd_eval.specs.Ties.{IsTied, IsTiedLimit, IsTiedWindow, IsUntied, IsOutOfMemory}
 use Rattle.wd_eval.specs.declared.error.EvalError.{EvalError}
 use Rattle.wd_eval.specs.declared.error.EvalError.TheVariants.{NotValid, TooManyRows, OutOfMemory}
-use Rattle.wd_eval.specs.declared.given.Given.{Given}
-use Rattle.wd_eval.specs.declared.given.Given.TheVariants.{Made}
+use Rattle.wd_eval.specs.declared.produced.Produced.{Produced}
+use Rattle.wd_eval.specs.declared.produced.Produced.TheVariants.{Made}
 use Rattle.wd_eval.specs.declared.node.Evaluated.{Evaluated}
 use Rattle.wd_eval.proofs.Nodes.{or_left, or_right, scan_done, filter_done, map_done, distinct_done, window_done, limit_done, join_done}
 use Rattle.wd_eval.proofs.Stable.{one_stable_sort}
@@ -102,7 +102,7 @@ module _ (instance : Instance) (flipped : Option ℕ) where
             (subst (λ (r : RowsOrFault). IsSortedOver (limit_class limit) (is_flipped flipped (first + n)) r (ordering_at choice n)) (sym below) s.1),
       )
 
--- orderings behind a plan's own change no step's size
+-- orderings after a plan's own change no step's size
 large-append : (most : ℕ) (instance : Instance) (plan : PlanTree) (choice more : List (List ℕ)) → ordering_count plan ≤ length choice → has_large_step most plan instance (choice ++ more) ≡ has_large_step most plan instance choice
 large-append most instance (Scan table columns) choice more h = refl
 large-append most instance (Join condition left right) choice more h =
@@ -136,7 +136,7 @@ evaluated_append most plan instance choice more first e h b =
 
 -- ---- nodes
 
-pub memory_untied : (most : ℕ) (plan : PlanTree) (instance : Instance) (flipped : Option ℕ) (first : ℕ) (e : EvalError) → IsWantOfMemory e → IsUntied most plan instance flipped first e
+pub memory_untied : (most : ℕ) (plan : PlanTree) (instance : Instance) (flipped : Option ℕ) (first : ℕ) (e : EvalError) → IsOutOfMemory e → IsUntied most plan instance flipped first e
 memory_untied most plan instance flipped first (NotValid p) h = h
 memory_untied most plan instance flipped first TooManyRows h = absurd h
 memory_untied most plan instance flipped first OutOfMemory h = tt
@@ -145,7 +145,7 @@ module _ (most : ℕ) (instance : Instance) (flipped : Option ℕ) (old : List (
   grown_long : (mid own : List (List ℕ)) → mid ≡ old ++ own → length old ≤ length mid
   grown_long mid own e = let long = ap length e ∙ length-append old own in omega arith
 
-  pub scan_tied : (table columns : ℕ) (o : Given) → IsSmall most (Ok (table_at instance table)) (given_of instance o) → IsTied most (Scan table columns) instance flipped old old o
+  pub scan_tied : (table columns : ℕ) (o : Produced) → IsSmall most (Ok (table_at instance table)) (produced_of instance o) → IsTied most (Scan table columns) instance flipped old old o
   scan_tied table columns o s = record {
     own = [];
     grown = sym (append-nil old);
@@ -158,8 +158,8 @@ module _ (most : ℕ) (instance : Instance) (flipped : Option ℕ) (old : List (
   scan_untied table columns TooManyRows h = λ choice long s. h
   scan_untied table columns OutOfMemory h = tt
 
-  module _ (input : PlanTree) (new : List (List ℕ)) (below : Given) (b : IsTied most input instance flipped old new below) (o : Outcome) where
-    pub filter_tied : (condition : Expression) → outcome_of o ≡ and_then (given_of instance below) (filter_outcome condition) → IsTied most (Filter condition input) instance flipped old new (Made o)
+  module _ (input : PlanTree) (new : List (List ℕ)) (below : Produced) (b : IsTied most input instance flipped old new below) (o : Outcome) where
+    pub filter_tied : (condition : Expression) → outcome_of o ≡ and_then (produced_of instance below) (filter_outcome condition) → IsTied most (Filter condition input) instance flipped old new (Made o)
     filter_tied condition is = record {
       own = b.own;
       grown = b.grown;
@@ -167,7 +167,7 @@ module _ (most : ℕ) (instance : Instance) (flipped : Option ℕ) (old : List (
       tied = b.tied;
     }
 
-    pub map_tied : (outputs : List Expression) → outcome_of o ≡ and_then (given_of instance below) (map_outcome outputs) → IsTied most (Map outputs input) instance flipped old new (Made o)
+    pub map_tied : (outputs : List Expression) → outcome_of o ≡ and_then (produced_of instance below) (map_outcome outputs) → IsTied most (Map outputs input) instance flipped old new (Made o)
     map_tied outputs is = record {
       own = b.own;
       grown = b.grown;
@@ -175,7 +175,7 @@ module _ (most : ℕ) (instance : Instance) (flipped : Option ℕ) (old : List (
       tied = b.tied;
     }
 
-    pub distinct_tied : outcome_of o ≡ and_then (given_of instance below) (λ rows. Ok (distinct rows)) → IsTied most (Distinct input) instance flipped old new (Made o)
+    pub distinct_tied : outcome_of o ≡ and_then (produced_of instance below) (λ rows. Ok (distinct rows)) → IsTied most (Distinct input) instance flipped old new (Made o)
     distinct_tied is = record {
       own = b.own;
       grown = b.grown;
@@ -208,9 +208,9 @@ module _ (most : ℕ) (instance : Instance) (flipped : Option ℕ) (old : List (
   limit_untied limit input TooManyRows h = λ choice long s. or_left (has_large_step most input instance choice) (is_large most (Limit limit input) instance choice) (h choice (omega arith) s.0)
   limit_untied limit input OutOfMemory h = tt
 
-  -- ---- what stands behind the orderings of a node below
+  -- ---- what stands after the orderings of a node below
 
-  module _ (plan : PlanTree) (mid own new : List (List ℕ)) (o : Given) (b : IsTied most plan instance flipped old mid o) (e : new ≡ mid ++ own) where
+  module _ (plan : PlanTree) (mid own new : List (List ℕ)) (o : Produced) (b : IsTied most plan instance flipped old mid o) (e : new ≡ mid ++ own) where
     abbrev at_mid : Evaluated
     at_mid = record { outcome = o; next = length mid }
 
@@ -233,13 +233,13 @@ module _ (most : ℕ) (instance : Instance) (flipped : Option ℕ) (old : List (
         ∙ ap (λ ch. get_or ch (length mid + k) []) e
         ∙ get_or-append-add mid own k []
 
-    pub below_is : given_of instance o ≡ outcome plan instance (drop (length old) new)
+    pub below_is : produced_of instance o ≡ outcome plan instance (drop (length old) new)
     below_is = still.is
 
     pub grown_more : new ≡ old ++ (b.own ++ own)
     grown_more = e ∙ ap (λ ch. ch ++ own) b.grown ∙ append_assoc old b.own own
 
-  pub window_tied : (w : WindowRule) (input : PlanTree) (mid new : List (List ℕ)) (below : Given) (o : Outcome) → IsTied most input instance flipped old mid below → IsTiedWindow w (given_of instance below) flipped mid new o → IsTied most (Window w input) instance flipped old new (Made o)
+  pub window_tied : (w : WindowRule) (input : PlanTree) (mid new : List (List ℕ)) (below : Produced) (o : Outcome) → IsTied most input instance flipped old mid below → IsTiedWindow w (produced_of instance below) flipped mid new o → IsTied most (Window w input) instance flipped old new (Made o)
   window_tied w input mid new below o b x =
       let own = x.put.own in
       let e = x.put.grown in
@@ -259,11 +259,11 @@ module _ (most : ℕ) (instance : Instance) (flipped : Option ℕ) (old : List (
               let number : length mid + k ≡ length old + ordering_count input + k = omega arith in
               subst (IsSortedOver (class_at w k) (is_flipped flipped (length old + ordering_count input + k)) (outcome input instance (drop (length old) new))) (sym (put_at input mid own new below b e k))
               (subst (λ (r : RowsOrFault). IsSortedOver (class_at w k) (is_flipped flipped (length old + ordering_count input + k)) r (ordering_at own k)) (below_is input mid own new below b e)
-              (subst (λ (n : ℕ). IsSortedOver (class_at w k) (is_flipped flipped n) (given_of instance below) (ordering_at own k)) number (sorted.each k l)))),
+              (subst (λ (n : ℕ). IsSortedOver (class_at w k) (is_flipped flipped n) (produced_of instance below) (ordering_at own k)) number (sorted.each k l)))),
         );
       }
 
-  pub limit_tied : (limit : LimitRule) (input : PlanTree) (mid new : List (List ℕ)) (below : Given) (o : Outcome) → IsTied most input instance flipped old mid below → IsTiedLimit limit (given_of instance below) flipped mid new o → IsTied most (Limit limit input) instance flipped old new (Made o)
+  pub limit_tied : (limit : LimitRule) (input : PlanTree) (mid new : List (List ℕ)) (below : Produced) (o : Outcome) → IsTied most input instance flipped old mid below → IsTiedLimit limit (produced_of instance below) flipped mid new o → IsTied most (Limit limit input) instance flipped old new (Made o)
   limit_tied limit input mid new below o b x =
       let own = x.own ∷ [] in
       let e = x.grown in
@@ -281,7 +281,7 @@ module _ (most : ℕ) (instance : Instance) (flipped : Option ℕ) (old : List (
           still_tied input mid own new below b e,
           subst (IsSortedOver (limit_class limit) (is_flipped flipped (length old + ordering_count input)) (outcome input instance (drop (length old) new))) (sym at)
               (subst (λ (r : RowsOrFault). IsSortedOver (limit_class limit) (is_flipped flipped (length old + ordering_count input)) r x.own) (below_is input mid own new below b e)
-              (subst (λ (n : ℕ). IsSortedOver (limit_class limit) (is_flipped flipped n) (given_of instance below) x.own) number x.sorted)),
+              (subst (λ (n : ℕ). IsSortedOver (limit_class limit) (is_flipped flipped n) (produced_of instance below) x.own) number x.sorted)),
         );
       }
 
@@ -296,7 +296,7 @@ module _ (most : ℕ) (instance : Instance) (flipped : Option ℕ) (old : List (
         or_left (on_left || on_right) (is_large most (Join condition left right) instance choice) (or_left on_left on_right (h choice (omega arith) s.0)))
     join_untied_left OutOfMemory h = tt
 
-    module _ (mid : List (List ℕ)) (lo : Given) (l : IsTied most left instance flipped old mid lo) where
+    module _ (mid : List (List ℕ)) (lo : Produced) (l : IsTied most left instance flipped old mid lo) where
       pub join_untied_right : (e : EvalError) → IsUntied most right instance flipped (length mid) e → IsUntied most (Join condition left right) instance flipped (length old) e
       join_untied_right (NotValid p) h = h
       join_untied_right TooManyRows h = λ choice long s. (
@@ -308,7 +308,7 @@ module _ (most : ℕ) (instance : Instance) (flipped : Option ℕ) (old : List (
           (or_right on_left on_right (h (drop n choice) (omega arith) (subst (λ (k : ℕ). AreTied right instance flipped k (drop n choice)) (sym l.evaluated.next) s.1))))
       join_untied_right OutOfMemory h = tt
 
-      module _ (new : List (List ℕ)) (ro : Given) (r : IsTied most right instance flipped mid new ro) where
+      module _ (new : List (List ℕ)) (ro : Produced) (r : IsTied most right instance flipped mid new ro) where
         right_rest : drop (ordering_count left) (drop (length old) new) ≡ drop (length mid) new
         right_rest = drop-drop (ordering_count left) (length old) new ∙ ap (λ k. drop k new) (sym l.evaluated.next)
 
@@ -318,7 +318,7 @@ module _ (most : ℕ) (instance : Instance) (flipped : Option ℕ) (old : List (
         both_tied : AreTied (Join condition left right) instance flipped (length old) (drop (length old) new)
         both_tied = (still_tied left mid r.own new lo l r.grown, right_tied)
 
-        pub join_tied : (o : Outcome) → IsSmall most (join_over condition (given_of instance lo) (given_of instance ro)) (outcome_of o) → IsTied most (Join condition left right) instance flipped old new (Made o)
+        pub join_tied : (o : Outcome) → IsSmall most (join_over condition (produced_of instance lo) (produced_of instance ro)) (outcome_of o) → IsTied most (Join condition left right) instance flipped old new (Made o)
         join_tied o s = record {
           own = l.own ++ r.own;
           grown = grown_more left mid r.own new lo l r.grown;
@@ -326,25 +326,25 @@ module _ (most : ℕ) (instance : Instance) (flipped : Option ℕ) (old : List (
           tied = both_tied;
         }
 
-        large_here : has_more_rows most (join_over condition (given_of instance lo) (given_of instance ro)) ≡ true → (choice : List (List ℕ)) → ordering_count left + ordering_count right ≤ length choice → AreTied (Join condition left right) instance flipped (length old) choice → is_large most (Join condition left right) instance choice ≡ true
+        large_here : has_more_rows most (join_over condition (produced_of instance lo) (produced_of instance ro)) ≡ true → (choice : List (List ℕ)) → ordering_count left + ordering_count right ≤ length choice → AreTied (Join condition left right) instance flipped (length old) choice → is_large most (Join condition left right) instance choice ≡ true
         large_here h choice long s =
             let next = l.evaluated.next in
             let last = r.evaluated.next in
             let size = length-drop (length old) new in
             let enough : ordering_count left + ordering_count right ≤ length (drop (length old) new) = omega arith in
             let same : outcome (Join condition left right) instance choice ≡ outcome (Join condition left right) instance (drop (length old) new) = one_outcome instance flipped (Join condition left right) (length old) choice (drop (length old) new) long enough s both_tied in
-            let on_left : given_of instance lo ≡ outcome left instance (drop (length old) new) = below_is left mid r.own new lo l r.grown in
-            let on_right : given_of instance ro ≡ outcome right instance (drop (ordering_count left) (drop (length old) new)) = r.evaluated.is ∙ ap (outcome right instance) (sym right_rest) in
+            let on_left : produced_of instance lo ≡ outcome left instance (drop (length old) new) = below_is left mid r.own new lo l r.grown in
+            let on_right : produced_of instance ro ≡ outcome right instance (drop (ordering_count left) (drop (length old) new)) = r.evaluated.is ∙ ap (outcome right instance) (sym right_rest) in
             ap (has_more_rows most) same ∙ (λ i. has_more_rows most (join_over condition (sym on_left i) (sym on_right i))) ∙ h
 
-        pub join_untied : (e : EvalError) → IsLarge most (join_over condition (given_of instance lo) (given_of instance ro)) e → IsUntied most (Join condition left right) instance flipped (length old) e
+        pub join_untied : (e : EvalError) → IsLarge most (join_over condition (produced_of instance lo) (produced_of instance ro)) e → IsUntied most (Join condition left right) instance flipped (length old) e
         join_untied (NotValid p) h = absurd h
         join_untied TooManyRows h = λ choice long s. or_right (has_large_step most left instance choice || has_large_step most right instance (drop (ordering_count left) choice)) (is_large most (Join condition left right) instance choice) (large_here h choice long s)
         join_untied OutOfMemory h = tt
 
 -- ---- whole plans
 
-module _ (most : ℕ) (plan : PlanTree) (instance : Instance) (flipped : Option ℕ) (new : List (List ℕ)) (g : Given) (t : IsTied most plan instance flipped [] new g) where
+module _ (most : ℕ) (plan : PlanTree) (instance : Instance) (flipped : Option ℕ) (new : List (List ℕ)) (g : Produced) (t : IsTied most plan instance flipped [] new g) where
   pub tied_valid : IsValidTiedChoice most plan instance flipped new
   tied_valid = record {
     tied = record { number = t.evaluated.next ∙ omega arith; tied = t.tied };
@@ -352,5 +352,5 @@ module _ (most : ℕ) (plan : PlanTree) (instance : Instance) (flipped : Option 
     small = t.evaluated.each;
   }
 
-  pub tied_outcome : (o : Outcome) → outcome_of o ≡ given_of instance g → IsOutcome most plan instance new o
+  pub tied_outcome : (o : Outcome) → outcome_of o ≡ produced_of instance g → IsOutcome most plan instance new o
   tied_outcome o e = record { valid = tied_valid.valid; small = t.evaluated.each; is = e ∙ t.evaluated.is }

@@ -72,7 +72,7 @@ module _ (plan : PlanTree) (instance : Instance) (choice : List (List ℕ)) wher
   stopped_refused most TooManyRows h = h
   stopped_refused most OutOfMemory h = tt
 
-  -- an ordering left over, behind those that the plan has
+  -- an ordering left over, after those that the plan has
   pub surplus_refused : (p : ℕ) → IsServed plan instance choice → p ≡ ordering_count plan → p < length choice → IsLeast (IsWrongOrdering plan instance choice) p
   surplus_refused p s e lt = (
     inr (omega arith, lt),

@@ -20,8 +20,8 @@ use Rattle.wd_eval.specs.Wrong.{IsWrongFrom}
 use Rattle.wd_eval.specs.declared.cut.Cut.{Cut}
 use Rattle.wd_eval.specs.declared.error.EvalError.{EvalError}
 use Rattle.wd_eval.specs.declared.error.EvalError.TheVariants.{NotValid, TooManyRows, OutOfMemory}
-use Rattle.wd_eval.specs.declared.given.Given.{Given}
-use Rattle.wd_eval.specs.declared.given.Given.TheVariants.{Table, Made}
+use Rattle.wd_eval.specs.declared.produced.Produced.{Produced}
+use Rattle.wd_eval.specs.declared.produced.Produced.TheVariants.{Table, Made}
 use Rattle.wd_eval.specs.declared.node.Evaluated.{Evaluated}
 
 -- each window call names a class of its Window, as in every plan that fits a schema
@@ -35,9 +35,9 @@ HasClasses (Distinct input) = HasClasses input
 HasClasses (Limit limit input) = HasClasses input
 
 -- what a node gives: the rows of a table of the instance, or what its step made
-abbrev pub given_of : Instance → Given → RowsOrFault
-given_of instance (Table table) = Ok (table_at instance table)
-given_of instance (Made o) = outcome_of o
+abbrev pub produced_of : Instance → Produced → RowsOrFault
+produced_of instance (Table table) = Ok (table_at instance table)
+produced_of instance (Made o) = outcome_of o
 
 -- rows by reference, or a fault
 abbrev pub shown_of : Result (Bor (List (Vec Value Global))) Fault → RowsOrFault
@@ -51,7 +51,7 @@ pub record IsServed (plan : PlanTree) (instance : Instance) (choice : List (List
 
 -- the plan's outcome under the orderings from `first` on, with the number of the next one; no step is too large
 pub record IsEvaluated (most : ℕ) (plan : PlanTree) (instance : Instance) (choice : List (List ℕ)) (first : ℕ) (e : Evaluated) : Type 0 where
-  pub is : given_of instance e.outcome ≡ outcome plan instance (drop first choice)
+  pub is : produced_of instance e.outcome ≡ outcome plan instance (drop first choice)
   pub next : e.next ≡ first + ordering_count plan
   pub served : IsServed plan instance (drop first choice)
   pub small : has_more_rows most (outcome plan instance (drop first choice)) ≡ false
@@ -91,7 +91,7 @@ pub record IsCut (limit : LimitRule) (input : RowsOrFault) (choice : List (List 
   pub served : HasOrdering (limit_class limit) input choice number
   pub is : outcome_of o ≡ cut_over limit (ordering_at choice number) input
 
--- a place of which this holds, or want of memory
+-- a place of which this holds, or out of memory
 abbrev pub IsUnserved : (ℕ → Type 0) → EvalError → Type 0
 IsUnserved IsPlace (NotValid place) = IsPlace place
 IsUnserved IsPlace TooManyRows = ⊥

@@ -19,6 +19,6 @@ IsWrongFrom (Distinct input) instance choice first place = IsWrongFrom input ins
 IsWrongFrom (Limit limit input) instance choice first place =
     IsWrongFrom input instance choice first place ⊎ IsWrong (limit_class limit) (outcome input instance (drop first choice)) choice (first + ordering_count input) place
 
--- the place is the number of an ordering of the choice that is missing, not lawful, or left over behind those of the plan
+-- the place is the number of an ordering of the choice that is missing, not lawful, or left over after those of the plan
 abbrev pub IsWrongOrdering : PlanTree → Instance → List (List ℕ) → ℕ → Type 0
 IsWrongOrdering plan instance choice place = IsWrongFrom plan instance choice 0 place ⊎ ((ordering_count plan ≤ place) × (place < length choice))

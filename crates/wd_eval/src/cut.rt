@@ -2,14 +2,14 @@
 
 ghost use Rattle.std.specs.Prelude.{◌≡◌, ◌<◌, ◌≤◌, length, MatchResult, IfOk};
 ghost use Rattle.wd_window.specs.Windows.{IsWrong, orderings_of};
-ghost use Rattle.wd_eval.specs.Nodes.{IsCut, IsUnserved, given_of, limit_of};
+ghost use Rattle.wd_eval.specs.Nodes.{IsCut, IsUnserved, produced_of, limit_of};
 ghost use Rattle.wd_plan.specs.Outcomes.{ordering_at};
 ghost use Rattle.wd_plan.specs.Outcomes as spec;
 ghost use Rattle.wd_plan.specs.Sorting.{limit_class};
 ghost use Rattle.wd_value.specs.Rows.{instance_of, rows_at, rows_of};
 
 use crate::error::EvalError;
-use crate::given::{Given, shown};
+use crate::produced::{Produced, shown};
 use std::alloc::Global;
 use wd_partition::is_ordering;
 use wd_plan::{OrderItem, Outcome};
@@ -32,11 +32,11 @@ pub(crate) fn limited(
     alloc: Global,
     instance: &[Vec<Row>],
     limit: &Cut,
-    input: Given,
+    input: Produced,
     choice: &[Vec<u64>],
     number: usize,
 ) -> Result<Outcome, EvalError>
-    ensures { MatchResult result (λ o. IsCut (limit_of limit.now) (given_of (instance_of instance.now) input) (orderings_of choice.now) number o) (λ e. IsUnserved (IsWrong (limit_class (limit_of limit.now)) (given_of (instance_of instance.now) input) (orderings_of choice.now) number) e) }
+    ensures { MatchResult result (λ o. IsCut (limit_of limit.now) (produced_of (instance_of instance.now) input) (orderings_of choice.now) number o) (λ e. IsUnserved (IsWrong (limit_class (limit_of limit.now)) (produced_of (instance_of instance.now) input) (orderings_of choice.now) number) e) }
 {
     let Some(ordering) = choice.get(number) else {
         return Err(EvalError::NotValid(number as u64));

@@ -25,7 +25,7 @@ pub enum EvalError {
 }
 
 impl EvalError {
-    /// The refusal's number; none for want of memory.
+    /// The refusal's number; none where memory runs out.
     pub fn number(&self) -> Option<u32>
         ensures { result ≡ number_of self.now }
     {

@@ -12,8 +12,8 @@ ghost use Rattle.wd_schema.specs.Schemas.{schema_of};
 ghost use Rattle.wd_value.specs.Rows.{instance_of};
 
 use crate::error::EvalError;
-use crate::given::owned;
 use crate::node::evaluate;
+use crate::produced::owned;
 use crate::tie::tied;
 use std::alloc::Global;
 use wd_plan::{Choice, Outcome, Plan};

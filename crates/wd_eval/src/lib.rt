@@ -4,9 +4,9 @@
 mod cut;
 mod error;
 mod eval;
-mod given;
 pub mod laws;
 mod node;
+mod produced;
 mod step;
 mod tie;
 

@@ -8,16 +8,16 @@ ghost use Rattle.wd_value.specs.Rows.{instance_of};
 
 use crate::cut::{Cut, limited};
 use crate::error::EvalError;
-use crate::given::Given;
+use crate::produced::Produced;
 use crate::step::{distinct, extended, filtered, joined, mapped, scanned};
 use std::alloc::Global;
 use wd_plan::Plan;
 use wd_value::Row;
 
-/// What a node gives, and the number of the first ordering behind its own.
+/// What a node gives, and the number of the first ordering after its own.
 #[derive(Drop)]
 pub(crate) struct Evaluated {
-    pub outcome: Given,
+    pub outcome: Produced,
     pub next: usize,
 }
 
@@ -60,7 +60,7 @@ pub(crate) fn evaluate(
                 most,
             )?;
             Ok(Evaluated {
-                outcome: Given::Made(outcome),
+                outcome: Produced::Made(outcome),
                 next: right.next,
             })
         }
@@ -68,7 +68,7 @@ pub(crate) fn evaluate(
             let below = evaluate(alloc, input, instance, choice, first, most)?;
             let outcome = filtered(alloc, instance, condition, below.outcome)?;
             Ok(Evaluated {
-                outcome: Given::Made(outcome),
+                outcome: Produced::Made(outcome),
                 next: below.next,
             })
         }
@@ -76,7 +76,7 @@ pub(crate) fn evaluate(
             let below = evaluate(alloc, input, instance, choice, first, most)?;
             let outcome = mapped(alloc, instance, outputs, below.outcome)?;
             Ok(Evaluated {
-                outcome: Given::Made(outcome),
+                outcome: Produced::Made(outcome),
                 next: below.next,
             })
         }
@@ -96,7 +96,7 @@ pub(crate) fn evaluate(
                 below.next,
             )?;
             Ok(Evaluated {
-                outcome: Given::Made(outcome),
+                outcome: Produced::Made(outcome),
                 next: below.next + classes.len(),
             })
         }
@@ -104,7 +104,7 @@ pub(crate) fn evaluate(
             let below = evaluate(alloc, input, instance, choice, first, most)?;
             let outcome = distinct(alloc, instance, below.outcome)?;
             Ok(Evaluated {
-                outcome: Given::Made(outcome),
+                outcome: Produced::Made(outcome),
                 next: below.next,
             })
         }
@@ -124,7 +124,7 @@ pub(crate) fn evaluate(
             };
             let outcome = limited(alloc, instance, &limit, below.outcome, choice, below.next)?;
             Ok(Evaluated {
-                outcome: Given::Made(outcome),
+                outcome: Produced::Made(outcome),
                 next: below.next + 1,
             })
         }

@@ -1,7 +1,7 @@
 //! Each step of a plan over the outcomes below it, but for a Limit.
 
 ghost use Rattle.std.specs.Prelude.{◌≡◌, ◌-◌, ◌^◌, ◌≤◌, IfOk, length, map, MatchResult, Ok, option_map};
-ghost use Rattle.wd_eval.specs.Nodes.{IsLarge, IsSmall, IsUnserved, given_of, join_over};
+ghost use Rattle.wd_eval.specs.Nodes.{IsLarge, IsSmall, IsUnserved, produced_of, join_over};
 ghost use Rattle.wd_plan.specs.Expressions.{expression_of};
 ghost use Rattle.wd_plan.specs.Faults.{and_then};
 ghost use Rattle.wd_plan.specs.Outcomes as spec;
@@ -10,7 +10,7 @@ ghost use Rattle.wd_value.specs.Rows.{instance_of, rows_of, table_at};
 ghost use Rattle.wd_window.specs.Windows.{AreFew, EachNames, IsExtended, IsLeast, IsWrongIn, orderings_of, window_of};
 
 use crate::error::EvalError;
-use crate::given::{Given, owned, shown, table_in};
+use crate::produced::{Produced, owned, shown, table_in};
 use std::alloc::Global;
 use wd_plan::{Call, Class, Expr, Outcome};
 use wd_steps::{copy_filtered, distinct_rows, filter_rows, join_rows, map_rows};
@@ -18,14 +18,14 @@ use wd_value::{OutOfMemory, Row};
 use wd_window::evaluate_window;
 
 /// The instance's table with this number, or the error that it has more rows than `most`.
-pub(crate) fn scanned(instance: &[Vec<Row>], table: u16, most: u64) -> Result<Given, EvalError>
-    ensures { let rows = Ok (table_at (instance_of instance.now) table) in MatchResult result (λ o. IsSmall most rows (given_of (instance_of instance.now) o)) (λ e. IsLarge most rows e) }
+pub(crate) fn scanned(instance: &[Vec<Row>], table: u16, most: u64) -> Result<Produced, EvalError>
+    ensures { let rows = Ok (table_at (instance_of instance.now) table) in MatchResult result (λ o. IsSmall most rows (produced_of (instance_of instance.now) o)) (λ e. IsLarge most rows e) }
 {
     let rows = table_in(instance, table);
     if rows.len() as u64 > most {
         return Err(EvalError::TooManyRows);
     }
-    Ok(Given::Table(table))
+    Ok(Produced::Table(table))
 }
 
 /// All pairs of a left and a right row for which the condition is true, or the error that there
@@ -34,11 +34,11 @@ pub(crate) fn joined(
     alloc: Global,
     instance: &[Vec<Row>],
     condition: &Option<Expr>,
-    left: Given,
-    right: Given,
+    left: Produced,
+    right: Produced,
     most: u64,
 ) -> Result<Outcome, EvalError>
-    ensures { let rows = join_over (option_map expression_of condition.now) (given_of (instance_of instance.now) left) (given_of (instance_of instance.now) right) in MatchResult result (λ o. IsSmall most rows (outcome_of o)) (λ e. IsLarge most rows e) }
+    ensures { let rows = join_over (option_map expression_of condition.now) (produced_of (instance_of instance.now) left) (produced_of (instance_of instance.now) right) in MatchResult result (λ o. IsSmall most rows (outcome_of o)) (λ e. IsLarge most rows e) }
 {
     match (shown(&left, instance), shown(&right, instance)) {
         (Err(fault), _) => Ok(Outcome::Fault(fault)),
@@ -55,14 +55,14 @@ pub(crate) fn filtered(
     alloc: Global,
     instance: &[Vec<Row>],
     condition: &Expr,
-    input: Given,
+    input: Produced,
 ) -> Result<Outcome, OutOfMemory>
-    ensures { IfOk result (λ o. outcome_of o ≡ and_then (given_of (instance_of instance.now) input) (spec.filter_outcome (expression_of condition.now))) }
+    ensures { IfOk result (λ o. outcome_of o ≡ and_then (produced_of (instance_of instance.now) input) (spec.filter_outcome (expression_of condition.now))) }
 {
     match input {
-        Given::Table(table) => copy_filtered(alloc, condition, table_in(instance, table)),
-        Given::Made(Outcome::Rows(rows)) => filter_rows(alloc, condition, rows),
-        Given::Made(Outcome::Fault(fault)) => Ok(Outcome::Fault(fault)),
+        Produced::Table(table) => copy_filtered(alloc, condition, table_in(instance, table)),
+        Produced::Made(Outcome::Rows(rows)) => filter_rows(alloc, condition, rows),
+        Produced::Made(Outcome::Fault(fault)) => Ok(Outcome::Fault(fault)),
     }
 }
 
@@ -71,9 +71,9 @@ pub(crate) fn mapped(
     alloc: Global,
     instance: &[Vec<Row>],
     outputs: &[Expr],
-    input: Given,
+    input: Produced,
 ) -> Result<Outcome, OutOfMemory>
-    ensures { IfOk result (λ o. outcome_of o ≡ and_then (given_of (instance_of instance.now) input) (spec.map_outcome (map expression_of outputs.now))) }
+    ensures { IfOk result (λ o. outcome_of o ≡ and_then (produced_of (instance_of instance.now) input) (spec.map_outcome (map expression_of outputs.now))) }
 {
     match shown(&input, instance) {
         Ok(rows) => map_rows(alloc, outputs, rows),
@@ -81,21 +81,21 @@ pub(crate) fn mapped(
     }
 }
 
-/// The input's rows with the values of the calls behind each of them, under the choice's orderings
+/// The input's rows with the values of the calls after each of them, under the choice's orderings
 /// from `first` on: one for each class, each lawful, and empty where the input is a fault.
 pub(crate) fn extended(
     alloc: Global,
     instance: &[Vec<Row>],
     classes: &[Class],
     calls: &[Call],
-    input: Given,
+    input: Produced,
     choice: &[Vec<u64>],
     first: usize,
 ) -> Result<Outcome, EvalError>
-    requires few { AreFew (2 ^ 32 - 1) (given_of (instance_of instance.now) input) }
+    requires few { AreFew (2 ^ 32 - 1) (produced_of (instance_of instance.now) input) }
     requires within { first ≤ length choice.now }
     requires named { EachNames (length classes.now) calls.now }
-    ensures { let w = window_of classes.now calls.now in let below = given_of (instance_of instance.now) input in MatchResult result (λ o. IsExtended w below (orderings_of choice.now) first o) (λ e. IsUnserved (IsLeast (IsWrongIn w.classes below (orderings_of choice.now) first)) e) }
+    ensures { let w = window_of classes.now calls.now in let below = produced_of (instance_of instance.now) input in MatchResult result (λ o. IsExtended w below (orderings_of choice.now) first o) (λ e. IsUnserved (IsLeast (IsWrongIn w.classes below (orderings_of choice.now) first)) e) }
 {
     let input = owned(alloc, instance, input)?;
     let outcome = evaluate_window(alloc, classes, calls, input, choice, first)?;
@@ -106,9 +106,9 @@ pub(crate) fn extended(
 pub(crate) fn distinct(
     alloc: Global,
     instance: &[Vec<Row>],
-    input: Given,
+    input: Produced,
 ) -> Result<Outcome, OutOfMemory>
-    ensures { IfOk result (λ o. outcome_of o ≡ and_then (given_of (instance_of instance.now) input) (λ rows. Ok (spec.distinct rows))) }
+    ensures { IfOk result (λ o. outcome_of o ≡ and_then (produced_of (instance_of instance.now) input) (λ rows. Ok (spec.distinct rows))) }
 {
     match owned(alloc, instance, input)? {
         Outcome::Rows(rows) => Ok(Outcome::Rows(distinct_rows(alloc, rows)?)),

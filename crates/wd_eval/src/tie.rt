@@ -2,23 +2,23 @@
 
 ghost use Rattle.std.specs.Prelude.{◌≡◌, ◌-◌, ◌^◌, ◌<◌, IfOk, length, map, MatchResult, OnOk};
 ghost use Rattle.wd_window.specs.Windows.{AreFew, EachNames, orderings_of, window_of};
-ghost use Rattle.wd_eval.specs.Nodes.{HasClasses, given_of, limit_of};
+ghost use Rattle.wd_eval.specs.Nodes.{HasClasses, produced_of, limit_of};
 ghost use Rattle.wd_eval.specs.Tied as spec;
-ghost use Rattle.wd_eval.specs.Ties.{ArePut, IsTied, IsTiedLimit, IsTiedWindow, IsUntied, IsWantOfMemory};
+ghost use Rattle.wd_eval.specs.Ties.{ArePut, IsTied, IsTiedLimit, IsTiedWindow, IsUntied, IsOutOfMemory};
 ghost use Rattle.wd_partition.specs.Columns.{class_by};
 ghost use Rattle.wd_plan.specs.Plans.{class_of, plan_of};
 ghost use Rattle.wd_value.specs.Rows.{instance_of};
 
 use crate::cut::{Cut, limited};
 use crate::error::EvalError;
-use crate::given::{Given, shown};
+use crate::produced::{Produced, shown};
 use crate::step::{distinct, extended, filtered, joined, mapped, scanned};
 use std::alloc::Global;
 use wd_partition::sorted_ordering;
 use wd_plan::{Call, Class, OrderItem, Outcome, Plan};
 use wd_value::{OutOfMemory, Row};
 
-/// What a plan gives under its sorted orderings, which are put behind those that are there.
+/// What a plan gives under its sorted orderings, which are put after those that are there.
 pub(crate) fn tied(
     alloc: Global,
     plan: &Plan,
@@ -26,7 +26,7 @@ pub(crate) fn tied(
     flipped: Option<u32>,
     most: u64,
     orderings: &mut Vec<Vec<u64>>,
-) -> Result<Given, EvalError>
+) -> Result<Produced, EvalError>
     requires few { most < 2 ^ 32 }
     requires named { HasClasses (plan_of plan.now) }
     ensures { MatchResult result (λ o. IsTied most (plan_of plan.now) (instance_of instance.now) flipped (orderings_of orderings.old.items) (orderings_of orderings.new.items) o) (λ e. IsUntied most (plan_of plan.now) (instance_of instance.now) flipped (length (orderings_of orderings.old.items)) e) }
@@ -41,17 +41,17 @@ pub(crate) fn tied(
             let left = tied(alloc, left, instance, flipped, most, orderings)?;
             let right = tied(alloc, right, instance, flipped, most, orderings)?;
             let outcome = joined(alloc, instance, condition, left, right, most)?;
-            Ok(Given::Made(outcome))
+            Ok(Produced::Made(outcome))
         }
         Plan::Filter { input, condition } => {
             let below = tied(alloc, input, instance, flipped, most, orderings)?;
             let outcome = filtered(alloc, instance, condition, below)?;
-            Ok(Given::Made(outcome))
+            Ok(Produced::Made(outcome))
         }
         Plan::Map { input, outputs } => {
             let below = tied(alloc, input, instance, flipped, most, orderings)?;
             let outcome = mapped(alloc, instance, outputs, below)?;
-            Ok(Given::Made(outcome))
+            Ok(Produced::Made(outcome))
         }
         Plan::Window {
             input,
@@ -60,12 +60,12 @@ pub(crate) fn tied(
         } => {
             let below = tied(alloc, input, instance, flipped, most, orderings)?;
             let outcome = tied_window(alloc, instance, classes, calls, below, flipped, orderings)?;
-            Ok(Given::Made(outcome))
+            Ok(Produced::Made(outcome))
         }
         Plan::Distinct { input } => {
             let below = tied(alloc, input, instance, flipped, most, orderings)?;
             let outcome = distinct(alloc, instance, below)?;
-            Ok(Given::Made(outcome))
+            Ok(Produced::Made(outcome))
         }
         Plan::Limit {
             input,
@@ -82,7 +82,7 @@ pub(crate) fn tied(
                 ties: *ties,
             };
             let outcome = tied_limit(alloc, instance, &limit, below, flipped, orderings)?;
-            Ok(Given::Made(outcome))
+            Ok(Produced::Made(outcome))
         }
     }
 }
@@ -92,11 +92,11 @@ fn tied_limit(
     alloc: Global,
     instance: &[Vec<Row>],
     limit: &Cut,
-    input: Given,
+    input: Produced,
     flipped: Option<u32>,
     orderings: &mut Vec<Vec<u64>>,
 ) -> Result<Outcome, EvalError>
-    ensures { MatchResult result (λ o. IsTiedLimit (limit_of limit.now) (given_of (instance_of instance.now) input) flipped (orderings_of orderings.old.items) (orderings_of orderings.new.items) o) (λ e. IsWantOfMemory e) }
+    ensures { MatchResult result (λ o. IsTiedLimit (limit_of limit.now) (produced_of (instance_of instance.now) input) flipped (orderings_of orderings.old.items) (orderings_of orderings.new.items) o) (λ e. IsOutOfMemory e) }
 {
     let number = orderings.len();
     let turned = is_flipped(flipped, number);
@@ -111,29 +111,29 @@ fn tied_window(
     instance: &[Vec<Row>],
     classes: &[Class],
     calls: &[Call],
-    input: Given,
+    input: Produced,
     flipped: Option<u32>,
     orderings: &mut Vec<Vec<u64>>,
 ) -> Result<Outcome, EvalError>
-    requires few { AreFew (2 ^ 32 - 1) (given_of (instance_of instance.now) input) }
+    requires few { AreFew (2 ^ 32 - 1) (produced_of (instance_of instance.now) input) }
     requires named { EachNames (length classes.now) calls.now }
-    ensures { MatchResult result (λ o. IsTiedWindow (window_of classes.now calls.now) (given_of (instance_of instance.now) input) flipped (orderings_of orderings.old.items) (orderings_of orderings.new.items) o) (λ e. IsWantOfMemory e) }
+    ensures { MatchResult result (λ o. IsTiedWindow (window_of classes.now calls.now) (produced_of (instance_of instance.now) input) flipped (orderings_of orderings.old.items) (orderings_of orderings.new.items) o) (λ e. IsOutOfMemory e) }
 {
     let first = orderings.len();
     put_sorted(alloc, instance, classes, &input, flipped, orderings)?;
     extended(alloc, instance, classes, calls, input, orderings, first)
 }
 
-/// Puts the sorted ordering of each class behind those that are there.
+/// Puts the sorted ordering of each class after those that are there.
 fn put_sorted(
     alloc: Global,
     instance: &[Vec<Row>],
     classes: &[Class],
-    input: &Given,
+    input: &Produced,
     flipped: Option<u32>,
     orderings: &mut Vec<Vec<u64>>,
 ) -> Result<(), OutOfMemory>
-    ensures { OnOk result (ArePut (map class_of classes.now) (given_of (instance_of instance.now) input.now) flipped (length classes.now) (orderings_of orderings.old.items) (orderings_of orderings.new.items)) }
+    ensures { OnOk result (ArePut (map class_of classes.now) (produced_of (instance_of instance.now) input.now) flipped (length classes.now) (orderings_of orderings.old.items) (orderings_of orderings.new.items)) }
 {
     for class in classes {
         let turned = is_flipped(flipped, orderings.len());
@@ -154,12 +154,12 @@ fn put_sorted(
 fn sorted_over(
     alloc: Global,
     instance: &[Vec<Row>],
-    input: &Given,
+    input: &Produced,
     partition: &[u16],
     keys: &[OrderItem],
     turned: bool,
 ) -> Result<Vec<u64>, OutOfMemory>
-    ensures { IfOk result (λ v. spec.IsSortedOver (class_by partition.now keys.now) turned (given_of (instance_of instance.now) input.now) v.items) }
+    ensures { IfOk result (λ v. spec.IsSortedOver (class_by partition.now keys.now) turned (produced_of (instance_of instance.now) input.now) v.items) }
 {
     match shown(input, instance) {
         Err(_) => Ok(Vec::new(alloc)),

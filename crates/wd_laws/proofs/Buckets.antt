@@ -218,7 +218,7 @@ module _ (n members : ℕ) where
         none_before : 0 + n ≡ n
         none_before = omega arith
 
-    -- behind as many buckets as there are members none is left
+    -- after as many buckets as there are members none is left
     none_left : (b : ℕ) → members ≤ b → members ≤ start b
     none_left b h = by (nat_lt b n) refl
       where

@@ -10,10 +10,10 @@ use Rattle.wd_laws.proofs.Peers.{peers_value}
 use Rattle.wd_plan.proofs.Sorted.{Rising}
 use Rattle.wd_laws.proofs.Sorted.{same_sorted}
 use Rattle.wd_plan.specs.Calls.{call_value, value_at}
-use Rattle.wd_plan.specs.Facts.{Gives, GivesRow}
+use Rattle.wd_plan.specs.Facts.{Determines, DeterminesRow}
 use Rattle.wd_plan.specs.Frames.{frame_of, is_stable}
-use Rattle.wd_plan.specs.Justified.{IsByValues, is_by_peers}
-use Rattle.wd_plan.specs.Partitions.{group_of, members, partition_of, place_of}
+use Rattle.wd_plan.specs.Settled.{IsByValues, is_by_peers}
+use Rattle.wd_plan.specs.Partitions.{group_of, members, partition_of, place_in}
 use Rattle.wd_plan.specs.Plans.{ClassRule}
 use Rattle.wd_plan.specs.Sorting.{IsOrdering, class_columns, order_columns, same_partition}
 use Rattle.wd_plan.specs.declared.window.Frame.{Frame}
@@ -50,7 +50,7 @@ same_partition_rows class rows others o1 o2 p q looks perm v1 v2 e =
     ∙ same_rows_at_places class rows looks (row_at rows p) (ordered rows o1) (ordered others o2) (Perm-ordered rows o1 v1.once) (both perm (Perm-ordered others o2 v2.once)) v1.in_order v2.in_order
     ∙ ap (λ x. part class x (ordered others o2)) e ∙ sym (partition_of-is class others o2 q)
 
-pub unique_looks : (class : ClassRule) (rows : List Row) → GivesRow rows (class_columns class) → LooksBy class rows (λ r. r)
+pub unique_looks : (class : ClassRule) (rows : List Row) → DeterminesRow rows (class_columns class) → LooksBy class rows (λ r. r)
 unique_looks class rows h a b m n e = sym m.2 ∙ ap (row_at rows) (h m.0 n.0 m.1 n.1 (ap (columns_of (class_columns class)) m.2 ∙ e ∙ sym (ap (columns_of (class_columns class)) n.2))) ∙ n.2
 
 -- a member is a position of the list
@@ -64,18 +64,18 @@ member_below class rows ordering p i once h =
     let d = range-times q 0 (length rows) (omega arith) in
     omega arith
 
-pub by_unique : (class : ClassRule) (frame : Frame) (function : Function) (rows others : List Row) (o1 o2 : List ℕ) (p q : ℕ) → GivesRow rows (class_columns class) → Perm Row rows others → IsOrdering class rows o1 → IsOrdering class others o2 → p < length rows → q < length others → row_at rows p ≡ row_at others q → value_at class frame function rows o1 p ≡ value_at class frame function others o2 q
+pub by_unique : (class : ClassRule) (frame : Frame) (function : Function) (rows others : List Row) (o1 o2 : List ℕ) (p q : ℕ) → DeterminesRow rows (class_columns class) → Perm Row rows others → IsOrdering class rows o1 → IsOrdering class others o2 → p < length rows → q < length others → row_at rows p ≡ row_at others q → value_at class frame function rows o1 p ≡ value_at class frame function others o2 q
 by_unique class frame function rows others o1 o2 p q h perm v1 v2 k l e =
     let looks = unique_looks class rows h in
     let lists : partition_of class rows o1 p ≡ partition_of class others o2 q = same_partition_rows class rows others o1 o2 p q looks perm v1 v2 e in
     let v = in_part class others o2 q v2.once l in
-    let j = place_of (members class others o2 q) q in
+    let j = place_in (members class others o2 q) q in
     let ms = members class rows o1 p in
     let in_first : j < length (partition_of class rows o1 p) = subst (λ (x : List Row). j < length x) (sym lists) v.within_rows in
     let in_members : j < length ms = subst (λ n. j < n) (length-map ms (row_at rows)) in_first in
     let there : row_at rows (get_or ms j 0) ≡ row_at rows p = sym (get_or-map (row_at rows) ms j 0 [] in_members) ∙ ap (λ (x : List Row). row_at x j) lists ∙ v.row ∙ sym e in
     let same_position : get_or ms j 0 ≡ p = h _ _ (member_below class rows o1 p j v1.once in_members) k (ap (columns_of (class_columns class)) there) in
-    let places : place_of ms p ≡ j = ap (place_of ms) (sym same_position) ∙ place_member class rows o1 p j v1.once in_members in
+    let places : place_in ms p ≡ j = ap (place_in ms) (sym same_position) ∙ place_member class rows o1 p j v1.once in_members in
     λ i. call_value class frame function (lists i) (places i)
 
 -- ---- `values`
@@ -121,20 +121,20 @@ first_shown : (class : ClassRule) (c : ℕ) (rs : List Row) → map (λ (v : Row
 first_shown class c [] = refl
 first_shown class c (r ∷ rs) = ap (λ l. column_of r c ∷ l) (first_shown class c rs)
 
-gives_looks : (class : ClassRule) (rows : List Row) (c : ℕ) → Gives rows (class_columns class) c → LooksBy class rows (shown class c)
+gives_looks : (class : ClassRule) (rows : List Row) (c : ℕ) → Determines rows (class_columns class) c → LooksBy class rows (shown class c)
 gives_looks class rows c h a b m n e =
     let one : column_of a c ≡ column_of b c = ap (λ r. column_of r c) (sym m.2) ∙ h m.0 n.0 m.1 n.1 (ap (columns_of (class_columns class)) m.2 ∙ e ∙ sym (ap (columns_of (class_columns class)) n.2)) ∙ ap (λ r. column_of r c) n.2 in
     let others = order_columns_from class a b e in
     λ i. one i ∷ others i
 
 -- the frames show the same values in order
-pub same_values : (class : ClassRule) (frame : Frame) (c : ℕ) (rows others : List Row) (o1 o2 : List ℕ) (p q : ℕ) → is_stable frame ≡ true → Gives rows (class_columns class) c → Perm Row rows others → IsOrdering class rows o1 → IsOrdering class others o2 → p < length rows → q < length others → row_at rows p ≡ row_at others q →
-    map (λ r. column_of r c) (frame_of class frame (partition_of class rows o1 p) (place_of (members class rows o1 p) p)) ≡ map (λ r. column_of r c) (frame_of class frame (partition_of class others o2 q) (place_of (members class others o2 q) q))
+pub same_values : (class : ClassRule) (frame : Frame) (c : ℕ) (rows others : List Row) (o1 o2 : List ℕ) (p q : ℕ) → is_stable frame ≡ true → Determines rows (class_columns class) c → Perm Row rows others → IsOrdering class rows o1 → IsOrdering class others o2 → p < length rows → q < length others → row_at rows p ≡ row_at others q →
+    map (λ r. column_of r c) (frame_of class frame (partition_of class rows o1 p) (place_in (members class rows o1 p) p)) ≡ map (λ r. column_of r c) (frame_of class frame (partition_of class others o2 q) (place_in (members class others o2 q) q))
 same_values class frame c rows others o1 o2 p q stable h perm v1 v2 k l e =
     let u = in_part class rows o1 p v1.once k in
     let v = in_part class others o2 q v2.once l in
-    let i = place_of (members class rows o1 p) p in
-    let j = place_of (members class others o2 q) q in
+    let i = place_in (members class rows o1 p) p in
+    let j = place_in (members class others o2 q) q in
     let part1 = partition_of class rows o1 p in
     let part2 = partition_of class others o2 q in
     let look = shown class c in
@@ -168,6 +168,6 @@ values_cases class frame c function part other i j (inl e) h = ap (λ f. call_va
 values_cases class frame c function part other i j (inr (inl e)) h = ap (λ f. call_value class frame f part i) e ∙ ap (λ vs. Ok (get_or (reverse vs) 0 Null)) h ∙ sym (ap (λ f. call_value class frame f other j) e)
 values_cases class frame c function part other i j (inr (inr e)) h = ap (λ f. call_value class frame f part i) e.1 ∙ ap (λ vs. Ok (get_or vs (e.0 - 1) Null)) h ∙ sym (ap (λ f. call_value class frame f other j) e.1)
 
-pub by_values : (class : ClassRule) (frame : Frame) (function : Function) (c : ℕ) (rows others : List Row) (o1 o2 : List ℕ) (p q : ℕ) → IsByValues frame function c → Gives rows (class_columns class) c → Perm Row rows others → IsOrdering class rows o1 → IsOrdering class others o2 → p < length rows → q < length others → row_at rows p ≡ row_at others q → value_at class frame function rows o1 p ≡ value_at class frame function others o2 q
+pub by_values : (class : ClassRule) (frame : Frame) (function : Function) (c : ℕ) (rows others : List Row) (o1 o2 : List ℕ) (p q : ℕ) → IsByValues frame function c → Determines rows (class_columns class) c → Perm Row rows others → IsOrdering class rows o1 → IsOrdering class others o2 → p < length rows → q < length others → row_at rows p ≡ row_at others q → value_at class frame function rows o1 p ≡ value_at class frame function others o2 q
 by_values class frame function c rows others o1 o2 p q h g perm v1 v2 k l e =
     values_cases class frame c function _ _ _ _ h.1 (same_values class frame c rows others o1 o2 p q h.0 g perm v1 v2 k l e)

@@ -110,7 +110,7 @@ not_before a b l h = grind (arith, ints)
 not_behind : (a b : ℕ) → a < b → int_le (pos b -ℤ pos a) (pos 0) ≡ true → ⊥
 not_behind a b l h = grind (arith, ints)
 
--- a key v of the row, a key x, and a key y behind it; without a whole number a key stands before all whole numbers or behind
+-- a key v of the row, a key x, and a key y after it; without a whole number a key stands before all whole numbers or after
 -- all of them
 range_starts : (bound : Bound) (key : SortKey) (v x y : Value) (gv gx gy : ℕ) → is_gt (compare key x y) ≡ false → gx ≤ gy → (is_gt (compare key v y) ≡ false → gv ≤ gy) → (compare key x v ≡ Less → gx < gv)
     → range_asks starts_at bound (value_distance key.desc v x) (pos gx -ℤ pos gv) ≡ true → range_asks starts_at bound (value_distance key.desc v y) (pos gy -ℤ pos gv) ≡ true

@@ -7,9 +7,9 @@ use Rattle.wd_laws.proofs.Grouped.{Perm-from_matches}
 use Rattle.wd_laws.proofs.Parts.{LooksBy, Perm-ordered, same_rows_at_places}
 use Rattle.wd_plan.proofs.Parts.{Perm-ordering, map_filter, ordered, same_partition_is}
 use Rattle.wd_plan.specs.Calls.{call_value}
-use Rattle.wd_plan.specs.Facts.{GivesAll, HasWidth}
+use Rattle.wd_plan.specs.Facts.{DeterminesAll, HasWidth}
 use Rattle.wd_laws.specs.Laws.{SameResults, with_results}
-use Rattle.wd_plan.specs.Partitions.{members, partition_of, place_of}
+use Rattle.wd_plan.specs.Partitions.{members, partition_of, place_in}
 use Rattle.wd_plan.specs.Plans.{ClassRule}
 use Rattle.wd_plan.specs.Sorting.{IsOrdering, class_columns, same_partition}
 use Rattle.wd_value.proofs.Perms.{Perm, Perm-count_by, Perm-map, Perm-refl, Perm-sym, both}
@@ -29,7 +29,7 @@ below_filter rows ordering t i once h =
     omega arith
 
 -- the class's columns give every column: rows that are the same on them are the same
-pub gives_all_looks : (class : ClassRule) (rows : List Row) (width : ℕ) → HasWidth width rows → GivesAll rows width (class_columns class) → LooksBy class rows (λ r. r)
+pub gives_all_looks : (class : ClassRule) (rows : List Row) (width : ℕ) → HasWidth width rows → DeterminesAll rows width (class_columns class) → LooksBy class rows (λ r. r)
 gives_all_looks class rows width wide h a b m n e =
     let at_p : length (row_at rows m.0) ≡ width = All-at m.0 m.1 in
     let at_q : length (row_at rows n.0) ≡ width = All-at n.0 n.1 in
@@ -50,7 +50,7 @@ alike class x rows ordering = filter (λ q. same_partition class x (row_at rows 
 record AtPlace (class : ClassRule) (x : Row) (rows : List Row) (ordering : List ℕ) (i : ℕ) : Type 0 where
   position : get_or (alike class x rows ordering) i 0 < length rows
   among : members class rows ordering (get_or (alike class x rows ordering) i 0) ≡ alike class x rows ordering
-  place : place_of (members class rows ordering (get_or (alike class x rows ordering) i 0)) (get_or (alike class x rows ordering) i 0) ≡ i
+  place : place_in (members class rows ordering (get_or (alike class x rows ordering) i 0)) (get_or (alike class x rows ordering) i 0) ≡ i
 
 at_place : (class : ClassRule) (x : Row) (rows : List Row) (ordering : List ℕ) (i : ℕ) → EachOnce (length rows) ordering → i < length (alike class x rows ordering) → AtPlace class x rows ordering i
 at_place class x rows ordering i once h =
@@ -59,8 +59,8 @@ at_place class x rows ordering i once h =
     let u = get_or us i 0 in
     let passes : same_partition class x (row_at rows u) ≡ true = filter_passes t ordering i 0 h in
     let ms : members class rows ordering u ≡ us = same_members class rows ordering x u (same_partition_is class x (row_at rows u) passes) in
-    let at_i : place_of us u ≡ i = place-get_or us i 0 h (le_trans (times-filter-le eqb t u ordering) (stands_once rows ordering u once)) in
-    record { position = below_filter rows ordering t i once h; among = ms; place = ap (λ m. place_of m u) ms ∙ at_i }
+    let at_i : place_in us u ≡ i = place-get_or us i 0 h (le_trans (times-filter-le eqb t u ordering) (stands_once rows ordering u once)) in
+    record { position = below_filter rows ordering t i once h; among = ms; place = ap (λ m. place_in m u) ms ∙ at_i }
 
 -- two positions hold the same row, at the same place of the same partition list
 pub record SamePlace (class : ClassRule) (rows others : List Row) (o1 o2 : List ℕ) (u v : ℕ) : Type 0 where
@@ -68,7 +68,7 @@ pub record SamePlace (class : ClassRule) (rows others : List Row) (o1 o2 : List 
   pub there : v < length others
   pub row : row_at rows u ≡ row_at others v
   pub partition : partition_of class rows o1 u ≡ partition_of class others o2 v
-  pub place : place_of (members class rows o1 u) u ≡ place_of (members class others o2 v) v
+  pub place : place_in (members class rows o1 u) u ≡ place_in (members class others o2 v) v
 
 module _ (class : ClassRule) (rows others : List Row) (o1 o2 : List ℕ) (looks : LooksBy class rows (λ r. r)) (perm : Perm Row rows others) (v1 : IsOrdering class rows o1) (v2 : IsOrdering class others o2) where
   -- the same rows at each place of each partition

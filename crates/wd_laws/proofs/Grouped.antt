@@ -4,7 +4,7 @@ use Rattle.std.proofs.lemmas.List.Elements.{filter-append}
 use Rattle.std.proofs.lemmas.List.{map-append}
 use Rattle.wd_value.proofs.Perms.{Perm, Perm-middle, Perm-same, Perm-sym, both, keep}
 
--- the first that passes, what stands before it and what stands behind
+-- the first that passes, what stands before it and what stands after
 pub record FirstPass {B Z : Type 0} (t : B → Bool) (f : B → Z) (bs : List B) (z : Z) (zs : List Z) : Type 0 where
   pub pre : List B
   pub here : B

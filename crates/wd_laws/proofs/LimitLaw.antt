@@ -1,4 +1,4 @@
--- A justified limit cuts the same rows under every ordering.
+-- A settled limit cuts the same rows under every ordering.
 use Rattle.std.proofs.Common.{◌≡◌, ℕ, zero, suc, ◌<◌, ◌≤◌, Bool, true, false, not, List, [], ◌∷◌, map, length, filter, drop, take_while, get_or, refl, sym, ◌∙◌, ap, subst, arith, ◌⊎◌, inl, inr, Ordering, Less, Equal, Greater, is_gt, is_eq, Some, None, Option}
 use Rattle.std.specs.List.{AllByRecursion}
 use Rattle.std.specs.Ordering.{ordering_reverse}
@@ -12,8 +12,8 @@ use Rattle.wd_plan.proofs.KeyLaws.{compare_keys-ties, compare_keys_total}
 use Rattle.wd_plan.proofs.Parts.{NotAfter, ordered, part, rising_part}
 use Rattle.wd_laws.proofs.Parts.{Perm-ordered, same_parts, same_rows_at_places}
 use Rattle.wd_plan.proofs.Sorted.{Rising}
-use Rattle.wd_plan.specs.Facts.{GivesAll, HasWidth}
-use Rattle.wd_plan.specs.Justified.{IsJustifiedLimit}
+use Rattle.wd_plan.specs.Facts.{DeterminesAll, HasWidth}
+use Rattle.wd_plan.specs.Settled.{IsSettledLimit}
 use Rattle.wd_plan.specs.Keys.{compare_keys}
 use Rattle.wd_plan.specs.Outcomes.{cut, first_rows, peers}
 use Rattle.wd_plan.specs.Plans.{LimitRule}
@@ -61,7 +61,7 @@ module _ (order : List OrderItem) where
   map_all P Q f [] a = tt
   map_all P Q f (r ∷ rs) a = (f r a.0, map_all P Q f rs a.1)
 
-  -- a row behind one that stands after the last stands after it too
+  -- a row after one that stands after the last stands after it too
   past_last : (last q r : Row) → Upto last q ≡ false → Before q r → Upto last r ≡ false
   past_last last q r e b = by (is_gt (compare_keys order r last)) refl
     where
@@ -134,7 +134,7 @@ module _ (limit : LimitRule) (rows others : List Row) (o1 o2 : List ℕ) (perm :
           both (Perm-same _ _ (ties_all limit.keys m (ordered rows o1) l)) (both all_rows (Perm-same _ _ (sym (ties_all limit.keys m (ordered others o2) (omega arith)))))
 
   -- the keys give every column: one order only
-  same_order : (width : ℕ) → HasWidth width rows → GivesAll rows width (order_columns (limit_class limit)) → ordered rows o1 ≡ ordered others o2
+  same_order : (width : ℕ) → HasWidth width rows → DeterminesAll rows width (order_columns (limit_class limit)) → ordered rows o1 ≡ ordered others o2
   same_order width wide h =
       sym (one_part limit [] (ordered rows o1))
       ∙ same_rows_at_places (limit_class limit) rows (gives_all_looks (limit_class limit) rows width wide h) [] (ordered rows o1) (ordered others o2) (Perm-ordered rows o1 v1.once) (both perm (Perm-ordered others o2 v2.once)) v1.in_order v2.in_order
@@ -148,7 +148,7 @@ module _ (limit : LimitRule) (rows others : List Row) (o1 o2 : List ℕ) (perm :
   cut_ties None offset ties t e = subst (λ n. Perm Row (drop n (ordered rows o1)) (drop n (ordered others o2))) (sym e) all_rows
   cut_ties (Some n) offset ties t e = subst (λ s. Perm Row (first_rows limit.keys s n (drop offset (ordered rows o1))) (first_rows limit.keys s n (drop offset (ordered others o2)))) (sym t) (subst (λ k. Perm Row (first_rows limit.keys true n (drop k (ordered rows o1))) (first_rows limit.keys true n (drop k (ordered others o2)))) (sym e) (Perm-ties n))
 
-  pub Perm-cut : (width : ℕ) → HasWidth width rows → IsJustifiedLimit limit width rows → Perm Row (cut limit (ordered rows o1)) (cut limit (ordered others o2))
+  pub Perm-cut : (width : ℕ) → HasWidth width rows → IsSettledLimit limit width rows → Perm Row (cut limit (ordered rows o1)) (cut limit (ordered others o2))
   Perm-cut width wide (inl h) = cut_whole limit.count limit.offset limit.ties h.0 h.1
   Perm-cut width wide (inr (inl h)) = cut_ties limit.count limit.offset limit.ties h.0 h.1
   Perm-cut width wide (inr (inr h)) = Perm-same _ _ (ap (cut limit) (same_order width wide h))

@@ -9,7 +9,7 @@ use Rattle.wd_laws.proofs.Frames.{Perm-frame_rows, Perm-group}
 use Rattle.wd_plan.specs.Calls.{call_value, first_by, sum_of, total}
 use Rattle.wd_plan.specs.Expressions.{fits_64, is_null}
 use Rattle.wd_plan.specs.Frames.{frame_of, is_stable}
-use Rattle.wd_plan.specs.Justified.{is_by_peers}
+use Rattle.wd_plan.specs.Settled.{is_by_peers}
 use Rattle.wd_plan.specs.Partitions.{group_of}
 use Rattle.wd_plan.specs.Plans.{ClassRule}
 use Rattle.wd_plan.specs.declared.window.Frame.{Frame}

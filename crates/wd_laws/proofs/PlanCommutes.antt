@@ -125,7 +125,7 @@ over (Ok xs) (Err d) f g p h = absurd p
 over (Err c) (Ok ys) f g p h = absurd p
 over (Err c) (Err d) f g p h = p
 
--- what a node reads behind the orderings of the nodes below it
+-- what a node reads after the orderings of the nodes below it
 behind : (below own : List (List ℕ)) (n : ℕ) → length below ≡ n → drop n (below ++ own) ≡ own
 behind below own n e = subst (λ k. drop k (below ++ own) ≡ own) e (drop-append_seam below own)
 

@@ -12,7 +12,7 @@ use Rattle.wd_plan.specs.Choices.{AreOrderings}
 use Rattle.wd_plan.specs.Faults.{all_ok, and_then}
 use Rattle.wd_laws.specs.Laws.{Commutes, renamed}
 use Rattle.wd_plan.specs.Outcomes.{call_at, class_at, extended, ordering_at, window_outcome}
-use Rattle.wd_plan.specs.Partitions.{members, partition_of, place_of}
+use Rattle.wd_plan.specs.Partitions.{members, partition_of, place_in}
 use Rattle.wd_plan.specs.Plans.{ClassRule, WindowRule}
 use Rattle.wd_plan.specs.Sorting.{IsInOrder, IsOrdering, same_partition}
 use Rattle.wd_plan.specs.declared.window.Call.{Call}
@@ -32,11 +32,11 @@ map_map : {A B C : Type 0} (f : A → B) (g : B → C) (xs : List A) → map g (
 map_map f g [] = refl
 map_map f g (x ∷ xs) = ap (λ l. g (f x) ∷ l) (map_map f g xs)
 
-place_map_step : (f : ℕ → ℕ) (x q : ℕ) (qs : List ℕ) (b : Bool) → nat_eq q x ≡ b → (f q ≡ f x → q ≡ x) → place_of (map f qs) (f x) ≡ place_of qs x → place_of (map f (q ∷ qs)) (f x) ≡ place_of (q ∷ qs) x
+place_map_step : (f : ℕ → ℕ) (x q : ℕ) (qs : List ℕ) (b : Bool) → nat_eq q x ≡ b → (f q ≡ f x → q ≡ x) → place_in (map f qs) (f x) ≡ place_in qs x → place_in (map f (q ∷ qs)) (f x) ≡ place_in (q ∷ qs) x
 place_map_step f x q qs true e inj h = rw (e, eq-eqb (f q) (f x) (ap f (eqb-true q x e))) refl
 place_map_step f x q qs false e inj h = rw (e, ne_eqb (f q) (f x) (λ s. eqb-false q x e (inj s))) (ap suc h)
 
-place_map : (f : ℕ → ℕ) (x : ℕ) (qs : List ℕ) → AllByRecursion (λ q. f q ≡ f x → q ≡ x) qs → place_of (map f qs) (f x) ≡ place_of qs x
+place_map : (f : ℕ → ℕ) (x : ℕ) (qs : List ℕ) → AllByRecursion (λ q. f q ≡ f x → q ≡ x) qs → place_in (map f qs) (f x) ≡ place_in qs x
 place_map f x [] a = refl
 place_map f x (q ∷ qs) a = place_map_step f x q qs (nat_eq q x) refl a.0 (place_map f x qs a.1)
 
@@ -66,7 +66,7 @@ module _ (rows : List Row) (ps : List ℕ) (once : EachOnce (length rows) ps) wh
       let c' = once (f q) in
       let d = times-range-le (f p) 0 (length rows) in
       let d' = times-range-le (f q) 0 (length rows) in
-      sym (place-get_or ps p (length rows) k (omega arith)) ∙ ap (place_of ps) e ∙ place-get_or ps q (length rows) l (omega arith)
+      sym (place-get_or ps p (length rows) k (omega arith)) ∙ ap (place_in ps) e ∙ place-get_or ps q (length rows) l (omega arith)
 
   tests_here : ClassRule → ℕ → ℕ → Bool
   tests_here class i q = same_partition class (row_at rows (f i)) (row_at rows (f q))
@@ -88,8 +88,8 @@ module _ (rows : List Row) (ps : List ℕ) (once : EachOnce (length rows) ps) wh
   pub renamed_value : (class : ClassRule) (frame : Frame) (function : Function) (ordering : List ℕ) (i : ℕ) → i < length ps → AllByRecursion (λ q. q < length ps) ordering → value_at class frame function rows (map f ordering) (f i) ≡ value_at class frame function others ordering i
   renamed_value class frame function ordering i k below =
       let ms = members class others ordering i in
-      let places : place_of (members class rows (map f ordering) (f i)) (f i) ≡ place_of ms i =
-      ap (λ l. place_of l (f i)) (renamed_members class ordering i)
+      let places : place_in (members class rows (map f ordering) (f i)) (f i) ≡ place_in ms i =
+      ap (λ l. place_in l (f i)) (renamed_members class ordering i)
       ∙ place_map f i ms (all_are (λ q. q < length ps) (λ q. f q ≡ f i → q ≡ i) (λ q l e. apart q i l k e) ms (all_filtered (λ q. q < length ps) (λ q. same_partition class (row_at others i) (row_at others q)) ordering below)) in
       λ j. call_value class frame function (renamed_rows class ordering i j) (places j)
 

@@ -130,7 +130,7 @@ own_limit : (limit : LimitRule) (input : RowsOrFault) → AtRows input (λ rows.
 own_limit limit (Ok rows) = some_ordering (limit_class limit) rows
 own_limit limit (Err fault) = refl
 
--- what a node reads behind the orderings of the nodes below it
+-- what a node reads after the orderings of the nodes below it
 behind : (below own_ones : List (List ℕ)) (n : ℕ) → length below ≡ n → drop n (below ++ own_ones) ≡ own_ones
 behind below own_ones n e = subst (λ k. drop k (below ++ own_ones) ≡ own_ones) e (drop-append_seam below own_ones)
 

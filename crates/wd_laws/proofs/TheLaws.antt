@@ -7,7 +7,7 @@ use Rattle.wd_laws.proofs.Outcomes.{Agree-from_Alike}
 use Rattle.wd_laws.proofs.PlanLaw.{one_outcome}
 use Rattle.wd_laws.proofs.WindowLaw.{Alike-window}
 use Rattle.wd_plan.specs.Calls.{value_at}
-use Rattle.wd_plan.specs.Justified.{IsByRow}
+use Rattle.wd_plan.specs.Settled.{IsByRow}
 use Rattle.wd_laws.specs.Laws.{LimitHasOne, PlanHasOne, SameRowsAtPlaces, ValuesGoByRows, WindowHasOne}
 use Rattle.wd_plan.specs.Plans.{ClassRule}
 use Rattle.wd_plan.specs.Sorting.{IsOrdering}

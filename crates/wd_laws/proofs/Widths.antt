@@ -25,7 +25,7 @@ use Rattle.wd_plan.specs.Expressions.{Expression, value_of}
 use Rattle.wd_plan.specs.Faults.{all_ok, and_then, least_fault, unless, values_among}
 use Rattle.wd_plan.specs.Fits.{Kinds, are_bounds, are_outputs, fits, has_class, has_keys_for, has_table, is_call, is_condition, is_join, is_limit, is_narrow, is_of_kind, is_typed, is_window, kind_from, kind_of_type, kinds_of, source_of, source_of_call_at, table_kind, takes, width}
 use Rattle.wd_plan.specs.Outcomes.{RowsOrFault, call_at, class_at, cut, distinct, extended, filter_outcome, first_rows, join_outcome, map_outcome, ordering_at, outcome, pairs, passes, peers, window_outcome}
-use Rattle.wd_plan.specs.Partitions.{members, partition_of, place_of}
+use Rattle.wd_plan.specs.Partitions.{members, partition_of, place_in}
 use Rattle.wd_plan.specs.Plans.{ClassRule, LimitRule, PlanTree, Scan, Join, Filter, Map, Window, Distinct, Limit, WindowRule, ordering_count}
 use Rattle.wd_plan.specs.Sorting.{IsOrdering, limit_class}
 use Rattle.wd_plan.proofs.Parts.{all_filter}
@@ -262,7 +262,7 @@ window_good kinds columns w are orderings rows a =
     (items_good kinds source_of_call_at (call_at w rows orderings p) w.calls (λ n call at kind e.
     let class = class_at w call.class in
     let ordering = ordering_at orderings call.class in
-    call_is kinds class call.frame (partition_of class rows ordering p) (place_of (members class rows ordering p) p) (rows_at_are kinds rows (members class rows ordering p) (kinds_only columns kinds rows a)) call.function (call_takes kinds w.classes call (holds_at (is_call kinds w.classes) w.calls n call are at)) kind e)))
+    call_is kinds class call.frame (partition_of class rows ordering p) (place_in (members class rows ordering p) p) (rows_at_are kinds rows (members class rows ordering p) (kinds_only columns kinds rows a)) call.function (call_takes kinds w.classes call (holds_at (is_call kinds w.classes) w.calls n call are at)) kind e)))
     (positions (length rows)) (below_all 0 (length rows) (length rows) (omega arith))
 
 -- ---- plans

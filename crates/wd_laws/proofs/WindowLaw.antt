@@ -12,9 +12,9 @@ use Rattle.wd_laws.proofs.Parts.{LooksBy, rows_at_positions}
 use Rattle.wd_plan.proofs.Parts.{map_filter}
 use Rattle.wd_plan.specs.Calls.{call_value, value_at}
 use Rattle.wd_plan.specs.Choices.{AreOrderings}
-use Rattle.wd_plan.specs.Facts.{Gives, GivesAll, GivesRow, HasWidth}
+use Rattle.wd_plan.specs.Facts.{Determines, DeterminesAll, DeterminesRow, HasWidth}
 use Rattle.wd_plan.specs.Faults.{all_ok, and_then}
-use Rattle.wd_plan.specs.Justified.{IsByValues, IsJustified, NamesClasses, is_by_peers}
+use Rattle.wd_plan.specs.Settled.{IsByValues, IsSettledCall, NamesClasses, is_by_peers}
 use Rattle.wd_plan.specs.Outcomes.{call_at, class_at, extended, ordering_at, window_outcome}
 use Rattle.wd_plan.specs.Plans.{WindowRule}
 use Rattle.wd_plan.specs.Sorting.{class_columns}
@@ -40,7 +40,7 @@ extended_agrees w rows others os1 os2 p q e a = λ i. and_then (all_ok (map_agre
 
 -- a call whose value is a function of the row and of the rows
 abbrev pub IsByRow : WindowRule → List Row → Call → Type 0
-IsByRow w rows call = (is_by_peers call.frame call.function ≡ true) ⊎ (GivesRow rows (class_columns (class_at w call.class)) ⊎ ((c : ℕ) × IsByValues call.frame call.function c × Gives rows (class_columns (class_at w call.class)) c))
+IsByRow w rows call = (is_by_peers call.frame call.function ≡ true) ⊎ (DeterminesRow rows (class_columns (class_at w call.class)) ⊎ ((c : ℕ) × IsByValues call.frame call.function c × Determines rows (class_columns (class_at w call.class)) c))
 
 module _ (w : WindowRule) (rows others : List Row) (os1 os2 : List (List ℕ)) (perm : Perm Row rows others) (v1 : AreOrderings w rows os1) (v2 : AreOrderings w others os2) where
   pub call_by_row : (call : Call) → call.class < length w.classes → IsByRow w rows call → (p q : ℕ) → p < length rows → q < length others → row_at rows p ≡ row_at others q → call_at w rows os1 p call ≡ call_at w others os2 q call
@@ -94,20 +94,20 @@ module _ (w : WindowRule) (rows others : List Row) (os1 os2 : List (List ℕ)) (
 -- ---- the law
 
 -- every call is by the row, or the exchange class is a class and gives every column
-sorts_out : (w : WindowRule) (e width : ℕ) (rows : List Row) (calls : List Call) → AllByRecursion (λ (call : Call). call.class < length w.classes) calls → AllByRecursion (IsJustified w e width rows) calls →
-    AllByRecursion (λ call. (call.class < length w.classes) × IsByRow w rows call) calls ⊎ ((e < length w.classes) × GivesAll rows width (class_columns (class_at w e)))
+sorts_out : (w : WindowRule) (e width : ℕ) (rows : List Row) (calls : List Call) → AllByRecursion (λ (call : Call). call.class < length w.classes) calls → AllByRecursion (IsSettledCall w e width rows) calls →
+    AllByRecursion (λ call. (call.class < length w.classes) × IsByRow w rows call) calls ⊎ ((e < length w.classes) × DeterminesAll rows width (class_columns (class_at w e)))
 sorts_out w e width rows [] n a = inl tt
 sorts_out w e width rows (call ∷ calls) n a = with_rest a.0 (sorts_out w e width rows calls n.1 a.1)
   where
-    with_rest : IsJustified w e width rows call → AllByRecursion (λ call'. (call'.class < length w.classes) × IsByRow w rows call') calls ⊎ ((e < length w.classes) × GivesAll rows width (class_columns (class_at w e))) →
-        AllByRecursion (λ call'. (call'.class < length w.classes) × IsByRow w rows call') (call ∷ calls) ⊎ ((e < length w.classes) × GivesAll rows width (class_columns (class_at w e)))
+    with_rest : IsSettledCall w e width rows call → AllByRecursion (λ call'. (call'.class < length w.classes) × IsByRow w rows call') calls ⊎ ((e < length w.classes) × DeterminesAll rows width (class_columns (class_at w e))) →
+        AllByRecursion (λ call'. (call'.class < length w.classes) × IsByRow w rows call') (call ∷ calls) ⊎ ((e < length w.classes) × DeterminesAll rows width (class_columns (class_at w e)))
     with_rest j (inr r) = inr r
     with_rest (inl peers) (inl r) = inl ((n.0, inl peers), r)
     with_rest (inr (inl unique)) (inl r) = inl ((n.0, inr (inl unique)), r)
     with_rest (inr (inr (inl values))) (inl r) = inl ((n.0, inr (inr values)), r)
-    with_rest (inr (inr (inr exchange))) (inl r) = inr (subst (λ c. c < length w.classes) exchange.0 n.0, subst (λ c. GivesAll rows width (class_columns (class_at w c))) exchange.0 exchange.1)
+    with_rest (inr (inr (inr exchange))) (inl r) = inr (subst (λ c. c < length w.classes) exchange.0 n.0, subst (λ c. DeterminesAll rows width (class_columns (class_at w c))) exchange.0 exchange.1)
 
-by_row_or_exchange : (w : WindowRule) (e width : ℕ) (rows : List Row) (call : Call) → IsJustified w e width rows call → IsByRow w rows call ⊎ (call.class ≡ e)
+by_row_or_exchange : (w : WindowRule) (e width : ℕ) (rows : List Row) (call : Call) → IsSettledCall w e width rows call → IsByRow w rows call ⊎ (call.class ≡ e)
 by_row_or_exchange w e width rows call (inl h) = inl (inl h)
 by_row_or_exchange w e width rows call (inr (inl h)) = inl (inr (inl h))
 by_row_or_exchange w e width rows call (inr (inr (inl h))) = inl (inr (inr h))
@@ -117,12 +117,12 @@ all_both : {X : Type 0} (P Q R : X → Type 0) → ((x : X) → P x → Q x → 
 all_both P Q R f [] a b = tt
 all_both P Q R f (x ∷ xs) a b = (f x a.0 b.0, all_both P Q R f xs a.1 b.1)
 
-pub Alike-window : (w : WindowRule) (e width : ℕ) (rows others : List Row) (os1 os2 : List (List ℕ)) → Perm Row rows others → AreOrderings w rows os1 → AreOrderings w others os2 → HasWidth width rows → NamesClasses w → AllByRecursion (IsJustified w e width rows) w.calls → Alike (window_outcome w rows os1) (window_outcome w others os2)
+pub Alike-window : (w : WindowRule) (e width : ℕ) (rows others : List Row) (os1 os2 : List (List ℕ)) → Perm Row rows others → AreOrderings w rows os1 → AreOrderings w others os2 → HasWidth width rows → NamesClasses w → AllByRecursion (IsSettledCall w e width rows) w.calls → Alike (window_outcome w rows os1) (window_outcome w others os2)
 Alike-window w e width rows others os1 os2 perm v1 v2 wide n a = by_cases (sorts_out w e width rows w.calls n a)
   where
-    by_cases : AllByRecursion (λ call. (call.class < length w.classes) × IsByRow w rows call) w.calls ⊎ ((e < length w.classes) × GivesAll rows width (class_columns (class_at w e))) → Alike (window_outcome w rows os1) (window_outcome w others os2)
+    by_cases : AllByRecursion (λ call. (call.class < length w.classes) × IsByRow w rows call) w.calls ⊎ ((e < length w.classes) × DeterminesAll rows width (class_columns (class_at w e))) → Alike (window_outcome w rows os1) (window_outcome w others os2)
     by_cases (inl h) = Alike-all_ok _ _ (rows_by_row w rows others os1 os2 perm v1 v2 h)
     by_cases (inr h) =
         let p = rows_by_exchange w rows others os1 os2 perm v1 v2 e h.0 (gives_all_looks (class_at w e) rows width wide h.1)
-        (all_both (λ (call : Call). call.class < length w.classes) (IsJustified w e width rows) (λ call. (call.class < length w.classes) × (IsByRow w rows call ⊎ (call.class ≡ e))) (λ call k j. (k, by_row_or_exchange w e width rows call j)) w.calls n a) in
+        (all_both (λ (call : Call). call.class < length w.classes) (IsSettledCall w e width rows) (λ call. (call.class < length w.classes) × (IsByRow w rows call ⊎ (call.class ≡ e))) (λ call k j. (k, by_row_or_exchange w e width rows call j)) w.calls n a) in
         Alike-all_ok _ _ p

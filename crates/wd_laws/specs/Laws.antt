@@ -19,11 +19,11 @@ use Rattle.wd_plan.specs.declared.window.Function.TheVariants.{Ntile, RowNumber}
 use Rattle.wd_plan.specs.Calls.{call_value, greatest, least, value_at}
 use Rattle.wd_plan.specs.Choices.{AreLawful, AreOrderings, AtRows, IsAnswerOf, IsValidChoice}
 use Rattle.wd_plan.specs.Expressions.{Expression, is_null}
-use Rattle.wd_plan.specs.Facts.{GivesAll, HasWidth}
+use Rattle.wd_plan.specs.Facts.{DeterminesAll, HasWidth}
 use Rattle.wd_plan.specs.Faults.{all_ok}
 use Rattle.wd_plan.specs.Fits.{Kinds, fits, is_of_kind, kinds_of, width}
 use Rattle.wd_plan.specs.Frames.{frame_of, in_frame}
-use Rattle.wd_plan.specs.Justified.{IsByRow, IsJustified, IsJustifiedLimit, IsJustifiedPlan, NamesClasses}
+use Rattle.wd_plan.specs.Settled.{IsByRow, IsSettledCall, IsSettledLimit, IsSettledPlan, NamesClasses}
 use Rattle.wd_plan.specs.Outcomes.{RowsOrFault, Agree, outcome, filter_outcome, map_outcome, join_outcome, pairs, distinct, window_outcome, extended, cut}
 use Rattle.wd_plan.specs.Partitions.{GroupsRise, members, partition_of, group_of}
 use Rattle.wd_plan.specs.Plans.{ClassRule, WindowRule, LimitRule, PlanTree}
@@ -46,7 +46,7 @@ ValuesGoByRows = (class : ClassRule) (frame : Frame) (function : Function) (rows
 -- the exchange law: two orderings of a class that gives every column put the same rows at each place of each partition
 abbrev pub SameRowsAtPlaces : Type 0
 SameRowsAtPlaces = (class : ClassRule) (width : ℕ) (rows : List Row) (o1 o2 : List ℕ) (p : ℕ)
-    → HasWidth width rows → GivesAll rows width (class_columns class) → IsOrdering class rows o1 → IsOrdering class rows o2
+    → HasWidth width rows → DeterminesAll rows width (class_columns class) → IsOrdering class rows o1 → IsOrdering class rows o2
     → partition_of class rows o1 p ≡ partition_of class rows o2 p
 
 -- a row with the results of calls of a class: their values, or their faults
@@ -57,31 +57,31 @@ with_results class calls rows ordering r = (row_at rows r, map (λ call. value_a
 -- equally often, faults included: any test finds as many of them.
 abbrev pub SameResults : Type 0
 SameResults = (class : ClassRule) (calls : List (Frame × Function)) (width : ℕ) (rows : List Row) (o1 o2 : List ℕ) (test : Row × List (Result Value Fault) → Bool)
-    → HasWidth width rows → GivesAll rows width (class_columns class) → IsOrdering class rows o1 → IsOrdering class rows o2
+    → HasWidth width rows → DeterminesAll rows width (class_columns class) → IsOrdering class rows o1 → IsOrdering class rows o2
     → let all = positions (length rows) in
     count_by test (map (with_results class calls rows o1) all) ≡ count_by test (map (with_results class calls rows o2) all)
 
--- a Window whose calls are justified, at most one class of them by exchange, has one outcome over rearranged rows
+-- a Window whose calls are settled, at most one class of them by exchange, has one outcome over rearranged rows
 abbrev pub WindowHasOne : Type 0
 WindowHasOne = (w : WindowRule) (exchange width : ℕ) (rows others : List Row) (os1 os2 : List (List ℕ))
     → SameBag same_row rows others → AreOrderings w rows os1 → AreOrderings w others os2 → HasWidth width rows → NamesClasses w
-    → AllByRecursion (IsJustified w exchange width rows) w.calls → Agree (window_outcome w rows os1) (window_outcome w others os2)
+    → AllByRecursion (IsSettledCall w exchange width rows) w.calls → Agree (window_outcome w rows os1) (window_outcome w others os2)
 
--- the limit law: a justified limit cuts the same rows under every ordering
+-- the limit law: a settled limit cuts the same rows under every ordering
 abbrev pub LimitHasOne : Type 0
 LimitHasOne = (limit : LimitRule) (width : ℕ) (rows others : List Row) (o1 o2 : List ℕ)
     → SameBag same_row rows others → IsOrdering (limit_class limit) rows o1 → IsOrdering (limit_class limit) others o2
-    → HasWidth width rows → IsJustifiedLimit limit width rows → SameBag same_row (cut limit (rows_at rows o1)) (cut limit (rows_at others o2))
+    → HasWidth width rows → IsSettledLimit limit width rows → SameBag same_row (cut limit (rows_at rows o1)) (cut limit (rows_at others o2))
 
 -- the tables of one instance are rearrangements of the other's
 abbrev pub SameTables : Instance → Instance → Type 0
 SameTables instance other = (table : ℕ) → SameBag same_row (table_at instance table) (table_at other table)
 
--- The composition law: a plan that is justified under one valid choice has outcomes that agree under every valid choice, over
+-- The composition law: a plan that is settled under one valid choice has outcomes that agree under every valid choice, over
 -- the same tables in any row order, faults included.
 abbrev pub PlanHasOne : Type 0
 PlanHasOne = (plan : PlanTree) (instance other : Instance) (c1 c2 : List (List ℕ))
-    → SameTables instance other → IsValidChoice plan instance c1 → IsValidChoice plan other c2 → IsJustifiedPlan plan instance c1
+    → SameTables instance other → IsValidChoice plan instance c1 → IsValidChoice plan other c2 → IsSettledPlan plan instance c1
     → Agree (outcome plan instance c1) (outcome plan other c2)
 
 -- the position that stands at a place of a rearrangement; past its end, one that names no row
@@ -140,7 +140,7 @@ abbrev pub frame_takes : ClassRule → Frame → List Row → ℕ → ℕ → Bo
 frame_takes class frame partition m n = in_frame class frame (group_of class partition) m (row_at partition m) n (row_at partition n)
 
 -- The frame of the member at place m of a partition list has no gap: it takes each member between two that it takes, up to
--- UNBOUNDED FOLLOWING each one behind, from UNBOUNDED PRECEDING each one before, and so its rows are a stretch of the list.
+-- UNBOUNDED FOLLOWING each one after, from UNBOUNDED PRECEDING each one before, and so its rows are a stretch of the list.
 pub record IsContiguous (class : ClassRule) (frame : Frame) (partition : List Row) (m : ℕ) : Type 0 where
   pub between : (i j k : ℕ) → i < j → j < k → k < length partition
       → frame_takes class frame partition m i ≡ true → frame_takes class frame partition m k ≡ true → frame_takes class frame partition m j ≡ true
@@ -156,7 +156,7 @@ FramesAreContiguous = (class : ClassRule) (frame : Frame) (rows : List Row) (ord
     → IsOrdering class rows ordering → frame.exclusion ≡ NoOthers → m < length (partition_of class rows ordering p)
     → IsContiguous class frame (partition_of class rows ordering p) m
 
--- the size of the bucket behind g others: how many of so many places have its number
+-- the size of the bucket after g others: how many of so many places have its number
 abbrev pub bucket_size : (ℕ → ℕ) → ℕ → ℕ → ℕ
 bucket_size number members g = count_by (λ place. nat_eq (number place) (g + 1)) (positions members)
 

@@ -30,17 +30,17 @@ pub fn same_results()
     ensures { SameResults }
 {}
 
-/// A Window with justified calls has outcomes that agree over rearranged rows, under any orderings.
+/// A Window with settled calls has outcomes that agree over rearranged rows, under any orderings.
 pub fn window_has_one()
     ensures { WindowHasOne }
 {}
 
-/// A justified limit cuts the same rows under any orderings.
+/// A settled limit cuts the same rows under any orderings.
 pub fn limit_has_one()
     ensures { LimitHasOne }
 {}
 
-/// A plan whose calls and limits are justified has outcomes that agree over the same tables in any
+/// A plan whose calls and limits are settled has outcomes that agree over the same tables in any
 /// row order, under any valid choices, faults included.
 pub fn plan_has_one()
     ensures { PlanHasOne }

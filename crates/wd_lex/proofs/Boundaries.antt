@@ -1,4 +1,4 @@
--- Where a text may be cut: behind a run.
+-- Where a text may be cut: after a run.
 use Rattle.std.proofs.Common.{◌≡◌, ℕ, zero, suc, ◌+◌, ◌-◌, ◌<◌, Bool, true, false, List, [], ◌∷◌, ◌++◌, length, take, drop, get_or, codes, nat_eq, Option, Some, None, is_some, IsUtf8, IsCharBoundary, append_assoc, append-nil, length-append, ⊎_elim, refl, sym, ap, ◌∙◌, subst, arith}
 use Rattle.std.proofs.lemmas.Bool.{cases_lt, cond_both, and_parts}
 use Rattle.std.proofs.lemmas.Bool.Decides.{nat_tests}
@@ -18,7 +18,7 @@ use Rattle.wd_lex.proofs.KindFacts.{starts_two, word_goes_on}
 use Rattle.wd_lex.proofs.RunFacts.{Stops}
 use Rattle.wd_lex.proofs.CompleteReading.{line_stops}
 
--- behind ASCII
+-- after ASCII
 behind_passing : (p : ℕ → Bool) (text : List ℕ) → IsUtf8 text → ((b : ℕ) → p b ≡ true → b < 128) → (n : ℕ) → n ≡ prefix_len p text → IsCharBoundary text n
 behind_passing p text utf8 ascii n e = ⊎_elim
     (λ some.
@@ -43,7 +43,7 @@ boundary_behind_run class.Line text utf8 n e = before_failing (is_in class.Line)
 boundary_behind_run class.Word text utf8 n e = behind_passing (is_in class.Word) text utf8 (λ b passes. grind (arith, nat_tests)) n e
 boundary_behind_run class.Digit text utf8 n e = behind_passing (is_in class.Digit) text utf8 (λ b passes. grind (arith, nat_tests)) n e
 
--- ---- behind pieces that end in ASCII
+-- ---- after pieces that end in ASCII
 
 pub record EndsInAscii (bytes : List ℕ) : Type 0 where
   pub front : List ℕ
@@ -130,7 +130,7 @@ comment_boundary_by bytes (Some at) end utf8 h e =
     boundary_behind (codes "/*" ++ bytes) (codes "/*" ++ h.inside) h.rest utf8 (ap (λ l. codes "/*" ++ l) h.whole)
     (record { front = codes "/*" ++ tail.front; last = tail.last; whole = ap (λ l. codes "/*" ++ l) tail.whole; ascii = tail.ascii }) end (omega (arith, h.there, same))
 
--- a text may be cut behind a comment
+-- a text may be cut after a comment
 pub comment_boundary : (text : List ℕ) (end : ℕ) → IsUtf8 text → starts_with nat_eq text (codes "/*") ≡ true → comment_end 0 2 (drop 2 text) ≡ Some end → IsCharBoundary text end
 comment_boundary text end utf8 starts e =
     let whole = starts_two text 47 42 starts in
@@ -146,7 +146,7 @@ utf8_behind text front rest b utf8 whole ascii =
     let there₂ : length (front ++ b ∷ []) ≡ length front + 1 = length-append front (b ∷ []) in
     subst IsUtf8 (ap (drop (length front + 1)) parts ∙ drop_at (front ++ b ∷ []) rest (length front + 1) there₂) (IsUtf8-drop text (length front + 1) utf8 boundary)
 
--- a text may be cut behind its first byte, where that is ASCII and not NUL
+-- a text may be cut after its first byte, where that is ASCII and not NUL
 pub first_boundary : (text : List ℕ) (b : ℕ) → IsUtf8 text → get_or text 0 0 ≡ b → 0 < b → b < 128 → IsCharBoundary text 1
 first_boundary [] b utf8 e some ascii = absurd (omega (arith, e))
 first_boundary (c ∷ text) b utf8 e some ascii = IsCharBoundary-after_ascii (c ∷ text) 0 utf8 (omega arith) (omega (arith, e))
@@ -165,7 +165,7 @@ pub symbol_boundary : (text front : List ℕ) → IsUtf8 text → front ≡ symb
 symbol_boundary text front utf8 e is =
     boundary_behind text front (drop (length front) text) utf8 (subst (λ l. text ≡ l ++ drop (length l) text) (sym e) (symbol_front_whole text)) (symbol_ends front is) (length front) refl
 
--- ---- behind each piece
+-- ---- after each piece
 
 -- a run of ASCII
 all_ends : (p : ℕ → Bool) → ((b : ℕ) → p b ≡ true → b < 128) → (b : ℕ) (bytes : List ℕ) → p b ≡ true → list_all p bytes ≡ true → EndsInAscii (b ∷ bytes)

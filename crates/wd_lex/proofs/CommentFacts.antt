@@ -1,4 +1,4 @@
--- Comments: the place behind the one that is open.
+-- Comments: the place after the one that is open.
 use Rattle.std.proofs.Common.{◌≡◌, ◌≢◌, ℕ, zero, suc, ◌+◌, ◌-◌, Bool, true, false, cond, eqb, ◌&&◌, ⊎_elim, List, [], ◌∷◌, ◌++◌, length, drop, codes, nat_eq, Option, Some, None, refl, sym, ap, ap₂, ◌∙◌, subst, arith, append_assoc, append-nil, length-append, eq-eqb, ne_eqb, eqb-true}
 use Rattle.std.proofs.lemmas.Bool.{cases_Bool, and_parts, cond-true, cond-false}
 use Rattle.std.proofs.lemmas.List.{drop-drop}

@@ -1,11 +1,11 @@
 -- Marks are told apart by their numbers.
 use Rattle.std.proofs.Common.{◌≡◌, refl, sym, ap, ◌∙◌}
-use Rattle.wd_lex.specs.declared.token.Mark.{Mark}
-use Rattle.wd_lex.specs.declared.token.Mark.TheVariants as m
+use Rattle.wd_lex.specs.declared.token.Delimiter.{Delimiter}
+use Rattle.wd_lex.specs.declared.token.Delimiter.TheVariants as m
 use Rattle.wd_lex.specs.Marks.{mark_code, mark_at}
 
 -- a mark's number leads back to it
-pub mark_at-mark_code : (mark : Mark) → mark_at (mark_code mark) ≡ mark
+pub mark_at-mark_code : (mark : Delimiter) → mark_at (mark_code mark) ≡ mark
 mark_at-mark_code m.All = refl
 mark_at-mark_code m.And = refl
 mark_at-mark_code m.As = refl
@@ -76,5 +76,5 @@ mark_at-mark_code m.Greater = refl
 mark_at-mark_code m.GreaterOrEqual = refl
 
 -- marks of one number are one
-pub same_mark : (first second : Mark) → mark_code first ≡ mark_code second → first ≡ second
+pub same_mark : (first second : Delimiter) → mark_code first ≡ mark_code second → first ≡ second
 same_mark first second same = sym (mark_at-mark_code first) ∙ ap mark_at same ∙ mark_at-mark_code second

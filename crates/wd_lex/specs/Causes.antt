@@ -35,7 +35,7 @@ abbrev pub BeginsWith : ℕ → List ℕ → Type 0
 BeginsWith b [] = ⊥
 BeginsWith b (first ∷ rest) = first ≡ b
 
--- Behind an opening quote none closes: where one stands behind a whole inside, it is the first of two.
+-- After an opening quote none closes: where one stands after a whole inside, it is the first of two.
 abbrev pub IsOpen : ℕ → List ℕ → Type 0
 IsOpen quote bytes = (inside rest : List ℕ) → bytes ≡ doubled quote inside ++ quote ∷ rest → BeginsWith quote rest
 
@@ -83,7 +83,7 @@ pub record IsRefusedAt (refusal : LexError) (text : List ℕ) (place : ℕ) : Ty
   pub there : place ≡ start_of text + length (spellings pieces)
   pub refused : IsRefused refusal rest
 
--- a refusal's cause stands in the text; for want of memory none does
+-- a refusal's cause stands in the text; where memory runs out none does
 abbrev pub HasCause : LexError → List ℕ → Type 0
 HasCause (UnknownCharacter place) text = IsRefusedAt (UnknownCharacter place) text place
 HasCause (TextNotClosed place) text = IsRefusedAt (TextNotClosed place) text place
@@ -99,7 +99,7 @@ abbrev pub IsAnswer : List ℕ → Result (List Token) LexError → Type 0
 IsAnswer text (Ok tokens) = IsLexed text tokens
 IsAnswer text (Err refusal) = HasCause refusal text
 
--- a refusal is the answer; want of memory may stand for any
+-- a refusal is the answer; out of memory may stand for any
 abbrev pub Fails : {Y : Type 0} → LexError → Result Y LexError → Type 0
 Fails OutOfMemory answer = Unit {0}
 Fails refusal answer = answer ≡ Err refusal

@@ -5,7 +5,7 @@ use Rattle.wd_lex.specs.declared.token.Token.{Token}
 use Rattle.wd_lex.specs.Lexed.{IsLexed, byte_order_mark}
 use Rattle.wd_lex.specs.Causes.{HasCause}
 
--- A comment with a byte that is no UTF-8 has no tokens, and is refused; a comment behind a byte order mark is no token;
+-- A comment with a byte that is no UTF-8 has no tokens, and is refused; a comment after a byte order mark is no token;
 -- a second byte order mark is refused at its place.
 pub record TextsComeOut : Type 0 where
   pub no_tokens : (tokens : List Token) → IsLexed (codes "--" ++ 0xFF ∷ []) tokens → ⊥

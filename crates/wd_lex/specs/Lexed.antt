@@ -20,7 +20,7 @@ pub record IsReadable (text : List ℕ) : Type 0 where
 abbrev pub byte_order_mark : List ℕ
 byte_order_mark = 0xEF ∷ 0xBB ∷ 0xBF ∷ []
 
--- where the pieces of a text begin: behind a byte order mark at its very start, which is no piece
+-- where the pieces of a text begin: after a byte order mark at its very start, which is no piece
 abbrev pub start_of : List ℕ → ℕ
 start_of text = if starts_with nat_eq text byte_order_mark then 3 else 0
 
@@ -51,7 +51,7 @@ pub record IsLexed (text : List ℕ) (tokens : List Token) : Type 0 where
 abbrev pub kinds_of : List Token → List TokenKind
 kinds_of tokens = map (λ token. token.kind) tokens
 
--- each token stands behind the one before it, and all lie between two places
+-- each token stands after the one before it, and all lie between two places
 abbrev pub AreInOrder : ℕ → List Token → ℕ → Type 0
 AreInOrder start [] end = start ≤ end
 AreInOrder start (token ∷ tokens) end = (start ≤ token.span.start) × (token.span.start < token.span.end) × AreInOrder token.span.end tokens end

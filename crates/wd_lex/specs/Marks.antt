@@ -1,11 +1,11 @@
 -- Marks, the reserved words and the symbols: how they are spelled, and a number that tells them apart.
 use Rattle.std.specs.Prelude.{ℕ, codes, List, [], ◌∷◌, Option, Some, None, if◌then◌else◌, slice_index_or}
 use Rattle.std.specs.Str.{bytes_eq}
-use Rattle.wd_lex.specs.declared.token.Mark.{Mark}
-use Rattle.wd_lex.specs.declared.token.Mark.TheVariants as m
+use Rattle.wd_lex.specs.declared.token.Delimiter.{Delimiter}
+use Rattle.wd_lex.specs.declared.token.Delimiter.TheVariants as m
 
 -- the reserved words, in lower case (this project's choice)
-abbrev pub reserved_words : List (List ℕ × Mark)
+abbrev pub reserved_words : List (List ℕ × Delimiter)
 reserved_words =
     (codes "all", m.All)
     ∷ (codes "and", m.And)
@@ -62,7 +62,7 @@ reserved_words =
     ∷ []
 
 -- the symbols; `!=` is a second spelling of `<>`
-abbrev pub symbols : List (List ℕ × Mark)
+abbrev pub symbols : List (List ℕ × Delimiter)
 symbols =
     (codes "(", m.LeftBracket)
     ∷ (codes ")", m.RightBracket)
@@ -84,12 +84,12 @@ symbols =
     ∷ []
 
 -- the mark that a table has for a spelling
-abbrev pub lookup : List (List ℕ × Mark) → List ℕ → Option Mark
+abbrev pub lookup : List (List ℕ × Delimiter) → List ℕ → Option Delimiter
 lookup [] bytes = None
 lookup (entry ∷ table) bytes = if bytes_eq entry.0 bytes then Some entry.1 else lookup table bytes
 
 -- a number for each mark
-abbrev pub mark_code : Mark → ℕ
+abbrev pub mark_code : Delimiter → ℕ
 mark_code m.All = 0
 mark_code m.And = 1
 mark_code m.As = 2
@@ -160,7 +160,7 @@ mark_code m.Greater = 66
 mark_code m.GreaterOrEqual = 67
 
 -- the marks in the order of their numbers
-abbrev pub all_marks : List Mark
+abbrev pub all_marks : List Delimiter
 all_marks =
     m.All ∷ m.And ∷ m.As ∷ m.Asc ∷ m.By ∷ m.Case ∷ m.Constraint ∷ m.Create
     ∷ m.Cross ∷ m.Desc ∷ m.Distinct ∷ m.Else ∷ m.End ∷ m.False ∷ m.Fetch ∷ m.From
@@ -173,5 +173,5 @@ all_marks =
     ∷ m.Less ∷ m.LessOrEqual ∷ m.Greater ∷ m.GreaterOrEqual ∷ []
 
 -- the mark of that number
-abbrev pub mark_at : ℕ → Mark
+abbrev pub mark_at : ℕ → Delimiter
 mark_at code = slice_index_or all_marks code m.GreaterOrEqual

@@ -39,7 +39,7 @@ kind_at bytes =
     else (if starts_with nat_eq bytes (codes "/*") then kind.BlockComment
     else kind.Symbol))))))
 
--- the place behind the `*/` that closes a comment, so many comments deep in it, for bytes that begin at a place
+-- the place after the `*/` that closes a comment, so many comments deep in it, for bytes that begin at a place
 abbrev pub comment_end : ℕ → ℕ → List ℕ → Option ℕ
 comment_end depth at [] = None
 comment_end depth at (b ∷ []) = None
@@ -80,7 +80,7 @@ is_good_number digits rest = nat_le (digits_value 10 digits) greatest_number && 
 abbrev pub Reading : Type 0
 Reading = Result (Piece × List ℕ) LexError
 
--- a block comment, by the place behind it
+-- a block comment, by the place after it
 abbrev pub read_comment : ℕ → List ℕ → Option ℕ → Reading
 read_comment place bytes None = Err (CommentNotClosed place)
 read_comment place bytes (Some end) = Ok (BlockComment (drop 2 (take end bytes)), drop end bytes)

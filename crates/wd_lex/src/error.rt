@@ -36,7 +36,7 @@ pub enum LexError {
 }
 
 impl LexError {
-    /// The refusal's number, or `None` for want of memory.
+    /// The refusal's number, or `None` where memory runs out.
     pub fn number(&self) -> Option<u32>
         ensures { result ≡ number_of self.now }
     {

@@ -14,7 +14,7 @@ use std::alloc::Global;
 /// The most bytes of a text.
 const MOST_BYTES: usize = 65536;
 
-/// The text behind a byte order mark at its very start.
+/// The text after a byte order mark at its very start.
 fn without_mark(text: &str) -> &str
     ensures { result.now ≡ drop (start_of text.now) text.now }
 {

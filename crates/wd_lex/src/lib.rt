@@ -11,4 +11,4 @@ mod token;
 
 pub use error::LexError;
 pub use lexer::lex;
-pub use token::{Mark, Span, Token, TokenKind};
+pub use token::{Delimiter, Span, Token, TokenKind};

@@ -59,7 +59,7 @@ fn kind_at(bytes: &[u8]) -> Kind
     }
 }
 
-/// The place behind the `*/` that closes the comment at the front.
+/// The place after the `*/` that closes the comment at the front.
 fn comment_end(bytes: &[u8]) -> Option<usize>
     requires long { 2 ≤ length bytes.now }
     requires bounded { length bytes.now < 2 ^ 63 }
@@ -151,7 +151,7 @@ fn word_kind(alloc: Global, word: &str) -> Result<TokenKind, AllocError>
     let mut folded = String::from_str(alloc, word)?;
     folded.make_ascii_lowercase();
     match reserved_word(folded.as_bytes()) {
-        Some(mark) => Ok(TokenKind::Mark(mark)),
+        Some(mark) => Ok(TokenKind::Delimiter(mark)),
         None => Ok(TokenKind::Word(Text::new(folded))),
     }
 }
@@ -222,7 +222,10 @@ fn symbol_token(place: u64, text: &str) -> Result<(Option<TokenKind>, &str), Lex
 {
     let front = symbol_front(text.as_bytes());
     match symbol(front) {
-        Some(mark) => Ok((Some(TokenKind::Mark(mark)), text.split_at(front.len()).1)),
+        Some(mark) => Ok((
+            Some(TokenKind::Delimiter(mark)),
+            text.split_at(front.len()).1,
+        )),
         None => Err(LexError::UnknownCharacter { place }),
     }
 }

@@ -23,7 +23,7 @@ number c.TiesWithoutOrder = 413
 number c.ForeignSortKey = 414
 number c.TooMany = 415
 
--- the number of an error, and none for want of memory
+-- the number of an error, and none where memory runs out
 abbrev pub error_number : ResolveError → Option ℕ
 error_number (Refused cause) = Some (number cause)
 error_number OutOfMemory = None

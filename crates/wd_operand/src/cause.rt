@@ -81,7 +81,7 @@ pub enum ResolveError {
 }
 
 impl ResolveError {
-    /// The refusal's number, and None for want of memory.
+    /// The refusal's number, and None where memory runs out.
     pub fn number(&self) -> Option<u32>
         ensures { result ≡ error_number self.now }
     {

@@ -20,7 +20,7 @@ pub enum ParseError {
 }
 
 impl ParseError {
-    /// The refusal's number, or `None` for want of memory.
+    /// The refusal's number, or `None` where memory runs out.
     pub fn number(&self) -> Option<u32>
         ensures { result ≡ number_of self.now }
     {
@@ -31,7 +31,7 @@ impl ParseError {
         }
     }
 
-    /// The refused token, or `None` for want of memory.
+    /// The refused token, or `None` where memory runs out.
     pub fn place(&self) -> Option<u64>
         ensures { result ≡ place_of self.now }
     {

@@ -16,7 +16,7 @@ use wd_phrase::Refusal;
 use wd_syntax::Query;
 
 /// The number of the first of the last `left` of so many tokens.
-fn place_of(count: usize, left: usize) -> u64
+fn token_place(count: usize, left: usize) -> u64
     ensures { result ≡ count - left }
 {
     count.saturating_sub(left) as u64
@@ -30,10 +30,10 @@ fn answer(alloc: Global, tokens: &[Token]) -> Result<Query, ParseError>
     match whole(alloc, tokens) {
         Ok(query) => Ok(query),
         Err(Refusal::Unexpected { left }) => Err(ParseError::Unexpected {
-            place: place_of(count, left),
+            place: token_place(count, left),
         }),
         Err(Refusal::PastLimit { left }) => Err(ParseError::PastLimit {
-            place: place_of(count, left),
+            place: token_place(count, left),
         }),
         Err(Refusal::OutOfMemory) => Err(ParseError::OutOfMemory),
     }

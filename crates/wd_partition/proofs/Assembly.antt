@@ -9,14 +9,14 @@ use Rattle.wd_value.specs.declared.value.Value.{Value}
 use Rattle.wd_value.specs.Bags.{EachOnce, positions}
 use Rattle.wd_value.specs.Rows.{Row, column_of, row_at, rows_at}
 use Rattle.wd_plan.specs.declared.plan.OrderItem.{OrderItem}
-use Rattle.wd_plan.specs.Partitions.{group_of, members, partition_of, place_of}
+use Rattle.wd_plan.specs.Partitions.{group_of, members, partition_of, place_in}
 use Rattle.wd_plan.specs.Plans.{ClassRule}
 use Rattle.wd_plan.specs.Sorting.{same_partition}
 use Rattle.wd_plan.proofs.Places as laws
 use Rattle.wd_plan.proofs.Places.{same_shows, filter_passes_at}
 use Rattle.wd_plan.proofs.Parts.{same_partition_is}
 use Rattle.wd_partition.specs.declared.places.Place.{Place}
-use Rattle.wd_partition.specs.Members.{ArePartitions, AreWithin, IsWithin, MemberRule, key_numbers, member_at, member_of, members_of, number_of, own_group}
+use Rattle.wd_partition.specs.Members.{ArePartitions, AreWithin, IsWithin, MemberRule, key_numbers, member_at, member_of, members_of, number_part, own_group}
 use Rattle.wd_partition.specs.Orderings.{AreGrouped, IsGroupedOrdering}
 use Rattle.wd_partition.specs.Places.{ArePlaces}
 use Rattle.wd_partition.proofs.Grouping.{same_members}
@@ -41,13 +41,13 @@ map_stretch f n a xs = ap (take n) (drop-map f a xs) ∙ take-map f n (drop a xs
 
 numbers_stretch : (asked : Bool) (keys : List OrderItem) (n a : ℕ) (rows : List Row) → take n (drop a (key_numbers asked keys rows)) ≡ key_numbers asked keys (take n (drop a rows))
 numbers_stretch true [] n a rows = no_stretch n a
-numbers_stretch true (key ∷ []) n a rows = map_stretch (λ r. number_of (column_of r key.column)) n a rows
+numbers_stretch true (key ∷ []) n a rows = map_stretch (λ r. number_part (column_of r key.column)) n a rows
 numbers_stretch true (key ∷ other ∷ keys) n a rows = no_stretch n a
 numbers_stretch false keys n a rows = no_stretch n a
 
 numbers_long : (asked : Bool) (keys : List OrderItem) (rows : List Row) → 0 < length (key_numbers asked keys rows) → length (key_numbers asked keys rows) ≡ length rows
 numbers_long true [] rows h = absurd (omega arith)
-numbers_long true (key ∷ []) rows h = length-map rows (λ r. number_of (column_of r key.column))
+numbers_long true (key ∷ []) rows h = length-map rows (λ r. number_part (column_of r key.column))
 numbers_long true (key ∷ other ∷ keys) rows h = absurd (omega arith)
 numbers_long false keys rows h = absurd (omega arith)
 
@@ -65,7 +65,7 @@ module _ (class : ClassRule) (asked : Bool) (rows : List Row) (s : List ℕ) (gr
   finish p = end class rows s grouped p
 
   abbrev place_at : ℕ → Place
-  place_at p = record { start = begin p; end = finish p; index = place_of s p }
+  place_at p = record { start = begin p; end = finish p; index = place_in s p }
 
   abbrev all_groups : List ℕ
   all_groups = map (own_group class rows s) s
@@ -94,22 +94,22 @@ module _ (class : ClassRule) (asked : Bool) (rows : List Row) (s : List ℕ) (gr
       numbers_stretch asked class.order (finish p - begin p) (begin p) (rows_at rows s)
       ∙ ap (key_numbers asked class.order) (map_stretch (row_at rows) (finish p - begin p) (begin p) s ∙ ap (rows_at rows) (sym (members_stretch class rows s grouped p)))
 
-  begins_low : (p : ℕ) → p < length rows → begin p ≤ place_of s p
+  begins_low : (p : ℕ) → p < length rows → begin p ≤ place_in s p
   begins_low p low =
       let found = found_once (length rows) s p grouped.lawful.once low in
-      subst (λ q. begin q ≤ place_of s p) found.1 (start_low class rows s grouped (place_of s p) found.0)
+      subst (λ q. begin q ≤ place_in s p) found.1 (start_low class rows s grouped (place_in s p) found.0)
 
-  finish_high : (p : ℕ) → p < length rows → place_of s p < finish p
+  finish_high : (p : ℕ) → p < length rows → place_in s p < finish p
   finish_high p low =
       let found = found_once (length rows) s p grouped.lawful.once low in
-      subst (λ q. place_of s p < finish q) found.1 (end_high class rows s grouped (place_of s p) found.0)
+      subst (λ q. place_in s p < finish q) found.1 (end_high class rows s grouped (place_in s p) found.0)
 
-  own_place : (p : ℕ) → p < length rows → place_of s p - begin p ≡ place_of (members class rows s p) p
+  own_place : (p : ℕ) → p < length rows → place_in s p - begin p ≡ place_in (members class rows s p) p
   own_place p low =
       let found = found_once (length rows) s p grouped.lawful.once low in
-      let within = long_enough class rows s grouped p (place_of s p) found.0 (finish_high p low) (begins_low p low) in
-      let here : get_or (members class rows s p) (place_of s p - begin p) 0 ≡ p = member_here class rows s grouped p (place_of s p) found.0 (finish_high p low) (begins_low p low) ∙ found.1 in
-      sym (ap (place_of (members class rows s p)) (sym here) ∙ laws.place_member class rows s p (place_of s p - begin p) grouped.lawful.once within)
+      let within = long_enough class rows s grouped p (place_in s p) found.0 (finish_high p low) (begins_low p low) in
+      let here : get_or (members class rows s p) (place_in s p - begin p) 0 ≡ p = member_here class rows s grouped p (place_in s p) found.0 (finish_high p low) (begins_low p low) ∙ found.1 in
+      sym (ap (place_in (members class rows s p)) (sym here) ∙ laws.place_member class rows s p (place_in s p - begin p) grouped.lawful.once within)
 
   member_is : (p : ℕ) → p < length rows → member_at s (map (own_group class rows s) s) (key_numbers asked class.order (rows_at rows s)) (place_at p) ≡ member_of class asked rows s p
   member_is p low = λ i. record {
@@ -128,7 +128,7 @@ module _ (class : ClassRule) (asked : Bool) (rows : List Row) (s : List ℕ) (gr
     at : (p : ℕ) (d : Place) → p < length rows → get_or places p d ≡ place_at p
     at p d low =
         let found = found_once (length rows) s p grouped.lawful.once low in
-        let k = place_of s p in
+        let k = place_in s p in
         let first : get_or starts k 0 ≡ begin p = ap (λ (l : List ℕ). get_or l k 0) starts_are ∙ get_or-map (start class rows s grouped) s k 0 0 found.0 ∙ ap (start class rows s grouped) found.1 in
         let last : get_or ends k 0 ≡ finish p = ap (λ (l : List ℕ). get_or l k 0) ends_are ∙ get_or-map (end class rows s grouped) s k 0 0 found.0 ∙ ap (end class rows s grouped) found.1 in
         ap (λ q. get_or places q d) (sym found.1) ∙ are.each k d found.0 ∙ (λ i. record { start = first i; end = last i; index = k })
@@ -167,7 +167,7 @@ members_alike class asked rows xs ys same =
       positions = ms;
       groups = map (group_of class (rows_at rows ms)) (rows_at rows ms);
       numbers = key_numbers asked class.order (rows_at rows ms);
-      place = place_of ms p;
+      place = place_in ms p;
     } in
     λ i. map (λ p. of_members p (same p i)) (positions (length rows))
 

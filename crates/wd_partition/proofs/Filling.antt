@@ -7,7 +7,7 @@ use Rattle.wd_value.specs.Bags.{EachOnce}
 use Rattle.wd_partition.specs.Places.{ArePlaces}
 use Rattle.wd_partition.specs.declared.places.Place.{Place}
 use Rattle.wd_partition.proofs.Marks.{below_once, own_place}
-use Rattle.wd_plan.specs.Partitions.{place_of}
+use Rattle.wd_plan.specs.Partitions.{place_in}
 
 module _ (list starts ends : List ℕ) (i : ℕ) (places : List Place) (once : EachOnce (length list) list) (within : i < length list) (are : ArePlaces list starts ends i places) where
   abbrev the_place : ℕ → Place
@@ -21,7 +21,7 @@ module _ (list starts ends : List ℕ) (i : ℕ) (places : List Place) (once : E
       let long = low in
       subst (λ j. get_or (set places (get_or list i 0) (the_place i)) (get_or list j 0) d ≡ the_place j) (sym e) (get_or-set_same places (get_or list i 0) (the_place i) d long)
   at k d (inr l) =
-      let ne : get_or list k 0 ≢ get_or list i 0 = λ e. (let one : place_of list (get_or list k 0) ≡ k = own_place (length list) list k once (omega arith) in let two : place_of list (get_or list i 0) ≡ i = own_place (length list) list i once within in let same : place_of list (get_or list k 0) ≡ place_of list (get_or list i 0) = ap (place_of list) e in omega arith) in
+      let ne : get_or list k 0 ≢ get_or list i 0 = λ e. (let one : place_in list (get_or list k 0) ≡ k = own_place (length list) list k once (omega arith) in let two : place_in list (get_or list i 0) ≡ i = own_place (length list) list i once within in let same : place_in list (get_or list k 0) ≡ place_in list (get_or list i 0) = ap (place_in list) e in omega arith) in
       let other : get_or (set places (get_or list i 0) (the_place i)) (get_or list k 0) d ≡ get_or places (get_or list k 0) d = rw get_or-set_other in
       other ∙ are.each k d l
 

@@ -109,7 +109,7 @@ module _ (class : ClassRule) (rows : List Row) where
   then_not_less Equal p e h = h refl
   then_not_less Greater p e h = refl
 
-  -- b behind a, in the order of the partitions and within a partition in the order of the keys
+  -- b after a, in the order of the partitions and within a partition in the order of the keys
   behind : (a b : Row) → is_lt (compare_rows (partition_columns class.partition) b a) ≡ false → (same_partition class a b ≡ true → NotAfter class a b) → is_lt (compare_rows (sort_columns class) b a) ≡ false
   behind a b low rises =
       ap is_lt (by_parts class b a)

@@ -9,7 +9,7 @@ use Rattle.std.proofs.lemmas.List.Sums.{count_by-le-length, sum_by_more_le}
 use Rattle.wd_value.specs.Bags.{EachOnce, positions, times}
 use Rattle.wd_value.proofs.Perms.{Perm-from_SameBag, Perm-length, count_by-cons}
 use Rattle.wd_plan.proofs.Places.{found_at_place, place-get_or, range-times, times-get_or, times-range, times-range-le}
-use Rattle.wd_plan.specs.Partitions.{place_of}
+use Rattle.wd_plan.specs.Partitions.{place_in}
 use Rattle.wd_partition.specs.Seen.{AreSeen}
 
 -- ---- lists that have each position once
@@ -55,10 +55,10 @@ at_most_once n xs p once =
     let one : times eqb p (positions n) ≤ 1 = times-range-le p 0 n in
     omega arith
 
-pub own_place : (n : ℕ) (xs : List ℕ) (i : ℕ) → EachOnce n xs → i < length xs → place_of xs (get_or xs i 0) ≡ i
+pub own_place : (n : ℕ) (xs : List ℕ) (i : ℕ) → EachOnce n xs → i < length xs → place_in xs (get_or xs i 0) ≡ i
 own_place n xs i once within = place-get_or xs i 0 within (at_most_once n xs (get_or xs i 0) once)
 
-pub found_once : (n : ℕ) (xs : List ℕ) (p : ℕ) → EachOnce n xs → p < n → (place_of xs p < length xs) × (get_or xs (place_of xs p) 0 ≡ p)
+pub found_once : (n : ℕ) (xs : List ℕ) (p : ℕ) → EachOnce n xs → p < n → (place_in xs p < length xs) × (get_or xs (place_in xs p) 0 ≡ p)
 found_once n xs p once low =
     let same : times eqb p (positions n) ≡ times eqb p xs = once p in
     let some : 0 < times eqb p (positions n) = times-range p 0 n (omega arith) (omega arith) in

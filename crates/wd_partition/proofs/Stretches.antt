@@ -113,7 +113,7 @@ module _ (R : ℕ → ℕ → Ordering) (o : IsTotalOrder R) where
     start_here i within fresh =
         count_split (λ q. is_lt (R q (get_or xs i 0))) xs i (omega arith) (front i within fresh) (λ k l m. far i k l m)
 
-    -- one behind which another run begins ends one
+    -- one after which another run begins ends one
     back : (i : ℕ) → i < length xs → (i + 1 < length xs → is_eq (R (get_or xs i 0) (get_or xs (i + 1) 0)) ≡ false) → (k : ℕ) → i + 1 ≤ k → k < length xs → not (is_gt (R (get_or xs k 0) (get_or xs i 0))) ≡ false
     back i within fresh k l m =
         let a = get_or xs i 0 in

@@ -5,7 +5,7 @@ use Rattle.wd_value.specs.declared.value.Value.TheVariants.{Null, Int, Text, Boo
 use Rattle.wd_value.specs.Bags.{positions}
 use Rattle.wd_value.specs.Rows.{Row, column_of, row_at}
 use Rattle.wd_plan.specs.declared.plan.OrderItem.{OrderItem}
-use Rattle.wd_plan.specs.Partitions.{group_of, members, partition_of, place_of}
+use Rattle.wd_plan.specs.Partitions.{group_of, members, partition_of, place_in}
 use Rattle.wd_plan.specs.Plans.{ClassRule}
 use Rattle.wd_plan.specs.Sorting.{IsOrdering}
 use Rattle.wd_partition.specs.declared.places.Place.{Place}
@@ -18,15 +18,15 @@ pub record MemberRule : Type 0 where
   pub place : ℕ
 
 -- a whole number, and NULL in place of everything else
-abbrev pub number_of : Value → Value
-number_of Null = Null
-number_of (Int n) = Int n
-number_of (Text bytes) = Null
-number_of (Truth b) = Null
+abbrev pub number_part : Value → Value
+number_part Null = Null
+number_part (Int n) = Int n
+number_part (Text bytes) = Null
+number_part (Truth b) = Null
 
 -- the numbers of the only sort key, where they are asked for
 abbrev pub key_numbers : Bool → List OrderItem → List Row → List Value
-key_numbers true (key ∷ []) rows = map (λ r. number_of (column_of r key.column)) rows
+key_numbers true (key ∷ []) rows = map (λ r. number_part (column_of r key.column)) rows
 key_numbers true [] rows = []
 key_numbers true (key ∷ other ∷ keys) rows = []
 key_numbers false keys rows = []
@@ -39,7 +39,7 @@ member_of class numbers rows ordering p =
       positions = members class rows ordering p;
       groups = map (group_of class part) part;
       numbers = key_numbers numbers class.order part;
-      place = place_of (members class rows ordering p) p;
+      place = place_in (members class rows ordering p) p;
     }
 
 -- the peer group number of the row at p in its own partition

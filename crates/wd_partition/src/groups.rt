@@ -92,7 +92,7 @@ fn column_numbers(
     column: u16,
     positions: &[u64],
 ) -> Result<Vec<Value>, OutOfMemory>
-    ensures { IfOk result (λ v. v.items ≡ map (λ r. members.number_of (column_of r column)) (rows_at (rows_of rows.now) positions.now)) }
+    ensures { IfOk result (λ v. v.items ≡ map (λ r. members.number_part (column_of r column)) (rows_at (rows_of rows.now) positions.now)) }
 {
     let mut numbers = Vec::with_capacity(alloc, positions.len())?;
     for position in positions {
@@ -102,7 +102,7 @@ fn column_numbers(
 }
 
 fn number_at(rows: &[Row], position: u64, column: u16) -> Value
-    ensures { result ≡ members.number_of (column_of (row_at (rows_of rows.now) position) column) }
+    ensures { result ≡ members.number_part (column_of (row_at (rows_of rows.now) position) column) }
 {
     match rows.get(position as usize) {
         Some(row) => number_in(row, column),
@@ -111,7 +111,7 @@ fn number_at(rows: &[Row], position: u64, column: u16) -> Value
 }
 
 fn number_in(row: &[Value], column: u16) -> Value
-    ensures { result ≡ members.number_of (column_of row.now column) }
+    ensures { result ≡ members.number_part (column_of row.now column) }
 {
     match row.get(column as usize) {
         Some(Value::Int(n)) => Value::Int(*n),

@@ -68,7 +68,7 @@ pub fn partition_ends(
     Ok(ends)
 }
 
-/// The end of the partition at place `i`, from that at the place behind.
+/// The end of the partition at place `i`, from that at the place after.
 fn next_end(rows: &[Row], columns: &[SortColumn], positions: &[u64], i: usize, end: usize) -> usize
     requires sorted { IsSorted (sorting.compare_rows_at columns.now (rows_of rows.now)) positions.now }
     requires within { i < length positions.now }

@@ -9,21 +9,21 @@ ghost use Rattle.wd_phrase.specs.Given.{Gives, MayFind, Finds};
 
 use crate::refusal::Refusal;
 use std::alloc::Global;
-use wd_lex::{Mark, Token, TokenKind};
+use wd_lex::{Delimiter, Token, TokenKind};
 use wd_syntax::{KeyWord, Name, Operator, Sign};
 
-fn is_mark(kind: &TokenKind, mark: Mark) -> bool
+fn is_mark(kind: &TokenKind, mark: Delimiter) -> bool
     ensures { result ≡ is_mark mark kind.now }
 {
     match kind {
-        TokenKind::Mark(found) => *found == mark,
+        TokenKind::Delimiter(found) => *found == mark,
         _ => false,
     }
 }
 
 /// The tokens after a mark, where it stands first.
 #[tactic(auto, unfolding(wd_syntax::specs::Reading::eat))]
-pub fn eat(tokens: &[Token], mark: Mark) -> Option<&[Token]>
+pub fn eat(tokens: &[Token], mark: Delimiter) -> Option<&[Token]>
     ensures { Finds (λ r. kinds_of r.now) result (eat mark (kinds_of tokens.now)) }
 {
     match tokens {
@@ -40,7 +40,7 @@ pub fn eat(tokens: &[Token], mark: Mark) -> Option<&[Token]>
 
 /// The tokens after a mark, which has to stand first: else its place is refused as unexpected.
 #[tactic(auto, unfolding(wd_syntax::specs::Reading::expect))]
-pub fn expect(tokens: &[Token], mark: Mark) -> Result<&[Token], Refusal>
+pub fn expect(tokens: &[Token], mark: Delimiter) -> Result<&[Token], Refusal>
     ensures { Gives (λ r. kinds_of r.now) result (expect mark (kinds_of tokens.now)) }
 {
     match eat(tokens, mark) {
@@ -169,23 +169,23 @@ pub fn number_at(tokens: &[Token]) -> Result<(u64, &[Token]), Refusal>
     }
 }
 
-fn operator_of(mark: Mark) -> Option<Operator>
+fn operator_of(mark: Delimiter) -> Option<Operator>
     ensures { result ≡ operator_of mark }
 {
     match mark {
-        Mark::Or => Some(Operator::Or),
-        Mark::And => Some(Operator::And),
-        Mark::Equals => Some(Operator::Equal),
-        Mark::NotEquals => Some(Operator::NotEqual),
-        Mark::Less => Some(Operator::Less),
-        Mark::LessOrEqual => Some(Operator::LessOrEqual),
-        Mark::Greater => Some(Operator::Greater),
-        Mark::GreaterOrEqual => Some(Operator::GreaterOrEqual),
-        Mark::Plus => Some(Operator::Add),
-        Mark::Minus => Some(Operator::Subtract),
-        Mark::Star => Some(Operator::Multiply),
-        Mark::Slash => Some(Operator::Divide),
-        Mark::Percent => Some(Operator::Remainder),
+        Delimiter::Or => Some(Operator::Or),
+        Delimiter::And => Some(Operator::And),
+        Delimiter::Equals => Some(Operator::Equal),
+        Delimiter::NotEquals => Some(Operator::NotEqual),
+        Delimiter::Less => Some(Operator::Less),
+        Delimiter::LessOrEqual => Some(Operator::LessOrEqual),
+        Delimiter::Greater => Some(Operator::Greater),
+        Delimiter::GreaterOrEqual => Some(Operator::GreaterOrEqual),
+        Delimiter::Plus => Some(Operator::Add),
+        Delimiter::Minus => Some(Operator::Subtract),
+        Delimiter::Star => Some(Operator::Multiply),
+        Delimiter::Slash => Some(Operator::Divide),
+        Delimiter::Percent => Some(Operator::Remainder),
         _ => None,
     }
 }
@@ -216,7 +216,7 @@ pub fn operator_at(tokens: &[Token], height: u8) -> Option<(Operator, &[Token])>
     match tokens {
         [
             Token {
-                kind: TokenKind::Mark(first),
+                kind: TokenKind::Delimiter(first),
                 ..
             },
             rest @ ..,
@@ -242,14 +242,14 @@ pub fn sign_at(tokens: &[Token]) -> Option<(Sign, &[Token])>
     match tokens {
         [
             Token {
-                kind: TokenKind::Mark(Mark::Plus),
+                kind: TokenKind::Delimiter(Delimiter::Plus),
                 ..
             },
             rest @ ..,
         ] => Some((Sign::Plus, rest)),
         [
             Token {
-                kind: TokenKind::Mark(Mark::Minus),
+                kind: TokenKind::Delimiter(Delimiter::Minus),
                 ..
             },
             rest @ ..,

@@ -3,7 +3,7 @@ use Rattle.std.proofs.Common.{◌≡◌, ℕ, zero, suc, ◌+◌, ◌<◌, ◌�
 use Rattle.std.specs.List.{range_with_len}
 use Rattle.std.proofs.lemmas.List.Elements.{filter_passes}
 use Rattle.std.proofs.lemmas.Bool.{eqb-true, eqb-false, eq-eqb, ne_eqb}
-use Rattle.wd_plan.specs.Partitions.{place_of, members, partition_of}
+use Rattle.wd_plan.specs.Partitions.{place_in, members, partition_of}
 use Rattle.wd_value.proofs.Perms.{count_by-cons, count_by-no, count_by-yes}
 use Rattle.wd_value.specs.Bags.{times, EachOnce}
 use Rattle.std.proofs.lemmas.List.{length-map, get_or-map, same_lists}
@@ -26,7 +26,7 @@ times-get_or [] i d h = absurd (omega arith)
 times-get_or (p ∷ ps) zero d h = let c = count_by-yes (eqb p) p ps (eq-eqb p p refl) in omega arith
 times-get_or (p ∷ ps) (suc i) d h = let c = count_by-cons (eqb (get_or ps i d)) p ps in let k = times-get_or ps i d (omega arith) in omega arith
 
-place_step : (p x : ℕ) (ps : List ℕ) (i : ℕ) (b : Bool) → eqb p x ≡ b → 0 < times eqb x ps → times eqb x (p ∷ ps) ≤ 1 → (times eqb x ps ≤ 1 → place_of ps x ≡ i) → place_of (p ∷ ps) x ≡ suc i
+place_step : (p x : ℕ) (ps : List ℕ) (i : ℕ) (b : Bool) → eqb p x ≡ b → 0 < times eqb x ps → times eqb x (p ∷ ps) ≤ 1 → (times eqb x ps ≤ 1 → place_in ps x ≡ i) → place_in (p ∷ ps) x ≡ suc i
 place_step p x ps i true e there once later =
     let c = count_by-yes (eqb x) p ps (eq-eqb x p (sym (eqb-true p x e))) in
     absurd (omega arith)
@@ -35,7 +35,7 @@ place_step p x ps i false e there once later =
     rw e (ap suc (later (omega arith)))
 
 -- the place of what stands once is where it stands
-pub place-get_or : (ps : List ℕ) (i d : ℕ) → i < length ps → times eqb (get_or ps i d) ps ≤ 1 → place_of ps (get_or ps i d) ≡ i
+pub place-get_or : (ps : List ℕ) (i d : ℕ) → i < length ps → times eqb (get_or ps i d) ps ≤ 1 → place_in ps (get_or ps i d) ≡ i
 place-get_or [] i d h once = absurd (omega arith)
 place-get_or (p ∷ ps) zero d h once = rw (eq-eqb p p refl)
 place-get_or (p ∷ ps) (suc i) d h once = place_step p (get_or ps i d) ps i (eqb p (get_or ps i d)) refl (times-get_or ps i d (omega arith)) once (place-get_or ps i d (omega arith))
@@ -79,7 +79,7 @@ range-times q a zero h = absurd (omega arith)
 range-times q a (suc n) h = outside_step q a n (eqb q a) refl (range-times q (a + 1) n) h
 
 -- what stands in a list stands at its place
-found_step : (p : ℕ) (ps : List ℕ) (x d : ℕ) (b : Bool) → eqb p x ≡ b → 0 < times eqb x (p ∷ ps) → (0 < times eqb x ps → (place_of ps x < length ps) × (get_or ps (place_of ps x) d ≡ x)) → (place_of (p ∷ ps) x < length (p ∷ ps)) × (get_or (p ∷ ps) (place_of (p ∷ ps) x) d ≡ x)
+found_step : (p : ℕ) (ps : List ℕ) (x d : ℕ) (b : Bool) → eqb p x ≡ b → 0 < times eqb x (p ∷ ps) → (0 < times eqb x ps → (place_in ps x < length ps) × (get_or ps (place_in ps x) d ≡ x)) → (place_in (p ∷ ps) x < length (p ∷ ps)) × (get_or (p ∷ ps) (place_in (p ∷ ps) x) d ≡ x)
 found_step p ps x d true e h later = rw e (omega arith, eqb-true p x e)
 found_step p ps x d false e h later =
     let ne : eqb x p ≡ false = ne_eqb x p (λ f. eqb-false p x e (sym f)) in
@@ -87,7 +87,7 @@ found_step p ps x d false e h later =
     let r = later (omega arith) in
     rw e (omega (arith, r.0), r.1)
 
-pub found_at_place : (ps : List ℕ) (x d : ℕ) → 0 < times eqb x ps → (place_of ps x < length ps) × (get_or ps (place_of ps x) d ≡ x)
+pub found_at_place : (ps : List ℕ) (x d : ℕ) → 0 < times eqb x ps → (place_in ps x < length ps) × (get_or ps (place_in ps x) d ≡ x)
 found_at_place [] x d h = absurd (omega arith)
 found_at_place (p ∷ ps) x d h = found_step p ps x d (eqb p x) refl h (found_at_place ps x d)
 
@@ -121,10 +121,10 @@ stands rows ordering q once h = let e = once q in let l = times-range q 0 (lengt
 
 -- a member's place is within the list, and the member stands there
 pub record InPart (class : ClassRule) (rows : List Row) (ordering : List ℕ) (p : ℕ) : Type 0 where
-  pub within : place_of (members class rows ordering p) p < length (members class rows ordering p)
-  pub at_place : get_or (members class rows ordering p) (place_of (members class rows ordering p) p) 0 ≡ p
-  pub within_rows : place_of (members class rows ordering p) p < length (partition_of class rows ordering p)
-  pub row : row_at (partition_of class rows ordering p) (place_of (members class rows ordering p) p) ≡ row_at rows p
+  pub within : place_in (members class rows ordering p) p < length (members class rows ordering p)
+  pub at_place : get_or (members class rows ordering p) (place_in (members class rows ordering p) p) 0 ≡ p
+  pub within_rows : place_in (members class rows ordering p) p < length (partition_of class rows ordering p)
+  pub row : row_at (partition_of class rows ordering p) (place_in (members class rows ordering p) p) ≡ row_at rows p
 
 pub in_part : (class : ClassRule) (rows : List Row) (ordering : List ℕ) (p : ℕ) → EachOnce (length rows) ordering → p < length rows → InPart class rows ordering p
 in_part class rows ordering p once h =
@@ -134,11 +134,11 @@ in_part class rows ordering p once h =
     record {
       within = f.0;
       at_place = f.1;
-      within_rows = subst (λ n. place_of (members class rows ordering p) p < n) (sym (length-map (members class rows ordering p) (row_at rows))) f.0;
-      row = get_or-map (row_at rows) (members class rows ordering p) (place_of (members class rows ordering p) p) 0 [] f.0 ∙ ap (row_at rows) f.1;
+      within_rows = subst (λ n. place_in (members class rows ordering p) p < n) (sym (length-map (members class rows ordering p) (row_at rows))) f.0;
+      row = get_or-map (row_at rows) (members class rows ordering p) (place_in (members class rows ordering p) p) 0 [] f.0 ∙ ap (row_at rows) f.1;
     }
 
-pub place_member : (class : ClassRule) (rows : List Row) (ordering : List ℕ) (p i : ℕ) → EachOnce (length rows) ordering → i < length (members class rows ordering p) → place_of (members class rows ordering p) (get_or (members class rows ordering p) i 0) ≡ i
+pub place_member : (class : ClassRule) (rows : List Row) (ordering : List ℕ) (p i : ℕ) → EachOnce (length rows) ordering → i < length (members class rows ordering p) → place_in (members class rows ordering p) (get_or (members class rows ordering p) i 0) ≡ i
 place_member class rows ordering p i once h =
     let q = get_or (members class rows ordering p) i 0 in
     let b = times-filter-le eqb (λ q. same_partition class (row_at rows p) (row_at rows q)) q ordering in

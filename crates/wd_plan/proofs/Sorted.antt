@@ -1,4 +1,4 @@
--- Lists in which each element is related to each one behind it.
+-- Lists in which each element is related to each one after it.
 use Rattle.std.proofs.Common.{List, [], ◌∷◌}
 use Rattle.std.specs.List.{AllByRecursion}
 

@@ -14,7 +14,7 @@ use Rattle.wd_plan.specs.declared.window.Function.{Function}
 use Rattle.wd_plan.specs.declared.window.Function.TheVariants.{RowNumber, Rank, DenseRank, Ntile, Lag, Lead, FirstValue, LastValue, NthValue, CountRows, Count, Sum, Min, Max}
 use Rattle.wd_plan.specs.Expressions.{fits_64, is_null}
 use Rattle.wd_plan.specs.Frames.{frame_of}
-use Rattle.wd_plan.specs.Partitions.{members, partition_of, place_of, group_of}
+use Rattle.wd_plan.specs.Partitions.{members, partition_of, place_in, group_of}
 use Rattle.wd_plan.specs.Plans.{ClassRule}
 
 -- the first bucket from b on that reaches past a place, where members are dealt to n buckets as evenly as possible,
@@ -74,4 +74,4 @@ call_value class frame (Max c) partition i = Ok (greatest (frame_values class fr
 
 -- the value of a call at the row at position r, under an ordering
 abbrev pub value_at : ClassRule → Frame → Function → List Row → List ℕ → ℕ → Result Value Fault
-value_at class frame function rows ordering r = call_value class frame function (partition_of class rows ordering r) (place_of (members class rows ordering r) r)
+value_at class frame function rows ordering r = call_value class frame function (partition_of class rows ordering r) (place_in (members class rows ordering r) r)

@@ -5,12 +5,12 @@ use Rattle.wd_value.specs.Rows.{Row, column_of, columns_of, row_at}
 use Rattle.wd_plan.specs.Expressions.{is_null}
 
 -- columns X give column c: two positions that are the same on X are the same on c
-abbrev pub Gives : List Row → List ℕ → ℕ → Type 0
-Gives rows X c = (p q : ℕ) → p < length rows → q < length rows → columns_of X (row_at rows p) ≡ columns_of X (row_at rows q) → column_of (row_at rows p) c ≡ column_of (row_at rows q) c
+abbrev pub Determines : List Row → List ℕ → ℕ → Type 0
+Determines rows X c = (p q : ℕ) → p < length rows → q < length rows → columns_of X (row_at rows p) ≡ columns_of X (row_at rows q) → column_of (row_at rows p) c ≡ column_of (row_at rows q) c
 
 -- columns X give the row: two positions that are the same on X are one position
-abbrev pub GivesRow : List Row → List ℕ → Type 0
-GivesRow rows X = (p q : ℕ) → p < length rows → q < length rows → columns_of X (row_at rows p) ≡ columns_of X (row_at rows q) → p ≡ q
+abbrev pub DeterminesRow : List Row → List ℕ → Type 0
+DeterminesRow rows X = (p q : ℕ) → p < length rows → q < length rows → columns_of X (row_at rows p) ≡ columns_of X (row_at rows q) → p ≡ q
 
 -- column c is not null
 abbrev pub IsNotNullIn : List Row → ℕ → Type 0
@@ -21,8 +21,8 @@ abbrev pub IsNullableKey : List Row → List ℕ → Type 0
 IsNullableKey rows X = (p q : ℕ) → p < length rows → q < length rows → columns_of X (row_at rows p) ≡ columns_of X (row_at rows q) → list_any is_null (columns_of X (row_at rows p)) ≡ false → p ≡ q
 
 -- columns X give each of so many columns
-abbrev pub GivesAll : List Row → ℕ → List ℕ → Type 0
-GivesAll rows width X = (c : ℕ) → c < width → Gives rows X c
+abbrev pub DeterminesAll : List Row → ℕ → List ℕ → Type 0
+DeterminesAll rows width X = (c : ℕ) → c < width → Determines rows X c
 
 abbrev pub HasWidth : ℕ → List Row → Type 0
 HasWidth width rows = AllByRecursion (λ (r : Row). length r ≡ width) rows

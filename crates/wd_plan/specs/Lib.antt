@@ -9,5 +9,5 @@ pub mod Calls
 pub mod Outcomes
 pub mod Choices
 pub mod Facts
-pub mod Justified
+pub mod Settled
 pub mod Fits

@@ -87,7 +87,7 @@ first_rows keys ties (suc n) [] = []
 first_rows keys ties (suc zero) (r ∷ rows) = r ∷ (if ties then take_while (peers keys r) rows else [])
 first_rows keys ties (suc (suc n)) (r ∷ rows) = r ∷ first_rows keys ties (suc n) rows
 
--- what a Limit keeps of rows that stand in its ordering: those behind the offset, and where there is a count the first of them
+-- what a Limit keeps of rows that stand in its ordering: those after the offset, and where there is a count the first of them
 abbrev pub cut : LimitRule → List Row → List Row
 cut limit rows = by_count limit.count
   where
@@ -97,8 +97,8 @@ cut limit rows = by_count limit.count
 
 -- ---- plans
 
--- The outcome of a plan under a choice. A node's orderings stand behind those of the nodes below it, a Join's right side's
--- behind the left side's; what stands behind them is not read.
+-- The outcome of a plan under a choice. A node's orderings stand after those of the nodes below it, a Join's right side's
+-- after the left side's; what stands after them is not read.
 abbrev pub outcome : PlanTree → Instance → List (List ℕ) → RowsOrFault
 outcome (Scan table columns) instance choice = Ok (table_at instance table)
 outcome (Join condition left right) instance choice = and_then (outcome left instance choice) (λ ls. and_then (outcome right instance (drop (ordering_count left) choice)) (λ rs. join_outcome condition (pairs ls rs)))

@@ -17,9 +17,9 @@ abbrev pub partition_of : ClassRule → List Row → List ℕ → ℕ → List R
 partition_of class rows ordering r = rows_at rows (members class rows ordering r)
 
 -- the place of a position in a list: how many stand before it
-abbrev pub place_of : List ℕ → ℕ → ℕ
-place_of [] r = 0
-place_of (q ∷ qs) r = if nat_eq q r then 0 else suc (place_of qs r)
+abbrev pub place_in : List ℕ → ℕ → ℕ
+place_in [] r = 0
+place_in (q ∷ qs) r = if nat_eq q r then 0 else suc (place_in qs r)
 
 -- how many different lists of key values there are
 abbrev pub different : List (List Value) → ℕ

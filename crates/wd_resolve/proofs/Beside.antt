@@ -20,7 +20,7 @@ pub none_shared : (names : List (List ℕ)) → list_any (has_table (record { ta
 none_shared [] = refl
 none_shared (name ∷ names) = none_shared names
 
--- the table of a number has the name, or it is looked for behind it
+-- the table of a number has the name, or it is looked for after it
 pub named_step : (k n : ℕ) (name : List ℕ) (tables : List TableRule) → n < length tables → number_named k name (drop n tables) ≡ (if is_named tables name n then Some k else number_named (k + 1) name (drop (suc n) tables))
 named_step k n name [] within = absurd (omega arith)
 named_step k zero name (rule ∷ tables) within = refl

@@ -21,7 +21,7 @@ use Rattle.wd_scope.proofs.Typing.{and_both, bound, ok_is}
 use Rattle.wd_scope.proofs.TypedPlain.{condition_is}
 use Rattle.wd_select.specs.declared.output.OutputColumn.{OutputColumn}
 use Rattle.wd_select.specs.Steps.{Lowered}
-use Rattle.wd_resolve.specs.Selected.{FromSoFar, Part, admitted, called, derived_column, derived_table, first_admitted, is_too_large, joined, next_admitted, scan, scan_at, scope_so_far, table_column, table_number, together}
+use Rattle.wd_resolve.specs.Selected.{FromSoFar, JoinedTables, admitted, called, derived_column, derived_table, first_admitted, is_too_large, joined, next_admitted, scan, scan_at, scope_so_far, table_column, table_number, together}
 use Rattle.wd_resolve.specs.Lowering.{behind_comma, behind_from, crossed, join_meant, joined_on, joined_to, joins_meant, lowered, lowering, table_meant}
 use Rattle.wd_resolve.specs.Answers.{Answer, name_in}
 use Rattle.wd_resolve.specs.Laws.{PlansFit}
@@ -29,7 +29,7 @@ use Rattle.wd_select.proofs.PlanKinds.{HasKinds, join_is, output_kinds, over_pla
 use Rattle.wd_resolve.proofs.ShownFits.{IsLowered, behind_from_is}
 
 -- a plan that fits, and gives the columns in scope
-abbrev pub IsPart : List TableRule → Part → Type 0
+abbrev pub IsPart : List TableRule → JoinedTables → Type 0
 IsPart tables part = HasKinds tables part.plan (scope_kinds part.scope)
 
 -- ---- tables of the schema
@@ -38,7 +38,7 @@ table_columns : (name : List ℕ) (columns : List TableColumn) → map (λ (colu
 table_columns name [] = refl
 table_columns name (column ∷ columns) = ap (λ ks. kind_of_type column.kind ∷ ks) (table_columns name columns)
 
-scan_is : (tables : List TableRule) (name : List ℕ) (number : ℕ) (part : Part) → scan name number (slice_get tables number) ≡ Ok part → IsPart tables part
+scan_is : (tables : List TableRule) (name : List ℕ) (number : ℕ) (part : JoinedTables) → scan name number (slice_get tables number) ≡ Ok part → IsPart tables part
 scan_is tables name number part h = by (slice_get tables number) refl h
   where
     of_table : (t : TableRule) → slice_get tables number ≡ Some t → nat_lt 1024 (length t.columns) ≡ false → HasKinds tables (Scan number (length t.columns)) (map (λ (column : ScopeColumn). column.kind) (map (table_column name) t.columns))
@@ -64,7 +64,7 @@ scan_is tables name number part h = by (slice_get tables number) refl h
     by None e h = cc
     by (Some t) e h = narrow t e (nat_lt 1024 (length t.columns)) refl h
 
-scan_at_is : (tables : List TableRule) (name : List ℕ) (o : Option ℕ) (part : Part) → scan_at tables name o ≡ Ok part → IsPart tables part
+scan_at_is : (tables : List TableRule) (name : List ℕ) (o : Option ℕ) (part : JoinedTables) → scan_at tables name o ≡ Ok part → IsPart tables part
 scan_at_is tables name None part h = cc
 scan_at_is tables name (Some number) part h = by (nat_lt number (2 ^ 16)) h
   where
@@ -83,7 +83,7 @@ derived_is tables name l h = subst (HasKinds tables l.plan) (derived_columns nam
 
 -- ---- tables joined to one another
 
-part_join : (tables : List TableRule) (on : Option Expression) (left right : Part) → IsPart tables left → IsPart tables right → length (beside left.scope right.scope).columns ≤ 1024
+part_join : (tables : List TableRule) (on : Option Expression) (left right : JoinedTables) → IsPart tables left → IsPart tables right → length (beside left.scope right.scope).columns ≤ 1024
     → may_join (kinds_of tables (Join on left.plan right.plan)) on ≡ true → IsPart tables (joined on left right)
 part_join tables on left right l r few may =
     let kind = λ (column : ScopeColumn). column.kind in
@@ -93,7 +93,7 @@ part_join tables on left right l r few may =
     let whole = join_is tables on left.plan right.plan (scope_kinds left.scope) (scope_kinds right.scope) l r (omega arith) may in
     subst (HasKinds tables (Join on left.plan right.plan)) (sym (map-append kind left.scope.columns right.scope.columns)) whole
 
-abbrev pub IsBefore : List TableRule → Option Part → Type 0
+abbrev pub IsBefore : List TableRule → Option JoinedTables → Type 0
 IsBefore tables None = Unit {0}
 IsBefore tables (Some part) = IsPart tables part
 
@@ -102,14 +102,14 @@ pub record IsFrom (tables : List TableRule) (from : FromSoFar) : Type 0 where
   current_is : IsPart tables from.current
   few : length (scope_so_far from).columns ≤ 1024
 
-together_is : (tables : List TableRule) (before : Option Part) (current : Part) → IsBefore tables before → IsPart tables current → length (together before current).scope.columns ≤ 1024 → IsPart tables (together before current)
+together_is : (tables : List TableRule) (before : Option JoinedTables) (current : JoinedTables) → IsBefore tables before → IsPart tables current → length (together before current).scope.columns ≤ 1024 → IsPart tables (together before current)
 together_is tables None current b c few = c
 together_is tables (Some before) current b c few = part_join tables None before current b c few refl
 
 from_is : (tables : List TableRule) (from : FromSoFar) → IsFrom tables from → IsPart tables (together from.before from.current)
 from_is tables from h = together_is tables from.before from.current h.before_is h.current_is h.few
 
-admitted_is : (scope : ScopeRule) (part p : Part) → admitted scope part ≡ Ok p → (part ≡ p) × (length (beside scope part.scope).columns ≤ 1024)
+admitted_is : (scope : ScopeRule) (part p : JoinedTables) → admitted scope part ≡ Ok p → (part ≡ p) × (length (beside scope part.scope).columns ≤ 1024)
 admitted_is scope part p h = shares (list_any (scopes.has_table scope) part.scope.tables) h
   where
     large : (b : Bool) → is_too_large (beside scope part.scope) ≡ b → cond b (Err TooMany) (Ok part) ≡ Ok p → (part ≡ p) × (length (beside scope part.scope).columns ≤ 1024)
@@ -120,18 +120,18 @@ admitted_is scope part p h = shares (list_any (scopes.has_table scope) part.scop
     shares true h = cc
     shares false h = large (is_too_large (beside scope part.scope)) refl h
 
-first_is : (tables : List TableRule) (part : Part) (from : FromSoFar) → IsPart tables part → first_admitted part ≡ Ok from → IsFrom tables from
+first_is : (tables : List TableRule) (part : JoinedTables) (from : FromSoFar) → IsPart tables part → first_admitted part ≡ Ok from → IsFrom tables from
 first_is tables part from h e =
-    let p = bound (admitted (record { tables = []; columns = [] }) part) (λ (q : Part). Ok (record { before = None; current = q })) from e in
+    let p = bound (admitted (record { tables = []; columns = [] }) part) (λ (q : JoinedTables). Ok (record { before = None; current = q })) from e in
     let a = admitted_is (record { tables = []; columns = [] }) part p.0 p.1 in
-    subst (IsFrom tables) (ok_is _ _ p.2) (subst (λ (q : Part). IsFrom tables (record { before = None; current = q })) a.0 (record { before_is = tt; current_is = h; few = a.1 }))
+    subst (IsFrom tables) (ok_is _ _ p.2) (subst (λ (q : JoinedTables). IsFrom tables (record { before = None; current = q })) a.0 (record { before_is = tt; current_is = h; few = a.1 }))
 
 -- the columns of all tables stay as many, however they are grouped
-as_many : (before : Option Part) (current part : Part) (on : Option Expression) → length (beside (together before current).scope part.scope).columns ≡ length (together before (joined on current part)).scope.columns
+as_many : (before : Option JoinedTables) (current part : JoinedTables) (on : Option Expression) → length (beside (together before current).scope part.scope).columns ≡ length (together before (joined on current part)).scope.columns
 as_many None current part on = refl
 as_many (Some before) current part on = ap length (append_assoc before.scope.columns current.scope.columns part.scope.columns)
 
-current_few : (before : Option Part) (current part : Part) → length (beside (together before current).scope part.scope).columns ≤ 1024 → length (beside current.scope part.scope).columns ≤ 1024
+current_few : (before : Option JoinedTables) (current part : JoinedTables) → length (beside (together before current).scope part.scope).columns ≤ 1024 → length (beside current.scope part.scope).columns ≤ 1024
 current_few None current part h = h
 current_few (Some before) current part h =
     let a = length-append (before.scope.columns ++ current.scope.columns) part.scope.columns in
@@ -140,7 +140,7 @@ current_few (Some before) current part h =
     omega arith
 
 -- a further part joined to those back to the last comma
-joined_is : (tables : List TableRule) (from : FromSoFar) (on : Option Expression) (part : Part) → IsFrom tables from → IsPart tables part → length (beside (scope_so_far from) part.scope).columns ≤ 1024
+joined_is : (tables : List TableRule) (from : FromSoFar) (on : Option Expression) (part : JoinedTables) → IsFrom tables from → IsPart tables part → length (beside (scope_so_far from) part.scope).columns ≤ 1024
     → may_join (kinds_of tables (Join on from.current.plan part.plan)) on ≡ true → IsFrom tables (joined_to from on part)
 joined_is tables from on part h is few may = record {
   before_is = h.before_is;
@@ -148,30 +148,30 @@ joined_is tables from on part h is few may = record {
   few = subst (λ n. n ≤ 1024) (as_many from.before from.current part on) few;
 }
 
-comma_is : (tables : List TableRule) (from : FromSoFar) (part : Part) (next : FromSoFar) → IsFrom tables from → IsPart tables part → behind_comma from part ≡ Ok next → IsFrom tables next
+comma_is : (tables : List TableRule) (from : FromSoFar) (part : JoinedTables) (next : FromSoFar) → IsFrom tables from → IsPart tables part → behind_comma from part ≡ Ok next → IsFrom tables next
 comma_is tables from part next h is e =
-    let p = bound (next_admitted from part) (λ (q : Part). Ok (record { before = Some (together from.before from.current); current = q })) next e in
+    let p = bound (next_admitted from part) (λ (q : JoinedTables). Ok (record { before = Some (together from.before from.current); current = q })) next e in
     let a = admitted_is (scope_so_far from) part p.0 p.1 in
-    subst (IsFrom tables) (ok_is _ _ p.2) (subst (λ (q : Part). IsFrom tables (record { before = Some (together from.before from.current); current = q })) a.0 (record { before_is = from_is tables from h; current_is = is; few = a.1 }))
+    subst (IsFrom tables) (ok_is _ _ p.2) (subst (λ (q : JoinedTables). IsFrom tables (record { before = Some (together from.before from.current); current = q })) a.0 (record { before_is = from_is tables from h; current_is = is; few = a.1 }))
 
-cross_is : (tables : List TableRule) (from : FromSoFar) (part : Part) (next : FromSoFar) → IsFrom tables from → IsPart tables part → crossed from part ≡ Ok next → IsFrom tables next
+cross_is : (tables : List TableRule) (from : FromSoFar) (part : JoinedTables) (next : FromSoFar) → IsFrom tables from → IsPart tables part → crossed from part ≡ Ok next → IsFrom tables next
 cross_is tables from part next h is e =
-    let p = bound (next_admitted from part) (λ (q : Part). Ok (joined_to from None q)) next e in
+    let p = bound (next_admitted from part) (λ (q : JoinedTables). Ok (joined_to from None q)) next e in
     let a = admitted_is (scope_so_far from) part p.0 p.1 in
-    subst (IsFrom tables) (ok_is _ _ p.2) (subst (λ (q : Part). IsFrom tables (joined_to from None q)) a.0 (joined_is tables from None part h is a.1 refl))
+    subst (IsFrom tables) (ok_is _ _ p.2) (subst (λ (q : JoinedTables). IsFrom tables (joined_to from None q)) a.0 (joined_is tables from None part h is a.1 refl))
 
 -- a condition over both sides
-on_is : (tables : List TableRule) (left right : Part) (on : Tree) (e : Expression) → IsPart tables (joined None left right) → condition (joined None left right).scope on ≡ Ok e → may_join (kinds_of tables (Join (Some e) left.plan right.plan)) (Some e) ≡ true
+on_is : (tables : List TableRule) (left right : JoinedTables) (on : Tree) (e : Expression) → IsPart tables (joined None left right) → condition (joined None left right).scope on ≡ Ok e → may_join (kinds_of tables (Join (Some e) left.plan right.plan)) (Some e) ≡ true
 on_is tables left right on e h is =
     let typed = over_plan tables (Join None left.plan right.plan) (beside left.scope right.scope) e Truth h (condition_is (beside left.scope right.scope) on e is) in
     and_both _ _ typed.is (rw typed.has refl)
 
-inner_is : (tables : List TableRule) (from : FromSoFar) (on : Tree) (part : Part) (next : FromSoFar) → IsFrom tables from → IsPart tables part → joined_on from on part ≡ Ok next → IsFrom tables next
+inner_is : (tables : List TableRule) (from : FromSoFar) (on : Tree) (part : JoinedTables) (next : FromSoFar) → IsFrom tables from → IsPart tables part → joined_on from on part ≡ Ok next → IsFrom tables next
 inner_is tables from on part next h is e =
-    let p = bound (next_admitted from part) (λ (q : Part). condition (joined None from.current q).scope on >>= λ x. Ok (joined_to from (Some x) q)) next e in
+    let p = bound (next_admitted from part) (λ (q : JoinedTables). condition (joined None from.current q).scope on >>= λ x. Ok (joined_to from (Some x) q)) next e in
     let a = admitted_is (scope_so_far from) part p.0 p.1 in
     let there : IsPart tables p.0 = subst (IsPart tables) a.0 is in
-    let few : length (beside (scope_so_far from) p.0.scope).columns ≤ 1024 = subst (λ (q : Part). length (beside (scope_so_far from) q.scope).columns ≤ 1024) a.0 a.1 in
+    let few : length (beside (scope_so_far from) p.0.scope).columns ≤ 1024 = subst (λ (q : JoinedTables). length (beside (scope_so_far from) q.scope).columns ≤ 1024) a.0 a.1 in
     let x = bound (condition (joined None from.current p.0).scope on) (λ y. Ok (joined_to from (Some y) p.0)) next p.2 in
     let whole = part_join tables None from.current p.0 h.current_is there (current_few from.before from.current p.0 few) refl in
     subst (IsFrom tables) (ok_is _ _ x.2) (joined_is tables from (Some x.0) p.0 h there few (on_is tables from.current p.0 on x.0 whole x.1))
@@ -187,7 +187,7 @@ mutual
       let begun = first_is tables part.0 start.0 (table_is tables first part.0 part.1) start.1 in
       behind_from_is tables (together from.0.before from.0.current) quantifier items filter windows order limits l (from_is tables from.0 (joins_are tables joins start.0 from.0 begun from.1)) from.2
 
-  table_is : (tables : List TableRule) (t : TableTree) (part : Part) → table_meant tables t ≡ Ok part → IsPart tables part
+  table_is : (tables : List TableRule) (t : TableTree) (part : JoinedTables) → table_meant tables t ≡ Ok part → IsPart tables part
   table_is tables (named name alias) part e = scan_at_is tables (called name alias) (table_number tables name.text) part e
   table_is tables (derived s alias) part e =
       let l = bound (lowered tables s) (λ x. Ok (derived_table alias.name.text x)) part e in

@@ -27,7 +27,7 @@ use Rattle.wd_scope.specs.Typed.{AreCalls, AreKnown, AreTyped, kinds_met}
 use Rattle.wd_scope.proofs.Typing.{bound, kept, ok_is}
 use Rattle.wd_scope.proofs.TypedMet.{more_calls}
 use Rattle.wd_scope.proofs.TypedPlain.{all_defined_is, condition_is}
-use Rattle.wd_resolve.specs.Selected.{Part}
+use Rattle.wd_resolve.specs.Selected.{JoinedTables}
 use Rattle.wd_select.specs.Outputs.{Listing, OutputMeaning, call_expressions, expressions_of, is_wide, list_meant}
 use Rattle.wd_select.specs.Sorting.{Cut, Shown, Sorted, count_meant, cut_meant, fetched, keys_sorted, offset_meant, tied, unsorted}
 use Rattle.wd_select.specs.Steps.{Lowered, above, columns_from, column_shown, deduplicated, filtered, limited, lowered_shown, mapped, windowed, without_hidden}
@@ -198,7 +198,7 @@ filtered_is tables scope (Some a) plan next h e =
     let x = bound (condition scope a) (λ y. Ok (Filter y plan)) next e in
     subst (λ p. HasKinds tables p (scope_kinds scope)) (ok_is _ _ x.2) (filter_is tables x.0 plan (scope_kinds scope) h (over_plan tables plan scope x.0 Truth h (condition_is scope a x.0 x.1)))
 
-pub behind_from_is : (tables : List TableRule) (from : Part) (quantifier : Option Quantifier) (items : List ItemTree) (filter : Option Tree) (windows : List (Name × WindowTree)) (order : Keys) (limits : Option Limits) (l : Lowered) → HasKinds tables from.plan (scope_kinds from.scope)
+pub behind_from_is : (tables : List TableRule) (from : JoinedTables) (quantifier : Option Quantifier) (items : List ItemTree) (filter : Option Tree) (windows : List (Name × WindowTree)) (order : Keys) (limits : Option Limits) (l : Lowered) → HasKinds tables from.plan (scope_kinds from.scope)
     → behind_from from quantifier items filter windows order limits ≡ Ok l → IsLowered tables l
 behind_from_is tables from quantifier items filter windows order limits l h e =
     let p = bound (filtered from.scope filter from.plan) (λ plan. all_defined from.scope [] windows >>= λ known. selected from.scope plan known quantifier items order limits) l e in

@@ -24,7 +24,7 @@ use Rattle.wd_scope.proofs.Typing.{both, bound, ok_is, settled_is, typed_kept}
 use Rattle.wd_scope.proofs.TypedMet.{all_on, all_push, more_calls}
 use Rattle.wd_scope.proofs.TypedPlain.{plain_is}
 use Rattle.wd_select.specs.Outputs.{OutputMeaning, call_expressions, expressions_of, inputs_with, is_wide}
-use Rattle.wd_select.specs.Sorting.{IsNarrow, Place, Shown, Sorted, expression_place, first_named, hidden, is_named, key_place, key_sorted, keys_sorted, literal_place, named_place, names_only, or_expression, ordinal, output, place_of, signed_place, unless_number, unless_other, with_hidden, with_key}
+use Rattle.wd_select.specs.Sorting.{IsNarrow, KeyPlace, Shown, Sorted, expression_place, first_named, hidden, is_named, key_place, key_sorted, keys_sorted, literal_place, named_place, names_only, or_expression, ordinal, output, sorted_place, signed_place, unless_number, unless_other, with_hidden, with_key}
 use Rattle.wd_resolve.specs.Lowering.{is_sorted}
 use Rattle.wd_select.proofs.Covered.{AreAmong, Covers, covers_kept, covers_met, met_typed, met_with, typed_with, with_keeps}
 use Rattle.wd_select.proofs.PlanKinds.{AreOfKinds, AreWithin, are_append}
@@ -32,28 +32,28 @@ use Rattle.wd_select.proofs.PlanKinds.{AreOfKinds, AreWithin, are_append}
 -- ---- places
 
 -- an output that is there, or an expression over the columns of FROM
-abbrev pub IsPlace : Shown → Place → Type 0
+abbrev pub IsPlace : Shown → KeyPlace → Type 0
 IsPlace s (output n) = n < length s.outputs
 IsPlace s (hidden e) = (k : ValueKind) × IsOfKind (kinds_met s.scope []) e k
 
-abbrev MayBePlace : Shown → Option Place → Type 0
+abbrev MayBePlace : Shown → Option KeyPlace → Type 0
 MayBePlace s None = Unit {0}
 MayBePlace s (Some p) = IsPlace s p
 
-place_is : (s : Shown) (number : ℕ) (e : Expression) (k : ValueKind) (outputs : List OutputMeaning) → IsOfKind (kinds_met s.scope []) e k → number + length outputs ≡ length s.outputs → IsPlace s (place_of number e outputs)
+place_is : (s : Shown) (number : ℕ) (e : Expression) (k : ValueKind) (outputs : List OutputMeaning) → IsOfKind (kinds_met s.scope []) e k → number + length outputs ≡ length s.outputs → IsPlace s (sorted_place number e outputs)
 place_is s number e k [] is many = (k, is)
 place_is s number e k (o ∷ outputs) is many = by (same_expression e o.expression) (place_is s (number + 1) e k outputs is (omega arith))
   where
-    by : (b : Bool) → IsPlace s (place_of (number + 1) e outputs) → IsPlace s (cond b (output number) (place_of (number + 1) e outputs))
+    by : (b : Bool) → IsPlace s (sorted_place (number + 1) e outputs) → IsPlace s (cond b (output number) (sorted_place (number + 1) e outputs))
     by true later = omega arith
     by false later = later
 
-expression_place_is : (s : Shown) (a : Tree) (p : Place) → expression_place s a ≡ Ok p → IsPlace s p
+expression_place_is : (s : Shown) (a : Tree) (p : KeyPlace) → expression_place s a ≡ Ok p → IsPlace s p
 expression_place_is s a p h =
-    let x = bound (plain s.scope a) (λ (y : Operand). Ok (place_of 0 (settled y) s.outputs)) p h in
+    let x = bound (plain s.scope a) (λ (y : Operand). Ok (sorted_place 0 (settled y) s.outputs)) p h in
     subst (IsPlace s) (ok_is _ _ x.2) (place_is s 0 (settled x.0) (operands.kind_of x.0) s.outputs (settled_is (kinds_met s.scope []) x.0 (plain_is s.scope a x.0 x.1)) (omega arith))
 
-first_named_is : (s : Shown) (number : ℕ) (name : List ℕ) (outputs : List OutputMeaning) (o : Option Place) → number + length outputs ≡ length s.outputs → first_named number name outputs ≡ Ok o → MayBePlace s o
+first_named_is : (s : Shown) (number : ℕ) (name : List ℕ) (outputs : List OutputMeaning) (o : Option KeyPlace) → number + length outputs ≡ length s.outputs → first_named number name outputs ≡ Ok o → MayBePlace s o
 first_named_is s number name [] o many h = subst (MayBePlace s) (ok_is _ _ h) tt
 first_named_is s number name (x ∷ outputs) o many h = by (is_named name x) h (first_named_is s (number + 1) name outputs o (omega arith))
   where
@@ -65,16 +65,16 @@ first_named_is s number name (x ∷ outputs) o many h = by (is_named name x) h (
     by true h later = only (names_only name x.expression outputs) h
     by false h later = later h
 
-or_is : (s : Shown) (o : Option Place) (m : Meant Place) (p : Place) → MayBePlace s o → ((q : Place) → m ≡ Ok q → IsPlace s q) → or_expression o m ≡ Ok p → IsPlace s p
+or_is : (s : Shown) (o : Option KeyPlace) (m : Meant KeyPlace) (p : KeyPlace) → MayBePlace s o → ((q : KeyPlace) → m ≡ Ok q → IsPlace s q) → or_expression o m ≡ Ok p → IsPlace s p
 or_is s None m p h f e = f p e
 or_is s (Some q) m p h f e = subst (IsPlace s) (ok_is _ _ e) h
 
-named_place_is : (s : Shown) (name : Name) (a : Tree) (p : Place) → named_place s name a ≡ Ok p → IsPlace s p
+named_place_is : (s : Shown) (name : Name) (a : Tree) (p : KeyPlace) → named_place s name a ≡ Ok p → IsPlace s p
 named_place_is s name a p h =
-    let o = bound (first_named 0 name.text s.outputs) (λ (q : Option Place). or_expression q (expression_place s a)) p h in
+    let o = bound (first_named 0 name.text s.outputs) (λ (q : Option KeyPlace). or_expression q (expression_place s a)) p h in
     or_is s o.0 (expression_place s a) p (first_named_is s 0 name.text s.outputs o.0 (omega arith) o.1) (expression_place_is s a) o.2
 
-ordinal_is : (s : Shown) (n : ℕ) (p : Place) → ordinal s.outputs n ≡ Ok p → IsPlace s p
+ordinal_is : (s : Shown) (n : ℕ) (p : KeyPlace) → ordinal s.outputs n ≡ Ok p → IsPlace s p
 ordinal_is s n p h = by (nat_le 1 n && nat_le n (length s.outputs)) refl h
   where
     by : (b : Bool) → (nat_le 1 n && nat_le n (length s.outputs)) ≡ b → cond b (Ok (output (n - 1))) (Err WrongSortKey) ≡ Ok p → IsPlace s p
@@ -85,20 +85,20 @@ ordinal_is s n p h = by (nat_le 1 n && nat_le n (length s.outputs)) refl h
         subst (IsPlace s) (ok_is _ _ h) (omega arith)
     by false e h = cc
 
-literal_place_is : (s : Shown) (x : Literal) (p : Place) → literal_place s.outputs x ≡ Ok p → IsPlace s p
+literal_place_is : (s : Shown) (x : Literal) (p : KeyPlace) → literal_place s.outputs x ≡ Ok p → IsPlace s p
 literal_place_is s (l.Number n) p h = let m = bound (operands.number n) (λ k. ordinal s.outputs k) p h in ordinal_is s m.0 p m.2
 literal_place_is s (l.Text text) p h = cc
 literal_place_is s (l.Truth b) p h = cc
 literal_place_is s l.Null p h = cc
 
-signed_is : (s : Shown) (number : Option ℕ) (m : Meant Place) (p : Place) → ((q : Place) → m ≡ Ok q → IsPlace s q) → signed_place number m ≡ Ok p → IsPlace s p
+signed_is : (s : Shown) (number : Option ℕ) (m : Meant KeyPlace) (p : KeyPlace) → ((q : KeyPlace) → m ≡ Ok q → IsPlace s q) → signed_place number m ≡ Ok p → IsPlace s p
 signed_is s number m p f h = let q = bound m (λ r. unless_number number r) p h in by number q.0 q.2 (f q.0 q.1)
   where
-    by : (o : Option ℕ) (q : Place) → unless_number o q ≡ Ok p → IsPlace s q → IsPlace s p
+    by : (o : Option ℕ) (q : KeyPlace) → unless_number o q ≡ Ok p → IsPlace s q → IsPlace s p
     by None q e is = subst (IsPlace s) (ok_is _ _ e) is
     by (Some n) q e is = cc
 
-key_place_is : (s : Shown) (a : Tree) (p : Place) → key_place s a ≡ Ok p → IsPlace s p
+key_place_is : (s : Shown) (a : Tree) (p : KeyPlace) → key_place s a ≡ Ok p → IsPlace s p
 key_place_is s (tree.Bracket a) p h = key_place_is s a p h
 key_place_is s (tree.Column name) p h = named_place_is s name (tree.Column name) p h
 key_place_is s (tree.Constant x) p h = literal_place_is s x p h
@@ -171,7 +171,7 @@ module _ (s : Shown) (all : AreCalls s.scope s.calls) (e : Expression) (k : Valu
       by true g = cc
       by false g = wide (is_wide ((length s.outputs + length so_far.hidden) + 1) more s.calls) refl g
 
-with_key_is : (s : Shown) → AreCalls s.scope s.calls → (p : Place) (key : SortKey) (so_far r : Sorted) → IsPlace s p → IsSorted s so_far → with_key s p key so_far ≡ Ok r → IsSorted s r × HasSome r.items
+with_key_is : (s : Shown) → AreCalls s.scope s.calls → (p : KeyPlace) (key : SortKey) (so_far r : Sorted) → IsPlace s p → IsSorted s so_far → with_key s p key so_far ≡ Ok r → IsSorted s r × HasSome r.items
 with_key_is s all (output n) key so_far r is h e =
     let item : OrderItem = record { column = n; key = key } in
     let within : n < length s.outputs + length so_far.hidden = omega arith in
@@ -194,7 +194,7 @@ pub keys_sorted_is : (s : Shown) → AreCalls s.scope s.calls → (keys : Keys) 
 keys_sorted_is s all no_keys so_far r h e = subst (λ (z : Sorted). IsSorted s z × (HasSome so_far.items → HasSome z.items) × (is_sorted no_keys ≡ true → HasSome z.items)) (ok_is _ _ e) (h, λ x. x, λ x. absurd (false≢true x))
 keys_sorted_is s all (more_keys a direction nulls keys) so_far r h e =
     let next = bound (key_sorted s a (sort_key direction nulls) so_far) (λ (z : Sorted). keys_sorted s keys z) r e in
-    let p = bound (key_place s a) (λ (q : Place). with_key s q (sort_key direction nulls) so_far) next.0 next.1 in
+    let p = bound (key_place s a) (λ (q : KeyPlace). with_key s q (sort_key direction nulls) so_far) next.0 next.1 in
     let one = with_key_is s all p.0 (sort_key direction nulls) so_far next.0 (key_place_is s a p.0 p.1) h p.2 in
     let rest = keys_sorted_is s all keys next.0 r one.0 next.2 in
     (rest.0, λ x. rest.1 one.1, λ x. rest.1 one.1)

@@ -14,7 +14,7 @@ use Rattle.wd_operand.specs.Causes.{Meant, ◌>>=◌}
 use Rattle.wd_scope.specs.Resolving.{condition, all_defined}
 use Rattle.wd_scope.specs.Scopes.{ScopeRule}
 use Rattle.wd_scope.specs.Windows.{KnownMeaning}
-use Rattle.wd_resolve.specs.Selected.{Part, FromSoFar, called, named_table, derived_table, joined, together, first_admitted, next_admitted}
+use Rattle.wd_resolve.specs.Selected.{JoinedTables, FromSoFar, called, named_table, derived_table, joined, together, first_admitted, next_admitted}
 use Rattle.wd_select.specs.Outputs.{Listing, list_meant}
 use Rattle.wd_select.specs.Sorting.{Shown, unsorted, keys_sorted, cut_meant}
 use Rattle.wd_select.specs.Steps.{Lowered, filtered, lowered_shown}
@@ -40,32 +40,32 @@ shown_sorted s inputs order limits plan =
     cut_meant (is_sorted order) limits >>= λ cut.
     Ok (lowered_shown (length s.scope.columns) s.distinct s.outputs s.calls sorted cut plan)
 
--- what is left of a select behind its FROM and its WINDOW: the select list, ORDER BY and the limits, from left to right
+-- what is left of a select after its FROM and its WINDOW: the select list, ORDER BY and the limits, from left to right
 abbrev pub selected : ScopeRule → PlanTree → List KnownMeaning → Option Quantifier → List ItemTree → Keys → Option Limits → Meant Lowered
 selected scope plan windows quantifier items order limits =
     list_meant (record { scope = scope; windows = windows; calls_allowed = true }) items >>= λ list.
     shown_sorted (shown_by scope (is_distinct quantifier) list) list.inputs order limits plan
 
--- a select behind its FROM: WHERE, WINDOW, and the rest
-abbrev pub behind_from : Part → Option Quantifier → List ItemTree → Option Tree → List (Name × WindowTree) → Keys → Option Limits → Meant Lowered
+-- a select after its FROM: WHERE, WINDOW, and the rest
+abbrev pub behind_from : JoinedTables → Option Quantifier → List ItemTree → Option Tree → List (Name × WindowTree) → Keys → Option Limits → Meant Lowered
 behind_from from quantifier items filter windows order limits =
     filtered from.scope filter from.plan >>= λ plan.
     all_defined from.scope [] windows >>= λ known.
     selected from.scope plan known quantifier items order limits
 
--- a table behind a comma begins a new row of joins
-abbrev pub behind_comma : FromSoFar → Part → Meant FromSoFar
+-- a table after a comma begins a new row of joins
+abbrev pub behind_comma : FromSoFar → JoinedTables → Meant FromSoFar
 behind_comma from part = next_admitted from part >>= λ p. Ok (record { before = Some (together from.before from.current); current = p })
 
 -- a table joined to those before it, back to the last comma, on all pairs or on a condition
-abbrev pub joined_to : FromSoFar → Option Expression → Part → FromSoFar
+abbrev pub joined_to : FromSoFar → Option Expression → JoinedTables → FromSoFar
 joined_to from condition part = record { before = from.before; current = joined condition from.current part }
 
-abbrev pub crossed : FromSoFar → Part → Meant FromSoFar
+abbrev pub crossed : FromSoFar → JoinedTables → Meant FromSoFar
 crossed from part = next_admitted from part >>= λ p. Ok (joined_to from None p)
 
 -- ON sees the tables back to the last comma
-abbrev pub joined_on : FromSoFar → Tree → Part → Meant FromSoFar
+abbrev pub joined_on : FromSoFar → Tree → JoinedTables → Meant FromSoFar
 joined_on from on part = next_admitted from part >>= λ p. condition (joined None from.current p).scope on >>= λ e. Ok (joined_to from (Some e) p)
 
 abbrev mutual
@@ -74,7 +74,7 @@ abbrev mutual
   lowered tables (select quantifier items first joins filter windows order limits) = table_meant tables first >>= λ part. first_admitted part >>= λ start. joins_meant tables joins start >>= λ from. behind_from (together from.before from.current) quantifier items filter windows order limits
 
   -- a table of FROM: a Scan, or its own plan
-  pub table_meant : List TableRule → TableTree → Meant Part
+  pub table_meant : List TableRule → TableTree → Meant JoinedTables
   table_meant tables (named name alias) = named_table tables name.text (called name alias)
   table_meant tables (derived s alias) = lowered tables s >>= λ l. Ok (derived_table alias.name.text l)
 

@@ -17,12 +17,12 @@ use Rattle.wd_operand.specs.Causes.{Meant, ◌>>=◌}
 use Rattle.wd_scope.specs.Scopes.{ScopeRule, scope_of, beside, has_table}
 use Rattle.wd_select.specs.Steps.{Lowered}
 use Rattle.wd_select.specs.declared.output.OutputColumn.{OutputColumn}
-use Rattle.wd_resolve.specs.declared.part.Part.{Part as CodePart}
+use Rattle.wd_resolve.specs.declared.part.JoinedTables.{JoinedTables as CodeJoined}
 use Rattle.wd_resolve.specs.declared.part.FromSoFar.{FromSoFar as CodeFrom}
 use Rattle.wd_resolve.specs.declared.part.LoweredSelect.{LoweredSelect}
 
 -- tables joined to one another: their columns, and the plan that gives them
-pub record Part : Type 0 where
+pub record JoinedTables : Type 0 where
   pub scope : ScopeRule
   pub plan : PlanTree
 
@@ -30,8 +30,8 @@ pub record Part : Type 0 where
 abbrev pub lowered_of : LoweredSelect → Lowered
 lowered_of l = record { plan = plan_of l.plan; columns = l.columns.items }
 
-abbrev pub part_of : CodePart → Part
-part_of part = record { scope = scope_of part.scope; plan = plan_of part.plan }
+abbrev pub joined_of : CodeJoined → JoinedTables
+joined_of part = record { scope = scope_of part.scope; plan = plan_of part.plan }
 
 -- ---- one table
 
@@ -49,14 +49,14 @@ called name None = name.text
 called name (Some alias) = alias.name.text
 
 -- a table of the schema is a Scan; it has at most 1,024 columns (own)
-abbrev pub scan : List ℕ → ℕ → Option TableRule → Meant Part
+abbrev pub scan : List ℕ → ℕ → Option TableRule → Meant JoinedTables
 scan name number None = Err UnknownTable
 scan name number (Some table) =
     if nat_lt 1024 (length table.columns) then Err TooMany
     else Ok (record { scope = record { tables = name ∷ []; columns = map (table_column name) table.columns }; plan = Scan number (length table.columns) })
 
 -- the table of that number; no plan names one past the 65,536th
-abbrev pub scan_at : List TableRule → List ℕ → Option ℕ → Meant Part
+abbrev pub scan_at : List TableRule → List ℕ → Option ℕ → Meant JoinedTables
 scan_at tables name None = Err UnknownTable
 scan_at tables name (Some number) = if nat_lt number (2 ^ 16) then scan name number (slice_get tables number) else Err UnknownTable
 
@@ -74,29 +74,29 @@ abbrev pub table_number : List TableRule → List ℕ → Option ℕ
 table_number tables name = number_named 0 name tables
 
 -- the schema's table of a name, called by another name in FROM
-abbrev pub named_table : List TableRule → List ℕ → List ℕ → Meant Part
+abbrev pub named_table : List TableRule → List ℕ → List ℕ → Meant JoinedTables
 named_table tables table name = scan_at tables name (table_number tables table)
 
 -- a derived table is its own plan
-abbrev pub derived_table : List ℕ → Lowered → Part
+abbrev pub derived_table : List ℕ → Lowered → JoinedTables
 derived_table name lowered = record { scope = record { tables = name ∷ []; columns = map (derived_column name) lowered.columns }; plan = lowered.plan }
 
 -- ---- the tables of FROM, from left to right
 
--- the tables before the last comma, and those that are joined behind it
+-- the tables before the last comma, and those that are joined after it
 pub record FromSoFar : Type 0 where
-  pub before : Option Part
-  pub current : Part
+  pub before : Option JoinedTables
+  pub current : JoinedTables
 
 abbrev pub from_of : CodeFrom → FromSoFar
-from_of from = record { before = option_map part_of from.before; current = part_of from.current }
+from_of from = record { before = option_map joined_of from.before; current = joined_of from.current }
 
 -- two parts, one beside the other, with the condition that joins them
-abbrev pub joined : Option Expression → Part → Part → Part
+abbrev pub joined : Option Expression → JoinedTables → JoinedTables → JoinedTables
 joined condition left right = record { scope = beside left.scope right.scope; plan = Join condition left.plan right.plan }
 
 -- what the commas part is joined to the left without condition
-abbrev pub together : Option Part → Part → Part
+abbrev pub together : Option JoinedTables → JoinedTables → JoinedTables
 together None current = current
 together (Some before) current = joined None before current
 
@@ -112,13 +112,13 @@ abbrev pub is_too_large : ScopeRule → Bool
 is_too_large scope = are_too_many (length scope.tables) (length scope.columns)
 
 -- a further table, of a name that no other of this FROM has
-abbrev pub admitted : ScopeRule → Part → Meant Part
+abbrev pub admitted : ScopeRule → JoinedTables → Meant JoinedTables
 admitted scope part = if list_any (has_table scope) part.scope.tables then Err Ambiguous else (if is_too_large (beside scope part.scope) then Err TooMany else Ok part)
 
 -- the first table
-abbrev pub first_admitted : Part → Meant FromSoFar
+abbrev pub first_admitted : JoinedTables → Meant FromSoFar
 first_admitted part = admitted (record { tables = []; columns = [] }) part >>= λ p. Ok (record { before = None; current = p })
 
 -- a further table beside all that stand before it
-abbrev pub next_admitted : FromSoFar → Part → Meant Part
+abbrev pub next_admitted : FromSoFar → JoinedTables → Meant JoinedTables
 next_admitted from part = admitted (scope_so_far from) part

@@ -17,16 +17,16 @@ pub struct LoweredSelect {
 
 /// Tables joined to one another: their columns, and the plan that gives them.
 #[derive(Drop)]
-pub struct Part {
+pub struct JoinedTables {
     pub scope: Scope,
     pub plan: Plan,
 }
 
-/// The tables of FROM so far, at most 8 with at most 1,024 columns: those before the last comma, and those that are joined behind it.
+/// The tables of FROM so far, at most 8 with at most 1,024 columns: those before the last comma, and those that are joined after it.
 #[derive(Drop)]
 pub struct FromSoFar {
-    pub before: Option<Part>,
-    pub current: Part,
+    pub before: Option<JoinedTables>,
+    pub current: JoinedTables,
     pub ghost few: { tables_before before + vec_len current.scope.tables ≤ 8 },
     pub ghost narrow: { columns_before before + vec_len current.scope.columns ≤ 1024 },
 }

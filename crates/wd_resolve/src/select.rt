@@ -15,14 +15,14 @@ ghost use Rattle.wd_select.specs.Cuts.{cut_of};
 ghost use Rattle.wd_resolve.specs.Listings.{listing_of};
 ghost use Rattle.wd_select.specs.Outputs.{output_of, is_wide, expressions_of};
 ghost use Rattle.wd_select.specs.Outputs as outputs_spec;
-ghost use Rattle.wd_resolve.specs.Selected.{part_of, from_of, lowered_of};
+ghost use Rattle.wd_resolve.specs.Selected.{joined_of, from_of, lowered_of};
 ghost use Rattle.wd_resolve.specs.Selected as parts_spec;
 ghost use Rattle.wd_select.specs.Sorting.{sorted_of};
 ghost use Rattle.wd_select.specs.Steps as steps_spec;
 ghost use Rattle.wd_resolve.specs.Lowering as spec;
 
 use crate::listed::Listed;
-use crate::part::{FromSoFar, LoweredSelect, Part};
+use crate::part::{FromSoFar, JoinedTables, LoweredSelect};
 use crate::tables::{
     behind_comma, crossed, derived_table, first_admitted, joined_on, named_table, together,
 };
@@ -54,7 +54,7 @@ pub fn lowered(
     behind_from(alloc, part, select)
 }
 
-/// The tables of FROM behind the first, from left to right.
+/// The tables of FROM after the first, from left to right.
 #[cycle(select)]
 fn joins_meant(
     alloc: Global,
@@ -73,8 +73,8 @@ fn joins_meant(
 
 /// A table of FROM: a Scan, or its own plan.
 #[cycle(select)]
-fn table_meant(alloc: Global, schema: &Schema, table: &Table) -> Result<Part, ResolveError>
-    ensures { Gives part_of result (spec.table_meant (schema_of schema.now) (view_table table.now)) }
+fn table_meant(alloc: Global, schema: &Schema, table: &Table) -> Result<JoinedTables, ResolveError>
+    ensures { Gives joined_of result (spec.table_meant (schema_of schema.now) (view_table table.now)) }
 {
     match table {
         Table::Named(name, alias) => named_table(alloc, schema, &name.text, called(name, alias)),
@@ -120,17 +120,21 @@ fn join_meant(
     }
 }
 
-/// A select behind its FROM: WHERE, WINDOW, the select list, ORDER BY and the limits.
-fn behind_from(alloc: Global, from: Part, select: &Select) -> Result<LoweredSelect, ResolveError>
-    ensures { Gives lowered_of result (spec.behind_from (part_of from) select.now.quantifier (map view_item select.now.items.items) (view_option select.now.filter) (map view_named_window select.now.windows.items) (keys_of (map view_key select.now.order.items)) select.now.limits) }
+/// A select after its FROM: WHERE, WINDOW, the select list, ORDER BY and the limits.
+fn behind_from(
+    alloc: Global,
+    from: JoinedTables,
+    select: &Select,
+) -> Result<LoweredSelect, ResolveError>
+    ensures { Gives lowered_of result (spec.behind_from (joined_of from) select.now.quantifier (map view_item select.now.items.items) (view_option select.now.filter) (map view_named_window select.now.windows.items) (keys_of (map view_key select.now.order.items)) select.now.limits) }
 {
-    let Part { scope, plan } = from;
+    let JoinedTables { scope, plan } = from;
     let plan = filtered(alloc, &scope, &select.filter, plan)?;
     let windows = all_defined(alloc, &scope, &select.windows)?;
     selected(alloc, &scope, plan, &windows, select)
 }
 
-/// What is left of a select behind its FROM, its WHERE and its WINDOW.
+/// What is left of a select after its FROM, its WHERE and its WINDOW.
 fn selected(
     alloc: Global,
     scope: &Scope,

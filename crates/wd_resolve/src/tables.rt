@@ -8,13 +8,13 @@ ghost use Rattle.std.specs.List.{list_any};
 ghost use Rattle.wd_operand.specs.Causes.{Gives};
 ghost use Rattle.wd_scope.specs.Scopes.{scope_of};
 ghost use Rattle.wd_scope.specs.Scopes as scopes;
-ghost use Rattle.wd_resolve.specs.Selected.{part_of, from_of, lowered_of};
+ghost use Rattle.wd_resolve.specs.Selected.{joined_of, from_of, lowered_of};
 ghost use Rattle.wd_resolve.specs.Selected as spec;
 ghost use Rattle.wd_resolve.specs.Lowering as lowering;
 ghost use Rattle.wd_resolve.specs.Widths.{tables_before, columns_before};
 ghost use Rattle.wd_syntax.specs.View.{view};
 
-use crate::part::{FromSoFar, LoweredSelect, Part};
+use crate::part::{FromSoFar, JoinedTables, LoweredSelect};
 use std::alloc::Global;
 use wd_operand::{Cause, ResolveError};
 use wd_plan::{Expr, Plan, kind_of_type};
@@ -65,8 +65,8 @@ fn scope_columns(alloc: Global, table: &Table, name: &Text) -> Result<Vec<ScopeC
 }
 
 /// A table of the schema, which is called by a name in FROM, as a Scan: 415 past 1,024 columns.
-fn scan(alloc: Global, number: u16, table: &Table, name: Text) -> Result<Part, ResolveError>
-    ensures { Gives part_of result (spec.scan name number (Some (table_of table.now))) }
+fn scan(alloc: Global, number: u16, table: &Table, name: Text) -> Result<JoinedTables, ResolveError>
+    ensures { Gives joined_of result (spec.scan name number (Some (table_of table.now))) }
 {
     if table.columns.len() > MOST_COLUMNS {
         return Err(ResolveError::Refused(Cause::TooMany));
@@ -74,7 +74,7 @@ fn scan(alloc: Global, number: u16, table: &Table, name: Text) -> Result<Part, R
     let columns = scope_columns(alloc, table, &name)?;
     let mut tables = Vec::new(alloc);
     tables.push(name)?;
-    Ok(Part {
+    Ok(JoinedTables {
         plan: Plan::Scan {
             table: number,
             columns: columns.len() as u16,
@@ -89,8 +89,8 @@ pub fn named_table(
     schema: &Schema,
     table: &Text,
     name: &Text,
-) -> Result<Part, ResolveError>
-    ensures { Gives part_of result (spec.named_table (schema_of schema.now) table.now name.now) }
+) -> Result<JoinedTables, ResolveError>
+    ensures { Gives joined_of result (spec.named_table (schema_of schema.now) table.now name.now) }
 {
     let Some(number) = table_number(schema, table) else {
         return Err(ResolveError::Refused(Cause::UnknownTable));
@@ -129,14 +129,14 @@ pub fn derived_table(
     alloc: Global,
     name: &Text,
     lowered: LoweredSelect,
-) -> Result<Part, OutOfMemory>
-    ensures { IfOk result (λ p. part_of p ≡ spec.derived_table name.now (lowered_of lowered)) }
+) -> Result<JoinedTables, OutOfMemory>
+    ensures { IfOk result (λ p. joined_of p ≡ spec.derived_table name.now (lowered_of lowered)) }
 {
     let LoweredSelect { plan, columns } = lowered;
     let columns = derived_columns(alloc, name, columns)?;
     let mut tables = Vec::new(alloc);
     tables.push(name.copy(alloc)?)?;
-    Ok(Part {
+    Ok(JoinedTables {
         scope: Scope { tables, columns },
         plan,
     })
@@ -163,16 +163,16 @@ fn beside(left: Scope, right: Scope) -> Result<Scope, OutOfMemory>
 fn joined(
     alloc: Global,
     condition: Option<Expr>,
-    left: Part,
-    right: Part,
-) -> Result<Part, OutOfMemory>
+    left: JoinedTables,
+    right: JoinedTables,
+) -> Result<JoinedTables, OutOfMemory>
     requires { vec_len left.scope.columns + vec_len right.scope.columns ≤ 1024 }
-    ensures joined { IfOk result (λ p. part_of p ≡ spec.joined (option_map expression_of condition) (part_of left) (part_of right)) }
+    ensures joined { IfOk result (λ p. joined_of p ≡ spec.joined (option_map expression_of condition) (joined_of left) (joined_of right)) }
     ensures tables { IfOk result (λ p. vec_len p.scope.tables ≡ vec_len left.scope.tables + vec_len right.scope.tables) }
     ensures columns { IfOk result (λ p. vec_len p.scope.columns ≡ vec_len left.scope.columns + vec_len right.scope.columns) }
 {
     let scope = beside(left.scope, right.scope)?;
-    Ok(Part {
+    Ok(JoinedTables {
         scope,
         plan: Plan::Join {
             left: Box::new(alloc, left.plan)?,
@@ -183,9 +183,13 @@ fn joined(
 }
 
 /// What commas part, joined to the left without condition.
-fn together_of(alloc: Global, before: Option<Part>, current: Part) -> Result<Part, OutOfMemory>
+fn together_of(
+    alloc: Global,
+    before: Option<JoinedTables>,
+    current: JoinedTables,
+) -> Result<JoinedTables, OutOfMemory>
     requires { columns_before before + vec_len current.scope.columns ≤ 1024 }
-    ensures together { IfOk result (λ p. part_of p ≡ spec.together (option_map part_of before) (part_of current)) }
+    ensures together { IfOk result (λ p. joined_of p ≡ spec.together (option_map joined_of before) (joined_of current)) }
     ensures tables { IfOk result (λ p. vec_len p.scope.tables ≡ tables_before before + vec_len current.scope.tables) }
     ensures columns { IfOk result (λ p. vec_len p.scope.columns ≡ columns_before before + vec_len current.scope.columns) }
 {
@@ -196,8 +200,8 @@ fn together_of(alloc: Global, before: Option<Part>, current: Part) -> Result<Par
 }
 
 /// All tables of FROM, joined.
-pub fn together(alloc: Global, from: FromSoFar) -> Result<Part, OutOfMemory>
-    ensures { IfOk result (λ p. part_of p ≡ spec.together (from_of from).before (from_of from).current) }
+pub fn together(alloc: Global, from: FromSoFar) -> Result<JoinedTables, OutOfMemory>
+    ensures { IfOk result (λ p. joined_of p ≡ spec.together (from_of from).before (from_of from).current) }
 {
     together_of(alloc, from.before, from.current)
 }
@@ -258,8 +262,8 @@ fn is_too_large(tables: usize, columns: usize) -> bool
 
 /// The first table: 415 past 8 tables or 1,024 columns.
 #[tactic(auto, using(crate::proofs::Beside::none_shared))]
-pub fn first_admitted(part: Part) -> Result<FromSoFar, ResolveError>
-    ensures { Gives from_of result (spec.first_admitted (part_of part)) }
+pub fn first_admitted(part: JoinedTables) -> Result<FromSoFar, ResolveError>
+    ensures { Gives from_of result (spec.first_admitted (joined_of part)) }
 {
     if is_too_large(part.scope.tables.len(), part.scope.columns.len()) {
         return Err(ResolveError::Refused(Cause::TooMany));
@@ -271,8 +275,8 @@ pub fn first_admitted(part: Part) -> Result<FromSoFar, ResolveError>
 }
 
 /// Whether a further part may stand in FROM: 403 where a name stands there, 415 past 8 tables or 1,024 columns.
-fn admit(from: &FromSoFar, part: &Part) -> Result<(), ResolveError>
-    ensures meant { Gives (λ u. part_of part.now) result (spec.next_admitted (from_of from.now) (part_of part.now)) }
+fn admit(from: &FromSoFar, part: &JoinedTables) -> Result<(), ResolveError>
+    ensures meant { Gives (λ u. joined_of part.now) result (spec.next_admitted (from_of from.now) (joined_of part.now)) }
     ensures few { IfOk result (λ u. tables_before from.now.before + vec_len from.now.current.scope.tables + vec_len part.now.scope.tables ≤ 8) }
     ensures narrow { IfOk result (λ u. columns_before from.now.before + vec_len from.now.current.scope.columns + vec_len part.now.scope.columns ≤ 1024) }
 {
@@ -287,9 +291,13 @@ fn admit(from: &FromSoFar, part: &Part) -> Result<(), ResolveError>
     Ok(())
 }
 
-/// A table behind a comma begins a new row of joins.
-pub fn behind_comma(alloc: Global, from: FromSoFar, part: Part) -> Result<FromSoFar, ResolveError>
-    ensures { Gives from_of result (lowering.behind_comma (from_of from) (part_of part)) }
+/// A table after a comma begins a new row of joins.
+pub fn behind_comma(
+    alloc: Global,
+    from: FromSoFar,
+    part: JoinedTables,
+) -> Result<FromSoFar, ResolveError>
+    ensures { Gives from_of result (lowering.behind_comma (from_of from) (joined_of part)) }
 {
     admit(&from, &part)?;
     let before = together_of(alloc, from.before, from.current)?;
@@ -300,8 +308,12 @@ pub fn behind_comma(alloc: Global, from: FromSoFar, part: Part) -> Result<FromSo
 }
 
 /// A table joined to those before it, back to the last comma, on all pairs.
-pub fn crossed(alloc: Global, from: FromSoFar, part: Part) -> Result<FromSoFar, ResolveError>
-    ensures { Gives from_of result (lowering.crossed (from_of from) (part_of part)) }
+pub fn crossed(
+    alloc: Global,
+    from: FromSoFar,
+    part: JoinedTables,
+) -> Result<FromSoFar, ResolveError>
+    ensures { Gives from_of result (lowering.crossed (from_of from) (joined_of part)) }
 {
     admit(&from, &part)?;
     let FromSoFar { before, current } = from;
@@ -313,10 +325,10 @@ pub fn crossed(alloc: Global, from: FromSoFar, part: Part) -> Result<FromSoFar, 
 pub fn joined_on(
     alloc: Global,
     from: FromSoFar,
-    part: Part,
+    part: JoinedTables,
     on: &wd_syntax::Expr,
 ) -> Result<FromSoFar, ResolveError>
-    ensures { Gives from_of result (lowering.joined_on (from_of from) (view on.now) (part_of part)) }
+    ensures { Gives from_of result (lowering.joined_on (from_of from) (view on.now) (joined_of part)) }
 {
     admit(&from, &part)?;
     let FromSoFar { before, current } = from;
@@ -329,6 +341,6 @@ pub fn joined_on(
     };
     Ok(FromSoFar {
         before,
-        current: Part { scope, plan },
+        current: JoinedTables { scope, plan },
     })
 }

@@ -140,7 +140,7 @@ any_more P xs ys (k, x, within, is, p) = (k, x, omega (arith, length-append xs y
 any_here : {X : Type 0} (P : X → Type 0) (xs : List X) (y : X) (ys : List X) → P y → Any P (xs ++ y ∷ ys)
 any_here P xs y ys p = (length xs, y, omega (arith, length-append xs (y ∷ ys)), get_or_at xs y ys y (length xs) refl, p)
 
--- the texts that are given before one, that one, and those behind it
+-- the texts that are given before one, that one, and those after it
 pub data_parts : (given : List (Bor (List ℕ) × Bor (List ℕ))) (i : ℕ) (g : Bor (List ℕ) × Bor (List ℕ)) → i < length given → g ≡ get_or given i g
     → data_of given ≡ data_of (take i given) ++ (g.0.now, g.1.now) ∷ data_of (drop (i + 1) given)
 data_parts given i g within is =

@@ -98,7 +98,7 @@ pub record IsNoTable (tables : List TableRule) (given : List (List ℕ × List �
   pub there : IsGiven given name
   pub unnamed : (n : ℕ) → IsNamed tables name n → ⊥
 
--- data is given under the name, and given again behind it
+-- data is given under the name, and given again after it
 pub record IsGivenTwice (given : List (List ℕ × List ℕ)) (name : List ℕ) : Type 0 where
   pub before : List (List ℕ × List ℕ)
   pub again : List ℕ
@@ -135,7 +135,7 @@ pub record HasStepCause (tables : List TableRule) (given : List (List ℕ × Lis
 abbrev pub ForReading : List ℕ → List ℕ → (List TableRule → PlanTree → Type 0) → Type 0
 ForReading schema query P = (read : Answer) × (reads : Reads schema query read) × P reads.tables read.plan
 
--- a refusal's cause stands in the inputs; for want of memory none need
+-- a refusal's cause stands in the inputs; where memory runs out none need
 abbrev pub HasCause : List ℕ → List ℕ → List (List ℕ × List ℕ) → RunError → Type 0
 HasCause schema query given (run.Schema error) = error ≢ schema_error.OutOfMemory → schemas.HasCause schema error
 HasCause schema query given (run.Query error) = (tables : List TableRule) × Declares schema tables × HasQueryCause tables query error

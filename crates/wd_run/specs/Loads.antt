@@ -25,7 +25,7 @@ pub record IsPlanned (tables : List TableRule) (query : List ℕ) (a : Answer) :
   pub spelled : IsTreeOf (kinds_of tokens) tree
   pub means : answer tables tree ≡ Ok a
 
--- 707 for the name, where this holds; or want of memory
+-- 707 for the name, where this holds; or out of memory
 abbrev pub RefusesName : List ℕ → Type 0 → RunError → Type 0
 RefusesName name P (run.Given refused) = (refused ≡ name) × P
 RefusesName name P run.OutOfMemory = ⊤
@@ -34,7 +34,7 @@ RefusesName name P (run.Query error) = ⊥
 RefusesName name P (run.Data refused error) = ⊥
 RefusesName name P (run.Evaluation error) = ⊥
 
--- a text is refused under its name, behind those that were given earlier
+-- a text is refused under its name, after those that were given earlier
 abbrev pub RefusesText : List TableRule → List (List ℕ × List ℕ) → List ℕ → List ℕ → RunError → Type 0
 RefusesText tables earlier name text (run.Given refused) = (refused ≡ name) × (((n : ℕ) → IsNamed tables name n → ⊥) ⊎ IsGiven earlier name)
 RefusesText tables earlier name text (run.Data refused error) = (refused ≡ name) × ((n : ℕ) × (named : IsNamed tables name n) × records.HasCause named.table text error)

@@ -116,7 +116,7 @@ fn load_table(alloc: Global, table: &Table, text: &[u8]) -> Result<Vec<Row>, Run
     }
 }
 
-/// 707, or want of memory where the name can't be kept.
+/// 707, or out of memory where the name can't be kept.
 fn unexpected_data(alloc: Global, name: &str) -> RunError
     ensures { RefusesName name.now (Unit {0}) result }
 {

@@ -45,7 +45,7 @@ pub enum Origin<'a> {
 }
 
 impl RunError {
-    /// The refusal's number, and None for want of memory.
+    /// The refusal's number, and None where memory runs out.
     pub fn number(&self) -> Option<u32>
         ensures { result ≡ run_number self.now }
     {

@@ -30,7 +30,7 @@ pub enum QueryError {
 }
 
 impl QueryError {
-    /// The refusal's number, and None for want of memory.
+    /// The refusal's number, and None where memory runs out.
     pub fn number(&self) -> Option<u32>
         ensures { result ≡ query_number self.now }
     {

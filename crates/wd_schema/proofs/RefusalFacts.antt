@@ -7,8 +7,8 @@ use Rattle.std.proofs.lemmas.Slice.Eq.{bytes_eq-Decides}
 use Rattle.std.specs.List.{list_any, list_all, All, Contains}
 use Rattle.std.specs.Option.{IfNone, IfSome, MatchOption, is_none}
 use Rattle.std.specs.Str.{bytes_eq}
-use Rattle.wd_schema.specs.declared.declare.Place.{Place}
-use Rattle.wd_schema.specs.declared.declare.Refusal.{Refusal}
+use Rattle.wd_schema.specs.declared.declare.ElementPlace.{ElementPlace}
+use Rattle.wd_schema.specs.declared.declare.PlacedError.{PlacedError}
 use Rattle.wd_schema.specs.declared.error.SchemaError.{SchemaError}
 use Rattle.wd_schema.specs.declared.error.SchemaError.TheVariants.{Tokens, TableTwice, ColumnTwice, UnknownColumn, SecondPrimaryKey, KeyColumnTwice, TooMany, UnknownType, NullForbidden, Unexpected, OutOfMemory}
 use Rattle.wd_schema.specs.Declares.{ColumnsDiffer, HasOnePrimary, IsAllowed, IsSmall, Keeps, KeyColumnsDiffer, KeysNameColumns, NullsAreAllowed, SaidKey, TypesAreKnown}
@@ -16,20 +16,20 @@ use Rattle.wd_statements.specs.Written.{TableTree}
 use Rattle.wd_schema.proofs.MeetsFacts.{all_from_test, test_from_all}
 
 -- without a refusal a fact holds, and with one what it is about is not kept
-abbrev pub Judges : TableTree → Type 0 → Option Refusal → Type 0
+abbrev pub Judges : TableTree → Type 0 → Option PlacedError → Type 0
 Judges table F found = MatchOption found F (λ r. Keeps r.error table → ⊥)
 
-pub judge_at : (table : TableTree) (F : Type 0) (error : SchemaError) (place : Option Place) (found : Option Refusal) → (found ≡ None → place ≡ None) → IfSome found (λ r. (place ≢ None) × (r.error ≡ error)) → IfNone place F → IfSome place (λ _. Keeps error table → ⊥) → Judges table F found
+pub judge_at : (table : TableTree) (F : Type 0) (error : SchemaError) (place : Option ElementPlace) (found : Option PlacedError) → (found ≡ None → place ≡ None) → IfSome found (λ r. (place ≢ None) × (r.error ≡ error)) → IfNone place F → IfSome place (λ _. Keeps error table → ⊥) → Judges table F found
 judge_at table F error place None none some is isnt = subst (λ p. IfNone p F) (none refl) is
 judge_at table F error None (Some r) none some is isnt = absurd (some.0 refl)
 judge_at table F error (Some p) (Some r) none some is isnt = λ keeps. isnt (subst (λ e. Keeps e table) some.1 keeps)
 
-pub judge_both : (table : TableTree) (F G : Type 0) (one other found : Option Refusal) → Judges table F one → Judges table G other → MatchOption found ((one ≡ None) × (other ≡ None)) (λ r. (one ≡ Some r) ⊎ (other ≡ Some r)) → Judges table (F × G) found
+pub judge_both : (table : TableTree) (F G : Type 0) (one other found : Option PlacedError) → Judges table F one → Judges table G other → MatchOption found ((one ≡ None) × (other ≡ None)) (λ r. (one ≡ Some r) ⊎ (other ≡ Some r)) → Judges table (F × G) found
 judge_both table F G one other None first second is = (subst (Judges table F) is.0 first, subst (Judges table G) is.1 second)
 judge_both table F G one other (Some r) first second (inl e) = subst (Judges table F) e first
 judge_both table F G one other (Some r) first second (inr e) = subst (Judges table G) e second
 
-pub judged : (table : TableTree) (F : Type 0) (found : Option Refusal) → (F → IsAllowed table) → Judges table F found → IfNone found (IsAllowed table) × IfSome found (λ r. Keeps r.error table → ⊥)
+pub judged : (table : TableTree) (F : Type 0) (found : Option PlacedError) → (F → IsAllowed table) → Judges table F found → IfNone found (IsAllowed table) × IfSome found (λ r. Keeps r.error table → ⊥)
 judged table F None all is = (all is, tt)
 judged table F (Some r) all is = (tt, is)
 
@@ -47,7 +47,7 @@ all_kept table a b c d e f g (Unexpected place) = tt
 all_kept table a b c d e f g OutOfMemory = tt
 
 -- a test that decides a fact
-pub by_test : (place : Option Place) (b : Bool) (F : Type 0) → is_none place ≡ b → (b ≡ true → F) → (F → b ≡ true) → IfNone place F × IfSome place (λ _. F → ⊥)
+pub by_test : (place : Option ElementPlace) (b : Bool) (F : Type 0) → is_none place ≡ b → (b ≡ true → F) → (F → b ≡ true) → IfNone place F × IfSome place (λ _. F → ⊥)
 by_test None b F e from to = (from (sym e), tt)
 by_test (Some p) b F e from to = (tt, λ f. true≢false (sym (to f) ∙ sym e))
 

@@ -26,29 +26,29 @@ const MOST_KEYS: usize = 64;
 
 /// Where something stands in a table's declaration: in which of its elements, and at which part of it.
 #[derive(Clone, Copy, PartialEq, Eq)]
-pub struct Place {
+pub struct ElementPlace {
     pub element: usize,
     pub part: usize,
 }
 
-impl Place {
-    /// The words of a column's rule, behind its name and its type.
-    fn of_rule(element: usize, rule: usize) -> Place {
-        Place {
+impl ElementPlace {
+    /// The words of a column's rule, after its name and its type.
+    fn of_rule(element: usize, rule: usize) -> ElementPlace {
+        ElementPlace {
             element,
             part: rule.saturating_add(2),
         }
     }
 
-    /// One of the names behind the words of a key.
-    fn of_name(self, name: usize) -> Place {
-        Place {
+    /// One of the names after the words of a key.
+    fn of_name(self, name: usize) -> ElementPlace {
+        ElementPlace {
             element: self.element,
             part: name.saturating_add(1),
         }
     }
 
-    fn is_before(self, other: Place) -> bool {
+    fn is_before(self, other: ElementPlace) -> bool {
         self.element < other.element || self.element == other.element && self.part < other.part
     }
 }
@@ -58,7 +58,7 @@ impl Place {
 pub struct KeyAt {
     pub words: KeyWords,
     pub columns: Vec<Text>,
-    pub place: Place,
+    pub place: ElementPlace,
 }
 
 /// The type of a name in lower case.
@@ -113,7 +113,7 @@ fn first_unknown(columns: &[Text], names: &[Text]) -> Option<usize>
 }
 
 /// The number of the column of that name, and their number where none has it.
-fn number_of(columns: &[Text], name: &Text) -> usize
+fn column_number(columns: &[Text], name: &Text) -> usize
     ensures number { result ≡ spec.column_number columns.now name.now }
     ensures within { result ≤ length columns.now }
 {
@@ -163,7 +163,7 @@ fn add_column_keys(
 {
     for (r, rule) in column.rules.iter().enumerate() {
         if let Rule::Key(words) = rule.rule {
-            let place = Place::of_rule(element, r);
+            let place = ElementPlace::of_rule(element, r);
             keys.push(column_key(alloc, words, &column.name, place)?)?;
         }
     }
@@ -174,7 +174,7 @@ fn column_key(
     alloc: Global,
     words: KeyWords,
     name: &Name,
-    place: Place,
+    place: ElementPlace,
 ) -> Result<KeyAt, AllocError>
     ensures { IfOk result (λ key. said key ≡ record { words = words; columns = name_text name.now ∷ [] }) }
 {
@@ -191,7 +191,7 @@ fn table_key(alloc: Global, element: usize, key: &WrittenKey) -> Result<KeyAt, A
     ensures { IfOk result (λ found. said found ≡ record { words = key.now.words; columns = map name_text key.now.columns.items }) }
 {
     let columns = texts_of(alloc, &key.columns)?;
-    let place = Place { element, part: 0 };
+    let place = ElementPlace { element, part: 0 };
     Ok(KeyAt {
         words: key.words,
         columns,
@@ -210,7 +210,7 @@ fn texts_of(alloc: Global, names: &[Name]) -> Result<Vec<Text>, AllocError>
 }
 
 /// 305: the first name that stands twice in a key.
-fn key_column_twice(keys: &[KeyAt]) -> Option<Place>
+fn key_column_twice(keys: &[KeyAt]) -> Option<ElementPlace>
     ensures differ { IfNone result (All (λ key. AllPairs (λ a b. a ≢ b) key.columns) (map said keys.now)) }
     ensures twice { IfSome result (λ _. All (λ key. AllPairs (λ a b. a ≢ b) key.columns) (map said keys.now) → ⊥) }
 {
@@ -223,7 +223,7 @@ fn key_column_twice(keys: &[KeyAt]) -> Option<Place>
 }
 
 /// 303: the first name in a key that is no column's.
-fn unknown_column(columns: &[Text], keys: &[KeyAt]) -> Option<Place>
+fn unknown_column(columns: &[Text], keys: &[KeyAt]) -> Option<ElementPlace>
     ensures { is_none result ≡ list_all (λ key. list_all (λ name. list_any (bytes_eq name) columns.now) key.columns) (map said keys.now) }
 {
     for key in keys {
@@ -244,7 +244,7 @@ fn is_primary(words: KeyWords) -> bool
 }
 
 /// 304: the second primary key.
-fn second_primary(keys: &[KeyAt]) -> Option<Place>
+fn second_primary(keys: &[KeyAt]) -> Option<ElementPlace>
     ensures one { IfNone result (count_by (λ key. spec.is_primary key.words) (map said keys.now) ≤ 1) }
     ensures two { IfSome result (λ _. count_by (λ key. spec.is_primary key.words) (map said keys.now) ≤ 1 → ⊥) }
 {
@@ -261,13 +261,13 @@ fn second_primary(keys: &[KeyAt]) -> Option<Place>
 }
 
 /// 307: the first type that is unknown.
-fn unknown_type(elements: &[Element]) -> Option<Place>
+fn unknown_type(elements: &[Element]) -> Option<ElementPlace>
     ensures { is_none result ≡ list_all (λ column. is_some (spec.type_named (name_text column.kind))) (columns_of (map element_tree elements.now)) }
 {
     for (e, element) in elements.iter().enumerate() {
         if let Element::Column(column) = element {
             if type_named(column.kind.text().as_str()).is_none() {
-                return Some(Place {
+                return Some(ElementPlace {
                     element: e,
                     part: 1,
                 });
@@ -320,7 +320,7 @@ fn is_not_null(keys: &[KeyAt], column: &WrittenColumn) -> bool
 }
 
 /// 308: the first word NULL on a column that is NOT NULL.
-fn forbidden_null(keys: &[KeyAt], elements: &[Element]) -> Option<Place>
+fn forbidden_null(keys: &[KeyAt], elements: &[Element]) -> Option<ElementPlace>
     ensures { is_some result ≡ list_any (spec.is_forbidden (map said keys.now)) (columns_of (map element_tree elements.now)) }
 {
     for (e, element) in elements.iter().enumerate() {
@@ -333,19 +333,19 @@ fn forbidden_null(keys: &[KeyAt], elements: &[Element]) -> Option<Place>
     None
 }
 
-fn null_in(keys: &[KeyAt], element: usize, column: &WrittenColumn) -> Option<Place>
+fn null_in(keys: &[KeyAt], element: usize, column: &WrittenColumn) -> Option<ElementPlace>
     ensures { is_some result ≡ spec.is_forbidden (map said keys.now) (column_tree column.now) }
 {
     let rule = first_null(&column.rules)?;
     if is_not_null(keys, column) {
-        Some(Place::of_rule(element, rule))
+        Some(ElementPlace::of_rule(element, rule))
     } else {
         None
     }
 }
 
 /// 306: the 257th column or the 65th key, whichever stands first.
-fn too_many(columns: &[Text], keys: &[KeyAt], elements: &[Element]) -> Option<Place>
+fn too_many(columns: &[Text], keys: &[KeyAt], elements: &[Element]) -> Option<ElementPlace>
     ensures few { IfNone result ((length columns.now ≤ 256) × (length keys.now ≤ 64)) }
     ensures many { IfSome result (λ _. (length columns.now ≤ 256) × (length keys.now ≤ 64) → ⊥) }
 {
@@ -361,12 +361,12 @@ fn too_many(columns: &[Text], keys: &[KeyAt], elements: &[Element]) -> Option<Pl
 }
 
 /// Where the column of that number stands.
-fn place_of_column(elements: &[Element], number: usize) -> Place {
+fn place_of_column(elements: &[Element], number: usize) -> ElementPlace {
     let mut left = number;
     for (e, element) in elements.iter().enumerate() {
         if let Element::Column(_) = element {
             if left == 0 {
-                return Place {
+                return ElementPlace {
                     element: e,
                     part: 0,
                 };
@@ -374,14 +374,14 @@ fn place_of_column(elements: &[Element], number: usize) -> Place {
             left -= 1;
         }
     }
-    Place {
+    ElementPlace {
         element: elements.len(),
         part: 0,
     }
 }
 
 /// 302: the first column with the name of an earlier one, up to the one that is too many.
-fn column_twice(columns: &[Text], elements: &[Element]) -> Option<Place>
+fn column_twice(columns: &[Text], elements: &[Element]) -> Option<ElementPlace>
     ensures differ { IfNone result (length columns.now ≤ 256 → AllPairs (λ a b. a ≢ b) columns.now) }
     ensures twice { IfSome result (λ _. AllPairs (λ a b. a ≢ b) columns.now → ⊥) }
 {
@@ -394,13 +394,13 @@ fn column_twice(columns: &[Text], elements: &[Element]) -> Option<Place>
 
 /// A refusal, and where its cause stands.
 #[derive(Clone, Copy, PartialEq, Eq)]
-struct Refusal {
-    place: Place,
+struct PlacedError {
+    place: ElementPlace,
     error: SchemaError,
 }
 
 /// The one that stands first; the first of two at one place.
-fn earlier(one: Option<Refusal>, other: Option<Refusal>) -> Option<Refusal>
+fn earlier(one: Option<PlacedError>, other: Option<PlacedError>) -> Option<PlacedError>
     ensures { MatchOption result ((one ≡ None) × (other ≡ None)) (λ r. (one ≡ Some r) ⊎ (other ≡ Some r)) }
 {
     match (one, other) {
@@ -416,16 +416,16 @@ fn earlier(one: Option<Refusal>, other: Option<Refusal>) -> Option<Refusal>
     }
 }
 
-fn refused_at(place: Option<Place>, error: SchemaError) -> Option<Refusal>
+fn refused_at(place: Option<ElementPlace>, error: SchemaError) -> Option<PlacedError>
     ensures none { result ≡ None → place ≡ None }
     ensures some { IfSome result (λ r. (place ≢ None) × (r.error ≡ error)) }
 {
     let place = place?;
-    Some(Refusal { place, error })
+    Some(PlacedError { place, error })
 }
 
 /// The refusal whose cause stands first in a table's declaration. At one token it is the one of the lower number.
-fn first_refusal(table: &WrittenTable, columns: &[Text], keys: &[KeyAt]) -> Option<Refusal>
+fn first_refusal(table: &WrittenTable, columns: &[Text], keys: &[KeyAt]) -> Option<PlacedError>
     requires columns { columns.now ≡ spec.names_of (map element_tree table.now.elements.items) }
     requires keys { map said keys.now ≡ keys_of (map element_tree table.now.elements.items) }
     ensures allowed { IfNone result (IsAllowed (table_tree table.now)) }
@@ -514,7 +514,7 @@ fn numbers_of(alloc: Global, columns: &[Text], names: &[Text]) -> Result<Vec<u16
 {
     let mut numbers = Vec::with_capacity(alloc, names.len())?;
     for name in names {
-        numbers.push(number_of(columns, name) as u16)?;
+        numbers.push(column_number(columns, name) as u16)?;
     }
     Ok(numbers)
 }

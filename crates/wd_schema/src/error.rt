@@ -46,7 +46,7 @@ pub enum SchemaError {
 }
 
 impl SchemaError {
-    /// The refusal's number, or `None` for want of memory.
+    /// The refusal's number, or `None` where memory runs out.
     pub fn number(&self) -> Option<u32>
         ensures { result ≡ number_of self.now }
     {

@@ -114,7 +114,7 @@ alone_met scope calls m x all f is =
     let a = bound m (λ (y : Operand). Ok (y, calls)) x is in
     subst (IsMet scope calls) (ok_is _ _ a.2) (record { more = []; after = sym (append-nil calls); calls_are = all; operand = f a.0 a.1 })
 
--- one operand behind another
+-- one operand after another
 then_met : (scope : ScopeRule) (calls : List CallMeaning) (x y : Met) → IsMet scope calls x → IsMet scope x.1 y → (more : List CallMeaning) × (y.1 ≡ calls ++ more)
 then_met scope calls x y h g = (h.more ++ g.more, g.after ∙ ap (λ cs. cs ++ g.more) h.after ∙ append_assoc calls h.more g.more)
 
@@ -122,7 +122,7 @@ then_met scope calls x y h g = (h.more ++ g.more, g.after ∙ ap (λ cs. cs ++ g
 later_is : (scope : ScopeRule) (x y : Met) → IsOperand (kinds_met scope x.1) x.0 → IsMet scope x.1 y → IsOperand (kinds_met scope y.1) x.0
 later_is scope x y h g = subst (λ cs. IsOperand (kinds_met scope cs) x.0) (sym g.after) (operand_kept (kinds_met scope x.1) (kinds_met scope (x.1 ++ g.more)) (more_calls scope x.1 g.more) x.0 h)
 
--- a call behind its arguments and its window
+-- a call after its arguments and its window
 called_is : (c : ContextRule) (f : Name) (arguments : Option (List Operand)) (w : WindowMeaning) (calls : List CallMeaning) (x : Met) → AreArguments (kinds_met c.scope []) arguments → IsWindow (kinds_met c.scope []) w → AllByRecursion (IsCall (kinds_met c.scope [])) calls → called c f arguments w calls ≡ Ok x → IsMet c.scope calls x
 called_is c f arguments w calls x xs win all is =
     let g = bound (applied (function_named f.text) arguments) (λ function. met (length c.scope.columns) (record { function = function; window = w }) calls) x is in

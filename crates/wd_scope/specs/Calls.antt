@@ -253,12 +253,12 @@ same_call c d = same_function c.function d.function && same_window c.window d.wi
 
 -- ---- the calls of a select list
 
--- The most calls that have columns behind up to 1,024 columns of FROM: a column's number has 16 bits. No query's text has so many,
+-- The most calls that have columns after up to 1,024 columns of FROM: a column's number has 16 bits. No query's text has so many,
 -- since each takes more than ten of its at most 65,536 bytes.
 abbrev pub most_calls : ℕ
 most_calls = 64512
 
--- a call that is new stands behind those before it
+-- a call that is new stands after those before it
 abbrev pub added : ℕ → CallMeaning → List CallMeaning → Meant (Operand × List CallMeaning)
 added width call calls = if nat_lt (length calls) most_calls then Ok (typed (Column (width + length calls)) call.function.kind, calls ++ call ∷ []) else Err TooMany
 
@@ -271,6 +271,6 @@ abbrev pub number_among : ℕ → CallMeaning → List CallMeaning → Option �
 number_among n call [] = None
 number_among n call (other ∷ calls) = if same_call call other then Some n else number_among (n + 1) call calls
 
--- the column of a call, behind so many columns of FROM: calls are numbered by their first occurrences
+-- the column of a call, after so many columns of FROM: calls are numbered by their first occurrences
 abbrev pub met : ℕ → CallMeaning → List CallMeaning → Meant (Operand × List CallMeaning)
 met width call calls = met_at (number_among 0 call calls) width call calls

@@ -60,7 +60,7 @@ written_number a = None
 abbrev pub called : ContextRule → Name → Option (List Operand) → WindowMeaning → List CallMeaning → Meant Met
 called c f arguments w calls = applied (function_named f.text) arguments >>= λ function. met (length c.scope.columns) (record { function = function; window = w }) calls
 
--- a sign over an operand, or over the number that stands directly behind it
+-- a sign over an operand, or over the number that stands directly after it
 abbrev pub sign_met : Sign → Option ℕ → Meant Met → List CallMeaning → Meant Met
 sign_met sign (Some n) inner calls = without_call (signed_number sign n) calls
 sign_met sign None inner calls = inner >>= λ x. without_call (signed sign x.0) x.1
@@ -88,12 +88,12 @@ abbrev mutual
   resolved c (IsNull a not) calls = resolved c a calls >>= λ x. Ok (tested not x.0, x.1)
   resolved c (Negated a) calls = resolved c a calls >>= λ x. without_call (negated x.0) x.1
 
-  -- the arguments of a call, and the expressions of a partition, behind those before them
+  -- the arguments of a call, and the expressions of a partition, after those before them
   pub all_resolved : ContextRule → Trees → List Operand → Meant (List Operand)
   all_resolved c no_trees xs = Ok xs
   all_resolved c (more_trees a trees) xs = alone (resolved c a []) >>= λ x. all_resolved c trees (xs ++ x ∷ [])
 
-  -- the conditions and results of a CASE, behind those before them
+  -- the conditions and results of a CASE, after those before them
   pub arms_resolved : ContextRule → Arms → List (Operand × Operand) → List CallMeaning → Meant (List (Operand × Operand) × List CallMeaning)
   arms_resolved c no_arms xs calls = Ok (xs, calls)
   arms_resolved c (more_arms when gives arms) xs calls = resolved c when calls >>= λ x. resolved c gives x.1 >>= λ y. arms_resolved c arms (xs ++ (x.0, y.0) ∷ []) y.1
@@ -103,7 +103,7 @@ abbrev mutual
   else_resolved c no_else calls = Ok (bare_null, calls)
   else_resolved c (or_else a) calls = resolved c a calls
 
-  -- the expressions that a window sorts by, behind those before them
+  -- the expressions that a window sorts by, after those before them
   pub keys_resolved : ContextRule → Keys → List KeyMeaning → Meant (List KeyMeaning)
   keys_resolved c no_keys ks = Ok ks
   keys_resolved c (more_keys a direction place keys) ks = alone (resolved (within_call c) a []) >>= λ x. keys_resolved c keys (ks ++ key_meant x direction place ∷ [])
@@ -130,11 +130,11 @@ abbrev pub chain_met : ContextRule → List (Operator × Tree) → Operand → L
 chain_met c [] x calls = Ok (x, calls)
 chain_met c (link ∷ links) x calls = resolved c link.1 calls >>= λ y. without_call (combined link.0 x y.0) y.1 >>= λ z. chain_met c links z.0 z.1
 
--- a call behind its arguments: its window, and then itself
+-- a call after its arguments: its window, and then itself
 abbrev pub call_over : ContextRule → Name → Option (List Operand) → OverTree → List CallMeaning → Meant Met
 call_over c f arguments over calls = over_meant c over >>= λ w. called c f arguments w calls
 
--- a CASE behind its arms: its end, and then itself
+-- a CASE after its arms: its end, and then itself
 abbrev pub case_ended : ContextRule → List (Operand × Operand) → Otherwise → List CallMeaning → Meant Met
 case_ended c arms other calls = else_resolved c other calls >>= λ y. without_call (case_of arms y.0) y.1
 
@@ -170,7 +170,7 @@ is_known windows name = list_any (λ known. bytes_eq known.name name) windows
 abbrev pub defined : ScopeRule → List KnownMeaning → Name → WindowTree → Meant KnownMeaning
 defined scope windows name w = if is_known windows name.text then Err UnknownWindow else window_resolved (record { scope = scope; windows = windows; calls_allowed = false }) w >>= λ meaning. Ok (record { name = name.text; window = meaning })
 
--- the windows of the WINDOW clause, behind those before them: each is checked, also where no call uses it
+-- the windows of the WINDOW clause, after those before them: each is checked, also where no call uses it
 abbrev pub all_defined : ScopeRule → List KnownMeaning → List (Name × WindowTree) → Meant (List KnownMeaning)
 all_defined scope windows [] = Ok windows
 all_defined scope windows (w ∷ others) = defined scope windows w.0 w.1 >>= λ known. all_defined scope (windows ++ known ∷ []) others

@@ -33,7 +33,7 @@ abbrev pub the_one : ℕ → (ScopeColumn → Bool) → List ScopeColumn → Mea
 the_one number test [] = Err UnknownColumn
 the_one number test (column ∷ columns) = if test column then unless_other (list_any test columns) number column.kind else the_one (number + 1) test columns
 
--- a name, behind the name of its table or not, stands for the one column in scope that carries it
+-- a name, after the name of its table or not, stands for the one column in scope that carries it
 abbrev pub column_named : ScopeRule → Option (List ℕ) → List ℕ → Meant Operand
 column_named scope table name = the_one 0 (carries table name) scope.columns
 

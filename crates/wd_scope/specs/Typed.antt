@@ -1,4 +1,4 @@
--- That what is meant is typed: an operand has the kind that it says, over the columns in scope and the calls behind them.
+-- That what is meant is typed: an operand has the kind that it says, over the columns in scope and the calls after them.
 use Rattle.std.specs.Prelude.{◌≡◌, ◌⊎◌, ℕ, ◌+◌, ◌-◌, ◌<◌, ◌≤◌, Bool, true, not, ◌||◌, List, [], ◌++◌, length, nat_lt, nat_le, Option, Some, None, option_map, slice_get, if◌then◌else◌, ⊤}
 use Rattle.std.specs.List.{AllByRecursion}
 use Rattle.wd_value.specs.declared.value.Value.{Value}
@@ -18,7 +18,7 @@ use Rattle.wd_scope.specs.Windows.{KeyMeaning, KnownMeaning, WindowMeaning, is_e
 use Rattle.wd_operand.specs.Operands.{Operand, bare_null, typed, settled}
 use Rattle.wd_scope.specs.Scopes.{ScopeRule}
 
--- the kinds of the columns in scope, and behind them those of the calls met
+-- the kinds of the columns in scope, and after them those of the calls met
 abbrev pub kinds_met : ScopeRule → List CallMeaning → Kinds
 kinds_met scope calls c =
     if nat_lt c (length scope.columns) then option_map (λ (column : ScopeColumn). column.kind) (slice_get scope.columns c)
@@ -90,7 +90,7 @@ AreCalls scope calls = AllByRecursion (IsCall (kinds_met scope [])) calls
 
 -- ---- what is met
 
--- an operand that is typed over the columns in scope and the calls met up to and with it, which stand behind the calls before it
+-- an operand that is typed over the columns in scope and the calls met up to and with it, which stand after the calls before it
 pub record IsMet (scope : ScopeRule) (calls : List CallMeaning) (x : Met) : Type 0 where
   pub more : List CallMeaning
   pub after : x.1 ≡ calls ++ more
@@ -111,6 +111,6 @@ Shows n (IsNull a) = Shows n a
 Shows n (IsNotNull a) = Shows n a
 Shows n (Case branch a b c) = Shows n a ⊎ (Shows n b ⊎ Shows n c)
 
--- the column of each call that is met behind the calls before it stands in the operand, behind so many columns of FROM
+-- the column of each call that is met after the calls before it stands in the operand, after so many columns of FROM
 abbrev pub ShowsNew : ℕ → List CallMeaning → Met → Type 0
 ShowsNew width calls x = (n : ℕ) → length calls ≤ n → n < length x.1 → Shows (width + n) (settled x.0)

@@ -128,7 +128,7 @@ pub fn written_number(tree: &written::Expr) -> Option<u64>
     }
 }
 
-/// A call behind its arguments: its window, and then itself.
+/// A call after its arguments: its window, and then itself.
 #[cycle(resolve)]
 fn call_over(
     alloc: Global,
@@ -144,7 +144,7 @@ fn call_over(
     called(alloc, context, name, arguments, window, calls)
 }
 
-/// A CASE behind its arms: its end, and then itself.
+/// A CASE after its arms: its end, and then itself.
 #[cycle(resolve)]
 fn case_ended(
     alloc: Global,

@@ -163,7 +163,7 @@ impl Calls {
     }
 
     /// The number of a call that was met.
-    fn number_of(&self, call: &WindowCall) -> Option<usize>
+    fn call_number(&self, call: &WindowCall) -> Option<usize>
         ensures number { result ≡ spec.number_among 0 (call_of call.now) (spec.calls_of self.now) }
         ensures within { IfSome result (λ n. n < vec_len self.now.list) }
     {
@@ -189,7 +189,7 @@ impl Calls {
         Meaning::typed(alloc, Expr::Column(width + number as u16), kind)
     }
 
-    /// The column of a call behind so many columns of FROM; a new call is taken up.
+    /// The column of a call after so many columns of FROM; a new call is taken up.
     pub(crate) fn meet(
         &mut self,
         alloc: Global,
@@ -199,7 +199,7 @@ impl Calls {
         requires { width ≤ 1024 }
         ensures { Gives (λ m. (operand_of m, spec.calls_of self.new)) result (spec.met width (call_of call) (spec.calls_of self.old)) }
     {
-        match self.number_of(&call) {
+        match self.call_number(&call) {
             Some(number) => {
                 let column = Expr::Column(width + number as u16);
                 Meaning::typed(alloc, column, call.function.kind)

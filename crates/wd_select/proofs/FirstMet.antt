@@ -1,4 +1,4 @@
--- First occurrences of one list behind another.
+-- First occurrences of one list after another.
 use Rattle.std.proofs.Common.{◌≡◌, refl, Bool, cond, List, [], ◌∷◌, ◌++◌}
 use Rattle.wd_select.specs.Outputs.{with_new}
 use Rattle.std.specs.List.{list_any}

@@ -20,7 +20,7 @@ use Rattle.wd_scope.specs.Calls.{CallMeaning}
 use Rattle.wd_scope.specs.Resolving.{ContextRule, resolved}
 use Rattle.wd_select.specs.declared.output.Output.{Output}
 
--- an output: its name, its expression over the columns of FROM and, behind these, the calls, and the kind of its values
+-- an output: its name, its expression over the columns of FROM and, after these, the calls, and the kind of its values
 pub record OutputMeaning : Type 0 where
   pub name : List ℕ
   pub expression : Expression
@@ -102,7 +102,7 @@ abbrev pub call_expressions : Option CallMeaning → List Expression
 call_expressions None = []
 call_expressions (Some call) = argument_of call.function.argument ++ call.window.partition ++ map sorted_by call.window.order
 
--- the expressions met in an expression over the columns of FROM and the calls behind them: a column outside a call, and those of
+-- the expressions met in an expression over the columns of FROM and the calls after them: a column outside a call, and those of
 -- each call, from left to right
 abbrev pub met_in : ℕ → List CallMeaning → Expression → List Expression
 met_in width calls (Column c) = if nat_lt c width then Column c ∷ [] else call_expressions (slice_get calls (c - width))
@@ -117,7 +117,7 @@ met_in width calls (IsNull a) = met_in width calls a
 met_in width calls (IsNotNull a) = met_in width calls a
 met_in width calls (Case branch a b c) = met_in width calls a ++ met_in width calls b ++ met_in width calls c
 
--- each element that is new, behind those that are there: first occurrences
+-- each element that is new, after those that are there: first occurrences
 abbrev pub with_new : {A : Type 0} → (A → A → Bool) → List A → List A → List A
 with_new same seen [] = seen
 with_new same seen (x ∷ xs) = with_new same (if list_any (same x) seen then seen else seen ++ x ∷ []) xs
@@ -131,7 +131,7 @@ abbrev pub inputs_with_all : ℕ → List CallMeaning → List Expression → Li
 inputs_with_all width calls inputs [] = inputs
 inputs_with_all width calls inputs (e ∷ es) = inputs_with_all width calls (inputs_with width calls inputs e) es
 
--- the number of the first element that passes a test, counted from a number on; where none passes, the number behind the last
+-- the number of the first element that passes a test, counted from a number on; where none passes, the number after the last
 abbrev pub first_number : {A : Type 0} → ℕ → (A → Bool) → List A → ℕ
 first_number n test [] = n
 first_number n test (x ∷ xs) = if test x then n else first_number (n + 1) test xs
@@ -176,7 +176,7 @@ narrow so_far = if is_wide (length so_far.outputs) so_far.inputs so_far.calls th
 abbrev pub item_listed : ContextRule → ItemTree → Listing → Meant Listing
 item_listed c item so_far = item_meant c item so_far.calls >>= λ x. narrow (listing_with (length c.scope.columns) so_far x)
 
--- the outputs of a select list, behind those before them
+-- the outputs of a select list, after those before them
 abbrev pub listed : ContextRule → List ItemTree → Listing → Meant Listing
 listed c [] so_far = Ok so_far
 listed c (item ∷ items) so_far = item_listed c item so_far >>= λ next. listed c items next

@@ -24,8 +24,8 @@ use Rattle.wd_scope.specs.Windows.{sort_key}
 use Rattle.wd_scope.specs.Calls.{CallMeaning, calls_of}
 use Rattle.wd_scope.specs.Resolving.{written_number, plain}
 use Rattle.wd_select.specs.declared.shown.Shown.{Shown as CodeShown}
-use Rattle.wd_select.specs.declared.shown.Place.{Place as CodePlace}
-use Rattle.wd_select.specs.declared.shown.Place.TheVariants as code
+use Rattle.wd_select.specs.declared.shown.KeyPlace.{KeyPlace as CodePlace}
+use Rattle.wd_select.specs.declared.shown.KeyPlace.TheVariants as code
 use Rattle.wd_select.specs.declared.shown.Sorted.{Sorted as CodeSorted}
 use Rattle.wd_select.specs.Outputs.{OutputMeaning, output_of, inputs_with, is_wide}
 
@@ -42,29 +42,29 @@ shown_of s = record { scope = scope_of s.scope.now; distinct = s.distinct; outpu
 -- ---- sort keys
 
 -- what is sorted by: the output of that number, or an expression that is no output
-pub data Place : Type 0 where
-  output : ℕ → Place
-  hidden : Expression → Place
+pub data KeyPlace : Type 0 where
+  output : ℕ → KeyPlace
+  hidden : Expression → KeyPlace
 
-abbrev pub place_shown : CodePlace → Place
+abbrev pub place_shown : CodePlace → KeyPlace
 place_shown (code.Output number) = output number
 place_shown (code.Hidden e) = hidden (expression_of e)
 
 -- an expression that equals an output is the first such, where outputs are counted from a number on
-abbrev pub place_of : ℕ → Expression → List OutputMeaning → Place
-place_of number e [] = hidden e
-place_of number e (o ∷ outputs) = if same_expression e o.expression then output number else place_of (number + 1) e outputs
+abbrev pub sorted_place : ℕ → Expression → List OutputMeaning → KeyPlace
+sorted_place number e [] = hidden e
+sorted_place number e (o ∷ outputs) = if same_expression e o.expression then output number else sorted_place (number + 1) e outputs
 
 -- the expression of a key over the columns of FROM
-abbrev pub expression_place : Shown → Tree → Meant Place
-expression_place s a = plain s.scope a >>= λ x. Ok (place_of 0 (settled x) s.outputs)
+abbrev pub expression_place : Shown → Tree → Meant KeyPlace
+expression_place s a = plain s.scope a >>= λ x. Ok (sorted_place 0 (settled x) s.outputs)
 
 -- each output of that name has the expression
 abbrev pub names_only : List ℕ → Expression → List OutputMeaning → Bool
 names_only name e outputs = list_all (λ o. not (bytes_eq o.name name && not (same_expression e o.expression))) outputs
 
 -- the output of that number, where no other of its name shows another expression
-abbrev pub unless_other : Bool → ℕ → Meant (Option Place)
+abbrev pub unless_other : Bool → ℕ → Meant (Option KeyPlace)
 unless_other true number = Ok (Some (output number))
 unless_other false number = Err Ambiguous
 
@@ -72,40 +72,40 @@ abbrev pub is_named : List ℕ → OutputMeaning → Bool
 is_named name o = bytes_eq o.name name
 
 -- the first output of a name, which no output of another expression may have, where outputs are counted from a number on
-abbrev pub first_named : ℕ → List ℕ → List OutputMeaning → Meant (Option Place)
+abbrev pub first_named : ℕ → List ℕ → List OutputMeaning → Meant (Option KeyPlace)
 first_named number name [] = Ok None
 first_named number name (o ∷ outputs) = if is_named name o then unless_other (names_only name o.expression outputs) number else first_named (number + 1) name outputs
 
-abbrev pub or_expression : Option Place → Meant Place → Meant Place
+abbrev pub or_expression : Option KeyPlace → Meant KeyPlace → Meant KeyPlace
 or_expression None other = other
 or_expression (Some place) other = Ok place
 
 -- a bare name that is an output's name means that output, and else a column of FROM
-abbrev pub named_place : Shown → Name → Tree → Meant Place
+abbrev pub named_place : Shown → Name → Tree → Meant KeyPlace
 named_place s name a = first_named 0 name.text s.outputs >>= λ place. or_expression place (expression_place s a)
 
 -- an ordinal counts outputs from 1
-abbrev pub ordinal : List OutputMeaning → ℕ → Meant Place
+abbrev pub ordinal : List OutputMeaning → ℕ → Meant KeyPlace
 ordinal outputs n = if nat_le 1 n && nat_le n (length outputs) then Ok (output (n - 1)) else Err WrongSortKey
 
 -- a bare number is an ordinal, and no other bare literal may stand here (own)
-abbrev pub literal_place : List OutputMeaning → Literal → Meant Place
+abbrev pub literal_place : List OutputMeaning → Literal → Meant KeyPlace
 literal_place outputs (l.Number n) = number n >>= λ m. ordinal outputs m
 literal_place outputs (l.Text text) = Err WrongSortKey
 literal_place outputs (l.Truth b) = Err WrongSortKey
 literal_place outputs l.Null = Err WrongSortKey
 
 -- a signed number is a literal too, and else a place stays
-abbrev pub unless_number : Option ℕ → Place → Meant Place
+abbrev pub unless_number : Option ℕ → KeyPlace → Meant KeyPlace
 unless_number None p = Ok p
 unless_number (Some n) p = Err WrongSortKey
 
-abbrev pub signed_place : Option ℕ → Meant Place → Meant Place
+abbrev pub signed_place : Option ℕ → Meant KeyPlace → Meant KeyPlace
 signed_place number place = place >>= λ p. unless_number number p
 
 -- A bare name that is an output's name means that output, a bare number is an ordinal, and anything else is an expression over the
 -- columns of FROM; brackets round a key don't count.
-abbrev pub key_place : Shown → Tree → Meant Place
+abbrev pub key_place : Shown → Tree → Meant KeyPlace
 key_place s (tree.Bracket a) = key_place s a
 key_place s (tree.Column name) = named_place s name (tree.Column name)
 key_place s (tree.Constant x) = literal_place s.outputs x
@@ -118,7 +118,7 @@ key_place s (tree.Binary operator a b) = expression_place s (tree.Binary operato
 key_place s (tree.IsNull a not) = expression_place s (tree.IsNull a not)
 key_place s (tree.Negated a) = expression_place s (tree.Negated a)
 
--- the sort keys over the outputs and the hidden columns behind them, the expressions that are hidden there, and the distinct
+-- the sort keys over the outputs and the hidden columns after them, the expressions that are hidden there, and the distinct
 -- expressions met so far
 pub record Sorted : Type 0 where
   pub items : List OrderItem
@@ -140,7 +140,7 @@ with_hidden s column e key so_far inputs =
     else Ok (record { items = so_far.items ++ record { column = column; key = key } ∷ []; hidden = so_far.hidden ++ e ∷ []; inputs = inputs }))
 
 -- a key by an output, or by a new hidden column; with DISTINCT each key is an output
-abbrev pub with_key : Shown → Place → SortKey → Sorted → Meant Sorted
+abbrev pub with_key : Shown → KeyPlace → SortKey → Sorted → Meant Sorted
 with_key s (output number) key so_far = Ok (record { items = so_far.items ++ record { column = number; key = key } ∷ []; hidden = so_far.hidden; inputs = so_far.inputs })
 with_key s (hidden e) key so_far = with_hidden s (length s.outputs + length so_far.hidden) e key so_far (inputs_with (length s.scope.columns) s.calls so_far.inputs e)
 

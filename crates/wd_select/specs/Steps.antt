@@ -76,7 +76,7 @@ call_over inputs classes call = record {
 abbrev pub window_over : List Expression → List CallMeaning → WindowRule
 window_over inputs calls = record { classes = classes_over inputs calls; calls = map (call_over inputs (classes_over inputs calls)) calls }
 
--- the column of the Window for a column of FROM, or for one of so many calls behind these; there are no others
+-- the column of the Window for a column of FROM, or for one of so many calls after these; there are no others
 abbrev pub column_above : ℕ → ℕ → List Expression → ℕ → ℕ
 column_above width calls inputs c = if nat_lt c width then input_number inputs (Column c) else (if nat_lt (c - width) calls then length inputs + (c - width) else c)
 
@@ -125,7 +125,7 @@ limited items (Some cut) plan = Limit (record { keys = items; offset = cut.offse
 abbrev pub columns_from : ℕ → ℕ → List Expression
 columns_from first count = map Column (range_with_len first count)
 
--- a Map that drops so many hidden sort keys behind so many outputs, where there are some
+-- a Map that drops so many hidden sort keys after so many outputs, where there are some
 abbrev pub without_hidden : ℕ → ℕ → PlanTree → PlanTree
 without_hidden outputs hidden plan = if nat_eq hidden 0 then plan else Map (columns_from 0 outputs) plan
 

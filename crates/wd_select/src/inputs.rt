@@ -87,7 +87,7 @@ fn add_call(alloc: Global, inputs: &mut Vec<Expr>, call: &WindowCall) -> Result<
     add_order(alloc, inputs, &call.window.order)
 }
 
-/// Adds a column of FROM, or what a call behind these needs.
+/// Adds a column of FROM, or what a call after these needs.
 fn add_column(
     alloc: Global,
     inputs: &mut Vec<Expr>,
@@ -107,7 +107,7 @@ fn add_column(
     }
 }
 
-/// Adds what is met in an expression over the columns of FROM and the calls behind them, from left to right.
+/// Adds what is met in an expression over the columns of FROM and the calls after them, from left to right.
 #[tactic(auto, using(crate::proofs::FirstMet::with_new_append))]
 pub fn add_met(
     alloc: Global,

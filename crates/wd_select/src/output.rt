@@ -10,7 +10,7 @@ pub struct OutputColumn {
     pub kind: ValueKind,
 }
 
-/// An output: its name, its expression over the columns of FROM and, behind these, the calls, and the kind of its values.
+/// An output: its name, its expression over the columns of FROM and, after these, the calls, and the kind of its values.
 #[derive(Drop)]
 pub struct Output {
     pub name: Text,

@@ -18,12 +18,12 @@ pub struct Shown<'a> {
 
 /// What is sorted by: the output of that number, or an expression that is no output.
 #[derive(Drop)]
-pub enum Place {
+pub enum KeyPlace {
     Output(u16),
     Hidden(Expr),
 }
 
-/// The sort keys over the outputs and the hidden columns behind them, the expressions that are hidden there, and the distinct
+/// The sort keys over the outputs and the hidden columns after them, the expressions that are hidden there, and the distinct
 /// expressions that a Map below a Window would show.
 #[derive(Drop)]
 pub struct Sorted {

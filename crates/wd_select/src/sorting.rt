@@ -1,4 +1,4 @@
-//! The final ORDER BY: each key is an output, or a hidden column behind the outputs.
+//! The final ORDER BY: each key is an output, or a hidden column after the outputs.
 
 ghost use Rattle.std.specs.Prelude.{◌≡◌, ◌+◌, ◌<◌, ◌≤◌, false, map, length, nat_lt, vec_len, Option, Some, option_map, IfOk, MatchOption};
 ghost use Rattle.wd_plan.specs.Expressions.{expression_of};
@@ -14,7 +14,7 @@ ghost use Rattle.wd_select.specs.Sorting as spec;
 
 use crate::inputs::add_met;
 use crate::output::Output;
-use crate::shown::{Place, Shown, Sorted};
+use crate::shown::{KeyPlace, Shown, Sorted};
 use std::alloc::Global;
 use wd_operand::{Cause, ResolveError, number, same_expression};
 use wd_plan::{Expr, OrderItem};
@@ -39,7 +39,7 @@ pub fn is_wide(shown: usize, inputs: &[Expr], calls: &Calls) -> bool
 /// The number of the first output that shows an expression.
 fn output_number(expression: &Expr, outputs: &[Output]) -> Option<u16>
     requires { length outputs.now ≤ 1024 }
-    ensures { MatchOption result (spec.place_of 0 (expression_of expression.now) (map output_of outputs.now) ≡ spec.hidden (expression_of expression.now)) (λ number. spec.place_of 0 (expression_of expression.now) (map output_of outputs.now) ≡ spec.output number) }
+    ensures { MatchOption result (spec.sorted_place 0 (expression_of expression.now) (map output_of outputs.now) ≡ spec.hidden (expression_of expression.now)) (λ number. spec.sorted_place 0 (expression_of expression.now) (map output_of outputs.now) ≡ spec.output number) }
 {
     for (number, output) in outputs.iter().enumerate() {
         if same_expression(expression, &output.expression) {
@@ -50,13 +50,13 @@ fn output_number(expression: &Expr, outputs: &[Output]) -> Option<u16>
 }
 
 /// An expression that equals an output is the first such.
-fn place_of(expression: Expr, outputs: &[Output]) -> Place
+fn sorted_place(expression: Expr, outputs: &[Output]) -> KeyPlace
     requires { length outputs.now ≤ 1024 }
-    ensures { place_shown result ≡ spec.place_of 0 (expression_of expression) (map output_of outputs.now) }
+    ensures { place_shown result ≡ spec.sorted_place 0 (expression_of expression) (map output_of outputs.now) }
 {
     match output_number(&expression, outputs) {
-        Some(number) => Place::Output(number),
-        None => Place::Hidden(expression),
+        Some(number) => KeyPlace::Output(number),
+        None => KeyPlace::Hidden(expression),
     }
 }
 
@@ -65,11 +65,11 @@ fn expression_place(
     alloc: Global,
     shown: &Shown<'_>,
     tree: &written::Expr,
-) -> Result<Place, ResolveError>
+) -> Result<KeyPlace, ResolveError>
     ensures { Gives place_shown result (spec.expression_place (shown_of shown.now) (view tree.now)) }
 {
     let operand = plain(alloc, shown.scope, tree)?;
-    Ok(place_of(operand.settled(), shown.outputs))
+    Ok(sorted_place(operand.settled(), shown.outputs))
 }
 
 /// Whether each output of that name has the expression.
@@ -85,11 +85,11 @@ fn names_only(name: &Name, expression: &Expr, outputs: &[Output]) -> bool
 }
 
 /// The output of that number; 403 where another of its name shows another expression.
-fn unless_other(only: bool, number: u16) -> Result<Option<Place>, ResolveError>
+fn unless_other(only: bool, number: u16) -> Result<Option<KeyPlace>, ResolveError>
     ensures { Gives (λ place. option_map place_shown place) result (spec.unless_other only number) }
 {
     if only {
-        Ok(Some(Place::Output(number)))
+        Ok(Some(KeyPlace::Output(number)))
     } else {
         Err(ResolveError::Refused(Cause::Ambiguous))
     }
@@ -102,7 +102,7 @@ fn is_named(name: &Name, output: &Output) -> bool
 }
 
 /// The first output of a name; 403 where another has it and shows another expression.
-fn first_named(name: &Name, outputs: &[Output]) -> Result<Option<Place>, ResolveError>
+fn first_named(name: &Name, outputs: &[Output]) -> Result<Option<KeyPlace>, ResolveError>
     requires { length outputs.now ≤ 1024 }
     ensures { Gives (λ place. option_map place_shown place) result (spec.first_named 0 name.now.text (map output_of outputs.now)) }
 {
@@ -116,19 +116,19 @@ fn first_named(name: &Name, outputs: &[Output]) -> Result<Option<Place>, Resolve
 }
 
 /// An ordinal counts outputs from 1.
-fn ordinal(outputs: &[Output], n: u64) -> Result<Place, ResolveError>
+fn ordinal(outputs: &[Output], n: u64) -> Result<KeyPlace, ResolveError>
     requires { length outputs.now ≤ 1024 }
     ensures { Gives place_shown result (spec.ordinal (map output_of outputs.now) n) }
 {
     if n >= 1 && n <= outputs.len() as u64 {
-        Ok(Place::Output((n - 1) as u16))
+        Ok(KeyPlace::Output((n - 1) as u16))
     } else {
         Err(ResolveError::Refused(Cause::WrongSortKey))
     }
 }
 
 /// A bare number is an ordinal, and no other bare literal may stand here.
-fn literal_place(outputs: &[Output], literal: &Literal) -> Result<Place, ResolveError>
+fn literal_place(outputs: &[Output], literal: &Literal) -> Result<KeyPlace, ResolveError>
     requires { length outputs.now ≤ 1024 }
     ensures { Gives place_shown result (spec.literal_place (map output_of outputs.now) literal.now) }
 {
@@ -146,7 +146,7 @@ fn named_place(
     shown: &Shown<'_>,
     name: &Name,
     tree: &written::Expr,
-) -> Result<Place, ResolveError>
+) -> Result<KeyPlace, ResolveError>
     ensures { Gives place_shown result (spec.named_place (shown_of shown.now) name.now (view tree.now)) }
 {
     match first_named(name, shown.outputs)? {
@@ -161,7 +161,7 @@ fn signed_place(
     shown: &Shown<'_>,
     tree: &written::Expr,
     number: Option<u64>,
-) -> Result<Place, ResolveError>
+) -> Result<KeyPlace, ResolveError>
     ensures { Gives place_shown result (spec.signed_place number (spec.expression_place (shown_of shown.now) (view tree.now))) }
 {
     let place = expression_place(alloc, shown, tree)?;
@@ -172,7 +172,11 @@ fn signed_place(
 }
 
 /// What a final sort key sorts by. Brackets round it don't count.
-fn key_place(alloc: Global, shown: &Shown<'_>, tree: &written::Expr) -> Result<Place, ResolveError>
+fn key_place(
+    alloc: Global,
+    shown: &Shown<'_>,
+    tree: &written::Expr,
+) -> Result<KeyPlace, ResolveError>
     ensures { Gives place_shown result (spec.key_place (shown_of shown.now) (view tree.now)) }
 {
     match tree {
@@ -277,8 +281,8 @@ fn key_sorted(
     let place = key_place(alloc, shown, &key.expr)?;
     let direction = sort_key(key.direction, key.nulls);
     match place {
-        Place::Output(column) => with_output(sorted, shown, column, direction),
-        Place::Hidden(expression) => with_hidden(alloc, sorted, shown, expression, direction),
+        KeyPlace::Output(column) => with_output(sorted, shown, column, direction),
+        KeyPlace::Hidden(expression) => with_hidden(alloc, sorted, shown, expression, direction),
     }
 }
 

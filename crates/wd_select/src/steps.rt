@@ -282,7 +282,7 @@ fn calls_over(
     Ok(planned)
 }
 
-/// The column of the Window for a column of FROM, or for one of so many calls behind these; there are no others.
+/// The column of the Window for a column of FROM, or for one of so many calls after these; there are no others.
 fn column_above(width: usize, calls: usize, inputs: &[Expr], column: u16) -> u16
     requires few_inputs { length inputs.now ≤ 1024 }
     requires few_calls { calls ≤ 1024 }
@@ -452,7 +452,7 @@ fn first_columns(alloc: Global, count: usize) -> Result<Vec<Expr>, OutOfMemory>
     Ok(columns)
 }
 
-/// A Map that drops the hidden sort keys behind the outputs, where there are some.
+/// A Map that drops the hidden sort keys after the outputs, where there are some.
 pub fn without_hidden(
     alloc: Global,
     outputs: usize,

@@ -4,7 +4,7 @@ use Rattle.std.specs.Prelude.{⊤}
 use Rattle.std.proofs.lemmas.Slice.Eq.{bytes_eq-Decides}
 use Rattle.wd_lex.proofs.MarkLaws.{same_mark}
 use Rattle.wd_lex.specs.Marks.{mark_code}
-use Rattle.wd_lex.specs.declared.token.Mark.{Mark}
+use Rattle.wd_lex.specs.declared.token.Delimiter.{Delimiter}
 use Rattle.wd_lex.specs.declared.token.TokenKind.{TokenKind}
 use Rattle.wd_lex.specs.declared.token.TokenKind.TheVariants as k
 use Rattle.wd_statements.proofs.ReadingFacts.{eat_same}
@@ -204,8 +204,8 @@ if_some : (b : Bool) (kinds rest : List TokenKind) → cond b (Some kinds) None 
 if_some true kinds rest e = (refl, cc)
 if_some false kinds rest e = absurd (cc)
 
-is_mark_is : (x : Mark) (y : TokenKind) → is_mark x y ≡ true → y ≡ k.Mark x
-is_mark_is x (k.Mark y) t = ap k.Mark (same_mark y x (eqb-true (mark_code y) (mark_code x) t))
+is_mark_is : (x : Delimiter) (y : TokenKind) → is_mark x y ≡ true → y ≡ k.Delimiter x
+is_mark_is x (k.Delimiter y) t = ap k.Delimiter (same_mark y x (eqb-true (mark_code y) (mark_code x) t))
 is_mark_is x (k.Word word) t = absurd (cc)
 is_mark_is x (k.Quoted name) t = absurd (cc)
 is_mark_is x (k.Literal text) t = absurd (cc)
@@ -213,15 +213,15 @@ is_mark_is x (k.Number n) t = absurd (cc)
 
 is_word_is : (x : List ℕ) (y : TokenKind) → is_word x y ≡ true → y ≡ k.Word x
 is_word_is x (k.Word word) t = ap k.Word ((bytes_eq-Decides word x).0 t)
-is_word_is x (k.Mark y) t = absurd (cc)
+is_word_is x (k.Delimiter y) t = absurd (cc)
 is_word_is x (k.Quoted name) t = absurd (cc)
 is_word_is x (k.Literal text) t = absurd (cc)
 is_word_is x (k.Number n) t = absurd (cc)
 
-eat_is : (x : Mark) (kinds rest : List TokenKind) → eat x kinds ≡ Some rest → kinds ≡ k.Mark x ∷ rest
+eat_is : (x : Delimiter) (kinds rest : List TokenKind) → eat x kinds ≡ Some rest → kinds ≡ k.Delimiter x ∷ rest
 unfolding eat
 eat_is x [] rest e = absurd (cc)
-eat_is x (y ∷ kinds) rest e = let found = if_some (is_mark x y) kinds rest e in ap (λ z. z ∷ kinds) (is_mark_is x y found.0) ∙ ap (λ ks. k.Mark x ∷ ks) found.1
+eat_is x (y ∷ kinds) rest e = let found = if_some (is_mark x y) kinds rest e in ap (λ z. z ∷ kinds) (is_mark_is x y found.0) ∙ ap (λ ks. k.Delimiter x ∷ ks) found.1
 
 eat_word_is : (x : List ℕ) (kinds rest : List TokenKind) → eat_word x kinds ≡ Some rest → kinds ≡ k.Word x ∷ rest
 unfolding eat_word
@@ -235,7 +235,7 @@ eat_word_same x kinds = rw ((bytes_eq-Decides x x).1 refl) refl
 some≢none : (kinds : List TokenKind) → Some kinds ≡ None → ⊥
 some≢none kinds e = cc
 
-pub eats_mark : (x : Mark) → Eats (k.Mark x) (eat x)
+pub eats_mark : (x : Delimiter) → Eats (k.Delimiter x) (eat x)
 eats_mark x = record { is = eat_is x; none = λ kinds rest e at. some≢none rest (sym (eat_same x rest) ∙ ap (eat x) (sym at) ∙ e) }
 
 pub eats_word : (x : List ℕ) → Eats (k.Word x) (eat_word x)

@@ -3,8 +3,8 @@ use Rattle.std.proofs.Common.{◌≡◌, ◌≢◌, ◌∙◌, ℕ, zero, suc, �
 use Rattle.std.proofs.lemmas.List.{append-nil}
 use Rattle.wd_lex.proofs.MarkLaws.{same_mark}
 use Rattle.wd_lex.specs.Marks.{mark_code}
-use Rattle.wd_lex.specs.declared.token.Mark.{Mark}
-use Rattle.wd_lex.specs.declared.token.Mark.TheVariants as m
+use Rattle.wd_lex.specs.declared.token.Delimiter.{Delimiter}
+use Rattle.wd_lex.specs.declared.token.Delimiter.TheVariants as m
 use Rattle.wd_lex.specs.declared.token.TokenKind.{TokenKind}
 use Rattle.wd_lex.specs.declared.token.TokenKind.TheVariants as k
 use Rattle.wd_statements.specs.declared.reader.ReadError.{ReadError}
@@ -16,10 +16,10 @@ not_same : (b : Bool) → (b ≡ true → ⊥) → b ≡ false
 not_same true h = absurd (h refl)
 not_same false h = refl
 
-pub one_mark : (x y : Mark) → x ≡ y → eqb (mark_code x) (mark_code y) ≡ true
+pub one_mark : (x y : Delimiter) → x ≡ y → eqb (mark_code x) (mark_code y) ≡ true
 one_mark x y e = eq-eqb (mark_code x) (mark_code y) (ap mark_code e)
 
-pub other_mark : (x y : Mark) → x ≢ y → eqb (mark_code x) (mark_code y) ≡ false
+pub other_mark : (x y : Delimiter) → x ≢ y → eqb (mark_code x) (mark_code y) ≡ false
 other_mark x y ne = not_same (eqb (mark_code x) (mark_code y)) (λ t. ne (same_mark x y (eqb-true (mark_code x) (mark_code y) t)))
 
 -- ---- the rules of a column
@@ -81,6 +81,6 @@ module _ {A : Type 0} (item : List TokenKind → Reading A) where
 eqb_same : (n : ℕ) → eqb n n ≡ true
 eqb_same n = eq-eqb n n refl
 
-pub eat_same : (x : Mark) (kinds : List TokenKind) → eat x (k.Mark x ∷ kinds) ≡ Some kinds
+pub eat_same : (x : Delimiter) (kinds : List TokenKind) → eat x (k.Delimiter x ∷ kinds) ≡ Some kinds
 unfolding eat
 eat_same x kinds = rw (eqb_same (mark_code x)) refl

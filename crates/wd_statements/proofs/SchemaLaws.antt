@@ -6,7 +6,7 @@ use Rattle.std.proofs.lemmas.List.Elements.{All-head, All-push, All-tail}
 use Rattle.std.specs.List.{All}
 use Rattle.wd_lex.specs.Lexed.{kinds_of}
 use Rattle.wd_lex.specs.declared.token.Token.{Token}
-use Rattle.wd_lex.specs.declared.token.Mark.TheVariants as m
+use Rattle.wd_lex.specs.declared.token.Delimiter.TheVariants as m
 use Rattle.wd_lex.specs.declared.token.TokenKind.{TokenKind}
 use Rattle.wd_lex.specs.declared.token.TokenKind.TheVariants as k
 use Rattle.wd_statements.specs.declared.syntax.ColumnRule.{ColumnRule}
@@ -73,7 +73,7 @@ unique_by kinds (Ok z) read a b more rest wa ma ea wb mb eb =
 unique_statement : (a b : TableTree × Bool) (more rest : List TokenKind) → WholeStatement a → MayStatement a more → WholeStatement b → MayStatement b rest → spell_statement a more ≡ spell_statement b rest → (a ≡ b) × (more ≡ rest)
 unique_statement a b more rest wa ma wb mb e = unique_by (spell_statement a more) (statement_at (spell_statement a more)) (statement_exact (spell_statement a more)) a b more rest wa ma refl wb mb e
 
--- ---- the first statement of a schema, and the schema behind it
+-- ---- the first statement of a schema, and the schema after it
 
 abbrev first_stop : List TableTree → Bool → Bool
 first_stop [] ended = ended
@@ -141,7 +141,7 @@ listed_longer spell longer [] after = omega arith
 listed_longer spell longer (x ∷ []) after = longer x after
 listed_longer spell longer (x ∷ y ∷ xs) after =
     let others : length after ≤ length (listed m.Comma spell (y ∷ xs) after) = listed_longer spell longer (y ∷ xs) after in
-    let one : suc (length (listed m.Comma spell (y ∷ xs) after)) ≤ length (spell x (k.Mark m.Comma ∷ listed m.Comma spell (y ∷ xs) after)) = longer x (k.Mark m.Comma ∷ listed m.Comma spell (y ∷ xs) after) in
+    let one : suc (length (listed m.Comma spell (y ∷ xs) after)) ≤ length (spell x (k.Delimiter m.Comma ∷ listed m.Comma spell (y ∷ xs) after)) = longer x (k.Delimiter m.Comma ∷ listed m.Comma spell (y ∷ xs) after) in
     omega arith
 
 words_longer : (words : KeyWords) (after : List TokenKind) → length after ≤ length (spell_words words after)
@@ -157,10 +157,10 @@ constraint_longer (Some name) after = omega arith
 element_longer : (y : ElementTree) (after : List TokenKind) → length after ≤ length (spell_element y after)
 element_longer (Column column) after = let rules : length after ≤ length (spell_rules column.rules after) = rules_longer column.rules after in omega arith
 element_longer (Key key) after =
-    let names = listed m.Comma spell_name key.columns (k.Mark m.RightBracket ∷ after) in
-    let a : suc (length after) ≤ length names = listed_longer spell_name (λ x rest. omega arith) key.columns (k.Mark m.RightBracket ∷ after) in
-    let b : suc (length names) ≤ length (spell_words key.words (k.Mark m.LeftBracket ∷ names)) = words_longer key.words (k.Mark m.LeftBracket ∷ names) in
-    let c : length (spell_words key.words (k.Mark m.LeftBracket ∷ names)) ≤ length (spell_key key after) = constraint_longer key.constraint (spell_words key.words (k.Mark m.LeftBracket ∷ names)) in
+    let names = listed m.Comma spell_name key.columns (k.Delimiter m.RightBracket ∷ after) in
+    let a : suc (length after) ≤ length names = listed_longer spell_name (λ x rest. omega arith) key.columns (k.Delimiter m.RightBracket ∷ after) in
+    let b : suc (length names) ≤ length (spell_words key.words (k.Delimiter m.LeftBracket ∷ names)) = words_longer key.words (k.Delimiter m.LeftBracket ∷ names) in
+    let c : length (spell_words key.words (k.Delimiter m.LeftBracket ∷ names)) ≤ length (spell_key key after) = constraint_longer key.constraint (spell_words key.words (k.Delimiter m.LeftBracket ∷ names)) in
     omega arith
 
 stop_longer : (stop : Bool) (after : List TokenKind) → length after ≤ length (spell_stop stop after)
@@ -170,21 +170,21 @@ stop_longer false after = omega arith
 statement_longer : (y : TableTree × Bool) (after : List TokenKind) → length after < length (spell_statement y after)
 statement_longer y after =
     let a : length after ≤ length (spell_stop y.1 after) = stop_longer y.1 after in
-    let b : suc (length (spell_stop y.1 after)) ≤ length (listed m.Comma spell_element y.0.elements (k.Mark m.RightBracket ∷ spell_stop y.1 after)) = listed_longer spell_element element_longer y.0.elements (k.Mark m.RightBracket ∷ spell_stop y.1 after) in
+    let b : suc (length (spell_stop y.1 after)) ≤ length (listed m.Comma spell_element y.0.elements (k.Delimiter m.RightBracket ∷ spell_stop y.1 after)) = listed_longer spell_element element_longer y.0.elements (k.Delimiter m.RightBracket ∷ spell_stop y.1 after) in
     omega arith
 
 -- ---- the statements that tokens begin with
 
 end_cases : (rest : List TokenKind) → IsEnd rest → (stop : Bool) × (more : List TokenKind) × (rest ≡ spell_stop stop more) × (stop ≡ false → more ≡ [])
 end_cases [] is = (false, [], refl, λ e. refl)
-end_cases (k.Mark m.Semicolon ∷ more) is = (true, more, refl, λ e. absurd (true≢false e))
-end_cases (k.Mark _ ∷ more) is = absurd is
+end_cases (k.Delimiter m.Semicolon ∷ more) is = (true, more, refl, λ e. absurd (true≢false e))
+end_cases (k.Delimiter _ ∷ more) is = absurd is
 end_cases (k.Word text ∷ more) is = absurd is
 end_cases (k.Quoted text ∷ more) is = absurd is
 end_cases (k.Literal text ∷ more) is = absurd is
 end_cases (k.Number n ∷ more) is = absurd is
 
--- a semicolon stands behind the tables, or there are none
+-- a semicolon stands after the tables, or there are none
 abbrev pub MayGoOn : List TableTree → Bool → List TokenKind → Type 0
 MayGoOn tables ended rest = (tables ≢ [] → ended ≡ false → rest ≡ []) × (tables ≡ [] → ended ≡ false)
 
@@ -217,7 +217,7 @@ statement_may : (table : TableTree) (tables : List TableTree) (ended : Bool) (re
 statement_may table [] ended rest over = over
 statement_may table (other ∷ tables) ended rest over = λ e. absurd (true≢false e)
 
--- tables behind which no statement stands: others that are spelled alike are the first of them
+-- tables after which no statement stands: others that are spelled alike are the first of them
 fronts : (ts us : List TableTree) (e f : Bool) (rest more : List TokenKind) → All IsTable ts → All IsTable us → (ts ≢ [] → e ≡ false → rest ≡ []) → (f ≡ false → more ≡ []) → IsOver rest
     → onto ts e rest ≡ onto us f more → (others : List TableTree) × (ts ≡ us ++ others)
 fronts ts [] e f rest more all each may ends over same = (ts, refl)
@@ -290,7 +290,7 @@ read_longer kinds x after e = rw (read_is kinds x after e).spelled (statement_lo
 -- ---- how far the tokens are those of a schema
 
 -- Tables have been read. Each schema that is spelled like the tokens, past those read so far, goes on as a schema; what goes
--- on behind the tables like the tokens that are left is like the tokens from the first on.
+-- on after the tables like the tokens that are left is like the tokens from the first on.
 pub record IsSettled (kinds : List TokenKind) (tables : List TableTree) (ended : Bool) (rest : List TokenKind) : Type 0 where
   pub shorter : length rest ≤ length kinds
   pub goes : (left : ℕ) (tree : SchemaTree) → IsSchema tree → left ≤ length rest → Agree left (spell_schema tree) kinds → (next : SchemaTree) × IsSchema next × Agree left (spell_schema next) rest
@@ -311,7 +311,7 @@ settled_step left (t ∷ ts) ended rest x after some whole e le agree =
     (subst (λ ks. Agree left ks rest) (first_is t ts ended) agree) in
     (schema_of ts (next_ended ts ended), next_whole t ts ended whole.tables, both.1)
 
--- a further statement behind the tables
+-- a further statement after the tables
 push_is : (tables : List TableTree) (ended : Bool) (rest : List TokenKind) (x : TableTree × Bool) (after : List TokenKind) → rest ≢ [] → MayGoOn tables ended rest → spell_tables tables (spell_stop ended (spell_statement x after)) ≡ spell_tables (tables ++ x.0 ∷ []) (spell_stop x.1 after)
 push_is tables ended rest x after some may =
     tables-push tables x.0 ended (spell_statement x after) (spell_stop x.1 after) (λ others none. absurd (some (may.0 others none))) may.1 refl

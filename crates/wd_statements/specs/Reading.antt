@@ -2,8 +2,8 @@
 use Rattle.std.specs.Prelude.{◌≡◌, ℕ, zero, suc, ◌==◌, ◌||◌, if◌then◌else◌, codes, List, [], ◌∷◌, ◌++◌, length, Bool, true, false, Option, Some, None, is_some, Result, Ok, Err}
 use Rattle.std.specs.Str.{bytes_eq}
 use Rattle.wd_lex.specs.Marks.{mark_code}
-use Rattle.wd_lex.specs.declared.token.Mark.{Mark}
-use Rattle.wd_lex.specs.declared.token.Mark.TheVariants as m
+use Rattle.wd_lex.specs.declared.token.Delimiter.{Delimiter}
+use Rattle.wd_lex.specs.declared.token.Delimiter.TheVariants as m
 use Rattle.wd_lex.specs.declared.token.TokenKind.{TokenKind}
 use Rattle.wd_lex.specs.declared.token.TokenKind.TheVariants as k
 use Rattle.wd_statements.specs.declared.reader.ReadError.{ReadError}
@@ -19,7 +19,7 @@ use Rattle.wd_statements.specs.declared.syntax.Rule.TheVariants as rule
 use Rattle.wd_statements.specs.declared.syntax.ColumnRule.{ColumnRule}
 use Rattle.wd_statements.specs.Written.{ColumnTree, KeyTree, ElementTree, Column, Key, TableTree}
 
--- what is read and the tokens behind it, or how many tokens are left from the one on that may not stand there
+-- what is read and the tokens after it, or how many tokens are left from the one on that may not stand there
 abbrev pub Reading : Type 0 → Type 0
 Reading A = Result (A × List TokenKind) ℕ
 
@@ -46,8 +46,8 @@ abbrev pub Finds : {X Y : Type 0} → (X → Y) → Option X → Option Y → Ty
 Finds view (Some x) found = found ≡ Some (view x)
 Finds view None found = found ≡ None
 
-abbrev pub is_mark : Mark → TokenKind → Bool
-is_mark x (k.Mark y) = mark_code y == mark_code x
+abbrev pub is_mark : Delimiter → TokenKind → Bool
+is_mark x (k.Delimiter y) = mark_code y == mark_code x
 is_mark x (k.Word word) = false
 is_mark x (k.Quoted name) = false
 is_mark x (k.Literal text) = false
@@ -55,17 +55,17 @@ is_mark x (k.Number n) = false
 
 abbrev pub is_word : List ℕ → TokenKind → Bool
 is_word x (k.Word word) = bytes_eq word x
-is_word x (k.Mark y) = false
+is_word x (k.Delimiter y) = false
 is_word x (k.Quoted name) = false
 is_word x (k.Literal text) = false
 is_word x (k.Number n) = false
 
--- the tokens behind a mark, where it stands first
-unfoldable pub eat : Mark → List TokenKind → Option (List TokenKind)
+-- the tokens after a mark, where it stands first
+unfoldable pub eat : Delimiter → List TokenKind → Option (List TokenKind)
 eat x [] = None
 eat x (y ∷ kinds) = if is_mark x y then Some kinds else None
 
--- the tokens behind a word, where it stands first
+-- the tokens after a word, where it stands first
 unfoldable pub eat_word : List ℕ → List TokenKind → Option (List TokenKind)
 eat_word x [] = None
 eat_word x (y ∷ kinds) = if is_word x y then Some kinds else None
@@ -74,7 +74,7 @@ abbrev pub some_or : ℕ → Option (List TokenKind) → Result (List TokenKind)
 some_or left (Some kinds) = Ok kinds
 some_or left None = Err left
 
-unfoldable pub expect : Mark → List TokenKind → Result (List TokenKind) ℕ
+unfoldable pub expect : Delimiter → List TokenKind → Result (List TokenKind) ℕ
 expect x kinds = some_or (length kinds) (eat x kinds)
 
 unfoldable pub expect_word : List ℕ → List TokenKind → Result (List TokenKind) ℕ
@@ -83,7 +83,7 @@ expect_word x kinds = some_or (length kinds) (eat_word x kinds)
 abbrev pub name_of : TokenKind → List TokenKind → Reading Name
 name_of (k.Word text) kinds = Ok (Unquoted text, kinds)
 name_of (k.Quoted text) kinds = Ok (Quoted text, kinds)
-name_of (k.Mark x) kinds = Err (suc (length kinds))
+name_of (k.Delimiter x) kinds = Err (suc (length kinds))
 name_of (k.Literal text) kinds = Err (suc (length kinds))
 name_of (k.Number n) kinds = Err (suc (length kinds))
 
@@ -126,7 +126,7 @@ unfoldable pub rules_at : ℕ → List TokenKind → Reading (List ColumnRule)
 rules_at zero kinds = Ok ([], kinds)
 rules_at (suc n) kinds = if ends_column kinds then Ok ([], kinds) else (column_rule_at kinds >>= λ r. rules_at n r.1 >>= λ rs. Ok (r.0 ∷ rs.0, rs.1))
 
--- further items, each behind a comma, of which there are no more than tokens
+-- further items, each after a comma, of which there are no more than tokens
 unfoldable pub more_at : {A : Type 0} → (List TokenKind → Reading A) → ℕ → List TokenKind → Reading (List A)
 more_at item zero kinds = Ok ([], kinds)
 more_at item (suc n) kinds = choose (eat m.Comma kinds) (λ rest. item rest >>= λ x. more_at item n x.1 >>= λ xs. Ok (x.0 ∷ xs.0, xs.1)) (Ok ([], kinds))

@@ -32,7 +32,7 @@ pub record TableTree : Type 0 where
   pub name : Name
   pub elements : List ElementTree
 
--- a schema: its tables, and whether a semicolon stands behind the last
+-- a schema: its tables, and whether a semicolon stands after the last
 pub record SchemaTree : Type 0 where
   pub tables : List TableTree
   pub ended : Bool

@@ -12,7 +12,7 @@ use crate::syntax::{
     ColumnRule, Element, KeyWords, Name, Nulls, Rule, WrittenColumn, WrittenKey, WrittenTable,
 };
 use std::alloc::{AllocError, AllocFailed, Global};
-use wd_lex::{Mark, Token, TokenKind};
+use wd_lex::{Delimiter, Token, TokenKind};
 use wd_value::OutOfMemory;
 
 /// Why tokens can't be read.
@@ -53,19 +53,19 @@ trait Item: Drop {
         ensures { Gives (λ x. (tree x.0, kinds_of x.1.now)) result (item (kinds_of tokens.now)) };
 }
 
-/// The tokens behind a mark, if it stands first.
+/// The tokens after a mark, if it stands first.
 #[tactic(auto, unfolding(crate::specs::Reading::eat), using(crate::proofs::ReadingFacts::one_mark, crate::proofs::ReadingFacts::other_mark))]
-fn eat(tokens: &[Token], mark: Mark) -> Option<&[Token]>
+fn eat(tokens: &[Token], mark: Delimiter) -> Option<&[Token]>
     ensures { Finds (λ r. kinds_of r.now) result (eat mark (kinds_of tokens.now)) }
 {
     let (first, rest) = tokens.split_first()?;
     match &first.kind {
-        TokenKind::Mark(found) if *found == mark => Some(rest),
+        TokenKind::Delimiter(found) if *found == mark => Some(rest),
         _ => None,
     }
 }
 
-/// The tokens behind a key word that is not reserved, if it stands first.
+/// The tokens after a key word that is not reserved, if it stands first.
 #[tactic(auto, unfolding(crate::specs::Reading::eat_word))]
 fn eat_word<'t>(tokens: &'t [Token], word: &str) -> Option<&'t [Token]>
     ensures { Finds (λ r. kinds_of r.now) result (eat_word word.now (kinds_of tokens.now)) }
@@ -89,9 +89,9 @@ fn unexpected(tokens: &[Token]) -> ReadError
     ReadError::Unexpected { left: tokens.len() }
 }
 
-/// The tokens behind a mark, which has to stand first.
+/// The tokens after a mark, which has to stand first.
 #[tactic(auto, unfolding(crate::specs::Reading::expect))]
-fn expect(tokens: &[Token], mark: Mark) -> Result<&[Token], ReadError>
+fn expect(tokens: &[Token], mark: Delimiter) -> Result<&[Token], ReadError>
     ensures { Gives (λ r. kinds_of r.now) result (expect mark (kinds_of tokens.now)) }
 {
     match eat(tokens, mark) {
@@ -100,7 +100,7 @@ fn expect(tokens: &[Token], mark: Mark) -> Result<&[Token], ReadError>
     }
 }
 
-/// The tokens behind a key word that is not reserved, which has to stand first.
+/// The tokens after a key word that is not reserved, which has to stand first.
 #[tactic(auto, unfolding(crate::specs::Reading::expect_word))]
 fn expect_word<'t>(tokens: &'t [Token], word: &str) -> Result<&'t [Token], ReadError>
     ensures { Gives (λ r. kinds_of r.now) result (expect_word word.now (kinds_of tokens.now)) }
@@ -111,7 +111,7 @@ fn expect_word<'t>(tokens: &'t [Token], word: &str) -> Result<&'t [Token], ReadE
     }
 }
 
-/// A name, which has to stand first, and the tokens behind it.
+/// A name, which has to stand first, and the tokens after it.
 #[tactic(auto, unfolding(crate::specs::Reading::name_at))]
 fn read_name(alloc: Global, tokens: &[Token]) -> Result<(Name, &[Token]), ReadError>
     ensures { Gives (λ x. (x.0, kinds_of x.1.now)) result (name_at (kinds_of tokens.now)) }
@@ -134,9 +134,9 @@ fn read_nulls(tokens: &[Token]) -> Result<(Nulls, &[Token]), ReadError>
     let Some(rest) = eat_word(tokens, "nulls") else {
         return Ok((Nulls::Unsaid, tokens));
     };
-    match eat(rest, Mark::Not) {
-        Some(rest) => Ok((Nulls::NotDistinct, expect(rest, Mark::Distinct)?)),
-        None => Ok((Nulls::Distinct, expect(rest, Mark::Distinct)?)),
+    match eat(rest, Delimiter::Not) {
+        Some(rest) => Ok((Nulls::NotDistinct, expect(rest, Delimiter::Distinct)?)),
+        None => Ok((Nulls::Distinct, expect(rest, Delimiter::Distinct)?)),
     }
 }
 
@@ -145,10 +145,10 @@ fn read_nulls(tokens: &[Token]) -> Result<(Nulls, &[Token]), ReadError>
 fn read_words(tokens: &[Token]) -> Result<(KeyWords, &[Token]), ReadError>
     ensures { Gives (λ x. (x.0, kinds_of x.1.now)) result (words_at (kinds_of tokens.now)) }
 {
-    match eat(tokens, Mark::Primary) {
+    match eat(tokens, Delimiter::Primary) {
         Some(rest) => Ok((KeyWords::Primary, expect_word(rest, "key")?)),
         None => {
-            let rest = expect(tokens, Mark::Unique)?;
+            let rest = expect(tokens, Delimiter::Unique)?;
             let (nulls, rest) = read_nulls(rest)?;
             Ok((KeyWords::Unique(nulls), rest))
         }
@@ -160,10 +160,10 @@ fn read_words(tokens: &[Token]) -> Result<(KeyWords, &[Token]), ReadError>
 fn read_rule(tokens: &[Token]) -> Result<(Rule, &[Token]), ReadError>
     ensures { Gives (λ x. (x.0, kinds_of x.1.now)) result (rule_at (kinds_of tokens.now)) }
 {
-    if let Some(rest) = eat(tokens, Mark::Not) {
-        return Ok((Rule::NotNull, expect(rest, Mark::Null)?));
+    if let Some(rest) = eat(tokens, Delimiter::Not) {
+        return Ok((Rule::NotNull, expect(rest, Delimiter::Null)?));
     }
-    if let Some(rest) = eat(tokens, Mark::Null) {
+    if let Some(rest) = eat(tokens, Delimiter::Null) {
         return Ok((Rule::Null, rest));
     }
     let (words, rest) = read_words(tokens)?;
@@ -175,7 +175,7 @@ fn read_rule(tokens: &[Token]) -> Result<(Rule, &[Token]), ReadError>
 fn read_constraint(alloc: Global, tokens: &[Token]) -> Result<(Option<Name>, &[Token]), ReadError>
     ensures { Gives (λ x. (x.0, kinds_of x.1.now)) result (constraint_at (kinds_of tokens.now)) }
 {
-    match eat(tokens, Mark::Constraint) {
+    match eat(tokens, Delimiter::Constraint) {
         Some(rest) => {
             let (name, rest) = read_name(alloc, rest)?;
             Ok((Some(name), rest))
@@ -198,7 +198,7 @@ fn read_column_rule(alloc: Global, tokens: &[Token]) -> Result<(ColumnRule, &[To
 fn ends_column(tokens: &[Token]) -> bool
     ensures { result ≡ ends_column (kinds_of tokens.now) }
 {
-    eat(tokens, Mark::Comma).is_some() || eat(tokens, Mark::RightBracket).is_some()
+    eat(tokens, Delimiter::Comma).is_some() || eat(tokens, Delimiter::RightBracket).is_some()
 }
 
 /// The rules of a column, up to the comma or bracket that ends it.
@@ -228,7 +228,7 @@ fn read_list<T: Item>(alloc: Global, tokens: &[Token]) -> Result<(Vec<T>, &[Toke
     let mut items = Vec::new(alloc);
     items.push(first)?;
     for _ in 0..tokens.len() {
-        let Some(after) = eat(rest, Mark::Comma) else {
+        let Some(after) = eat(rest, Delimiter::Comma) else {
             break;
         };
         let (item, after) = T::read(alloc, after)?;
@@ -269,9 +269,9 @@ fn read_key(alloc: Global, tokens: &[Token]) -> Result<(WrittenKey, &[Token]), R
 {
     let (constraint, rest) = read_constraint(alloc, tokens)?;
     let (words, rest) = read_words(rest)?;
-    let rest = expect(rest, Mark::LeftBracket)?;
+    let rest = expect(rest, Delimiter::LeftBracket)?;
     let (columns, rest) = read_list(alloc, rest)?;
-    let rest = expect(rest, Mark::RightBracket)?;
+    let rest = expect(rest, Delimiter::RightBracket)?;
     let key = WrittenKey {
         constraint,
         words,
@@ -285,9 +285,9 @@ fn read_key(alloc: Global, tokens: &[Token]) -> Result<(WrittenKey, &[Token]), R
 fn begins_key(tokens: &[Token]) -> bool
     ensures { result ≡ begins_key (kinds_of tokens.now) }
 {
-    eat(tokens, Mark::Constraint).is_some()
-        || eat(tokens, Mark::Primary).is_some()
-        || eat(tokens, Mark::Unique).is_some()
+    eat(tokens, Delimiter::Constraint).is_some()
+        || eat(tokens, Delimiter::Primary).is_some()
+        || eat(tokens, Delimiter::Unique).is_some()
 }
 
 impl Item for Element {
@@ -316,16 +316,16 @@ impl Item for Element {
 fn read_table(alloc: Global, tokens: &[Token]) -> Result<(WrittenTable, &[Token]), ReadError>
     ensures { Gives (λ x. (table_tree x.0, kinds_of x.1.now)) result (table_at (kinds_of tokens.now)) }
 {
-    let rest = expect(tokens, Mark::Create)?;
-    let rest = expect(rest, Mark::Table)?;
+    let rest = expect(tokens, Delimiter::Create)?;
+    let rest = expect(rest, Delimiter::Table)?;
     let (name, rest) = read_name(alloc, rest)?;
-    let rest = expect(rest, Mark::LeftBracket)?;
+    let rest = expect(rest, Delimiter::LeftBracket)?;
     let (elements, rest) = read_list(alloc, rest)?;
-    let rest = expect(rest, Mark::RightBracket)?;
+    let rest = expect(rest, Delimiter::RightBracket)?;
     Ok((WrittenTable { name, elements }, rest))
 }
 
-/// A table's declaration, and whether a semicolon stands behind it.
+/// A table's declaration, and whether a semicolon stands after it.
 #[derive(Drop)]
 struct Statement {
     table: WrittenTable,
@@ -342,7 +342,7 @@ fn read_statement(alloc: Global, tokens: &[Token]) -> Result<(Statement, &[Token
     Ok((Statement { table, semicolon }, rest))
 }
 
-/// The semicolon behind a statement, or the end of the tokens.
+/// The semicolon after a statement, or the end of the tokens.
 #[tactic(auto, unfolding(crate::specs::Reading::stop_at))]
 fn read_stop(tokens: &[Token]) -> Result<(bool, &[Token]), ReadError>
     ensures { Gives (λ x. (x.0, kinds_of x.1.now)) result (stop_at (kinds_of tokens.now)) }
@@ -350,7 +350,7 @@ fn read_stop(tokens: &[Token]) -> Result<(bool, &[Token]), ReadError>
     if tokens.is_empty() {
         return Ok((false, tokens));
     }
-    let rest = expect(tokens, Mark::Semicolon)?;
+    let rest = expect(tokens, Delimiter::Semicolon)?;
     Ok((true, rest))
 }
 
@@ -358,9 +358,9 @@ fn read_stop(tokens: &[Token]) -> Result<(bool, &[Token]), ReadError>
 #[derive(Drop)]
 pub struct Statements {
     pub tables: Vec<WrittenTable>,
-    /// Whether a semicolon stands behind the last.
+    /// Whether a semicolon stands after the last.
     pub ended: bool,
-    /// The number of the token behind them where no schema goes on.
+    /// The number of the token after them where no schema goes on.
     pub unexpected: Option<u64>,
 }
 
@@ -383,7 +383,7 @@ pub fn read_statements(alloc: Global, tokens: &[Token]) -> Result<Statements, Ou
                 rest = after;
             }
             Err(ReadError::Unexpected { left }) => {
-                let unexpected = Some(place_of(tokens, left));
+                let unexpected = Some(token_place(tokens, left));
                 return Ok(Statements {
                     tables,
                     ended,
@@ -401,7 +401,7 @@ pub fn read_statements(alloc: Global, tokens: &[Token]) -> Result<Statements, Ou
 }
 
 /// The number of the first of the last `left` tokens.
-fn place_of(tokens: &[Token], left: usize) -> u64
+fn token_place(tokens: &[Token], left: usize) -> u64
     ensures { result ≡ length (kinds_of tokens.now) - left }
 {
     tokens.len().saturating_sub(left) as u64

@@ -12,7 +12,7 @@ pub enum Name {
     Quoted(Text),
 }
 
-/// What stands behind UNIQUE.
+/// What stands after UNIQUE.
 #[derive(Clone, Copy, PartialEq, Eq)]
 pub enum Nulls {
     /// Nothing, which takes NULLs as distinct.

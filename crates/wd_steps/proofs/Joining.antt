@@ -42,7 +42,7 @@ pub length-rows_pairs : (left right : List (Vec Value Global)) → length (pairs
 length-rows_pairs left right =
     length-pairs (rows_of left) (rows_of right) ∙ ap (λ n. n * length (rows_of right)) (length-map left items) ∙ ap (λ n. length left * n) (length-map right items)
 
--- ---- where no pair can fault, pairs behind the rows asked for change nothing
+-- ---- where no pair can fault, pairs after the rows asked for change nothing
 
 pairs_cut : (left right : List Row) (i : ℕ) → pairs left right ≡ pairs (take i left) right ++ pairs (drop i left) right
 pairs_cut left right zero = refl

@@ -110,7 +110,7 @@ module _ (rows : List Row) (order : List ℕ) (s : IsRowSort rows order) where
       let tie = compare_rows-tie (row_at rows p) (row_at rows q) same in
       not_below p q (rw tie at later)
 
-  -- a row right behind one that is the same repeats that one
+  -- a row right after one that is the same repeats that one
   found_earlier : (q : ℕ) → SameBefore rows order (length order) q → Earlier rows q
   found_earlier q (i, within, is, same) =
       let p = get_or order i 0 in
@@ -122,7 +122,7 @@ module _ (rows : List Row) (order : List ℕ) (s : IsRowSort rows order) where
       let other : p ≢ q = λ e. (let two = twice q order i (omega arith) e (rw add-one at is) in absurd (omega arith)) in
       (p, omega arith, alike)
 
-  -- a row that repeats an earlier one stands right behind one that is the same
+  -- a row that repeats an earlier one stands right after one that is the same
   earlier_found : (q : ℕ) → q < length rows → Earlier rows q → SameBefore rows order (length order) q
   earlier_found q below (p, before, same) =
       let (j, j-within, j-at) = stands q below in

@@ -11,7 +11,7 @@ use wd_plan::OrderItem;
 use wd_sort::row_in;
 use wd_value::{OutOfMemory, Row, Value};
 
-/// What a Limit keeps of the rows as an ordering of their positions has them: those behind the
+/// What a Limit keeps of the rows as an ordering of their positions has them: those after the
 /// offset, and where there is a count the first of them, with ties also those that follow and tie
 /// with the last of these.
 pub fn cut_rows(

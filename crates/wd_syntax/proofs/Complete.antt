@@ -1,8 +1,8 @@
 -- What a well-levelled expression spells is read as that expression, or passes a limit that the expression passes.
 use Rattle.std.proofs.Common.{◌≡◌, ◌≢◌, ℕ, zero, suc, ◌+◌, ◌<◌, ◌≤◌, ◌⊎◌, inl, inr, Bool, true, false, List, [], ◌∷◌, length, Option, Some, None, Ok, Err, refl, sym, ap, subst, ◌∙◌, arith, ⊎_elim}
 use Rattle.std.proofs.lemmas.Bool.{cases_lt}
-use Rattle.wd_lex.specs.declared.token.Mark.{Mark}
-use Rattle.wd_lex.specs.declared.token.Mark.TheVariants as m
+use Rattle.wd_lex.specs.declared.token.Delimiter.{Delimiter}
+use Rattle.wd_lex.specs.declared.token.Delimiter.TheVariants as m
 use Rattle.wd_lex.specs.declared.token.TokenKind.TheVariants as t
 use Rattle.wd_syntax.specs.declared.name.Name.{Name}
 use Rattle.wd_syntax.specs.declared.frame.Frame.{Frame}
@@ -83,15 +83,15 @@ many_yields F item (suc n) (x ∷ xs) ts rest le h =
     (then_yields (F x) (Each F (x ∷ xs)) (x, h.0) (x ∷ xs, rest) h.1 (λ a. many item n a.1 >>= λ ys. Ok (a.0 ∷ ys.0, ys.1)) (λ f. f.0) h.3
     (then_yields (Each F xs) (Each F (x ∷ xs)) (xs, rest) (x ∷ xs, rest) (many item n h.0) (λ ys. Ok (x ∷ ys.0, ys.1)) (λ f. f.1) (many_yields F item n xs h.0 rest (omega arith) h.5) refl))
 
-pub after_same : {A : Type 0} (x : Mark) (item : Parser A) (ts : Kinds) → after x item (x ▸ ts) ≡ Some (item ts)
+pub after_same : {A : Type 0} (x : Delimiter) (item : Parser A) (ts : Kinds) → after x item (x ▸ ts) ≡ Some (item ts)
 unfolding after
 after_same x item ts = rw (eat_same x ts) refl
 
-pub after_none : {A : Type 0} (x : Mark) (item : Parser A) (ts : Kinds) → eat x ts ≡ None → after x item ts ≡ None
+pub after_none : {A : Type 0} (x : Delimiter) (item : Parser A) (ts : Kinds) → eat x ts ≡ None → after x item ts ≡ None
 unfolding after
 after_none x item ts e = rw e refl
 
-pub list_yields : {A : Type 0} (F : A → Type 0) (x : Mark) (item : Parser A) (a : A) (xs : List A) (ts mid rest : Kinds) → Yields (F a) (a, mid) (item ts) → Turns F (after x item) xs mid rest → Yields (Each F (a ∷ xs)) (a ∷ xs, rest) (list_at x item ts)
+pub list_yields : {A : Type 0} (F : A → Type 0) (x : Delimiter) (item : Parser A) (a : A) (xs : List A) (ts mid rest : Kinds) → Yields (F a) (a, mid) (item ts) → Turns F (after x item) xs mid rest → Yields (Each F (a ∷ xs)) (a ∷ xs, rest) (list_at x item ts)
 unfolding list_at
 list_yields F x item a xs ts mid rest y h =
     then_yields (F a) (Each F (a ∷ xs)) (a, mid) (a ∷ xs, rest) (item ts) (λ z. many (after x item) (length z.1) z.1 >>= λ ys. Ok (z.0 ∷ ys.0, ys.1)) (λ f. f.0) y
@@ -164,7 +164,7 @@ begins (IsNull a not) ts wl = let i = begins a (m.Is ▸ not_onto not (m.Null �
 begins (Negated a) ts wl = (λ h. absurd (omega arith), λ h. absurd (omega arith))
 
 -- the marks that begin an expression
-abbrev start : Mark → ℕ
+abbrev start : Delimiter → ℕ
 start m.Plus = 1
 start m.Minus = 1
 start m.Not = 1
@@ -177,13 +177,13 @@ start _ = 0
 
 abbrev pub IsBegun : Kinds → Type 0
 IsBegun [] = ⊥
-IsBegun (t.Mark x ∷ ts) = start x ≡ 1
+IsBegun (t.Delimiter x ∷ ts) = start x ≡ 1
 IsBegun (_ ∷ ts) = Unit {0}
 
-pub begun_stops : (x : Mark) (ts : Kinds) → start x ≡ 0 → IsBegun ts → eat x ts ≡ None
+pub begun_stops : (x : Delimiter) (ts : Kinds) → start x ≡ 0 → IsBegun ts → eat x ts ≡ None
 unfolding eat
 begun_stops x [] e h = refl
-begun_stops x (t.Mark y ∷ ts) e h = eat_other x y ts (λ same. let q : start y ≡ start x = ap start same in omega arith)
+begun_stops x (t.Delimiter y ∷ ts) e h = eat_other x y ts (λ same. let q : start y ≡ start x = ap start same in omega arith)
 begun_stops x (t.Word text ∷ ts) e h = refl
 begun_stops x (t.Quoted text ∷ ts) e h = refl
 begun_stops x (t.Literal text ∷ ts) e h = refl
@@ -226,7 +226,7 @@ star_unnamed : (ts : Kinds) → eat_name ts ≡ None → star_at ts ≡ None
 unfolding star_at
 star_unnamed ts e = rw e refl
 
-unnamed : (x : Mark) (ts : Kinds) → eat_name (x ▸ ts) ≡ None
+unnamed : (x : Delimiter) (ts : Kinds) → eat_name (x ▸ ts) ≡ None
 unfolding eat_name
 unnamed x ts = refl
 

@@ -1,7 +1,7 @@
 -- What a well-levelled query spells is read as that query, or passes a limit that the query passes.
 use Rattle.std.proofs.Common.{◌≡◌, ℕ, zero, suc, ◌<◌, ◌≤◌, Bool, true, false, List, [], ◌∷◌, length, Option, Some, None, Result, Ok, Err, refl, sym, ap, subst, arith}
-use Rattle.wd_lex.specs.declared.token.Mark.{Mark}
-use Rattle.wd_lex.specs.declared.token.Mark.TheVariants as m
+use Rattle.wd_lex.specs.declared.token.Delimiter.{Delimiter}
+use Rattle.wd_lex.specs.declared.token.Delimiter.TheVariants as m
 use Rattle.wd_syntax.specs.declared.name.Name.{Name}
 use Rattle.wd_syntax.specs.declared.query.Alias.{Alias}
 use Rattle.wd_syntax.specs.declared.query.Quantifier.{Quantifier}
@@ -169,7 +169,7 @@ unfolding eat
 other_joins ts = (refl, refl, refl, refl, refl, refl)
 
 -- what begins a select list is neither ALL nor DISTINCT
-item_begins : (x : Mark) (a : ItemTree) (ts : Kinds) → (eat x (m.Star ▸ ts) ≡ None) → ((b : Tree) (rest : Kinds) → eat x (onto b rest) ≡ None) → eat x (item_onto a ts) ≡ None
+item_begins : (x : Delimiter) (a : ItemTree) (ts : Kinds) → (eat x (m.Star ▸ ts) ≡ None) → ((b : Tree) (rest : Kinds) → eat x (onto b rest) ≡ None) → eat x (item_onto a ts) ≡ None
 item_begins x all_columns ts e h = e
 item_begins x (all_of n) ts e h = eat_name_kind x n (m.Dot ▸ m.Star ▸ ts)
 item_begins x (shown a alias) ts e h = h a (alias_onto alias ts)

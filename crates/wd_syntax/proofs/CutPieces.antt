@@ -1,7 +1,7 @@
 -- What never passes a limit, and what stands before other tokens.
 use Rattle.std.proofs.Common.{◌≡◌, ℕ, Bool, true, false, List, [], ◌∷◌, Option, Some, None, Result, Ok, Err, refl, ap, ◌∙◌}
-use Rattle.wd_lex.specs.declared.token.Mark.{Mark}
-use Rattle.wd_lex.specs.declared.token.Mark.TheVariants as m
+use Rattle.wd_lex.specs.declared.token.Delimiter.{Delimiter}
+use Rattle.wd_lex.specs.declared.token.Delimiter.TheVariants as m
 use Rattle.wd_lex.specs.declared.token.TokenKind.TheVariants as t
 use Rattle.wd_syntax.specs.declared.words.KeyWord.{KeyWord}
 use Rattle.wd_syntax.specs.declared.words.KeyWord.TheVariants as k
@@ -60,7 +60,7 @@ some_cuts : {A : Type 0} (K : ℕ → Type 0) (o : Option A) → CutBy K (some_o
 some_cuts K None = tt
 some_cuts K (Some x) = tt
 
-pub expect_cuts : (K : ℕ → Type 0) (x : Mark) (ts : Kinds) → CutBy K (expect x ts)
+pub expect_cuts : (K : ℕ → Type 0) (x : Delimiter) (ts : Kinds) → CutBy K (expect x ts)
 unfolding expect
 expect_cuts K x ts = some_cuts K (eat x ts)
 
@@ -75,7 +75,7 @@ name_cuts K ts = some_cuts K (eat_name ts)
 pub number_cuts : (K : ℕ → Type 0) (ts : Kinds) → CutBy K (number_at ts)
 unfolding number_at
 number_cuts K [] = tt
-number_cuts K (t.Mark y ∷ ts) = tt
+number_cuts K (t.Delimiter y ∷ ts) = tt
 number_cuts K (t.Word text ∷ ts) = tt
 number_cuts K (t.Quoted text ∷ ts) = tt
 number_cuts K (t.Literal text ∷ ts) = tt

@@ -1,6 +1,6 @@
 -- Where reading a query passes a limit, some query with the same front passes it at the same token.
 use Rattle.std.proofs.Common.{◌≡◌, ℕ, zero, suc, ◌≤◌, ◌⊎◌, inl, inr, Bool, true, false, List, [], ◌∷◌, length, Option, Some, None, Ok, refl, sym, ap, subst, ◌∙◌, ⊎_elim}
-use Rattle.wd_lex.specs.declared.token.Mark.TheVariants as m
+use Rattle.wd_lex.specs.declared.token.Delimiter.TheVariants as m
 use Rattle.wd_lex.specs.declared.token.TokenKind.{TokenKind}
 use Rattle.wd_lex.specs.declared.token.TokenKind.TheVariants as t
 use Rattle.wd_syntax.specs.declared.name.Name.{Name}
@@ -90,7 +90,7 @@ module _ (c : ℕ) where
       let start : ts ≡ name_kind n.0 ∷ (m.As ▸ m.LeftBracket ▸ q) = e ∙ ap (λ (z : Kinds). name_kind n.0 ∷ z) (f ∙ ap (λ (z : Kinds). m.As ▸ z) h) in
       on_cuts (L d) (enter (length r) (deeper_of c d) (λ p. window_at (p 8) q)) (λ w. Ok ((n.0, w.0), w.1))
       (enter_cuts c (length r) L (λ p. window_at (p 8) q)
-      (cut_here named_window_onto NamedLevelled (NamedPasses c 0) ts (λ z. name_kind n.0 ∷ (m.As ▸ z)) (t.Mark m.LeftBracket) q (n.0, no_window c) (λ us. m.RightBracket ▸ us) (length r) (λ x y. refl) (tt, tt) start (sym (ap length h)) (λ us. refl) (λ us. refl))
+      (cut_here named_window_onto NamedLevelled (NamedPasses c 0) ts (λ z. name_kind n.0 ∷ (m.As ▸ z)) (t.Delimiter m.LeftBracket) q (n.0, no_window c) (λ us. m.RightBracket ▸ us) (length r) (λ x y. refl) (tt, tt) start (sym (ap length h)) (λ us. refl) (λ us. refl))
       (λ k cut sound. mapped_cuts (WindowCut c k q) (L (suc k)) (window_at (levels c (deeper_of c k) 8) q) (window_cut c k (levels c (deeper_of c k) 8) q (whole_cut c k cut) (whole_expression c k sound))
       (cut_step (λ w us. window_onto w (m.RightBracket ▸ us)) WindowLevelled (λ w us rest. WindowPasses c k w (m.RightBracket ▸ us) rest) q named_window_onto NamedLevelled (NamedPasses c (suc k)) ts (λ z. name_kind n.0 ∷ (m.As ▸ m.LeftBracket ▸ z)) (λ w. (n.0, w)) (λ w us. us) (λ x y. refl) start (λ w g. g) (λ w us g. refl) (λ w us rest g s. s))) d cut lower)
       (λ w. tt))))
@@ -145,7 +145,7 @@ module _ (c : ℕ) where
       at_mark (CutBy (L d)) m.LeftBracket ts (λ r. enter (length ts) (inside_of c d) (λ p. p r) >>= λ s. expect m.RightBracket s.1 >>= λ r. given_at r >>= λ alias. Ok (derived s.0 alias.0, alias.1)) (name_at ts >>= λ n. alias_at n.1 >>= λ alias. Ok (named n.0 alias.0, alias.1))
       (λ r e. on_cuts (L d) (enter (length ts) (inside_of c d) (λ p. p r)) (λ s. expect m.RightBracket s.1 >>= λ r. given_at r >>= λ alias. Ok (derived s.0 alias.0, alias.1))
       (inside_cuts (length ts) L r
-      (cut_here table_onto TableLevelled (TablePasses c 0) ts (λ z. z) (t.Mark m.LeftBracket) r (derived some_select some_alias) (λ us. select_onto some_select (m.RightBracket ▸ given_onto some_alias us)) (length ts) (λ x y. refl) (tt, (tt, tt), tt, tt, tt, tt, tt) e (sym (ap length e)) (λ us. refl) (λ us. refl))
+      (cut_here table_onto TableLevelled (TablePasses c 0) ts (λ z. z) (t.Delimiter m.LeftBracket) r (derived some_select some_alias) (λ us. select_onto some_select (m.RightBracket ▸ given_onto some_alias us)) (length ts) (λ x y. refl) (tt, (tt, tt), tt, tt, tt, tt, tt) e (sym (ap length e)) (λ us. refl) (λ us. refl))
       (λ k all. mapped_cuts (SelectCut k r) (L (suc k)) (selects c k r) (all r)
       (cut_step select_onto SelectLevelled (SelectPasses c k) r table_onto TableLevelled (TablePasses c (suc k)) ts (λ z. m.LeftBracket ▸ z) (λ s. derived s some_alias) (λ s us. m.RightBracket ▸ given_onto some_alias us) (λ x y. refl) e (λ s g. g) (λ s us g. refl) (λ s us rest g p. p))) d cut)
       (λ s. on_cuts (L d) (expect m.RightBracket s.1) (λ r. given_at r >>= λ alias. Ok (derived s.0 alias.0, alias.1)) (expect_cuts (L d) m.RightBracket s.1) (λ q. on_cuts (L d) (given_at q) (λ alias. Ok (derived s.0 alias.0, alias.1)) (given_cuts (L d) q) (λ alias. tt))))
@@ -172,10 +172,10 @@ module _ (c : ℕ) where
   inner_cut d b item ts us cut tables lower e =
       let L : ℕ → Type 0 = JoinCut d ts in
       then_cuts (TableCut d us) L (IsPart table_onto (GoodTable c d) us) (table_at (inside_of c d) us) (λ table. expect m.On table.1 >>= λ r. item r >>= λ on. Ok (inner b table.0 on.0, on.1)) (table_cut d us tables) (table_holds c d us lower)
-      (cut_step table_onto TableLevelled (TablePasses c d) us join_onto JoinLevelled (JoinPasses c d) ts (inner_mark b) (λ table. inner b table nothing) (λ table us. m.On ▸ (t.Mark m.Null ∷ us)) (pre_inner b) e (λ table g. (g, tt)) (λ table us g. inner_spelled b table nothing us) (λ table us rest g s. inl s))
+      (cut_step table_onto TableLevelled (TablePasses c d) us join_onto JoinLevelled (JoinPasses c d) ts (inner_mark b) (λ table. inner b table nothing) (λ table us. m.On ▸ (t.Delimiter m.Null ∷ us)) (pre_inner b) e (λ table g. (g, tt)) (λ table us g. inner_spelled b table nothing us) (λ table us rest g s. inl s))
       (λ table i. mark_cuts L m.On table.1 (λ r. item r >>= λ on. Ok (inner b table.0 on.0, on.1)) (λ r f.
       then_cuts (IsCut onto IsLevelled (Passes c d) r) L (λ z. Unit {0}) (item r) (λ on. Ok (inner b table.0 on.0, on.1)) (cut r) (all_things (item r))
-      (cut_step onto IsLevelled (Passes c d) r join_onto JoinLevelled (JoinPasses c d) ts (λ z. inner_mark b (table_onto table.0 (m.On ▸ z))) (λ on. inner b table.0 on) (λ on us. us) (pre_then (inner_mark b) (λ z. table_onto table.0 (m.On ▸ z)) (pre_inner b) (pre_then (table_onto table.0) (λ z. m.On ▸ z) (pre_table table.0) (pre_kind (t.Mark m.On)))) (e ∙ ap (inner_mark b) (i.parts ∙ ap (table_onto table.0) f)) (λ on g. (i.good.0, g)) (λ on us g. inner_spelled b table.0 on us) (λ on us rest g s. inr s))
+      (cut_step onto IsLevelled (Passes c d) r join_onto JoinLevelled (JoinPasses c d) ts (λ z. inner_mark b (table_onto table.0 (m.On ▸ z))) (λ on. inner b table.0 on) (λ on us. us) (pre_then (inner_mark b) (λ z. table_onto table.0 (m.On ▸ z)) (pre_inner b) (pre_then (table_onto table.0) (λ z. m.On ▸ z) (pre_table table.0) (pre_kind (t.Delimiter m.On)))) (e ∙ ap (inner_mark b) (i.parts ∙ ap (table_onto table.0) f)) (λ on g. (i.good.0, g)) (λ on us g. inner_spelled b table.0 on us) (λ on us rest g s. inr s))
       (λ on u. tt)))
 
   join_cut : (d : ℕ) (item : Parser Tree) (ts : Kinds) → WholeCut c d item → InsideCut d → Inside c d → MayCut (JoinCut d ts) (join_at (inside_of c d) item ts)

@@ -3,8 +3,8 @@ use Rattle.std.proofs.Common.{◌≡◌, ◌≢◌, ℕ, ◌<◌, ◌≤◌, Boo
 use Rattle.std.proofs.lemmas.Bool.{eqb-true}
 use Rattle.std.proofs.lemmas.Slice.Eq.{bytes_eq-Decides}
 use Rattle.std.specs.Str.{bytes_eq}
-use Rattle.wd_lex.specs.declared.token.Mark.{Mark}
-use Rattle.wd_lex.specs.declared.token.Mark.TheVariants as m
+use Rattle.wd_lex.specs.declared.token.Delimiter.{Delimiter}
+use Rattle.wd_lex.specs.declared.token.Delimiter.TheVariants as m
 use Rattle.wd_lex.specs.declared.token.TokenKind.TheVariants as t
 use Rattle.wd_lex.specs.Marks.{mark_code}
 use Rattle.wd_lex.proofs.MarkLaws.{same_mark}
@@ -27,11 +27,11 @@ not_same a b ne = search rules
 pub bytes-same : (text : List ℕ) → bytes_eq text text ≡ true
 bytes-same text = (bytes_eq-Decides text text).1 refl
 
-pub eat_same : (x : Mark) (ts : Kinds) → eat x (x ▸ ts) ≡ Some ts
+pub eat_same : (x : Delimiter) (ts : Kinds) → eat x (x ▸ ts) ≡ Some ts
 unfolding eat
 eat_same x ts = rw (eqb-same (mark_code x)) refl
 
-pub expect_same : (x : Mark) (ts : Kinds) → expect x (x ▸ ts) ≡ Ok ts
+pub expect_same : (x : Delimiter) (ts : Kinds) → expect x (x ▸ ts) ≡ Ok ts
 unfolding expect
 expect_same x ts = rw (eat_same x ts) refl
 
@@ -58,12 +58,12 @@ unfolding name_at
 name_at_same n ts = rw (eat_name_same n ts) refl
 
 -- a name is no mark
-eat_written : (x : Mark) (b : Bool) (text : List ℕ) (ts : Kinds) → eat x (written b text ∷ ts) ≡ None
+eat_written : (x : Delimiter) (b : Bool) (text : List ℕ) (ts : Kinds) → eat x (written b text ∷ ts) ≡ None
 unfolding eat
 eat_written x true text ts = refl
 eat_written x false text ts = refl
 
-pub eat_name_kind : (x : Mark) (n : Name) (ts : Kinds) → eat x (name_kind n ∷ ts) ≡ None
+pub eat_name_kind : (x : Delimiter) (n : Name) (ts : Kinds) → eat x (name_kind n ∷ ts) ≡ None
 eat_name_kind x n ts = eat_written x n.quoted n.text ts
 
 sign_written : (b : Bool) (text : List ℕ) (ts : Kinds) → sign_at (written b text ∷ ts) ≡ None
@@ -77,7 +77,7 @@ sign_name_kind n ts = sign_written n.quoted n.text ts
 -- ---- what ends an expression
 
 -- the height at which a mark goes on with an expression, or 9
-abbrev pub grip_by : Option Operator → Mark → ℕ
+abbrev pub grip_by : Option Operator → Delimiter → ℕ
 grip_by (Some o) x = operator_height o
 grip_by None m.Is = 5
 grip_by None m.LeftBracket = 0
@@ -85,12 +85,12 @@ grip_by None m.Dot = 0
 grip_by None m.Over = 0
 grip_by None _ = 9
 
-abbrev pub grip : Mark → ℕ
+abbrev pub grip : Delimiter → ℕ
 grip x = grip_by (operator_of x) x
 
 abbrev pub grips : Kinds → ℕ
 grips [] = 9
-grips (t.Mark x ∷ ts) = grip x
+grips (t.Delimiter x ∷ ts) = grip x
 grips (_ ∷ ts) = 9
 
 grips_written : (b : Bool) (text : List ℕ) (ts : Kinds) → grips (written b text ∷ ts) ≡ 9
@@ -101,18 +101,18 @@ pub grips_name : (n : Name) (ts : Kinds) → grips (name_kind n ∷ ts) ≡ 9
 grips_name n ts = grips_written n.quoted n.text ts
 
 -- a mark that is not the first
-eat_other_by : (x : Mark) (y : Mark) (ts : Kinds) (b : Bool) → eqb (mark_code y) (mark_code x) ≡ b → (y ≡ x → ⊥) → cond b (Some ts) None ≡ None
+eat_other_by : (x : Delimiter) (y : Delimiter) (ts : Kinds) (b : Bool) → eqb (mark_code y) (mark_code x) ≡ b → (y ≡ x → ⊥) → cond b (Some ts) None ≡ None
 eat_other_by x y ts true e ne = absurd (ne (same_mark y x (eqb-true (mark_code y) (mark_code x) e)))
 eat_other_by x y ts false e ne = refl
 
-pub eat_other : (x y : Mark) (ts : Kinds) → (y ≡ x → ⊥) → eat x (y ▸ ts) ≡ None
+pub eat_other : (x y : Delimiter) (ts : Kinds) → (y ≡ x → ⊥) → eat x (y ▸ ts) ≡ None
 unfolding eat
 eat_other x y ts ne = eat_other_by x y ts (eqb (mark_code y) (mark_code x)) refl ne
 
-pub grip_stops : (x : Mark) (ts : Kinds) → grip x < grips ts → eat x ts ≡ None
+pub grip_stops : (x : Delimiter) (ts : Kinds) → grip x < grips ts → eat x ts ≡ None
 unfolding eat
 grip_stops x [] lt = refl
-grip_stops x (t.Mark y ∷ ts) lt = eat_other x y ts (λ e. let q : grip y ≡ grip x = ap grip e in omega arith)
+grip_stops x (t.Delimiter y ∷ ts) lt = eat_other x y ts (λ e. let q : grip y ≡ grip x = ap grip e in omega arith)
 grip_stops x (t.Word text ∷ ts) lt = refl
 grip_stops x (t.Quoted text ∷ ts) lt = refl
 grip_stops x (t.Literal text ∷ ts) lt = refl
@@ -124,14 +124,14 @@ eqb-differ a b lt = search rules
 pub eqb-below : (a b : ℕ) → a < b → eqb a b ≡ false
 eqb-below a b lt = search rules
 
-operator_if_stops : (h : ℕ) (o : Option Operator) (x : Mark) (ts : Kinds) → h < grip_by o x → operator_if h ts o ≡ None
+operator_if_stops : (h : ℕ) (o : Option Operator) (x : Delimiter) (ts : Kinds) → h < grip_by o x → operator_if h ts o ≡ None
 operator_if_stops h None x ts lt = refl
 operator_if_stops h (Some o) x ts lt = rw (eqb-differ (operator_height o) h lt) refl
 
 pub operator_stops : (h : ℕ) (ts : Kinds) → h < grips ts → operator_at h ts ≡ None
 unfolding operator_at
 operator_stops h [] lt = refl
-operator_stops h (t.Mark x ∷ ts) lt = operator_if_stops h (operator_of x) x ts lt
+operator_stops h (t.Delimiter x ∷ ts) lt = operator_if_stops h (operator_of x) x ts lt
 operator_stops h (t.Word text ∷ ts) lt = refl
 operator_stops h (t.Quoted text ∷ ts) lt = refl
 operator_stops h (t.Literal text ∷ ts) lt = refl
@@ -192,7 +192,7 @@ sign_same s.Minus ts = refl
 -- ---- what ends a clause
 
 -- The clause that a mark begins, in the order of the clauses; 0 where it begins none.
-abbrev pub clause : Mark → ℕ
+abbrev pub clause : Delimiter → ℕ
 clause m.Comma = 1
 clause m.Cross = 1
 clause m.Inner = 1
@@ -215,19 +215,19 @@ clause _ = 0
 
 abbrev pub clauses : Kinds → ℕ
 clauses [] = 6
-clauses (t.Mark x ∷ ts) = clause x
+clauses (t.Delimiter x ∷ ts) = clause x
 clauses (_ ∷ ts) = 0
 
-pub clause_stops : (x : Mark) (ts : Kinds) → clause x < clauses ts → eat x ts ≡ None
+pub clause_stops : (x : Delimiter) (ts : Kinds) → clause x < clauses ts → eat x ts ≡ None
 unfolding eat
 clause_stops x [] lt = refl
-clause_stops x (t.Mark y ∷ ts) lt = eat_other x y ts (λ e. let q : clause y ≡ clause x = ap clause e in omega arith)
+clause_stops x (t.Delimiter y ∷ ts) lt = eat_other x y ts (λ e. let q : clause y ≡ clause x = ap clause e in omega arith)
 clause_stops x (t.Word text ∷ ts) lt = refl
 clause_stops x (t.Quoted text ∷ ts) lt = refl
 clause_stops x (t.Literal text ∷ ts) lt = refl
 clause_stops x (t.Number n ∷ ts) lt = refl
 
-clause_grip_of : (x : Mark) → 0 < clause x → grip x ≡ 9
+clause_grip_of : (x : Delimiter) → 0 < clause x → grip x ≡ 9
 clause_grip_of m.Comma lt = refl
 clause_grip_of m.Cross lt = refl
 clause_grip_of m.Inner lt = refl
@@ -251,7 +251,7 @@ clause_grip_of _ lt = absurd (omega arith)
 -- a clause ends each expression
 pub clause_grips : (ts : Kinds) → 0 < clauses ts → grips ts ≡ 9
 clause_grips [] lt = refl
-clause_grips (t.Mark x ∷ ts) lt = clause_grip_of x lt
+clause_grips (t.Delimiter x ∷ ts) lt = clause_grip_of x lt
 clause_grips (t.Word text ∷ ts) lt = absurd (omega arith)
 clause_grips (t.Quoted text ∷ ts) lt = absurd (omega arith)
 clause_grips (t.Literal text ∷ ts) lt = absurd (omega arith)
@@ -261,7 +261,7 @@ clause_grips (t.Number n ∷ ts) lt = absurd (omega arith)
 pub clause_no_name : (ts : Kinds) → 0 < clauses ts → eat_name ts ≡ None
 unfolding eat_name
 clause_no_name [] lt = refl
-clause_no_name (t.Mark x ∷ ts) lt = refl
+clause_no_name (t.Delimiter x ∷ ts) lt = refl
 clause_no_name (t.Word text ∷ ts) lt = absurd (omega arith)
 clause_no_name (t.Quoted text ∷ ts) lt = absurd (omega arith)
 clause_no_name (t.Literal text ∷ ts) lt = absurd (omega arith)
@@ -270,7 +270,7 @@ clause_no_name (t.Number n ∷ ts) lt = absurd (omega arith)
 pub clause_no_word : (x : KeyWord) (ts : Kinds) → 0 < clauses ts → eat_word x ts ≡ None
 unfolding eat_word
 clause_no_word x [] lt = refl
-clause_no_word x (t.Mark y ∷ ts) lt = refl
+clause_no_word x (t.Delimiter y ∷ ts) lt = refl
 clause_no_word x (t.Word text ∷ ts) lt = absurd (omega arith)
 clause_no_word x (t.Quoted text ∷ ts) lt = absurd (omega arith)
 clause_no_word x (t.Literal text ∷ ts) lt = absurd (omega arith)

@@ -1,7 +1,7 @@
 -- What the parts that hold no expression spell is read as those parts.
 use Rattle.std.proofs.Common.{◌≡◌, ℕ, ◌<◌, Bool, true, false, [], ◌∷◌, Option, Some, None, Ok, refl, arith}
-use Rattle.wd_lex.specs.declared.token.Mark.{Mark}
-use Rattle.wd_lex.specs.declared.token.Mark.TheVariants as m
+use Rattle.wd_lex.specs.declared.token.Delimiter.{Delimiter}
+use Rattle.wd_lex.specs.declared.token.Delimiter.TheVariants as m
 use Rattle.wd_lex.specs.declared.token.TokenKind.TheVariants as t
 use Rattle.wd_syntax.specs.declared.words.KeyWord.TheVariants as k
 use Rattle.wd_syntax.specs.declared.name.Name.{Name}
@@ -43,7 +43,7 @@ mode_same Rows ts = refl
 mode_same Range ts = refl
 mode_same Groups ts = refl
 
-mode_stops_at : (x : Mark) → 5 < clause x → mode_if x ≡ None
+mode_stops_at : (x : Delimiter) → 5 < clause x → mode_if x ≡ None
 mode_stops_at m.Rows lt = absurd (omega arith)
 mode_stops_at m.Range lt = absurd (omega arith)
 mode_stops_at m.Groups lt = absurd (omega arith)
@@ -52,7 +52,7 @@ mode_stops_at _ lt = refl
 mode_stops : (ts : Kinds) → 5 < clauses ts → mode_at ts ≡ None
 unfolding mode_at
 mode_stops [] lt = refl
-mode_stops (t.Mark x ∷ ts) lt = rw (mode_stops_at x lt) refl
+mode_stops (t.Delimiter x ∷ ts) lt = rw (mode_stops_at x lt) refl
 mode_stops (t.Word text ∷ ts) lt = refl
 mode_stops (t.Quoted text ∷ ts) lt = refl
 mode_stops (t.Literal text ∷ ts) lt = refl
@@ -130,13 +130,13 @@ pub nulls_same : (nulls : Option NullsPlace) (ts : Kinds) → 0 < clauses ts →
 nulls_same None ts lt = nulls_same_absent ts (clause_no_word k.Nulls ts lt)
 nulls_same (Some place) ts lt = nulls_same_there place ts
 
-nulls_begins_there : (x : Mark) (place : NullsPlace) (ts : Kinds) → eat x (nulls_onto (Some place) ts) ≡ None
+nulls_begins_there : (x : Delimiter) (place : NullsPlace) (ts : Kinds) → eat x (nulls_onto (Some place) ts) ≡ None
 unfolding eat
 nulls_begins_there x p.First ts = refl
 nulls_begins_there x p.Last ts = refl
 
 -- a word is no mark, and what ends a clause is no direction
-pub nulls_begins : (x : Mark) (nulls : Option NullsPlace) (ts : Kinds) → clause x < clauses ts → eat x (nulls_onto nulls ts) ≡ None
+pub nulls_begins : (x : Delimiter) (nulls : Option NullsPlace) (ts : Kinds) → clause x < clauses ts → eat x (nulls_onto nulls ts) ≡ None
 nulls_begins x None ts lt = clause_stops x ts lt
 nulls_begins x (Some place) ts lt = nulls_begins_there x place ts
 

@@ -1,7 +1,7 @@
 -- What is read of an expression is spelled so, is well-levelled and keeps the limits.
 use Rattle.std.proofs.Common.{◌≡◌, ◌≢◌, ℕ, zero, suc, ◌+◌, ◌≤◌, Bool, true, false, cond, eqb, List, [], ◌∷◌, length, Option, Some, None, Result, Ok, Err, refl, sym, ap, subst, ◌∙◌, arith}
-use Rattle.wd_lex.specs.declared.token.Mark.{Mark}
-use Rattle.wd_lex.specs.declared.token.Mark.TheVariants as m
+use Rattle.wd_lex.specs.declared.token.Delimiter.{Delimiter}
+use Rattle.wd_lex.specs.declared.token.Delimiter.TheVariants as m
 use Rattle.wd_lex.specs.declared.token.TokenKind.TheVariants as t
 use Rattle.wd_syntax.specs.declared.name.Name.{Name}
 use Rattle.wd_syntax.specs.declared.expression.Operator.{Operator}
@@ -19,7 +19,7 @@ use Rattle.wd_syntax.proofs.Complete.{operators_more, operand_first, operators_z
 
 -- ---- marks of operators
 
-operator_of_is : (x : Mark) → Kept (λ o. x ≡ operator_mark o) (operator_of x)
+operator_of_is : (x : Delimiter) → Kept (λ o. x ≡ operator_mark o) (operator_of x)
 operator_of_is m.Or = refl
 operator_of_is m.And = refl
 operator_of_is m.Equals = refl
@@ -38,20 +38,20 @@ operator_of_is _ = tt
 abbrev pub IsOperator : ℕ → Kinds → Operator × Kinds → Type 0
 IsOperator h ts x = (ts ≡ operator_mark x.0 ▸ x.1) × (operator_height x.0 ≡ h)
 
-operator_if_is : (h : ℕ) (x : Mark) (ts : Kinds) (o : Option Operator) → Kept (λ o. x ≡ operator_mark o) o → Kept (IsOperator h (x ▸ ts)) (operator_if h ts o)
+operator_if_is : (h : ℕ) (x : Delimiter) (ts : Kinds) (o : Option Operator) → Kept (λ o. x ≡ operator_mark o) o → Kept (IsOperator h (x ▸ ts)) (operator_if h ts o)
 operator_if_is h x ts None k = tt
-operator_if_is h x ts (Some o) k = kept_if (IsOperator h (x ▸ ts)) (eqb (operator_height o) h) (o, ts) (λ e. (ap (λ (z : Mark). z ▸ ts) k, eqb-true (operator_height o) h e))
+operator_if_is h x ts (Some o) k = kept_if (IsOperator h (x ▸ ts)) (eqb (operator_height o) h) (o, ts) (λ e. (ap (λ (z : Delimiter). z ▸ ts) k, eqb-true (operator_height o) h e))
 
 pub operator_at_is : (h : ℕ) (ts : Kinds) → Kept (IsOperator h ts) (operator_at h ts)
 unfolding operator_at
 operator_at_is h [] = tt
-operator_at_is h (t.Mark x ∷ ts) = operator_if_is h x ts (operator_of x) (operator_of_is x)
+operator_at_is h (t.Delimiter x ∷ ts) = operator_if_is h x ts (operator_of x) (operator_of_is x)
 operator_at_is h (t.Word text ∷ ts) = tt
 operator_at_is h (t.Quoted text ∷ ts) = tt
 operator_at_is h (t.Literal text ∷ ts) = tt
 operator_at_is h (t.Number n ∷ ts) = tt
 
-sign_is_at : (x : Mark) (ts : Kinds) → Kept (λ y. x ▸ ts ≡ sign_mark y.0 ▸ y.1) (with_rest ts (sign_of x))
+sign_is_at : (x : Delimiter) (ts : Kinds) → Kept (λ y. x ▸ ts ≡ sign_mark y.0 ▸ y.1) (with_rest ts (sign_of x))
 sign_is_at m.Plus ts = refl
 sign_is_at m.Minus ts = refl
 sign_is_at _ ts = tt
@@ -59,7 +59,7 @@ sign_is_at _ ts = tt
 pub sign_is : (ts : Kinds) → Kept (λ y. ts ≡ sign_mark y.0 ▸ y.1) (sign_at ts)
 unfolding sign_at
 sign_is [] = tt
-sign_is (t.Mark x ∷ ts) = sign_is_at x ts
+sign_is (t.Delimiter x ∷ ts) = sign_is_at x ts
 sign_is (t.Word text ∷ ts) = tt
 sign_is (t.Quoted text ∷ ts) = tt
 sign_is (t.Literal text ∷ ts) = tt
@@ -418,7 +418,7 @@ module _ (c : ℕ) where
 
   -- ---- from height to height
 
-  primary_by_mark_holds : (d : ℕ) (x : Mark) (ts : Kinds) → Within d → Holds (IsRead 0 d (x ▸ ts)) (primary_by_mark (deeper_of c d) x ts)
+  primary_by_mark_holds : (d : ℕ) (x : Delimiter) (ts : Kinds) → Within d → Holds (IsRead 0 d (x ▸ ts)) (primary_by_mark (deeper_of c d) x ts)
   primary_by_mark_holds d m.True ts lower = record { parts = refl; levelled = tt; tight = omega arith; fits = tt }
   primary_by_mark_holds d m.False ts lower = record { parts = refl; levelled = tt; tight = omega arith; fits = tt }
   primary_by_mark_holds d m.Null ts lower = record { parts = refl; levelled = tt; tight = omega arith; fits = tt }
@@ -433,7 +433,7 @@ module _ (c : ℕ) where
   primary_holds d (t.Literal text ∷ ts) lower = record { parts = refl; levelled = tt; tight = omega arith; fits = tt }
   primary_holds d (t.Word text ∷ ts) lower = named_holds d (record { text = text; quoted = false }) ts lower
   primary_holds d (t.Quoted text ∷ ts) lower = named_holds d (record { text = text; quoted = true }) ts lower
-  primary_holds d (t.Mark x ∷ ts) lower = primary_by_mark_holds d x ts lower
+  primary_holds d (t.Delimiter x ∷ ts) lower = primary_by_mark_holds d x ts lower
 
   signed_holds : (d : ℕ) (ts : Kinds) (o : Option (Sign × Kinds)) (p : Parser Tree) → Within d → Operand 0 d p → Kept (λ y. ts ≡ sign_mark y.0 ▸ y.1) o → Holds (IsRead 1 d ts) (signed_by o (deeper_of c d) p ts)
   signed_holds d ts None p lower op k = looser 0 d ts (p ts) (op ts)

@@ -1,7 +1,7 @@
 -- What is read of the parts that hold no expression is spelled so.
 use Rattle.std.proofs.Common.{◌≡◌, ℕ, zero, suc, Bool, true, false, cond, eqb, List, [], ◌∷◌, length, Option, Some, None, Result, Ok, Err, refl, ap, ◌∙◌}
-use Rattle.wd_lex.specs.declared.token.Mark.{Mark}
-use Rattle.wd_lex.specs.declared.token.Mark.TheVariants as m
+use Rattle.wd_lex.specs.declared.token.Delimiter.{Delimiter}
+use Rattle.wd_lex.specs.declared.token.Delimiter.TheVariants as m
 use Rattle.wd_lex.specs.declared.token.TokenKind.TheVariants as t
 use Rattle.wd_lex.specs.Marks.{mark_code}
 use Rattle.wd_syntax.specs.declared.words.KeyWord.{KeyWord}
@@ -63,10 +63,10 @@ pub kept_if : {A : Type 0} (P : A → Type 0) (b : Bool) (x : A) → (b ≡ true
 kept_if P true x h = h refl
 kept_if P false x h = tt
 
-eat_is : (x : Mark) (ts : Kinds) → Kept (λ r. ts ≡ x ▸ r) (eat x ts)
+eat_is : (x : Delimiter) (ts : Kinds) → Kept (λ r. ts ≡ x ▸ r) (eat x ts)
 unfolding eat
 eat_is x [] = tt
-eat_is x (t.Mark y ∷ ts) = kept_if (λ r. t.Mark y ∷ ts ≡ x ▸ r) (eqb (mark_code y) (mark_code x)) ts (λ e. ap (λ (z : Mark). z ▸ ts) (same_mark y x (eqb-true (mark_code y) (mark_code x) e)))
+eat_is x (t.Delimiter y ∷ ts) = kept_if (λ r. t.Delimiter y ∷ ts ≡ x ▸ r) (eqb (mark_code y) (mark_code x)) ts (λ e. ap (λ (z : Delimiter). z ▸ ts) (same_mark y x (eqb-true (mark_code y) (mark_code x) e)))
 eat_is x (t.Word text ∷ ts) = tt
 eat_is x (t.Quoted text ∷ ts) = tt
 eat_is x (t.Literal text ∷ ts) = tt
@@ -75,7 +75,7 @@ eat_is x (t.Number n ∷ ts) = tt
 eat_word_is : (x : KeyWord) (ts : Kinds) → Kept (λ r. ts ≡ x ▹ r) (eat_word x ts)
 unfolding eat_word
 eat_word_is x [] = tt
-eat_word_is x (t.Mark y ∷ ts) = tt
+eat_word_is x (t.Delimiter y ∷ ts) = tt
 eat_word_is x (t.Word text ∷ ts) = kept_if (λ r. t.Word text ∷ ts ≡ x ▹ r) (bytes_eq text (letters x)) ts (λ e. ap (λ (z : List ℕ). t.Word z ∷ ts) ((bytes_eq-Decides text (letters x)).0 e))
 eat_word_is x (t.Quoted text ∷ ts) = tt
 eat_word_is x (t.Literal text ∷ ts) = tt
@@ -85,7 +85,7 @@ chosen : {B : Type 0} (P : B → Type 0) (K : Kinds → Type 0) (o : Option Kind
 chosen P K None f b k h i = i
 chosen P K (Some r) f b k h i = h r k
 
-pub at_mark : {B : Type 0} (P : B → Type 0) (x : Mark) (ts : Kinds) (f : Kinds → B) (b : B) → ((r : Kinds) → ts ≡ x ▸ r → P (f r)) → P b → P (choose (eat x ts) f b)
+pub at_mark : {B : Type 0} (P : B → Type 0) (x : Delimiter) (ts : Kinds) (f : Kinds → B) (b : B) → ((r : Kinds) → ts ≡ x ▸ r → P (f r)) → P b → P (choose (eat x ts) f b)
 at_mark P x ts f b h i = chosen P (λ r. ts ≡ x ▸ r) (eat x ts) f b (eat_is x ts) h i
 
 pub at_word : {B : Type 0} (P : B → Type 0) (x : KeyWord) (ts : Kinds) (f : Kinds → B) (b : B) → ((r : Kinds) → ts ≡ x ▹ r → P (f r)) → P b → P (choose (eat_word x ts) f b)
@@ -95,11 +95,11 @@ some_holds : {A : Type 0} (P : A → Type 0) (o : Option A) → Kept P o → Hol
 some_holds P None k = tt
 some_holds P (Some x) k = k
 
-pub expect_holds : (x : Mark) (ts : Kinds) → Holds (λ r. ts ≡ x ▸ r) (expect x ts)
+pub expect_holds : (x : Delimiter) (ts : Kinds) → Holds (λ r. ts ≡ x ▸ r) (expect x ts)
 unfolding expect
 expect_holds x ts = some_holds (λ r. ts ≡ x ▸ r) (eat x ts) (eat_is x ts)
 
-pub past_mark : {B : Type 0} (Q : B → Type 0) (x : Mark) (ts : Kinds) (f : Kinds → Result B Fault) → ((r : Kinds) → ts ≡ x ▸ r → Holds Q (f r)) → Holds Q (expect x ts >>= f)
+pub past_mark : {B : Type 0} (Q : B → Type 0) (x : Delimiter) (ts : Kinds) (f : Kinds → Result B Fault) → ((r : Kinds) → ts ≡ x ▸ r → Holds Q (f r)) → Holds Q (expect x ts >>= f)
 unfolding expect
 past_mark Q x ts f h = then_holds (λ r. ts ≡ x ▸ r) Q (some_or_unexpected (eat x ts)) f (some_holds (λ r. ts ≡ x ▸ r) (eat x ts) (eat_is x ts)) h
 
@@ -110,7 +110,7 @@ past_word Q x ts f h = then_holds (λ r. ts ≡ x ▹ r) Q (some_or_unexpected (
 eat_name_is : (ts : Kinds) → Kept (λ x. ts ≡ name_kind x.0 ∷ x.1) (eat_name ts)
 unfolding eat_name
 eat_name_is [] = tt
-eat_name_is (t.Mark y ∷ ts) = tt
+eat_name_is (t.Delimiter y ∷ ts) = tt
 eat_name_is (t.Word text ∷ ts) = refl
 eat_name_is (t.Quoted text ∷ ts) = refl
 eat_name_is (t.Literal text ∷ ts) = tt
@@ -127,7 +127,7 @@ past_name Q ts f h = then_holds (λ x. ts ≡ name_kind x.0 ∷ x.1) Q (some_or_
 number_is : (ts : Kinds) → Holds (λ x. ts ≡ t.Number x.0 ∷ x.1) (number_at ts)
 unfolding number_at
 number_is [] = tt
-number_is (t.Mark y ∷ ts) = tt
+number_is (t.Delimiter y ∷ ts) = tt
 number_is (t.Word text ∷ ts) = tt
 number_is (t.Quoted text ∷ ts) = tt
 number_is (t.Literal text ∷ ts) = tt
@@ -165,23 +165,23 @@ many_hold one Good item (suc n) ts h =
     record { parts = i.parts ∙ ap (one x.0) j.parts; good = (i.good, j.good) }))
 
 -- a mark, and an item
-abbrev pub marked : {A : Type 0} → Mark → (A → Kinds → Kinds) → A → Kinds → Kinds
+abbrev pub marked : {A : Type 0} → Delimiter → (A → Kinds → Kinds) → A → Kinds → Kinds
 marked x one a ts = x ▸ one a ts
 
-marked_part : {A : Type 0} (x : Mark) (one : A → Kinds → Kinds) (Good : A → Type 0) (ts r : Kinds) (o : Reads A) → ts ≡ x ▸ r → Holds (IsPart one Good r) o → Holds (IsPart (marked x one) Good ts) o
+marked_part : {A : Type 0} (x : Delimiter) (one : A → Kinds → Kinds) (Good : A → Type 0) (ts r : Kinds) (o : Reads A) → ts ≡ x ▸ r → Holds (IsPart one Good r) o → Holds (IsPart (marked x one) Good ts) o
 marked_part x one Good ts r (Ok y) e i = record { parts = e ∙ ap (λ (z : Kinds). x ▸ z) i.parts; good = i.good }
 marked_part x one Good ts r (Err f) e i = tt
 
-pub after_holds : {A : Type 0} (x : Mark) (one : A → Kinds → Kinds) (Good : A → Type 0) (item : Parser A) (ts : Kinds) → ((us : Kinds) → Holds (IsPart one Good us) (item us)) → MayHold (IsPart (marked x one) Good ts) (after x item ts)
+pub after_holds : {A : Type 0} (x : Delimiter) (one : A → Kinds → Kinds) (Good : A → Type 0) (item : Parser A) (ts : Kinds) → ((us : Kinds) → Holds (IsPart one Good us) (item us)) → MayHold (IsPart (marked x one) Good ts) (after x item ts)
 unfolding after
 after_holds x one Good item ts h = at_mark (MayHold (IsPart (marked x one) Good ts)) x ts (λ r. Some (item r)) None (λ r e. marked_part x one Good ts r (item r) e (h r)) tt
 
 -- a list is not empty
-abbrev pub IsListed : {A : Type 0} → Mark → (A → Kinds → Kinds) → (A → Type 0) → Kinds → List A → Kinds → Type 0
+abbrev pub IsListed : {A : Type 0} → Delimiter → (A → Kinds → Kinds) → (A → Type 0) → Kinds → List A → Kinds → Type 0
 IsListed x one Good ts [] rest = ⊥
 IsListed x one Good ts (a ∷ xs) rest = (ts ≡ one a (all_onto (marked x one) xs rest)) × Good a × Each Good xs
 
-pub list_holds : {A : Type 0} (x : Mark) (one : A → Kinds → Kinds) (Good : A → Type 0) (item : Parser A) (ts : Kinds) → ((us : Kinds) → Holds (IsPart one Good us) (item us)) → Holds (λ y. IsListed x one Good ts y.0 y.1) (list_at x item ts)
+pub list_holds : {A : Type 0} (x : Delimiter) (one : A → Kinds → Kinds) (Good : A → Type 0) (item : Parser A) (ts : Kinds) → ((us : Kinds) → Holds (IsPart one Good us) (item us)) → Holds (λ y. IsListed x one Good ts y.0 y.1) (list_at x item ts)
 unfolding list_at
 list_holds x one Good item ts h =
     then_holds (IsPart one Good ts) (λ y. IsListed x one Good ts y.0 y.1) (item ts) (λ a. many (after x item) (length a.1) a.1 >>= λ xs. Ok (a.0 ∷ xs.0, xs.1)) (h ts) (λ a i.
@@ -190,7 +190,7 @@ list_holds x one Good item ts h =
 
 -- ---- frames
 
-mode_is_at : (x : Mark) (ts : Kinds) → Kept (λ y. x ▸ ts ≡ mode_onto y.0 y.1) (with_rest ts (mode_if x))
+mode_is_at : (x : Delimiter) (ts : Kinds) → Kept (λ y. x ▸ ts ≡ mode_onto y.0 y.1) (with_rest ts (mode_if x))
 mode_is_at m.Rows ts = refl
 mode_is_at m.Range ts = refl
 mode_is_at m.Groups ts = refl
@@ -199,7 +199,7 @@ mode_is_at _ ts = tt
 mode_is : (ts : Kinds) → Kept (λ y. ts ≡ mode_onto y.0 y.1) (mode_at ts)
 unfolding mode_at
 mode_is [] = tt
-mode_is (t.Mark x ∷ ts) = mode_is_at x ts
+mode_is (t.Delimiter x ∷ ts) = mode_is_at x ts
 mode_is (t.Word text ∷ ts) = tt
 mode_is (t.Quoted text ∷ ts) = tt
 mode_is (t.Literal text ∷ ts) = tt

@@ -1,6 +1,6 @@
 -- The token at which a tree passes a limit: it opens a level where none is left, or is one operator too many of its chain.
 use Rattle.std.specs.Prelude.{◌≡◌, ◌⊎◌, ◌++◌, ℕ, zero, suc, List, [], ◌∷◌, length, Option, Some, None}
-use Rattle.wd_lex.specs.declared.token.Mark.TheVariants as m
+use Rattle.wd_lex.specs.declared.token.Delimiter.TheVariants as m
 use Rattle.wd_lex.specs.declared.token.TokenKind.{TokenKind}
 use Rattle.wd_syntax.specs.declared.name.Name.{Name}
 use Rattle.wd_syntax.specs.Tokens.{Kinds, ◌▸◌, operator_mark, sign_mark, operator_height}

@@ -1,7 +1,7 @@
 -- What tokens say: marks, words that are key words in their place, names and literals.
 use Rattle.std.specs.Prelude.{ℕ, codes, Bool, true, false, List, ◌∷◌}
-use Rattle.wd_lex.specs.declared.token.Mark.{Mark}
-use Rattle.wd_lex.specs.declared.token.Mark.TheVariants as m
+use Rattle.wd_lex.specs.declared.token.Delimiter.{Delimiter}
+use Rattle.wd_lex.specs.declared.token.Delimiter.TheVariants as m
 use Rattle.wd_lex.specs.declared.token.TokenKind.{TokenKind}
 use Rattle.wd_lex.specs.declared.token.TokenKind.TheVariants as t
 use Rattle.wd_syntax.specs.declared.name.Name.{Name}
@@ -19,8 +19,8 @@ Kinds = List TokenKind
 
 -- a mark, and the tokens after it
 infixr 20 ◌▸◌
-abbrev pub ◌▸◌ : Mark → Kinds → Kinds
-x ▸ ts = t.Mark x ∷ ts
+abbrev pub ◌▸◌ : Delimiter → Kinds → Kinds
+x ▸ ts = t.Delimiter x ∷ ts
 
 -- how a word that is a key word in its place is spelled
 abbrev pub letters : KeyWord → List ℕ
@@ -56,11 +56,11 @@ name_kind n = written n.quoted n.text
 abbrev pub literal_kind : Literal → TokenKind
 literal_kind (l.Number n) = t.Number n
 literal_kind (l.Text text) = t.Literal text
-literal_kind (l.Truth true) = t.Mark m.True
-literal_kind (l.Truth false) = t.Mark m.False
-literal_kind l.Null = t.Mark m.Null
+literal_kind (l.Truth true) = t.Delimiter m.True
+literal_kind (l.Truth false) = t.Delimiter m.False
+literal_kind l.Null = t.Delimiter m.Null
 
-abbrev pub operator_mark : Operator → Mark
+abbrev pub operator_mark : Operator → Delimiter
 operator_mark o.Or = m.Or
 operator_mark o.And = m.And
 operator_mark o.Equal = m.Equals
@@ -75,7 +75,7 @@ operator_mark o.Multiply = m.Star
 operator_mark o.Divide = m.Slash
 operator_mark o.Remainder = m.Percent
 
-abbrev pub sign_mark : Sign → Mark
+abbrev pub sign_mark : Sign → Delimiter
 sign_mark s.Plus = m.Plus
 sign_mark s.Minus = m.Minus
 

@@ -14,7 +14,7 @@ use Rattle.wd_schema.specs.Meets.{MeetsTable, fits_columns}
 use Rattle.wd_schema.specs.Tables.{TableRule}
 use Rattle.wd_schema.specs.WellFormed.{IsWellFormedTable}
 use Rattle.wd_tables.specs.Causes.{AreAccepted, HasCause, IsAccepted, IsFirstRefused, IsFirstRepeat, IsWellFormed, RefusesAt, Repeats}
-use Rattle.wd_tables.specs.Data.{HoldsRows, NamesEachOnce, data_of, header_of, most_records, place_of, record_at, records_of, value_in, values_in}
+use Rattle.wd_tables.specs.Data.{HoldsRows, NamesEachOnce, data_of, header_of, most_records, field_place, record_at, records_of, value_in, values_in}
 use Rattle.wd_tables.specs.Laws.{HasOneRefusal, HasRowsOrRefusal}
 use Rattle.wd_tables.specs.Refusals.{HasNull, IsFirstIn, IsRefusedIn, LacksValue}
 use Rattle.wd_tables.specs.declared.error.DataError.{DataError}
@@ -36,12 +36,12 @@ some_passes p (x ∷ xs) h = by (p x) refl (some_passes p xs)
 
 -- columns that stand at one place have one name
 one_name : (columns : List Column) (header : List (List ℕ)) (i j : ℕ) (c d : Column) → NamesEachOnce columns header → i < length columns → get_or columns i c ≡ c → j < length columns → get_or columns j d ≡ d
-    → place_of header c.name ≡ place_of header d.name → c.name ≡ d.name
+    → field_place header c.name ≡ field_place header d.name → c.name ≡ d.name
 one_name columns header i j c d names in_i is_c in_j is_d same =
     let once_c = rw is_c at (names.each i c in_i) in
     let once_d = rw is_d at (names.each j d in_j) in
-    let at_c = (bytes_eq-Decides c.name (get_or header (place_of header c.name) [])).0 (passes_at_first (bytes_eq c.name) header [] (some_passes (bytes_eq c.name) header (omega arith))) in
-    let at_d = (bytes_eq-Decides d.name (get_or header (place_of header d.name) [])).0 (passes_at_first (bytes_eq d.name) header [] (some_passes (bytes_eq d.name) header (omega arith))) in
+    let at_c = (bytes_eq-Decides c.name (get_or header (field_place header c.name) [])).0 (passes_at_first (bytes_eq c.name) header [] (some_passes (bytes_eq c.name) header (omega arith))) in
+    let at_d = (bytes_eq-Decides d.name (get_or header (field_place header d.name) [])).0 (passes_at_first (bytes_eq d.name) header [] (some_passes (bytes_eq d.name) header (omega arith))) in
     at_c ∙ ap (λ k. get_or header k []) same ∙ sym at_d
 
 -- columns of one name are one
@@ -80,15 +80,15 @@ module _ (table : TableRule) (text : List ℕ) (n : ℕ) where
       by (inl x) (inr y) = let null : value_in (header_of text) (record_at text n) v.column ≡ Some Null = rw same y.1.1 in absurd (cc (sym x.1 ∙ null))
       by (inr x) (inl y) = let none : value_in (header_of text) (record_at text n) v.column ≡ None = rw same y.1 in absurd (cc (sym none ∙ x.1.1))
 
-  earlier : (a b : DataError) (v : IsFirstWrong a) (w : IsFirstWrong b) → ¬ (place_of (header_of text) v.column.name < place_of (header_of text) w.column.name)
+  earlier : (a b : DataError) (v : IsFirstWrong a) (w : IsFirstWrong b) → ¬ (field_place (header_of text) v.column.name < field_place (header_of text) w.column.name)
   earlier a b v w less = rw v.is at (w.first v.index v.column v.inside (rw v.is less)) (refused_of a v)
 
   first_wrong : (a b : DataError) → IsWellFormedTable table → NamesEachOnce table.columns (header_of text) → IsFirstWrong a → IsFirstWrong b → a ≡ b
   first_wrong a b formed names v w =
-      elim (cases_lt (place_of (header_of text) v.column.name) (place_of (header_of text) w.column.name)) [
+      elim (cases_lt (field_place (header_of text) v.column.name) (field_place (header_of text) w.column.name)) [
         | inl less ↦ absurd (earlier a b v w less)
         | inr more ↦
-            elim (cases_lt (place_of (header_of text) w.column.name) (place_of (header_of text) v.column.name)) [
+            elim (cases_lt (field_place (header_of text) w.column.name) (field_place (header_of text) v.column.name)) [
               | inl less ↦ absurd (earlier b a w v less)
               | inr equal ↦
                   let same = one_name table.columns (header_of text) v.index w.index v.column w.column names v.inside v.is w.inside w.is (omega arith) in

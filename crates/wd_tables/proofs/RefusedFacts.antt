@@ -4,7 +4,7 @@ use Rattle.std.specs.Prelude.{All, Any, nat_le, if◌then◌else◌, ⊤}
 use Rattle.std.proofs.lemmas.Bool.{cases_lt, leb-false, leb-true}
 use Rattle.std.proofs.lemmas.List.{get_or_default}
 use Rattle.wd_schema.specs.declared.table.Column.{Column}
-use Rattle.wd_tables.specs.Data.{field_under, place_of}
+use Rattle.wd_tables.specs.Data.{field_under, field_place}
 use Rattle.wd_tables.specs.Refusals.{HasNull, IsRefusedIn, LacksValue, RefusesField, RefusesRecord}
 use Rattle.wd_tables.specs.Refused.{leftmost}
 use Rattle.wd_tables.specs.declared.error.DataError.{DataError}
@@ -14,8 +14,8 @@ use Rattle.wd_tables.specs.declared.row.Refused.{Refused}
 module _ (columns : List Column) (header fields : List (List ℕ)) (number : ℕ) where
   -- a column at this place of the header is refused so
   abbrev pub RefusesPlace : ℕ → DataError → Type 0
-  RefusesPlace place (NoValue m) = (m ≡ number) × Any (λ column. (place_of header column.name ≡ place) × LacksValue header fields column) columns
-  RefusesPlace place (NullValue m) = (m ≡ number) × Any (λ column. (place_of header column.name ≡ place) × HasNull header fields column) columns
+  RefusesPlace place (NoValue m) = (m ≡ number) × Any (λ column. (field_place header column.name ≡ place) × LacksValue header fields column) columns
+  RefusesPlace place (NullValue m) = (m ≡ number) × Any (λ column. (field_place header column.name ≡ place) × HasNull header fields column) columns
   RefusesPlace place OutOfMemory = ⊤
   RefusesPlace place Header = ⊥
   RefusesPlace place (Key m) = ⊥
@@ -24,7 +24,7 @@ module _ (columns : List Column) (header fields : List (List ℕ)) (number : ℕ
 
   -- none of the first n columns is refused that has such a place
   abbrev pub NoneOf : (ℕ → Type 0) → ℕ → Type 0
-  NoneOf P n = (k : ℕ) (d : Column) → k < n → P (place_of header (get_or columns k d).name) → ¬ (IsRefusedIn header fields (get_or columns k d))
+  NoneOf P n = (k : ℕ) (d : Column) → k < n → P (field_place header (get_or columns k d).name) → ¬ (IsRefusedIn header fields (get_or columns k d))
 
   -- what is known of the first refused field of the first n columns
   abbrev pub IsFirstOf : ℕ → Option Refused → Type 0
@@ -32,7 +32,7 @@ module _ (columns : List Column) (header fields : List (List ℕ)) (number : ℕ
   IsFirstOf n (Some first) = RefusesPlace first.place first.refusal × NoneOf (λ place. place < first.place) n
 
   -- one column more that has no such place, or is not refused
-  more : (P : ℕ → Type 0) (n : ℕ) (column : Column) → n < length columns → get_or columns n column ≡ column → NoneOf P n → (P (place_of header column.name) → ¬ (IsRefusedIn header fields column)) → NoneOf P (n + 1)
+  more : (P : ℕ → Type 0) (n : ℕ) (column : Column) → n < length columns → get_or columns n column ≡ column → NoneOf P n → (P (field_place header column.name) → ¬ (IsRefusedIn header fields column)) → NoneOf P (n + 1)
   more P n column within is none here k d lt =
       elim (cases_lt k n) [
         | inl before ↦ none k d before
@@ -47,7 +47,7 @@ module _ (columns : List Column) (header fields : List (List ℕ)) (number : ℕ
   passed_more n column None within is passes h = more (λ place. ⊤) n column within is h (λ t. passes)
   passed_more n column (Some first) within is passes h = (h.0, more (λ place. place < first.place) n column within is h.1 (λ lt. passes))
 
-  refuses_here : (n : ℕ) (column : Column) (e : DataError) → n < length columns → get_or columns n column ≡ column → RefusesField column (field_under header fields column.name) number e → RefusesPlace (place_of header column.name) e
+  refuses_here : (n : ℕ) (column : Column) (e : DataError) → n < length columns → get_or columns n column ≡ column → RefusesField column (field_under header fields column.name) number e → RefusesPlace (field_place header column.name) e
   refuses_here n column (NoValue m) within is h = (h.0, (n, column, within, is, (refl, h.1)))
   refuses_here n column (NullValue m) within is h = (h.0, (n, column, within, is, (refl, (h.1, h.2))))
   refuses_here n column OutOfMemory within is h = tt
@@ -57,7 +57,7 @@ module _ (columns : List Column) (header fields : List (List ℕ)) (number : ℕ
   refuses_here n column TooManyRecords within is h = absurd h
 
   -- a column that is refused
-  pub refused_more : (n : ℕ) (column : Column) (first : Option Refused) (other : Refused) → n < length columns → get_or columns n column ≡ column → other.place ≡ place_of header column.name
+  pub refused_more : (n : ℕ) (column : Column) (first : Option Refused) (other : Refused) → n < length columns → get_or columns n column ≡ column → other.place ≡ field_place header column.name
       → RefusesField column (field_under header fields column.name) number other.refusal → IsFirstOf n first → IsFirstOf (n + 1) (Some (leftmost first other))
   refused_more n column None other within is at why h =
       (rw at (refuses_here n column other.refusal within is why), more (λ place. place < other.place) n column within is (λ k d lt below. h k d lt tt) (λ below. absurd (omega arith)))
@@ -82,7 +82,7 @@ module _ (columns : List Column) (header fields : List (List ℕ)) (number : ℕ
       by Malformed w = absurd w
       by TooManyRecords w = absurd w
 
-  -- a refused field is of a column that is refused, but for want of memory
+  -- a refused field is of a column that is refused, but where memory runs out
   pub refuses_some : (column : Column) (n : ℕ) (e : DataError) → n < length columns → get_or columns n column ≡ column → All (λ column. ¬ (IsRefusedIn header fields column)) columns → RefusesField column (field_under header fields column.name) number e → RefusesRecord columns header fields number e
   refuses_some column n (NoValue m) within is none h = absurd (none n column within (rw is (inl h.1)))
   refuses_some column n (NullValue m) within is none h = absurd (none n column within (rw is (inr (h.1, h.2))))

@@ -66,7 +66,7 @@ HasCause table text TooManyRecords = IsFirstRefused table text TooManyRecords
 HasCause table text (Key n) = IsFirstRepeat table text n
 HasCause table text OutOfMemory = ⊤
 
--- the number of a refusal, and none for want of memory
+-- the number of a refusal, and none where memory runs out
 abbrev pub number_of : DataError → Option ℕ
 number_of Header = Some 701
 number_of (Value n) = Some 702

@@ -36,12 +36,12 @@ pub record NamesEachOnce (columns : List Column) (header : List (List ℕ)) : Ty
   pub others : length header ≡ length columns
 
 -- the place of a name in the header, and the header's length where it doesn't stand there
-abbrev pub place_of : List (List ℕ) → List ℕ → ℕ
-place_of header name = position_or_len (bytes_eq name) header
+abbrev pub field_place : List (List ℕ) → List ℕ → ℕ
+field_place header name = position_or_len (bytes_eq name) header
 
 -- the field of a record under a name of the header, and the empty one where there is none
 abbrev pub field_under : List (List ℕ) → List (List ℕ) → List ℕ → List ℕ
-field_under header fields name = slice_index_or fields (place_of header name) []
+field_under header fields name = slice_index_or fields (field_place header name) []
 
 -- the value of a record in a column, if the field under the column's name denotes one
 abbrev pub value_in : List (List ℕ) → List (List ℕ) → Column → Option Value

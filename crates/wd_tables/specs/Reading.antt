@@ -14,7 +14,7 @@ use Rattle.wd_tables.specs.Causes.{IsWellFormed}
 use Rattle.wd_value.specs.Rows.{Row, row_at}
 use Rattle.wd_schema.specs.declared.table.Column.{Column}
 use Rattle.wd_schema.specs.Meets.{fits_columns}
-use Rattle.wd_tables.specs.Data.{NamesEachOnce, header_of, place_of, record_at, records_of, values_in}
+use Rattle.wd_tables.specs.Data.{NamesEachOnce, header_of, field_place, record_at, records_of, values_in}
 
 -- after the first record each further one must have its length
 abbrev pub length_after : List ℕ → ℕ → Option ℕ
@@ -41,7 +41,7 @@ pub record IsRecord (text : List ℕ) (n : ℕ) (fields : List (List ℕ)) : Typ
   pub encoded : AllText fields
   pub even : length fields ≡ length (header_of text)
 
--- how a failed read of a slice is answered: by 705 for its records, and else as want of memory, since a slice can't fail
+-- how a failed read of a slice is answered: by 705 for its records, and else as out of memory, since a slice can't fail
 abbrev pub refusal_of : ErrorKind → DataError
 refusal_of (kind.UnequalLengths pos expected len) = Malformed
 refusal_of (kind.Utf8 pos err) = Malformed
@@ -70,7 +70,7 @@ pub record HoldsFirst (columns : List Column) (text : List ℕ) (n : ℕ) (rows 
 
 -- the places at which the header of the text has the names of the columns
 abbrev pub HasPlaces : List Column → List ℕ → List ℕ → Type 0
-HasPlaces columns text places = places ≡ map (λ column. place_of (header_of text) column.name) columns
+HasPlaces columns text places = places ≡ map (λ column. field_place (header_of text) column.name) columns
 
 -- the record with this number holds the row, which fits the columns
 pub record HoldsRecord (columns : List Column) (text : List ℕ) (n : ℕ) (row : Row) : Type 0 where

@@ -3,7 +3,7 @@ use Rattle.std.specs.Prelude.{◌≡◌, ◌⊎◌, ◌<◌, ℕ, true, List, So
 use Rattle.wd_value.specs.declared.value.Value.TheVariants.{Null}
 use Rattle.wd_schema.specs.declared.table.Column.{Column}
 use Rattle.wd_tables.specs.Fields.{field_value}
-use Rattle.wd_tables.specs.Data.{NamesEachOnce, place_of, value_in}
+use Rattle.wd_tables.specs.Data.{NamesEachOnce, field_place, value_in}
 use Rattle.wd_tables.specs.declared.error.DataError.{DataError}
 use Rattle.wd_tables.specs.declared.error.DataError.TheVariants.{Header, Value, Null as NullValue, Key, Malformed, TooManyRecords, OutOfMemory}
 
@@ -41,7 +41,7 @@ IsRefusedIn header fields column = LacksValue header fields column ⊎ HasNull h
 
 -- no field that stands before the column's own in the record is refused
 abbrev pub IsFirstIn : List Column → List (List ℕ) → List (List ℕ) → Column → Type 0
-IsFirstIn columns header fields column = All (λ other. place_of header other.name < place_of header column.name → ¬ (IsRefusedIn header fields other)) columns
+IsFirstIn columns header fields column = All (λ other. field_place header other.name < field_place header column.name → ¬ (IsRefusedIn header fields other)) columns
 
 -- why a record is refused: for the first of its fields that is refused
 abbrev pub RefusesRecord : List Column → List (List ℕ) → List (List ℕ) → ℕ → DataError → Type 0

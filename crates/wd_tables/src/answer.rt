@@ -30,7 +30,7 @@ pub fn answer_text(alloc: Global, names: &[Text], rows: &[Row]) -> Result<Vec<u8
     }
 }
 
-// Writes a record. A `Vec` refuses a write for want of memory alone.
+// Writes a record. A `Vec` refuses a write only where memory runs out.
 fn write(writer: &mut Writer<Vec<u8>>, fields: &ByteRecord) -> Result<(), OutOfMemory>
     ensures { (text : List ℕ) → spec.HasWritten writer.old text → OnOk result (spec.HasWritten writer.new (text ++ row_text default_writer (fields_of fields.now))) }
 {

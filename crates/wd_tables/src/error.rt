@@ -33,7 +33,7 @@ pub enum DataError {
 }
 
 impl DataError {
-    /// The refusal's number, and None for want of memory.
+    /// The refusal's number, and None where memory runs out.
     pub fn number(&self) -> Option<u32>
         ensures { result ≡ number_of self.now }
     {

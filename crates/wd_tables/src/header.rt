@@ -20,7 +20,7 @@ pub fn places_of(
     header: &StringRecord,
 ) -> Result<Vec<usize>, DataError>
     ensures named { IfOk result (λ v. NamesEachOnce columns.now (fields_of header.now)) }
-    ensures places { IfOk result (λ v. v.items ≡ map (λ column. spec.place_of (fields_of header.now) column.name) columns.now) }
+    ensures places { IfOk result (λ v. v.items ≡ map (λ column. spec.field_place (fields_of header.now) column.name) columns.now) }
     ensures refused { IfErr result (λ e. RefusesHeader columns.now (fields_of header.now) e) }
 {
     if header.len() != columns.len() {
@@ -32,7 +32,7 @@ pub fn places_of(
         if count_of(&names, column.name.as_bytes()) != 1 {
             return Err(DataError::Header);
         }
-        places.push(place_of(&names, column.name.as_bytes()))?;
+        places.push(field_place(&names, column.name.as_bytes()))?;
     }
     Ok(places)
 }
@@ -57,8 +57,8 @@ fn count_of(names: &[Text], name: &[u8]) -> usize
 }
 
 // The first place of a name, and the number of names where it isn't one of them.
-fn place_of(names: &[Text], name: &[u8]) -> usize
-    ensures { result ≡ spec.place_of names.now name.now }
+fn field_place(names: &[Text], name: &[u8]) -> usize
+    ensures { result ≡ spec.field_place names.now name.now }
 {
     for (place, other) in names.iter().enumerate() {
         if name == other.as_bytes() {

@@ -2,7 +2,7 @@
 
 ghost use Rattle.wd_tables.specs.Laws.{HasOneRefusal, HasRowsOrRefusal};
 
-/// A text has at most one refusal, but for want of memory.
+/// A text has at most one refusal, but where memory runs out.
 pub fn one_refusal()
     ensures { HasOneRefusal }
 {}

@@ -1,4 +1,4 @@
--- Rows with the values of a Window's calls behind them.
+-- Rows with the values of a Window's calls after them.
 use Rattle.std.proofs.Common.{◌≡◌, ℕ, zero, suc, ◌+◌, ◌<◌, ◌≤◌, Bool, true, false, cond, ◌||◌, List, [], ◌∷◌, ◌++◌, map, length, get_or, set, Option, Some, None, Result, Ok, Err, refl, sym, ap, ◌∙◌, arith, length-append}
 use Rattle.std.specs.List.{list_any, range_with_len}
 use Rattle.std.proofs.lemmas.List.{get_or-map, length-map, map-set, map_push}
@@ -88,7 +88,7 @@ module _ (f : ℕ → Result Row Fault) where
         ap (λ o. unless o (values_among (map whole every))) (least_same f (row_at rows) every ∙ e)
         ∙ sym (ap (λ o. and_then (unless o (values_among (map f every))) (λ values. Ok (beside rows values))) e)
 
-    -- the rows with their values behind them, or the least fault
+    -- the rows with their values after them, or the least fault
     pub beside_all : all_ok (map whole every) ≡ and_then (all_ok (map f every)) (λ values. Ok (beside rows values))
     beside_all = by_fault (least_fault (map f every)) refl
 

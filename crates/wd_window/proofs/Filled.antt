@@ -9,7 +9,7 @@ use Rattle.wd_value.specs.Bags.{positions, times}
 use Rattle.wd_value.specs.Rows.{Row, row_at, rows_at}
 use Rattle.wd_plan.specs.declared.window.Call.{Call}
 use Rattle.wd_plan.specs.Calls.{call_value, value_at}
-use Rattle.wd_plan.specs.Partitions.{members, partition_of, place_of}
+use Rattle.wd_plan.specs.Partitions.{members, partition_of, place_in}
 use Rattle.wd_plan.specs.Plans.{ClassRule}
 use Rattle.wd_plan.specs.Sorting.{IsOrdering, same_partition}
 use Rattle.wd_plan.proofs.Places.{in_part, place_member, same_members, filter_passes_at, range-times, times-filter-le, times-get_or}
@@ -28,8 +28,8 @@ module _ (class : ClassRule) (rows : List Row) (ordering : List ℕ) (lawful : I
       same_members class rows ordering (row_at rows p) q (same_partition_is class (row_at rows p) (row_at rows q) (filter_passes_at (λ q. same_partition class (row_at rows p) (row_at rows q)) ordering k 0 h))
 
   -- and its place is where it stands among them
-  place_alike : (p k : ℕ) → k < length (members class rows ordering p) → let q = get_or (members class rows ordering p) k 0 in place_of (members class rows ordering q) q ≡ k
-  place_alike p k h = ap (λ ps. place_of ps (get_or (members class rows ordering p) k 0)) (alike p k h) ∙ place_member class rows ordering p k lawful.once h
+  place_alike : (p k : ℕ) → k < length (members class rows ordering p) → let q = get_or (members class rows ordering p) k 0 in place_in (members class rows ordering q) q ≡ k
+  place_alike p k h = ap (λ ps. place_in ps (get_or (members class rows ordering p) k 0)) (alike p k h) ∙ place_member class rows ordering p k lawful.once h
 
   has_members : (p : ℕ) → p < length rows → 0 < length (members class rows ordering p)
   has_members p h = let there = (in_part class rows ordering p lawful.once h).within in omega arith
@@ -46,12 +46,12 @@ module _ (class : ClassRule) (rows : List Row) (ordering : List ℕ) (lawful : I
       omega arith
 
   -- the first row of a partition stands at place 0
-  pub first_place : (p : ℕ) → p < length rows → place_of (members class rows ordering (first_of class rows ordering p)) (first_of class rows ordering p) ≡ 0
+  pub first_place : (p : ℕ) → p < length rows → place_in (members class rows ordering (first_of class rows ordering p)) (first_of class rows ordering p) ≡ 0
   first_place p h = place_alike p 0 (has_members p h)
 
   module _ (call : Call) (position : ℕ) where
     -- nothing is to be filled at a row that is not the first of its partition
-    pub filled_before : (column : List (Result Value Fault)) → (place_of (members class rows ordering position) position ≡ 0 → ⊥)
+    pub filled_before : (column : List (Result Value Fault)) → (place_in (members class rows ordering position) position ≡ 0 → ⊥)
         → AreFilled class call rows ordering position column → AreFilled class call rows ordering (position + 1) column
     filled_before column later filled = record {
       long = filled.long;
@@ -59,7 +59,7 @@ module _ (class : ClassRule) (rows : List Row) (ordering : List ℕ) (lawful : I
         | inl before ↦ filled.each p other h before
         | inr behind ↦ (
             let here : first_of class rows ordering p ≡ position = omega arith in
-            absurd (later (ap (λ q. place_of (members class rows ordering q) q) (sym here) ∙ first_place p h)))
+            absurd (later (ap (λ q. place_in (members class rows ordering q) q) (sym here) ∙ first_place p h)))
       ];
     }
 
@@ -89,7 +89,7 @@ module _ (class : ClassRule) (rows : List Row) (ordering : List ℕ) (lawful : I
             let here : first_of class rows ordering p ≡ position = omega arith in
             let same : members class rows ordering position ≡ members class rows ordering p = ap (members class rows ordering) (sym here) ∙ alike p 0 (has_members p h) in
             let part = in_part class rows ordering p lawful.once h in
-            let k = place_of (members class rows ordering p) p in
+            let k = place_in (members class rows ordering p) p in
             let stands : get_or (members class rows ordering position) k 0 ≡ p = ap (λ ps. get_or ps k 0) same ∙ part.at_place in
             let there : k < length (members class rows ordering position) = subst (λ ps. k < length ps) (sym same) part.within in
             let put = spread.put k other (subst (λ m. k < m) many there) there (subst (λ q. q < length old) (sym stands) (subst (λ m. p < m) (sym filled.long) h)) in

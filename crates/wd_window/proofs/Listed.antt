@@ -21,11 +21,11 @@ use Rattle.wd_plan.proofs.Places.{in_part}
 use Rattle.wd_plan.proofs.GroupsRise.{peer_groups_rise}
 use Rattle.wd_frame.specs.Laws.{is_descending}
 use Rattle.wd_frame.specs.Places.{PartRule}
-use Rattle.wd_partition.specs.Members.{MemberRule, key_numbers, member_of, members_of, number_of}
+use Rattle.wd_partition.specs.Members.{MemberRule, key_numbers, member_of, members_of, number_part}
 use Rattle.wd_calls.specs.Parts.{IsPartOf, IsValueAt}
 
 -- whole numbers alone have a distance
-number_distance : (desc : Bool) (a b : Value) → value_distance desc (number_of a) (number_of b) ≡ value_distance desc a b
+number_distance : (desc : Bool) (a b : Value) → value_distance desc (number_part a) (number_part b) ≡ value_distance desc a b
 number_distance desc (Int m) (Int n) = refl
 number_distance desc (Int m) Null = refl
 number_distance desc (Int m) (Text t) = refl
@@ -35,8 +35,8 @@ number_distance desc (Text t) b = refl
 number_distance desc (Truth t) b = refl
 
 module _ (partition : List Row) (p q : ℕ) (at_p : p < length partition) (at_q : q < length partition) where
-  key_at : (item : OrderItem) (r : ℕ) → r < length partition → get_or (map (λ (row : Row). number_of (column_of row item.column)) partition) r Null ≡ number_of (column_of (row_at partition r) item.column)
-  key_at item r h = get_or-map (λ (row : Row). number_of (column_of row item.column)) partition r [] Null h
+  key_at : (item : OrderItem) (r : ℕ) → r < length partition → get_or (map (λ (row : Row). number_part (column_of row item.column)) partition) r Null ≡ number_part (column_of (row_at partition r) item.column)
+  key_at item r h = get_or-map (λ (row : Row). number_part (column_of row item.column)) partition r [] Null h
 
   same_distance : (order : List OrderItem) → value_distance (is_descending order) (get_or (key_numbers true order partition) p Null) (get_or (key_numbers true order partition) q Null) ≡ key_distance order (row_at partition p) (row_at partition q)
   same_distance [] = refl

@@ -54,7 +54,7 @@ rows_or_fault (Err fault) = Err fault
 abbrev pub calls_at : WindowRule → List Row → List (List ℕ) → List Call → ℕ → Result Row Fault
 calls_at w rows orderings calls p = all_ok (map (call_at w rows orderings p) calls)
 
--- each row with the values beside it behind its own; rows beside which there are none stay
+-- each row with the values beside it after its own; rows beside which there are none stay
 abbrev pub beside : List Row → List Row → List Row
 beside rows [] = rows
 beside [] (value ∷ values) = []

@@ -67,7 +67,7 @@ pub record IsWrongIn (classes : List ClassRule) (input : RowsOrFault) (choice : 
 abbrev pub IsLeast : (ℕ → Type 0) → ℕ → Type 0
 IsLeast Holds n = Holds n × ((m : ℕ) → m < n → Holds m → ⊥)
 
--- a place of which this holds, or want of memory
+-- a place of which this holds, or out of memory
 abbrev pub IsUnserved : (ℕ → Type 0) → WindowError → Type 0
 IsUnserved IsPlace (NotValid place) = IsPlace place
 IsUnserved IsPlace OutOfMemory = ⊤

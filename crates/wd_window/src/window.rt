@@ -22,7 +22,7 @@ use wd_plan::{Call, Class, Outcome};
 use wd_steps::with_fault;
 use wd_value::{Fault, OutOfMemory, Row, Value};
 
-/// The input's rows with the values of the calls behind each of them, under the choice's orderings
+/// The input's rows with the values of the calls after each of them, under the choice's orderings
 /// from `first` on: one for each class, each lawful, and empty where the input is a fault. The first
 /// that is not is refused by its number in the choice.
 pub fn evaluate_window(
@@ -51,7 +51,7 @@ pub fn evaluate_window(
     }
 }
 
-/// The rows with the values of the calls behind each of them, or the least fault of the calls.
+/// The rows with the values of the calls after each of them, or the least fault of the calls.
 fn with_calls(
     alloc: Global,
     calls: &[Call],
@@ -70,7 +70,7 @@ fn with_calls(
     }
 }
 
-/// Each row with the values beside it behind its own. The rows are extended in place.
+/// Each row with the values beside it after its own. The rows are extended in place.
 fn beside(mut rows: Vec<Row>, values: Vec<Row>) -> Result<Vec<Row>, OutOfMemory>
     ensures { IfOk result (λ v. rows_of v.items ≡ spec.beside (rows_of rows.items) (rows_of values.items)) }
 {
@@ -84,7 +84,7 @@ fn beside(mut rows: Vec<Row>, values: Vec<Row>) -> Result<Vec<Row>, OutOfMemory>
     Ok(rows)
 }
 
-/// Puts the values behind the row's own.
+/// Puts the values after the row's own.
 fn append(row: &mut Row, values: Row) -> Result<(), OutOfMemory>
     ensures { OnOk result (row.new.items ≡ row.old.items ++ values.items) }
 {

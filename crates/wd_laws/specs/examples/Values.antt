@@ -88,7 +88,7 @@ pub record ValuesComeOut : Type 0 where
   pub null_is_not_null : value (IsNotNull no_number) ≡ Ok (truth false)
   -- 'ab' < 'b': texts go by their bytes.
   pub texts_by_bytes : value (Compare Less (Literal (text (codes "ab")) kind.Text) (Literal (text (codes "b")) kind.Text)) ≡ Ok (truth true)
-  -- 'ab' < 'a': a text stands behind what it begins with.
+  -- 'ab' < 'a': a text stands after what it begins with.
   pub prefix_of_a_text : value (Compare Less (Literal (text (codes "ab")) kind.Text) (Literal (text (codes "a")) kind.Text)) ≡ Ok (truth false)
   -- FALSE < TRUE.
   pub false_before_true : value (Compare Less (is (truth false)) (is (truth true))) ≡ Ok (truth true)

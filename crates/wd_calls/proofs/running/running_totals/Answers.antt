@@ -5,7 +5,7 @@ use Rattle.wd_value.specs.Rows.{column_of, row_at, rows_of}
 use Rattle.wd_plan.specs.Expressions.{is_null}
 use Rattle.wd_calls.specs.declared.running.Running.{Running}
 use Rattle.wd_calls.specs.Parts.{partition_of}
-use Rattle.wd_calls.specs.Values.{number_of}
+use Rattle.wd_calls.specs.Values.{whole_of}
 use Rattle.wd_calls.proofs.RunningTotals.{AreTotals-all, AreTotalsUpTo-more, AreTotalsUpTo-none, IsTotalOf-next, one_unless, one_unless-le}
 use Rattle.wd_calls.proofs.running.running_totals.Goals as goal
 use Rattle.wd_calls.proofs.running.running_totals.Goals.{then-not-is_null_at, else-not-is_null_at}
@@ -26,7 +26,7 @@ loop-place-preserved c =
     let after = c.if-not-is_null_at.so_far in
     let is = c.loop-place.invariant in
     let null : is_null (column_of (row_at p c.loop-place.place) column) ≡ c.is_null_at.result = ap (λ r. is_null (column_of r column)) (sym c.row_in-row.ensures) ∙ sym c.is_null_at.ensures in
-    let number : c.number_at.result ≡ number_of (column_of (row_at p c.loop-place.place) column) = c.number_at.ensures.value ∙ ap (λ r. number_of (column_of r column)) c.row_in-row.ensures in
+    let number : c.number_at.result ≡ whole_of (column_of (row_at p c.loop-place.place) column) = c.number_at.ensures.value ∙ ap (λ r. whole_of (column_of r column)) c.row_in-row.ensures in
     let least = c.number_at.ensures.least in
     let most = c.number_at.ensures.most in
     let least_so_far = is.least in

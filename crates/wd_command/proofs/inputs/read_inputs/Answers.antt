@@ -127,7 +127,7 @@ module _ (words : List (List ℕ)) (given : RunWords) (are : AreWordsOf words gi
       (IsUnread-behind handed middle handed_after first IsNext (AskNext words) failures failures_after before
       (λ files path known. ask_next words given are assignments cut (first ++ files) path (step files path known)) failure unread)
 
-  -- behind the files of some first paths come those of the others
+  -- after the files of some first paths come those of the others
   behind : (first : List File) (paths : List (List ℕ)) (IsNext : List File → List ℕ → Type 0) → paths_of given assignments ≡ map (λ f. f.0) first ++ paths
       → ((files : List File) (path : List ℕ) → IsNext files path → StandsNext paths files path)
       → (files : List File) (path : List ℕ) → IsNext files path → StandsNext (paths_of given assignments) (first ++ files) path

@@ -10,14 +10,14 @@ use Rattle.wd_command.proofs.inputs.read_tables.Goals as goal
 abbrev path_of : Assignment → List ℕ
 path_of a = a.path.now
 
--- the paths before a place, the one there, and those behind it
+-- the paths before a place, the one there, and those after it
 paths_at : (assignments : List Assignment) (i : ℕ) (d : Assignment) → i < length assignments
     → map path_of assignments ≡ map path_of (take i assignments) ++ path_of (get_or assignments i d) ∷ map path_of (drop (suc i) assignments)
 paths_at [] i d below = absurd (omega (arith, below))
 paths_at (a ∷ assignments) zero d below = refl
 paths_at (a ∷ assignments) (suc i) d below = ap (λ paths. path_of a ∷ paths) (paths_at assignments i d (omega (arith, below)))
 
--- behind the tables that were read comes the path of the next assignment
+-- after the tables that were read comes the path of the next assignment
 next_path : (assignments : List Assignment) (tables : List TableFile) (i : ℕ) (d : Assignment) → i < length assignments
     → map (λ t. t.file.path.now) tables ≡ map path_of (take i assignments)
     → (files : List File) (path : List ℕ) → (files ≡ []) × (path ≡ (get_or assignments i d).path.now) → StandsNext (map path_of assignments) (map (λ t. file_of t.file) tables ++ files) path

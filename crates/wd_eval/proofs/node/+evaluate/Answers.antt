@@ -9,8 +9,8 @@ use Rattle.wd_plan.specs.Outcomes.{distinct, filter_outcome, map_outcome, outcom
 use Rattle.wd_plan.specs.Plans.{LimitRule, class_of, plan_of}
 use Rattle.wd_plan.specs.Sorting.{limit_class}
 use Rattle.wd_window.specs.Windows.{IsExtended, IsLeast, IsWrong, IsWrongIn, orderings_of, window_of}
-use Rattle.wd_eval.specs.Nodes.{given_of, IsCut, IsEvaluated, IsStopped, IsUnserved}
-use Rattle.wd_eval.specs.declared.given.Given.TheVariants.{Made}
+use Rattle.wd_eval.specs.Nodes.{produced_of, IsCut, IsEvaluated, IsStopped, IsUnserved}
+use Rattle.wd_eval.specs.declared.produced.Produced.TheVariants.{Made}
 use Rattle.wd_eval.proofs.Nodes.{filter_done, map_done, distinct_done, window_done, limit_done, join_done, join_stopped_left, join_stopped_right, window_stopped, window_stopped_below, limit_stopped, limit_stopped_below}
 use Rattle.wd_eval.proofs.node.+evaluate.Goals as goal
 
@@ -25,7 +25,7 @@ returns-in_ok-outcome-in-Filter t c =
     let condition = expression_of c.in-Filter.condition in
     let at_input : IsEvaluated most (plan_of c.deref-in-Filter.result.now) instance choice first below = search rules in
     let b = subst (λ p. IsEvaluated most (plan_of p) instance choice first below) c.deref-in-Filter.ensures at_input in
-    let is : outcome_of o ≡ and_then (given_of instance below.outcome) (filter_outcome condition) = search rules in
+    let is : outcome_of o ≡ and_then (produced_of instance below.outcome) (filter_outcome condition) = search rules in
     subst (λ p. IsEvaluated most p instance choice first (record { outcome = Made o; next = below.next })) (sym (ap plan_of c.in-Filter.is))
     (filter_done most instance choice first (plan_of c.in-Filter.input.value) below b o condition is)
 
@@ -40,7 +40,7 @@ returns-in_ok-outcome-in-Map t c =
     let outputs = map expression_of c.in-Map.outputs.items in
     let at_input : IsEvaluated most (plan_of c.deref-in-Map.result.now) instance choice first below = search rules in
     let b = subst (λ p. IsEvaluated most (plan_of p) instance choice first below) c.deref-in-Map.ensures at_input in
-    let is : outcome_of o ≡ and_then (given_of instance below.outcome) (map_outcome outputs) = search rules in
+    let is : outcome_of o ≡ and_then (produced_of instance below.outcome) (map_outcome outputs) = search rules in
     subst (λ p. IsEvaluated most p instance choice first (record { outcome = Made o; next = below.next })) (sym (ap plan_of c.in-Map.is))
     (map_done most instance choice first (plan_of c.in-Map.input.value) below b o outputs is)
 
@@ -56,10 +56,10 @@ returns-in_ok-outcome-in-Window t c =
     let calls = c.in-Window.calls.items in
     let at_input : IsEvaluated most (plan_of c.deref-in-Window.result.now) instance choice first below = search rules in
     let b = subst (λ p. IsEvaluated most (plan_of p) instance choice first below) c.deref-in-Window.ensures at_input in
-    let x : IsExtended (window_of c.deref-in-Window-2.result.now c.deref-in-Window-3.result.now) (given_of instance below.outcome) choice below.next o = search rules in
-    let own : IsExtended (window_of classes calls) (given_of instance below.outcome) choice below.next o =
-    subst (λ ks. IsExtended (window_of classes ks) (given_of instance below.outcome) choice below.next o) c.deref-in-Window-3.ensures.value
-    (subst (λ ks. IsExtended (window_of ks c.deref-in-Window-3.result.now) (given_of instance below.outcome) choice below.next o) c.deref-in-Window-2.ensures.value x) in
+    let x : IsExtended (window_of c.deref-in-Window-2.result.now c.deref-in-Window-3.result.now) (produced_of instance below.outcome) choice below.next o = search rules in
+    let own : IsExtended (window_of classes calls) (produced_of instance below.outcome) choice below.next o =
+    subst (λ ks. IsExtended (window_of classes ks) (produced_of instance below.outcome) choice below.next o) c.deref-in-Window-3.ensures.value
+    (subst (λ ks. IsExtended (window_of ks c.deref-in-Window-3.result.now) (produced_of instance below.outcome) choice below.next o) c.deref-in-Window-2.ensures.value x) in
     let long : c.len.result ≡ length classes = search rules in
     let next = below.next + c.len.result in
     let behind : next ≡ below.next + length (map class_of classes) = ap (λ n. below.next + n) (long ∙ sym (length-map classes class_of)) in
@@ -76,7 +76,7 @@ returns-in_ok-outcome-in-Distinct t c =
     let o = c.in_ok-outcome-in-Distinct.outcome in
     let at_input : IsEvaluated most (plan_of c.deref-in-Distinct.result.now) instance choice first below = search rules in
     let b = subst (λ p. IsEvaluated most (plan_of p) instance choice first below) c.deref-in-Distinct.ensures at_input in
-    let is : outcome_of o ≡ and_then (given_of instance below.outcome) (λ rows. Ok (distinct rows)) = search rules in
+    let is : outcome_of o ≡ and_then (produced_of instance below.outcome) (λ rows. Ok (distinct rows)) = search rules in
     subst (λ p. IsEvaluated most p instance choice first (record { outcome = Made o; next = below.next })) (sym (ap plan_of c.in-Distinct.is))
     (distinct_done most instance choice first (plan_of c.in-Distinct.input.value) below b o is)
 
@@ -90,8 +90,8 @@ returns-in_ok-outcome-in-Limit t c =
     let o = c.in_ok-outcome-in-Limit.outcome in
     let at_input : IsEvaluated most (plan_of c.deref-in-Limit.result.now) instance choice first below = search rules in
     let b = subst (λ p. IsEvaluated most (plan_of p) instance choice first below) c.deref-in-Limit.ensures at_input in
-    let x : IsCut (record { keys = c.deref-in-Limit-2.result.now; offset = c.in-Limit.offset; count = c.in-Limit.count; ties = c.in-Limit.ties }) (given_of instance below.outcome) choice below.next o = search rules in
-    let own = subst (λ ks. IsCut (record { keys = ks; offset = c.in-Limit.offset; count = c.in-Limit.count; ties = c.in-Limit.ties }) (given_of instance below.outcome) choice below.next o) c.deref-in-Limit-2.ensures.value x in
+    let x : IsCut (record { keys = c.deref-in-Limit-2.result.now; offset = c.in-Limit.offset; count = c.in-Limit.count; ties = c.in-Limit.ties }) (produced_of instance below.outcome) choice below.next o = search rules in
+    let own = subst (λ ks. IsCut (record { keys = ks; offset = c.in-Limit.offset; count = c.in-Limit.count; ties = c.in-Limit.ties }) (produced_of instance below.outcome) choice below.next o) c.deref-in-Limit-2.ensures.value x in
     let next = below.next + 1 in
     let same : next ≡ below.next + 1 = (λ i. next) in
     subst (λ p. IsEvaluated most p instance choice first (record { outcome = Made o; next = next })) (sym (ap plan_of c.in-Limit.is))
@@ -169,7 +169,7 @@ returns-in_err-outcome-in-Window t c =
     let err = err_from_is_err_and c.from_residual-in_err-outcome-in-Window.result c.from_residual-in_err-outcome-in-Window.ensures.1 in
     let below = c.in_ok-below-in-Window.below in
     let b = subst (λ p. IsEvaluated most (plan_of p) instance choice first below) c.deref-in-Window.ensures c.in_ok-below-in-Window.ensures in
-    let h = subst (λ ks. IsUnserved (IsLeast (IsWrongIn (map class_of ks) (given_of instance below.outcome) choice below.next)) e) c.deref-in-Window-2.ensures.value c.in_err-outcome-in-Window.ensures in
+    let h = subst (λ ks. IsUnserved (IsLeast (IsWrongIn (map class_of ks) (produced_of instance below.outcome) choice below.next)) e) c.deref-in-Window-2.ensures.value c.in_err-outcome-in-Window.ensures in
     rw (err.1, err.2) (subst (λ p. IsStopped most p instance choice first e) (sym (ap plan_of c.in-Window.is)) (window_stopped most instance choice first w input below b e h))
 
 pub returns-in_err-below-in-Limit : goal.returns-in_err-below-in-Limit
@@ -197,5 +197,5 @@ returns-in_err-outcome-in-Limit t c =
     let err = err_from_is_err_and c.from_residual-in_err-outcome-in-Limit.result c.from_residual-in_err-outcome-in-Limit.ensures.1 in
     let below = c.in_ok-below-in-Limit.below in
     let b = subst (λ p. IsEvaluated most (plan_of p) instance choice first below) c.deref-in-Limit.ensures c.in_ok-below-in-Limit.ensures in
-    let h = subst (λ ks. IsUnserved (IsWrong (limit_class (record { keys = ks; offset = c.in-Limit.offset; count = c.in-Limit.count; ties = c.in-Limit.ties })) (given_of instance below.outcome) choice below.next) e) c.deref-in-Limit-2.ensures.value c.in_err-outcome-in-Limit.ensures in
+    let h = subst (λ ks. IsUnserved (IsWrong (limit_class (record { keys = ks; offset = c.in-Limit.offset; count = c.in-Limit.count; ties = c.in-Limit.ties })) (produced_of instance below.outcome) choice below.next) e) c.deref-in-Limit-2.ensures.value c.in_err-outcome-in-Limit.ensures in
     rw (err.1, err.2) (subst (λ p. IsStopped most p instance choice first e) (sym (ap plan_of c.in-Limit.is)) (limit_stopped most instance choice first limit input below b e h))

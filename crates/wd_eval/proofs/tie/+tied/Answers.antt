@@ -7,9 +7,9 @@ use Rattle.wd_plan.specs.Faults.{and_then}
 use Rattle.wd_plan.specs.Outcomes.{map_outcome, outcome_of}
 use Rattle.wd_plan.specs.Plans.{plan_of}
 use Rattle.wd_window.specs.Windows.{orderings_of, window_of}
-use Rattle.wd_eval.specs.Nodes.{given_of}
+use Rattle.wd_eval.specs.Nodes.{produced_of}
 use Rattle.wd_eval.specs.Ties.{IsTied, IsTiedLimit, IsTiedWindow, IsUntied}
-use Rattle.wd_eval.specs.declared.given.Given.TheVariants.{Made}
+use Rattle.wd_eval.specs.declared.produced.Produced.TheVariants.{Made}
 use Rattle.wd_eval.proofs.Tying.{distinct_tied, filter_tied, join_tied, join_untied, limit_tied, map_tied, window_tied}
 use Rattle.wd_eval.proofs.tie.+tied.Goals as goal
 
@@ -37,7 +37,7 @@ returns-in_ok-outcome-in-Map t c =
     let o = c.in_ok-outcome-in-Map.outcome in
     let b = subst (λ p. IsTied most (plan_of p) instance flipped old new below) c.deref-in-Map.ensures c.in_ok-below-in-Map.ensures in
     subst (λ p. IsTied most p instance flipped old new (Made o)) (sym (ap plan_of c.in-Map.is))
-    (map_tied most instance flipped old (plan_of c.in-Map.input.value) new below b o (map expression_of c.in-Map.outputs.items) (subst (λ os. outcome_of o ≡ and_then (given_of instance below) (map_outcome (map expression_of os))) c.deref-in-Map-2.ensures.value c.in_ok-outcome-in-Map.ensures))
+    (map_tied most instance flipped old (plan_of c.in-Map.input.value) new below b o (map expression_of c.in-Map.outputs.items) (subst (λ os. outcome_of o ≡ and_then (produced_of instance below) (map_outcome (map expression_of os))) c.deref-in-Map-2.ensures.value c.in_ok-outcome-in-Map.ensures))
 
 pub returns-in_ok-outcome-in-Distinct : goal.returns-in_ok-outcome-in-Distinct
 returns-in_ok-outcome-in-Distinct t c =
@@ -106,8 +106,8 @@ returns-in_ok-outcome-in-Window t c =
     let b = subst (λ p. IsTied most (plan_of p) instance flipped old mid below) c.deref-in-Window.ensures c.in_ok-below-in-Window.ensures in
     let is = sym (ap plan_of c.in-Window.is) in
     let o = c.in_ok-outcome-in-Window.outcome in
-    let own = subst (λ ks. IsTiedWindow (window_of classes ks) (given_of instance below) flipped mid new o) c.deref-in-Window-3.ensures.value
-    (subst (λ ks. IsTiedWindow (window_of ks c.deref-in-Window-3.result.now) (given_of instance below) flipped mid new o) c.deref-in-Window-2.ensures.value c.in_ok-outcome-in-Window.ensures) in
+    let own = subst (λ ks. IsTiedWindow (window_of classes ks) (produced_of instance below) flipped mid new o) c.deref-in-Window-3.ensures.value
+    (subst (λ ks. IsTiedWindow (window_of ks c.deref-in-Window-3.result.now) (produced_of instance below) flipped mid new o) c.deref-in-Window-2.ensures.value c.in_ok-outcome-in-Window.ensures) in
     subst (λ p. IsTied most p instance flipped old new (Made o)) is (window_tied most instance flipped old (window_of classes calls) input mid new below o b own)
 
 pub returns-in_ok-outcome-in-Limit : goal.returns-in_ok-outcome-in-Limit
@@ -124,6 +124,6 @@ returns-in_ok-outcome-in-Limit t c =
     let b = subst (λ p. IsTied most (plan_of p) instance flipped old mid below) c.deref-in-Limit.ensures c.in_ok-below-in-Limit.ensures in
     let is = sym (ap plan_of c.in-Limit.is) in
     let o = c.in_ok-outcome-in-Limit.outcome in
-    let own = subst (λ ks. IsTiedLimit (record { keys = ks; offset = c.in-Limit.offset; count = c.in-Limit.count; ties = c.in-Limit.ties }) (given_of instance below) flipped mid new o) c.deref-in-Limit-2.ensures.value c.in_ok-outcome-in-Limit.ensures in
+    let own = subst (λ ks. IsTiedLimit (record { keys = ks; offset = c.in-Limit.offset; count = c.in-Limit.count; ties = c.in-Limit.ties }) (produced_of instance below) flipped mid new o) c.deref-in-Limit-2.ensures.value c.in_ok-outcome-in-Limit.ensures in
     subst (λ p. IsTied most p instance flipped old new (Made o)) is
     (limit_tied most instance flipped old (record { keys = keys; offset = c.in-Limit.offset; count = c.in-Limit.count; ties = c.in-Limit.ties }) input mid new below o b own)

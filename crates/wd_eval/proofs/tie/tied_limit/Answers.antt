@@ -4,7 +4,7 @@ use Rattle.std.proofs.lemmas.Result.{MatchResult-weaker}
 use Rattle.wd_value.specs.Rows.{instance_of}
 use Rattle.wd_plan.specs.Sorting.{limit_class}
 use Rattle.wd_window.specs.Windows.{HasOrdering, orderings_of}
-use Rattle.wd_eval.specs.Nodes.{given_of, IsCut, limit_of}
+use Rattle.wd_eval.specs.Nodes.{produced_of, IsCut, limit_of}
 use Rattle.wd_eval.specs.Tied.{IsSortedOver}
 use Rattle.wd_eval.proofs.Putting.{limit_memory, limit_put, limit_tied_from}
 use Rattle.wd_eval.proofs.tie.tied_limit.Goals as goal
@@ -12,7 +12,7 @@ use Rattle.wd_eval.proofs.tie.tied_limit.Goals as goal
 pub returns : goal.returns
 returns c =
     let limit = limit_of c.args.limit.now in
-    let input = given_of (instance_of c.args.instance.now) c.args.input in
+    let input = produced_of (instance_of c.args.instance.now) c.args.input in
     let flipped = c.args.flipped in
     let old = orderings_of c.args.orderings.now.items in
     let new = orderings_of c.push.new.self.items in

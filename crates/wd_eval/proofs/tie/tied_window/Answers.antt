@@ -4,7 +4,7 @@ use Rattle.std.proofs.lemmas.Result.{MatchResult-weaker}
 use Rattle.wd_value.specs.Rows.{instance_of}
 use Rattle.wd_plan.specs.Plans.{class_of}
 use Rattle.wd_window.specs.Windows.{IsExtended, IsWindowServed, orderings_of, window_of}
-use Rattle.wd_eval.specs.Nodes.{given_of}
+use Rattle.wd_eval.specs.Nodes.{produced_of}
 use Rattle.wd_eval.specs.Ties.{ArePut}
 use Rattle.wd_eval.proofs.Putting.{window_memory, window_put}
 use Rattle.wd_eval.proofs.tie.tied_window.Goals as goal
@@ -12,7 +12,7 @@ use Rattle.wd_eval.proofs.tie.tied_window.Goals as goal
 pub returns : goal.returns
 returns c =
     let w = window_of c.args.classes.now c.args.calls.now in
-    let input = given_of (instance_of c.args.instance.now) c.args.input in
+    let input = produced_of (instance_of c.args.instance.now) c.args.input in
     let flipped = c.args.flipped in
     let old = orderings_of c.args.orderings.now.items in
     let new = orderings_of c.put_sorted.new.orderings.items in

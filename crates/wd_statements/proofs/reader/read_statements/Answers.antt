@@ -39,7 +39,7 @@ pub returns-in-Err-Unexpected-clause-unexpected : goal.returns-in-Err-Unexpected
 returns-in-Err-Unexpected-clause-unexpected c =
     let kinds = kinds_of c.loop-rest.rest.now in
     let some : kinds ≢ [] = kinds_some c.loop-rest.rest.now (sym c.is_empty.ensures ∙ c.loop-rest-test.true) in
-    rw (c.place_of.ensures, c.in-Err-Unexpected.left-is) (settled_stops (kinds_of c.args.tokens.now) (map table_tree c.loop-rest.tables.items) c.loop-rest.ended kinds c.in-Err-Unexpected.left some (c.loop-rest.invariant.over, c.loop-rest.invariant.fresh) c.loop-rest.invariant.each (rw c.in-Err-Unexpected.field-0-is at c.in-Err-Unexpected.ensures) c.loop-rest.invariant.settled)
+    rw (c.token_place.ensures, c.in-Err-Unexpected.left-is) (settled_stops (kinds_of c.args.tokens.now) (map table_tree c.loop-rest.tables.items) c.loop-rest.ended kinds c.in-Err-Unexpected.left some (c.loop-rest.invariant.over, c.loop-rest.invariant.fresh) c.loop-rest.invariant.each (rw c.in-Err-Unexpected.field-0-is at c.in-Err-Unexpected.ensures) c.loop-rest.invariant.settled)
 
 pub returns-in-Err-Unexpected-clause-statements : goal.returns-in-Err-Unexpected-clause-statements
 returns-in-Err-Unexpected-clause-statements c =

@@ -7,5 +7,5 @@ use Rattle.wd_tables.specs.Data as spec
 use Rattle.wd_tables.proofs.header.places_of.Given as goal
 
 abbrev pub invariant-loop-column : goal.invariant-loop-column
-invariant-loop-column l = (l.places.items ≡ map (λ column. spec.place_of (fields_of l.header) column.name) (take l.column-index l.columns))
+invariant-loop-column l = (l.places.items ≡ map (λ column. spec.field_place (fields_of l.header) column.name) (take l.column-index l.columns))
     × AllWithin (λ column. times bytes_eq column.name (fields_of l.header) ≡ 1) l.columns 0 l.column-index

@@ -2,7 +2,7 @@ use Rattle.std.proofs.Common.{◌≡◌, ◌<◌, Some, get_or, length, sym, ari
 use Rattle.std.proofs.lemmas.List.{get_or-map}
 use Rattle.csv.specs.Records.{fields_of}
 use Rattle.wd_schema.specs.declared.table.Column.{Column}
-use Rattle.wd_tables.specs.Data.{field_under, place_of, value_in}
+use Rattle.wd_tables.specs.Data.{field_under, field_place, value_in}
 use Rattle.wd_tables.specs.Refusals.{RefusesField}
 use Rattle.wd_tables.proofs.LoadFacts.{fits_field}
 use Rattle.wd_tables.proofs.RefusedFacts.{passed_more, refused_more, refuses_record}
@@ -16,8 +16,8 @@ loop-c-preserved c header e =
     let column = c.index-columns-c.result in
     let within : c.loop-c.c < length columns = omega arith in
     let is = sym c.index-columns-c.is in
-    let names = rw (← c.index-columns-c.is) at (get_or-map (λ (k : Column). place_of header k.name) columns c.loop-c.c column 0 within) in
-    let place : get_or c.args.places.now c.loop-c.c 0 ≡ place_of header column.name = rw e names in
+    let names = rw (← c.index-columns-c.is) at (get_or-map (λ (k : Column). field_place header k.name) columns c.loop-c.c column 0 within) in
+    let place : get_or c.args.places.now c.loop-c.c 0 ≡ field_place header column.name = rw e names in
     let before = c.loop-c.invariant header e in
     elim c.match-value_of.branch [
       | in-Ok w ↦

@@ -3,7 +3,7 @@ use Rattle.std.proofs.lemmas.List.{get_or-map, map-append, map_more, take_more}
 use Rattle.csv.specs.Records.{fields_of}
 use Rattle.wd_schema.specs.declared.table.Column.{Column}
 use Rattle.wd_value.specs.declared.value.Value.{Value}
-use Rattle.wd_tables.specs.Data.{place_of, value_in}
+use Rattle.wd_tables.specs.Data.{field_place, value_in}
 use Rattle.wd_tables.proofs.RowFacts.{fits_columns-push}
 use Rattle.wd_tables.proofs.row.row_of.Goals as goal
 
@@ -16,8 +16,8 @@ loop-c-preserved c =
     let within : c.loop-c.c < length columns = omega arith in
     let taken : take (c.loop-c.c + 1) columns ≡ take c.loop-c.c columns ++ column ∷ [] = rw (← c.index-columns-c.is) at (take_more columns c.loop-c.c column within) in (
       (λ header e.
-          let names = rw (← c.index-columns-c.is) at (get_or-map (λ (k : Column). place_of header k.name) columns c.loop-c.c column 0 within) in
-          let place : get_or c.args.places.now c.loop-c.c 0 ≡ place_of header column.name = rw e names in
+          let names = rw (← c.index-columns-c.is) at (get_or-map (λ (k : Column). field_place header k.name) columns c.loop-c.c column 0 within) in
+          let place : get_or c.args.places.now c.loop-c.c 0 ≡ field_place header column.name = rw e names in
           let denoted : value_in header fields column ≡ Some v = rw (← place, ← c.field_at.ensures) c.in-Ok.ensures.value in
           let more = rw (← c.index-columns-c.is, denoted) at (map_more (value_in header fields) columns c.loop-c.c column within) in
           rw (c.in_ok-push-in-Ok.ensures.items, map-append (λ (w : Value). Some w) c.loop-c.row.items (v ∷ []), ← c.loop-c.invariant.0 header e) more),

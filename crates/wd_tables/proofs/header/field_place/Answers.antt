@@ -2,7 +2,7 @@ use Rattle.std.proofs.Common.{◌≡◌, ◌<◌, true, [], length, sym, arith, 
 use Rattle.std.specs.Str.{bytes_eq}
 use Rattle.std.proofs.lemmas.List.{get_or_read}
 use Rattle.std.proofs.lemmas.List.Sums.{position_or_len_is}
-use Rattle.wd_tables.proofs.header.place_of.Goals as goal
+use Rattle.wd_tables.proofs.header.field_place.Goals as goal
 
 pub returns-then-eq : goal.returns-then-eq
 returns-then-eq c =

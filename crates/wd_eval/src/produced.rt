@@ -1,7 +1,7 @@
 //! What a node gives to the step above it.
 
 ghost use Rattle.std.specs.Prelude.{◌≡◌, IfOk};
-ghost use Rattle.wd_eval.specs.Nodes.{given_of, shown_of};
+ghost use Rattle.wd_eval.specs.Nodes.{produced_of, shown_of};
 ghost use Rattle.wd_plan.specs.Outcomes.{outcome_of};
 ghost use Rattle.wd_value.specs.Rows.{instance_of, rows_of, table_at};
 
@@ -12,19 +12,19 @@ use wd_value::{Fault, OutOfMemory, Row, copy_row};
 /// What a node gives to the step above it: a table of the instance by its number, whose rows stay
 /// where they are, or what the node's step made.
 #[derive(Drop)]
-pub(crate) enum Given {
+pub(crate) enum Produced {
     Table(u16),
     Made(Outcome),
 }
 
 /// The rows that are given, where they are, or the fault.
-pub(crate) fn shown<'a>(given: &'a Given, instance: &'a [Vec<Row>]) -> Result<&'a [Row], Fault>
-    ensures { shown_of result ≡ given_of (instance_of instance.now) given.now }
+pub(crate) fn shown<'a>(given: &'a Produced, instance: &'a [Vec<Row>]) -> Result<&'a [Row], Fault>
+    ensures { shown_of result ≡ produced_of (instance_of instance.now) given.now }
 {
     match given {
-        Given::Table(table) => Ok(table_in(instance, *table)),
-        Given::Made(Outcome::Rows(rows)) => Ok(rows),
-        Given::Made(Outcome::Fault(fault)) => Err(*fault),
+        Produced::Table(table) => Ok(table_in(instance, *table)),
+        Produced::Made(Outcome::Rows(rows)) => Ok(rows),
+        Produced::Made(Outcome::Fault(fault)) => Err(*fault),
     }
 }
 
@@ -32,16 +32,16 @@ pub(crate) fn shown<'a>(given: &'a Given, instance: &'a [Vec<Row>]) -> Result<&'
 pub(crate) fn owned(
     alloc: Global,
     instance: &[Vec<Row>],
-    given: Given,
+    given: Produced,
 ) -> Result<Outcome, OutOfMemory>
-    ensures { IfOk result (λ o. outcome_of o ≡ given_of (instance_of instance.now) given) }
+    ensures { IfOk result (λ o. outcome_of o ≡ produced_of (instance_of instance.now) given) }
 {
     match given {
-        Given::Table(table) => {
+        Produced::Table(table) => {
             let copied = copy_rows(alloc, table_in(instance, table))?;
             Ok(Outcome::Rows(copied))
         }
-        Given::Made(outcome) => Ok(outcome),
+        Produced::Made(outcome) => Ok(outcome),
     }
 }
 

@@ -1,6 +1,6 @@
 use Rattle.std.proofs.Common.{◌≡◌, ℕ, ◌<◌, [], false, get_or}
 use Rattle.std.specs.Str.{bytes_eq}
-use Rattle.wd_tables.proofs.header.place_of.Given as goal
+use Rattle.wd_tables.proofs.header.field_place.Given as goal
 
 abbrev pub invariant-loop-place : goal.invariant-loop-place
 invariant-loop-place l = (k : ℕ) → k < l.place → bytes_eq l.name (get_or l.names k []) ≡ false

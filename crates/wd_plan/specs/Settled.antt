@@ -1,4 +1,4 @@
--- What justifies a call and a limit, in the rows of a node's input.
+-- When a call and a limit are settled: no choice of orderings changes them, in the rows of a node's input.
 use Rattle.std.specs.Prelude.{◌≡◌, ℕ, ◌<◌, Bool, true, false, List, length, drop, ◌⊎◌, None, ⊤}
 use Rattle.std.specs.List.{AllByRecursion}
 use Rattle.wd_value.specs.Rows.{Row, Instance}
@@ -7,7 +7,7 @@ use Rattle.wd_plan.specs.declared.window.Frame.{Frame}
 use Rattle.wd_plan.specs.declared.window.Function.{Function}
 use Rattle.wd_plan.specs.declared.window.Function.TheVariants.{RowNumber, Rank, DenseRank, Ntile, Lag, Lead, FirstValue, LastValue, NthValue, CountRows, Count, Sum, Min, Max}
 use Rattle.wd_plan.specs.Choices.{AtRows}
-use Rattle.wd_plan.specs.Facts.{Gives, GivesRow, GivesAll, HasWidth}
+use Rattle.wd_plan.specs.Facts.{Determines, DeterminesRow, DeterminesAll, HasWidth}
 use Rattle.wd_plan.specs.Frames.{is_stable}
 use Rattle.wd_plan.specs.Outcomes.{outcome, class_at}
 use Rattle.wd_plan.specs.Plans.{ClassRule, WindowRule, LimitRule, PlanTree, Scan, Join, Filter, Map, Window, Distinct, Limit, ordering_count}
@@ -36,36 +36,36 @@ IsByValues frame function c = (is_stable frame ≡ true) × ((function ≡ First
 
 -- a call goes by `peers`, or its class's columns give the row (`unique`), or the value that it takes (`values`)
 abbrev pub IsByRow : ClassRule → Frame → Function → List Row → Type 0
-IsByRow class frame function rows = (is_by_peers frame function ≡ true) ⊎ (GivesRow rows (class_columns class) ⊎ ((c : ℕ) × IsByValues frame function c × Gives rows (class_columns class) c))
+IsByRow class frame function rows = (is_by_peers frame function ≡ true) ⊎ (DeterminesRow rows (class_columns class) ⊎ ((c : ℕ) × IsByValues frame function c × Determines rows (class_columns class) c))
 
 -- or its class is the node's one class whose columns give every column (`exchange`)
-abbrev pub IsJustified : WindowRule → ℕ → ℕ → List Row → Call → Type 0
-IsJustified w exchange width rows call = let class = class_at w call.class in
+abbrev pub IsSettledCall : WindowRule → ℕ → ℕ → List Row → Call → Type 0
+IsSettledCall w exchange width rows call = let class = class_at w call.class in
     (is_by_peers call.frame call.function ≡ true)
-    ⊎ (GivesRow rows (class_columns class)
-    ⊎ (((c : ℕ) × IsByValues call.frame call.function c × Gives rows (class_columns class) c)
-    ⊎ ((call.class ≡ exchange) × GivesAll rows width (class_columns class))))
+    ⊎ (DeterminesRow rows (class_columns class)
+    ⊎ (((c : ℕ) × IsByValues call.frame call.function c × Determines rows (class_columns class) c)
+    ⊎ ((call.class ≡ exchange) × DeterminesAll rows width (class_columns class))))
 
 -- a limit takes all rows (`whole`), or ties and no offset (`ties`), or its sort keys give every column (`keys`)
-abbrev pub IsJustifiedLimit : LimitRule → ℕ → List Row → Type 0
-IsJustifiedLimit limit width rows =
+abbrev pub IsSettledLimit : LimitRule → ℕ → List Row → Type 0
+IsSettledLimit limit width rows =
     ((limit.count ≡ None) × (limit.offset ≡ 0))
     ⊎ (((limit.ties ≡ true) × (limit.offset ≡ 0))
-    ⊎ GivesAll rows width (order_columns (limit_class limit)))
+    ⊎ DeterminesAll rows width (order_columns (limit_class limit)))
 
 -- each call names a class
 abbrev pub NamesClasses : WindowRule → Type 0
 NamesClasses w = AllByRecursion (λ (call : Call). call.class < length w.classes) w.calls
 
--- each call of a Window and each Limit is justified in the rows that the node reads under a choice
-abbrev pub IsJustifiedPlan : PlanTree → Instance → List (List ℕ) → Type 0
-IsJustifiedPlan (Scan table columns) instance choice = ⊤
-IsJustifiedPlan (Join condition left right) instance choice = IsJustifiedPlan left instance choice × IsJustifiedPlan right instance (drop (ordering_count left) choice)
-IsJustifiedPlan (Filter condition input) instance choice = IsJustifiedPlan input instance choice
-IsJustifiedPlan (Map outputs input) instance choice = IsJustifiedPlan input instance choice
-IsJustifiedPlan (Window w input) instance choice =
-    IsJustifiedPlan input instance choice × NamesClasses w
-    × AtRows (outcome input instance choice) (λ rows. (exchange : ℕ) × (width : ℕ) × HasWidth width rows × AllByRecursion (IsJustified w exchange width rows) w.calls) ⊤
-IsJustifiedPlan (Distinct input) instance choice = IsJustifiedPlan input instance choice
-IsJustifiedPlan (Limit limit input) instance choice =
-    IsJustifiedPlan input instance choice × AtRows (outcome input instance choice) (λ rows. (width : ℕ) × HasWidth width rows × IsJustifiedLimit limit width rows) ⊤
+-- each call of a Window and each Limit is settled in the rows that the node reads under a choice
+abbrev pub IsSettledPlan : PlanTree → Instance → List (List ℕ) → Type 0
+IsSettledPlan (Scan table columns) instance choice = ⊤
+IsSettledPlan (Join condition left right) instance choice = IsSettledPlan left instance choice × IsSettledPlan right instance (drop (ordering_count left) choice)
+IsSettledPlan (Filter condition input) instance choice = IsSettledPlan input instance choice
+IsSettledPlan (Map outputs input) instance choice = IsSettledPlan input instance choice
+IsSettledPlan (Window w input) instance choice =
+    IsSettledPlan input instance choice × NamesClasses w
+    × AtRows (outcome input instance choice) (λ rows. (exchange : ℕ) × (width : ℕ) × HasWidth width rows × AllByRecursion (IsSettledCall w exchange width rows) w.calls) ⊤
+IsSettledPlan (Distinct input) instance choice = IsSettledPlan input instance choice
+IsSettledPlan (Limit limit input) instance choice =
+    IsSettledPlan input instance choice × AtRows (outcome input instance choice) (λ rows. (width : ℕ) × HasWidth width rows × IsSettledLimit limit width rows) ⊤
