@@ -20,7 +20,7 @@ fn boxed(alloc: Global, expression: Expr) -> Result<Box<Expr>, OutOfMemory>
     Ok(Box::new(alloc, expression)?)
 }
 
-/// A copy after a pointer, so that little of the stack is taken for each level.
+/// A copy behind a pointer, so that little of the stack is taken for each level.
 fn boxed_copy(alloc: Global, expression: &Expr) -> Result<Box<Expr>, OutOfMemory>
     ensures { IfOk result (λ e. expression_of e.value ≡ expression_of expression.now) }
 {

@@ -18,7 +18,7 @@ pub record HaveMeaning (schema query : List ℕ) : Type 0 where
   pub reads : Reads schema query read
   pub limits : KeepsLimits reads.tree
 
--- a refusal of the schema's text or the query's, for another reason than out of memory
+-- a refusal of the schema's text or the query's, for another reason than that memory runs out
 abbrev pub RefusesTexts : RunError → Type 0
 RefusesTexts (run.Schema error) = IsSome (tables.number_of error)
 RefusesTexts (run.Query error) = IsSome (query_number error)

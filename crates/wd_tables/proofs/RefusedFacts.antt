@@ -82,7 +82,7 @@ module _ (columns : List Column) (header fields : List (List ℕ)) (number : ℕ
       by Malformed w = absurd w
       by TooManyRecords w = absurd w
 
-  -- a refused field is of a column that is refused, but where memory runs out
+  -- a refused field is of a column that is refused, out of memory aside
   pub refuses_some : (column : Column) (n : ℕ) (e : DataError) → n < length columns → get_or columns n column ≡ column → All (λ column. ¬ (IsRefusedIn header fields column)) columns → RefusesField column (field_under header fields column.name) number e → RefusesRecord columns header fields number e
   refuses_some column n (NoValue m) within is none h = absurd (none n column within (rw is (inl h.1)))
   refuses_some column n (NullValue m) within is none h = absurd (none n column within (rw is (inr (h.1, h.2))))

@@ -2,7 +2,7 @@
 
 ghost use Rattle.wd_tables.specs.Laws.{HasOneRefusal, HasRowsOrRefusal};
 
-/// A text has at most one refusal, but where memory runs out.
+/// A text has at most one refusal, out of memory aside.
 pub fn one_refusal()
     ensures { HasOneRefusal }
 {}

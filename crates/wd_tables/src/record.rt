@@ -18,7 +18,7 @@ pub fn next_record(reader: &mut Reader<&[u8]>, fields: &mut StringRecord) -> Res
     }
 }
 
-// A read of a slice fails for its records or only where memory runs out.
+// A read of a slice fails for its records, else only where memory runs out.
 fn refusal(kind: ErrorKind) -> DataError
     ensures { result ≡ refusal_of kind }
 {

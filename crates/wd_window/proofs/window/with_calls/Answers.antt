@@ -15,7 +15,7 @@ use Rattle.wd_plan.specs.declared.window.Call.{Call}
 use Rattle.wd_window.proofs.Beside.{window_from_values}
 use Rattle.wd_window.proofs.window.with_calls.Goals as goal
 
--- the same of the rows after a reference
+-- the same of the rows behind a reference
 values_from : (w : WindowRule) (orderings : List (List ℕ)) (calls : List Call) (listings : List Listing) (there rows : List (Vec Value Global)) (r : Result (Vec (Vec Value Global) Global) Fault) → there ≡ rows
     → (AreListed w (rows_of there) orderings listings → rows_or_fault r ≡ all_ok (map (calls_at w (rows_of there) orderings calls) (positions (length there))))
     → AreListed w (rows_of rows) orderings listings → rows_or_fault r ≡ all_ok (map (calls_at w (rows_of rows) orderings calls) (positions (length rows)))
