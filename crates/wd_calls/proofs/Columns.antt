@@ -1,5 +1,5 @@
 -- The values of a column at places, one place on.
-use Rattle.std.proofs.Common.{◌≡◌, ◌∙◌, ℕ, zero, suc, ◌+◌, ◌<◌, ◌≤◌, ◌+ℤ◌, Bool, true, false, cond, not, ◌||◌, List, [], ◌∷◌, ◌++◌, map, take, drop, length, get_or, count_by, refl, sym, ap, arith, inl, inr}
+use Rattle.std.proofs.Common.{◌≡◌, ◌∙◌, ℕ, zero, suc, ◌+◌, ◌<◌, ◌≤◌, ◌+ℤ◌, Bool, true, false, cond, not, ◌||◌, List, [], ◌∷◌, ◌++◌, map, take, drop, length, get_or, count_by, refl, sym, ap, subst, arith, inl, inr}
 use Rattle.std.specs.Ordering.{is_gt}
 use Rattle.std.proofs.lemmas.Bool.{cases_lt}
 use Rattle.std.proofs.lemmas.List.{get_or-map, length-map, map_more, take_all}
@@ -8,6 +8,7 @@ use Rattle.std.specs.List.Sorted.{IsNonDecreasingBy}
 use Rattle.std.proofs.lemmas.List.Sorted.{IsNonDecreasingBy-from_all_adjacent}
 use Rattle.std.proofs.lemmas.List.Sums.{count_by_more_no, count_by_more_yes, sum_by-cons, sum_by_push}
 use Rattle.std.proofs.lemmas.Int.{ints}
+use Rattle.std.proofs.lemmas.Simd.{map-map}
 use Rattle.std.proofs.Math.Seq.{drop-cons}
 use Rattle.wd_value.specs.declared.value.Value.{Value}
 use Rattle.wd_value.specs.declared.value.Value.TheVariants.{Null, Int, Text, Bool as Truth}
@@ -23,9 +24,19 @@ use Rattle.wd_calls.specs.Values.{whole_of, present, values_at}
 abbrev pub value : List Row → ℕ → ℕ → Value
 value partition column p = column_of (row_at partition p) column
 
+-- the values of the rows at places are those at the places
+pub flat : (partition : List Row) (column : ℕ) (places : List ℕ) → values_at partition column places ≡ map (value partition column) places
+flat partition column places = map-map (λ r. column_of r column) (row_at partition) places
+
+pub value_at_place : (partition : List Row) (column : ℕ) (places : List ℕ) (n place : ℕ) → n < length places → get_or places n 0 ≡ place → get_or (values_at partition column places) n Null ≡ value partition column place
+value_at_place partition column places n place within at =
+    ap (λ (l : List Value). get_or l n Null) (flat partition column places) ∙ get_or-map (value partition column) places n 0 Null within ∙ ap (value partition column) at
+
 values_more : (partition : List Row) (column : ℕ) (places : List ℕ) (i : ℕ) → i < length places
     → values_at partition column (take (i + 1) places) ≡ values_at partition column (take i places) ++ value partition column (get_or places i 0) ∷ []
-values_more partition column places i h = map_more (value partition column) places i 0 h
+values_more partition column places i h =
+    flat partition column (take (i + 1) places) ∙ map_more (value partition column) places i 0 h
+    ∙ ap (λ vs. vs ++ value partition column (get_or places i 0) ∷ []) (sym (flat partition column (take i places)))
 
 pub present_more : (partition : List Row) (column : ℕ) (places : List ℕ) (i : ℕ) → i < length places
     → present (values_at partition column (take (i + 1) places)) ≡ present (values_at partition column (take i places)) + present (value partition column (get_or places i 0) ∷ [])
@@ -53,8 +64,8 @@ pub first_more : (partition : List Row) (column : ℕ) (places : List ℕ) (key 
     first_by key (drop j vs) ≡ (let w = first_by key (drop (suc j) vs) in let v = value partition column (get_or places j 0) in cond (is_gt (compare key v w)) w v)
 first_more partition column places key j h =
     let vs = values_at partition column places in
-    let long : j < length vs = (rw (length-map places (value partition column)) h) in
-    ap (first_by key) (drop-cons vs j Null long ∙ ap (λ v. v ∷ drop (suc j) vs) (get_or-map (value partition column) places j 0 Null h))
+    let long : j < length vs = subst (λ n. j < n) (sym (ap length (flat partition column places) ∙ length-map places (value partition column))) h in
+    ap (first_by key) (drop-cons vs j Null long ∙ ap (λ v. v ∷ drop (suc j) vs) (value_at_place partition column places j _ h refl))
 
 -- ---- counts of members before a point
 

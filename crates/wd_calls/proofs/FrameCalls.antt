@@ -1,18 +1,14 @@
 -- The functions of a frame, from the frame's places.
-use Rattle.std.proofs.Common.{◌≡◌, ◌∙◌, ℕ, zero, suc, ◌+◌, ◌-◌, ◌<◌, ◌≤◌, pos, ◌-ℤ◌, Bool, true, false, cond, not, ◌&&◌, List, [], ◌∷◌, map, filter, length, reverse, get_or, count_by, nat_eq, nat_lt, refl, sym, ap, arith, Result, Ok, Err, IfOk}
+use Rattle.std.proofs.Common.{◌≡◌, ◌∙◌, ℕ, zero, suc, ◌+◌, ◌<◌, ◌≤◌, pos, ◌-ℤ◌, Bool, true, false, cond, not, ◌&&◌, List, [], ◌∷◌, map, filter, length, get_or, count_by, nat_eq, nat_lt, refl, sym, ap, arith, Result, Ok, Err, IfOk}
 use Rattle.std.specs.List.{range_with_len}
-use Rattle.std.proofs.lemmas.Bool.{false≢true}
 use Rattle.std.proofs.lemmas.List.{get_or-map, length-map}
 use Rattle.std.proofs.lemmas.List.Sums.{count_by-le-length, sum_by-cons}
-use Rattle.std.proofs.lemmas.Simd.{map-map}
-use Rattle.wd_value.specs.declared.value.Value.{Value}
-use Rattle.wd_value.specs.declared.value.Value.TheVariants.{Null, Int}
 use Rattle.wd_value.specs.Bags.{positions}
-use Rattle.wd_value.specs.Rows.{Row, column_of, row_at}
+use Rattle.wd_value.specs.Rows.{Row, column_of, row_at, rows_at}
 use Rattle.wd_plan.specs.declared.window.Frame.{Frame}
-use Rattle.wd_plan.specs.declared.window.Function.{Function}
-use Rattle.wd_plan.specs.declared.window.Function.TheVariants.{RowNumber, Rank, DenseRank, Ntile, Lag, Lead, FirstValue, LastValue, NthValue, CountRows, Count, Sum, Min, Max}
-use Rattle.wd_plan.specs.Calls.{call_value, frame_values, greatest, least, sum_of}
+use Rattle.wd_plan.specs.declared.function.FrameFunction.{FrameFunction}
+use Rattle.wd_plan.specs.declared.function.Function.TheVariants.{OfFrame}
+use Rattle.wd_plan.specs.Calls.{call_value, frame_value}
 use Rattle.wd_plan.specs.Expressions.{is_null}
 use Rattle.wd_plan.specs.Frames.{Distances, bound_asks, ends_at, frame_of, is_kept, starts_at}
 use Rattle.wd_plan.specs.Partitions.{group_of}
@@ -21,28 +17,11 @@ use Rattle.wd_frame.specs.Laws.{has_range_offset, is_descending, key_values, par
 use Rattle.wd_frame.specs.Places.{PartRule, is_member, places_of}
 use Rattle.wd_frame.proofs.FrameLaws.{places_are_frames, same_keys}
 use Rattle.wd_calls.specs.Parts.{IsPartOf}
-use Rattle.wd_calls.specs.Values.{frame_value, lower_groups, present, values_at}
+use Rattle.wd_calls.specs.Values.{lower_groups, present, values_at}
 
 pub count_map : {X Y : Type 0} (p : Y → Bool) (f : X → Y) (xs : List X) → count_by p (map f xs) ≡ count_by (λ x. p (f x)) xs
 count_map p f [] = refl
 count_map p f (x ∷ xs) = sum_by-cons (λ y. cond (p y) 1 0) (f x) (map f xs) ∙ ap (λ n. cond (p (f x)) 1 0 + n) (count_map p f xs) ∙ sym (sum_by-cons (λ y. cond (p (f y)) 1 0) x xs)
-
--- whether a function is one of the frame
-abbrev pub is_of_frame : Function → Bool
-is_of_frame RowNumber = false
-is_of_frame Rank = false
-is_of_frame DenseRank = false
-is_of_frame (Ntile n) = false
-is_of_frame (Lag c k default) = false
-is_of_frame (Lead c k default) = false
-is_of_frame (FirstValue c) = true
-is_of_frame (LastValue c) = true
-is_of_frame (NthValue c n) = true
-is_of_frame CountRows = true
-is_of_frame (Count c) = true
-is_of_frame (Sum c) = true
-is_of_frame (Min c) = true
-is_of_frame (Max c) = true
 
 -- ---- the frame's places
 
@@ -78,30 +57,14 @@ module _ {class : ClassRule} {frame : Frame} {partition : List Row} {part : Part
   pub frame_rows : map (row_at partition) (places_of part frame place) ≡ frame_of class frame partition place
   frame_rows = ap (map (row_at partition)) same_places ∙ places_are_frames.rows class frame partition place within
 
-  values_are : (c : ℕ) → values_at partition c (places_of part frame place) ≡ frame_values class frame partition place c
-  values_are c = sym (map-map (λ r. column_of r c) (row_at partition) (places_of part frame place)) ∙ ap (map (λ r. column_of r c)) frame_rows
+  -- the value of a function of a frame over the rows at the frame's places
+  pub frame_call : (function : FrameFunction) → frame_value function (rows_at partition (places_of part frame place)) ≡ call_value class frame (OfFrame function) partition place
+  frame_call function = ap (frame_value function) frame_rows
 
-  how_many : length (places_of part frame place) ≡ length (frame_of class frame partition place)
-  how_many = sym (length-map (places_of part frame place) (row_at partition)) ∙ ap length frame_rows
+-- ---- counts
 
-  present_are : (c : ℕ) → present (values_at partition c (places_of part frame place)) ≡ count_by (λ r. not (is_null (column_of r c))) (frame_of class frame partition place)
-  present_are c = ap present (values_are c) ∙ count_map (λ v. not (is_null v)) (λ r. column_of r c) (frame_of class frame partition place)
-
-  pub frame_call : (function : Function) → is_of_frame function ≡ true → frame_value function partition (places_of part frame place) ≡ call_value class frame function partition place
-  frame_call RowNumber h = absurd (false≢true h)
-  frame_call Rank h = absurd (false≢true h)
-  frame_call DenseRank h = absurd (false≢true h)
-  frame_call (Ntile n) h = absurd (false≢true h)
-  frame_call (Lag c k default) h = absurd (false≢true h)
-  frame_call (Lead c k default) h = absurd (false≢true h)
-  frame_call (FirstValue c) h = ap (λ vs. Ok (get_or vs 0 Null)) (values_are c)
-  frame_call (LastValue c) h = ap (λ vs. Ok (get_or (reverse vs) 0 Null)) (values_are c)
-  frame_call (NthValue c n) h = ap (λ vs. Ok (get_or vs (n - 1) Null)) (values_are c)
-  frame_call CountRows h = ap (λ n. Ok (Int (pos n))) how_many
-  frame_call (Count c) h = ap (λ n. Ok (Int (pos n))) (present_are c)
-  frame_call (Sum c) h = ap sum_of (values_are c)
-  frame_call (Min c) h = ap (λ vs. Ok (least vs)) (values_are c)
-  frame_call (Max c) h = ap (λ vs. Ok (greatest vs)) (values_are c)
+pub present_is : (partition : List Row) (c : ℕ) (places : List ℕ) → present (values_at partition c places) ≡ count_by (λ r. not (is_null (column_of r c))) (rows_at partition places)
+present_is partition c places = count_map (λ v. not (is_null v)) (λ r. column_of r c) (rows_at partition places)
 
 -- ---- ranks
 
@@ -123,20 +86,3 @@ lower_groups-le class partition groups place is =
 pub IfOk-on : {X E : Type 0} {P Q : X → Type 0} (r : Result X E) → IfOk r P → ((x : X) → P x → Q x) → IfOk r Q
 IfOk-on (Ok x) h f = f x h
 IfOk-on (Err e) h f = tt
-
--- a function that is none of those of its partition alone is one of the frame
-pub of_frame : (f : Function) → (f ≡ RowNumber → ⊥) → (f ≡ Rank → ⊥) → (f ≡ DenseRank → ⊥) → ((n : ℕ) → f ≡ Ntile n → ⊥) → ((c k : ℕ) (v : Value) → f ≡ Lag c k v → ⊥) → ((c k : ℕ) (v : Value) → f ≡ Lead c k v → ⊥) → is_of_frame f ≡ true
-of_frame RowNumber a b c d e g = absurd (a refl)
-of_frame Rank a b c d e g = absurd (b refl)
-of_frame DenseRank a b c d e g = absurd (c refl)
-of_frame (Ntile n) a b c d e g = absurd (d n refl)
-of_frame (Lag n k v) a b c d e g = absurd (e n k v refl)
-of_frame (Lead n k v) a b c d e g = absurd (g n k v refl)
-of_frame (FirstValue n) a b c d e g = refl
-of_frame (LastValue n) a b c d e g = refl
-of_frame (NthValue n k) a b c d e g = refl
-of_frame CountRows a b c d e g = refl
-of_frame (Count n) a b c d e g = refl
-of_frame (Sum n) a b c d e g = refl
-of_frame (Min n) a b c d e g = refl
-of_frame (Max n) a b c d e g = refl

@@ -1,13 +1,13 @@
 -- A frame from the partition's start to the current row or its last peer has the partition's first places.
 use Rattle.std.proofs.Common.{◌≡◌, ◌∙◌, ℕ, zero, suc, ◌+◌, ◌^◌, ◌<◌, ◌≤◌, pos, ◌-ℤ◌, Bool, true, false, cond, ◌&&◌, List, [], ◌∷◌, filter, length, int_le, nat_eq, Result, refl, sym, ap, subst, arith}
 use Rattle.std.specs.List.{range_with_len}
-use Rattle.std.proofs.lemmas.Bool.{and_parts, false≢true}
+use Rattle.std.proofs.lemmas.Bool.{false≢true}
 use Rattle.std.proofs.lemmas.List.{length-map}
 use Rattle.std.proofs.lemmas.Int.{ints}
 use Rattle.wd_value.specs.declared.value.Value.{Value}
 use Rattle.wd_value.specs.declared.value.Fault.{Fault}
 use Rattle.wd_value.specs.Bags.{positions}
-use Rattle.wd_value.specs.Rows.{Row}
+use Rattle.wd_value.specs.Rows.{Row, rows_at}
 use Rattle.wd_plan.specs.declared.window.Bound.{Bound}
 use Rattle.wd_plan.specs.declared.window.Bound.TheVariants.{UnboundedPreceding, Preceding, CurrentRow, Following, UnboundedFollowing}
 use Rattle.wd_plan.specs.declared.window.Exclusion.{Exclusion}
@@ -15,18 +15,18 @@ use Rattle.wd_plan.specs.declared.window.Exclusion.TheVariants as exclusion
 use Rattle.wd_plan.specs.declared.window.Frame.{Frame}
 use Rattle.wd_plan.specs.declared.window.FrameMode.{FrameMode}
 use Rattle.wd_plan.specs.declared.window.FrameMode.TheVariants as mode
-use Rattle.wd_plan.specs.declared.window.Function.{Function}
-use Rattle.wd_plan.specs.declared.window.Function.TheVariants.{RowNumber, Rank, DenseRank, Ntile, Lag, Lead, FirstValue, LastValue, NthValue, CountRows, Count, Sum, Min, Max}
-use Rattle.wd_plan.specs.Calls.{call_value}
+use Rattle.wd_plan.specs.declared.function.Aggregate.{Aggregate as AggregateFunction}
+use Rattle.wd_plan.specs.declared.function.FrameFunction.TheVariants.{Aggregate}
+use Rattle.wd_plan.specs.Calls.{aggregate_value, call_value}
 use Rattle.wd_plan.specs.Frames.{Distances, bound_asks, ends_at, is_kept, starts_at}
 use Rattle.wd_plan.specs.Partitions.{group_of}
 use Rattle.wd_plan.specs.Plans.{ClassRule}
 use Rattle.wd_frame.specs.Places.{PartRule, distances, group_at, is_member, places_of}
 use Rattle.wd_calls.specs.Parts.{IsPartOf}
-use Rattle.wd_calls.specs.Running.{is_from_the_start, is_running, is_total}
-use Rattle.wd_calls.specs.Values.{IsRising, frame_value}
+use Rattle.wd_calls.specs.Running.{aggregated, is_from_the_start}
+use Rattle.wd_calls.specs.Values.{IsRising}
 use Rattle.wd_calls.proofs.Columns.{rises}
-use Rattle.wd_calls.proofs.FrameCalls.{frame_call, is_of_frame}
+use Rattle.wd_calls.proofs.FrameCalls.{frame_call}
 
 -- ---- the numbers that pass a test which holds of the first ones alone
 
@@ -108,35 +108,19 @@ up_to a b h = grind (arith, ints)
 pub past : (a b : ℕ) → b < a → int_le (pos a -ℤ pos b) (pos 0) ≡ false
 past a b h = grind (arith, ints)
 
--- ---- counts and totals are functions of the frame
-
-pub total_of_frame : (f : Function) → is_total f ≡ true → is_of_frame f ≡ true
-total_of_frame RowNumber h = h
-total_of_frame Rank h = h
-total_of_frame DenseRank h = h
-total_of_frame (Ntile n) h = h
-total_of_frame (Lag c k default) h = h
-total_of_frame (Lead c k default) h = h
-total_of_frame (FirstValue c) h = refl
-total_of_frame (LastValue c) h = refl
-total_of_frame (NthValue c n) h = refl
-total_of_frame CountRows h = refl
-total_of_frame (Count c) h = refl
-total_of_frame (Sum c) h = refl
-total_of_frame (Min c) h = refl
-total_of_frame (Max c) h = refl
+-- ---- the value
 
 -- the value of a running count or total, from how many of the partition's first members the frame has
-pub running_call : {class : ClassRule} {frame : Frame} {partition : List Row} {part : PartRule} (function : Function) (place members : ℕ) (value : Result Value Fault)
-    → is_running function frame ≡ true → IsPartOf class frame partition part → place < length partition → length partition < 2 ^ 63
+pub running_call : {class : ClassRule} {frame : Frame} {partition : List Row} {part : PartRule} (aggregate : AggregateFunction) (place members : ℕ) (value : Result Value Fault)
+    → IsPartOf class frame partition part → place < length partition → length partition < 2 ^ 63
     → (IsRising part.groups → place < length part.groups → places_of part frame place ≡ positions members) → (place < length part.groups → members ≤ length part.groups)
-    → (members ≤ length partition → members < 2 ^ 63 → value ≡ frame_value function partition (positions members))
-    → value ≡ call_value class frame function partition place
-running_call {class} {frame} {partition} {part} function place members value running is within few first bound here =
+    → (members ≤ length partition → members < 2 ^ 63 → value ≡ aggregate_value aggregate (rows_at partition (positions members)))
+    → value ≡ call_value class frame (aggregated aggregate) partition place
+running_call {class} {frame} {partition} {part} aggregate place members value is within few first bound here =
     let long : length part.groups ≡ length partition = ap length is.groups ∙ length-map partition (group_of class partition) in
     let there : place < length part.groups = omega arith in
     let rising : IsRising part.groups = subst IsRising (sym is.groups) (rises is.rising) in
     let le = bound there in
     here (omega arith) (omega arith)
-    ∙ ap (frame_value function partition) (sym (first rising there))
-    ∙ frame_call place is within function (total_of_frame function (and_parts (is_total function) (is_from_the_start frame) running).0)
+    ∙ ap (λ ps. aggregate_value aggregate (rows_at partition ps)) (sym (first rising there))
+    ∙ frame_call place is within (Aggregate aggregate)

@@ -2,25 +2,26 @@
 use Rattle.std.proofs.Common.{◌≡◌, ◌∙◌, ℕ, ◌+◌, ◌<◌, ◌≤◌, pos, ◌+ℤ◌, Bool, true, false, cond, not, List, [], ◌∷◌, ◌++◌, length, get_or, Result, Ok, refl, sym, ap, subst, zero-add, arith, inl, inr}
 use Rattle.std.proofs.lemmas.Bool.{cases_lt, false≢true}
 use Rattle.std.proofs.lemmas.List.{get_or_append_left, get_or_push, length_push}
-use Rattle.std.proofs.lemmas.List.FromFn.{length-map-range_with_len, length-range_with_len, map-range_with_len_more}
+use Rattle.std.proofs.lemmas.List.FromFn.{length-map-range_with_len, map-range_with_len_more}
 use Rattle.std.proofs.lemmas.List.Sums.{count_by-le-length, sum_by_push}
 use Rattle.wd_value.specs.declared.value.Value.{Value}
 use Rattle.wd_value.specs.declared.value.Value.TheVariants.{Int}
 use Rattle.wd_value.specs.declared.value.Fault.{Fault}
 use Rattle.wd_value.specs.Bags.{positions}
-use Rattle.wd_value.specs.Rows.{Row}
+use Rattle.wd_value.specs.Rows.{Row, row_at, rows_at}
 use Rattle.wd_plan.specs.declared.window.Frame.{Frame}
-use Rattle.wd_plan.specs.declared.window.Function.{Function}
-use Rattle.wd_plan.specs.declared.window.Function.TheVariants.{RowNumber, Rank, DenseRank, Ntile, Lag, Lead, FirstValue, LastValue, NthValue, CountRows, Count, Sum, Min, Max}
-use Rattle.wd_plan.specs.Calls.{total}
+use Rattle.wd_plan.specs.declared.function.Aggregate.{Aggregate}
+use Rattle.wd_plan.specs.declared.function.Aggregate.TheVariants.{CountRows, Count, Sum, Min, Max}
+use Rattle.wd_plan.specs.declared.function.Function.{Function}
+use Rattle.wd_plan.specs.Calls.{aggregate_value, total}
 use Rattle.wd_plan.specs.Expressions.{is_null}
 use Rattle.wd_frame.specs.Places.{PartRule}
 use Rattle.wd_calls.specs.declared.running.Running.{Running}
 use Rattle.wd_calls.specs.Parts.{AreValues, IsValueAt}
 use Rattle.wd_calls.specs.Running.{is_total}
 use Rattle.wd_calls.specs.Totals.{AreTotals, IsTotalOf}
-use Rattle.wd_calls.specs.Values.{frame_value, whole_of, present, values_at}
-use Rattle.wd_calls.proofs.Columns.{total_push, value}
+use Rattle.wd_calls.specs.Values.{whole_of, present, values_at}
+use Rattle.wd_calls.proofs.Columns.{flat, total_push, value}
 
 -- what holds of each element and of one more
 each_push : {X : Type 0} (P : ℕ → X → Type 0) (xs : List X) (y : X) (n : ℕ) → length xs ≡ n → ((k : ℕ) (d : X) → k < n → P k (get_or xs k d)) → P n y
@@ -34,7 +35,9 @@ each_push P xs y n long below here k d l = elim (cases_lt k n) [
 
 -- the values at one place more
 values_next : (partition : List Row) (column i : ℕ) → values_at partition column (positions (i + 1)) ≡ values_at partition column (positions i) ++ value partition column i ∷ []
-values_next partition column i = map-range_with_len_more (value partition column) 0 i i (zero-add i)
+values_next partition column i =
+    flat partition column (positions (i + 1)) ∙ map-range_with_len_more (value partition column) 0 i i (zero-add i)
+    ∙ ap (λ vs. vs ++ value partition column i ∷ []) (sym (flat partition column (positions i)))
 
 -- how much a value adds to the count, from whether it is NULL
 abbrev pub one_unless : Bool → ℕ
@@ -102,26 +105,17 @@ AreTotals-all partition column n totals so_far are all = record {
 pub present_few : (partition : List Row) (column n : ℕ) → present (values_at partition column (positions n)) ≤ n
 present_few partition column n =
     let few = count_by-le-length (λ v. not (is_null v)) (values_at partition column (positions n)) in
-    let long : length (values_at partition column (positions n)) ≡ n = length-map-range_with_len (value partition column) 0 n in
+    let long : length (values_at partition column (positions n)) ≡ n = ap length (flat partition column (positions n)) ∙ length-map-range_with_len (value partition column) 0 n in
     omega arith
 
 -- ---- values
 
 -- a count or total that is neither COUNT nor SUM of a column counts the members
-pub counts_members : (function : Function) (partition : List Row) (n : ℕ) → is_total function ≡ true → ((c : ℕ) → function ≡ Count c → ⊥) → ((c : ℕ) → function ≡ Sum c → ⊥)
-    → Ok (Int (pos n)) ≡ frame_value function partition (positions n)
-counts_members CountRows partition n h count sum = ap (λ k. Ok (Int (pos k))) (sym (length-range_with_len 0 n))
+pub counts_members : (aggregate : Aggregate) (partition : List Row) (n : ℕ) → is_total aggregate ≡ true → ((c : ℕ) → aggregate ≡ Count c → ⊥) → ((c : ℕ) → aggregate ≡ Sum c → ⊥)
+    → Ok (Int (pos n)) ≡ aggregate_value aggregate (rows_at partition (positions n))
+counts_members CountRows partition n h count sum = ap (λ k. Ok (Int (pos k))) (sym (length-map-range_with_len (row_at partition) 0 n))
 counts_members (Count c) partition n h count sum = absurd (count c refl)
 counts_members (Sum c) partition n h count sum = absurd (sum c refl)
-counts_members RowNumber partition n h count sum = absurd (false≢true h)
-counts_members Rank partition n h count sum = absurd (false≢true h)
-counts_members DenseRank partition n h count sum = absurd (false≢true h)
-counts_members (Ntile k) partition n h count sum = absurd (false≢true h)
-counts_members (Lag c k default) partition n h count sum = absurd (false≢true h)
-counts_members (Lead c k default) partition n h count sum = absurd (false≢true h)
-counts_members (FirstValue c) partition n h count sum = absurd (false≢true h)
-counts_members (LastValue c) partition n h count sum = absurd (false≢true h)
-counts_members (NthValue c k) partition n h count sum = absurd (false≢true h)
 counts_members (Min c) partition n h count sum = absurd (false≢true h)
 counts_members (Max c) partition n h count sum = absurd (false≢true h)
 

@@ -1,11 +1,13 @@
 -- What a call reads of a partition list: its rows, their peer groups, and their keys where its frame has an offset in RANGE.
-use Rattle.std.specs.Prelude.{◌≡◌, ℕ, ◌<◌, true, List, map, length, slice_index_or, Result}
+use Rattle.std.specs.Prelude.{◌≡◌, ℕ, pos, ◌<◌, true, List, map, length, slice_index_or, Result}
 use Rattle.wd_value.specs.declared.value.Value.{Value}
+use Rattle.wd_value.specs.declared.value.Value.TheVariants.{Int}
 use Rattle.wd_value.specs.declared.value.Fault.{Fault}
 use Rattle.wd_value.specs.Rows.{Row, row_at, rows_at, rows_of}
 use Rattle.wd_plan.specs.declared.window.Frame.{Frame}
-use Rattle.wd_plan.specs.declared.window.Function.{Function}
-use Rattle.wd_plan.specs.Calls.{call_value}
+use Rattle.wd_plan.specs.declared.function.Function.{Function}
+use Rattle.wd_plan.specs.declared.function.Ranking.{Ranking}
+use Rattle.wd_plan.specs.Calls.{call_value, ranking_value}
 use Rattle.wd_plan.specs.Frames.{key_distance, value_distance}
 use Rattle.wd_plan.specs.Partitions.{GroupsRise, group_of}
 use Rattle.wd_plan.specs.Plans.{ClassRule}
@@ -27,6 +29,11 @@ pub record IsPartOf (class : ClassRule) (frame : Frame) (partition : List Row) (
   pub groups : part.groups ≡ map (group_of class partition) partition
   pub rising : GroupsRise class partition
   pub keys : has_range_offset frame ≡ true → HasKeys class partition part
+
+-- the number of a ranking function at a place, for each class and frame that have this partition list
+abbrev pub IsRankAt : Ranking → List Row → PartRule → ℕ → Value → Type 0
+IsRankAt ranking partition part place value =
+    (class : ClassRule) (frame : Frame) → IsPartOf class frame partition part → place < length partition → value ≡ Int (pos (ranking_value class ranking partition place))
 
 -- the value of a call at a place, or its fault, as plans define it for each class that has this partition list
 abbrev pub IsValueAt : Frame → Function → List Row → PartRule → ℕ → Result Value Fault → Type 0

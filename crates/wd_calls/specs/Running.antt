@@ -1,12 +1,15 @@
 -- Calls whose frame begins with the partition and ends with the row or its last peer.
-use Rattle.std.specs.Prelude.{Bool, true, false, ◌&&◌}
+use Rattle.std.specs.Prelude.{Bool, true, false, ◌&&◌, Option, Some, None, is_some, if◌then◌else◌}
 use Rattle.wd_plan.specs.declared.window.Bound.{Bound}
 use Rattle.wd_plan.specs.declared.window.Bound.TheVariants.{UnboundedPreceding, Preceding, CurrentRow, Following, UnboundedFollowing}
 use Rattle.wd_plan.specs.declared.window.Exclusion.{Exclusion}
 use Rattle.wd_plan.specs.declared.window.Exclusion.TheVariants as exclusion
 use Rattle.wd_plan.specs.declared.window.Frame.{Frame}
-use Rattle.wd_plan.specs.declared.window.Function.{Function}
-use Rattle.wd_plan.specs.declared.window.Function.TheVariants.{RowNumber, Rank, DenseRank, Ntile, Lag, Lead, FirstValue, LastValue, NthValue, CountRows, Count, Sum, Min, Max}
+use Rattle.wd_plan.specs.declared.function.Aggregate.{Aggregate as AggregateFunction}
+use Rattle.wd_plan.specs.declared.function.Aggregate.TheVariants.{CountRows, Count, Sum, Min, Max}
+use Rattle.wd_plan.specs.declared.function.FrameFunction.TheVariants.{ValueAt, Aggregate}
+use Rattle.wd_plan.specs.declared.function.Function.{Function}
+use Rattle.wd_plan.specs.declared.function.Function.TheVariants.{Ranking as Ranked, Shift as Shifted, OfFrame}
 
 abbrev is_first : Bound → Bool
 is_first UnboundedPreceding = true
@@ -33,22 +36,24 @@ abbrev pub is_from_the_start : Frame → Bool
 is_from_the_start frame = (is_first frame.start && is_current frame.end) && keeps_all frame.exclusion
 
 -- COUNT and SUM
-abbrev pub is_total : Function → Bool
-is_total RowNumber = false
-is_total Rank = false
-is_total DenseRank = false
-is_total (Ntile n) = false
-is_total (Lag c k default) = false
-is_total (Lead c k default) = false
-is_total (FirstValue c) = false
-is_total (LastValue c) = false
-is_total (NthValue c n) = false
+abbrev pub is_total : AggregateFunction → Bool
 is_total CountRows = true
 is_total (Count c) = true
 is_total (Sum c) = true
 is_total (Min c) = false
 is_total (Max c) = false
 
+-- a function that is an aggregate
+abbrev pub aggregated : AggregateFunction → Function
+aggregated a = OfFrame (Aggregate a)
+
+-- the aggregate of a running count or total
+abbrev pub running_aggregate : Function → Frame → Option AggregateFunction
+running_aggregate (OfFrame (Aggregate a)) frame = if is_total a && is_from_the_start frame then Some a else None
+running_aggregate (OfFrame (ValueAt row c)) frame = None
+running_aggregate (Ranked r) frame = None
+running_aggregate (Shifted s) frame = None
+
 -- a running count or total
 abbrev pub is_running : Function → Frame → Bool
-is_running function frame = is_total function && is_from_the_start frame
+is_running function frame = is_some (running_aggregate function frame)

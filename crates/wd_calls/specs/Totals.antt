@@ -3,8 +3,8 @@ use Rattle.std.specs.Prelude.{◌≡◌, ◌⊎◌, ℕ, ◌+◌, ◌≤◌, Lis
 use Rattle.wd_value.specs.declared.value.Value.{Value}
 use Rattle.wd_value.specs.Bags.{positions}
 use Rattle.wd_value.specs.Rows.{Row}
-use Rattle.wd_plan.specs.declared.window.Function.{Function}
-use Rattle.wd_plan.specs.declared.window.Function.TheVariants.{Count, Sum}
+use Rattle.wd_plan.specs.declared.function.Aggregate.{Aggregate}
+use Rattle.wd_plan.specs.declared.function.Aggregate.TheVariants.{Count, Sum}
 use Rattle.wd_plan.specs.Calls.{total}
 use Rattle.wd_calls.specs.declared.running.Running.{Running}
 use Rattle.wd_calls.specs.Values.{present, values_at}
@@ -20,5 +20,5 @@ pub record AreTotals (partition : List Row) (column : ℕ) (totals : List Runnin
   pub each : (n : ℕ) (other : Running) → n ≤ length partition → IsTotalOf (values_at partition column (positions n)) (slice_index_or totals n other)
 
 -- those of the column that a COUNT or SUM reads
-abbrev pub AreTotalsFor : Function → List Row → List Running → Type 0
-AreTotalsFor function partition totals = (column : ℕ) → (function ≡ Count column) ⊎ (function ≡ Sum column) → AreTotals partition column totals
+abbrev pub AreTotalsFor : Aggregate → List Row → List Running → Type 0
+AreTotalsFor aggregate partition totals = (column : ℕ) → (aggregate ≡ Count column) ⊎ (aggregate ≡ Sum column) → AreTotals partition column totals

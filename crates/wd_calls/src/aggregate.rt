@@ -12,7 +12,7 @@ ghost use Rattle.wd_value.specs.Rows.{column_of};
 
 use crate::partition::{Partition, row_in, value_at};
 use std::alloc::Global;
-use wd_value::{Fault, OutOfMemory, SortKey, Value, compare};
+use wd_value::{Fault, OutOfMemory, SortColumn, SortKey, Value, compare_keys};
 
 /// How many values are not NULL.
 pub(crate) fn count_present(partition: &Partition, column: u16, places: &[usize]) -> usize
@@ -119,19 +119,5 @@ pub(crate) fn extreme(
 fn is_behind(row: &[Value], other: &[Value], column: u16, key: SortKey) -> bool
     ensures { result ≡ is_gt (order.compare key (column_of row.now column) (column_of other.now column)) }
 {
-    let null = Value::Null;
-    compare(
-        value_in(row, column, &null),
-        value_in(other, column, &null),
-        key,
-    )
-    .is_gt()
-}
-
-/// The value in a column, and `null` past the last.
-fn value_in<'a>(row: &'a [Value], column: u16, null: &'a Value) -> &'a Value
-    requires { null.now ≡ values.null }
-    ensures { result.now ≡ column_of row.now column }
-{
-    row.get(column as usize).unwrap_or(null)
+    compare_keys(&[SortColumn { column, key }], row, other).is_gt()
 }

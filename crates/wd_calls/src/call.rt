@@ -1,18 +1,21 @@
 //! The value of a call.
 
-ghost use Rattle.std.specs.Prelude.{◌≡◌, ◌<◌, ◌^◌, pos, IfOk, length, slice_index_or};
-ghost use Rattle.wd_calls.specs.Parts.{IsValueAt, partition_of};
+ghost use Rattle.std.specs.Prelude.{◌≡◌, ◌<◌, ◌^◌, pos, IfOk, slice_index_or};
+ghost use Rattle.wd_calls.specs.Parts.{IsRankAt, IsValueAt, partition_of};
 ghost use Rattle.wd_calls.specs.Values as spec;
-ghost use Rattle.wd_calls.specs.Values.{IsRising};
+ghost use Rattle.wd_calls.specs.Values.{IsRising, values_at};
 ghost use Rattle.wd_frame.specs.Places.{part_of};
+ghost use Rattle.wd_plan.specs.Calls as calls;
+ghost use Rattle.wd_plan.specs.declared.function.Direction.TheVariants as direction;
 ghost use Rattle.wd_value.specs.declared.value.Value.TheVariants as value;
+ghost use Rattle.wd_value.specs.Rows.{rows_at};
 
 use crate::aggregate::{count_present, extreme, sum};
 use crate::bucket::bucket;
 use crate::partition::{Partition, value_at, value_of_member};
 use std::alloc::Global;
 use wd_frame::{Part, members};
-use wd_plan::{Call, Frame, Function};
+use wd_plan::{Aggregate, Call, Direction, FrameFunction, FrameRow, Function, Ranking, Shift};
 use wd_value::{Fault, OutOfMemory, SortKey, Value};
 
 const LEAST: SortKey = SortKey {
@@ -39,98 +42,138 @@ pub fn call_value(
     ensures { IfOk result (λ r. IsValueAt call.now.frame call.now.function (partition_of partition.now) (part_of part.now) place r) }
 {
     match &call.function {
-        Function::RowNumber => Ok(Ok(number(place.saturating_add(1)))),
-        Function::Rank => Ok(Ok(number(lower_groups(part, place).saturating_add(1)))),
-        Function::DenseRank => Ok(Ok(number(group_at(part, place) as usize + 1))),
-        Function::Ntile(buckets) => {
-            let bucket = bucket(*buckets, partition.positions.len(), place);
-            Ok(Ok(number(bucket as usize)))
-        }
-        Function::Lag {
-            argument,
-            offset,
-            default,
-        } => {
-            let value = earlier(alloc, partition, place, *argument, *offset, default)?;
+        Function::Ranking(ranking) => Ok(Ok(ranking_value(*ranking, partition, part, place))),
+        Function::Shift(shift) => {
+            let value = value_away(alloc, shift, partition, place)?;
             Ok(Ok(value))
         }
-        Function::Lead {
-            argument,
-            offset,
-            default,
-        } => {
-            let value = later(alloc, partition, place, *argument, *offset, default)?;
-            Ok(Ok(value))
-        }
-        _ => {
+        Function::OfFrame(function) => {
             let places = members(alloc, part, &call.frame, place)?;
-            frame_value(alloc, &call.function, partition, &places)
+            frame_value(alloc, *function, partition, &places)
         }
     }
 }
 
-/// The value of a function of a frame, from the frame's places.
+/// The number that a ranking function gives at a place.
+fn ranking_value(ranking: Ranking, partition: &Partition, part: &Part, place: usize) -> Value
+    ensures { IsRankAt ranking (partition_of partition.now) (part_of part.now) place result }
+{
+    match ranking {
+        Ranking::RowNumber => number(place.saturating_add(1)),
+        Ranking::Rank => number(lower_groups(part, place).saturating_add(1)),
+        Ranking::DenseRank => number(group_at(part, place) as usize + 1),
+        Ranking::Ntile(buckets) => {
+            number(bucket(buckets, partition.positions.len(), place) as usize)
+        }
+    }
+}
+
+/// The value of a function of a frame over the rows at the frame's places, or its fault.
 fn frame_value(
     alloc: Global,
-    function: &Function,
+    function: FrameFunction,
     partition: &Partition,
     places: &[usize],
 ) -> Result<Result<Value, Fault>, OutOfMemory>
-    ensures { IfOk result (λ r. r ≡ spec.frame_value function.now (partition_of partition.now) places.now) }
+    ensures { IfOk result (λ r. r ≡ calls.frame_value function (rows_at (partition_of partition.now) places.now)) }
 {
-    let value = match function {
-        Function::FirstValue(column) => value_of_member(alloc, partition, *column, places, 0)?,
-        Function::LastValue(column) => {
-            let last = places.len().saturating_sub(1);
-            value_of_member(alloc, partition, *column, places, last)?
+    match function {
+        FrameFunction::ValueAt(row, column) => {
+            let value = taken(alloc, row, column, partition, places)?;
+            Ok(Ok(value))
         }
-        Function::NthValue(column, n) => {
-            let number = n.saturating_sub(1) as usize;
-            value_of_member(alloc, partition, *column, places, number)?
+        FrameFunction::Aggregate(aggregate) => {
+            aggregate_value(alloc, aggregate, partition, places)
         }
-        Function::CountRows => number(places.len()),
-        Function::Count(column) => number(count_present(partition, *column, places)),
-        Function::Sum(column) => return Ok(sum(partition, *column, places)),
-        Function::Min(column) => extreme(alloc, partition, *column, places, LEAST)?,
-        Function::Max(column) => extreme(alloc, partition, *column, places, GREATEST)?,
-        _ => Value::Null,
-    };
-    Ok(Ok(value))
-}
-
-/// The value so many rows earlier in the partition, else the default.
-fn earlier(
-    alloc: Global,
-    partition: &Partition,
-    place: usize,
-    argument: u16,
-    offset: u64,
-    default: &Value,
-) -> Result<Value, OutOfMemory>
-    ensures { IfOk result (λ v. v ≡ spec.earlier (partition_of partition.now) place argument offset default.now) }
-{
-    match (place as u64).checked_sub(offset) {
-        Some(other) => value_at(alloc, partition, other as usize, argument),
-        None => default.copy(alloc),
     }
 }
 
-/// The value so many rows later in the partition, else the default.
-fn later(
+/// The value of a column at the first, the last or the nth of places, and NULL where there is none.
+fn taken(
     alloc: Global,
+    row: FrameRow,
+    column: u16,
+    partition: &Partition,
+    places: &[usize],
+) -> Result<Value, OutOfMemory>
+    ensures { IfOk result (λ v. v ≡ calls.taken row (values_at (partition_of partition.now) column places.now)) }
+{
+    let number = match row {
+        FrameRow::First => 0,
+        FrameRow::Last => places.len().saturating_sub(1),
+        FrameRow::Nth(n) => n.saturating_sub(1) as usize,
+    };
+    value_of_member(alloc, partition, column, places, number)
+}
+
+/// The value of an aggregate over the rows at places, or its fault.
+fn aggregate_value(
+    alloc: Global,
+    aggregate: Aggregate,
+    partition: &Partition,
+    places: &[usize],
+) -> Result<Result<Value, Fault>, OutOfMemory>
+    ensures { IfOk result (λ r. r ≡ calls.aggregate_value aggregate (rows_at (partition_of partition.now) places.now)) }
+{
+    match aggregate {
+        Aggregate::CountRows => Ok(Ok(number(places.len()))),
+        Aggregate::Count(column) => Ok(Ok(number(count_present(partition, column, places)))),
+        Aggregate::Sum(column) => Ok(sum(partition, column, places)),
+        Aggregate::Min(column) => {
+            let least = extreme(alloc, partition, column, places, LEAST)?;
+            Ok(Ok(least))
+        }
+        Aggregate::Max(column) => {
+            let greatest = extreme(alloc, partition, column, places, GREATEST)?;
+            Ok(Ok(greatest))
+        }
+    }
+}
+
+/// The value of a column so many rows away in the partition, else the default.
+fn value_away(
+    alloc: Global,
+    shift: &Shift,
     partition: &Partition,
     place: usize,
-    argument: u16,
-    offset: u64,
-    default: &Value,
 ) -> Result<Value, OutOfMemory>
-    ensures { IfOk result (λ v. v ≡ spec.later (partition_of partition.now) place argument offset default.now) }
+    ensures { IfOk result (λ v. v ≡ calls.value_away shift.now.direction shift.now.argument shift.now.offset shift.now.default (partition_of partition.now) place) }
 {
-    match (place as u64).checked_add(offset) {
+    match shift.direction {
+        Direction::Lag => earlier(alloc, shift, partition, place),
+        Direction::Lead => later(alloc, shift, partition, place),
+    }
+}
+
+/// The value so many rows earlier, else the default.
+fn earlier(
+    alloc: Global,
+    shift: &Shift,
+    partition: &Partition,
+    place: usize,
+) -> Result<Value, OutOfMemory>
+    ensures { IfOk result (λ v. v ≡ calls.value_away direction.Lag shift.now.argument shift.now.offset shift.now.default (partition_of partition.now) place) }
+{
+    match (place as u64).checked_sub(shift.offset) {
+        Some(other) => value_at(alloc, partition, other as usize, shift.argument),
+        None => shift.default.copy(alloc),
+    }
+}
+
+/// The value so many rows later, else the default.
+fn later(
+    alloc: Global,
+    shift: &Shift,
+    partition: &Partition,
+    place: usize,
+) -> Result<Value, OutOfMemory>
+    ensures { IfOk result (λ v. v ≡ calls.value_away direction.Lead shift.now.argument shift.now.offset shift.now.default (partition_of partition.now) place) }
+{
+    match (place as u64).checked_add(shift.offset) {
         Some(other) if other < partition.positions.len() as u64 => {
-            value_at(alloc, partition, other as usize, argument)
+            value_at(alloc, partition, other as usize, shift.argument)
         }
-        _ => default.copy(alloc),
+        _ => shift.default.copy(alloc),
     }
 }
 

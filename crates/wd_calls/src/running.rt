@@ -4,18 +4,18 @@ ghost use Rattle.std.specs.Prelude.{◌≡◌, ℕ, ◌<◌, ◌≤◌, ◌^◌,
 ghost use Rattle.wd_calls.specs.Parts.{AreValues, partition_of};
 ghost use Rattle.wd_calls.specs.Running as spec;
 ghost use Rattle.wd_calls.specs.Totals.{AreTotals, AreTotalsFor};
-ghost use Rattle.wd_calls.specs.Values as values;
 ghost use Rattle.wd_calls.specs.Values.{IsRising};
 ghost use Rattle.wd_frame.specs.Places.{part_of, places_of};
+ghost use Rattle.wd_plan.specs.Calls as calls;
 ghost use Rattle.wd_value.specs.Bags.{positions};
-ghost use Rattle.wd_value.specs.Rows.{Row};
+ghost use Rattle.wd_value.specs.Rows.{Row, rows_at};
 
 use crate::aggregate::{is_null_at, number_at, sum_from};
 use crate::call::{call_value, group_at, number};
 use crate::partition::{Partition, row_in};
 use std::alloc::Global;
 use wd_frame::Part;
-use wd_plan::{Bound, Call, Exclusion, Frame, FrameMode, Function};
+use wd_plan::{Aggregate, Bound, Call, Exclusion, Frame, FrameFunction, FrameMode, Function};
 use wd_value::{Fault, OutOfMemory, Value};
 
 /// Of the first members of a partition, how many have a value in a column that is not NULL, and the
@@ -36,10 +36,33 @@ const NOTHING: Running = Running {
 pub fn is_running(call: &Call) -> bool
     ensures { result ≡ spec.is_running call.now.function call.now.frame }
 {
-    matches!(
-        call.function,
-        Function::CountRows | Function::Count(_) | Function::Sum(_)
-    ) && is_from_the_start(&call.frame)
+    running_aggregate(call).is_some()
+}
+
+/// The aggregate of a running count or total; none of another call.
+fn running_aggregate(call: &Call) -> Option<Aggregate>
+    ensures { result ≡ spec.running_aggregate call.now.function call.now.frame }
+{
+    match &call.function {
+        Function::OfFrame(FrameFunction::Aggregate(aggregate)) => {
+            if is_total(*aggregate) && is_from_the_start(&call.frame) {
+                Some(*aggregate)
+            } else {
+                None
+            }
+        }
+        _ => None,
+    }
+}
+
+/// COUNT or SUM.
+fn is_total(aggregate: Aggregate) -> bool
+    ensures { result ≡ spec.is_total aggregate }
+{
+    match aggregate {
+        Aggregate::CountRows | Aggregate::Count(_) | Aggregate::Sum(_) => true,
+        Aggregate::Min(_) | Aggregate::Max(_) => false,
+    }
 }
 
 fn is_from_the_start(frame: &Frame) -> bool
@@ -67,8 +90,8 @@ pub fn call_values(
 ) -> Result<Vec<Result<Value, Fault>>, OutOfMemory>
     ensures { IfOk result (λ v. AreValues call.now.frame call.now.function (partition_of partition.now) (part_of part.now) v.items) }
 {
-    if is_running(call) {
-        return running_values(alloc, call, partition, part);
+    if let Some(aggregate) = running_aggregate(call) {
+        return running_values(alloc, aggregate, &call.frame, partition, part);
     }
     let mut values = Vec::with_capacity(alloc, partition.positions.len())?;
     for place in 0..partition.positions.len() {
@@ -81,18 +104,20 @@ pub fn call_values(
 /// The values of a running count or total, each from the totals over the members of its frame.
 fn running_values(
     alloc: Global,
-    call: &Call,
+    aggregate: Aggregate,
+    frame: &Frame,
     partition: &Partition,
     part: &Part,
 ) -> Result<Vec<Result<Value, Fault>>, OutOfMemory>
-    requires { spec.is_running call.now.function call.now.frame ≡ true }
-    ensures { IfOk result (λ v. AreValues call.now.frame call.now.function (partition_of partition.now) (part_of part.now) v.items) }
+    requires total { spec.is_total aggregate ≡ true }
+    requires from_the_start { spec.is_from_the_start frame.now ≡ true }
+    ensures { IfOk result (λ v. AreValues frame.now (spec.aggregated aggregate) (partition_of partition.now) (part_of part.now) v.items) }
 {
-    let totals = totals_for(alloc, &call.function, partition)?;
+    let totals = totals_for(alloc, aggregate, partition)?;
     let mut values = Vec::with_capacity(alloc, partition.positions.len())?;
     for place in 0..partition.positions.len() {
-        let members = frame_length(&call.frame, part, place);
-        let value = running_value(&call.function, &totals, members);
+        let members = frame_length(frame, part, place);
+        let value = running_value(aggregate, &totals, members);
         values.push(value)?;
     }
     Ok(values)
@@ -115,14 +140,14 @@ fn frame_length(frame: &Frame, part: &Part, place: usize) -> usize
 }
 
 /// The value of a running count or total over so many members, from the totals of its column.
-fn running_value(function: &Function, totals: &[Running], members: usize) -> Result<Value, Fault>
-    requires { spec.is_total function.now ≡ true }
-    ensures { (partition : List Row) → AreTotalsFor function.now partition totals.now → members ≤ length partition → members < 2 ^ 63 → result ≡ values.frame_value function.now partition (positions members) }
+fn running_value(aggregate: Aggregate, totals: &[Running], members: usize) -> Result<Value, Fault>
+    requires { spec.is_total aggregate ≡ true }
+    ensures { (partition : List Row) → AreTotalsFor aggregate partition totals.now → members ≤ length partition → members < 2 ^ 63 → result ≡ calls.aggregate_value aggregate (rows_at partition (positions members)) }
 {
     let running = totals_over(totals, members);
-    match function {
-        Function::Count(_) => Ok(number(running.present)),
-        Function::Sum(_) => sum_from(running.present, running.total),
+    match aggregate {
+        Aggregate::Count(_) => Ok(number(running.present)),
+        Aggregate::Sum(_) => sum_from(running.present, running.total),
         _ => Ok(number(members)),
     }
 }
@@ -141,14 +166,14 @@ fn totals_over(totals: &[Running], members: usize) -> Running
 /// none.
 fn totals_for(
     alloc: Global,
-    function: &Function,
+    aggregate: Aggregate,
     partition: &Partition,
 ) -> Result<Vec<Running>, OutOfMemory>
-    ensures { IfOk result (λ v. AreTotalsFor function.now (partition_of partition.now) v.items) }
+    ensures { IfOk result (λ v. AreTotalsFor aggregate (partition_of partition.now) v.items) }
 {
-    match function {
-        Function::Count(column) | Function::Sum(column) => {
-            running_totals(alloc, partition, *column)
+    match aggregate {
+        Aggregate::Count(column) | Aggregate::Sum(column) => {
+            running_totals(alloc, partition, column)
         }
         _ => Ok(Vec::new(alloc)),
     }

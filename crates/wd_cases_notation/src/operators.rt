@@ -1,7 +1,10 @@
 //! The operators and functions that words name.
 
 use crate::words::Word;
-use wd_plan::{ArithmeticOp, ComparisonOp, Expr, Function};
+use wd_plan::{
+    Aggregate, ArithmeticOp, ComparisonOp, Direction, Expr, FrameFunction, FrameRow, Function,
+    Ranking, Shift,
+};
 use wd_value::Value;
 
 /// An operator on two expressions.
@@ -48,44 +51,51 @@ impl Binary {
 
 /// The function of a word such as `rank`, `ntile(2)`, `nth_value(c1,2)` or `count(*)`.
 pub fn function(word: Word) -> Option<Function> {
-    match word.name {
-        "row_number" => Some(Function::RowNumber),
-        "rank" => Some(Function::Rank),
-        "dense_rank" => Some(Function::DenseRank),
-        "ntile" => Some(Function::Ntile(word.number(0)?)),
-        "count" if word.arguments == "*" => Some(Function::CountRows),
-        _ => of_column(word, word.column(0)?),
-    }
+    let ranking = match word.name {
+        "row_number" => Ranking::RowNumber,
+        "rank" => Ranking::Rank,
+        "dense_rank" => Ranking::DenseRank,
+        "ntile" => Ranking::Ntile(word.number(0)?),
+        _ => return Some(Function::OfFrame(frame_function(word)?)),
+    };
+    Some(Function::Ranking(ranking))
 }
 
-fn of_column(word: Word, column: u16) -> Option<Function> {
-    match word.name {
-        "first_value" => Some(Function::FirstValue(column)),
-        "last_value" => Some(Function::LastValue(column)),
-        "nth_value" => Some(Function::NthValue(column, word.number(1)?)),
-        "count" => Some(Function::Count(column)),
-        "sum" => Some(Function::Sum(column)),
-        "min" => Some(Function::Min(column)),
-        "max" => Some(Function::Max(column)),
+fn frame_function(word: Word) -> Option<FrameFunction> {
+    if word.name == "count" && word.arguments == "*" {
+        return Some(FrameFunction::Aggregate(Aggregate::CountRows));
+    }
+    let column = word.column(0)?;
+    let row = match word.name {
+        "first_value" => FrameRow::First,
+        "last_value" => FrameRow::Last,
+        "nth_value" => FrameRow::Nth(word.number(1)?),
+        name => return Some(FrameFunction::Aggregate(aggregate(name, column)?)),
+    };
+    Some(FrameFunction::ValueAt(row, column))
+}
+
+fn aggregate(name: &str, column: u16) -> Option<Aggregate> {
+    match name {
+        "count" => Some(Aggregate::Count(column)),
+        "sum" => Some(Aggregate::Sum(column)),
+        "min" => Some(Aggregate::Min(column)),
+        "max" => Some(Aggregate::Max(column)),
         _ => None,
     }
 }
 
 /// The function of a word such as `lag(c0,1,null)`, whose default is given.
 pub fn neighbour(word: Word, default: Value) -> Option<Function> {
-    let argument = word.column(0)?;
-    let offset = word.number(1)?;
-    match word.name {
-        "lag" => Some(Function::Lag {
-            argument,
-            offset,
-            default,
-        }),
-        "lead" => Some(Function::Lead {
-            argument,
-            offset,
-            default,
-        }),
-        _ => None,
-    }
+    let direction = match word.name {
+        "lag" => Direction::Lag,
+        "lead" => Direction::Lead,
+        _ => return None,
+    };
+    Some(Function::Shift(Shift {
+        direction,
+        argument: word.column(0)?,
+        offset: word.number(1)?,
+        default,
+    }))
 }

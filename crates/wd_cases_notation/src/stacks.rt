@@ -6,8 +6,8 @@ use crate::words::{Cut, DEFAULT_FRAME, Word, column_of, frame_of, item_of, kind_
 use std::alloc::Global;
 use std::mem::replace;
 use wd_cases::{Failure, value_of};
-use wd_plan::{Branch, Call, Class, Expr, Frame, Function, OrderItem, Plan, ValueKind};
-use wd_value::Value;
+use wd_plan::{Branch, Call, Class, Expr, Frame, Function, Limit, Plan, ValueKind, Window};
+use wd_value::{SortColumn, Value};
 
 /// What the words of a line have left.
 #[derive(Drop)]
@@ -16,12 +16,19 @@ pub struct Stacks {
     /// The class of the calls that follow.
     class: u16,
     pub expressions: Vec<Expr>,
-    pub items: Vec<OrderItem>,
-    pub classes: Vec<Class>,
-    pub calls: Vec<Call>,
+    pub items: Vec<SortColumn>,
+    pub window: Window,
     pub plans: Vec<Plan>,
     /// The frame of the calls that follow.
     pub frame: Frame,
+}
+
+/// A Window without classes and calls.
+fn no_calls(alloc: Global) -> Window {
+    Window {
+        classes: Vec::new(alloc),
+        calls: Vec::new(alloc),
+    }
 }
 
 impl Stacks {
@@ -32,8 +39,7 @@ impl Stacks {
             class: 0,
             expressions: Vec::new(alloc),
             items: Vec::new(alloc),
-            classes: Vec::new(alloc),
-            calls: Vec::new(alloc),
+            window: no_calls(alloc),
             plans: Vec::new(alloc),
             frame: DEFAULT_FRAME,
         }
@@ -130,7 +136,7 @@ impl Stacks {
 
     fn push_call(&mut self, function: Function) -> Result<(), Failure> {
         Ok(
-            self.calls.push(Call {
+            self.window.calls.push(Call {
                 class: self.class,
                 function,
                 frame: self.frame,
@@ -147,11 +153,11 @@ impl Stacks {
     /// `over(c1,c2+)`: a class partitioned by c1 and sorted by c2, of which the calls are that
     /// follow.
     fn push_class(&mut self, arguments: &str) -> Result<(), Failure> {
-        self.class = u16::try_from(self.classes.len())
+        self.class = u16::try_from(self.window.classes.len())
             .ok()
             .ok_or(Failure::NoCase)?;
         let class = class_of(self.alloc, arguments)?;
-        Ok(self.classes.push(class)?)
+        Ok(self.window.classes.push(class)?)
     }
 
     /// `class(1)`: the calls that follow are of that class.
@@ -197,14 +203,9 @@ impl Stacks {
     /// A Window of all classes and calls that stand there.
     fn push_window(&mut self) -> Result<(), Failure> {
         let input = self.plan()?;
-        let classes = replace(&mut self.classes, Vec::new(self.alloc));
-        let calls = replace(&mut self.calls, Vec::new(self.alloc));
+        let window = replace(&mut self.window, no_calls(self.alloc));
         self.frame = DEFAULT_FRAME;
-        self.push_plan(Plan::Window {
-            input,
-            classes,
-            calls,
-        })
+        self.push_plan(Plan::Window { input, window })
     }
 
     fn push_distinct(&mut self) -> Result<(), Failure> {
@@ -224,10 +225,12 @@ impl Stacks {
         let keys = replace(&mut self.items, Vec::new(self.alloc));
         self.push_plan(Plan::Limit {
             input,
-            keys,
-            offset,
-            count,
-            ties,
+            limit: Limit {
+                keys,
+                offset,
+                count,
+                ties,
+            },
         })
     }
 

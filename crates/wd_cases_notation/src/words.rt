@@ -1,7 +1,7 @@
 //! Lines, words, and what words name.
 
-use wd_plan::{Bound, Exclusion, Frame, FrameMode, OrderItem, ValueKind};
-use wd_value::SortKey;
+use wd_plan::{Bound, Exclusion, Frame, FrameMode, ValueKind};
+use wd_value::{SortColumn, SortKey};
 
 /// A line such as `NAME(ARGUMENTS) WORDS : LISTS`.
 #[derive(Clone, Copy)]
@@ -91,10 +91,10 @@ pub fn table_of(word: &str) -> Option<u16> {
 }
 
 /// The column and the sort key of a word such as `c3-`.
-pub fn item_of(word: &str) -> Option<OrderItem> {
+pub fn item_of(word: &str) -> Option<SortColumn> {
     let (front, key) = key_behind(word)?;
     let column = column_of(front)?;
-    Some(OrderItem { column, key })
+    Some(SortColumn { column, key })
 }
 
 /// What stands before a sort key such as `+` or `-last`, and the key: ascending or descending, with

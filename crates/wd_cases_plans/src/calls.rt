@@ -24,7 +24,7 @@ pub fn frame_members(
 
 /// `call_value FRAME CALL : POSITIONS`, `call_values ..` and `is_running FRAME CALL`
 pub fn answer(alloc: Global, state: &State, name: &str, out: &mut String) -> Result<(), Failure> {
-    let call = state.stacks.calls.first().ok_or(Failure::NoCase)?;
+    let call = state.stacks.window.calls.first().ok_or(Failure::NoCase)?;
     let partition = Partition {
         rows: state.rows(),
         positions: state.ordering(),

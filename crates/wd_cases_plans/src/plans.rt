@@ -3,9 +3,9 @@
 ghost use Rattle.std.specs.Prelude.{◌≡◌, ◌-◌, ◌^◌, true, IsTrue};
 ghost use Rattle.wd_plan.specs.Fits as spec;
 ghost use Rattle.wd_plan.specs.Outcomes.{outcome_of};
-ghost use Rattle.wd_plan.specs.Plans.{plan_of};
+ghost use Rattle.wd_plan.specs.Plans.{NamesClasses, plan_of, window_of};
 ghost use Rattle.wd_schema.specs.Schemas.{schema_of};
-ghost use Rattle.wd_window.specs.Windows.{AreFew, EachNames};
+ghost use Rattle.wd_window.specs.Windows.{AreFew};
 
 use crate::shown::{push, push_between, push_number, push_outcome, push_refusal, push_truth};
 use crate::steps::{copied, fault_of};
@@ -13,7 +13,7 @@ use std::alloc::Global;
 use wd_cases::Failure;
 use wd_cases_notation::{Line, State, Word};
 use wd_eval::{EvalError, check_choice, eval_with, first_choice, run_plan, tied_choice};
-use wd_plan::{Call, Choice, Outcome, Plan};
+use wd_plan::{Choice, Outcome, Plan, Window};
 use wd_schema::Schema;
 use wd_value::{Instance, Row};
 use wd_window::{WindowError, evaluate_window};
@@ -48,23 +48,23 @@ fn evaluated(
     input: Outcome,
     first: usize,
 ) -> Result<Outcome, WindowError> {
-    let (classes, calls, choice) = (
-        &state.stacks.classes,
-        &state.stacks.calls,
-        &state.choice.orderings,
-    );
-    if are_named(calls, classes.len()) && is_few(&input) && first <= choice.len() {
-        evaluate_window(alloc, classes, calls, input, choice, first)
+    let (window, choice) = (&state.stacks.window, &state.choice.orderings);
+    if names_classes(window) && is_few(&input) && first <= choice.len() {
+        evaluate_window(alloc, window, input, choice, first)
     } else {
         Err(WindowError::OutOfMemory)
     }
 }
 
-/// Whether each call names one of so many classes.
-fn are_named(calls: &[Call], count: usize) -> bool
-    ensures { IsTrue result → EachNames count calls.now }
+/// Whether each call names one of the Window's classes.
+fn names_classes(window: &Window) -> bool
+    ensures { IsTrue result → NamesClasses (window_of window.now) }
 {
-    calls.iter().all(|call| usize::from(call.class) < count)
+    let count = window.classes.len();
+    window
+        .calls
+        .iter()
+        .all(|call| usize::from(call.class) < count)
 }
 
 /// Whether peer group numbers of 32 bits do.

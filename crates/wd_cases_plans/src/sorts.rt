@@ -5,9 +5,9 @@ use std::alloc::{AllocError, Global};
 use wd_cases::Failure;
 use wd_cases_notation::{Line, State, Word};
 use wd_partition::{Member, Partitions, is_ordering, partitions, sorted_ordering};
-use wd_plan::{Class, OrderItem};
-use wd_sort::{SortColumn, compare_rows_at, is_sorted, sorted_from, sorted_positions};
-use wd_value::Row;
+use wd_plan::Class;
+use wd_sort::{compare_rows_at, is_sorted, sorted_from, sorted_positions};
+use wd_value::{Row, SortColumn};
 
 /// `sorted_positions COLUMNS`, `sorted_from COLUMNS : POSITIONS`, `is_sorted COLUMNS : POSITIONS`,
 /// and `compare_rows_at COLUMNS : 0 3`, how the first of these rows stands beside the last.
@@ -22,9 +22,9 @@ pub fn answer(alloc: Global, state: &State, name: &str, out: &mut String) -> Res
     }
 }
 
-fn columns_of(alloc: Global, items: &[OrderItem]) -> Result<Vec<SortColumn>, AllocError> {
+fn columns_of(alloc: Global, items: &[SortColumn]) -> Result<Vec<SortColumn>, AllocError> {
     let mut columns = Vec::new(alloc);
-    for OrderItem { column, key } in items {
+    for SortColumn { column, key } in items {
         columns.push(SortColumn {
             column: *column,
             key: *key,
@@ -51,7 +51,7 @@ pub fn class_answer(
     line: Line,
     out: &mut String,
 ) -> Result<(), Failure> {
-    let class = state.stacks.classes.first().ok_or(Failure::NoCase)?;
+    let class = state.stacks.window.classes.first().ok_or(Failure::NoCase)?;
     match line.word.name {
         "sorted_ordering" => push_ordering(alloc, state.rows(), class, line.word.arguments, out),
         "is_ordering" => push_is_ordering(alloc, state, class, out),

@@ -4,12 +4,12 @@ use crate::shown::{push, push_fault, push_outcome, push_rows, push_truth, push_v
 use std::alloc::Global;
 use wd_cases::Failure;
 use wd_cases_notation::{Line, State, Word};
-use wd_plan::{Expr, Outcome};
+use wd_plan::{Expr, Limit, Outcome};
 use wd_scalar::{has_arithmetic, is_true, value_of};
 use wd_steps::{
     JoinError, copy_filtered, cut_rows, distinct_rows, filter_rows, join_rows, map_rows, with_fault,
 };
-use wd_value::{Fault, OutOfMemory, Row, Value, copy_row};
+use wd_value::{Fault, OutOfMemory, Row, SortColumn, Value, copy_row};
 
 /// What is asked of one expression: over the first row, or as a condition of all rows.
 pub fn expression_answer(
@@ -82,9 +82,22 @@ fn push_joined(alloc: Global, state: &State, word: Word, out: &mut String) -> Re
 /// `cut_rows(OFFSET,COUNT) KEYS : ORDERING`, as a limit has them.
 fn push_cut(alloc: Global, state: &State, word: Word, out: &mut String) -> Result<(), Failure> {
     let cut = word.cut().ok_or(Failure::NoCase)?;
-    let (keys, rows, ordering) = (&state.stacks.items, state.rows(), state.ordering());
-    let kept = cut_rows(alloc, keys, cut.offset, cut.count, cut.ties, rows, ordering)?;
+    let limit = Limit {
+        keys: copied_keys(alloc, &state.stacks.items)?,
+        offset: cut.offset,
+        count: cut.count,
+        ties: cut.ties,
+    };
+    let kept = cut_rows(alloc, &limit, state.rows(), state.ordering())?;
     push_rows(out, &kept)
+}
+
+fn copied_keys(alloc: Global, keys: &[SortColumn]) -> Result<Vec<SortColumn>, Failure> {
+    let mut copies = Vec::with_capacity(alloc, keys.len())?;
+    for key in keys {
+        copies.push(*key)?;
+    }
+    Ok(copies)
 }
 
 /// `with_fault(FAULT)`, or with a fault that was met before, as `with_fault(FAULT,FAULT)`.

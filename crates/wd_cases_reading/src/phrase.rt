@@ -3,7 +3,7 @@
 use std::alloc::Global;
 use std::fmt::Debug;
 use wd_cases::Failure;
-use wd_lex::{Delimiter, Token, TokenKind};
+use wd_lex::{Terminal, Token, TokenKind};
 use wd_phrase::{
     Refusal, direction_at, eat, eat_name, expect, frame_at, limits_at, name_at, nulls_at,
     operator_at, sign_at,
@@ -41,18 +41,18 @@ fn named(alloc: Global, name: &Name, rest: &[Token]) -> Result<String, Failure> 
     Ok(format!(in alloc; "{quote}{text}{quote}, {count} left")?)
 }
 
-/// The mark that stands first, and the tokens after it.
-fn first_mark(tokens: &[Token]) -> Result<(Delimiter, &[Token]), Failure> {
+/// The terminal that stands first, and the tokens after it.
+fn first_terminal(tokens: &[Token]) -> Result<(Terminal, &[Token]), Failure> {
     match tokens.split_first() {
         Some(
             (
                 Token {
-                    kind: TokenKind::Delimiter(mark),
+                    kind: TokenKind::Terminal(terminal),
                     ..
                 },
                 rest,
             ),
-        ) => Ok((*mark, rest)),
+        ) => Ok((*terminal, rest)),
         _ => Err(Failure::NoCase),
     }
 }
@@ -73,19 +73,19 @@ fn first_number(tokens: &[Token]) -> Result<(u8, &[Token]), Failure> {
     }
 }
 
-/// `eat MARK TEXT`
+/// `eat TERMINAL TEXT`
 pub fn eaten(alloc: Global, tokens: &[Token]) -> Result<String, Failure> {
-    let (mark, tokens) = first_mark(tokens)?;
-    match eat(tokens, mark) {
+    let (terminal, tokens) = first_terminal(tokens)?;
+    match eat(tokens, terminal) {
         Some(rest) => left(alloc, rest),
         None => none(alloc),
     }
 }
 
-/// `expect MARK TEXT`
+/// `expect TERMINAL TEXT`
 pub fn expected(alloc: Global, tokens: &[Token]) -> Result<String, Failure> {
-    let (mark, tokens) = first_mark(tokens)?;
-    match expect(tokens, mark) {
+    let (terminal, tokens) = first_terminal(tokens)?;
+    match expect(tokens, terminal) {
         Ok(rest) => left(alloc, rest),
         Err(refusal) => refused(alloc, refusal),
     }

@@ -30,7 +30,7 @@ fn push_token(out: &mut String, token: &Token) -> Result<(), AllocError> {
 
 fn push_kind(out: &mut String, kind: &TokenKind) -> Result<(), AllocError> {
     let (word, text) = match kind {
-        TokenKind::Delimiter(mark) => return write!(out, "{mark:?}"),
+        TokenKind::Terminal(terminal) => return write!(out, "{terminal:?}"),
         TokenKind::Number(number) => return write!(out, "number {number}"),
         TokenKind::Word(text) => ("word ", text),
         TokenKind::Quoted(text) => ("quoted ", text),

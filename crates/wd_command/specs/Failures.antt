@@ -6,6 +6,7 @@ use Rattle.clap.specs.declared.error.Error.{Error}
 use Rattle.clap.specs.declared.error.kind.ErrorKind.TheVariants as kind
 use Rattle.wd_value.specs.declared.value.Fault.{Fault as QueryFault}
 use Rattle.wd_value.specs.declared.value.Fault.TheVariants.{DivisionByZero, OutOfRange}
+use Rattle.wd_query.specs.declared.error.TextError.TheVariants as text
 use Rattle.wd_run.specs.Causes.{run_number, run_place}
 use Rattle.wd_run.specs.declared.error.RunError.{RunError}
 use Rattle.wd_run.specs.declared.error.RunError.TheVariants as run
@@ -31,8 +32,8 @@ status_of OutOfMemory = 5
 
 -- WHERE: the input that a refusal is about
 abbrev pub where_of : RunError → List ℕ
-where_of (run.Schema error) = codes "schema"
-where_of (run.Query error) = codes "query"
+where_of (run.Texts (text.Schema error)) = codes "schema"
+where_of (run.Texts (text.Query error)) = codes "query"
 where_of (run.Given name) = codes "data " ++ name
 where_of (run.Data name error) = codes "data " ++ name
 where_of (run.Evaluation error) = codes "run"

@@ -38,5 +38,5 @@ failed_reads (Err Failed) = 1
 failed_reads (Err OutOfMemory) = 0
 
 -- memory is wanting in the program itself; where the system answers so, it is a failure of the file
-abbrev pub IsOwnWant : Error → Type 0
-IsOwnWant error = (error_kind error ≡ kind.OutOfMemory) × (raw_os_error error ≡ None)
+abbrev pub IsOwnShortage : Error → Type 0
+IsOwnShortage error = (error_kind error ≡ kind.OutOfMemory) × (raw_os_error error ≡ None)

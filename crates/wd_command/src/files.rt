@@ -1,7 +1,7 @@
 //! Where the program's files come from.
 
 ghost use Rattle.std.specs.Prelude.{◌≡◌, ◌↔◌, ◌+◌, ◌-◌, ◌^◌, ◌<◌, ◌≤◌, ℕ, List, [], ◌∷◌, length, Option, None, IfOk, IfSome, MatchResult};
-ghost use Rattle.wd_command.specs.Files.{File, HandsOver, IsOwnWant, failed_reads};
+ghost use Rattle.wd_command.specs.Files.{File, HandsOver, IsOwnShortage, failed_reads};
 ghost use Rattle.wd_command.specs.declared.files.ReadFault.TheVariants as fault;
 
 use std::alloc::Global;
@@ -93,7 +93,7 @@ fn read_whole<R: Read + Drop>(alloc: Global, reader: R) -> Result<Vec<u8>, ReadF
 
 // Out of memory in the system's own answer is a failure of the file.
 fn fault_of(error: io::Error) -> ReadFault
-    ensures { (result ≡ fault.OutOfMemory) ↔ IsOwnWant error }
+    ensures { (result ≡ fault.OutOfMemory) ↔ IsOwnShortage error }
 {
     if error.kind() == io::ErrorKind::OutOfMemory && error.raw_os_error().is_none() {
         ReadFault::OutOfMemory

@@ -1,7 +1,6 @@
 pub mod Sizes
 pub mod Wrong
 pub mod Nodes
-pub mod Fitting
 pub mod Stable
 pub mod Tying
 pub mod Putting

@@ -1,5 +1,5 @@
 -- What a node gives, and why it stops, from what the nodes below it give.
-use Rattle.std.proofs.Common.{◌≡◌, ℕ, ◌+◌, ◌<◌, ◌≤◌, Bool, true, false, ◌||◌, List, [], take, drop, length, Option, Ok, inl, inr, refl, sym, ap, ◌∙◌, subst, arith, length-drop, drop-drop}
+use Rattle.std.proofs.Common.{◌≡◌, ℕ, ◌+◌, ◌≤◌, Bool, true, false, ◌||◌, List, [], take, drop, length, Option, Ok, inl, inr, refl, sym, ap, ◌∙◌, subst, arith, length-drop, drop-drop}
 use Rattle.std.specs.List.{AllByRecursion}
 use Rattle.std.proofs.lemmas.List.{get_or-drop}
 use Rattle.wd_value.specs.Rows.{Instance, table_at}
@@ -11,7 +11,7 @@ use Rattle.wd_plan.specs.Outcomes.{RowsOrFault, distinct, filter_outcome, map_ou
 use Rattle.wd_plan.specs.Plans.{PlanTree, Scan, Join, Filter, Map, Window, Distinct, Limit, LimitRule, WindowRule, ordering_count}
 use Rattle.wd_plan.specs.Sorting.{IsOrdering, limit_class}
 use Rattle.wd_steps.specs.Joins.{has_more_rows}
-use Rattle.wd_eval.specs.Steps.{has_large_step, is_large}
+use Rattle.wd_eval.specs.Steps.{has_large_step, is_large, most_rows}
 use Rattle.wd_eval.specs.Nodes.{produced_of, IsEvaluated, IsStopped, IsSmall, IsLarge, join_over, cut_over, IsCut, IsUnserved}
 use Rattle.wd_eval.specs.Wrong.{IsWrongFrom}
 use Rattle.wd_window.specs.Windows as window
@@ -37,7 +37,7 @@ or_right false b e = e
 neither : (a b : Bool) → a ≡ false → b ≡ false → (a || b) ≡ false
 neither a b h g = λ i. h i || g i
 
-module _ (most : ℕ) (instance : Instance) (choice : List (List ℕ)) (first : ℕ) where
+module _ (instance : Instance) (choice : List (List ℕ)) (first : ℕ) where
   abbrev rest : List (List ℕ)
   rest = drop first choice
 
@@ -50,57 +50,57 @@ module _ (most : ℕ) (instance : Instance) (choice : List (List ℕ)) (first : 
 
   -- ---- Scan
 
-  pub scan_done : (table columns : ℕ) (o : Produced) → IsSmall most (Ok (table_at instance table)) (produced_of instance o) → IsEvaluated most (Scan table columns) instance choice first (record { outcome = o; next = first })
+  pub scan_done : (table columns : ℕ) (o : Produced) → IsSmall (Ok (table_at instance table)) (produced_of instance o) → IsEvaluated (Scan table columns) instance choice first (record { outcome = o; next = first })
   scan_done table columns o s = record { is = s.is; next = omega arith; served = record { present = omega arith; lawful = tt }; small = s.small; each = s.small }
 
-  pub scan_stopped : (table columns : ℕ) (e : EvalError) → IsLarge most (Ok (table_at instance table)) e → IsStopped most (Scan table columns) instance choice first e
+  pub scan_stopped : (table columns : ℕ) (e : EvalError) → IsLarge (Ok (table_at instance table)) e → IsStopped (Scan table columns) instance choice first e
   scan_stopped table columns (NotValid p) h = absurd h
   scan_stopped table columns TooManyRows h = h
   scan_stopped table columns OutOfMemory h = tt
 
   -- ---- Filter, Map and Distinct
 
-  module _ (input : PlanTree) (below : Evaluated) (b : IsEvaluated most input instance choice first below) (o : Outcome) where
-    pub filter_done : (condition : Expression) → outcome_of o ≡ and_then (produced_of instance below.outcome) (filter_outcome condition) → IsEvaluated most (Filter condition input) instance choice first (record { outcome = Made o; next = below.next })
+  module _ (input : PlanTree) (below : Evaluated) (b : IsEvaluated input instance choice first below) (o : Outcome) where
+    pub filter_done : (condition : Expression) → outcome_of o ≡ and_then (produced_of instance below.outcome) (filter_outcome condition) → IsEvaluated (Filter condition input) instance choice first (record { outcome = Made o; next = below.next })
     filter_done condition is = record {
       is = is ∙ ap (λ r. and_then r (filter_outcome condition)) b.is;
       next = b.next;
       served = record { present = b.served.present; lawful = b.served.lawful };
-      small = fewer_filter most condition (outcome input instance rest) b.small;
-      each = neither (has_large_step most input instance rest) (is_large most (Filter condition input) instance rest) b.each (fewer_filter most condition (outcome input instance rest) b.small);
+      small = fewer_filter most_rows condition (outcome input instance rest) b.small;
+      each = neither (has_large_step input instance rest) (is_large (Filter condition input) instance rest) b.each (fewer_filter most_rows condition (outcome input instance rest) b.small);
     }
 
-    pub map_done : (outputs : List Expression) → outcome_of o ≡ and_then (produced_of instance below.outcome) (map_outcome outputs) → IsEvaluated most (Map outputs input) instance choice first (record { outcome = Made o; next = below.next })
+    pub map_done : (outputs : List Expression) → outcome_of o ≡ and_then (produced_of instance below.outcome) (map_outcome outputs) → IsEvaluated (Map outputs input) instance choice first (record { outcome = Made o; next = below.next })
     map_done outputs is = record {
       is = is ∙ ap (λ r. and_then r (map_outcome outputs)) b.is;
       next = b.next;
       served = record { present = b.served.present; lawful = b.served.lawful };
-      small = fewer_map most outputs (outcome input instance rest) b.small;
-      each = neither (has_large_step most input instance rest) (is_large most (Map outputs input) instance rest) b.each (fewer_map most outputs (outcome input instance rest) b.small);
+      small = fewer_map most_rows outputs (outcome input instance rest) b.small;
+      each = neither (has_large_step input instance rest) (is_large (Map outputs input) instance rest) b.each (fewer_map most_rows outputs (outcome input instance rest) b.small);
     }
 
-    pub distinct_done : outcome_of o ≡ and_then (produced_of instance below.outcome) (λ rows. Ok (distinct rows)) → IsEvaluated most (Distinct input) instance choice first (record { outcome = Made o; next = below.next })
+    pub distinct_done : outcome_of o ≡ and_then (produced_of instance below.outcome) (λ rows. Ok (distinct rows)) → IsEvaluated (Distinct input) instance choice first (record { outcome = Made o; next = below.next })
     distinct_done is = record {
       is = is ∙ ap (λ r. and_then r (λ rows. Ok (distinct rows))) b.is;
       next = b.next;
       served = record { present = b.served.present; lawful = b.served.lawful };
-      small = fewer_distinct most (outcome input instance rest) b.small;
-      each = neither (has_large_step most input instance rest) (is_large most (Distinct input) instance rest) b.each (fewer_distinct most (outcome input instance rest) b.small);
+      small = fewer_distinct most_rows (outcome input instance rest) b.small;
+      each = neither (has_large_step input instance rest) (is_large (Distinct input) instance rest) b.each (fewer_distinct most_rows (outcome input instance rest) b.small);
     }
 
-  pub filter_stopped : (condition : Expression) (input : PlanTree) (e : EvalError) → IsStopped most input instance choice first e → IsStopped most (Filter condition input) instance choice first e
+  pub filter_stopped : (condition : Expression) (input : PlanTree) (e : EvalError) → IsStopped input instance choice first e → IsStopped (Filter condition input) instance choice first e
   filter_stopped condition input (NotValid p) h = h
-  filter_stopped condition input TooManyRows h = or_left (has_large_step most input instance rest) (is_large most (Filter condition input) instance rest) h
+  filter_stopped condition input TooManyRows h = or_left (has_large_step input instance rest) (is_large (Filter condition input) instance rest) h
   filter_stopped condition input OutOfMemory h = tt
 
-  pub map_stopped : (outputs : List Expression) (input : PlanTree) (e : EvalError) → IsStopped most input instance choice first e → IsStopped most (Map outputs input) instance choice first e
+  pub map_stopped : (outputs : List Expression) (input : PlanTree) (e : EvalError) → IsStopped input instance choice first e → IsStopped (Map outputs input) instance choice first e
   map_stopped outputs input (NotValid p) h = h
-  map_stopped outputs input TooManyRows h = or_left (has_large_step most input instance rest) (is_large most (Map outputs input) instance rest) h
+  map_stopped outputs input TooManyRows h = or_left (has_large_step input instance rest) (is_large (Map outputs input) instance rest) h
   map_stopped outputs input OutOfMemory h = tt
 
-  pub distinct_stopped : (input : PlanTree) (e : EvalError) → IsStopped most input instance choice first e → IsStopped most (Distinct input) instance choice first e
+  pub distinct_stopped : (input : PlanTree) (e : EvalError) → IsStopped input instance choice first e → IsStopped (Distinct input) instance choice first e
   distinct_stopped input (NotValid p) h = h
-  distinct_stopped input TooManyRows h = or_left (has_large_step most input instance rest) (is_large most (Distinct input) instance rest) h
+  distinct_stopped input TooManyRows h = or_left (has_large_step input instance rest) (is_large (Distinct input) instance rest) h
   distinct_stopped input OutOfMemory h = tt
 
   -- ---- Window
@@ -111,11 +111,11 @@ module _ (most : ℕ) (instance : Instance) (choice : List (List ℕ)) (first : 
   abbrev IsLawfulWindow : WindowRule → RowsOrFault → List (List ℕ) → Type 0
   IsLawfulWindow w input orderings = AtRows input (λ rows. AreOrderings w rows orderings) (AllByRecursion (λ o. o ≡ []) orderings)
 
-  module _ (w : WindowRule) (input : PlanTree) (below : Evaluated) (within : first ≤ length choice) (b : IsEvaluated most input instance choice first below) where
+  module _ (w : WindowRule) (input : PlanTree) (below : Evaluated) (within : first ≤ length choice) (b : IsEvaluated input instance choice first below) where
     own_is : take (length w.classes) (drop below.next choice) ≡ own_window w input
     own_is = ap (take (length w.classes)) (behind (ordering_count input) below.next b.next)
 
-    pub window_done : (o : Outcome) (next : ℕ) → IsExtended w (produced_of instance below.outcome) choice below.next o → next ≡ below.next + length w.classes → IsEvaluated most (Window w input) instance choice first (record { outcome = Made o; next = next })
+    pub window_done : (o : Outcome) (next : ℕ) → IsExtended w (produced_of instance below.outcome) choice below.next o → next ≡ below.next + length w.classes → IsEvaluated (Window w input) instance choice first (record { outcome = Made o; next = next })
     window_done o next x e =
         let long = long_rest within in
         let there = x.served.present in
@@ -127,14 +127,14 @@ module _ (most : ℕ) (instance : Instance) (choice : List (List ℕ)) (first : 
             present = omega arith;
             lawful = (b.served.lawful, subst (λ (r : RowsOrFault). IsLawfulWindow w r (own_window w input)) b.is (subst (IsLawfulWindow w (produced_of instance below.outcome)) own_is x.served.lawful));
           };
-          small = fewer_window most w (own_window w input) (outcome input instance rest) b.small;
-          each = neither (has_large_step most input instance rest) (is_large most (Window w input) instance rest) b.each (fewer_window most w (own_window w input) (outcome input instance rest) b.small);
+          small = fewer_window most_rows w (own_window w input) (outcome input instance rest) b.small;
+          each = neither (has_large_step input instance rest) (is_large (Window w input) instance rest) b.each (fewer_window most_rows w (own_window w input) (outcome input instance rest) b.small);
         }
 
-  pub window_stopped : (w : WindowRule) (input : PlanTree) (below : Evaluated) → IsEvaluated most input instance choice first below → (e : EvalError)
-      → IsUnserved (IsLeast (IsWrongIn w.classes (produced_of instance below.outcome) choice below.next)) e → IsStopped most (Window w input) instance choice first e
+  pub window_stopped : (w : WindowRule) (input : PlanTree) (below : Evaluated) → IsEvaluated input instance choice first below → (e : EvalError)
+      → IsUnserved (IsLeast (IsWrongIn w (produced_of instance below.outcome) choice below.next)) e → IsStopped (Window w input) instance choice first e
   window_stopped w input below b (NotValid p) h =
-      let own = subst (λ (n : ℕ). IsLeast (IsWrongIn w.classes (outcome input instance rest) choice n) p) b.next (subst (λ (r : RowsOrFault). IsLeast (IsWrongIn w.classes r choice below.next) p) b.is h) in (
+      let own = subst (λ (n : ℕ). IsLeast (IsWrongIn w (outcome input instance rest) choice n) p) b.next (subst (λ (r : RowsOrFault). IsLeast (IsWrongIn w r choice below.next) p) b.is h) in (
         inr own.0,
         λ m earlier x. elim x [
           | inl y ↦ none_wrong instance choice m input first b.served.present b.served.lawful y
@@ -144,7 +144,7 @@ module _ (most : ℕ) (instance : Instance) (choice : List (List ℕ)) (first : 
   window_stopped w input below b TooManyRows h = absurd h
   window_stopped w input below b OutOfMemory h = tt
 
-  pub window_stopped_below : (w : WindowRule) (input : PlanTree) (e : EvalError) → IsStopped most input instance choice first e → IsStopped most (Window w input) instance choice first e
+  pub window_stopped_below : (w : WindowRule) (input : PlanTree) (e : EvalError) → IsStopped input instance choice first e → IsStopped (Window w input) instance choice first e
   window_stopped_below w input (NotValid p) h = (
     inl h.0,
     λ m earlier x. elim x [
@@ -152,7 +152,7 @@ module _ (most : ℕ) (instance : Instance) (choice : List (List ℕ)) (first : 
       | inr y ↦ (let past = y.wrong.0 in let within = (wrong_within instance choice p input first h.0).1 in omega arith)
     ],
   )
-  window_stopped_below w input TooManyRows h = or_left (has_large_step most input instance rest) (is_large most (Window w input) instance rest) h
+  window_stopped_below w input TooManyRows h = or_left (has_large_step input instance rest) (is_large (Window w input) instance rest) h
   window_stopped_below w input OutOfMemory h = tt
 
   -- ---- Limit
@@ -160,14 +160,14 @@ module _ (most : ℕ) (instance : Instance) (choice : List (List ℕ)) (first : 
   abbrev IsLawfulLimit : LimitRule → RowsOrFault → List ℕ → Type 0
   IsLawfulLimit limit input ordering = AtRows input (λ rows. IsOrdering (limit_class limit) rows ordering) (ordering ≡ [])
 
-  module _ (limit : LimitRule) (input : PlanTree) (below : Evaluated) (within : first ≤ length choice) (b : IsEvaluated most input instance choice first below) where
+  module _ (limit : LimitRule) (input : PlanTree) (below : Evaluated) (within : first ≤ length choice) (b : IsEvaluated input instance choice first below) where
     own_at : ordering_at choice below.next ≡ ordering_at rest (ordering_count input)
     own_at = ap (ordering_at choice) b.next ∙ sym (get_or-drop first choice (ordering_count input) [])
 
     lawful_here : IsLawfulLimit limit (produced_of instance below.outcome) (ordering_at choice below.next) → IsLawfulLimit limit (outcome input instance rest) (ordering_at rest (ordering_count input))
     lawful_here h = subst (λ (r : RowsOrFault). IsLawfulLimit limit r (ordering_at rest (ordering_count input))) b.is (subst (IsLawfulLimit limit (produced_of instance below.outcome)) own_at h)
 
-    pub limit_done : (o : Outcome) (next : ℕ) → IsCut limit (produced_of instance below.outcome) choice below.next o → next ≡ below.next + 1 → IsEvaluated most (Limit limit input) instance choice first (record { outcome = Made o; next = next })
+    pub limit_done : (o : Outcome) (next : ℕ) → IsCut limit (produced_of instance below.outcome) choice below.next o → next ≡ below.next + 1 → IsEvaluated (Limit limit input) instance choice first (record { outcome = Made o; next = next })
     limit_done o next x e =
         let long = long_rest within in
         let there = x.served.present in
@@ -177,12 +177,12 @@ module _ (most : ℕ) (instance : Instance) (choice : List (List ℕ)) (first : 
           is = x.is ∙ (λ i. cut_over limit (own_at i) (b.is i));
           next = omega arith;
           served = record { present = omega arith; lawful = (b.served.lawful, lawful) };
-          small = fewer_cut most limit (ordering_at rest (ordering_count input)) (outcome input instance rest) lawful b.small;
-          each = neither (has_large_step most input instance rest) (is_large most (Limit limit input) instance rest) b.each (fewer_cut most limit (ordering_at rest (ordering_count input)) (outcome input instance rest) lawful b.small);
+          small = fewer_cut most_rows limit (ordering_at rest (ordering_count input)) (outcome input instance rest) lawful b.small;
+          each = neither (has_large_step input instance rest) (is_large (Limit limit input) instance rest) b.each (fewer_cut most_rows limit (ordering_at rest (ordering_count input)) (outcome input instance rest) lawful b.small);
         }
 
-  pub limit_stopped : (limit : LimitRule) (input : PlanTree) (below : Evaluated) → IsEvaluated most input instance choice first below → (e : EvalError)
-      → IsUnserved (IsWrong (limit_class limit) (produced_of instance below.outcome) choice below.next) e → IsStopped most (Limit limit input) instance choice first e
+  pub limit_stopped : (limit : LimitRule) (input : PlanTree) (below : Evaluated) → IsEvaluated input instance choice first below → (e : EvalError)
+      → IsUnserved (IsWrong (limit_class limit) (produced_of instance below.outcome) choice below.next) e → IsStopped (Limit limit input) instance choice first e
   limit_stopped limit input below b (NotValid p) h =
       let own = subst (λ (n : ℕ). IsWrong (limit_class limit) (outcome input instance rest) choice n p) b.next (subst (λ (r : RowsOrFault). IsWrong (limit_class limit) r choice below.next p) b.is h) in (
         inr own,
@@ -194,7 +194,7 @@ module _ (most : ℕ) (instance : Instance) (choice : List (List ℕ)) (first : 
   limit_stopped limit input below b TooManyRows h = absurd h
   limit_stopped limit input below b OutOfMemory h = tt
 
-  pub limit_stopped_below : (limit : LimitRule) (input : PlanTree) (e : EvalError) → IsStopped most input instance choice first e → IsStopped most (Limit limit input) instance choice first e
+  pub limit_stopped_below : (limit : LimitRule) (input : PlanTree) (e : EvalError) → IsStopped input instance choice first e → IsStopped (Limit limit input) instance choice first e
   limit_stopped_below limit input (NotValid p) h = (
     inl h.0,
     λ m earlier x. elim x [
@@ -202,19 +202,19 @@ module _ (most : ℕ) (instance : Instance) (choice : List (List ℕ)) (first : 
       | inr y ↦ (let past = y.0 in let within = (wrong_within instance choice p input first h.0).1 in omega arith)
     ],
   )
-  limit_stopped_below limit input TooManyRows h = or_left (has_large_step most input instance rest) (is_large most (Limit limit input) instance rest) h
+  limit_stopped_below limit input TooManyRows h = or_left (has_large_step input instance rest) (is_large (Limit limit input) instance rest) h
   limit_stopped_below limit input OutOfMemory h = tt
 
 -- ---- Join
 
-module _ (most : ℕ) (instance : Instance) (choice : List (List ℕ)) (first : ℕ) (condition : Option Expression) (left right : PlanTree) where
+module _ (instance : Instance) (choice : List (List ℕ)) (first : ℕ) (condition : Option Expression) (left right : PlanTree) where
   abbrev all : List (List ℕ)
   all = drop first choice
 
   abbrev on_right : List (List ℕ)
   on_right = drop (ordering_count left) all
 
-  pub join_stopped_left : (e : EvalError) → IsStopped most left instance choice first e → IsStopped most (Join condition left right) instance choice first e
+  pub join_stopped_left : (e : EvalError) → IsStopped left instance choice first e → IsStopped (Join condition left right) instance choice first e
   join_stopped_left (NotValid p) h = (
     inl h.0,
     λ m earlier x. elim x [
@@ -222,14 +222,14 @@ module _ (most : ℕ) (instance : Instance) (choice : List (List ℕ)) (first : 
       | inr y ↦ (let past = (wrong_within instance choice m right (first + ordering_count left) y).0 in let within = (wrong_within instance choice p left first h.0).1 in omega arith)
     ],
   )
-  join_stopped_left TooManyRows h = or_left (has_large_step most left instance all || has_large_step most right instance on_right) (is_large most (Join condition left right) instance all) (or_left (has_large_step most left instance all) (has_large_step most right instance on_right) h)
+  join_stopped_left TooManyRows h = or_left (has_large_step left instance all || has_large_step right instance on_right) (is_large (Join condition left right) instance all) (or_left (has_large_step left instance all) (has_large_step right instance on_right) h)
   join_stopped_left OutOfMemory h = tt
 
-  module _ (l : Evaluated) (a : IsEvaluated most left instance choice first l) where
+  module _ (l : Evaluated) (a : IsEvaluated left instance choice first l) where
     right_is : drop l.next choice ≡ on_right
-    right_is = behind most instance choice first (ordering_count left) l.next a.next
+    right_is = behind instance choice first (ordering_count left) l.next a.next
 
-    pub join_stopped_right : (e : EvalError) → IsStopped most right instance choice l.next e → IsStopped most (Join condition left right) instance choice first e
+    pub join_stopped_right : (e : EvalError) → IsStopped right instance choice l.next e → IsStopped (Join condition left right) instance choice first e
     join_stopped_right (NotValid p) h =
         let own = subst (λ (n : ℕ). IsLeast (IsWrongFrom right instance choice n) p) a.next h in (
           inr own.0,
@@ -239,11 +239,11 @@ module _ (most : ℕ) (instance : Instance) (choice : List (List ℕ)) (first : 
           ],
         )
     join_stopped_right TooManyRows h =
-        let large : has_large_step most right instance on_right ≡ true = ap (has_large_step most right instance) (sym right_is) ∙ h in
-        or_left (has_large_step most left instance all || has_large_step most right instance on_right) (is_large most (Join condition left right) instance all) (or_right (has_large_step most left instance all) (has_large_step most right instance on_right) large)
+        let large : has_large_step right instance on_right ≡ true = ap (has_large_step right instance) (sym right_is) ∙ h in
+        or_left (has_large_step left instance all || has_large_step right instance on_right) (is_large (Join condition left right) instance all) (or_right (has_large_step left instance all) (has_large_step right instance on_right) large)
     join_stopped_right OutOfMemory h = tt
 
-    module _ (r : Evaluated) (b : IsEvaluated most right instance choice l.next r) where
+    module _ (r : Evaluated) (b : IsEvaluated right instance choice l.next r) where
       abbrev below : RowsOrFault
       below = join_over condition (produced_of instance l.outcome) (produced_of instance r.outcome)
 
@@ -253,7 +253,7 @@ module _ (most : ℕ) (instance : Instance) (choice : List (List ℕ)) (first : 
           right_outcome : produced_of instance r.outcome ≡ outcome right instance on_right
           right_outcome = b.is ∙ ap (outcome right instance) right_is
 
-      pub join_done : (o : Outcome) → IsSmall most below (outcome_of o) → IsEvaluated most (Join condition left right) instance choice first (record { outcome = Made o; next = r.next })
+      pub join_done : (o : Outcome) → IsSmall below (outcome_of o) → IsEvaluated (Join condition left right) instance choice first (record { outcome = Made o; next = r.next })
       join_done o s =
           let here = a.next in
           let there = b.next in
@@ -267,13 +267,13 @@ module _ (most : ℕ) (instance : Instance) (choice : List (List ℕ)) (first : 
               present = omega arith;
               lawful = (a.served.lawful, subst (AreLawful right instance) right_is b.served.lawful);
             };
-            small = ap (has_more_rows most) (sym below_is) ∙ s.small;
-            each = neither (has_large_step most left instance all || has_large_step most right instance on_right) (is_large most (Join condition left right) instance all) (neither (has_large_step most left instance all) (has_large_step most right instance on_right) a.each (subst (λ ch. has_large_step most right instance ch ≡ false) right_is b.each)) (ap (has_more_rows most) (sym below_is) ∙ s.small);
+            small = ap (has_more_rows most_rows) (sym below_is) ∙ s.small;
+            each = neither (has_large_step left instance all || has_large_step right instance on_right) (is_large (Join condition left right) instance all) (neither (has_large_step left instance all) (has_large_step right instance on_right) a.each (subst (λ ch. has_large_step right instance ch ≡ false) right_is b.each)) (ap (has_more_rows most_rows) (sym below_is) ∙ s.small);
           }
 
-      pub join_stopped : (e : EvalError) → IsLarge most below e → IsStopped most (Join condition left right) instance choice first e
+      pub join_stopped : (e : EvalError) → IsLarge below e → IsStopped (Join condition left right) instance choice first e
       join_stopped (NotValid p) h = absurd h
-      join_stopped TooManyRows h = or_right (has_large_step most left instance all || has_large_step most right instance on_right) (is_large most (Join condition left right) instance all) (ap (has_more_rows most) (sym below_is) ∙ h)
+      join_stopped TooManyRows h = or_right (has_large_step left instance all || has_large_step right instance on_right) (is_large (Join condition left right) instance all) (ap (has_more_rows most_rows) (sym below_is) ∙ h)
       join_stopped OutOfMemory h = tt
 
 -- a Window's error where its orderings do not serve, as an error of the plan

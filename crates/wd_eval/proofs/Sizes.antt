@@ -7,7 +7,7 @@ use Rattle.std.proofs.lemmas.List.FromFn.{length-range_with_len}
 use Rattle.wd_value.specs.declared.value.Fault.{Fault}
 use Rattle.wd_value.specs.Bags.{positions}
 use Rattle.wd_value.specs.Rows.{Row, row_at, rows_at, same_row}
-use Rattle.wd_plan.specs.declared.plan.OrderItem.{OrderItem}
+use Rattle.wd_value.specs.declared.order.SortColumn.{SortColumn}
 use Rattle.wd_plan.specs.Choices.{AtRows}
 use Rattle.wd_plan.specs.Expressions.{Expression, value_of}
 use Rattle.wd_plan.specs.Faults.{all_ok, and_then, least_fault, unless, values_among}
@@ -49,14 +49,14 @@ distinct-le (r ∷ rs) =
     let f = filter-le (λ q. not (same_row r q)) (distinct rs) in
     omega arith
 
-first_rows-le : (keys : List OrderItem) (ties : Bool) (n : ℕ) (rows : List Row) → length (first_rows keys ties n rows) ≤ length rows
+first_rows-le : (keys : List SortColumn) (ties : Bool) (n : ℕ) (rows : List Row) → length (first_rows keys ties n rows) ≤ length rows
 first_rows-le keys ties zero rows = omega arith
 first_rows-le keys ties (suc n) [] = omega arith
 first_rows-le keys true (suc zero) (r ∷ rows) = let h = take_while-le (peers keys r) rows in omega arith
 first_rows-le keys false (suc zero) (r ∷ rows) = omega arith
 first_rows-le keys ties (suc (suc n)) (r ∷ rows) = let h = first_rows-le keys ties (suc n) rows in omega arith
 
-cut-le : (keys : List OrderItem) (offset : ℕ) (count : Option ℕ) (ties : Bool) (rows : List Row) → length (cut (record { keys = keys; offset = offset; count = count; ties = ties }) rows) ≤ length rows
+cut-le : (keys : List SortColumn) (offset : ℕ) (count : Option ℕ) (ties : Bool) (rows : List Row) → length (cut (record { keys = keys; offset = offset; count = count; ties = ties }) rows) ≤ length rows
 cut-le keys offset None ties rows = let behind = length-drop offset rows in omega arith
 cut-le keys offset (Some n) ties rows =
     let behind = length-drop offset rows in

@@ -8,7 +8,7 @@ use Rattle.wd_value.proofs.Perms.{Perm, done, keep, flip, both, Perm-refl, Perm-
 use Rattle.wd_value.specs.Rows.{Row}
 use Rattle.wd_plan.proofs.Sorted.{Rising}
 use Rattle.wd_partition.proofs.Grouping.{IsPermutation-from_Perm}
-use Rattle.wd_sort.specs.declared.sort.SortColumn.{SortColumn}
+use Rattle.wd_value.specs.declared.order.SortColumn.{SortColumn}
 use Rattle.wd_sort.specs.Sorting.{IsStableSortOf, compare_rows_at}
 use Rattle.wd_sort.proofs.Order.{rows_order}
 use Rattle.wd_eval.proofs.Stable.{NotLess, keep_head}

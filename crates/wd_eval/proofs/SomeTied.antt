@@ -1,9 +1,9 @@
 -- Each plan has a choice of sorted orderings over each instance, and all of them give one outcome.
-use Rattle.std.proofs.Common.{◌≡◌, ℕ, zero, suc, ◌+◌, ◌<◌, ◌≤◌, Bool, List, [], ◌∷◌, ◌++◌, drop, length, Option, Ok, Err, refl, sym, ap, ◌∙◌, subst, arith, length-append}
+use Rattle.std.proofs.Common.{◌≡◌, ℕ, zero, suc, ◌+◌, ◌<◌, ◌≤◌, Bool, List, [], ◌∷◌, ◌++◌, drop, length, get_or, Option, Ok, Err, refl, sym, ap, ◌∙◌, subst, arith, length-append}
 use Rattle.std.proofs.Math.Seq.{drop-append_seam, get_or-append_seam}
 use Rattle.std.proofs.lemmas.List.{get_or-append-add}
 use Rattle.wd_value.specs.Rows.{Instance}
-use Rattle.wd_plan.specs.Outcomes.{RowsOrFault, ordering_at, outcome}
+use Rattle.wd_plan.specs.Outcomes.{RowsOrFault, class_at, ordering_at, outcome}
 use Rattle.wd_plan.specs.Plans.{ClassRule, PlanTree, Scan, Join, Filter, Map, Window, Distinct, Limit, ordering_count}
 use Rattle.wd_plan.specs.Sorting.{limit_class}
 use Rattle.wd_plan.proofs.ChoiceLaws.{outcome-append}
@@ -11,7 +11,6 @@ use Rattle.wd_partition.specs.Columns.{given_positions, sort_columns}
 use Rattle.wd_eval.specs.Laws.{HasOneTiedOutcome, HasTiedChoice}
 use Rattle.wd_eval.specs.Tied.{AreTied, IsSortedOver, IsTiedRefused, is_flipped}
 use Rattle.wd_eval.specs.Ties.{IsUntied}
-use Rattle.wd_window.specs.Listings.{class_in}
 use Rattle.wd_eval.specs.declared.error.EvalError.{EvalError}
 use Rattle.wd_eval.specs.declared.error.EvalError.TheVariants.{NotValid, TooManyRows, OutOfMemory}
 use Rattle.wd_eval.proofs.SomeSort.{some_stable_sort}
@@ -21,16 +20,20 @@ some_sorted : (class : ClassRule) (flipped : Bool) (input : RowsOrFault) → (or
 some_sorted class flipped (Ok rows) = some_stable_sort (sort_columns class) rows (given_positions flipped (length rows))
 some_sorted class flipped (Err fault) = ([], refl)
 
+-- the class with this number
+abbrev numbered : List ClassRule → ℕ → ClassRule
+numbered classes n = get_or classes n (record { partition = []; order = [] })
+
 -- one for each class of a Window
-some_own : (classes : List ClassRule) (turned : ℕ → Bool) (input : RowsOrFault) → (own : List (List ℕ)) × (length own ≡ length classes) × ((k : ℕ) → k < length classes → IsSortedOver (class_in classes k) (turned k) input (ordering_at own k))
+some_own : (classes : List ClassRule) (turned : ℕ → Bool) (input : RowsOrFault) → (own : List (List ℕ)) × (length own ≡ length classes) × ((k : ℕ) → k < length classes → IsSortedOver (numbered classes k) (turned k) input (ordering_at own k))
 some_own [] turned input = ([], refl, λ k h. absurd (omega arith))
 some_own (class ∷ classes) turned input =
     let one = some_sorted class (turned 0) input in
     let others = some_own classes (λ k. turned (suc k)) input in
     (one.0 ∷ others.0, ap suc others.1, at_place one.0 others.0 one.1 others.2)
   where
-    at_place : (first : List ℕ) (own : List (List ℕ)) → IsSortedOver class (turned 0) input first → ((k : ℕ) → k < length classes → IsSortedOver (class_in classes k) (turned (suc k)) input (ordering_at own k))
-        → (k : ℕ) → k < length (class ∷ classes) → IsSortedOver (class_in (class ∷ classes) k) (turned k) input (ordering_at (first ∷ own) k)
+    at_place : (first : List ℕ) (own : List (List ℕ)) → IsSortedOver class (turned 0) input first → ((k : ℕ) → k < length classes → IsSortedOver (numbered classes k) (turned (suc k)) input (ordering_at own k))
+        → (k : ℕ) → k < length (class ∷ classes) → IsSortedOver (numbered (class ∷ classes) k) (turned k) input (ordering_at (first ∷ own) k)
     at_place first own s each zero h = s
     at_place first own s each (suc k) h = each k (omega arith)
 
@@ -63,8 +66,8 @@ module _ (instance : Instance) (flipped : Option ℕ) where
         length-append b.0 own.0 ∙ omega arith,
         (
           tied_append instance flipped input first b.0 own.0 (omega arith) b.2,
-          λ k h. subst (IsSortedOver (class_in w.classes k) (turned k) (outcome input instance (b.0 ++ own.0))) (sym (at k))
-              (subst (λ (r : RowsOrFault). IsSortedOver (class_in w.classes k) (turned k) r (ordering_at own.0 k)) (sym below) (own.2 k h)),
+          λ k h. subst (IsSortedOver (class_at w k) (turned k) (outcome input instance (b.0 ++ own.0))) (sym (at k))
+              (subst (λ (r : RowsOrFault). IsSortedOver (class_at w k) (turned k) r (ordering_at own.0 k)) (sym below) (own.2 k h)),
         ),
       )
   some_tied (Distinct input) first = some_tied input first
@@ -96,10 +99,10 @@ has_one_tied_outcome plan instance flipped a b s t =
     one_outcome instance flipped plan 0 a b long longer s.tied t.tied
 
 -- why there is no outcome under that choice
-pub refused_from : (most : ℕ) (plan : PlanTree) (instance : Instance) (flipped : Option ℕ) (e : EvalError) → IsUntied most plan instance flipped 0 e → IsTiedRefused most plan instance flipped e
-refused_from most plan instance flipped (NotValid place) h = h
-refused_from most plan instance flipped TooManyRows h =
+pub refused_from : (plan : PlanTree) (instance : Instance) (flipped : Option ℕ) (e : EvalError) → IsUntied plan instance flipped 0 e → IsTiedRefused plan instance flipped e
+refused_from plan instance flipped (NotValid place) h = h
+refused_from plan instance flipped TooManyRows h =
     let t = has_tied_choice plan instance flipped in
     let long : ordering_count plan ≤ length t.0 = (let n = t.1.number in omega arith) in
     record { choice = t.0; tied = t.1; large = h t.0 long t.1.tied }
-refused_from most plan instance flipped OutOfMemory h = tt
+refused_from plan instance flipped OutOfMemory h = tt

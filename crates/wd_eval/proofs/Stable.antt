@@ -6,7 +6,7 @@ use Rattle.std.specs.Cmp.{IsStrictWeakOrder}
 use Rattle.std.proofs.lemmas.List.Sorted.{sorted_far}
 use Rattle.wd_value.specs.Rows.{Row}
 use Rattle.wd_plan.proofs.Sorted.{Rising}
-use Rattle.wd_sort.specs.declared.sort.SortColumn.{SortColumn}
+use Rattle.wd_value.specs.declared.order.SortColumn.{SortColumn}
 use Rattle.wd_sort.specs.Sorting.{IsStableSortOf, compare_rows_at}
 use Rattle.wd_sort.proofs.Order.{rows_order}
 use Rattle.std.specs.Ordering.{is_lt}

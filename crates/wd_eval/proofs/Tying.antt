@@ -15,7 +15,7 @@ use Rattle.wd_steps.specs.Joins.{has_more_rows}
 use Rattle.wd_eval.specs.Judged.{IsOutcome}
 use Rattle.wd_eval.specs.Nodes.{produced_of, IsEvaluated, IsLarge, IsSmall, cut_over, join_over}
 use Rattle.wd_window.specs.Windows.{window_over}
-use Rattle.wd_eval.specs.Steps.{has_large_step, is_large}
+use Rattle.wd_eval.specs.Steps.{has_large_step, is_large, most_rows}
 use Rattle.wd_eval.specs.Tied.{AreTied, IsSortedOver, IsValidTiedChoice, is_flipped}
 use Rattle.wd_eval.specs.Ties.{IsTied, IsTiedLimit, IsTiedWindow, IsUntied, IsOutOfMemory}
 use Rattle.wd_eval.specs.declared.error.EvalError.{EvalError}
@@ -103,22 +103,22 @@ module _ (instance : Instance) (flipped : Option ℕ) where
       )
 
 -- orderings after a plan's own change no step's size
-large-append : (most : ℕ) (instance : Instance) (plan : PlanTree) (choice more : List (List ℕ)) → ordering_count plan ≤ length choice → has_large_step most plan instance (choice ++ more) ≡ has_large_step most plan instance choice
-large-append most instance (Scan table columns) choice more h = refl
-large-append most instance (Join condition left right) choice more h =
+large-append : (instance : Instance) (plan : PlanTree) (choice more : List (List ℕ)) → ordering_count plan ≤ length choice → has_large_step plan instance (choice ++ more) ≡ has_large_step plan instance choice
+large-append instance (Scan table columns) choice more h = refl
+large-append instance (Join condition left right) choice more h =
     let n = ordering_count left in
     let long = length-drop n choice in
-    let rest = ap (has_large_step most right instance) (drop-append-le n choice more (omega arith)) ∙ large-append most instance right (drop n choice) more (omega arith) in
-    let here = ap (has_more_rows most) (outcome-append (Join condition left right) instance choice more h) in
-    λ i. (large-append most instance left choice more (omega arith) i || rest i) || here i
-large-append most instance (Filter condition input) choice more h = λ i. large-append most instance input choice more h i || has_more_rows most (outcome-append (Filter condition input) instance choice more h i)
-large-append most instance (Map outputs input) choice more h = λ i. large-append most instance input choice more h i || has_more_rows most (outcome-append (Map outputs input) instance choice more h i)
-large-append most instance (Window w input) choice more h = λ i. large-append most instance input choice more (omega arith) i || has_more_rows most (outcome-append (Window w input) instance choice more h i)
-large-append most instance (Distinct input) choice more h = λ i. large-append most instance input choice more h i || has_more_rows most (outcome-append (Distinct input) instance choice more h i)
-large-append most instance (Limit limit input) choice more h = λ i. large-append most instance input choice more (omega arith) i || has_more_rows most (outcome-append (Limit limit input) instance choice more h i)
+    let rest = ap (has_large_step right instance) (drop-append-le n choice more (omega arith)) ∙ large-append instance right (drop n choice) more (omega arith) in
+    let here = ap (has_more_rows most_rows) (outcome-append (Join condition left right) instance choice more h) in
+    λ i. (large-append instance left choice more (omega arith) i || rest i) || here i
+large-append instance (Filter condition input) choice more h = λ i. large-append instance input choice more h i || has_more_rows most_rows (outcome-append (Filter condition input) instance choice more h i)
+large-append instance (Map outputs input) choice more h = λ i. large-append instance input choice more h i || has_more_rows most_rows (outcome-append (Map outputs input) instance choice more h i)
+large-append instance (Window w input) choice more h = λ i. large-append instance input choice more (omega arith) i || has_more_rows most_rows (outcome-append (Window w input) instance choice more h i)
+large-append instance (Distinct input) choice more h = λ i. large-append instance input choice more h i || has_more_rows most_rows (outcome-append (Distinct input) instance choice more h i)
+large-append instance (Limit limit input) choice more h = λ i. large-append instance input choice more (omega arith) i || has_more_rows most_rows (outcome-append (Limit limit input) instance choice more h i)
 
-pub evaluated_append : (most : ℕ) (plan : PlanTree) (instance : Instance) (choice more : List (List ℕ)) (first : ℕ) (e : Evaluated) → first ≤ length choice → IsEvaluated most plan instance choice first e → IsEvaluated most plan instance (choice ++ more) first e
-evaluated_append most plan instance choice more first e h b =
+pub evaluated_append : (plan : PlanTree) (instance : Instance) (choice more : List (List ℕ)) (first : ℕ) (e : Evaluated) → first ≤ length choice → IsEvaluated plan instance choice first e → IsEvaluated plan instance (choice ++ more) first e
+evaluated_append plan instance choice more first e h b =
     let cut_off = drop-append-le first choice more h in
     let there = b.served.present in
     let same : outcome plan instance (drop first (choice ++ more)) ≡ outcome plan instance (drop first choice) = ap (outcome plan instance) cut_off ∙ outcome-append plan instance (drop first choice) more there in
@@ -130,93 +130,93 @@ evaluated_append most plan instance choice more first e h b =
         present = subst (λ (ch : List (List ℕ)). ordering_count plan ≤ length ch) (sym cut_off) (omega arith);
         lawful = subst (AreLawful plan instance) (sym cut_off) (AreLawful-append plan instance (drop first choice) more there b.served.lawful);
       };
-      small = ap (has_more_rows most) same ∙ b.small;
-      each = ap (has_large_step most plan instance) cut_off ∙ large-append most instance plan (drop first choice) more there ∙ b.each;
+      small = ap (has_more_rows most_rows) same ∙ b.small;
+      each = ap (has_large_step plan instance) cut_off ∙ large-append instance plan (drop first choice) more there ∙ b.each;
     }
 
 -- ---- nodes
 
-pub memory_untied : (most : ℕ) (plan : PlanTree) (instance : Instance) (flipped : Option ℕ) (first : ℕ) (e : EvalError) → IsOutOfMemory e → IsUntied most plan instance flipped first e
-memory_untied most plan instance flipped first (NotValid p) h = h
-memory_untied most plan instance flipped first TooManyRows h = absurd h
-memory_untied most plan instance flipped first OutOfMemory h = tt
+pub memory_untied : (plan : PlanTree) (instance : Instance) (flipped : Option ℕ) (first : ℕ) (e : EvalError) → IsOutOfMemory e → IsUntied plan instance flipped first e
+memory_untied plan instance flipped first (NotValid p) h = h
+memory_untied plan instance flipped first TooManyRows h = absurd h
+memory_untied plan instance flipped first OutOfMemory h = tt
 
-module _ (most : ℕ) (instance : Instance) (flipped : Option ℕ) (old : List (List ℕ)) where
+module _ (instance : Instance) (flipped : Option ℕ) (old : List (List ℕ)) where
   grown_long : (mid own : List (List ℕ)) → mid ≡ old ++ own → length old ≤ length mid
   grown_long mid own e = let long = ap length e ∙ length-append old own in omega arith
 
-  pub scan_tied : (table columns : ℕ) (o : Produced) → IsSmall most (Ok (table_at instance table)) (produced_of instance o) → IsTied most (Scan table columns) instance flipped old old o
+  pub scan_tied : (table columns : ℕ) (o : Produced) → IsSmall (Ok (table_at instance table)) (produced_of instance o) → IsTied (Scan table columns) instance flipped old old o
   scan_tied table columns o s = record {
     own = [];
     grown = sym (append-nil old);
-    evaluated = scan_done most instance old (length old) table columns o s;
+    evaluated = scan_done instance old (length old) table columns o s;
     tied = tt;
   }
 
-  pub scan_untied : (table columns : ℕ) (e : EvalError) → IsLarge most (Ok (table_at instance table)) e → IsUntied most (Scan table columns) instance flipped (length old) e
+  pub scan_untied : (table columns : ℕ) (e : EvalError) → IsLarge (Ok (table_at instance table)) e → IsUntied (Scan table columns) instance flipped (length old) e
   scan_untied table columns (NotValid p) h = absurd h
   scan_untied table columns TooManyRows h = λ choice long s. h
   scan_untied table columns OutOfMemory h = tt
 
-  module _ (input : PlanTree) (new : List (List ℕ)) (below : Produced) (b : IsTied most input instance flipped old new below) (o : Outcome) where
-    pub filter_tied : (condition : Expression) → outcome_of o ≡ and_then (produced_of instance below) (filter_outcome condition) → IsTied most (Filter condition input) instance flipped old new (Made o)
+  module _ (input : PlanTree) (new : List (List ℕ)) (below : Produced) (b : IsTied input instance flipped old new below) (o : Outcome) where
+    pub filter_tied : (condition : Expression) → outcome_of o ≡ and_then (produced_of instance below) (filter_outcome condition) → IsTied (Filter condition input) instance flipped old new (Made o)
     filter_tied condition is = record {
       own = b.own;
       grown = b.grown;
-      evaluated = filter_done most instance new (length old) input (record { outcome = below; next = length new }) b.evaluated o condition is;
+      evaluated = filter_done instance new (length old) input (record { outcome = below; next = length new }) b.evaluated o condition is;
       tied = b.tied;
     }
 
-    pub map_tied : (outputs : List Expression) → outcome_of o ≡ and_then (produced_of instance below) (map_outcome outputs) → IsTied most (Map outputs input) instance flipped old new (Made o)
+    pub map_tied : (outputs : List Expression) → outcome_of o ≡ and_then (produced_of instance below) (map_outcome outputs) → IsTied (Map outputs input) instance flipped old new (Made o)
     map_tied outputs is = record {
       own = b.own;
       grown = b.grown;
-      evaluated = map_done most instance new (length old) input (record { outcome = below; next = length new }) b.evaluated o outputs is;
+      evaluated = map_done instance new (length old) input (record { outcome = below; next = length new }) b.evaluated o outputs is;
       tied = b.tied;
     }
 
-    pub distinct_tied : outcome_of o ≡ and_then (produced_of instance below) (λ rows. Ok (distinct rows)) → IsTied most (Distinct input) instance flipped old new (Made o)
+    pub distinct_tied : outcome_of o ≡ and_then (produced_of instance below) (λ rows. Ok (distinct rows)) → IsTied (Distinct input) instance flipped old new (Made o)
     distinct_tied is = record {
       own = b.own;
       grown = b.grown;
-      evaluated = distinct_done most instance new (length old) input (record { outcome = below; next = length new }) b.evaluated o is;
+      evaluated = distinct_done instance new (length old) input (record { outcome = below; next = length new }) b.evaluated o is;
       tied = b.tied;
     }
 
-  pub filter_untied : (condition : Expression) (input : PlanTree) (e : EvalError) → IsUntied most input instance flipped (length old) e → IsUntied most (Filter condition input) instance flipped (length old) e
+  pub filter_untied : (condition : Expression) (input : PlanTree) (e : EvalError) → IsUntied input instance flipped (length old) e → IsUntied (Filter condition input) instance flipped (length old) e
   filter_untied condition input (NotValid p) h = h
-  filter_untied condition input TooManyRows h = λ choice long s. or_left (has_large_step most input instance choice) (is_large most (Filter condition input) instance choice) (h choice long s)
+  filter_untied condition input TooManyRows h = λ choice long s. or_left (has_large_step input instance choice) (is_large (Filter condition input) instance choice) (h choice long s)
   filter_untied condition input OutOfMemory h = tt
 
-  pub map_untied : (outputs : List Expression) (input : PlanTree) (e : EvalError) → IsUntied most input instance flipped (length old) e → IsUntied most (Map outputs input) instance flipped (length old) e
+  pub map_untied : (outputs : List Expression) (input : PlanTree) (e : EvalError) → IsUntied input instance flipped (length old) e → IsUntied (Map outputs input) instance flipped (length old) e
   map_untied outputs input (NotValid p) h = h
-  map_untied outputs input TooManyRows h = λ choice long s. or_left (has_large_step most input instance choice) (is_large most (Map outputs input) instance choice) (h choice long s)
+  map_untied outputs input TooManyRows h = λ choice long s. or_left (has_large_step input instance choice) (is_large (Map outputs input) instance choice) (h choice long s)
   map_untied outputs input OutOfMemory h = tt
 
-  pub distinct_untied : (input : PlanTree) (e : EvalError) → IsUntied most input instance flipped (length old) e → IsUntied most (Distinct input) instance flipped (length old) e
+  pub distinct_untied : (input : PlanTree) (e : EvalError) → IsUntied input instance flipped (length old) e → IsUntied (Distinct input) instance flipped (length old) e
   distinct_untied input (NotValid p) h = h
-  distinct_untied input TooManyRows h = λ choice long s. or_left (has_large_step most input instance choice) (is_large most (Distinct input) instance choice) (h choice long s)
+  distinct_untied input TooManyRows h = λ choice long s. or_left (has_large_step input instance choice) (is_large (Distinct input) instance choice) (h choice long s)
   distinct_untied input OutOfMemory h = tt
 
-  pub window_untied : (w : WindowRule) (input : PlanTree) (e : EvalError) → IsUntied most input instance flipped (length old) e → IsUntied most (Window w input) instance flipped (length old) e
+  pub window_untied : (w : WindowRule) (input : PlanTree) (e : EvalError) → IsUntied input instance flipped (length old) e → IsUntied (Window w input) instance flipped (length old) e
   window_untied w input (NotValid p) h = h
-  window_untied w input TooManyRows h = λ choice long s. or_left (has_large_step most input instance choice) (is_large most (Window w input) instance choice) (h choice (omega arith) s.0)
+  window_untied w input TooManyRows h = λ choice long s. or_left (has_large_step input instance choice) (is_large (Window w input) instance choice) (h choice (omega arith) s.0)
   window_untied w input OutOfMemory h = tt
 
-  pub limit_untied : (limit : LimitRule) (input : PlanTree) (e : EvalError) → IsUntied most input instance flipped (length old) e → IsUntied most (Limit limit input) instance flipped (length old) e
+  pub limit_untied : (limit : LimitRule) (input : PlanTree) (e : EvalError) → IsUntied input instance flipped (length old) e → IsUntied (Limit limit input) instance flipped (length old) e
   limit_untied limit input (NotValid p) h = h
-  limit_untied limit input TooManyRows h = λ choice long s. or_left (has_large_step most input instance choice) (is_large most (Limit limit input) instance choice) (h choice (omega arith) s.0)
+  limit_untied limit input TooManyRows h = λ choice long s. or_left (has_large_step input instance choice) (is_large (Limit limit input) instance choice) (h choice (omega arith) s.0)
   limit_untied limit input OutOfMemory h = tt
 
   -- ---- what stands after the orderings of a node below
 
-  module _ (plan : PlanTree) (mid own new : List (List ℕ)) (o : Produced) (b : IsTied most plan instance flipped old mid o) (e : new ≡ mid ++ own) where
+  module _ (plan : PlanTree) (mid own new : List (List ℕ)) (o : Produced) (b : IsTied plan instance flipped old mid o) (e : new ≡ mid ++ own) where
     abbrev at_mid : Evaluated
     at_mid = record { outcome = o; next = length mid }
 
-    pub still : IsEvaluated most plan instance new (length old) at_mid
-    still = subst (λ (ch : List (List ℕ)). IsEvaluated most plan instance ch (length old) at_mid) (sym e)
-        (evaluated_append most plan instance mid own (length old) at_mid (grown_long mid b.own b.grown) b.evaluated)
+    pub still : IsEvaluated plan instance new (length old) at_mid
+    still = subst (λ (ch : List (List ℕ)). IsEvaluated plan instance ch (length old) at_mid) (sym e)
+        (evaluated_append plan instance mid own (length old) at_mid (grown_long mid b.own b.grown) b.evaluated)
 
     rest : drop (length old) new ≡ drop (length old) mid ++ own
     rest = ap (drop (length old)) e ∙ drop-append-le (length old) mid own (grown_long mid b.own b.grown)
@@ -239,7 +239,7 @@ module _ (most : ℕ) (instance : Instance) (flipped : Option ℕ) (old : List (
     pub grown_more : new ≡ old ++ (b.own ++ own)
     grown_more = e ∙ ap (λ ch. ch ++ own) b.grown ∙ append_assoc old b.own own
 
-  pub window_tied : (w : WindowRule) (input : PlanTree) (mid new : List (List ℕ)) (below : Produced) (o : Outcome) → IsTied most input instance flipped old mid below → IsTiedWindow w (produced_of instance below) flipped mid new o → IsTied most (Window w input) instance flipped old new (Made o)
+  pub window_tied : (w : WindowRule) (input : PlanTree) (mid new : List (List ℕ)) (below : Produced) (o : Outcome) → IsTied input instance flipped old mid below → IsTiedWindow w (produced_of instance below) flipped mid new o → IsTied (Window w input) instance flipped old new (Made o)
   window_tied w input mid new below o b x =
       let own = x.put.own in
       let e = x.put.grown in
@@ -252,7 +252,7 @@ module _ (most : ℕ) (instance : Instance) (flipped : Option ℕ) (old : List (
       record {
         own = b.own ++ own;
         grown = grown_more input mid own new below b e;
-        evaluated = window_done most instance new (length old) w input (record { outcome = below; next = length mid }) (omega arith) (still input mid own new below b e) o (length new) x.extended (omega arith);
+        evaluated = window_done instance new (length old) w input (record { outcome = below; next = length mid }) (omega arith) (still input mid own new below b e) o (length new) x.extended (omega arith);
         tied = (
           still_tied input mid own new below b e,
           λ k l. (
@@ -263,7 +263,7 @@ module _ (most : ℕ) (instance : Instance) (flipped : Option ℕ) (old : List (
         );
       }
 
-  pub limit_tied : (limit : LimitRule) (input : PlanTree) (mid new : List (List ℕ)) (below : Produced) (o : Outcome) → IsTied most input instance flipped old mid below → IsTiedLimit limit (produced_of instance below) flipped mid new o → IsTied most (Limit limit input) instance flipped old new (Made o)
+  pub limit_tied : (limit : LimitRule) (input : PlanTree) (mid new : List (List ℕ)) (below : Produced) (o : Outcome) → IsTied input instance flipped old mid below → IsTiedLimit limit (produced_of instance below) flipped mid new o → IsTied (Limit limit input) instance flipped old new (Made o)
   limit_tied limit input mid new below o b x =
       let own = x.own ∷ [] in
       let e = x.grown in
@@ -276,7 +276,7 @@ module _ (most : ℕ) (instance : Instance) (flipped : Option ℕ) (old : List (
       record {
         own = b.own ++ own;
         grown = grown_more input mid own new below b e;
-        evaluated = limit_done most instance new (length old) limit input (record { outcome = below; next = length mid }) (omega arith) (still input mid own new below b e) o (length new) x.is (omega arith);
+        evaluated = limit_done instance new (length old) limit input (record { outcome = below; next = length mid }) (omega arith) (still input mid own new below b e) o (length new) x.is (omega arith);
         tied = (
           still_tied input mid own new below b e,
           subst (IsSortedOver (limit_class limit) (is_flipped flipped (length old + ordering_count input)) (outcome input instance (drop (length old) new))) (sym at)
@@ -288,27 +288,27 @@ module _ (most : ℕ) (instance : Instance) (flipped : Option ℕ) (old : List (
   -- ---- Join
 
   module _ (condition : Option Expression) (left right : PlanTree) where
-    pub join_untied_left : (e : EvalError) → IsUntied most left instance flipped (length old) e → IsUntied most (Join condition left right) instance flipped (length old) e
+    pub join_untied_left : (e : EvalError) → IsUntied left instance flipped (length old) e → IsUntied (Join condition left right) instance flipped (length old) e
     join_untied_left (NotValid p) h = h
     join_untied_left TooManyRows h = λ choice long s. (
-        let on_left = has_large_step most left instance choice in
-        let on_right = has_large_step most right instance (drop (ordering_count left) choice) in
-        or_left (on_left || on_right) (is_large most (Join condition left right) instance choice) (or_left on_left on_right (h choice (omega arith) s.0)))
+        let on_left = has_large_step left instance choice in
+        let on_right = has_large_step right instance (drop (ordering_count left) choice) in
+        or_left (on_left || on_right) (is_large (Join condition left right) instance choice) (or_left on_left on_right (h choice (omega arith) s.0)))
     join_untied_left OutOfMemory h = tt
 
-    module _ (mid : List (List ℕ)) (lo : Produced) (l : IsTied most left instance flipped old mid lo) where
-      pub join_untied_right : (e : EvalError) → IsUntied most right instance flipped (length mid) e → IsUntied most (Join condition left right) instance flipped (length old) e
+    module _ (mid : List (List ℕ)) (lo : Produced) (l : IsTied left instance flipped old mid lo) where
+      pub join_untied_right : (e : EvalError) → IsUntied right instance flipped (length mid) e → IsUntied (Join condition left right) instance flipped (length old) e
       join_untied_right (NotValid p) h = h
       join_untied_right TooManyRows h = λ choice long s. (
           let n = ordering_count left in
           let size = length-drop n choice in
-          let on_left = has_large_step most left instance choice in
-          let on_right = has_large_step most right instance (drop n choice) in
-          or_left (on_left || on_right) (is_large most (Join condition left right) instance choice)
+          let on_left = has_large_step left instance choice in
+          let on_right = has_large_step right instance (drop n choice) in
+          or_left (on_left || on_right) (is_large (Join condition left right) instance choice)
           (or_right on_left on_right (h (drop n choice) (omega arith) (subst (λ (k : ℕ). AreTied right instance flipped k (drop n choice)) (sym l.evaluated.next) s.1))))
       join_untied_right OutOfMemory h = tt
 
-      module _ (new : List (List ℕ)) (ro : Produced) (r : IsTied most right instance flipped mid new ro) where
+      module _ (new : List (List ℕ)) (ro : Produced) (r : IsTied right instance flipped mid new ro) where
         right_rest : drop (ordering_count left) (drop (length old) new) ≡ drop (length mid) new
         right_rest = drop-drop (ordering_count left) (length old) new ∙ ap (λ k. drop k new) (sym l.evaluated.next)
 
@@ -318,15 +318,15 @@ module _ (most : ℕ) (instance : Instance) (flipped : Option ℕ) (old : List (
         both_tied : AreTied (Join condition left right) instance flipped (length old) (drop (length old) new)
         both_tied = (still_tied left mid r.own new lo l r.grown, right_tied)
 
-        pub join_tied : (o : Outcome) → IsSmall most (join_over condition (produced_of instance lo) (produced_of instance ro)) (outcome_of o) → IsTied most (Join condition left right) instance flipped old new (Made o)
+        pub join_tied : (o : Outcome) → IsSmall (join_over condition (produced_of instance lo) (produced_of instance ro)) (outcome_of o) → IsTied (Join condition left right) instance flipped old new (Made o)
         join_tied o s = record {
           own = l.own ++ r.own;
           grown = grown_more left mid r.own new lo l r.grown;
-          evaluated = join_done most instance new (length old) condition left right (record { outcome = lo; next = length mid }) (still left mid r.own new lo l r.grown) (record { outcome = ro; next = length new }) r.evaluated o s;
+          evaluated = join_done instance new (length old) condition left right (record { outcome = lo; next = length mid }) (still left mid r.own new lo l r.grown) (record { outcome = ro; next = length new }) r.evaluated o s;
           tied = both_tied;
         }
 
-        large_here : has_more_rows most (join_over condition (produced_of instance lo) (produced_of instance ro)) ≡ true → (choice : List (List ℕ)) → ordering_count left + ordering_count right ≤ length choice → AreTied (Join condition left right) instance flipped (length old) choice → is_large most (Join condition left right) instance choice ≡ true
+        large_here : has_more_rows most_rows (join_over condition (produced_of instance lo) (produced_of instance ro)) ≡ true → (choice : List (List ℕ)) → ordering_count left + ordering_count right ≤ length choice → AreTied (Join condition left right) instance flipped (length old) choice → is_large (Join condition left right) instance choice ≡ true
         large_here h choice long s =
             let next = l.evaluated.next in
             let last = r.evaluated.next in
@@ -335,22 +335,22 @@ module _ (most : ℕ) (instance : Instance) (flipped : Option ℕ) (old : List (
             let same : outcome (Join condition left right) instance choice ≡ outcome (Join condition left right) instance (drop (length old) new) = one_outcome instance flipped (Join condition left right) (length old) choice (drop (length old) new) long enough s both_tied in
             let on_left : produced_of instance lo ≡ outcome left instance (drop (length old) new) = below_is left mid r.own new lo l r.grown in
             let on_right : produced_of instance ro ≡ outcome right instance (drop (ordering_count left) (drop (length old) new)) = r.evaluated.is ∙ ap (outcome right instance) (sym right_rest) in
-            ap (has_more_rows most) same ∙ (λ i. has_more_rows most (join_over condition (sym on_left i) (sym on_right i))) ∙ h
+            ap (has_more_rows most_rows) same ∙ (λ i. has_more_rows most_rows (join_over condition (sym on_left i) (sym on_right i))) ∙ h
 
-        pub join_untied : (e : EvalError) → IsLarge most (join_over condition (produced_of instance lo) (produced_of instance ro)) e → IsUntied most (Join condition left right) instance flipped (length old) e
+        pub join_untied : (e : EvalError) → IsLarge (join_over condition (produced_of instance lo) (produced_of instance ro)) e → IsUntied (Join condition left right) instance flipped (length old) e
         join_untied (NotValid p) h = absurd h
-        join_untied TooManyRows h = λ choice long s. or_right (has_large_step most left instance choice || has_large_step most right instance (drop (ordering_count left) choice)) (is_large most (Join condition left right) instance choice) (large_here h choice long s)
+        join_untied TooManyRows h = λ choice long s. or_right (has_large_step left instance choice || has_large_step right instance (drop (ordering_count left) choice)) (is_large (Join condition left right) instance choice) (large_here h choice long s)
         join_untied OutOfMemory h = tt
 
 -- ---- whole plans
 
-module _ (most : ℕ) (plan : PlanTree) (instance : Instance) (flipped : Option ℕ) (new : List (List ℕ)) (g : Produced) (t : IsTied most plan instance flipped [] new g) where
-  pub tied_valid : IsValidTiedChoice most plan instance flipped new
+module _ (plan : PlanTree) (instance : Instance) (flipped : Option ℕ) (new : List (List ℕ)) (g : Produced) (t : IsTied plan instance flipped [] new g) where
+  pub tied_valid : IsValidTiedChoice plan instance flipped new
   tied_valid = record {
     tied = record { number = t.evaluated.next ∙ omega arith; tied = t.tied };
     valid = record { number = t.evaluated.next ∙ omega arith; lawful = t.evaluated.served.lawful };
     small = t.evaluated.each;
   }
 
-  pub tied_outcome : (o : Outcome) → outcome_of o ≡ produced_of instance g → IsOutcome most plan instance new o
+  pub tied_outcome : (o : Outcome) → outcome_of o ≡ produced_of instance g → IsOutcome plan instance new o
   tied_outcome o e = record { valid = tied_valid.valid; small = t.evaluated.each; is = e ∙ t.evaluated.is }

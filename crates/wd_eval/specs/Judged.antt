@@ -1,5 +1,5 @@
 -- What a plan gives under a choice, or why it gives nothing, as contracts see it.
-use Rattle.std.specs.Prelude.{◌≡◌, ℕ, true, false, List, ⊤}
+use Rattle.std.specs.Prelude.{◌≡◌, ℕ, true, false, List, Result, IfErr, IfOk, OnOk, ⊤}
 use Rattle.wd_value.specs.Rows.{Instance}
 use Rattle.wd_plan.specs.declared.plan.Outcome.{Outcome}
 use Rattle.wd_plan.specs.Choices.{IsValidChoice}
@@ -12,18 +12,28 @@ use Rattle.wd_eval.specs.declared.error.EvalError.{EvalError}
 use Rattle.wd_eval.specs.declared.error.EvalError.TheVariants.{NotValid, TooManyRows, OutOfMemory}
 
 -- why a plan has no outcome under a choice: each error only where its cause stands
-abbrev pub IsRefused : ℕ → PlanTree → Instance → List (List ℕ) → EvalError → Type 0
-IsRefused most plan instance choice (NotValid place) = IsLeast (IsWrongOrdering plan instance choice) place
-IsRefused most plan instance choice TooManyRows = has_large_step most plan instance choice ≡ true
-IsRefused most plan instance choice OutOfMemory = ⊤
+abbrev pub IsRefused : PlanTree → Instance → List (List ℕ) → EvalError → Type 0
+IsRefused plan instance choice (NotValid place) = IsLeast (IsWrongOrdering plan instance choice) place
+IsRefused plan instance choice TooManyRows = has_large_step plan instance choice ≡ true
+IsRefused plan instance choice OutOfMemory = ⊤
 
--- a valid choice, under which no step has more rows than this
-pub record IsAllowedChoice (most : ℕ) (plan : PlanTree) (instance : Instance) (choice : List (List ℕ)) : Type 0 where
+-- a valid choice, under which no step is too large
+pub record IsAllowedChoice (plan : PlanTree) (instance : Instance) (choice : List (List ℕ)) : Type 0 where
   pub valid : IsValidChoice plan instance choice
-  pub small : has_large_step most plan instance choice ≡ false
+  pub small : has_large_step plan instance choice ≡ false
 
--- the outcome under a valid choice, under which no step has more rows than this
-pub record IsOutcome (most : ℕ) (plan : PlanTree) (instance : Instance) (choice : List (List ℕ)) (o : Outcome) : Type 0 where
+-- the outcome under a valid choice, under which no step is too large
+pub record IsOutcome (plan : PlanTree) (instance : Instance) (choice : List (List ℕ)) (o : Outcome) : Type 0 where
   pub valid : IsValidChoice plan instance choice
-  pub small : has_large_step most plan instance choice ≡ false
+  pub small : has_large_step plan instance choice ≡ false
   pub is : outcome_of o ≡ outcome plan instance choice
+
+-- the outcome under a choice, or why there is none
+pub record IsOutcomeOrRefused (plan : PlanTree) (instance : Instance) (choice : List (List ℕ)) (r : Result Outcome EvalError) : Type 0 where
+  pub ok : IfOk r (λ o. IsOutcome plan instance choice o)
+  pub refused : IfErr r (λ e. IsRefused plan instance choice e)
+
+-- the choice is allowed, or why it is not
+pub record IsAllowedOrRefused {X : Type 0} (plan : PlanTree) (instance : Instance) (choice : List (List ℕ)) (r : Result X EvalError) : Type 0 where
+  pub ok : OnOk r (IsAllowedChoice plan instance choice)
+  pub refused : IfErr r (λ e. IsRefused plan instance choice e)

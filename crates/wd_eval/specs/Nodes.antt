@@ -1,38 +1,28 @@
 -- A node of a plan under the orderings from a number on.
-use Rattle.std.specs.Prelude.{◌≡◌, ℕ, ◌+◌, ◌≤◌, true, false, List, drop, length, ⊤, Option, Result, Ok, Err}
+use Rattle.std.specs.Prelude.{◌≡◌, ℕ, ◌+◌, ◌≤◌, true, false, List, drop, length, ⊤, Option, option_map, Result, Ok, Err, IfErr, IfOk}
 use Rattle.std.specs.Borrow.{Bor}
 use Rattle.std.specs.declared.alloc.Global.{Global}
 use Rattle.std.specs.declared.vec.Vec.{Vec}
 use Rattle.wd_value.specs.declared.value.Value.{Value}
 use Rattle.wd_value.specs.declared.value.Fault.{Fault}
 use Rattle.wd_value.specs.Rows.{Instance, rows_at, rows_of, table_at}
+use Rattle.wd_plan.specs.declared.expression.Expr.{Expr}
 use Rattle.wd_plan.specs.declared.plan.Outcome.{Outcome}
 use Rattle.wd_plan.specs.Choices.{AreLawful}
-use Rattle.wd_plan.specs.Expressions.{Expression}
+use Rattle.wd_plan.specs.Expressions.{Expression, expression_of}
 use Rattle.wd_plan.specs.Faults.{and_then}
 use Rattle.wd_plan.specs.Outcomes.{RowsOrFault, cut, join_outcome, ordering_at, outcome, outcome_of, pairs}
-use Rattle.wd_plan.specs.Plans.{PlanTree, LimitRule, Scan, Join, Filter, Map, Window, Distinct, Limit, ordering_count}
+use Rattle.wd_plan.specs.Plans.{PlanTree, LimitRule, WindowRule, ordering_count}
 use Rattle.wd_plan.specs.Sorting.{limit_class}
 use Rattle.wd_steps.specs.Joins.{has_more_rows}
-use Rattle.wd_window.specs.Windows.{EachNames, HasOrdering, IsLeast}
-use Rattle.wd_eval.specs.Steps.{has_large_step}
+use Rattle.wd_window.specs.Windows.{HasOrdering, IsExtended, IsLeast, IsWrong, IsWrongIn}
+use Rattle.wd_eval.specs.Steps.{has_large_step, most_rows}
 use Rattle.wd_eval.specs.Wrong.{IsWrongFrom}
-use Rattle.wd_eval.specs.declared.cut.Cut.{Cut}
 use Rattle.wd_eval.specs.declared.error.EvalError.{EvalError}
 use Rattle.wd_eval.specs.declared.error.EvalError.TheVariants.{NotValid, TooManyRows, OutOfMemory}
 use Rattle.wd_eval.specs.declared.produced.Produced.{Produced}
 use Rattle.wd_eval.specs.declared.produced.Produced.TheVariants.{Table, Made}
 use Rattle.wd_eval.specs.declared.node.Evaluated.{Evaluated}
-
--- each window call names a class of its Window, as in every plan that fits a schema
-abbrev pub HasClasses : PlanTree → Type 0
-HasClasses (Scan table columns) = ⊤
-HasClasses (Join condition left right) = HasClasses left × HasClasses right
-HasClasses (Filter condition input) = HasClasses input
-HasClasses (Map outputs input) = HasClasses input
-HasClasses (Window w input) = HasClasses input × EachNames (length w.classes) w.calls
-HasClasses (Distinct input) = HasClasses input
-HasClasses (Limit limit input) = HasClasses input
 
 -- what a node gives: the rows of a table of the instance, or what its step made
 abbrev pub produced_of : Instance → Produced → RowsOrFault
@@ -50,43 +40,54 @@ pub record IsServed (plan : PlanTree) (instance : Instance) (choice : List (List
   pub lawful : AreLawful plan instance choice
 
 -- the plan's outcome under the orderings from `first` on, with the number of the next one; no step is too large
-pub record IsEvaluated (most : ℕ) (plan : PlanTree) (instance : Instance) (choice : List (List ℕ)) (first : ℕ) (e : Evaluated) : Type 0 where
+pub record IsEvaluated (plan : PlanTree) (instance : Instance) (choice : List (List ℕ)) (first : ℕ) (e : Evaluated) : Type 0 where
   pub is : produced_of instance e.outcome ≡ outcome plan instance (drop first choice)
   pub next : e.next ≡ first + ordering_count plan
   pub served : IsServed plan instance (drop first choice)
-  pub small : has_more_rows most (outcome plan instance (drop first choice)) ≡ false
-  pub each : has_large_step most plan instance (drop first choice) ≡ false
+  pub small : has_more_rows most_rows (outcome plan instance (drop first choice)) ≡ false
+  pub each : has_large_step plan instance (drop first choice) ≡ false
 
 -- each error only where its cause stands, under the orderings from `first` on
-abbrev pub IsStopped : ℕ → PlanTree → Instance → List (List ℕ) → ℕ → EvalError → Type 0
-IsStopped most plan instance choice first (NotValid place) = IsLeast (IsWrongFrom plan instance choice first) place
-IsStopped most plan instance choice first TooManyRows = has_large_step most plan instance (drop first choice) ≡ true
-IsStopped most plan instance choice first OutOfMemory = ⊤
+abbrev pub IsStopped : PlanTree → Instance → List (List ℕ) → ℕ → EvalError → Type 0
+IsStopped plan instance choice first (NotValid place) = IsLeast (IsWrongFrom plan instance choice first) place
+IsStopped plan instance choice first TooManyRows = has_large_step plan instance (drop first choice) ≡ true
+IsStopped plan instance choice first OutOfMemory = ⊤
+
+-- that outcome, or why there is none
+pub record IsEvaluatedOrStopped (plan : PlanTree) (instance : Instance) (choice : List (List ℕ)) (first : ℕ) (r : Result Evaluated EvalError) : Type 0 where
+  pub ok : IfOk r (λ e. IsEvaluated plan instance choice first e)
+  pub refused : IfErr r (λ e. IsStopped plan instance choice first e)
 
 -- ---- steps over the outcomes below them
 
 -- an outcome of not too many rows, or the error that it has too many
-pub record IsSmall (most : ℕ) (expected found : RowsOrFault) : Type 0 where
+pub record IsSmall (expected found : RowsOrFault) : Type 0 where
   pub is : found ≡ expected
-  pub small : has_more_rows most expected ≡ false
+  pub small : has_more_rows most_rows expected ≡ false
 
-abbrev pub IsLarge : ℕ → RowsOrFault → EvalError → Type 0
-IsLarge most expected (NotValid place) = ⊥
-IsLarge most expected TooManyRows = has_more_rows most expected ≡ true
-IsLarge most expected OutOfMemory = ⊤
+abbrev pub IsLarge : RowsOrFault → EvalError → Type 0
+IsLarge expected (NotValid place) = ⊥
+IsLarge expected TooManyRows = has_more_rows most_rows expected ≡ true
+IsLarge expected OutOfMemory = ⊤
+
+-- that outcome, as the view of a value has it, or that error
+pub record IsSmallOrLarge {X : Type 0} (expected : RowsOrFault) (view : X → RowsOrFault) (r : Result X EvalError) : Type 0 where
+  pub ok : IfOk r (λ x. IsSmall expected (view x))
+  pub refused : IfErr r (λ e. IsLarge expected e)
 
 -- what a Join gives over what is below it
 abbrev pub join_over : Option Expression → RowsOrFault → RowsOrFault → RowsOrFault
 join_over condition left right = and_then left (λ ls. and_then right (λ rs. join_outcome condition (pairs ls rs)))
 
--- the limit that a value of the code shows
-abbrev pub limit_of : Cut → LimitRule
-limit_of limit = record { keys = limit.keys.now; offset = limit.offset; count = limit.count; ties = limit.ties }
+-- the same of the Join's condition and inputs in the code
+abbrev pub joined_of : Instance → Option Expr → Produced → Produced → RowsOrFault
+joined_of instance condition left right = join_over (option_map expression_of condition) (produced_of instance left) (produced_of instance right)
 
 -- what a Limit gives over its input
 abbrev pub cut_over : LimitRule → List ℕ → RowsOrFault → RowsOrFault
 cut_over limit ordering input = and_then input (λ rows. Ok (cut limit (rows_at rows ordering)))
 
+-- the limit's ordering with this number serves, and the outcome is what the Limit gives under it
 pub record IsCut (limit : LimitRule) (input : RowsOrFault) (choice : List (List ℕ)) (number : ℕ) (o : Outcome) : Type 0 where
   pub served : HasOrdering (limit_class limit) input choice number
   pub is : outcome_of o ≡ cut_over limit (ordering_at choice number) input
@@ -96,3 +97,13 @@ abbrev pub IsUnserved : (ℕ → Type 0) → EvalError → Type 0
 IsUnserved IsPlace (NotValid place) = IsPlace place
 IsUnserved IsPlace TooManyRows = ⊥
 IsUnserved IsPlace OutOfMemory = ⊤
+
+-- the outcome of a Limit over its input under the ordering with this number, or why that does not serve
+pub record IsCutOrUnserved (limit : LimitRule) (input : RowsOrFault) (choice : List (List ℕ)) (number : ℕ) (r : Result Outcome EvalError) : Type 0 where
+  pub ok : IfOk r (λ o. IsCut limit input choice number o)
+  pub refused : IfErr r (λ e. IsUnserved (IsWrong (limit_class limit) input choice number) e)
+
+-- the outcome of a Window over its input under the orderings from the number `first` on, or why they do not serve it
+pub record IsExtendedOrUnserved (w : WindowRule) (input : RowsOrFault) (choice : List (List ℕ)) (first : ℕ) (r : Result Outcome EvalError) : Type 0 where
+  pub ok : IfOk r (λ o. IsExtended w input choice first o)
+  pub refused : IfErr r (λ e. IsUnserved (IsLeast (IsWrongIn w input choice first)) e)

@@ -1,5 +1,5 @@
 -- What a plan gives under the choice that leaves rows that tie as they are, or why it gives nothing.
-use Rattle.std.specs.Prelude.{◌≡◌, ℕ, false, List, None}
+use Rattle.std.specs.Prelude.{◌≡◌, ℕ, false, List, None, Result, IfErr, IfOk}
 use Rattle.wd_value.specs.Rows.{Instance}
 use Rattle.wd_plan.specs.declared.plan.Outcome.{Outcome}
 use Rattle.wd_plan.specs.Choices.{IsValidChoice}
@@ -10,19 +10,24 @@ use Rattle.wd_eval.specs.Judged.{IsOutcome}
 use Rattle.wd_eval.specs.Tied.{IsTiedChoice, IsTiedRefused}
 use Rattle.wd_eval.specs.declared.error.EvalError.{EvalError}
 
--- the outcome under a valid choice that leaves rows that tie as they are, and under which no step has more rows than this
-pub record IsRun (most : ℕ) (plan : PlanTree) (instance : Instance) (o : Outcome) : Type 0 where
+-- the outcome under a valid choice that leaves rows that tie as they are, and under which no step is too large
+pub record IsRun (plan : PlanTree) (instance : Instance) (o : Outcome) : Type 0 where
   pub choice : List (List ℕ)
   pub tied : IsTiedChoice plan instance None choice
-  pub outcome : IsOutcome most plan instance choice o
+  pub outcome : IsOutcome plan instance choice o
 
 -- why a plan has no outcome under that choice
-abbrev pub IsRunRefused : ℕ → PlanTree → Instance → EvalError → Type 0
-IsRunRefused most plan instance e = IsTiedRefused most plan instance None e
+abbrev pub IsRunRefused : PlanTree → Instance → EvalError → Type 0
+IsRunRefused plan instance e = IsTiedRefused plan instance None e
 
--- an answer of a plan: its outcome under some valid choice, under which no step has more rows than this
-pub record IsAnswerWithin (most : ℕ) (plan : PlanTree) (instance : Instance) (answer : RowsOrFault) : Type 0 where
+-- the outcome under that choice, or why there is none
+pub record IsRunOrRefused (plan : PlanTree) (instance : Instance) (r : Result Outcome EvalError) : Type 0 where
+  pub ok : IfOk r (λ o. IsRun plan instance o)
+  pub refused : IfErr r (λ e. IsRunRefused plan instance e)
+
+-- an answer of a plan: its outcome under some valid choice, under which no step is too large
+pub record IsAnswerWithin (plan : PlanTree) (instance : Instance) (answer : RowsOrFault) : Type 0 where
   pub choice : List (List ℕ)
   pub valid : IsValidChoice plan instance choice
-  pub small : has_large_step most plan instance choice ≡ false
+  pub small : has_large_step plan instance choice ≡ false
   pub is : answer ≡ outcome plan instance choice

@@ -9,17 +9,17 @@ use Rattle.wd_steps.specs.Joins.{has_more_rows}
 abbrev pub most_rows : ℕ
 most_rows = 10000000
 
--- whether the plan's last step has more rows than this
-abbrev pub is_large : ℕ → PlanTree → Instance → List (List ℕ) → Bool
-is_large most plan instance choice = has_more_rows most (outcome plan instance choice)
+-- whether the plan's last step has more rows than that
+abbrev pub is_large : PlanTree → Instance → List (List ℕ) → Bool
+is_large plan instance choice = has_more_rows most_rows (outcome plan instance choice)
 
--- whether some step of the plan has more rows than this, under a choice
-abbrev pub has_large_step : ℕ → PlanTree → Instance → List (List ℕ) → Bool
-has_large_step most (Scan table columns) instance choice = is_large most (Scan table columns) instance choice
-has_large_step most (Join condition left right) instance choice =
-    (has_large_step most left instance choice || has_large_step most right instance (drop (ordering_count left) choice)) || is_large most (Join condition left right) instance choice
-has_large_step most (Filter condition input) instance choice = has_large_step most input instance choice || is_large most (Filter condition input) instance choice
-has_large_step most (Map outputs input) instance choice = has_large_step most input instance choice || is_large most (Map outputs input) instance choice
-has_large_step most (Window w input) instance choice = has_large_step most input instance choice || is_large most (Window w input) instance choice
-has_large_step most (Distinct input) instance choice = has_large_step most input instance choice || is_large most (Distinct input) instance choice
-has_large_step most (Limit limit input) instance choice = has_large_step most input instance choice || is_large most (Limit limit input) instance choice
+-- whether some step of the plan has more rows than that, under a choice
+abbrev pub has_large_step : PlanTree → Instance → List (List ℕ) → Bool
+has_large_step (Scan table columns) instance choice = is_large (Scan table columns) instance choice
+has_large_step (Join condition left right) instance choice =
+    (has_large_step left instance choice || has_large_step right instance (drop (ordering_count left) choice)) || is_large (Join condition left right) instance choice
+has_large_step (Filter condition input) instance choice = has_large_step input instance choice || is_large (Filter condition input) instance choice
+has_large_step (Map outputs input) instance choice = has_large_step input instance choice || is_large (Map outputs input) instance choice
+has_large_step (Window w input) instance choice = has_large_step input instance choice || is_large (Window w input) instance choice
+has_large_step (Distinct input) instance choice = has_large_step input instance choice || is_large (Distinct input) instance choice
+has_large_step (Limit limit input) instance choice = has_large_step input instance choice || is_large (Limit limit input) instance choice

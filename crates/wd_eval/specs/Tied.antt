@@ -1,12 +1,14 @@
 -- The choice that leaves rows that tie as they are, but for one ordering that turns them round.
-use Rattle.std.specs.Prelude.{◌≡◌, ℕ, ◌+◌, ◌<◌, Bool, false, List, [], length, drop, Option, Some, None, nat_eq, true, ⊤}
+use Rattle.std.specs.Prelude.{◌≡◌, ℕ, ◌+◌, ◌<◌, Bool, false, List, [], length, drop, Option, Some, None, Result, IfErr, IfOk, nat_eq, true, ⊤}
 use Rattle.wd_value.specs.Rows.{Row, Instance}
 use Rattle.wd_sort.specs.Sorting.{IsStableSortOf}
+use Rattle.wd_plan.specs.declared.plan.Choice.{Choice}
 use Rattle.wd_plan.specs.Choices.{AtRows, IsValidChoice}
 use Rattle.wd_plan.specs.Outcomes.{RowsOrFault, class_at, ordering_at, outcome}
 use Rattle.wd_plan.specs.Plans.{ClassRule, PlanTree, Scan, Join, Filter, Map, Window, Distinct, Limit, ordering_count}
 use Rattle.wd_plan.specs.Sorting.{limit_class}
 use Rattle.wd_partition.specs.Columns.{given_positions, sort_columns}
+use Rattle.wd_window.specs.Windows.{orderings_of}
 use Rattle.wd_eval.specs.Steps.{has_large_step}
 use Rattle.wd_eval.specs.declared.error.EvalError.{EvalError}
 use Rattle.wd_eval.specs.declared.error.EvalError.TheVariants.{NotValid, TooManyRows, OutOfMemory}
@@ -46,20 +48,25 @@ pub record IsTiedChoice (plan : PlanTree) (instance : Instance) (flipped : Optio
   pub number : length choice ≡ ordering_count plan
   pub tied : AreTied plan instance flipped 0 choice
 
--- that choice, which is valid; no step has more rows than this under it
-pub record IsValidTiedChoice (most : ℕ) (plan : PlanTree) (instance : Instance) (flipped : Option ℕ) (choice : List (List ℕ)) : Type 0 where
+-- that choice, which is valid; no step is too large under it
+pub record IsValidTiedChoice (plan : PlanTree) (instance : Instance) (flipped : Option ℕ) (choice : List (List ℕ)) : Type 0 where
   pub tied : IsTiedChoice plan instance flipped choice
   pub valid : IsValidChoice plan instance choice
-  pub small : has_large_step most plan instance choice ≡ false
+  pub small : has_large_step plan instance choice ≡ false
 
--- some step has more rows than this under that choice
-pub record IsTiedTooLarge (most : ℕ) (plan : PlanTree) (instance : Instance) (flipped : Option ℕ) : Type 0 where
+-- some step is too large under that choice
+pub record IsTiedTooLarge (plan : PlanTree) (instance : Instance) (flipped : Option ℕ) : Type 0 where
   pub choice : List (List ℕ)
   pub tied : IsTiedChoice plan instance flipped choice
-  pub large : has_large_step most plan instance choice ≡ true
+  pub large : has_large_step plan instance choice ≡ true
 
 -- why it is not answered; it is never refused itself
-abbrev pub IsTiedRefused : ℕ → PlanTree → Instance → Option ℕ → EvalError → Type 0
-IsTiedRefused most plan instance flipped (NotValid place) = ⊥
-IsTiedRefused most plan instance flipped TooManyRows = IsTiedTooLarge most plan instance flipped
-IsTiedRefused most plan instance flipped OutOfMemory = ⊤
+abbrev pub IsTiedRefused : PlanTree → Instance → Option ℕ → EvalError → Type 0
+IsTiedRefused plan instance flipped (NotValid place) = ⊥
+IsTiedRefused plan instance flipped TooManyRows = IsTiedTooLarge plan instance flipped
+IsTiedRefused plan instance flipped OutOfMemory = ⊤
+
+-- that choice, or why it is not answered
+pub record IsTiedOrRefused (plan : PlanTree) (instance : Instance) (flipped : Option ℕ) (r : Result Choice EvalError) : Type 0 where
+  pub ok : IfOk r (λ c. IsValidTiedChoice plan instance flipped (orderings_of c.orderings.items))
+  pub refused : IfErr r (λ e. IsTiedRefused plan instance flipped e)

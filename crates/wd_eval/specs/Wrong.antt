@@ -14,7 +14,7 @@ IsWrongFrom (Join condition left right) instance choice first place = IsWrongFro
 IsWrongFrom (Filter condition input) instance choice first place = IsWrongFrom input instance choice first place
 IsWrongFrom (Map outputs input) instance choice first place = IsWrongFrom input instance choice first place
 IsWrongFrom (Window w input) instance choice first place =
-    IsWrongFrom input instance choice first place ⊎ IsWrongIn w.classes (outcome input instance (drop first choice)) choice (first + ordering_count input) place
+    IsWrongFrom input instance choice first place ⊎ IsWrongIn w (outcome input instance (drop first choice)) choice (first + ordering_count input) place
 IsWrongFrom (Distinct input) instance choice first place = IsWrongFrom input instance choice first place
 IsWrongFrom (Limit limit input) instance choice first place =
     IsWrongFrom input instance choice first place ⊎ IsWrong (limit_class limit) (outcome input instance (drop first choice)) choice (first + ordering_count input) place

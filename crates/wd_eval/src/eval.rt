@@ -1,11 +1,10 @@
 //! Plans under choices of orderings.
 
-ghost use Rattle.std.specs.Prelude.{◌≡◌, true, MatchResult, None};
-ghost use Rattle.wd_eval.specs.Judged.{IsAllowedChoice, IsOutcome, IsRefused};
+ghost use Rattle.std.specs.Prelude.{◌≡◌, true, None};
+ghost use Rattle.wd_eval.specs.Judged.{IsAllowedOrRefused, IsOutcomeOrRefused};
 ghost use Rattle.wd_window.specs.Windows.{orderings_of};
-ghost use Rattle.wd_eval.specs.Runs.{IsRun, IsRunRefused};
-ghost use Rattle.wd_eval.specs.Steps.{most_rows};
-ghost use Rattle.wd_eval.specs.Tied.{IsTiedRefused, IsValidTiedChoice};
+ghost use Rattle.wd_eval.specs.Runs.{IsRunOrRefused};
+ghost use Rattle.wd_eval.specs.Tied.{IsTiedOrRefused};
 ghost use Rattle.wd_plan.specs.Fits.{fits};
 ghost use Rattle.wd_plan.specs.Plans.{plan_of};
 ghost use Rattle.wd_schema.specs.Schemas.{schema_of};
@@ -20,9 +19,6 @@ use wd_plan::{Choice, Outcome, Plan};
 use wd_schema::Schema;
 use wd_value::Instance;
 
-/// The largest number of rows of a step.
-const MOST_ROWS: u64 = 10_000_000;
-
 /// The outcome of a plan over an instance under a choice of orderings (SQL, query expression and
 /// window clause). The steps are judged in postorder, each step's orderings before the number of
 /// its rows, and an ordering left over is judged last. The plan has to fit the schema, which is not
@@ -35,9 +31,9 @@ pub fn eval_with(
     choice: &Choice,
 ) -> Result<Outcome, EvalError>
     requires { fits (schema_of schema.now) (plan_of plan.now) ≡ true }
-    ensures { MatchResult result (λ o. IsOutcome most_rows (plan_of plan.now) (instance_of instance.now.items) (orderings_of choice.now.orderings.items) o) (λ e. IsRefused most_rows (plan_of plan.now) (instance_of instance.now.items) (orderings_of choice.now.orderings.items) e) }
+    ensures { IsOutcomeOrRefused (plan_of plan.now) (instance_of instance.now.items) (orderings_of choice.now.orderings.items) result }
 {
-    let evaluated = evaluate(alloc, plan, instance, &choice.orderings, 0, MOST_ROWS)?;
+    let evaluated = evaluate(alloc, plan, instance, &choice.orderings, 0)?;
     if evaluated.next < choice.orderings.len() {
         return Err(EvalError::NotValid(evaluated.next as u64));
     }
@@ -56,7 +52,7 @@ pub fn check_choice(
     choice: &Choice,
 ) -> Result<(), EvalError>
     requires { fits (schema_of schema.now) (plan_of plan.now) ≡ true }
-    ensures { MatchResult result (λ u. IsAllowedChoice most_rows (plan_of plan.now) (instance_of instance.now.items) (orderings_of choice.now.orderings.items)) (λ e. IsRefused most_rows (plan_of plan.now) (instance_of instance.now.items) (orderings_of choice.now.orderings.items) e) }
+    ensures { IsAllowedOrRefused (plan_of plan.now) (instance_of instance.now.items) (orderings_of choice.now.orderings.items) result }
 {
     let _outcome = eval_with(alloc, plan, schema, instance, choice)?;
     Ok(())
@@ -74,10 +70,10 @@ pub fn tied_choice(
     flipped: Option<u32>,
 ) -> Result<Choice, EvalError>
     requires { fits (schema_of schema.now) (plan_of plan.now) ≡ true }
-    ensures { MatchResult result (λ c. IsValidTiedChoice most_rows (plan_of plan.now) (instance_of instance.now.items) flipped (orderings_of c.orderings.items)) (λ e. IsTiedRefused most_rows (plan_of plan.now) (instance_of instance.now.items) flipped e) }
+    ensures { IsTiedOrRefused (plan_of plan.now) (instance_of instance.now.items) flipped result }
 {
     let mut orderings = Vec::new(alloc);
-    tied(alloc, plan, instance, flipped, MOST_ROWS, &mut orderings)?;
+    tied(alloc, plan, instance, flipped, &mut orderings)?;
     Ok(Choice { orderings })
 }
 
@@ -89,7 +85,7 @@ pub fn first_choice(
     instance: &Instance,
 ) -> Result<Choice, EvalError>
     requires { fits (schema_of schema.now) (plan_of plan.now) ≡ true }
-    ensures { MatchResult result (λ c. IsValidTiedChoice most_rows (plan_of plan.now) (instance_of instance.now.items) None (orderings_of c.orderings.items)) (λ e. IsTiedRefused most_rows (plan_of plan.now) (instance_of instance.now.items) None e) }
+    ensures { IsTiedOrRefused (plan_of plan.now) (instance_of instance.now.items) None result }
 {
     tied_choice(alloc, plan, schema, instance, None)
 }
@@ -102,10 +98,10 @@ pub fn run_plan(
     instance: &Instance,
 ) -> Result<Outcome, EvalError>
     requires { fits (schema_of schema.now) (plan_of plan.now) ≡ true }
-    ensures { MatchResult result (λ o. IsRun most_rows (plan_of plan.now) (instance_of instance.now.items) o) (λ e. IsRunRefused most_rows (plan_of plan.now) (instance_of instance.now.items) e) }
+    ensures { IsRunOrRefused (plan_of plan.now) (instance_of instance.now.items) result }
 {
     let mut orderings = Vec::new(alloc);
-    let given = tied(alloc, plan, instance, None, MOST_ROWS, &mut orderings)?;
+    let given = tied(alloc, plan, instance, None, &mut orderings)?;
     let outcome = owned(alloc, instance, given)?;
     Ok(outcome)
 }

@@ -1,12 +1,12 @@
 //! A plan under given orderings, node by node.
 
-ghost use Rattle.std.specs.Prelude.{◌≡◌, ◌^◌, ◌<◌, ◌≤◌, length, MatchResult};
+ghost use Rattle.std.specs.Prelude.{◌≤◌, length};
 ghost use Rattle.wd_window.specs.Windows.{orderings_of};
-ghost use Rattle.wd_eval.specs.Nodes.{HasClasses, IsEvaluated, IsStopped};
-ghost use Rattle.wd_plan.specs.Plans.{plan_of};
+ghost use Rattle.wd_eval.specs.Nodes.{IsEvaluatedOrStopped};
+ghost use Rattle.wd_plan.specs.Plans.{EachNamesClasses, plan_of};
 ghost use Rattle.wd_value.specs.Rows.{instance_of};
 
-use crate::cut::{Cut, limited};
+use crate::cut::limited;
 use crate::error::EvalError;
 use crate::produced::Produced;
 use crate::step::{distinct, extended, filtered, joined, mapped, scanned};
@@ -29,16 +29,14 @@ pub(crate) fn evaluate(
     instance: &[Vec<Row>],
     choice: &[Vec<u64>],
     first: usize,
-    most: u64,
 ) -> Result<Evaluated, EvalError>
     requires within { first ≤ length choice.now }
-    requires few { most < 2 ^ 32 }
-    requires named { HasClasses (plan_of plan.now) }
-    ensures { MatchResult result (λ e. IsEvaluated most (plan_of plan.now) (instance_of instance.now) (orderings_of choice.now) first e) (λ e. IsStopped most (plan_of plan.now) (instance_of instance.now) (orderings_of choice.now) first e) }
+    requires named { EachNamesClasses (plan_of plan.now) }
+    ensures { IsEvaluatedOrStopped (plan_of plan.now) (instance_of instance.now) (orderings_of choice.now) first result }
 {
     match plan {
         Plan::Scan { table, .. } => {
-            let outcome = scanned(instance, *table, most)?;
+            let outcome = scanned(instance, *table)?;
             Ok(Evaluated {
                 outcome,
                 next: first,
@@ -49,23 +47,16 @@ pub(crate) fn evaluate(
             right,
             condition,
         } => {
-            let left = evaluate(alloc, left, instance, choice, first, most)?;
-            let right = evaluate(alloc, right, instance, choice, left.next, most)?;
-            let outcome = joined(
-                alloc,
-                instance,
-                condition,
-                left.outcome,
-                right.outcome,
-                most,
-            )?;
+            let left = evaluate(alloc, left, instance, choice, first)?;
+            let right = evaluate(alloc, right, instance, choice, left.next)?;
+            let outcome = joined(alloc, instance, condition, left.outcome, right.outcome)?;
             Ok(Evaluated {
                 outcome: Produced::Made(outcome),
                 next: right.next,
             })
         }
         Plan::Filter { input, condition } => {
-            let below = evaluate(alloc, input, instance, choice, first, most)?;
+            let below = evaluate(alloc, input, instance, choice, first)?;
             let outcome = filtered(alloc, instance, condition, below.outcome)?;
             Ok(Evaluated {
                 outcome: Produced::Made(outcome),
@@ -73,56 +64,32 @@ pub(crate) fn evaluate(
             })
         }
         Plan::Map { input, outputs } => {
-            let below = evaluate(alloc, input, instance, choice, first, most)?;
+            let below = evaluate(alloc, input, instance, choice, first)?;
             let outcome = mapped(alloc, instance, outputs, below.outcome)?;
             Ok(Evaluated {
                 outcome: Produced::Made(outcome),
                 next: below.next,
             })
         }
-        Plan::Window {
-            input,
-            classes,
-            calls,
-        } => {
-            let below = evaluate(alloc, input, instance, choice, first, most)?;
-            let outcome = extended(
-                alloc,
-                instance,
-                classes,
-                calls,
-                below.outcome,
-                choice,
-                below.next,
-            )?;
+        Plan::Window { input, window } => {
+            let below = evaluate(alloc, input, instance, choice, first)?;
+            let outcome = extended(alloc, instance, window, below.outcome, choice, below.next)?;
             Ok(Evaluated {
                 outcome: Produced::Made(outcome),
-                next: below.next + classes.len(),
+                next: below.next + window.classes.len(),
             })
         }
         Plan::Distinct { input } => {
-            let below = evaluate(alloc, input, instance, choice, first, most)?;
+            let below = evaluate(alloc, input, instance, choice, first)?;
             let outcome = distinct(alloc, instance, below.outcome)?;
             Ok(Evaluated {
                 outcome: Produced::Made(outcome),
                 next: below.next,
             })
         }
-        Plan::Limit {
-            input,
-            keys,
-            offset,
-            count,
-            ties,
-        } => {
-            let below = evaluate(alloc, input, instance, choice, first, most)?;
-            let limit = Cut {
-                keys,
-                offset: *offset,
-                count: *count,
-                ties: *ties,
-            };
-            let outcome = limited(alloc, instance, &limit, below.outcome, choice, below.next)?;
+        Plan::Limit { input, limit } => {
+            let below = evaluate(alloc, input, instance, choice, first)?;
+            let outcome = limited(alloc, instance, limit, below.outcome, choice, below.next)?;
             Ok(Evaluated {
                 outcome: Produced::Made(outcome),
                 next: below.next + 1,

@@ -1,50 +1,53 @@
 //! Each step of a plan over the outcomes below it, but for a Limit.
 
-ghost use Rattle.std.specs.Prelude.{◌≡◌, ◌-◌, ◌^◌, ◌≤◌, IfOk, length, map, MatchResult, Ok, option_map};
-ghost use Rattle.wd_eval.specs.Nodes.{IsLarge, IsSmall, IsUnserved, produced_of, join_over};
+ghost use Rattle.std.specs.Prelude.{◌≡◌, ◌-◌, ◌^◌, ◌≤◌, IfOk, length, map, Ok};
+ghost use Rattle.wd_eval.specs.Nodes.{IsExtendedOrUnserved, IsSmallOrLarge, joined_of, produced_of};
 ghost use Rattle.wd_plan.specs.Expressions.{expression_of};
 ghost use Rattle.wd_plan.specs.Faults.{and_then};
 ghost use Rattle.wd_plan.specs.Outcomes as spec;
 ghost use Rattle.wd_plan.specs.Outcomes.{outcome_of};
-ghost use Rattle.wd_value.specs.Rows.{instance_of, rows_of, table_at};
-ghost use Rattle.wd_window.specs.Windows.{AreFew, EachNames, IsExtended, IsLeast, IsWrongIn, orderings_of, window_of};
+ghost use Rattle.wd_plan.specs.Plans.{NamesClasses, window_of};
+ghost use Rattle.wd_value.specs.Rows.{instance_of, table_at};
+ghost use Rattle.wd_window.specs.Windows.{AreFew, orderings_of};
 
 use crate::error::EvalError;
 use crate::produced::{Produced, owned, shown, table_in};
 use std::alloc::Global;
-use wd_plan::{Call, Class, Expr, Outcome};
+use wd_plan::{Expr, Outcome, Window};
 use wd_steps::{copy_filtered, distinct_rows, filter_rows, join_rows, map_rows};
 use wd_value::{OutOfMemory, Row};
 use wd_window::evaluate_window;
 
-/// The instance's table with this number, or the error that it has more rows than `most`.
-pub(crate) fn scanned(instance: &[Vec<Row>], table: u16, most: u64) -> Result<Produced, EvalError>
-    ensures { let rows = Ok (table_at (instance_of instance.now) table) in MatchResult result (λ o. IsSmall most rows (produced_of (instance_of instance.now) o)) (λ e. IsLarge most rows e) }
+/// The largest number of rows of a step.
+const MOST_ROWS: u64 = 10_000_000;
+
+/// The instance's table with this number, or the error that it has too many rows.
+pub(crate) fn scanned(instance: &[Vec<Row>], table: u16) -> Result<Produced, EvalError>
+    ensures { IsSmallOrLarge (Ok (table_at (instance_of instance.now) table)) (produced_of (instance_of instance.now)) result }
 {
     let rows = table_in(instance, table);
-    if rows.len() as u64 > most {
+    if rows.len() as u64 > MOST_ROWS {
         return Err(EvalError::TooManyRows);
     }
     Ok(Produced::Table(table))
 }
 
 /// All pairs of a left and a right row for which the condition is true, or the error that there
-/// are more than `most`.
+/// are too many.
 pub(crate) fn joined(
     alloc: Global,
     instance: &[Vec<Row>],
     condition: &Option<Expr>,
     left: Produced,
     right: Produced,
-    most: u64,
 ) -> Result<Outcome, EvalError>
-    ensures { let rows = join_over (option_map expression_of condition.now) (produced_of (instance_of instance.now) left) (produced_of (instance_of instance.now) right) in MatchResult result (λ o. IsSmall most rows (outcome_of o)) (λ e. IsLarge most rows e) }
+    ensures { IsSmallOrLarge (joined_of (instance_of instance.now) condition.now left right) outcome_of result }
 {
     match (shown(&left, instance), shown(&right, instance)) {
         (Err(fault), _) => Ok(Outcome::Fault(fault)),
         (Ok(_), Err(fault)) => Ok(Outcome::Fault(fault)),
         (Ok(left), Ok(right)) => {
-            let outcome = join_rows(alloc, condition.as_ref(), left, right, most)?;
+            let outcome = join_rows(alloc, condition.as_ref(), left, right, MOST_ROWS)?;
             Ok(outcome)
         }
     }
@@ -86,19 +89,18 @@ pub(crate) fn mapped(
 pub(crate) fn extended(
     alloc: Global,
     instance: &[Vec<Row>],
-    classes: &[Class],
-    calls: &[Call],
+    window: &Window,
     input: Produced,
     choice: &[Vec<u64>],
     first: usize,
 ) -> Result<Outcome, EvalError>
     requires few { AreFew (2 ^ 32 - 1) (produced_of (instance_of instance.now) input) }
     requires within { first ≤ length choice.now }
-    requires named { EachNames (length classes.now) calls.now }
-    ensures { let w = window_of classes.now calls.now in let below = produced_of (instance_of instance.now) input in MatchResult result (λ o. IsExtended w below (orderings_of choice.now) first o) (λ e. IsUnserved (IsLeast (IsWrongIn w.classes below (orderings_of choice.now) first)) e) }
+    requires named { NamesClasses (window_of window.now) }
+    ensures { IsExtendedOrUnserved (window_of window.now) (produced_of (instance_of instance.now) input) (orderings_of choice.now) first result }
 {
     let input = owned(alloc, instance, input)?;
-    let outcome = evaluate_window(alloc, classes, calls, input, choice, first)?;
+    let outcome = evaluate_window(alloc, window, input, choice, first)?;
     Ok(outcome)
 }
 

@@ -1,22 +1,22 @@
 //! The choice in which rows that tie stay as they are, and what a plan gives under it.
 
-ghost use Rattle.std.specs.Prelude.{◌≡◌, ◌-◌, ◌^◌, ◌<◌, IfOk, length, map, MatchResult, OnOk};
-ghost use Rattle.wd_window.specs.Windows.{AreFew, EachNames, orderings_of, window_of};
-ghost use Rattle.wd_eval.specs.Nodes.{HasClasses, produced_of, limit_of};
+ghost use Rattle.std.specs.Prelude.{◌≡◌, ◌-◌, ◌^◌, IfOk, OnOk};
+ghost use Rattle.wd_window.specs.Windows.{AreFew, orderings_of};
+ghost use Rattle.wd_eval.specs.Nodes.{produced_of};
 ghost use Rattle.wd_eval.specs.Tied as spec;
-ghost use Rattle.wd_eval.specs.Ties.{ArePut, IsTied, IsTiedLimit, IsTiedWindow, IsUntied, IsOutOfMemory};
+ghost use Rattle.wd_eval.specs.Ties.{AreAllPut, IsTiedLimitOrNoMemory, IsTiedOrUntied, IsTiedWindowOrNoMemory};
 ghost use Rattle.wd_partition.specs.Columns.{class_by};
-ghost use Rattle.wd_plan.specs.Plans.{class_of, plan_of};
+ghost use Rattle.wd_plan.specs.Plans.{EachNamesClasses, NamesClasses, limit_of, plan_of, window_of};
 ghost use Rattle.wd_value.specs.Rows.{instance_of};
 
-use crate::cut::{Cut, limited};
+use crate::cut::limited;
 use crate::error::EvalError;
 use crate::produced::{Produced, shown};
 use crate::step::{distinct, extended, filtered, joined, mapped, scanned};
 use std::alloc::Global;
 use wd_partition::sorted_ordering;
-use wd_plan::{Call, Class, OrderItem, Outcome, Plan};
-use wd_value::{OutOfMemory, Row};
+use wd_plan::{Limit, Outcome, Plan, Window};
+use wd_value::{OutOfMemory, Row, SortColumn};
 
 /// What a plan gives under its sorted orderings, which are put after those that are there.
 pub(crate) fn tied(
@@ -24,64 +24,46 @@ pub(crate) fn tied(
     plan: &Plan,
     instance: &[Vec<Row>],
     flipped: Option<u32>,
-    most: u64,
     orderings: &mut Vec<Vec<u64>>,
 ) -> Result<Produced, EvalError>
-    requires few { most < 2 ^ 32 }
-    requires named { HasClasses (plan_of plan.now) }
-    ensures { MatchResult result (λ o. IsTied most (plan_of plan.now) (instance_of instance.now) flipped (orderings_of orderings.old.items) (orderings_of orderings.new.items) o) (λ e. IsUntied most (plan_of plan.now) (instance_of instance.now) flipped (length (orderings_of orderings.old.items)) e) }
+    requires { EachNamesClasses (plan_of plan.now) }
+    ensures { IsTiedOrUntied (plan_of plan.now) (instance_of instance.now) flipped orderings.old.items orderings.new.items result }
 {
     match plan {
-        Plan::Scan { table, .. } => scanned(instance, *table, most),
+        Plan::Scan { table, .. } => scanned(instance, *table),
         Plan::Join {
             left,
             right,
             condition,
         } => {
-            let left = tied(alloc, left, instance, flipped, most, orderings)?;
-            let right = tied(alloc, right, instance, flipped, most, orderings)?;
-            let outcome = joined(alloc, instance, condition, left, right, most)?;
+            let left = tied(alloc, left, instance, flipped, orderings)?;
+            let right = tied(alloc, right, instance, flipped, orderings)?;
+            let outcome = joined(alloc, instance, condition, left, right)?;
             Ok(Produced::Made(outcome))
         }
         Plan::Filter { input, condition } => {
-            let below = tied(alloc, input, instance, flipped, most, orderings)?;
+            let below = tied(alloc, input, instance, flipped, orderings)?;
             let outcome = filtered(alloc, instance, condition, below)?;
             Ok(Produced::Made(outcome))
         }
         Plan::Map { input, outputs } => {
-            let below = tied(alloc, input, instance, flipped, most, orderings)?;
+            let below = tied(alloc, input, instance, flipped, orderings)?;
             let outcome = mapped(alloc, instance, outputs, below)?;
             Ok(Produced::Made(outcome))
         }
-        Plan::Window {
-            input,
-            classes,
-            calls,
-        } => {
-            let below = tied(alloc, input, instance, flipped, most, orderings)?;
-            let outcome = tied_window(alloc, instance, classes, calls, below, flipped, orderings)?;
+        Plan::Window { input, window } => {
+            let below = tied(alloc, input, instance, flipped, orderings)?;
+            let outcome = tied_window(alloc, instance, window, below, flipped, orderings)?;
             Ok(Produced::Made(outcome))
         }
         Plan::Distinct { input } => {
-            let below = tied(alloc, input, instance, flipped, most, orderings)?;
+            let below = tied(alloc, input, instance, flipped, orderings)?;
             let outcome = distinct(alloc, instance, below)?;
             Ok(Produced::Made(outcome))
         }
-        Plan::Limit {
-            input,
-            keys,
-            offset,
-            count,
-            ties,
-        } => {
-            let below = tied(alloc, input, instance, flipped, most, orderings)?;
-            let limit = Cut {
-                keys,
-                offset: *offset,
-                count: *count,
-                ties: *ties,
-            };
-            let outcome = tied_limit(alloc, instance, &limit, below, flipped, orderings)?;
+        Plan::Limit { input, limit } => {
+            let below = tied(alloc, input, instance, flipped, orderings)?;
+            let outcome = tied_limit(alloc, instance, limit, below, flipped, orderings)?;
             Ok(Produced::Made(outcome))
         }
     }
@@ -91,16 +73,16 @@ pub(crate) fn tied(
 fn tied_limit(
     alloc: Global,
     instance: &[Vec<Row>],
-    limit: &Cut,
+    limit: &Limit,
     input: Produced,
     flipped: Option<u32>,
     orderings: &mut Vec<Vec<u64>>,
 ) -> Result<Outcome, EvalError>
-    ensures { MatchResult result (λ o. IsTiedLimit (limit_of limit.now) (produced_of (instance_of instance.now) input) flipped (orderings_of orderings.old.items) (orderings_of orderings.new.items) o) (λ e. IsOutOfMemory e) }
+    ensures { IsTiedLimitOrNoMemory (limit_of limit.now) (produced_of (instance_of instance.now) input) flipped orderings.old.items orderings.new.items result }
 {
     let number = orderings.len();
     let turned = is_flipped(flipped, number);
-    let ordering = sorted_over(alloc, instance, &input, &[], limit.keys, turned)?;
+    let ordering = sorted_over(alloc, instance, &input, &[], &limit.keys, turned)?;
     orderings.push(ordering)?;
     limited(alloc, instance, limit, input, orderings, number)
 }
@@ -109,33 +91,32 @@ fn tied_limit(
 fn tied_window(
     alloc: Global,
     instance: &[Vec<Row>],
-    classes: &[Class],
-    calls: &[Call],
+    window: &Window,
     input: Produced,
     flipped: Option<u32>,
     orderings: &mut Vec<Vec<u64>>,
 ) -> Result<Outcome, EvalError>
     requires few { AreFew (2 ^ 32 - 1) (produced_of (instance_of instance.now) input) }
-    requires named { EachNames (length classes.now) calls.now }
-    ensures { MatchResult result (λ o. IsTiedWindow (window_of classes.now calls.now) (produced_of (instance_of instance.now) input) flipped (orderings_of orderings.old.items) (orderings_of orderings.new.items) o) (λ e. IsOutOfMemory e) }
+    requires named { NamesClasses (window_of window.now) }
+    ensures { IsTiedWindowOrNoMemory (window_of window.now) (produced_of (instance_of instance.now) input) flipped orderings.old.items orderings.new.items result }
 {
     let first = orderings.len();
-    put_sorted(alloc, instance, classes, &input, flipped, orderings)?;
-    extended(alloc, instance, classes, calls, input, orderings, first)
+    put_sorted(alloc, instance, window, &input, flipped, orderings)?;
+    extended(alloc, instance, window, input, orderings, first)
 }
 
-/// Puts the sorted ordering of each class after those that are there.
+/// Puts the sorted ordering of each class of a Window after those that are there.
 fn put_sorted(
     alloc: Global,
     instance: &[Vec<Row>],
-    classes: &[Class],
+    window: &Window,
     input: &Produced,
     flipped: Option<u32>,
     orderings: &mut Vec<Vec<u64>>,
 ) -> Result<(), OutOfMemory>
-    ensures { OnOk result (ArePut (map class_of classes.now) (produced_of (instance_of instance.now) input.now) flipped (length classes.now) (orderings_of orderings.old.items) (orderings_of orderings.new.items)) }
+    ensures { OnOk result (AreAllPut (window_of window.now) (produced_of (instance_of instance.now) input.now) flipped (orderings_of orderings.old.items) (orderings_of orderings.new.items)) }
 {
-    for class in classes {
+    for class in &window.classes {
         let turned = is_flipped(flipped, orderings.len());
         let ordering = sorted_over(
             alloc,
@@ -156,7 +137,7 @@ fn sorted_over(
     instance: &[Vec<Row>],
     input: &Produced,
     partition: &[u16],
-    keys: &[OrderItem],
+    keys: &[SortColumn],
     turned: bool,
 ) -> Result<Vec<u64>, OutOfMemory>
     ensures { IfOk result (λ v. spec.IsSortedOver (class_by partition.now keys.now) turned (produced_of (instance_of instance.now) input.now) v.items) }

@@ -6,7 +6,7 @@ use Rattle.wd_value.specs.declared.value.Value.{Value}
 use Rattle.wd_value.specs.declared.value.Value.TheVariants.{Null}
 use Rattle.wd_value.specs.Bags.{positions}
 use Rattle.wd_value.specs.Rows.{Row, column_of, row_at}
-use Rattle.wd_plan.specs.declared.plan.OrderItem.{OrderItem}
+use Rattle.wd_value.specs.declared.order.SortColumn.{SortColumn}
 use Rattle.wd_plan.specs.declared.window.Bound.{Bound}
 use Rattle.wd_plan.specs.declared.window.Bound.TheVariants.{UnboundedPreceding, Preceding, CurrentRow, Following, UnboundedFollowing}
 use Rattle.wd_plan.specs.declared.window.Frame.{Frame}
@@ -39,7 +39,7 @@ module _ (f : ℕ → Row) (t : ℕ → Bool) (u : ℕ × Row → Bool) where
 -- ---- the test
 
 -- of two rows of a partition, their keys are as far from each other as the keys at their places
-pub same_keys : (order : List OrderItem) (partition : List Row) (p q : ℕ) → p < length partition → q < length partition → let keys = key_values order partition in
+pub same_keys : (order : List SortColumn) (partition : List Row) (p q : ℕ) → p < length partition → q < length partition → let keys = key_values order partition in
     value_distance (is_descending order) (get_or keys p Null) (get_or keys q Null) ≡ key_distance order (row_at partition p) (row_at partition q)
 same_keys [] partition p q k l = refl
 same_keys (item ∷ []) partition p q k l =

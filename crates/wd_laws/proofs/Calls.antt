@@ -1,29 +1,31 @@
 -- The value of a call at a row, under orderings of two row lists that are rearrangements of each other.
-use Rattle.std.proofs.Common.{◌≡◌, ℕ, ◌+◌, ◌-◌, ◌<◌, ◌≤◌, Bool, true, false, List, [], ◌∷◌, ◌++◌, map, reverse, length, get_or, refl, sym, ◌∙◌, ap, subst, arith, ◌⊎◌, inl, inr, eqb, Ok}
+use Rattle.std.proofs.Common.{◌≡◌, ℕ, ◌+◌, ◌<◌, Bool, true, false, List, [], ◌∷◌, ◌++◌, map, length, get_or, refl, sym, ◌∙◌, ap, subst, arith, inl, inr, eqb, Ok}
 use Rattle.std.specs.List.{AllByRecursion}
 use Rattle.std.proofs.lemmas.List.{map-append, length-map, get_or-map}
+use Rattle.wd_laws.proofs.Exchange.{below_filter}
 use Rattle.wd_laws.proofs.Frames.{Perm-frame_rows, frame_rows_picked, picked, stable_test}
-use Rattle.wd_plan.proofs.Places.{range-times, times-filter-le, times-get_or, in_part, place_member}
+use Rattle.wd_plan.proofs.Places.{in_part, place_member}
 use Rattle.wd_laws.proofs.Parts.{LooksBy, Member, NotAfter-alike, NotAfter-ties, Perm-ordered, class_columns_from, members_all, same_rows_at_places}
 use Rattle.wd_plan.proofs.Parts.{NotAfter, ordered, part, partition_of-is, rising_part}
 use Rattle.wd_laws.proofs.Peers.{peers_value}
 use Rattle.wd_plan.proofs.Sorted.{Rising}
 use Rattle.wd_laws.proofs.Sorted.{same_sorted}
-use Rattle.wd_plan.specs.Calls.{call_value, value_at}
+use Rattle.wd_plan.specs.Calls.{call_value, column_values, taken, value_at}
 use Rattle.wd_plan.specs.Facts.{Determines, DeterminesRow}
 use Rattle.wd_plan.specs.Frames.{frame_of, is_stable}
-use Rattle.wd_plan.specs.Settled.{IsByValues, is_by_peers}
+use Rattle.wd_plan.specs.Settled.{IsByRow, IsByValues, is_by_peers}
 use Rattle.wd_plan.specs.Partitions.{group_of, members, partition_of, place_in}
 use Rattle.wd_plan.specs.Plans.{ClassRule}
 use Rattle.wd_plan.specs.Sorting.{IsOrdering, class_columns, order_columns, same_partition}
+use Rattle.wd_plan.specs.declared.function.FrameFunction.TheVariants.{ValueAt}
+use Rattle.wd_plan.specs.declared.function.FrameRow.{FrameRow}
+use Rattle.wd_plan.specs.declared.function.Function.{Function}
+use Rattle.wd_plan.specs.declared.function.Function.TheVariants.{OfFrame}
 use Rattle.wd_plan.specs.declared.window.Frame.{Frame}
-use Rattle.wd_plan.specs.declared.window.Function.{Function}
-use Rattle.wd_plan.specs.declared.window.Function.TheVariants.{FirstValue, LastValue, NthValue}
 use Rattle.wd_value.proofs.Perms.{Perm, Perm-filter, Perm-map, Perm-same, Perm-sym, SameBag-from_Perm, both}
 use Rattle.wd_value.proofs.SameLaws.{same_row-Decides}
-use Rattle.wd_value.specs.Bags.{EachOnce, positions, times}
+use Rattle.wd_value.specs.Bags.{EachOnce}
 use Rattle.wd_value.specs.Rows.{Row, column_of, columns_of, row_at, same_row}
-use Rattle.wd_value.specs.declared.value.Value.TheVariants.{Null}
 
 -- the partition lists of rows that are the same hold the same rows
 pub Perm-parts : (class : ClassRule) (rows others : List Row) (o1 o2 : List ℕ) (p q : ℕ) → Perm Row rows others → EachOnce (length rows) o1 → EachOnce (length others) o2 → row_at rows p ≡ row_at others q → Perm Row (partition_of class rows o1 p) (partition_of class others o2 q)
@@ -35,7 +37,7 @@ Perm-parts class rows others o1 o2 p q perm once1 once2 e =
 
 -- ---- `peers`
 
-pub by_peers : (class : ClassRule) (frame : Frame) (function : Function) (rows others : List Row) (o1 o2 : List ℕ) (p q : ℕ) → is_by_peers frame function ≡ true → Perm Row rows others → EachOnce (length rows) o1 → EachOnce (length others) o2 → p < length rows → q < length others → row_at rows p ≡ row_at others q → value_at class frame function rows o1 p ≡ value_at class frame function others o2 q
+by_peers : (class : ClassRule) (frame : Frame) (function : Function) (rows others : List Row) (o1 o2 : List ℕ) (p q : ℕ) → is_by_peers frame function ≡ true → Perm Row rows others → EachOnce (length rows) o1 → EachOnce (length others) o2 → p < length rows → q < length others → row_at rows p ≡ row_at others q → value_at class frame function rows o1 p ≡ value_at class frame function others o2 q
 by_peers class frame function rows others o1 o2 p q h perm once1 once2 k l e =
     let u = in_part class rows o1 p once1 k in
     let v = in_part class others o2 q once2 l in
@@ -53,18 +55,7 @@ same_partition_rows class rows others o1 o2 p q looks perm v1 v2 e =
 pub unique_looks : (class : ClassRule) (rows : List Row) → DeterminesRow rows (class_columns class) → LooksBy class rows (λ r. r)
 unique_looks class rows h a b m n e = sym m.2 ∙ ap (row_at rows) (h m.0 n.0 m.1 n.1 (ap (columns_of (class_columns class)) m.2 ∙ e ∙ sym (ap (columns_of (class_columns class)) n.2))) ∙ n.2
 
--- a member is a position of the list
-member_below : (class : ClassRule) (rows : List Row) (ordering : List ℕ) (p i : ℕ) → EachOnce (length rows) ordering → i < length (members class rows ordering p) → get_or (members class rows ordering p) i 0 < length rows
-member_below class rows ordering p i once h =
-    let t = λ (q : ℕ). same_partition class (row_at rows p) (row_at rows q) in
-    let q = get_or (members class rows ordering p) i 0 in
-    let a : 0 < times eqb q (members class rows ordering p) = times-get_or (members class rows ordering p) i 0 h in
-    let b : times eqb q (members class rows ordering p) ≤ times eqb q ordering = times-filter-le eqb t q ordering in
-    let c : times eqb q (positions (length rows)) ≡ times eqb q ordering = once q in
-    let d = range-times q 0 (length rows) (omega arith) in
-    omega arith
-
-pub by_unique : (class : ClassRule) (frame : Frame) (function : Function) (rows others : List Row) (o1 o2 : List ℕ) (p q : ℕ) → DeterminesRow rows (class_columns class) → Perm Row rows others → IsOrdering class rows o1 → IsOrdering class others o2 → p < length rows → q < length others → row_at rows p ≡ row_at others q → value_at class frame function rows o1 p ≡ value_at class frame function others o2 q
+by_unique : (class : ClassRule) (frame : Frame) (function : Function) (rows others : List Row) (o1 o2 : List ℕ) (p q : ℕ) → DeterminesRow rows (class_columns class) → Perm Row rows others → IsOrdering class rows o1 → IsOrdering class others o2 → p < length rows → q < length others → row_at rows p ≡ row_at others q → value_at class frame function rows o1 p ≡ value_at class frame function others o2 q
 by_unique class frame function rows others o1 o2 p q h perm v1 v2 k l e =
     let looks = unique_looks class rows h in
     let lists : partition_of class rows o1 p ≡ partition_of class others o2 q = same_partition_rows class rows others o1 o2 p q looks perm v1 v2 e in
@@ -74,7 +65,7 @@ by_unique class frame function rows others o1 o2 p q h perm v1 v2 k l e =
     let in_first : j < length (partition_of class rows o1 p) = subst (λ (x : List Row). j < length x) (sym lists) v.within_rows in
     let in_members : j < length ms = subst (λ n. j < n) (length-map ms (row_at rows)) in_first in
     let there : row_at rows (get_or ms j 0) ≡ row_at rows p = sym (get_or-map (row_at rows) ms j 0 [] in_members) ∙ ap (λ (x : List Row). row_at x j) lists ∙ v.row ∙ sym e in
-    let same_position : get_or ms j 0 ≡ p = h _ _ (member_below class rows o1 p j v1.once in_members) k (ap (columns_of (class_columns class)) there) in
+    let same_position : get_or ms j 0 ≡ p = h _ _ (below_filter rows o1 (λ q. same_partition class (row_at rows p) (row_at rows q)) j v1.once in_members) k (ap (columns_of (class_columns class)) there) in
     let places : place_in ms p ≡ j = ap (place_in ms) (sym same_position) ∙ place_member class rows o1 p j v1.once in_members in
     λ i. call_value class frame function (lists i) (places i)
 
@@ -117,7 +108,7 @@ order_columns_from class a b e =
 abbrev shown : ClassRule → ℕ → Row → Row
 shown class c r = column_of r c ∷ columns_of (order_columns class) r
 
-first_shown : (class : ClassRule) (c : ℕ) (rs : List Row) → map (λ (v : Row). column_of v 0) (map (shown class c) rs) ≡ map (λ r. column_of r c) rs
+first_shown : (class : ClassRule) (c : ℕ) (rs : List Row) → map (λ (v : Row). column_of v 0) (map (shown class c) rs) ≡ column_values c rs
 first_shown class c [] = refl
 first_shown class c (r ∷ rs) = ap (λ l. column_of r c ∷ l) (first_shown class c rs)
 
@@ -129,7 +120,7 @@ gives_looks class rows c h a b m n e =
 
 -- the frames show the same values in order
 pub same_values : (class : ClassRule) (frame : Frame) (c : ℕ) (rows others : List Row) (o1 o2 : List ℕ) (p q : ℕ) → is_stable frame ≡ true → Determines rows (class_columns class) c → Perm Row rows others → IsOrdering class rows o1 → IsOrdering class others o2 → p < length rows → q < length others → row_at rows p ≡ row_at others q →
-    map (λ r. column_of r c) (frame_of class frame (partition_of class rows o1 p) (place_in (members class rows o1 p) p)) ≡ map (λ r. column_of r c) (frame_of class frame (partition_of class others o2 q) (place_in (members class others o2 q) q))
+    column_values c (frame_of class frame (partition_of class rows o1 p) (place_in (members class rows o1 p) p)) ≡ column_values c (frame_of class frame (partition_of class others o2 q) (place_in (members class others o2 q) q))
 same_values class frame c rows others o1 o2 p q stable h perm v1 v2 k l e =
     let u = in_part class rows o1 p v1.once k in
     let v = in_part class others o2 q v2.once l in
@@ -163,11 +154,17 @@ same_values class frame c rows others o1 o2 p q stable h perm v1 v2 k l e =
     (SameBag-from_Perm same_row same_row-Decides (Perm-map look frames)) in
     sym (first_shown class c (frame_of class frame part1 i)) ∙ ap (map (λ (v : Row). column_of v 0)) same_shown ∙ first_shown class c (frame_of class frame part2 j)
 
-values_cases : (class : ClassRule) (frame : Frame) (c : ℕ) (function : Function) (part other : List Row) (i j : ℕ) → (function ≡ FirstValue c) ⊎ ((function ≡ LastValue c) ⊎ ((n : ℕ) × (function ≡ NthValue c n))) → map (λ r. column_of r c) (frame_of class frame part i) ≡ map (λ r. column_of r c) (frame_of class frame other j) → call_value class frame function part i ≡ call_value class frame function other j
-values_cases class frame c function part other i j (inl e) h = ap (λ f. call_value class frame f part i) e ∙ ap (λ vs. Ok (get_or vs 0 Null)) h ∙ sym (ap (λ f. call_value class frame f other j) e)
-values_cases class frame c function part other i j (inr (inl e)) h = ap (λ f. call_value class frame f part i) e ∙ ap (λ vs. Ok (get_or (reverse vs) 0 Null)) h ∙ sym (ap (λ f. call_value class frame f other j) e)
-values_cases class frame c function part other i j (inr (inr e)) h = ap (λ f. call_value class frame f part i) e.1 ∙ ap (λ vs. Ok (get_or vs (e.0 - 1) Null)) h ∙ sym (ap (λ f. call_value class frame f other j) e.1)
+-- and so the value at one row of the frame is the same
+value_taken : (class : ClassRule) (frame : Frame) (c : ℕ) (function : Function) (row : FrameRow) (part other : List Row) (i j : ℕ) → function ≡ OfFrame (ValueAt row c) → column_values c (frame_of class frame part i) ≡ column_values c (frame_of class frame other j) → call_value class frame function part i ≡ call_value class frame function other j
+value_taken class frame c function row part other i j e h = ap (λ f. call_value class frame f part i) e ∙ ap (λ vs. Ok (taken row vs)) h ∙ sym (ap (λ f. call_value class frame f other j) e)
 
-pub by_values : (class : ClassRule) (frame : Frame) (function : Function) (c : ℕ) (rows others : List Row) (o1 o2 : List ℕ) (p q : ℕ) → IsByValues frame function c → Determines rows (class_columns class) c → Perm Row rows others → IsOrdering class rows o1 → IsOrdering class others o2 → p < length rows → q < length others → row_at rows p ≡ row_at others q → value_at class frame function rows o1 p ≡ value_at class frame function others o2 q
+by_values : (class : ClassRule) (frame : Frame) (function : Function) (c : ℕ) (rows others : List Row) (o1 o2 : List ℕ) (p q : ℕ) → IsByValues frame function c → Determines rows (class_columns class) c → Perm Row rows others → IsOrdering class rows o1 → IsOrdering class others o2 → p < length rows → q < length others → row_at rows p ≡ row_at others q → value_at class frame function rows o1 p ≡ value_at class frame function others o2 q
 by_values class frame function c rows others o1 o2 p q h g perm v1 v2 k l e =
-    values_cases class frame c function _ _ _ _ h.1 (same_values class frame c rows others o1 o2 p q h.0 g perm v1 v2 k l e)
+    value_taken class frame c function h.1 _ _ _ _ h.2 (same_values class frame c rows others o1 o2 p q h.0 g perm v1 v2 k l e)
+
+-- ---- by the row
+
+pub by_row : (class : ClassRule) (frame : Frame) (function : Function) (rows others : List Row) (o1 o2 : List ℕ) (p q : ℕ) → IsByRow class frame function rows → Perm Row rows others → IsOrdering class rows o1 → IsOrdering class others o2 → p < length rows → q < length others → row_at rows p ≡ row_at others q → value_at class frame function rows o1 p ≡ value_at class frame function others o2 q
+by_row class frame function rows others o1 o2 p q (inl h) perm v1 v2 k l e = by_peers class frame function rows others o1 o2 p q h perm v1.once v2.once k l e
+by_row class frame function rows others o1 o2 p q (inr (inl h)) perm v1 v2 k l e = by_unique class frame function rows others o1 o2 p q h perm v1 v2 k l e
+by_row class frame function rows others o1 o2 p q (inr (inr h)) perm v1 v2 k l e = by_values class frame function h.0 rows others o1 o2 p q h.1 h.2 perm v1 v2 k l e

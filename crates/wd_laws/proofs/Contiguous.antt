@@ -12,11 +12,11 @@ use Rattle.wd_plan.proofs.Sorted.{Rising}
 use Rattle.wd_plan.proofs.SortedGroups.{tied_group}
 use Rattle.wd_laws.proofs.Stretches.{stretch_passes}
 use Rattle.wd_plan.specs.Frames.{Distances, bound_asks, ends_at, in_frame, is_kept, key_distance, range_asks, starts_at, value_distance}
-use Rattle.wd_plan.specs.Keys.{compare_keys}
+use Rattle.wd_value.specs.Keys.{compare_keys}
 use Rattle.wd_laws.specs.Laws.{FramesAreContiguous, IsContiguous, frame_takes}
 use Rattle.wd_plan.specs.Partitions.{group_of, partition_of}
 use Rattle.wd_plan.specs.Plans.{ClassRule}
-use Rattle.wd_plan.specs.declared.plan.OrderItem.{OrderItem}
+use Rattle.wd_value.specs.declared.order.SortColumn.{SortColumn}
 use Rattle.wd_plan.specs.declared.window.Bound.{Bound}
 use Rattle.wd_plan.specs.declared.window.Bound.TheVariants.{CurrentRow, Following, Preceding, UnboundedFollowing, UnboundedPreceding}
 use Rattle.wd_plan.specs.declared.window.Exclusion.TheVariants.{NoOthers}
@@ -136,17 +136,17 @@ then_nothing Less = refl
 then_nothing Equal = refl
 then_nothing Greater = refl
 
-one_key : (item : OrderItem) (a b : Row) → compare_keys (item ∷ []) a b ≡ compare item.key (column_of a item.column) (column_of b item.column)
+one_key : (item : SortColumn) (a b : Row) → compare_keys (item ∷ []) a b ≡ compare item.key (column_of a item.column) (column_of b item.column)
 one_key item a b = then_nothing (compare item.key (column_of a item.column) (column_of b item.column))
 
-keys_start : (bound : Bound) (items : List OrderItem) (r x y : Row) (gr gx gy : ℕ) → is_gt (compare_keys items x y) ≡ false → gx ≤ gy → (is_gt (compare_keys items r y) ≡ false → gr ≤ gy) → (compare_keys items x r ≡ Less → gx < gr)
+keys_start : (bound : Bound) (items : List SortColumn) (r x y : Row) (gr gx gy : ℕ) → is_gt (compare_keys items x y) ≡ false → gx ≤ gy → (is_gt (compare_keys items r y) ≡ false → gr ≤ gy) → (compare_keys items x r ≡ Less → gx < gr)
     → range_asks starts_at bound (key_distance items r x) (pos gx -ℤ pos gr) ≡ true → range_asks starts_at bound (key_distance items r y) (pos gy -ℤ pos gr) ≡ true
 keys_start bound [] r x y gr gx gy h l after before t = no_keys starts_at Up starts_up bound _ _ (nearer gr gx gy l) t
 keys_start bound (item ∷ []) r x y gr gx gy h l after before t =
     range_starts bound item.key (column_of r item.column) (column_of x item.column) (column_of y item.column) gr gx gy (ap is_gt (sym (one_key item x y)) ∙ h) l (λ k. after (ap is_gt (one_key item r y) ∙ k)) (λ k. before (one_key item x r ∙ k)) t
 keys_start bound (item ∷ other ∷ items) r x y gr gx gy h l after before t = no_keys starts_at Up starts_up bound _ _ (nearer gr gx gy l) t
 
-keys_end : (bound : Bound) (items : List OrderItem) (r x y : Row) (gr gx gy : ℕ) → is_gt (compare_keys items x y) ≡ false → gx ≤ gy → (is_gt (compare_keys items x r) ≡ false → gx ≤ gr) → (compare_keys items r y ≡ Less → gr < gy)
+keys_end : (bound : Bound) (items : List SortColumn) (r x y : Row) (gr gx gy : ℕ) → is_gt (compare_keys items x y) ≡ false → gx ≤ gy → (is_gt (compare_keys items x r) ≡ false → gx ≤ gr) → (compare_keys items r y ≡ Less → gr < gy)
     → range_asks ends_at bound (key_distance items r y) (pos gy -ℤ pos gr) ≡ true → range_asks ends_at bound (key_distance items r x) (pos gx -ℤ pos gr) ≡ true
 keys_end bound [] r x y gr gx gy h l before after t = no_keys ends_at Down ends_down bound _ _ (nearer gr gx gy l) t
 keys_end bound (item ∷ []) r x y gr gx gy h l before after t =

@@ -4,9 +4,9 @@ pub mod Grouped
 pub mod Parts
 pub mod Frames
 pub mod Peers
+pub mod Exchange
 pub mod Calls
 pub mod Outcomes
-pub mod Exchange
 pub mod WindowLaw
 pub mod LimitLaw
 pub mod PlanLaw

@@ -8,17 +8,17 @@ use Rattle.std.proofs.lemmas.List.Elements.{All-from_recursion}
 use Rattle.std.proofs.lemmas.Bool.{cases_lt}
 use Rattle.std.proofs.lemmas.Cmp.{tied_itself, alike_right, upto}
 use Rattle.wd_laws.proofs.Exchange.{gives_all_looks}
-use Rattle.wd_plan.proofs.KeyLaws.{compare_keys-ties, compare_keys_total}
+use Rattle.wd_value.proofs.KeyLaws.{compare_keys-ties, compare_keys_total}
 use Rattle.wd_plan.proofs.Parts.{NotAfter, ordered, part, rising_part}
 use Rattle.wd_laws.proofs.Parts.{Perm-ordered, same_parts, same_rows_at_places}
 use Rattle.wd_plan.proofs.Sorted.{Rising}
 use Rattle.wd_plan.specs.Facts.{DeterminesAll, HasWidth}
 use Rattle.wd_plan.specs.Settled.{IsSettledLimit}
-use Rattle.wd_plan.specs.Keys.{compare_keys}
+use Rattle.wd_value.specs.Keys.{compare_keys}
 use Rattle.wd_plan.specs.Outcomes.{cut, first_rows, peers}
 use Rattle.wd_plan.specs.Plans.{LimitRule}
 use Rattle.wd_plan.specs.Sorting.{IsInOrder, IsOrdering, limit_class, order_columns}
-use Rattle.wd_plan.specs.declared.plan.OrderItem.{OrderItem}
+use Rattle.wd_value.specs.declared.order.SortColumn.{SortColumn}
 use Rattle.wd_value.proofs.Perms.{Perm, Perm-filter, Perm-length, Perm-same, Perm-sym, both}
 use Rattle.wd_value.proofs.SameLaws.{same_row-Decides}
 use Rattle.wd_value.specs.Rows.{Row, columns_of, row_at, same_row}
@@ -36,7 +36,7 @@ rising_limit limit ws h = subst (Rising (NotAfter (limit_class limit))) (one_par
 
 -- ---- with ties: the rows that stand no later than the last one taken
 
-module _ (order : List OrderItem) where
+module _ (order : List SortColumn) where
   abbrev Upto : Row → Row → Bool
   Upto last r = not (is_gt (compare_keys order r last))
 

@@ -4,7 +4,7 @@ use Rattle.std.specs.List.{AllByRecursion, range_with_len}
 use Rattle.std.specs.Ordering.{ordering_reverse}
 use Rattle.std.proofs.lemmas.List.{map-append, map-id}
 use Rattle.std.proofs.lemmas.Cmp.{alike_right}
-use Rattle.wd_plan.proofs.KeyLaws.{compare_keys-exact, compare_keys-ties, compare_keys_total}
+use Rattle.wd_value.proofs.KeyLaws.{compare_keys-exact, compare_keys-ties, compare_keys_total}
 use Rattle.wd_laws.proofs.Sorted.{same_sorted}
 use Rattle.wd_plan.specs.Plans.{ClassRule}
 use Rattle.wd_plan.specs.Sorting.{IsInOrder, class_columns, order_columns, same_partition}

@@ -1,20 +1,30 @@
 -- The calls by peer groups: their values are a matter of the row and of the rows of its partition, in any order.
-use Rattle.std.proofs.Common.{◌≡◌, ℕ, ◌+◌, ◌<◌, ℤ, pos, ◌+ℤ◌, Bool, true, false, cond, not, List, ◌∷◌, map, length, count_by, refl, ◌∙◌, ap, arith, Ordering, Less, Equal, Greater, is_gt, nat_lt, Ok, Err}
+use Rattle.std.proofs.Common.{◌≡◌, ℕ, ◌+◌, ◌<◌, ℤ, pos, ◌+ℤ◌, Bool, true, false, cond, not, List, ◌∷◌, length, count_by, refl, sym, ◌∙◌, ap, arith, Ordering, Less, Equal, Greater, is_gt, nat_lt, Ok, Err}
 use Rattle.std.specs.Cmp.{IsTotalOrder}
 use Rattle.std.specs.Ordering.{ordering_reverse}
+use Rattle.std.proofs.lemmas.Bool.{false≢true}
 use Rattle.std.proofs.lemmas.Cmp.{upto}
 use Rattle.std.proofs.lemmas.Int.{ints}
 use Rattle.std.proofs.lemmas.Map.Lookups.{CmpEqualImpliesEq}
 use Rattle.wd_laws.proofs.Frames.{Perm-frame_rows, Perm-group}
-use Rattle.wd_plan.specs.Calls.{call_value, first_by, sum_of, total}
+use Rattle.wd_plan.specs.Calls.{aggregate_value, call_value, column_values, first_by, ranking_value, sum_of, total}
 use Rattle.wd_plan.specs.Expressions.{fits_64, is_null}
-use Rattle.wd_plan.specs.Frames.{frame_of, is_stable}
-use Rattle.wd_plan.specs.Settled.{is_by_peers}
+use Rattle.wd_plan.specs.Frames.{is_stable}
+use Rattle.wd_plan.specs.Functions.{name_of_direction, signature}
+use Rattle.wd_plan.specs.Settled.{goes_by_peers, is_by_peers}
 use Rattle.wd_plan.specs.Partitions.{group_of}
 use Rattle.wd_plan.specs.Plans.{ClassRule}
+use Rattle.wd_plan.specs.declared.function.Aggregate.{Aggregate as AggregateFunction}
+use Rattle.wd_plan.specs.declared.function.Aggregate.TheVariants.{Count, CountRows, Max, Min, Sum}
+use Rattle.wd_plan.specs.declared.function.Direction.{Direction}
+use Rattle.wd_plan.specs.declared.function.Direction.TheVariants.{Lag, Lead}
+use Rattle.wd_plan.specs.declared.function.FrameFunction.TheVariants.{Aggregate, ValueAt}
+use Rattle.wd_plan.specs.declared.function.FrameRow.TheVariants.{First, Last, Nth}
+use Rattle.wd_plan.specs.declared.function.Function.{Function}
+use Rattle.wd_plan.specs.declared.function.Function.TheVariants.{Ranking as Ranked, Shift as Shifted, OfFrame}
+use Rattle.wd_plan.specs.declared.function.Ranking.{Ranking}
+use Rattle.wd_plan.specs.declared.function.Ranking.TheVariants.{DenseRank, Ntile, Rank, RowNumber}
 use Rattle.wd_plan.specs.declared.window.Frame.{Frame}
-use Rattle.wd_plan.specs.declared.window.Function.{Function}
-use Rattle.wd_plan.specs.declared.window.Function.TheVariants.{Count, CountRows, DenseRank, FirstValue, Lag, LastValue, Lead, Max, Min, NthValue, Ntile, Rank, RowNumber, Sum}
 use Rattle.wd_value.proofs.OrderLaws.{compare-exact, compare_total}
 use Rattle.wd_value.proofs.Perms.{Perm, Perm-count_by, Perm-keeps, Perm-length, Perm-list_any, Perm-map}
 use Rattle.wd_value.specs.Order.{compare}
@@ -88,26 +98,46 @@ module _ {X : Type 0} (R : X → X → Ordering) (o : IsTotalOrder R) (exact : C
 pub Perm-first_by : (key : SortKey) {vs ws : List Value} → Perm Value vs ws → first_by key vs ≡ first_by key ws
 Perm-first_by key p = Perm-keeps (first_by key) (λ v w. cond (is_gt (compare key v w)) w v) (λ v vs. refl) (first_of-swaps (compare key) (compare_total key) (compare-exact key)) p
 
+-- ---- aggregates
+
+Perm-column : (c : ℕ) {rows others : List Row} → Perm Row rows others → Perm Value (column_values c rows) (column_values c others)
+Perm-column c p = Perm-map (λ r. column_of r c) p
+
+Perm-aggregate : (aggregate : AggregateFunction) {rows others : List Row} → Perm Row rows others → aggregate_value aggregate rows ≡ aggregate_value aggregate others
+Perm-aggregate CountRows p = ap (λ n. Ok (Int (pos n))) (Perm-length p)
+Perm-aggregate (Count c) p = ap (λ n. Ok (Int (pos n))) (Perm-count_by (λ r. not (is_null (column_of r c))) p)
+Perm-aggregate (Sum c) p = Perm-sum_of (Perm-column c p)
+Perm-aggregate (Min c) p = ap (λ v. Ok v) (Perm-first_by (record { desc = false; nulls_first = false }) (Perm-column c p))
+Perm-aggregate (Max c) p = ap (λ v. Ok v) (Perm-first_by (record { desc = true; nulls_first = false }) (Perm-column c p))
+
 -- ---- the calls
 
-taken : (class : ClassRule) (frame : Frame) (c : ℕ) (part other : List Row) (i j : ℕ) → is_stable frame ≡ true → Perm Row part other → i < length part → j < length other → row_at part i ≡ row_at other j → Perm Value (map (λ r. column_of r c) (frame_of class frame part i)) (map (λ r. column_of r c) (frame_of class frame other j))
-taken class frame c part other i j h p k l e = Perm-map (λ r. column_of r c) (Perm-frame_rows class frame part other i j h p k l e)
+-- LAG and LEAD never go by peers
+shifts_never : (frame : Frame) (direction : Direction) → goes_by_peers (signature (name_of_direction direction)).by_peers frame ≡ false
+shifts_never frame Lag = refl
+shifts_never frame Lead = refl
 
-pub peers_value : (class : ClassRule) (frame : Frame) (function : Function) (part other : List Row) (i j : ℕ) → is_by_peers frame function ≡ true → Perm Row part other → i < length part → j < length other → row_at part i ≡ row_at other j → call_value class frame function part i ≡ call_value class frame function other j
-peers_value class frame RowNumber part other i j h p k l e = cc
-peers_value class frame Rank part other i j h p k l e =
+-- an aggregate goes by peers over a stable frame
+aggregates_stable : (frame : Frame) (aggregate : AggregateFunction) → is_by_peers frame (OfFrame (Aggregate aggregate)) ≡ is_stable frame
+aggregates_stable frame CountRows = refl
+aggregates_stable frame (Count c) = refl
+aggregates_stable frame (Sum c) = refl
+aggregates_stable frame (Min c) = refl
+aggregates_stable frame (Max c) = refl
+
+ranks : (class : ClassRule) (frame : Frame) (ranking : Ranking) (part other : List Row) (i j : ℕ) → is_by_peers frame (Ranked ranking) ≡ true → Perm Row part other → row_at part i ≡ row_at other j → ranking_value class ranking part i ≡ ranking_value class ranking other j
+ranks class frame RowNumber part other i j h p e = absurd (false≢true h)
+ranks class frame Rank part other i j h p e =
     let g = Perm-group class p in
     let swapped = Perm-count_by (λ q. nat_lt (group_of class part q) (group_of class part (row_at part i))) p in
-    ap (λ n. Ok (Int (pos (1 + n)))) (swapped ∙ (λ m. count_by (λ q. nat_lt (g m q) (g m (e m))) other))
-peers_value class frame DenseRank part other i j h p k l e = λ m. Ok (Int (pos (Perm-group class p m (e m) + 1)))
-peers_value class frame (Ntile n) part other i j h p k l e = cc
-peers_value class frame (Lag c n d) part other i j h p k l e = cc
-peers_value class frame (Lead c n d) part other i j h p k l e = cc
-peers_value class frame (FirstValue c) part other i j h p k l e = cc
-peers_value class frame (LastValue c) part other i j h p k l e = cc
-peers_value class frame (NthValue c n) part other i j h p k l e = cc
-peers_value class frame CountRows part other i j h p k l e = ap (λ n. Ok (Int (pos n))) (Perm-length (Perm-frame_rows class frame part other i j h p k l e))
-peers_value class frame (Count c) part other i j h p k l e = ap (λ n. Ok (Int (pos n))) (Perm-count_by (λ r. not (is_null (column_of r c))) (Perm-frame_rows class frame part other i j h p k l e))
-peers_value class frame (Sum c) part other i j h p k l e = Perm-sum_of (taken class frame c part other i j h p k l e)
-peers_value class frame (Min c) part other i j h p k l e = ap (λ v. Ok v) (Perm-first_by (record { desc = false; nulls_first = false }) (taken class frame c part other i j h p k l e))
-peers_value class frame (Max c) part other i j h p k l e = ap (λ v. Ok v) (Perm-first_by (record { desc = true; nulls_first = false }) (taken class frame c part other i j h p k l e))
+    ap (λ n. 1 + n) (swapped ∙ (λ m. count_by (λ q. nat_lt (g m q) (g m (e m))) other))
+ranks class frame DenseRank part other i j h p e = λ m. Perm-group class p m (e m) + 1
+ranks class frame (Ntile n) part other i j h p e = absurd (false≢true h)
+
+pub peers_value : (class : ClassRule) (frame : Frame) (function : Function) (part other : List Row) (i j : ℕ) → is_by_peers frame function ≡ true → Perm Row part other → i < length part → j < length other → row_at part i ≡ row_at other j → call_value class frame function part i ≡ call_value class frame function other j
+peers_value class frame (Ranked ranking) part other i j h p k l e = ap (λ n. Ok (Int (pos n))) (ranks class frame ranking part other i j h p e)
+peers_value class frame (Shifted shift) part other i j h p k l e = absurd (false≢true (sym (shifts_never frame shift.direction) ∙ h))
+peers_value class frame (OfFrame (ValueAt First c)) part other i j h p k l e = absurd (false≢true h)
+peers_value class frame (OfFrame (ValueAt Last c)) part other i j h p k l e = absurd (false≢true h)
+peers_value class frame (OfFrame (ValueAt (Nth n) c)) part other i j h p k l e = absurd (false≢true h)
+peers_value class frame (OfFrame (Aggregate aggregate)) part other i j h p k l e = Perm-aggregate aggregate (Perm-frame_rows class frame part other i j (sym (aggregates_stable frame aggregate) ∙ h) p k l e)

@@ -1,11 +1,11 @@
 -- A rearranged input with the orderings renamed gives the rearranged outcome.
-use Rattle.std.proofs.Common.{◌≡◌, ℕ, zero, suc, ◌<◌, Bool, true, false, cond, List, [], ◌∷◌, ◌++◌, map, length, filter, refl, sym, ◌∙◌, ap, subst, arith, nat_eq, eqb, Result, Ok}
+use Rattle.std.proofs.Common.{◌≡◌, ℕ, zero, suc, ◌<◌, Bool, true, false, List, [], ◌∷◌, ◌++◌, map, length, filter, refl, sym, ◌∙◌, ap, subst, arith, nat_eq, eqb, Result, Ok}
 use Rattle.std.specs.List.{AllByRecursion}
 use Rattle.std.proofs.lemmas.Bool.{eqb-true, eqb-false, eq-eqb, ne_eqb}
 use Rattle.std.proofs.lemmas.List.{length-map, get_or-map, get_or_past}
 use Rattle.std.proofs.lemmas.Bool.Decides.{Decides-eqb}
 use Rattle.wd_plan.proofs.Places.{place-get_or, times-range-le}
-use Rattle.wd_plan.proofs.Parts.{Perm-ordering, map_filter}
+use Rattle.wd_plan.proofs.Parts.{Perm-ordering, all_filter, map_filter}
 use Rattle.wd_laws.proofs.Parts.{below_all, map_positions}
 use Rattle.wd_plan.specs.Calls.{call_value, value_at}
 use Rattle.wd_plan.specs.Choices.{AreOrderings}
@@ -15,9 +15,9 @@ use Rattle.wd_plan.specs.Outcomes.{call_at, class_at, extended, ordering_at, win
 use Rattle.wd_plan.specs.Partitions.{members, partition_of, place_in}
 use Rattle.wd_plan.specs.Plans.{ClassRule, WindowRule}
 use Rattle.wd_plan.specs.Sorting.{IsInOrder, IsOrdering, same_partition}
+use Rattle.wd_plan.specs.declared.function.Function.{Function}
 use Rattle.wd_plan.specs.declared.window.Call.{Call}
 use Rattle.wd_plan.specs.declared.window.Frame.{Frame}
-use Rattle.wd_plan.specs.declared.window.Function.{Function}
 use Rattle.wd_value.proofs.Perms.{Perm, Perm-all, Perm-map, SameBag-from_Perm}
 use Rattle.wd_value.specs.Bags.{EachOnce, positions}
 use Rattle.wd_value.specs.Rows.{Row, row_at}
@@ -39,18 +39,6 @@ place_map_step f x q qs false e inj h = rw (e, ne_eqb (f q) (f x) (λ s. eqb-fal
 place_map : (f : ℕ → ℕ) (x : ℕ) (qs : List ℕ) → AllByRecursion (λ q. f q ≡ f x → q ≡ x) qs → place_in (map f qs) (f x) ≡ place_in qs x
 place_map f x [] a = refl
 place_map f x (q ∷ qs) a = place_map_step f x q qs (nat_eq q x) refl a.0 (place_map f x qs a.1)
-
-all_filtered : {X : Type 0} (P : X → Type 0) (t : X → Bool) (xs : List X) → AllByRecursion P xs → AllByRecursion P (filter t xs)
-all_filtered P t [] a = tt
-all_filtered P t (x ∷ xs) a = by (t x) (all_filtered P t xs a.1)
-  where
-    by : (b : Bool) → AllByRecursion P (filter t xs) → AllByRecursion P (cond b (x ∷ filter t xs) (filter t xs))
-    by true h = (a.0, h)
-    by false h = h
-
-all_are : {X : Type 0} (P Q : X → Type 0) → ((x : X) → P x → Q x) → (xs : List X) → AllByRecursion P xs → AllByRecursion Q xs
-all_are P Q f [] a = tt
-all_are P Q f (x ∷ xs) a = (f x a.0, all_are P Q f xs a.1)
 
 module _ (rows : List Row) (ps : List ℕ) (once : EachOnce (length rows) ps) where
   -- the rows in the other order
@@ -90,7 +78,7 @@ module _ (rows : List Row) (ps : List ℕ) (once : EachOnce (length rows) ps) wh
       let ms = members class others ordering i in
       let places : place_in (members class rows (map f ordering) (f i)) (f i) ≡ place_in ms i =
       ap (λ l. place_in l (f i)) (renamed_members class ordering i)
-      ∙ place_map f i ms (all_are (λ q. q < length ps) (λ q. f q ≡ f i → q ≡ i) (λ q l e. apart q i l k e) ms (all_filtered (λ q. q < length ps) (λ q. same_partition class (row_at others i) (row_at others q)) ordering below)) in
+      ∙ place_map f i ms (all_filter (λ q. same_partition class (row_at others i) (row_at others q)) (λ q. q < length ps) (λ q. f q ≡ f i → q ≡ i) (λ q l t e. apart q i l k e) ordering below) in
       λ j. call_value class frame function (renamed_rows class ordering i j) (places j)
 
   get_or_map_nil : (os : List (List ℕ)) (n : ℕ) → ordering_at (map (map f) os) n ≡ map f (ordering_at os n)

@@ -4,7 +4,8 @@ use Rattle.std.proofs.lemmas.List.FromFn.{get_or-range_with_len, length-range_wi
 use Rattle.wd_value.specs.Bags.{positions, EachOnce}
 use Rattle.wd_value.specs.Rows.{Row, row_at}
 use Rattle.wd_value.specs.declared.value.Value.TheVariants.{Int}
-use Rattle.wd_plan.specs.declared.window.Function.TheVariants.{RowNumber}
+use Rattle.wd_plan.specs.declared.function.Function.TheVariants.{Ranking as Ranked}
+use Rattle.wd_plan.specs.declared.function.Ranking.TheVariants.{RowNumber}
 use Rattle.wd_plan.specs.Calls.{value_at}
 use Rattle.wd_laws.specs.Laws.{RowNumbersCount}
 use Rattle.wd_plan.specs.Partitions.{members, place_in}
@@ -25,5 +26,5 @@ own_place class rows ordering p i once within =
 pub row_numbers_count : RowNumbersCount
 row_numbers_count class frame rows ordering p lawful =
     let part = members class rows ordering p in
-    same_shows (value_at class frame RowNumber rows ordering) (λ i. Ok (Int (pos (i + 1)))) part (positions (length part)) 0 0 (sym (length-range_with_len 0 (length part)))
+    same_shows (value_at class frame (Ranked RowNumber) rows ordering) (λ i. Ok (Int (pos (i + 1)))) part (positions (length part)) 0 0 (sym (length-range_with_len 0 (length part)))
     (λ i within. ap (λ k. Ok (Int (pos (k + 1)))) (own_place class rows ordering p i lawful.once within ∙ sym (get_or-range_with_len 0 (length part) i 0 within ∙ omega arith)))

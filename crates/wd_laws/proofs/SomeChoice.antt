@@ -9,13 +9,13 @@ use Rattle.wd_value.specs.Bags.{positions}
 use Rattle.wd_value.specs.Rows.{Row, row_at, rows_at}
 use Rattle.wd_value.proofs.Perms.{Perm, done, keep, flip, both, Perm-refl, Perm-all, SameBag-from_Perm}
 use Rattle.wd_plan.specs.Choices.{AtRows, AreOrderings, AreLawful}
-use Rattle.wd_plan.specs.Keys.{compare_keys}
+use Rattle.wd_value.specs.Keys.{compare_keys}
 use Rattle.wd_laws.specs.Laws.{HasValidChoice}
 use Rattle.wd_plan.specs.Outcomes.{RowsOrFault, outcome, class_at, ordering_at}
 use Rattle.wd_plan.specs.Plans.{ClassRule, WindowRule, LimitRule, Scan, Join, Filter, Map, Window, Distinct, Limit, ordering_count}
 use Rattle.wd_plan.specs.Sorting.{IsInOrder, IsOrdering, same_partition, limit_class}
 use Rattle.wd_plan.proofs.ChoiceLaws.{AreLawful-append, outcome-append}
-use Rattle.wd_plan.proofs.KeyLaws.{compare_keys_total}
+use Rattle.wd_value.proofs.KeyLaws.{compare_keys_total}
 use Rattle.wd_plan.proofs.Parts.{NotAfter}
 use Rattle.wd_plan.proofs.Sorted.{Rising}
 

@@ -1,18 +1,12 @@
 -- The laws as they are stated, by counts of rows.
-use Rattle.std.proofs.Common.{◌≡◌, ℕ, ◌<◌, List, length, ap, inl, inr}
-use Rattle.wd_laws.proofs.Calls.{by_peers, by_unique, by_values, same_partition_rows}
+use Rattle.std.proofs.Common.{◌≡◌, ℕ, List, ap}
+use Rattle.wd_laws.proofs.Calls.{by_row, same_partition_rows}
 use Rattle.wd_laws.proofs.Exchange.{gives_all_looks}
 use Rattle.wd_laws.proofs.LimitLaw.{Perm-cut}
 use Rattle.wd_laws.proofs.Outcomes.{Agree-from_Alike}
 use Rattle.wd_laws.proofs.PlanLaw.{one_outcome}
 use Rattle.wd_laws.proofs.WindowLaw.{Alike-window}
-use Rattle.wd_plan.specs.Calls.{value_at}
-use Rattle.wd_plan.specs.Settled.{IsByRow}
 use Rattle.wd_laws.specs.Laws.{LimitHasOne, PlanHasOne, SameRowsAtPlaces, ValuesGoByRows, WindowHasOne}
-use Rattle.wd_plan.specs.Plans.{ClassRule}
-use Rattle.wd_plan.specs.Sorting.{IsOrdering}
-use Rattle.wd_plan.specs.declared.window.Frame.{Frame}
-use Rattle.wd_plan.specs.declared.window.Function.{Function}
 use Rattle.wd_value.proofs.Perms.{Perm, Perm-from_SameBag, Perm-refl, SameBag-from_Perm}
 use Rattle.wd_value.proofs.SameLaws.{same_row-Decides}
 use Rattle.wd_value.specs.Bags.{SameBag}
@@ -20,11 +14,6 @@ use Rattle.wd_value.specs.Rows.{Row, row_at, same_row}
 
 rearranged : (rows others : List Row) → SameBag same_row rows others → Perm Row rows others
 rearranged = Perm-from_SameBag same_row same_row-Decides
-
-by_row : (class : ClassRule) (frame : Frame) (function : Function) (rows others : List Row) (o1 o2 : List ℕ) (p q : ℕ) → IsByRow class frame function rows → Perm Row rows others → IsOrdering class rows o1 → IsOrdering class others o2 → p < length rows → q < length others → row_at rows p ≡ row_at others q → value_at class frame function rows o1 p ≡ value_at class frame function others o2 q
-by_row class frame function rows others o1 o2 p q (inl h) perm v1 v2 k l e = by_peers class frame function rows others o1 o2 p q h perm v1.once v2.once k l e
-by_row class frame function rows others o1 o2 p q (inr (inl h)) perm v1 v2 k l e = by_unique class frame function rows others o1 o2 p q h perm v1 v2 k l e
-by_row class frame function rows others o1 o2 p q (inr (inr h)) perm v1 v2 k l e = by_values class frame function h.0 rows others o1 o2 p q h.1 h.2 perm v1 v2 k l e
 
 pub values_go_by_rows : ValuesGoByRows
 values_go_by_rows class frame function rows others o1 o2 p q h same v1 v2 k l e = by_row class frame function rows others o1 o2 p q h (rearranged rows others same) v1 v2 k l e

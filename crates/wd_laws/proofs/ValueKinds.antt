@@ -16,14 +16,24 @@ use Rattle.wd_plan.specs.declared.expression.ArithmeticOp.TheVariants.{Add, Subt
 use Rattle.wd_plan.specs.declared.expression.ComparisonOp.{ComparisonOp}
 use Rattle.wd_plan.specs.declared.expression.ValueKind.{ValueKind}
 use Rattle.wd_plan.specs.declared.expression.ValueKind.TheVariants.{Number, Text, Truth}
+use Rattle.wd_plan.specs.declared.function.Aggregate.{Aggregate as AggregateFunction}
+use Rattle.wd_plan.specs.declared.function.Aggregate.TheVariants.{Count, CountRows, Max, Min, Sum}
+use Rattle.wd_plan.specs.declared.function.Direction.{Direction}
+use Rattle.wd_plan.specs.declared.function.Direction.TheVariants.{Lag, Lead}
+use Rattle.wd_plan.specs.declared.function.FrameFunction.{FrameFunction}
+use Rattle.wd_plan.specs.declared.function.FrameFunction.TheVariants.{Aggregate, ValueAt}
+use Rattle.wd_plan.specs.declared.function.FrameRow.TheVariants.{First, Last, Nth}
+use Rattle.wd_plan.specs.declared.function.Function.{Function}
+use Rattle.wd_plan.specs.declared.function.Function.TheVariants.{OfFrame, Ranking as Ranked, Shift as Shifted}
+use Rattle.wd_plan.specs.declared.function.Ranking.{Ranking}
+use Rattle.wd_plan.specs.declared.function.Ranking.TheVariants.{DenseRank, Ntile, Rank, RowNumber}
 use Rattle.wd_plan.specs.declared.window.Frame.{Frame}
-use Rattle.wd_plan.specs.declared.window.Function.{Function}
-use Rattle.wd_plan.specs.declared.window.Function.TheVariants.{Count, CountRows, DenseRank, FirstValue, Lag, LastValue, Lead, Max, Min, NthValue, Ntile, Rank, RowNumber, Sum}
-use Rattle.wd_plan.specs.Calls.{call_value, first_by, frame_values, sum_of, total}
+use Rattle.wd_plan.specs.Calls.{aggregate_value, call_value, column_values, first_by, frame_value, ranking_value, sum_of, total, value_away}
 use Rattle.wd_plan.specs.Expressions.{Expression, Column, Literal, Negate, Arithmetic, Compare, Not, And, Or, IsNull, IsNotNull, Case, and_result, and_value, arithmetic, arithmetic_value, comparison, fits_64, in_64, is_true, negated, not_value, or_result, or_value, unless_zero, value_of}
 use Rattle.wd_plan.specs.Faults.{and_then}
-use Rattle.wd_plan.specs.Fits.{Kinds, are_alike, is_default, is_kind, is_of_kind, is_typed, kind_from, kind_of, same_kind, source_of_call, takes}
+use Rattle.wd_plan.specs.Fits.{Kinds, are_alike, has_argument, has_literals, is_default, is_kind, is_of_kind, is_typed, kind_of, kind_of_function, result_kind, same_kind, takes}
 use Rattle.wd_plan.specs.Frames.{frame_of, in_frame}
+use Rattle.wd_plan.specs.Functions.{argument_of, name_of, name_of_direction, signature}
 use Rattle.wd_plan.specs.Partitions.{group_of}
 use Rattle.wd_plan.specs.Plans.{ClassRule}
 use Rattle.wd_laws.specs.Laws.{IsOfKinds}
@@ -267,30 +277,46 @@ sum_is vs = by _ (fits_64 (total vs))
     by true false = tt
     by false b = refl
 
-module _ (kinds : Kinds) (class : ClassRule) (frame : Frame) (partition : List Row) (i : ℕ) (are : AllByRecursion (IsOfKinds kinds) partition) where
+-- over rows of these kinds: the values of their columns, and those of functions of a frame
+module _ (kinds : Kinds) (rows : List Row) (are : AllByRecursion (IsOfKinds kinds) rows) where
+  values_are : (c : ℕ) (kind : ValueKind) → kinds c ≡ Some kind → AllByRecursion (IsOf kind) (column_values c rows)
+  values_are c kind e = all_map (IsOfKinds kinds) (IsOf kind) (λ r. column_of r c) (λ r is. is c kind e) rows are
+
+  aggregate_is : (a : AggregateFunction) (kind : ValueKind) → kind_of_function kinds (OfFrame (Aggregate a)) ≡ Some kind → Each (IsOf kind) (aggregate_value a rows)
+  aggregate_is CountRows kind e = as_kind Number kind (aggregate_value CountRows rows) e refl
+  aggregate_is (Count c) kind e = as_kind Number kind (aggregate_value (Count c) rows) e refl
+  aggregate_is (Sum c) kind e = as_kind Number kind (aggregate_value (Sum c) rows) e (sum_is (column_values c rows))
+  aggregate_is (Min c) kind e = first_by_is (IsOf kind) (record { desc = false; nulls_first = false }) (column_values c rows) (null_is_of kind) (values_are c kind e)
+  aggregate_is (Max c) kind e = first_by_is (IsOf kind) (record { desc = true; nulls_first = false }) (column_values c rows) (null_is_of kind) (values_are c kind e)
+
+  frame_value_is : (f : FrameFunction) (kind : ValueKind) → kind_of_function kinds (OfFrame f) ≡ Some kind → Each (IsOf kind) (frame_value f rows)
+  frame_value_is (ValueAt First c) kind e = at_any (IsOf kind) (column_values c rows) 0 Null (values_are c kind e) (null_is_of kind)
+  frame_value_is (ValueAt Last c) kind e = at_any_reversed (IsOf kind) (column_values c rows) Null (values_are c kind e) (null_is_of kind)
+  frame_value_is (ValueAt (Nth n) c) kind e = at_any (IsOf kind) (column_values c rows) (n - 1) Null (values_are c kind e) (null_is_of kind)
+  frame_value_is (Aggregate a) kind e = aggregate_is a kind e
+
+ranking_is : (kinds : Kinds) (r : Ranking) (n : ℕ) (kind : ValueKind) → kind_of_function kinds (Ranked r) ≡ Some kind → IsOf kind (Int (pos n))
+ranking_is kinds RowNumber n kind e = as_kind Number kind (Ok (Int (pos n))) e refl
+ranking_is kinds Rank n kind e = as_kind Number kind (Ok (Int (pos n))) e refl
+ranking_is kinds DenseRank n kind e = as_kind Number kind (Ok (Int (pos n))) e refl
+ranking_is kinds (Ntile b) n kind e = as_kind Number kind (Ok (Int (pos n))) e refl
+
+module _ (kinds : Kinds) (partition : List Row) (i : ℕ) (are : AllByRecursion (IsOfKinds kinds) partition) where
   member_is : (p c : ℕ) (kind : ValueKind) → kinds c ≡ Some kind → IsOf kind (column_of (row_at partition p) c)
   member_is p c kind e = at_any (IsOfKinds kinds) partition p [] are (empty_is kinds) c kind e
 
-  frame_is : (c : ℕ) (kind : ValueKind) → kinds c ≡ Some kind → AllByRecursion (IsOf kind) (frame_values class frame partition i c)
-  frame_is c kind e = all_map (IsOfKinds kinds) (IsOf kind) (λ r. column_of r c) (λ r is. is c kind e) (frame_of class frame partition i) (all_in_frame (IsOfKinds kinds) class frame partition i are)
+  member_or_default_is : (b : Bool) (p c : ℕ) (default : Value) (kind : ValueKind) → kinds c ≡ Some kind → is_default (kinds c) default ≡ true → IsOf kind (cond b (column_of (row_at partition p) c) default)
+  member_or_default_is true p c default kind e own = member_is p c kind e
+  member_or_default_is false p c default kind e own = default_is kind (kinds c) default own e
 
-  shifted_is : (b : Bool) (p c : ℕ) (default : Value) (kind : ValueKind) → kinds c ≡ Some kind → is_default (kinds c) default ≡ true → IsOf kind (cond b (column_of (row_at partition p) c) default)
-  shifted_is true p c default kind e own = member_is p c kind e
-  shifted_is false p c default kind e own = default_is kind (kinds c) default own e
+  value_away_is : (direction : Direction) (c k : ℕ) (default : Value) (kind : ValueKind) → result_kind (signature (name_of_direction direction)).result (kinds c) ≡ Some kind → is_default (kinds c) default ≡ true → IsOf kind (value_away direction c k default partition i)
+  value_away_is Lag c k default kind e own = member_or_default_is (nat_le k i) (i - k) c default kind e own
+  value_away_is Lead c k default kind e own = member_or_default_is (nat_lt (i + k) (length partition)) (i + k) c default kind e own
 
   -- a call with its arguments as they must be has a value of its kind, or a fault
-  pub call_is : (function : Function) → takes kinds function ≡ true → (kind : ValueKind) → kind_from kinds (source_of_call function) ≡ Some kind → Each (IsOf kind) (call_value class frame function partition i)
-  call_is RowNumber own kind e = as_kind Number kind (call_value class frame RowNumber partition i) e refl
-  call_is Rank own kind e = as_kind Number kind (call_value class frame Rank partition i) e refl
-  call_is DenseRank own kind e = as_kind Number kind (call_value class frame DenseRank partition i) e refl
-  call_is (Ntile n) own kind e = as_kind Number kind (call_value class frame (Ntile n) partition i) e refl
-  call_is (Lag c k default) own kind e = shifted_is (nat_le k i) (i - k) c default kind e own
-  call_is (Lead c k default) own kind e = shifted_is (nat_lt (i + k) (length partition)) (i + k) c default kind e own
-  call_is (FirstValue c) own kind e = at_any (IsOf kind) (frame_values class frame partition i c) 0 Null (frame_is c kind e) (null_is_of kind)
-  call_is (LastValue c) own kind e = at_any_reversed (IsOf kind) (frame_values class frame partition i c) Null (frame_is c kind e) (null_is_of kind)
-  call_is (NthValue c n) own kind e = at_any (IsOf kind) (frame_values class frame partition i c) (n - 1) Null (frame_is c kind e) (null_is_of kind)
-  call_is CountRows own kind e = as_kind Number kind (call_value class frame CountRows partition i) e refl
-  call_is (Count c) own kind e = as_kind Number kind (call_value class frame (Count c) partition i) e refl
-  call_is (Sum c) own kind e = as_kind Number kind (call_value class frame (Sum c) partition i) e (sum_is (frame_values class frame partition i c))
-  call_is (Min c) own kind e = first_by_is (IsOf kind) (record { desc = false; nulls_first = false }) (frame_values class frame partition i c) (null_is_of kind) (frame_is c kind e)
-  call_is (Max c) own kind e = first_by_is (IsOf kind) (record { desc = true; nulls_first = false }) (frame_values class frame partition i c) (null_is_of kind) (frame_is c kind e)
+  pub call_is : (class : ClassRule) (frame : Frame) (function : Function) → takes kinds function ≡ true → (kind : ValueKind) → kind_of_function kinds function ≡ Some kind → Each (IsOf kind) (call_value class frame function partition i)
+  call_is class frame (Ranked r) own kind e = ranking_is kinds r (ranking_value class r partition i) kind e
+  call_is class frame (Shifted s) own kind e =
+      let literals = (and_parts (has_argument kinds (signature (name_of (Shifted s))).argument (argument_of (Shifted s))) (has_literals kinds (Shifted s)) own).1 in
+      value_away_is s.direction s.argument s.offset s.default kind e literals
+  call_is class frame (OfFrame f) own kind e = frame_value_is kinds (frame_of class frame partition i) (all_in_frame (IsOfKinds kinds) class frame partition i are) f kind e

@@ -1,7 +1,7 @@
 -- The rows of a node have its width, and their values its columns' kinds.
-use Rattle.std.proofs.Common.{◌≡◌, ℕ, zero, suc, ◌+◌, ◌-◌, ◌<◌, Bool, true, false, cond, not, ◌&&◌, List, [], ◌∷◌, ◌++◌, map, length, take, take_while, drop, refl, sym, ◌∙◌, ap, subst, arith, nat_eq, nat_lt, Option, Some, None, option_and_then, option_map, slice_get, Result, Ok, Err}
+use Rattle.std.proofs.Common.{◌≡◌, ℕ, zero, suc, ◌+◌, ◌-◌, ◌<◌, Bool, true, false, cond, not, ◌&&◌, List, [], ◌∷◌, ◌++◌, map, length, take, take_while, drop, refl, sym, ◌∙◌, ap, subst, arith, nat_lt, Option, Some, None, option_and_then, option_map, slice_get, Result, Ok, Err}
 use Rattle.std.specs.List.{AllByRecursion, list_all}
-use Rattle.std.proofs.lemmas.Bool.{and_parts, eqb-true, false≢true, ltb-false, ltb-true}
+use Rattle.std.proofs.lemmas.Bool.{and_parts, false≢true, ltb-false, ltb-true}
 use Rattle.std.proofs.lemmas.List.{get_or-append_right, get_or_append_left, length-append}
 use Rattle.std.proofs.lemmas.List.Sums.{take_while-cons}
 use Rattle.std.proofs.lemmas.Option.{get_or_from_slice_get, slice_get_within}
@@ -17,18 +17,18 @@ use Rattle.wd_schema.specs.declared.table.Column.{Column as TableColumn}
 use Rattle.wd_schema.specs.Meets.{Meets, MeetsTable, fits_columns, is_null as is_null_there, is_of_type, may_hold}
 use Rattle.wd_schema.specs.Tables.{TableRule}
 use Rattle.wd_plan.specs.declared.expression.ValueKind.{ValueKind}
-use Rattle.wd_plan.specs.declared.fits.KindSource.{KindSource}
-use Rattle.wd_plan.specs.declared.plan.OrderItem.{OrderItem}
+use Rattle.wd_value.specs.declared.order.SortColumn.{SortColumn}
 use Rattle.wd_plan.specs.declared.window.Call.{Call}
 use Rattle.wd_plan.specs.Choices.{AreLawful, AtRows}
 use Rattle.wd_plan.specs.Expressions.{Expression, value_of}
 use Rattle.wd_plan.specs.Faults.{all_ok, and_then, least_fault, unless, values_among}
-use Rattle.wd_plan.specs.Fits.{Kinds, are_bounds, are_outputs, fits, has_class, has_keys_for, has_table, is_call, is_condition, is_join, is_limit, is_narrow, is_of_kind, is_typed, is_window, kind_from, kind_of_type, kinds_of, source_of, source_of_call_at, table_kind, takes, width}
+use Rattle.wd_plan.specs.Fits.{Kinds, are_bounds, are_outputs, fits, has_class, has_keys_for, has_table, is_call, is_condition, is_join, is_limit, is_narrow, is_of_kind, is_typed, is_window, kind_of, kind_of_call, kind_of_type, kinds_of, table_kind, takes, width}
 use Rattle.wd_plan.specs.Outcomes.{RowsOrFault, call_at, class_at, cut, distinct, extended, filter_outcome, first_rows, join_outcome, map_outcome, ordering_at, outcome, pairs, passes, peers, window_outcome}
 use Rattle.wd_plan.specs.Partitions.{members, partition_of, place_in}
 use Rattle.wd_plan.specs.Plans.{ClassRule, LimitRule, PlanTree, Scan, Join, Filter, Map, Window, Distinct, Limit, WindowRule, ordering_count}
 use Rattle.wd_plan.specs.Sorting.{IsOrdering, limit_class}
 use Rattle.wd_plan.proofs.Parts.{all_filter}
+use Rattle.wd_plan.proofs.Ranges.{has_the_table, table_columns}
 use Rattle.wd_laws.proofs.AllValues.{AllOk, all_ok_each}
 use Rattle.wd_laws.proofs.Parts.{Perm-ordered, below_all}
 use Rattle.wd_laws.proofs.ValueKinds.{Each, IsOf, call_is, rows_at_are, value_is}
@@ -72,7 +72,7 @@ all_while P t (r ∷ rows) a = subst (AllByRecursion P) (sym (take_while-cons t 
     by true rest = (a.0, rest)
     by false rest = tt
 
-all_first : (P : Row → Type 0) (keys : List OrderItem) (ties : Bool) (n : ℕ) (rows : List Row) → AllByRecursion P rows → AllByRecursion P (first_rows keys ties n rows)
+all_first : (P : Row → Type 0) (keys : List SortColumn) (ties : Bool) (n : ℕ) (rows : List Row) → AllByRecursion P rows → AllByRecursion P (first_rows keys ties n rows)
 all_first P keys ties zero rows a = tt
 all_first P keys ties (suc n) [] a = tt
 all_first P keys true (suc zero) (r ∷ rows) a = (a.0, all_while P (peers keys r) rows a.1)
@@ -120,17 +120,17 @@ beside_good first second kinds more l r a b = (length-append l r ∙ (λ i. a.0 
         subst (IsOf kind) (sym (get_or_append_left l r Null c within)) (a.1 c kind e)
     by c kind false h e = subst (IsOf kind) (sym (get_or-append_right l r first c Null a.0 (ltb-false c first h))) (b.1 (c - first) kind e)
 
--- the values of several items, whose kinds come from these sources
-items_good : {A : Type 0} (kinds : Kinds) (source : A → KindSource) (f : A → Result Value Fault) (items : List A) → ((n : ℕ) (a : A) → slice_get items n ≡ Some a → (kind : ValueKind) → kind_from kinds (source a) ≡ Some kind → Each (IsOf kind) (f a)) → Each (IsGood (length items) (λ c. option_and_then (kind_from kinds) (option_map source (slice_get items c)))) (all_ok (map f items))
-items_good {A} kinds source f items each = by (all_ok (map f items)) refl
+-- the values of several items, each of its item's kind
+items_good : {A : Type 0} (kind_at : A → Option ValueKind) (f : A → Result Value Fault) (items : List A) → ((n : ℕ) (a : A) → slice_get items n ≡ Some a → (kind : ValueKind) → kind_at a ≡ Some kind → Each (IsOf kind) (f a)) → Each (IsGood (length items) (λ c. option_and_then kind_at (slice_get items c))) (all_ok (map f items))
+items_good {A} kind_at f items each = by (all_ok (map f items)) refl
   where
-    at : (row : Row) → AllOk f items row → (c : ℕ) (kind : ValueKind) (o : Option A) → slice_get items c ≡ o → option_and_then (kind_from kinds) (option_map source o) ≡ Some kind → IsOf kind (column_of row c)
+    at : (row : Row) → AllOk f items row → (c : ℕ) (kind : ValueKind) (o : Option A) → slice_get items c ≡ o → option_and_then kind_at o ≡ Some kind → IsOf kind (column_of row c)
     at row all c kind None h e = cc
     at row all c kind (Some a) h e =
         let own : f a ≡ Ok (column_of row c) = ap f (sym (get_or_from_slice_get items c a a h)) ∙ all.each c a Null (slice_get_within items c a h) in
         subst (Each (IsOf kind)) own (each c a h kind e)
 
-    by : (r : Result Row Fault) → all_ok (map f items) ≡ r → Each (IsGood (length items) (λ c. option_and_then (kind_from kinds) (option_map source (slice_get items c)))) r
+    by : (r : Result Row Fault) → all_ok (map f items) ≡ r → Each (IsGood (length items) (λ c. option_and_then kind_at (slice_get items c))) r
     by (Ok row) h = let all = all_ok_each f items row h in (all.long, λ c kind e. at row all c kind (slice_get items c) refl e)
     by (Err fault) h = tt
 
@@ -197,22 +197,16 @@ fits_kinds (column ∷ columns) (v ∷ row) e zero kind f =
     subst (λ k. is_of_kind k v ≡ true) same (type_is column.kind v own.0)
 fits_kinds (column ∷ columns) (v ∷ row) e (suc c) kind f = fits_kinds columns row (and_parts (may_hold column v) (fits_columns columns row) e).1 c kind f
 
-the_table : (tables : List TableRule) (table columns : ℕ) → has_table tables table columns ≡ true → (t : TableRule) × (slice_get tables table ≡ Some t) × (columns ≡ length t.columns)
-the_table tables table columns f = by (slice_get tables table) refl
-  where
-    by : (o : Option TableRule) → slice_get tables table ≡ o → (t : TableRule) × (slice_get tables table ≡ Some t) × (columns ≡ length t.columns)
-    by None e = absurd (let g : false ≡ true = rw e at f in false≢true g)
-    by (Some t) e = (t, e, (let g : nat_eq columns (length t.columns) ≡ true = rw e at f in eqb-true columns (length t.columns) g))
-
 scan_good : (tables : List TableRule) (instance : Instance) (table columns : ℕ) → Meets tables instance → has_table tables table columns ≡ true → AllByRecursion (IsGood columns (table_kind tables table)) (table_at instance table)
 scan_good tables instance table columns meets f =
-    let there = the_table tables table columns f in
+    let there = has_the_table tables table columns f in
     let t = there.0 in
     let met : MeetsTable t (table_at instance table) = meets.tables table t there.1 in
+    let long = table_columns tables table columns t there.1 f in
     from_positions (IsGood columns (table_kind tables table)) (table_at instance table) (λ p k.
     let row = row_at (table_at instance table) p in
     let own : fits_columns t.columns row ≡ true = met.values p [] k in
-    (fits_long t.columns row own ∙ sym there.2, λ c kind e. fits_kinds t.columns row own c kind (sym (ap (λ o. option_and_then (λ (t : TableRule). option_map (λ (column : TableColumn). kind_of_type column.kind) (slice_get t.columns c)) o) there.1) ∙ e)))
+    (fits_long t.columns row own ∙ sym long, λ c kind e. fits_kinds t.columns row own c kind (sym (ap (λ o. option_and_then (λ (t : TableRule). option_map (λ (column : TableColumn). kind_of_type column.kind) (slice_get t.columns c)) o) there.1) ∙ e)))
 
 -- ---- Join
 
@@ -231,10 +225,10 @@ join_good P Q R f condition (Err fault) right a b = tt
 
 -- ---- Map
 
-map_good : (kinds : Kinds) (columns : ℕ) (outputs : List Expression) → list_all (is_typed kinds) outputs ≡ true → (rows : List Row) → AllByRecursion (IsGood columns kinds) rows → AllRows (IsGood (length outputs) (λ c. option_and_then (kind_from kinds) (option_map source_of (slice_get outputs c)))) (map_outcome outputs rows)
+map_good : (kinds : Kinds) (columns : ℕ) (outputs : List Expression) → list_all (is_typed kinds) outputs ≡ true → (rows : List Row) → AllByRecursion (IsGood columns kinds) rows → AllRows (IsGood (length outputs) (λ c. option_and_then (kind_of kinds) (slice_get outputs c))) (map_outcome outputs rows)
 map_good kinds columns outputs typed rows a =
-    all_made (IsGood columns kinds) (IsGood (length outputs) (λ c. option_and_then (kind_from kinds) (option_map source_of (slice_get outputs c)))) (λ row. all_ok (map (λ output. value_of output row) outputs))
-    (λ row good. items_good kinds source_of (λ output. value_of output row) outputs (λ n x at kind e. value_is kinds row good.1 x (holds_at (is_typed kinds) outputs n x typed at) kind e)) rows a
+    all_made (IsGood columns kinds) (IsGood (length outputs) (λ c. option_and_then (kind_of kinds) (slice_get outputs c))) (λ row. all_ok (map (λ output. value_of output row) outputs))
+    (λ row good. items_good (kind_of kinds) (λ output. value_of output row) outputs (λ n x at kind e. value_is kinds row good.1 x (holds_at (is_typed kinds) outputs n x typed at) kind e)) rows a
 
 -- ---- Window
 
@@ -252,17 +246,17 @@ extended_good P Q R f row (Ok values) a b = f row values a b
 extended_good P Q R f row (Err fault) a b = tt
 
 window_good : (kinds : Kinds) (columns : ℕ) (w : WindowRule) → list_all (is_call kinds w.classes) w.calls ≡ true → (orderings : List (List ℕ)) (rows : List Row) → AllByRecursion (IsGood columns kinds) rows
-    → AllRows (IsGood (columns + length w.calls) (λ c. cond (nat_lt c columns) (kinds c) (option_and_then (kind_from kinds) (option_map source_of_call_at (slice_get w.calls (c - columns)))))) (window_outcome w rows orderings)
+    → AllRows (IsGood (columns + length w.calls) (λ c. cond (nat_lt c columns) (kinds c) (option_and_then (kind_of_call kinds) (slice_get w.calls (c - columns))))) (window_outcome w rows orderings)
 window_good kinds columns w are orderings rows a =
-    let more : Kinds = λ c. option_and_then (kind_from kinds) (option_map source_of_call_at (slice_get w.calls c)) in
+    let more : Kinds = λ c. option_and_then (kind_of_call kinds) (slice_get w.calls c) in
     let new : Kinds = λ c. cond (nat_lt c columns) (kinds c) (more (c - columns)) in
     all_made (λ p. p < length rows) (IsGood (columns + length w.calls) new) (extended w rows orderings)
     (λ p within. extended_good (IsGood columns kinds) (IsGood (length w.calls) more) (IsGood (columns + length w.calls) new) (beside_good columns (length w.calls) kinds more) (row_at rows p) (all_ok (map (call_at w rows orderings p) w.calls))
     (at_below (IsGood columns kinds) rows p a within)
-    (items_good kinds source_of_call_at (call_at w rows orderings p) w.calls (λ n call at kind e.
+    (items_good (kind_of_call kinds) (call_at w rows orderings p) w.calls (λ n call at kind e.
     let class = class_at w call.class in
     let ordering = ordering_at orderings call.class in
-    call_is kinds class call.frame (partition_of class rows ordering p) (place_in (members class rows ordering p) p) (rows_at_are kinds rows (members class rows ordering p) (kinds_only columns kinds rows a)) call.function (call_takes kinds w.classes call (holds_at (is_call kinds w.classes) w.calls n call are at)) kind e)))
+    call_is kinds (partition_of class rows ordering p) (place_in (members class rows ordering p) p) (rows_at_are kinds rows (members class rows ordering p) (kinds_only columns kinds rows a)) class call.frame call.function (call_takes kinds w.classes call (holds_at (is_call kinds w.classes) w.calls n call are at)) kind e)))
     (positions (length rows)) (below_all 0 (length rows) (length rows) (omega arith))
 
 -- ---- plans
@@ -293,7 +287,7 @@ all_good tables instance meets (Distinct input) choice f lawful =
     all_then P P (outcome input instance choice) (λ rows. Ok (distinct rows)) (all_distinct P) (all_good tables instance meets input choice f lawful)
 all_good tables instance meets (Limit limit input) choice f lawful =
     let P = IsGood (width input) (kinds_of tables input) in
-    all_limited P limit (ordering_at choice (ordering_count input)) (outcome input instance choice) (all_good tables instance meets input choice (and_parts (fits tables input) (is_limit (kinds_of tables input) limit.keys limit.ties) f).0 lawful.0) lawful.1
+    all_limited P limit (ordering_at choice (ordering_count input)) (outcome input instance choice) (all_good tables instance meets input choice (and_parts (fits tables input) (is_limit (kinds_of tables input) limit) f).0 lawful.0) lawful.1
 
 -- ---- the laws
 

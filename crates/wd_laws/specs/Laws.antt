@@ -11,11 +11,12 @@ use Rattle.wd_value.specs.declared.value.Value.TheVariants.{Int, Null}
 use Rattle.wd_schema.specs.Meets.{Meets}
 use Rattle.wd_schema.specs.Tables.{TableRule}
 use Rattle.wd_plan.specs.declared.expression.ValueKind.{ValueKind}
+use Rattle.wd_plan.specs.declared.function.Function.{Function}
+use Rattle.wd_plan.specs.declared.function.Function.TheVariants.{Ranking as Ranked}
+use Rattle.wd_plan.specs.declared.function.Ranking.TheVariants.{Ntile, RowNumber}
 use Rattle.wd_plan.specs.declared.window.Bound.TheVariants.{UnboundedFollowing, UnboundedPreceding}
 use Rattle.wd_plan.specs.declared.window.Exclusion.TheVariants.{NoOthers}
 use Rattle.wd_plan.specs.declared.window.Frame.{Frame}
-use Rattle.wd_plan.specs.declared.window.Function.{Function}
-use Rattle.wd_plan.specs.declared.window.Function.TheVariants.{Ntile, RowNumber}
 use Rattle.wd_plan.specs.Calls.{call_value, greatest, least, value_at}
 use Rattle.wd_plan.specs.Choices.{AreLawful, AreOrderings, AtRows, IsAnswerOf, IsValidChoice}
 use Rattle.wd_plan.specs.Expressions.{Expression, is_null}
@@ -23,10 +24,10 @@ use Rattle.wd_plan.specs.Facts.{DeterminesAll, HasWidth}
 use Rattle.wd_plan.specs.Faults.{all_ok}
 use Rattle.wd_plan.specs.Fits.{Kinds, fits, is_of_kind, kinds_of, width}
 use Rattle.wd_plan.specs.Frames.{frame_of, in_frame}
-use Rattle.wd_plan.specs.Settled.{IsByRow, IsSettledCall, IsSettledLimit, IsSettledPlan, NamesClasses}
+use Rattle.wd_plan.specs.Settled.{IsByRow, IsSettledCall, IsSettledLimit, IsSettledPlan}
 use Rattle.wd_plan.specs.Outcomes.{RowsOrFault, Agree, outcome, filter_outcome, map_outcome, join_outcome, pairs, distinct, window_outcome, extended, cut}
 use Rattle.wd_plan.specs.Partitions.{GroupsRise, members, partition_of, group_of}
-use Rattle.wd_plan.specs.Plans.{ClassRule, WindowRule, LimitRule, PlanTree}
+use Rattle.wd_plan.specs.Plans.{ClassRule, WindowRule, LimitRule, PlanTree, NamesClasses}
 use Rattle.wd_plan.specs.Sorting.{IsOrdering, class_columns, limit_class}
 
 -- agreeing is reflexive, symmetric and transitive
@@ -102,7 +103,7 @@ abbrev pub RowNumbersCount : Type 0
 RowNumbersCount = (class : ClassRule) (frame : Frame) (rows : List Row) (ordering : List ℕ) (p : ℕ)
     → IsOrdering class rows ordering
     → let part = members class rows ordering p in
-    map (value_at class frame RowNumber rows ordering) part ≡ map (λ i. Ok (Int (pos (i + 1)))) (positions (length part))
+    map (value_at class frame (Ranked RowNumber) rows ordering) part ≡ map (λ i. Ok (Int (pos (i + 1)))) (positions (length part))
 
 -- along a partition list under a lawful ordering peer group numbers begin at 0 and rise by at most one
 abbrev pub PeerGroupsRise : Type 0
@@ -173,7 +174,7 @@ pub record BucketsAreEven (n members : ℕ) (number : ℕ → ℕ) : Type 0 wher
 -- NTILE(n) gives each place of a partition list its bucket's number
 abbrev pub NtileIsEven : Type 0
 NtileIsEven = (class : ClassRule) (frame : Frame) (partition : List Row) (n : ℕ) → 0 < n
-    → (number : ℕ → ℕ) × ((i : ℕ) → call_value class frame (Ntile n) partition i ≡ Ok (Int (pos (number i)))) × BucketsAreEven n (length partition) number
+    → (number : ℕ → ℕ) × ((i : ℕ) → call_value class frame (Ranked (Ntile n)) partition i ≡ Ok (Int (pos (number i)))) × BucketsAreEven n (length partition) number
 
 -- v is one of the values, none of them that is not NULL comes before it, and it is NULL only where all are
 pub record IsFirstOf (comes_before : Value → Value → Bool) (values : List Value) (v : Value) : Type 0 where

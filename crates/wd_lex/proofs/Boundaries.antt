@@ -8,7 +8,7 @@ use Rattle.std.proofs.lemmas.List.{get_or_at, drop_at}
 use Rattle.std.specs.List.{prefix_len, starts_with, list_all}
 use Rattle.wd_lex.specs.declared.characters.Class.{Class}
 use Rattle.wd_lex.specs.declared.characters.Class.TheVariants as class
-use Rattle.wd_lex.specs.Marks.{lookup, symbols}
+use Rattle.wd_lex.specs.Terminals.{lookup, symbols}
 use Rattle.wd_lex.specs.Characters.{is_blank, is_digit, begins_word, goes_on_word, single_quote, double_quote}
 use Rattle.wd_lex.specs.Pieces.{Piece, Blanks, LineComment, BlockComment, Word, Number, QuotedName, QuotedText, Symbol, EndsComment, closing, character, comment, spelling, IsRunOf, Stands, in_quotes, doubled}
 use Rattle.wd_lex.specs.Reading.{is_in, comment_end, symbol_front}

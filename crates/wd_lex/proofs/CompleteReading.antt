@@ -9,7 +9,7 @@ use Rattle.wd_lex.specs.declared.characters.Class.TheVariants as class
 use Rattle.wd_lex.specs.declared.error.LexError.{LexError}
 use Rattle.wd_lex.specs.declared.error.LexError.TheVariants.{UnknownCharacter, TextNotClosed, NameNotClosed, BadNumber, CommentNotClosed, NotUtf8, TooLong, OutOfMemory}
 use Rattle.wd_lex.specs.Characters.{is_blank, is_digit, begins_word, goes_on_word, single_quote, double_quote}
-use Rattle.wd_lex.specs.Marks.{lookup, symbols}
+use Rattle.wd_lex.specs.Terminals.{lookup, symbols}
 use Rattle.wd_lex.specs.Pieces.{Piece, Blanks, LineComment, BlockComment, Word, Number, QuotedName, QuotedText, Symbol, EndsComment, closing, spelling, IsPiece, IsLongest, IsRunOf, Stands, in_quotes, doubled}
 use Rattle.wd_lex.specs.Causes.{BeginsWith, IsRefused, IsUnknown, place_of}
 use Rattle.wd_lex.specs.Reading.{kind_at, is_in, unquote, comment_end, symbol_front, is_good_number, read_as, read_comment, read_name, read_text, read_number, read_symbol, piece_at}

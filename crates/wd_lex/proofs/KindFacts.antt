@@ -6,7 +6,7 @@ use Rattle.std.specs.List.{starts_with}
 use Rattle.wd_lex.specs.declared.pieces.Kind.{Kind}
 use Rattle.wd_lex.specs.declared.pieces.Kind.TheVariants as kind
 use Rattle.wd_lex.specs.Characters.{is_blank, is_digit, begins_word, goes_on_word, single_quote, double_quote}
-use Rattle.wd_lex.specs.Marks.{symbols}
+use Rattle.wd_lex.specs.Terminals.{symbols}
 use Rattle.wd_lex.specs.Pieces.{Piece, Blanks, LineComment, BlockComment, Word, Number, QuotedName, QuotedText, Symbol, spelling, IsPiece}
 use Rattle.wd_lex.specs.Reading.{kind_at}
 use Rattle.wd_lex.proofs.SymbolFacts.{each_spelling, symbol_short}

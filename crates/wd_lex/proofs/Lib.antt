@@ -1,4 +1,4 @@
-pub mod MarkLaws
+pub mod TerminalLaws
 pub mod RunFacts
 pub mod QuoteFacts
 pub mod CommentFacts

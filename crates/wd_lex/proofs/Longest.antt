@@ -6,7 +6,7 @@ use Rattle.wd_lex.specs.declared.pieces.Kind.{Kind}
 use Rattle.wd_lex.specs.declared.pieces.Kind.TheVariants as kind
 use Rattle.wd_lex.specs.declared.characters.Class.TheVariants as class
 use Rattle.wd_lex.specs.Characters.{is_blank, is_digit, begins_word, goes_on_word, single_quote, double_quote}
-use Rattle.wd_lex.specs.Marks.{lookup, symbols}
+use Rattle.wd_lex.specs.Terminals.{lookup, symbols}
 use Rattle.wd_lex.specs.Pieces.{Piece, Blanks, LineComment, BlockComment, Word, Number, QuotedName, QuotedText, Symbol, EndsComment, spelling, IsPiece, IsLongest, IsRunOf, in_quotes, doubled}
 use Rattle.wd_lex.specs.Causes.{BeginsWith}
 use Rattle.wd_lex.specs.Reading.{kind_at, is_in, unquote}

@@ -37,8 +37,8 @@ pub encode-mark : encode 0xFEFF ≡ byte_order_mark
 unfolding encode
 encode-mark = refl
 
-pub behind_mark : (text rest : List ℕ) → text ≡ byte_order_mark ++ rest → rest ≡ drop (start_of text) text
-behind_mark text rest e = sym (ap (λ l. drop (start_of l) l) e)
+pub after_mark : (text rest : List ℕ) → text ≡ byte_order_mark ++ rest → rest ≡ drop (start_of text) text
+after_mark text rest e = sym (ap (λ l. drop (start_of l) l) e)
 
 pub no_mark : (text : List ℕ) → ((rest : List ℕ) → text ≢ byte_order_mark ++ rest) → text ≡ drop (start_of text) text
 no_mark text none = ⊎_elim

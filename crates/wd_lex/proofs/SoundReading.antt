@@ -8,7 +8,7 @@ use Rattle.wd_lex.specs.declared.pieces.Kind.TheVariants as kind
 use Rattle.wd_lex.specs.declared.characters.Class.TheVariants as class
 use Rattle.wd_lex.specs.declared.error.LexError.TheVariants.{UnknownCharacter, BadNumber}
 use Rattle.wd_lex.specs.Characters.{is_blank, is_digit, begins_word, goes_on_word, single_quote, double_quote}
-use Rattle.wd_lex.specs.Marks.{lookup, symbols}
+use Rattle.wd_lex.specs.Terminals.{lookup, symbols}
 use Rattle.wd_lex.specs.Pieces.{Piece, Blanks, LineComment, BlockComment, Word, Number, Symbol, spelling, IsPiece, IsLongest, IsGoodNumber, IsRunOf, Stands, in_quotes, doubled}
 use Rattle.wd_lex.specs.Causes.{IsRefused, place_of}
 use Rattle.wd_lex.specs.Reading.{Reading, kind_at, is_in, drop_while, unquote, comment_end, is_good_number, read_as, read_comment, read_name, read_text, read_number, read_symbol, piece_at}

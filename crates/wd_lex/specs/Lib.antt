@@ -1,4 +1,4 @@
-pub mod Marks
+pub mod Terminals
 pub mod Characters
 pub mod Pieces
 pub mod Lexed

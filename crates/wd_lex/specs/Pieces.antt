@@ -5,10 +5,10 @@ use Rattle.std.specs.Char.{to_ascii_lowercase}
 use Rattle.std.specs.List.{flat_map, list_all}
 use Rattle.std.specs.Option.{option_map}
 use Rattle.std.specs.Str.Parse.{digits_value}
-use Rattle.wd_lex.specs.declared.token.Delimiter.{Delimiter}
+use Rattle.wd_lex.specs.declared.token.Terminal.{Terminal}
 use Rattle.wd_lex.specs.declared.token.TokenKind.{TokenKind}
 use Rattle.wd_lex.specs.declared.token.TokenKind.TheVariants as k
-use Rattle.wd_lex.specs.Marks.{reserved_words, symbols, lookup}
+use Rattle.wd_lex.specs.Terminals.{reserved_words, symbols, lookup}
 use Rattle.wd_lex.specs.Characters.{is_blank, is_line_end, is_digit, begins_word, goes_on_word, spoils_number, single_quote, double_quote}
 
 -- A piece, with what its spelling leaves open: all bytes; of a line comment what follows its `--`; of a block comment
@@ -101,8 +101,8 @@ ArePieces [] rest = Unit {0}
 ArePieces (piece ∷ pieces) rest = Stands piece (spellings pieces ++ rest) × ArePieces pieces rest
 
 -- an unquoted word in lower case is its reserved word, or a name
-abbrev pub word_kind : List ℕ → Option Delimiter → TokenKind
-word_kind word (Some mark) = k.Delimiter mark
+abbrev pub word_kind : List ℕ → Option Terminal → TokenKind
+word_kind word (Some terminal) = k.Terminal terminal
 word_kind word None = k.Word word
 
 -- the token that a piece is; white space and comments are none
@@ -114,4 +114,4 @@ kind_of (Word bytes) = let word = map to_ascii_lowercase bytes in Some (word_kin
 kind_of (Number digits) = Some (k.Number (digits_value 10 digits))
 kind_of (QuotedName name) = Some (k.Quoted name)
 kind_of (QuotedText text) = Some (k.Literal text)
-kind_of (Symbol bytes) = option_map k.Delimiter (lookup symbols bytes)
+kind_of (Symbol bytes) = option_map k.Terminal (lookup symbols bytes)

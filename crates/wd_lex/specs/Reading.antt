@@ -12,7 +12,7 @@ use Rattle.wd_lex.specs.declared.error.LexError.{LexError}
 use Rattle.wd_lex.specs.declared.error.LexError.TheVariants.{UnknownCharacter, TextNotClosed, NameNotClosed, BadNumber, CommentNotClosed}
 use Rattle.wd_lex.specs.declared.token.TokenKind.{TokenKind}
 use Rattle.wd_lex.specs.Characters.{is_blank, is_line_end, is_digit, begins_word, goes_on_word, spoils_number, single_quote, double_quote}
-use Rattle.wd_lex.specs.Marks.{symbols, lookup}
+use Rattle.wd_lex.specs.Terminals.{symbols, lookup}
 use Rattle.wd_lex.specs.Pieces.{Piece, Blanks, LineComment, BlockComment, Word, Number, QuotedName, QuotedText, Symbol, kind_of, greatest_number}
 
 -- what a run of a class is made of

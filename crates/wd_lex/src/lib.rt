@@ -5,10 +5,10 @@ mod characters;
 mod error;
 pub mod laws;
 mod lexer;
-mod marks;
 mod pieces;
+mod terminals;
 mod token;
 
 pub use error::LexError;
 pub use lexer::lex;
-pub use token::{Delimiter, Span, Token, TokenKind};
+pub use token::{Span, Terminal, Token, TokenKind};

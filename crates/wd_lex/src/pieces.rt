@@ -5,7 +5,7 @@ ghost use Rattle.std.specs.List.{starts_with, list_all};
 ghost use Rattle.std.specs.Option.{option_map};
 ghost use Rattle.std.specs.Char.{to_ascii_lowercase};
 ghost use Rattle.wd_lex.specs.Characters.{is_digit};
-ghost use Rattle.wd_lex.specs.Marks.{lookup, reserved_words};
+ghost use Rattle.wd_lex.specs.Terminals.{lookup, reserved_words};
 ghost use Rattle.wd_lex.specs.Pieces.{word_kind};
 ghost use Rattle.wd_lex.specs.Reading as spec;
 ghost use Rattle.wd_lex.specs.Causes.{Gives};
@@ -13,7 +13,7 @@ ghost use Rattle.wd_lex.specs.Reading.{as_token, read_as, piece_at};
 
 use crate::characters::{Class, begins_word, is_blank, split_run, spoils_number};
 use crate::error::LexError;
-use crate::marks::{reserved_word, symbol};
+use crate::terminals::{reserved_word, symbol};
 use crate::token::TokenKind;
 use std::alloc::{AllocError, Global};
 use wd_value::Text;
@@ -151,7 +151,7 @@ fn word_kind(alloc: Global, word: &str) -> Result<TokenKind, AllocError>
     let mut folded = String::from_str(alloc, word)?;
     folded.make_ascii_lowercase();
     match reserved_word(folded.as_bytes()) {
-        Some(mark) => Ok(TokenKind::Delimiter(mark)),
+        Some(terminal) => Ok(TokenKind::Terminal(terminal)),
         None => Ok(TokenKind::Word(Text::new(folded))),
     }
 }
@@ -222,8 +222,8 @@ fn symbol_token(place: u64, text: &str) -> Result<(Option<TokenKind>, &str), Lex
 {
     let front = symbol_front(text.as_bytes());
     match symbol(front) {
-        Some(mark) => Ok((
-            Some(TokenKind::Delimiter(mark)),
+        Some(terminal) => Ok((
+            Some(TokenKind::Terminal(terminal)),
             text.split_at(front.len()).1,
         )),
         None => Err(LexError::UnknownCharacter { place }),

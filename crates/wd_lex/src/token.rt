@@ -11,7 +11,7 @@ pub struct Span {
 ///
 /// The reserved words are this project's own choice. All other key words of SQL may be names.
 #[derive(Clone, Copy, Debug, PartialEq, Eq)]
-pub enum Delimiter {
+pub enum Terminal {
     All,
     And,
     As,
@@ -102,7 +102,7 @@ pub enum Delimiter {
 #[derive(Drop)]
 pub enum TokenKind {
     /// A reserved word or a symbol.
-    Delimiter(Delimiter),
+    Terminal(Terminal),
     /// An unquoted word that is not reserved, folded to lower case.
     Word(Text),
     /// A quoted name as it is, its doubled quotes read as one. It is never a key word.

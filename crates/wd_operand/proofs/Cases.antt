@@ -1,5 +1,5 @@
 -- The arms of a CASE, over what gives the rest.
-use Rattle.std.proofs.Common.{◌≡◌, ap, List, [], ◌∷◌, ◌++◌, Ok, Err, refl}
+use Rattle.std.proofs.Common.{◌≡◌, ap, List, [], ◌∷◌, ◌++◌, Err, refl}
 use Rattle.wd_plan.specs.declared.expression.ValueKind.{ValueKind}
 use Rattle.wd_plan.specs.declared.expression.Branch.{Branch}
 use Rattle.wd_plan.specs.declared.expression.Branch.TheVariants.{Later}

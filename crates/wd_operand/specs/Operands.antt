@@ -1,6 +1,6 @@
 -- What an expression means as an operand, and the types that operators ask for (SQL, value expression, search condition; PG,
 -- Value Expressions).
-use Rattle.std.specs.Prelude.{ℕ, ◌^◌, ℤ, pos, neg_ℤ, Bool, true, false, List, [], ◌∷◌, ◌++◌, map, nat_lt, nat_le, Option, Some, None, Ok, Err, if◌then◌else◌}
+use Rattle.std.specs.Prelude.{ℕ, ◌^◌, ℤ, pos, neg_ℤ, Bool, true, false, List, [], ◌∷◌, ◌++◌, map, nat_lt, nat_le, Ok, Err, if◌then◌else◌}
 use Rattle.wd_value.specs.declared.value.Value.TheVariants.{Null, Int, Text as TextValue, Bool as TruthValue}
 use Rattle.wd_syntax.specs.declared.expression.Literal.{Literal}
 use Rattle.wd_syntax.specs.declared.expression.Literal.TheVariants as l

@@ -5,39 +5,8 @@ ghost use Rattle.wd_plan.specs.Expressions.{expression_of};
 ghost use Rattle.wd_operand.specs.Equality as spec;
 
 use crate::meaning::same_kind;
-use wd_plan::{ArithmeticOp, Branch, ComparisonOp, Expr};
+use wd_plan::Expr;
 use wd_value::same;
-
-fn arithmetic_number(op: ArithmeticOp) -> u8
-    ensures { result ≡ spec.arithmetic_number op }
-{
-    match op {
-        ArithmeticOp::Add => 0,
-        ArithmeticOp::Subtract => 1,
-        ArithmeticOp::Multiply => 2,
-        ArithmeticOp::Divide => 3,
-        ArithmeticOp::Remainder => 4,
-    }
-}
-
-fn comparison_number(op: ComparisonOp) -> u8
-    ensures { result ≡ spec.comparison_number op }
-{
-    match op {
-        ComparisonOp::Equal => 0,
-        ComparisonOp::NotEqual => 1,
-        ComparisonOp::Less => 2,
-        ComparisonOp::LessOrEqual => 3,
-        ComparisonOp::Greater => 4,
-        ComparisonOp::GreaterOrEqual => 5,
-    }
-}
-
-fn same_branch(a: Branch, b: Branch) -> bool
-    ensures { result ≡ spec.same_branch a b }
-{
-    a == b
-}
 
 /// Whether two expressions are one and the same tree. A literal's kind counts, and a CASE within ELSE is another tree
 /// than a further branch.
@@ -49,19 +18,17 @@ pub fn same_expression(left: &Expr, right: &Expr) -> bool
         (Expr::Literal(v, kind), Expr::Literal(w, other)) => same(v, w) && same_kind(*kind, *other),
         (Expr::Negate(a), Expr::Negate(b)) => same_expression(a, b),
         (Expr::Arithmetic(op, a, b), Expr::Arithmetic(other, c, d)) => {
-            arithmetic_number(*op) == arithmetic_number(*other)
-                && (same_expression(a, c) && same_expression(b, d))
+            *op == *other && (same_expression(a, c) && same_expression(b, d))
         }
         (Expr::Compare(op, a, b), Expr::Compare(other, c, d)) => {
-            comparison_number(*op) == comparison_number(*other)
-                && (same_expression(a, c) && same_expression(b, d))
+            *op == *other && (same_expression(a, c) && same_expression(b, d))
         }
         (Expr::Not(a), Expr::Not(b)) => same_expression(a, b),
         (Expr::And(a, b), Expr::And(c, d)) => same_expression(a, c) && same_expression(b, d),
         (Expr::Or(a, b), Expr::Or(c, d)) => same_expression(a, c) && same_expression(b, d),
         (Expr::IsNull(a), Expr::IsNull(b)) => same_expression(a, b),
         (Expr::IsNotNull(a), Expr::IsNotNull(b)) => same_expression(a, b),
-        (Expr::Case(branch, a, b, c), Expr::Case(other, x, y, z)) => same_branch(*branch, *other)
+        (Expr::Case(branch, a, b, c), Expr::Case(other, x, y, z)) => *branch == *other
             && (same_expression(a, x) && (same_expression(b, y) && same_expression(c, z))),
         _ => false,
     }

@@ -3,8 +3,8 @@ use Rattle.std.proofs.Common.{◌≡◌, ◌≢◌, ℕ, zero, suc, ◌+◌, ◌
 use Rattle.std.proofs.Common.{Bool, true, false}
 use Rattle.wd_lex.specs.Lexed.{kinds_of}
 use Rattle.wd_lex.specs.declared.token.Token.{Token}
-use Rattle.wd_lex.specs.declared.token.Delimiter.{Delimiter}
-use Rattle.wd_lex.specs.declared.token.Delimiter.TheVariants as m
+use Rattle.wd_lex.specs.declared.token.Terminal.{Terminal}
+use Rattle.wd_lex.specs.declared.token.Terminal.TheVariants as m
 use Rattle.wd_syntax.specs.declared.expression.Operator.{Operator}
 use Rattle.wd_syntax.specs.declared.expression.Link.{Link}
 use Rattle.wd_syntax.specs.View.{view, view_link, chained, tested}
@@ -119,7 +119,7 @@ regroup : {A : Type 0} (front : List A) (a : A) (r : Reads (List A)) → with_fr
 regroup {A} front a (Ok x) = ap (λ (z : List A). let w : Reads (List A) = Ok (z, x.1) in w) (append_one front x.0 a)
 regroup front a (Err f) = refl
 
-pub after_some : {A : Type 0} (x : Delimiter) (item : Parser A) (ts behind : Kinds) → eat x ts ≡ Some behind → after x item ts ≡ Some (item behind)
+pub after_some : {A : Type 0} (x : Terminal) (item : Parser A) (ts behind : Kinds) → eat x ts ≡ Some behind → after x item ts ≡ Some (item behind)
 unfolding after
 after_some x item ts behind e = rw e refl
 
@@ -158,19 +158,19 @@ many_full item n i front ts read total le e so_far =
     let one : with_front front (many item (n - i) ts) ≡ Err Unexpected = rw (k, e) refl in
     sym so_far ∙ one
 
--- ---- lists with a mark between their items
+-- ---- lists with a terminal between their items
 
-pub list_more : {X A : Type 0} (view : X → A) (x : Delimiter) (item : Parser A) (n i : ℕ) (xs : List X) (one : X) (ts behind rest : Kinds) (total : Reads (List A)) → i < n → eat x ts ≡ Some behind → item behind ≡ Ok (view one, rest) → with_front (map view xs) (many (after x item) (n - i) ts) ≡ total → with_front (map view (xs ++ one ∷ [])) (many (after x item) (n - (i + 1)) rest) ≡ total
+pub list_more : {X A : Type 0} (view : X → A) (x : Terminal) (item : Parser A) (n i : ℕ) (xs : List X) (one : X) (ts behind rest : Kinds) (total : Reads (List A)) → i < n → eat x ts ≡ Some behind → item behind ≡ Ok (view one, rest) → with_front (map view xs) (many (after x item) (n - i) ts) ≡ total → with_front (map view (xs ++ one ∷ [])) (many (after x item) (n - (i + 1)) rest) ≡ total
 list_more {X} {A} view x item n i xs one ts behind rest total lt e h so_far =
     many_more view (after x item) n i xs one ts rest total lt (after_some x item ts behind e ∙ ap (λ (z : Reads A). Some z) h) so_far
 
-pub list_fail : {A : Type 0} (e : Refusal) (x : Delimiter) (item : Parser A) (n i : ℕ) (front : List A) (ts behind : Kinds) (total : Reads (List A)) → i < n → eat x ts ≡ Some behind → Fails e (item behind) → with_front front (many (after x item) (n - i) ts) ≡ total → Fails e total
+pub list_fail : {A : Type 0} (e : Refusal) (x : Terminal) (item : Parser A) (n i : ℕ) (front : List A) (ts behind : Kinds) (total : Reads (List A)) → i < n → eat x ts ≡ Some behind → Fails e (item behind) → with_front front (many (after x item) (n - i) ts) ≡ total → Fails e total
 list_fail e x item n i front ts behind total lt h f so_far = many_fail e (after x item) n i front ts (item behind) total lt (after_some x item ts behind h) f so_far
 
-pub list_end : {A : Type 0} (x : Delimiter) (item : Parser A) (n : ℕ) (front : List A) (ts : Kinds) (total : Reads (List A)) → eat x ts ≡ None → with_front front (many (after x item) n ts) ≡ total → total ≡ Ok (front, ts)
+pub list_end : {A : Type 0} (x : Terminal) (item : Parser A) (n : ℕ) (front : List A) (ts : Kinds) (total : Reads (List A)) → eat x ts ≡ None → with_front front (many (after x item) n ts) ≡ total → total ≡ Ok (front, ts)
 list_end x item n front ts total e so_far = many_end (after x item) n front ts total (after_none x item ts e) so_far
 
-pub list_full : {A : Type 0} (x : Delimiter) (item : Parser A) (n i : ℕ) (front : List A) (ts behind : Kinds) (total : Reads (List A)) → n ≤ i → eat x ts ≡ Some behind → with_front front (many (after x item) (n - i) ts) ≡ total → total ≡ Err Unexpected
+pub list_full : {A : Type 0} (x : Terminal) (item : Parser A) (n i : ℕ) (front : List A) (ts behind : Kinds) (total : Reads (List A)) → n ≤ i → eat x ts ≡ Some behind → with_front front (many (after x item) (n - i) ts) ≡ total → total ≡ Err Unexpected
 list_full x item n i front ts behind total le e so_far = many_full (after x item) n i front ts (item behind) total le (after_some x item ts behind e) so_far
 
 -- ---- joins

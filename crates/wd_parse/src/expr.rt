@@ -5,15 +5,15 @@
 
 ghost use Rattle.std.specs.Prelude.{◌≡◌, ◌≤◌, ◌-◌, map};
 ghost use Rattle.wd_lex.specs.Lexed.{kinds_of};
-ghost use Rattle.wd_lex.specs.declared.token.Delimiter.TheVariants as m;
+ghost use Rattle.wd_lex.specs.declared.token.Terminal.TheVariants as m;
 ghost use Rattle.wd_syntax.specs.Tree.{Tree, trees_of, arms_of, keys_of, window};
 ghost use Rattle.wd_syntax.specs.View.{view, view_link, chained, tested, view_arm, view_key, view_window, view_over_option, view_else_option};
-ghost use Rattle.wd_syntax.specs.Reading.{read, levels, deeper_of, links, compared, tests, null_at, primary, primary_by_mark, named_at, bracket_at, call_of, call_at, arguments_at, over_at, list_at, case_at, arm_at, else_at, key_at, partition_at, order_at, base_at, window_at};
+ghost use Rattle.wd_syntax.specs.Reading.{read, levels, deeper_of, links, compared, tests, null_at, primary, primary_by_terminal, named_at, bracket_at, call_of, call_at, arguments_at, over_at, list_at, case_at, arm_at, else_at, key_at, partition_at, order_at, base_at, window_at};
 ghost use Rattle.wd_phrase.specs.Given.{Gives, MayRead};
 ghost use Rattle.wd_parse.specs.Given.{MakesDeeper, IsLoopHeight, view_arguments};
 
 use std::alloc::Global;
-use wd_lex::{Delimiter, Token, TokenKind};
+use wd_lex::{Terminal, Token, TokenKind};
 use wd_phrase::{
     Refusal, direction_at, eat, eat_name, expect, frame_at, name_at, nulls_at, operator_at, sign_at,
 };
@@ -153,9 +153,9 @@ fn tested(alloc: Global, depth: u8, tokens: &[Token]) -> Result<(Box<Expr>, &[To
 fn null_at(tokens: &[Token]) -> Result<(bool, &[Token]), Refusal>
     ensures { Gives (λ x. (x.0, kinds_of x.1.now)) result (null_at (kinds_of tokens.now)) }
 {
-    match eat(tokens, Delimiter::Not) {
-        Some(rest) => Ok((true, expect(rest, Delimiter::Null)?)),
-        None => Ok((false, expect(tokens, Delimiter::Null)?)),
+    match eat(tokens, Terminal::Not) {
+        Some(rest) => Ok((true, expect(rest, Terminal::Null)?)),
+        None => Ok((false, expect(tokens, Terminal::Null)?)),
     }
 }
 
@@ -181,14 +181,14 @@ fn tests(
     let mut items = Vec::new(alloc);
     let mut rest = tokens;
     for _ in 0..MAX_OPERATORS {
-        let Some(after) = eat(rest, Delimiter::Is) else {
+        let Some(after) = eat(rest, Terminal::Is) else {
             return Ok((tests_of(alloc, operand, items)?, rest));
         };
         let (not, after) = null_at(after)?;
         items.push(not)?;
         rest = after;
     }
-    match eat(rest, Delimiter::Is) {
+    match eat(rest, Terminal::Is) {
         Some(_) => Err(Refusal::PastLimit { left: rest.len() }),
         None => Ok((tests_of(alloc, operand, items)?, rest)),
     }
@@ -199,7 +199,7 @@ fn tests(
 fn negated(alloc: Global, depth: u8, tokens: &[Token]) -> Result<(Box<Expr>, &[Token]), Refusal>
     ensures { Gives (λ x. (view x.0.value, kinds_of x.1.now)) result (read 200 depth 6 (kinds_of tokens.now)) }
 {
-    match eat(tokens, Delimiter::Not) {
+    match eat(tokens, Terminal::Not) {
         Some(rest) => {
             let inside = deeper(depth, tokens.len())?;
             let (operand, rest) = at(alloc, 6, inside, rest)?;
@@ -257,30 +257,30 @@ fn primary(alloc: Global, depth: u8, tokens: &[Token]) -> Result<(Box<Expr>, &[T
             let text = text.copy(alloc)?;
             named(alloc, depth, Name { text, quoted: true }, rest)
         }
-        TokenKind::Delimiter(mark) => marked(alloc, depth, *mark, rest),
+        TokenKind::Terminal(terminal) => led_by(alloc, depth, *terminal, rest),
     }
 }
 
-/// A primary expression that begins with a mark, after the mark.
+/// A primary expression that begins with a terminal, after the terminal.
 #[tactic(auto, using(crate::proofs::Loops::length_kinds))]
 #[cycle(expr)]
-fn marked(
+fn led_by(
     alloc: Global,
     depth: u8,
-    mark: Delimiter,
+    terminal: Terminal,
     rest: &[Token],
 ) -> Result<(Box<Expr>, &[Token]), Refusal>
-    ensures { Gives (λ x. (view x.0.value, kinds_of x.1.now)) result (primary_by_mark (deeper_of 200 depth) mark (kinds_of rest.now)) }
+    ensures { Gives (λ x. (view x.0.value, kinds_of x.1.now)) result (primary_by_terminal (deeper_of 200 depth) terminal (kinds_of rest.now)) }
 {
-    match mark {
-        Delimiter::True => Ok((Box::new(alloc, Expr::Literal(Literal::Truth(true)))?, rest)),
-        Delimiter::False => Ok((Box::new(alloc, Expr::Literal(Literal::Truth(false)))?, rest)),
-        Delimiter::Null => Ok((Box::new(alloc, Expr::Literal(Literal::Null))?, rest)),
-        Delimiter::LeftBracket => {
+    match terminal {
+        Terminal::True => Ok((Box::new(alloc, Expr::Literal(Literal::Truth(true)))?, rest)),
+        Terminal::False => Ok((Box::new(alloc, Expr::Literal(Literal::Truth(false)))?, rest)),
+        Terminal::Null => Ok((Box::new(alloc, Expr::Literal(Literal::Null))?, rest)),
+        Terminal::LeftBracket => {
             let inside = deeper(depth, rest.len() + 1)?;
             bracket(alloc, inside, rest)
         }
-        Delimiter::Case => {
+        Terminal::Case => {
             let inside = deeper(depth, rest.len() + 1)?;
             case(alloc, inside, rest)
         }
@@ -297,7 +297,7 @@ fn bracket(alloc: Global, depth: u8, tokens: &[Token]) -> Result<(Box<Expr>, &[T
     ensures { Gives (λ x. (view x.0.value, kinds_of x.1.now)) result (bracket_at (read 200 depth 8) (kinds_of tokens.now)) }
 {
     let (inside, rest) = at(alloc, WHOLE, depth, tokens)?;
-    let rest = expect(rest, Delimiter::RightBracket)?;
+    let rest = expect(rest, Terminal::RightBracket)?;
     Ok((Box::new(alloc, Expr::Bracket(inside))?, rest))
 }
 
@@ -312,11 +312,11 @@ fn named(
 ) -> Result<(Box<Expr>, &[Token]), Refusal>
     ensures { Gives (λ x. (view x.0.value, kinds_of x.1.now)) result (named_at (deeper_of 200 depth) name (kinds_of tokens.now)) }
 {
-    if let Some(rest) = eat(tokens, Delimiter::Dot) {
+    if let Some(rest) = eat(tokens, Terminal::Dot) {
         let (column, rest) = name_at(alloc, rest)?;
         return Ok((Box::new(alloc, Expr::Qualified(name, column))?, rest));
     }
-    match eat(tokens, Delimiter::LeftBracket) {
+    match eat(tokens, Terminal::LeftBracket) {
         Some(rest) => call(alloc, depth, name, rest),
         None => Ok((Box::new(alloc, Expr::Column(name))?, tokens)),
     }
@@ -381,15 +381,15 @@ fn arguments(
 ) -> Result<(Option<Vec<Expr>>, &[Token]), Refusal>
     ensures { Gives (λ x. (view_arguments x.0, kinds_of x.1.now)) result (arguments_at (read 200 depth 8) (kinds_of tokens.now)) }
 {
-    if let Some(rest) = eat(tokens, Delimiter::Star) {
-        let rest = expect(rest, Delimiter::RightBracket)?;
+    if let Some(rest) = eat(tokens, Terminal::Star) {
+        let rest = expect(rest, Terminal::RightBracket)?;
         return Ok((None, rest));
     }
-    if let Some(rest) = eat(tokens, Delimiter::RightBracket) {
+    if let Some(rest) = eat(tokens, Terminal::RightBracket) {
         return Ok((Some(Vec::new(alloc)), rest));
     }
     let (arguments, rest) = list(alloc, depth, tokens)?;
-    let rest = expect(rest, Delimiter::RightBracket)?;
+    let rest = expect(rest, Terminal::RightBracket)?;
     Ok((Some(arguments), rest))
 }
 
@@ -403,10 +403,10 @@ fn over(
 ) -> Result<(Option<Box<Over>>, &[Token]), Refusal>
     ensures { Gives (λ x. (view_over_option x.0, kinds_of x.1.now)) result (over_at (deeper_of 200 depth) (kinds_of tokens.now)) }
 {
-    let Some(rest) = eat(tokens, Delimiter::Over) else {
+    let Some(rest) = eat(tokens, Terminal::Over) else {
         return Ok((None, tokens));
     };
-    match eat(rest, Delimiter::LeftBracket) {
+    match eat(rest, Terminal::LeftBracket) {
         Some(after) => {
             let inside = deeper(depth, rest.len())?;
             let (window, after) = window(alloc, inside, after)?;
@@ -429,14 +429,14 @@ fn list(alloc: Global, depth: u8, tokens: &[Token]) -> Result<(Vec<Expr>, &[Toke
     let mut items = Vec::new(alloc);
     items.push(Box::into_inner(first))?;
     for _ in 0..rest.len() {
-        let Some(after) = eat(rest, Delimiter::Comma) else {
+        let Some(after) = eat(rest, Terminal::Comma) else {
             return Ok((items, rest));
         };
         let (item, after) = at(alloc, WHOLE, depth, after)?;
         items.push(Box::into_inner(item))?;
         rest = after;
     }
-    match eat(rest, Delimiter::Comma) {
+    match eat(rest, Terminal::Comma) {
         Some(_) => Err(Refusal::Unexpected { left: rest.len() }),
         None => Ok((items, rest)),
     }
@@ -449,7 +449,7 @@ fn arm(alloc: Global, depth: u8, tokens: &[Token]) -> Result<(Arm, &[Token]), Re
     ensures { Gives (λ x. (view_arm x.0, kinds_of x.1.now)) result (arm_at (read 200 depth 8) (kinds_of tokens.now)) }
 {
     let (when, rest) = at(alloc, WHOLE, depth, tokens)?;
-    let rest = expect(rest, Delimiter::Then)?;
+    let rest = expect(rest, Terminal::Then)?;
     let (gives, rest) = at(alloc, WHOLE, depth, rest)?;
     Ok((
         Arm {
@@ -470,14 +470,14 @@ fn arms(alloc: Global, depth: u8, tokens: &[Token]) -> Result<(Vec<Arm>, &[Token
     let mut items = Vec::new(alloc);
     items.push(first)?;
     for _ in 0..rest.len() {
-        let Some(after) = eat(rest, Delimiter::When) else {
+        let Some(after) = eat(rest, Terminal::When) else {
             return Ok((items, rest));
         };
         let (item, after) = arm(alloc, depth, after)?;
         items.push(item)?;
         rest = after;
     }
-    match eat(rest, Delimiter::When) {
+    match eat(rest, Terminal::When) {
         Some(_) => Err(Refusal::Unexpected { left: rest.len() }),
         None => Ok((items, rest)),
     }
@@ -493,7 +493,7 @@ fn otherwise(
 ) -> Result<(Option<Box<Expr>>, &[Token]), Refusal>
     ensures { Gives (λ x. (view_else_option x.0, kinds_of x.1.now)) result (else_at (read 200 depth 8) (kinds_of tokens.now)) }
 {
-    match eat(tokens, Delimiter::Else) {
+    match eat(tokens, Terminal::Else) {
         Some(rest) => {
             let (other, rest) = at(alloc, WHOLE, depth, rest)?;
             Ok((Some(other), rest))
@@ -508,10 +508,10 @@ fn otherwise(
 fn case(alloc: Global, depth: u8, tokens: &[Token]) -> Result<(Box<Expr>, &[Token]), Refusal>
     ensures { Gives (λ x. (view x.0.value, kinds_of x.1.now)) result (case_at (read 200 depth 8) (kinds_of tokens.now)) }
 {
-    let rest = expect(tokens, Delimiter::When)?;
+    let rest = expect(tokens, Terminal::When)?;
     let (arms, rest) = arms(alloc, depth, rest)?;
     let (other, rest) = otherwise(alloc, depth, rest)?;
-    let rest = expect(rest, Delimiter::End)?;
+    let rest = expect(rest, Terminal::End)?;
     Ok((Box::new(alloc, case_of(arms, other))?, rest))
 }
 
@@ -544,14 +544,14 @@ fn keys(alloc: Global, depth: u8, tokens: &[Token]) -> Result<(Vec<SortKey>, &[T
     let mut items = Vec::new(alloc);
     items.push(first)?;
     for _ in 0..rest.len() {
-        let Some(after) = eat(rest, Delimiter::Comma) else {
+        let Some(after) = eat(rest, Terminal::Comma) else {
             return Ok((items, rest));
         };
         let (item, after) = key(alloc, depth, after)?;
         items.push(item)?;
         rest = after;
     }
-    match eat(rest, Delimiter::Comma) {
+    match eat(rest, Terminal::Comma) {
         Some(_) => Err(Refusal::Unexpected { left: rest.len() }),
         None => Ok((items, rest)),
     }
@@ -567,9 +567,9 @@ pub fn order(
 ) -> Result<(Vec<SortKey>, &[Token]), Refusal>
     ensures { Gives (λ x. (map view_key x.0.items, kinds_of x.1.now)) result (order_at (read 200 depth 8) (kinds_of tokens.now)) }
 {
-    match eat(tokens, Delimiter::Order) {
+    match eat(tokens, Terminal::Order) {
         Some(rest) => {
-            let rest = expect(rest, Delimiter::By)?;
+            let rest = expect(rest, Terminal::By)?;
             keys(alloc, depth, rest)
         }
         None => Ok((Vec::new(alloc), tokens)),
@@ -582,9 +582,9 @@ pub fn order(
 fn partition(alloc: Global, depth: u8, tokens: &[Token]) -> Result<(Vec<Expr>, &[Token]), Refusal>
     ensures { Gives (λ x. (map view x.0.items, kinds_of x.1.now)) result (partition_at (read 200 depth 8) (kinds_of tokens.now)) }
 {
-    match eat(tokens, Delimiter::Partition) {
+    match eat(tokens, Terminal::Partition) {
         Some(rest) => {
-            let rest = expect(rest, Delimiter::By)?;
+            let rest = expect(rest, Terminal::By)?;
             list(alloc, depth, rest)
         }
         None => Ok((Vec::new(alloc), tokens)),
@@ -612,6 +612,6 @@ pub fn window(alloc: Global, depth: u8, tokens: &[Token]) -> Result<(Window, &[T
     let (partition, rest) = partition(alloc, depth, rest)?;
     let (order, rest) = order(alloc, depth, rest)?;
     let (frame, rest) = frame_at(rest)?;
-    let rest = expect(rest, Delimiter::RightBracket)?;
+    let rest = expect(rest, Terminal::RightBracket)?;
     Ok((window_of(base, partition, order, frame), rest))
 }

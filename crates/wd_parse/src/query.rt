@@ -2,7 +2,7 @@
 
 ghost use Rattle.std.specs.Prelude.{◌≡◌, length, map};
 ghost use Rattle.wd_lex.specs.Lexed.{kinds_of};
-ghost use Rattle.wd_lex.specs.declared.token.Delimiter.TheVariants as m;
+ghost use Rattle.wd_lex.specs.declared.token.Terminal.TheVariants as m;
 ghost use Rattle.wd_syntax.specs.Tree.{joins_of, derived, query};
 ghost use Rattle.wd_syntax.specs.View.{view_item, view_option, view_named_window, view_table, view_joined, view_select, view_query};
 ghost use Rattle.wd_syntax.specs.Reading.{read, deeper_of, inside_of, selects, list_at, quantifier_at, given_at, alias_at, star_at, item_at, filter_at, named_window_at, windows_at, table_at, inner_at, join_at, begins_join, from_at, many, if_last, whole};
@@ -12,7 +12,7 @@ ghost use Rattle.wd_parse.specs.Given.{view_from};
 use crate::expr;
 use crate::expr::deeper;
 use std::alloc::Global;
-use wd_lex::{Delimiter, Token};
+use wd_lex::{Terminal, Token};
 use wd_phrase::{Refusal, eat, eat_name, expect, limits_at, name_at};
 use wd_syntax::{
     Alias, Expr, From, Item, Joined, Name, NamedWindow, Quantifier, Query, Select, Table,
@@ -26,10 +26,10 @@ const MAX_LEVELS: u8 = 32;
 fn quantifier_at(tokens: &[Token]) -> (Option<Quantifier>, &[Token])
     ensures { quantifier_at (kinds_of tokens.now) ≡ (result.0, kinds_of result.1.now) }
 {
-    if let Some(rest) = eat(tokens, Delimiter::All) {
+    if let Some(rest) = eat(tokens, Terminal::All) {
         return (Some(Quantifier::All), rest);
     }
-    match eat(tokens, Delimiter::Distinct) {
+    match eat(tokens, Terminal::Distinct) {
         Some(rest) => (Some(Quantifier::Distinct), rest),
         None => (None, tokens),
     }
@@ -40,7 +40,7 @@ fn quantifier_at(tokens: &[Token]) -> (Option<Quantifier>, &[Token])
 fn given_at(alloc: Global, tokens: &[Token]) -> Result<(Alias, &[Token]), Refusal>
     ensures { Gives (λ x. (x.0, kinds_of x.1.now)) result (given_at (kinds_of tokens.now)) }
 {
-    match eat(tokens, Delimiter::As) {
+    match eat(tokens, Terminal::As) {
         Some(rest) => {
             let (name, rest) = name_at(alloc, rest)?;
             Ok((
@@ -69,7 +69,7 @@ fn given_at(alloc: Global, tokens: &[Token]) -> Result<(Alias, &[Token]), Refusa
 fn alias_at(alloc: Global, tokens: &[Token]) -> Result<(Option<Alias>, &[Token]), Refusal>
     ensures { Gives (λ x. (x.0, kinds_of x.1.now)) result (alias_at (kinds_of tokens.now)) }
 {
-    if let Some(rest) = eat(tokens, Delimiter::As) {
+    if let Some(rest) = eat(tokens, Terminal::As) {
         let (name, rest) = name_at(alloc, rest)?;
         return Ok((
             Some(Alias {
@@ -99,10 +99,10 @@ fn star_at(alloc: Global, tokens: &[Token]) -> Result<Option<(Name, &[Token])>, 
     let Some((name, rest)) = eat_name(alloc, tokens)? else {
         return Ok(None);
     };
-    let Some(rest) = eat(rest, Delimiter::Dot) else {
+    let Some(rest) = eat(rest, Terminal::Dot) else {
         return Ok(None);
     };
-    match eat(rest, Delimiter::Star) {
+    match eat(rest, Terminal::Star) {
         Some(rest) => Ok(Some((name, rest))),
         None => Ok(None),
     }
@@ -113,7 +113,7 @@ fn star_at(alloc: Global, tokens: &[Token]) -> Result<Option<(Name, &[Token])>, 
 fn item(alloc: Global, depth: u8, tokens: &[Token]) -> Result<(Item, &[Token]), Refusal>
     ensures { Gives (λ x. (view_item x.0, kinds_of x.1.now)) result (item_at (read 200 depth 8) (kinds_of tokens.now)) }
 {
-    if let Some(rest) = eat(tokens, Delimiter::Star) {
+    if let Some(rest) = eat(tokens, Terminal::Star) {
         return Ok((Item::All, rest));
     }
     if let Some((name, rest)) = star_at(alloc, tokens)? {
@@ -133,14 +133,14 @@ fn items(alloc: Global, depth: u8, tokens: &[Token]) -> Result<(Vec<Item>, &[Tok
     let mut items = Vec::new(alloc);
     items.push(first)?;
     for _ in 0..rest.len() {
-        let Some(after) = eat(rest, Delimiter::Comma) else {
+        let Some(after) = eat(rest, Terminal::Comma) else {
             return Ok((items, rest));
         };
         let (item, after) = item(alloc, depth, after)?;
         items.push(item)?;
         rest = after;
     }
-    match eat(rest, Delimiter::Comma) {
+    match eat(rest, Terminal::Comma) {
         Some(_) => Err(Refusal::Unexpected { left: rest.len() }),
         None => Ok((items, rest)),
     }
@@ -151,7 +151,7 @@ fn items(alloc: Global, depth: u8, tokens: &[Token]) -> Result<(Vec<Item>, &[Tok
 fn filter(alloc: Global, depth: u8, tokens: &[Token]) -> Result<(Option<Expr>, &[Token]), Refusal>
     ensures { Gives (λ x. (view_option x.0, kinds_of x.1.now)) result (filter_at (read 200 depth 8) (kinds_of tokens.now)) }
 {
-    match eat(tokens, Delimiter::Where) {
+    match eat(tokens, Terminal::Where) {
         Some(rest) => {
             let (expr, rest) = expr::at(alloc, expr::WHOLE, depth, rest)?;
             Ok((Some(Box::into_inner(expr)), rest))
@@ -170,8 +170,8 @@ fn named_window(
     ensures { Gives (λ x. (view_named_window x.0, kinds_of x.1.now)) result (named_window_at (deeper_of 200 depth) (kinds_of tokens.now)) }
 {
     let (name, rest) = name_at(alloc, tokens)?;
-    let bracket = expect(rest, Delimiter::As)?;
-    let rest = expect(bracket, Delimiter::LeftBracket)?;
+    let bracket = expect(rest, Terminal::As)?;
+    let rest = expect(bracket, Terminal::LeftBracket)?;
     let inside = deeper(depth, bracket.len())?;
     let (window, rest) = expr::window(alloc, inside, rest)?;
     Ok((NamedWindow { name, window }, rest))
@@ -190,14 +190,14 @@ fn named_windows(
     let mut items = Vec::new(alloc);
     items.push(first)?;
     for _ in 0..rest.len() {
-        let Some(after) = eat(rest, Delimiter::Comma) else {
+        let Some(after) = eat(rest, Terminal::Comma) else {
             return Ok((items, rest));
         };
         let (item, after) = named_window(alloc, depth, after)?;
         items.push(item)?;
         rest = after;
     }
-    match eat(rest, Delimiter::Comma) {
+    match eat(rest, Terminal::Comma) {
         Some(_) => Err(Refusal::Unexpected { left: rest.len() }),
         None => Ok((items, rest)),
     }
@@ -212,7 +212,7 @@ fn windows(
 ) -> Result<(Vec<NamedWindow>, &[Token]), Refusal>
     ensures { Gives (λ x. (map view_named_window x.0.items, kinds_of x.1.now)) result (windows_at (deeper_of 200 depth) (kinds_of tokens.now)) }
 {
-    match eat(tokens, Delimiter::Window) {
+    match eat(tokens, Terminal::Window) {
         Some(rest) => named_windows(alloc, depth, rest),
         None => Ok((Vec::new(alloc), tokens)),
     }
@@ -231,11 +231,11 @@ fn derived_of(select: Box<Select>, alias: Alias) -> Table
 fn table(alloc: Global, depth: u8, tokens: &[Token]) -> Result<(Table, &[Token]), Refusal>
     ensures { Gives (λ x. (view_table x.0, kinds_of x.1.now)) result (table_at (inside_of 200 depth) (kinds_of tokens.now)) }
 {
-    match eat(tokens, Delimiter::LeftBracket) {
+    match eat(tokens, Terminal::LeftBracket) {
         Some(rest) => {
             let inside = deeper(depth, tokens.len())?;
             let (select, rest) = select(alloc, inside, rest)?;
-            let rest = expect(rest, Delimiter::RightBracket)?;
+            let rest = expect(rest, Terminal::RightBracket)?;
             let (alias, rest) = given_at(alloc, rest)?;
             Ok((derived_of(select, alias), rest))
         }
@@ -259,7 +259,7 @@ fn inner(
     ensures { Gives (λ x. (view_joined x.0, kinds_of x.1.now)) result (inner_at (inside_of 200 depth) (read 200 depth 8) with_inner (kinds_of tokens.now)) }
 {
     let (table, rest) = table(alloc, depth, tokens)?;
-    let rest = expect(rest, Delimiter::On)?;
+    let rest = expect(rest, Terminal::On)?;
     let (on, rest) = expr::at(alloc, expr::WHOLE, depth, rest)?;
     Ok((Joined::Inner(with_inner, table, Box::into_inner(on)), rest))
 }
@@ -270,21 +270,21 @@ fn inner(
 fn joined(alloc: Global, depth: u8, tokens: &[Token]) -> Result<Option<(Joined, &[Token])>, Refusal>
     ensures { MayGive (λ x. (view_joined x.0, kinds_of x.1.now)) result (join_at (inside_of 200 depth) (read 200 depth 8) (kinds_of tokens.now)) }
 {
-    if let Some(rest) = eat(tokens, Delimiter::Comma) {
+    if let Some(rest) = eat(tokens, Terminal::Comma) {
         let (table, rest) = table(alloc, depth, rest)?;
         return Ok(Some((Joined::Comma(table), rest)));
     }
-    if let Some(rest) = eat(tokens, Delimiter::Cross) {
-        let rest = expect(rest, Delimiter::Join)?;
+    if let Some(rest) = eat(tokens, Terminal::Cross) {
+        let rest = expect(rest, Terminal::Join)?;
         let (table, rest) = table(alloc, depth, rest)?;
         return Ok(Some((Joined::Cross(table), rest)));
     }
-    if let Some(rest) = eat(tokens, Delimiter::Inner) {
-        let rest = expect(rest, Delimiter::Join)?;
+    if let Some(rest) = eat(tokens, Terminal::Inner) {
+        let rest = expect(rest, Terminal::Join)?;
         let (joined, rest) = inner(alloc, depth, true, rest)?;
         return Ok(Some((joined, rest)));
     }
-    match eat(tokens, Delimiter::Join) {
+    match eat(tokens, Terminal::Join) {
         Some(rest) => {
             let (joined, rest) = inner(alloc, depth, false, rest)?;
             Ok(Some((joined, rest)))
@@ -297,10 +297,10 @@ fn joined(alloc: Global, depth: u8, tokens: &[Token]) -> Result<Option<(Joined, 
 fn begins_join(tokens: &[Token]) -> bool
     ensures { result ≡ begins_join (kinds_of tokens.now) }
 {
-    eat(tokens, Delimiter::Comma).is_some()
-        || eat(tokens, Delimiter::Cross).is_some()
-        || eat(tokens, Delimiter::Inner).is_some()
-        || eat(tokens, Delimiter::Join).is_some()
+    eat(tokens, Terminal::Comma).is_some()
+        || eat(tokens, Terminal::Cross).is_some()
+        || eat(tokens, Terminal::Inner).is_some()
+        || eat(tokens, Terminal::Join).is_some()
 }
 
 /// The tables after the first.
@@ -340,10 +340,10 @@ fn from(alloc: Global, depth: u8, tokens: &[Token]) -> Result<(From, &[Token]), 
 fn select(alloc: Global, depth: u8, tokens: &[Token]) -> Result<(Box<Select>, &[Token]), Refusal>
     ensures { Gives (λ x. (view_select x.0.value, kinds_of x.1.now)) result (selects 200 depth (kinds_of tokens.now)) }
 {
-    let rest = expect(tokens, Delimiter::Select)?;
+    let rest = expect(tokens, Terminal::Select)?;
     let (quantifier, rest) = quantifier_at(rest);
     let (items, rest) = items(alloc, depth, rest)?;
-    let rest = expect(rest, Delimiter::From)?;
+    let rest = expect(rest, Terminal::From)?;
     let (from, rest) = from(alloc, depth, rest)?;
     let (filter, rest) = filter(alloc, depth, rest)?;
     let (windows, rest) = windows(alloc, depth, rest)?;
@@ -380,7 +380,7 @@ pub fn whole(alloc: Global, tokens: &[Token]) -> Result<Query, Refusal>
     ensures { Gives view_query result (whole 200 32 (kinds_of tokens.now)) }
 {
     let (select, rest) = select(alloc, MAX_LEVELS, tokens)?;
-    match eat(rest, Delimiter::Semicolon) {
+    match eat(rest, Terminal::Semicolon) {
         Some(rest) => ended(select, true, rest),
         None => ended(select, false, rest),
     }

@@ -8,7 +8,7 @@ use Rattle.std.specs.Prelude.{not}
 use Rattle.wd_value.specs.declared.value.Value.{Value}
 use Rattle.wd_value.specs.Bags.{EachOnce, positions}
 use Rattle.wd_value.specs.Rows.{Row, column_of, row_at, rows_at}
-use Rattle.wd_plan.specs.declared.plan.OrderItem.{OrderItem}
+use Rattle.wd_value.specs.declared.order.SortColumn.{SortColumn}
 use Rattle.wd_plan.specs.Partitions.{group_of, members, partition_of, place_in}
 use Rattle.wd_plan.specs.Plans.{ClassRule}
 use Rattle.wd_plan.specs.Sorting.{same_partition}
@@ -39,13 +39,13 @@ no_stretch {X} n a = ap (take {A = X} n) (drop_none a) ∙ take_none n
 map_stretch : {X Y : Type 0} (f : X → Y) (n a : ℕ) (xs : List X) → take n (drop a (map f xs)) ≡ map f (take n (drop a xs))
 map_stretch f n a xs = ap (take n) (drop-map f a xs) ∙ take-map f n (drop a xs)
 
-numbers_stretch : (asked : Bool) (keys : List OrderItem) (n a : ℕ) (rows : List Row) → take n (drop a (key_numbers asked keys rows)) ≡ key_numbers asked keys (take n (drop a rows))
+numbers_stretch : (asked : Bool) (keys : List SortColumn) (n a : ℕ) (rows : List Row) → take n (drop a (key_numbers asked keys rows)) ≡ key_numbers asked keys (take n (drop a rows))
 numbers_stretch true [] n a rows = no_stretch n a
 numbers_stretch true (key ∷ []) n a rows = map_stretch (λ r. number_part (column_of r key.column)) n a rows
 numbers_stretch true (key ∷ other ∷ keys) n a rows = no_stretch n a
 numbers_stretch false keys n a rows = no_stretch n a
 
-numbers_long : (asked : Bool) (keys : List OrderItem) (rows : List Row) → 0 < length (key_numbers asked keys rows) → length (key_numbers asked keys rows) ≡ length rows
+numbers_long : (asked : Bool) (keys : List SortColumn) (rows : List Row) → 0 < length (key_numbers asked keys rows) → length (key_numbers asked keys rows) ≡ length rows
 numbers_long true [] rows h = absurd (omega arith)
 numbers_long true (key ∷ []) rows h = length-map rows (λ r. number_part (column_of r key.column))
 numbers_long true (key ∷ other ∷ keys) rows h = absurd (omega arith)

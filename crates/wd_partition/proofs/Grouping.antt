@@ -9,19 +9,18 @@ use Rattle.std.proofs.lemmas.List.Sorted.{IsPermutation-cons, IsPermutation-refl
 use Rattle.wd_value.specs.Bags.{positions, EachOnce}
 use Rattle.wd_value.specs.Rows.{Row, columns_of, row_at, rows_at}
 use Rattle.wd_value.proofs.Perms.{Perm}
-use Rattle.wd_sort.specs.Sorting.{IsStableSortOf, compare_rows, compare_rows_at}
-use Rattle.wd_sort.proofs.Order.{compare_rows_total}
-use Rattle.wd_plan.specs.Keys.{compare_keys}
+use Rattle.wd_sort.specs.Sorting.{IsStableSortOf, compare_rows_at}
+use Rattle.wd_value.specs.Keys.{compare_keys}
 use Rattle.wd_plan.specs.Partitions.{members}
 use Rattle.wd_plan.specs.Plans.{ClassRule}
 use Rattle.wd_plan.specs.Sorting.{IsInOrder, IsOrdering, same_partition}
-use Rattle.wd_plan.proofs.KeyLaws.{compare_keys_total, same_row_self}
+use Rattle.wd_value.proofs.KeyLaws.{compare_keys_total, same_row_self}
 use Rattle.wd_plan.proofs.Parts.{NotAfter, Perm-ordering, ordered, part, partition_of-is, rising_part}
 use Rattle.wd_plan.proofs.Sorted.{Rising}
 use Rattle.wd_plan.proofs.SortLaws.{EachOnce-from_IsPermutation, IsOrdering-from_sort}
 use Rattle.wd_partition.specs.Columns.{given_positions, partition_columns, sort_columns}
 use Rattle.wd_partition.specs.Orderings.{AreGrouped, IsGroupedOrdering}
-use Rattle.wd_partition.proofs.ByColumns.{as_sort_cmp, by_parts, ties_are_partitions, tie_is_partition}
+use Rattle.wd_partition.proofs.ByColumns.{by_parts, ties_are_partitions, tie_is_partition}
 
 -- ---- rearrangements
 
@@ -40,7 +39,7 @@ module _ (class : ClassRule) (rows : List Row) where
 
   pub IsOrdering-from_columns : (ordering : List ℕ) → IsPermutation (positions (length rows)) ordering → IsSorted (compare_rows_at (sort_columns class) rows) ordering → IsOrdering class rows ordering
   IsOrdering-from_columns ordering permutation sorted =
-      IsOrdering-from_sort class rows ordering permutation (λ k d low high. ap is_lt (sym (as_sort_cmp class _ _)) ∙ sorted k d low high)
+      IsOrdering-from_sort class rows ordering permutation (λ k d low high. ap is_lt (sym (by_parts class _ _)) ∙ sorted k d low high)
 
   pub IsOrdering-from_given : (flipped : Bool) (ordering : List ℕ) → IsStableSortOf (sort_columns class) rows (given_positions flipped (length rows)) ordering → IsOrdering class rows ordering
   IsOrdering-from_given flipped ordering sort =
@@ -110,19 +109,19 @@ module _ (class : ClassRule) (rows : List Row) where
   then_not_less Greater p e h = refl
 
   -- b after a, in the order of the partitions and within a partition in the order of the keys
-  behind : (a b : Row) → is_lt (compare_rows (partition_columns class.partition) b a) ≡ false → (same_partition class a b ≡ true → NotAfter class a b) → is_lt (compare_rows (sort_columns class) b a) ≡ false
-  behind a b low rises =
+  after : (a b : Row) → is_lt (compare_keys (partition_columns class.partition) b a) ≡ false → (same_partition class a b ≡ true → NotAfter class a b) → is_lt (compare_keys (sort_columns class) b a) ≡ false
+  after a b low rises =
       ap is_lt (by_parts class b a)
-      ∙ then_not_less (compare_rows (partition_columns class.partition) b a) (compare_keys class.order b a) low
+      ∙ then_not_less (compare_keys (partition_columns class.partition) b a) (compare_keys class.order b a) low
       (λ e. turned (compare_keys class.order a b) (compare_keys class.order b a) ((compare_keys_total class.order).antisymm b a)
-      (rises (sym (tie_is_partition class.partition a b) ∙ eq_back (compare_rows (partition_columns class.partition) b a) (compare_rows (partition_columns class.partition) a b) ((compare_rows_total (partition_columns class.partition)).antisymm a b) e)))
+      (rises (sym (tie_is_partition class.partition a b) ∙ eq_back (compare_keys (partition_columns class.partition) b a) (compare_keys (partition_columns class.partition) a b) ((compare_keys_total (partition_columns class.partition)).antisymm a b) e)))
 
   pub sorted_from_in_order : (ps : List ℕ) → IsInOrder class (rows_at rows ps) → IsSorted (compare_rows_at (partition_columns class.partition) rows) ps → IsSorted (compare_rows_at (sort_columns class) rows) ps
   sorted_from_in_order ps h sorted = λ k d low high. (
       let here : row_at (rows_at rows ps) k ≡ row_at rows (get_or ps k d) = get_or-map (row_at rows) ps k d [] (omega arith) in
       let next : row_at (rows_at rows ps) (k + 1) ≡ row_at rows (get_or ps (k + 1) d) = get_or-map (row_at rows) ps (k + 1) d [] high in
       let long : k + 1 < length (rows_at rows ps) = subst (λ n. k + 1 < n) (sym (length-map ps (row_at rows))) high in
-      behind (row_at rows (get_or ps k d)) (row_at rows (get_or ps (k + 1) d)) (sorted k d low high)
+      after (row_at rows (get_or ps k d)) (row_at rows (get_or ps (k + 1) d)) (sorted k d low high)
       (subst (λ (r : Row). same_partition class (row_at rows (get_or ps k d)) r ≡ true → NotAfter class (row_at rows (get_or ps k d)) r) next
       (subst (λ (r : Row). same_partition class r (row_at (rows_at rows ps) (k + 1)) ≡ true → NotAfter class r (row_at (rows_at rows ps) (k + 1))) here
       (neighbours (rows_at rows ps) k h long)))

@@ -1,26 +1,24 @@
 -- The partition of each of the positions sorted by partition is a stretch of them, along which the peer group number is counted.
 use Rattle.std.proofs.Common.{◌≡◌, ℕ, zero, suc, ◌+◌, ◌-◌, ◌<◌, ◌≤◌, ◌⊎◌, inl, inr, Bool, true, false, cond, List, [], ◌∷◌, map, filter, take, drop, get_or, length, refl, sym, ◌∙◌, ap, subst, arith, Ordering, Less, Equal, Greater}
-use Rattle.std.specs.Prelude.{IsSorted}
-use Rattle.std.specs.Ordering.{is_eq, is_lt}
+use Rattle.std.specs.Ordering.{is_eq}
 use Rattle.std.proofs.lemmas.List.{get_or-take, get_or-drop, get_or-map, length-drop, length-map, length-take}
 use Rattle.wd_value.specs.Rows.{Row, columns_of, row_at, rows_at}
-use Rattle.wd_sort.specs.Sorting.{compare_rows, compare_rows_at}
-use Rattle.wd_plan.specs.Keys.{compare_keys}
+use Rattle.wd_sort.specs.Sorting.{compare_rows_at}
 use Rattle.wd_plan.specs.Partitions.{GroupsRise, group_of, members, partition_of}
 use Rattle.wd_plan.specs.Plans.{ClassRule}
-use Rattle.wd_plan.specs.Sorting.{IsOrdering, order_columns, same_partition}
+use Rattle.wd_plan.specs.Sorting.{order_columns, same_partition}
 use Rattle.wd_plan.proofs.Places as laws
 use Rattle.wd_plan.proofs.Groups.{key_from_group}
 use Rattle.wd_plan.proofs.GroupsRise.{peer_groups_rise}
-use Rattle.wd_plan.proofs.KeyLaws.{compare_keys-exact, compare_keys-ties}
+use Rattle.wd_value.proofs.KeyLaws.{compare_keys-ties}
 use Rattle.wd_plan.proofs.Parts.{same_partition_is}
 use Rattle.wd_plan.proofs.SortedGroups.{tied_group}
-use Rattle.wd_partition.specs.Columns.{class_by, partition_columns, sort_columns}
+use Rattle.wd_partition.specs.Columns.{partition_columns}
 use Rattle.wd_partition.specs.Groups.{next_group}
 use Rattle.wd_partition.specs.Members.{own_group}
 use Rattle.wd_partition.specs.Orderings.{IsGroupedOrdering}
 use Rattle.wd_partition.specs.Runs.{ends_at, starts_at}
-use Rattle.wd_partition.proofs.ByColumns.{as_keys, tie_is_partition}
+use Rattle.wd_partition.proofs.ByColumns.{tie_is_partition}
 use Rattle.wd_partition.proofs.Stretches.{end_over, rising, rows_total, same_start, start_here, start_within, tied_stretch}
 
 module _ (class : ClassRule) (rows : List Row) (s : List ℕ) (grouped : IsGroupedOrdering class rows s) where
@@ -28,7 +26,7 @@ module _ (class : ClassRule) (rows : List Row) (s : List ℕ) (grouped : IsGroup
   by_partition = compare_rows_at (partition_columns class.partition) rows
 
   abbrev by_keys : ℕ → ℕ → Ordering
-  by_keys = compare_rows_at (sort_columns (class_by [] class.order)) rows
+  by_keys = compare_rows_at class.order rows
 
   abbrev pub start : ℕ → ℕ
   start p = starts_at by_partition s p
@@ -118,13 +116,13 @@ module _ (class : ClassRule) (rows : List Row) (s : List ℕ) (grouped : IsGroup
     goes_up differs (inl e) =
         let keys : columns_of (order_columns class) (row_at (partition_of class rows s p) (k - start p)) ≡ columns_of (order_columns class) (row_at (partition_of class rows s p) (k - start p + 1)) = key_from_group class (partition_of class rows s p) (k - start p) (k - start p + 1) (let l = long_next in omega arith) long_next (sym e) in
         let same : columns_of (order_columns class) (row_at rows q) ≡ columns_of (order_columns class) (row_at rows p) = ap (columns_of (order_columns class)) (sym at_k) ∙ keys ∙ ap (columns_of (order_columns class)) at_next in
-        let ties : by_keys q p ≡ Equal = as_keys class.order (row_at rows q) (row_at rows p) ∙ compare_keys-ties class.order (row_at rows q) (row_at rows p) same in
+        let ties : by_keys q p ≡ Equal = compare_keys-ties class.order (row_at rows q) (row_at rows p) same in
         absurd (let yes : is_eq (by_keys q p) ≡ true = ap is_eq ties in cc)
     goes_up differs (inr e) =
         ap (group_of class (partition_of class rows s p)) (sym at_next) ∙ e ∙ ap (λ r. group_of class (partition_of class rows s p) r + 1) at_k ∙ ap (λ n. n + 1) (sym same_group)
 
     stays : is_eq (by_keys q p) ≡ true → own_group class rows s p ≡ own_group class rows s q
-    stays e = tied_group class (partition_of class rows s p) (row_at rows q) (row_at rows p) (sym (as_keys class.order (row_at rows q) (row_at rows p)) ∙ is_eq_Equal (by_keys q p) e) ∙ sym same_group
+    stays e = tied_group class (partition_of class rows s p) (row_at rows q) (row_at rows p) (is_eq_Equal (by_keys q p) e) ∙ sym same_group
       where
         is_eq_Equal : (o : Ordering) → is_eq o ≡ true → o ≡ Equal
         is_eq_Equal Less f = cc

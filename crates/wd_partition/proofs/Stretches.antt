@@ -11,9 +11,9 @@ use Rattle.std.proofs.lemmas.List.Sorted.{ranks_by, sorted_far}
 use Rattle.std.proofs.lemmas.List.Sums.{count_by-le-length, sum_by-take-drop}
 use Rattle.wd_value.proofs.Perms.{count_by-cons}
 use Rattle.wd_plan.proofs.Sorted.{Rising}
-use Rattle.wd_sort.specs.declared.sort.SortColumn.{SortColumn}
+use Rattle.wd_value.specs.declared.order.SortColumn.{SortColumn}
 use Rattle.wd_sort.specs.Sorting.{compare_rows_at}
-use Rattle.wd_sort.proofs.Order.{compare_rows_total}
+use Rattle.wd_value.proofs.KeyLaws.{compare_keys_total}
 use Rattle.wd_value.specs.Rows.{Row, row_at}
 use Rattle.wd_partition.specs.Runs.{ends_at, starts_at}
 
@@ -207,7 +207,7 @@ module _ (R : ℕ → ℕ → Ordering) (o : IsTotalOrder R) where
 -- ---- by the columns of rows
 
 pub rows_total : (columns : List SortColumn) (rows : List Row) → IsTotalOrder (compare_rows_at columns rows)
-rows_total columns rows = on_total (row_at rows) (compare_rows_total columns)
+rows_total columns rows = on_total (row_at rows) (compare_keys_total columns)
 
 pub mapped : (f : ℕ → ℕ) (xs ys : List ℕ) → length ys ≡ length xs → ((k : ℕ) → k < length xs → get_or ys k 0 ≡ f (get_or xs k 0)) → ys ≡ map f xs
 mapped f [] [] e h = refl

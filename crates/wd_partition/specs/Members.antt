@@ -4,7 +4,7 @@ use Rattle.wd_value.specs.declared.value.Value.{Value}
 use Rattle.wd_value.specs.declared.value.Value.TheVariants.{Null, Int, Text, Bool as Truth}
 use Rattle.wd_value.specs.Bags.{positions}
 use Rattle.wd_value.specs.Rows.{Row, column_of, row_at}
-use Rattle.wd_plan.specs.declared.plan.OrderItem.{OrderItem}
+use Rattle.wd_value.specs.declared.order.SortColumn.{SortColumn}
 use Rattle.wd_plan.specs.Partitions.{group_of, members, partition_of, place_in}
 use Rattle.wd_plan.specs.Plans.{ClassRule}
 use Rattle.wd_plan.specs.Sorting.{IsOrdering}
@@ -25,7 +25,7 @@ number_part (Text bytes) = Null
 number_part (Truth b) = Null
 
 -- the numbers of the only sort key, where they are asked for
-abbrev pub key_numbers : Bool → List OrderItem → List Row → List Value
+abbrev pub key_numbers : Bool → List SortColumn → List Row → List Value
 key_numbers true (key ∷ []) rows = map (λ r. number_part (column_of r key.column)) rows
 key_numbers true [] rows = []
 key_numbers true (key ∷ other ∷ keys) rows = []

@@ -3,11 +3,10 @@
 ghost use Rattle.std.specs.Prelude.{◌≡◌, IfOk};
 ghost use Rattle.wd_partition.specs.Columns as spec;
 ghost use Rattle.wd_partition.specs.Columns.{class_by};
+ghost use Rattle.wd_value.specs.Keys as sort_keys;
 
 use std::alloc::Global;
-use wd_plan::OrderItem;
-use wd_sort::SortColumn;
-use wd_value::{OutOfMemory, SortKey};
+use wd_value::{OutOfMemory, SortColumn, SortKey};
 
 /// The partition's columns, ascending with NULL last: the order of the partitions is left open by
 /// the SQL standard, and none is asked for.
@@ -22,7 +21,7 @@ pub fn partition_columns(alloc: Global, partition: &[u16]) -> Result<Vec<SortCol
 }
 
 fn ascending(column: u16) -> SortColumn
-    ensures { result ≡ spec.ascending column }
+    ensures { result ≡ sort_keys.ascending column }
 {
     let key = SortKey {
         desc: false,
@@ -31,20 +30,17 @@ fn ascending(column: u16) -> SortColumn
     SortColumn { column, key }
 }
 
-/// The partition's columns, and then those of the sort keys.
+/// The partition's columns, and then the sort keys.
 pub fn sort_columns(
     alloc: Global,
     partition: &[u16],
-    keys: &[OrderItem],
+    keys: &[SortColumn],
 ) -> Result<Vec<SortColumn>, OutOfMemory>
     ensures { IfOk result (λ v. v.items ≡ spec.sort_columns (class_by partition.now keys.now)) }
 {
     let mut columns = partition_columns(alloc, partition)?;
-    for item in keys {
-        columns.push(SortColumn {
-            column: item.column,
-            key: item.key,
-        })?;
+    for key in keys {
+        columns.push(*key)?;
     }
     Ok(columns)
 }

@@ -8,19 +8,17 @@ ghost use Rattle.wd_partition.specs.Orderings.{IsGroupedOrdering};
 ghost use Rattle.wd_sort.specs.Sorting as sorting;
 ghost use Rattle.wd_value.specs.Rows.{rows_of, row_at, rows_at, column_of};
 
-use crate::columns::{partition_columns, sort_columns};
+use crate::columns::partition_columns;
 use crate::runs::are_tied;
 use std::alloc::Global;
-use wd_plan::OrderItem;
-use wd_sort::SortColumn;
-use wd_value::{OutOfMemory, Row, Value};
+use wd_value::{OutOfMemory, Row, SortColumn, Value};
 
 /// The peer group number of the row at each of the positions, in its own partition.
 pub fn group_numbers(
     alloc: Global,
     rows: &[Row],
     partition: &[u16],
-    keys: &[OrderItem],
+    keys: &[SortColumn],
     positions: &[u64],
 ) -> Result<Vec<u32>, OutOfMemory>
     requires short { length positions.now < 2 ^ 32 }
@@ -28,11 +26,10 @@ pub fn group_numbers(
     ensures { IfOk result (λ v. v.items ≡ map (members.own_group (class_by partition.now keys.now) (rows_of rows.now) positions.now) positions.now) }
 {
     let by_partition = partition_columns(alloc, partition)?;
-    let by_keys = sort_columns(alloc, &[], keys)?;
     let mut groups = Vec::with_capacity(alloc, positions.len())?;
     let mut group = 0;
     for i in 0..positions.len() {
-        group = next_group(rows, &by_partition, &by_keys, positions, i, group);
+        group = next_group(rows, &by_partition, keys, positions, i, group);
         groups.push(group)?;
     }
     Ok(groups)
@@ -71,7 +68,7 @@ fn next_group(
 pub fn key_numbers(
     alloc: Global,
     rows: &[Row],
-    keys: &[OrderItem],
+    keys: &[SortColumn],
     positions: &[u64],
     asked: bool,
 ) -> Result<Vec<Value>, OutOfMemory>

@@ -9,8 +9,7 @@ ghost use Rattle.wd_value.specs.Rows.{rows_of};
 use crate::members::{Partitions, partitions_of};
 use crate::ordering::grouped;
 use std::alloc::Global;
-use wd_plan::OrderItem;
-use wd_value::{OutOfMemory, Row};
+use wd_value::{OutOfMemory, Row, SortColumn};
 
 /// The partitions of an ordering of the rows under a class, with the numbers of its sort key where
 /// they are asked for and it has exactly one; none where the list is no ordering of the class (SQL,
@@ -20,7 +19,7 @@ pub fn partitions(
     alloc: Global,
     rows: &[Row],
     partition: &[u16],
-    keys: &[OrderItem],
+    keys: &[SortColumn],
     ordering: &[u64],
     numbers: bool,
 ) -> Result<Option<Partitions>, OutOfMemory>

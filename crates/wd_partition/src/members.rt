@@ -15,8 +15,7 @@ use crate::placing::places_of;
 use crate::runs::{partition_ends, partition_starts};
 use std::alloc::Global;
 use std::marker::Model;
-use wd_plan::OrderItem;
-use wd_value::{OutOfMemory, Row, Value};
+use wd_value::{OutOfMemory, Row, SortColumn, Value};
 
 /// The partitions of an ordering: for each row the members of its partition, their peer group
 /// numbers, and its place there. A few words for each row.
@@ -72,7 +71,7 @@ pub fn partitions_of(
     alloc: Global,
     rows: &[Row],
     partition: &[u16],
-    keys: &[OrderItem],
+    keys: &[SortColumn],
     sorted: Vec<u64>,
     asked: bool,
 ) -> Result<Partitions, OutOfMemory>

@@ -11,9 +11,8 @@ ghost use Rattle.wd_value.specs.Rows.{rows_of};
 use crate::columns::{partition_columns, sort_columns};
 use crate::once::has_each_once;
 use std::alloc::Global;
-use wd_plan::OrderItem;
 use wd_sort::{all_positions, is_sorted, sorted_from};
-use wd_value::{OutOfMemory, Row};
+use wd_value::{OutOfMemory, Row, SortColumn};
 
 /// The ordering that a stable sort gives: the positions of the rows by the partition columns,
 /// ascending with NULL last, and then by the sort keys. Rows that tie on all of these stay as they
@@ -23,7 +22,7 @@ pub fn sorted_ordering(
     alloc: Global,
     rows: &[Row],
     partition: &[u16],
-    keys: &[OrderItem],
+    keys: &[SortColumn],
     flipped: bool,
 ) -> Result<Vec<u64>, OutOfMemory>
     ensures stable { IfOk result (λ v. IsStableSortOf (columns_of_class.sort_columns (class_by partition.now keys.now)) (rows_of rows.now) (columns_of_class.given_positions flipped (length rows.now)) v.items) }
@@ -52,7 +51,7 @@ pub fn is_ordering(
     alloc: Global,
     rows: &[Row],
     partition: &[u16],
-    keys: &[OrderItem],
+    keys: &[SortColumn],
     ordering: &[u64],
 ) -> Result<bool, OutOfMemory>
     ensures { IfOk result (λ b. IsTrue b ↔ IsOrdering (class_by partition.now keys.now) (rows_of rows.now) ordering.now) }
@@ -70,7 +69,7 @@ pub fn grouped(
     alloc: Global,
     rows: &[Row],
     partition: &[u16],
-    keys: &[OrderItem],
+    keys: &[SortColumn],
     ordering: &[u64],
 ) -> Result<Option<Vec<u64>>, OutOfMemory>
     ensures { IfOk result (λ o. MatchOption o (IsOrdering (class_by partition.now keys.now) (rows_of rows.now) ordering.now → ⊥) (λ v. AreGrouped (class_by partition.now keys.now) (rows_of rows.now) ordering.now v.items)) }

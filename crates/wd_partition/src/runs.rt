@@ -7,8 +7,8 @@ ghost use Rattle.wd_sort.specs.Sorting as sorting;
 ghost use Rattle.wd_value.specs.Rows.{rows_of};
 
 use std::alloc::Global;
-use wd_sort::{SortColumn, compare_rows_at};
-use wd_value::{OutOfMemory, Row};
+use wd_sort::compare_rows_at;
+use wd_value::{OutOfMemory, Row, SortColumn};
 
 /// For each of the sorted positions, how many stand before its partition.
 pub fn partition_starts(

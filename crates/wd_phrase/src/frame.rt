@@ -7,16 +7,16 @@ ghost use Rattle.std.specs.Prelude.{◌≡◌};
 
 use crate::refusal::Refusal;
 use crate::tokens::{eat, eat_word, expect, expect_word, number_at};
-use wd_lex::{Delimiter, Token, TokenKind};
+use wd_lex::{Terminal, Token, TokenKind};
 use wd_syntax::{Bound, Exclusion, Extent, Frame, FrameMode, KeyWord, NullsPlace, SortDirection};
 
-fn mode_of(mark: Delimiter) -> Option<FrameMode>
-    ensures { result ≡ mode_if mark }
+fn mode_of(terminal: Terminal) -> Option<FrameMode>
+    ensures { result ≡ mode_if terminal }
 {
-    match mark {
-        Delimiter::Rows => Some(FrameMode::Rows),
-        Delimiter::Range => Some(FrameMode::Range),
-        Delimiter::Groups => Some(FrameMode::Groups),
+    match terminal {
+        Terminal::Rows => Some(FrameMode::Rows),
+        Terminal::Range => Some(FrameMode::Range),
+        Terminal::Groups => Some(FrameMode::Groups),
         _ => None,
     }
 }
@@ -28,7 +28,7 @@ fn mode_at(tokens: &[Token]) -> Option<(FrameMode, &[Token])>
     match tokens {
         [
             Token {
-                kind: TokenKind::Delimiter(first),
+                kind: TokenKind::Terminal(first),
                 ..
             },
             rest @ ..,
@@ -83,7 +83,7 @@ fn extent_at(tokens: &[Token]) -> Result<(Extent, &[Token]), Refusal>
     match eat_word(tokens, KeyWord::Between) {
         Some(rest) => {
             let (start, rest) = bound_at(rest)?;
-            let rest = expect(rest, Delimiter::And)?;
+            let rest = expect(rest, Terminal::And)?;
             let (end, rest) = bound_at(rest)?;
             Ok((Extent::Between(start, end), rest))
         }
@@ -103,7 +103,7 @@ fn excluded_at(tokens: &[Token]) -> Result<(Exclusion, &[Token]), Refusal>
         let rest = expect_word(rest, KeyWord::Row)?;
         return Ok((Exclusion::CurrentRow, rest));
     }
-    if let Some(rest) = eat(tokens, Delimiter::Group) {
+    if let Some(rest) = eat(tokens, Terminal::Group) {
         return Ok((Exclusion::Group, rest));
     }
     if let Some(rest) = eat_word(tokens, KeyWord::Ties) {
@@ -154,10 +154,10 @@ pub fn frame_at(tokens: &[Token]) -> Result<(Option<Frame>, &[Token]), Refusal>
 pub fn direction_at(tokens: &[Token]) -> (Option<SortDirection>, &[Token])
     ensures { direction_at (kinds_of tokens.now) ≡ (result.0, kinds_of result.1.now) }
 {
-    if let Some(rest) = eat(tokens, Delimiter::Asc) {
+    if let Some(rest) = eat(tokens, Terminal::Asc) {
         return (Some(SortDirection::Ascending), rest);
     }
-    match eat(tokens, Delimiter::Desc) {
+    match eat(tokens, Terminal::Desc) {
         Some(rest) => (Some(SortDirection::Descending), rest),
         None => (None, tokens),
     }

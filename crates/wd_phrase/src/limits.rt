@@ -7,7 +7,7 @@ ghost use Rattle.wd_phrase.specs.Given.{Gives, Finds, MayGive};
 
 use crate::refusal::Refusal;
 use crate::tokens::{eat, eat_word, expect_word, number_at};
-use wd_lex::{Delimiter, Token, TokenKind};
+use wd_lex::{Terminal, Token, TokenKind};
 use wd_syntax::{Count, FetchWord, KeyWord, Limits, Offset, RowWord};
 
 /// `ROW` or `ROWS`, where it stands first.
@@ -18,7 +18,7 @@ fn row_at(tokens: &[Token]) -> Option<(RowWord, &[Token])>
     if let Some(rest) = eat_word(tokens, KeyWord::Row) {
         return Some((RowWord::Row, rest));
     }
-    match eat(tokens, Delimiter::Rows) {
+    match eat(tokens, Terminal::Rows) {
         Some(rest) => Some((RowWord::Rows, rest)),
         None => None,
     }
@@ -72,7 +72,7 @@ fn number_option_at(tokens: &[Token]) -> (Option<u64>, &[Token])
 fn ties_at(tokens: &[Token]) -> Result<(bool, &[Token]), Refusal>
     ensures { Gives (λ x. (x.0, kinds_of x.1.now)) result (ties_at (kinds_of tokens.now)) }
 {
-    match eat(tokens, Delimiter::With) {
+    match eat(tokens, Terminal::With) {
         Some(rest) => Ok((true, expect_word(rest, KeyWord::Ties)?)),
         None => Ok((false, expect_word(tokens, KeyWord::Only)?)),
     }
@@ -114,11 +114,11 @@ fn limit_at(tokens: &[Token]) -> Result<(Count, &[Token]), Refusal>
 fn count_if(tokens: &[Token]) -> Result<Option<(Count, &[Token])>, Refusal>
     ensures { MayGive (λ x. (x.0, kinds_of x.1.now)) result (count_if (kinds_of tokens.now)) }
 {
-    if let Some(rest) = eat(tokens, Delimiter::Limit) {
+    if let Some(rest) = eat(tokens, Terminal::Limit) {
         let (count, rest) = limit_at(rest)?;
         return Ok(Some((count, rest)));
     }
-    match eat(tokens, Delimiter::Fetch) {
+    match eat(tokens, Terminal::Fetch) {
         Some(rest) => {
             let (count, rest) = fetch_at(rest)?;
             Ok(Some((count, rest)))
@@ -132,7 +132,7 @@ fn count_if(tokens: &[Token]) -> Result<Option<(Count, &[Token])>, Refusal>
 fn offset_if(tokens: &[Token]) -> Result<Option<(Offset, &[Token])>, Refusal>
     ensures { MayGive (λ x. (x.0, kinds_of x.1.now)) result (offset_if (kinds_of tokens.now)) }
 {
-    match eat(tokens, Delimiter::Offset) {
+    match eat(tokens, Terminal::Offset) {
         Some(rest) => {
             let (offset, rest) = offset_at(rest)?;
             Ok(Some((offset, rest)))

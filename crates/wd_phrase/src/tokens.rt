@@ -4,31 +4,31 @@ ghost use Rattle.std.specs.Prelude.{◌≡◌};
 ghost use Rattle.std.specs.Option.{option_map};
 ghost use Rattle.wd_lex.specs.Lexed.{kinds_of};
 ghost use Rattle.wd_syntax.specs.Tokens.{letters, operator_height};
-ghost use Rattle.wd_syntax.specs.Reading.{is_mark, eat, expect, eat_word, expect_word, eat_name, name_at, number_at, operator_of, operator_at, sign_of, sign_at};
+ghost use Rattle.wd_syntax.specs.Reading.{is_terminal, eat, expect, eat_word, expect_word, eat_name, name_at, number_at, operator_of, operator_at, sign_of, sign_at};
 ghost use Rattle.wd_phrase.specs.Given.{Gives, MayFind, Finds};
 
 use crate::refusal::Refusal;
 use std::alloc::Global;
-use wd_lex::{Delimiter, Token, TokenKind};
+use wd_lex::{Terminal, Token, TokenKind};
 use wd_syntax::{KeyWord, Name, Operator, Sign};
 
-fn is_mark(kind: &TokenKind, mark: Delimiter) -> bool
-    ensures { result ≡ is_mark mark kind.now }
+fn is_terminal(kind: &TokenKind, terminal: Terminal) -> bool
+    ensures { result ≡ is_terminal terminal kind.now }
 {
     match kind {
-        TokenKind::Delimiter(found) => *found == mark,
+        TokenKind::Terminal(found) => *found == terminal,
         _ => false,
     }
 }
 
-/// The tokens after a mark, where it stands first.
+/// The tokens after a terminal, where it stands first.
 #[tactic(auto, unfolding(wd_syntax::specs::Reading::eat))]
-pub fn eat(tokens: &[Token], mark: Delimiter) -> Option<&[Token]>
-    ensures { Finds (λ r. kinds_of r.now) result (eat mark (kinds_of tokens.now)) }
+pub fn eat(tokens: &[Token], terminal: Terminal) -> Option<&[Token]>
+    ensures { Finds (λ r. kinds_of r.now) result (eat terminal (kinds_of tokens.now)) }
 {
     match tokens {
         [first, rest @ ..] => {
-            if is_mark(&first.kind, mark) {
+            if is_terminal(&first.kind, terminal) {
                 Some(rest)
             } else {
                 None
@@ -38,12 +38,12 @@ pub fn eat(tokens: &[Token], mark: Delimiter) -> Option<&[Token]>
     }
 }
 
-/// The tokens after a mark, which has to stand first: else its place is refused as unexpected.
+/// The tokens after a terminal, which has to stand first: else its place is refused as unexpected.
 #[tactic(auto, unfolding(wd_syntax::specs::Reading::expect))]
-pub fn expect(tokens: &[Token], mark: Delimiter) -> Result<&[Token], Refusal>
-    ensures { Gives (λ r. kinds_of r.now) result (expect mark (kinds_of tokens.now)) }
+pub fn expect(tokens: &[Token], terminal: Terminal) -> Result<&[Token], Refusal>
+    ensures { Gives (λ r. kinds_of r.now) result (expect terminal (kinds_of tokens.now)) }
 {
-    match eat(tokens, mark) {
+    match eat(tokens, terminal) {
         Some(rest) => Ok(rest),
         None => Err(Refusal::Unexpected { left: tokens.len() }),
     }
@@ -169,23 +169,23 @@ pub fn number_at(tokens: &[Token]) -> Result<(u64, &[Token]), Refusal>
     }
 }
 
-fn operator_of(mark: Delimiter) -> Option<Operator>
-    ensures { result ≡ operator_of mark }
+fn operator_of(terminal: Terminal) -> Option<Operator>
+    ensures { result ≡ operator_of terminal }
 {
-    match mark {
-        Delimiter::Or => Some(Operator::Or),
-        Delimiter::And => Some(Operator::And),
-        Delimiter::Equals => Some(Operator::Equal),
-        Delimiter::NotEquals => Some(Operator::NotEqual),
-        Delimiter::Less => Some(Operator::Less),
-        Delimiter::LessOrEqual => Some(Operator::LessOrEqual),
-        Delimiter::Greater => Some(Operator::Greater),
-        Delimiter::GreaterOrEqual => Some(Operator::GreaterOrEqual),
-        Delimiter::Plus => Some(Operator::Add),
-        Delimiter::Minus => Some(Operator::Subtract),
-        Delimiter::Star => Some(Operator::Multiply),
-        Delimiter::Slash => Some(Operator::Divide),
-        Delimiter::Percent => Some(Operator::Remainder),
+    match terminal {
+        Terminal::Or => Some(Operator::Or),
+        Terminal::And => Some(Operator::And),
+        Terminal::Equals => Some(Operator::Equal),
+        Terminal::NotEquals => Some(Operator::NotEqual),
+        Terminal::Less => Some(Operator::Less),
+        Terminal::LessOrEqual => Some(Operator::LessOrEqual),
+        Terminal::Greater => Some(Operator::Greater),
+        Terminal::GreaterOrEqual => Some(Operator::GreaterOrEqual),
+        Terminal::Plus => Some(Operator::Add),
+        Terminal::Minus => Some(Operator::Subtract),
+        Terminal::Star => Some(Operator::Multiply),
+        Terminal::Slash => Some(Operator::Divide),
+        Terminal::Percent => Some(Operator::Remainder),
         _ => None,
     }
 }
@@ -216,7 +216,7 @@ pub fn operator_at(tokens: &[Token], height: u8) -> Option<(Operator, &[Token])>
     match tokens {
         [
             Token {
-                kind: TokenKind::Delimiter(first),
+                kind: TokenKind::Terminal(first),
                 ..
             },
             rest @ ..,
@@ -242,14 +242,14 @@ pub fn sign_at(tokens: &[Token]) -> Option<(Sign, &[Token])>
     match tokens {
         [
             Token {
-                kind: TokenKind::Delimiter(Delimiter::Plus),
+                kind: TokenKind::Terminal(Terminal::Plus),
                 ..
             },
             rest @ ..,
         ] => Some((Sign::Plus, rest)),
         [
             Token {
-                kind: TokenKind::Delimiter(Delimiter::Minus),
+                kind: TokenKind::Terminal(Terminal::Minus),
                 ..
             },
             rest @ ..,

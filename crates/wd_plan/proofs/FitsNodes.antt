@@ -1,8 +1,10 @@
 -- A node over inputs that fit: whether it fits is what its own rule says.
-use Rattle.std.proofs.Common.{◌≡◌, ◌+◌, ◌∙◌, sym, ap, Bool, true, ◌&&◌, List, Option}
+use Rattle.std.proofs.Common.{◌≡◌, ◌+◌, ◌∙◌, sym, ap, ℕ, Bool, true, ◌&&◌, List, Option, option_and_then, slice_get}
 use Rattle.wd_schema.specs.Tables.{TableRule}
 use Rattle.wd_plan.specs.Expressions.{Expression}
-use Rattle.wd_plan.specs.Fits.{fits, kinds_of, width, is_join, is_condition, are_outputs, is_window}
+use Rattle.wd_plan.specs.Fits.{Kinds, fits, kind_of, kinds_of, width, is_join, is_condition, are_outputs, is_window}
+use Rattle.wd_plan.specs.declared.fits.KindSource.{KindSource}
+use Rattle.wd_plan.specs.Sources.{kind_from}
 use Rattle.wd_plan.specs.Plans.{PlanTree, WindowRule, Join, Filter, Map, Window}
 
 -- a first answer that is true leaves the second
@@ -22,3 +24,9 @@ pub fits-join : (tables : List TableRule) (plan left right : PlanTree) (conditio
 fits-join tables plan left right condition r is h k own =
     let own' : r ≡ is_join (kinds_of tables (Join condition left right)) (width left + width right) condition = own ∙ ap (λ p. is_join (kinds_of tables p) (width p) condition) is in
     second (fits tables left && fits tables right) (is_join (kinds_of tables (Join condition left right)) (width left + width right) condition) r (sym (second (fits tables left) (fits tables right) true h (sym k))) own' ∙ ap (fits tables) (sym is)
+
+-- the kind of a Map's output, where a source gives the kind of each of them
+pub kinds-map : (tables : List TableRule) (plan input : PlanTree) (outputs : List Expression) (column : ℕ) (source : Option KindSource) → plan ≡ Map outputs input
+    → ((kinds : Kinds) → option_and_then (kind_from kinds) source ≡ option_and_then (kind_of kinds) (slice_get outputs column))
+    → option_and_then (kind_from (kinds_of tables input)) source ≡ kinds_of tables plan column
+kinds-map tables plan input outputs column source is gives = gives (kinds_of tables input) ∙ ap (λ p. kinds_of tables p column) (sym is)

@@ -4,12 +4,12 @@ use Rattle.std.specs.List.{AllByRecursion, list_any}
 use Rattle.std.specs.Ordering.{ordering_reverse}
 use Rattle.std.proofs.lemmas.List.{map-append}
 use Rattle.std.proofs.lemmas.Cmp.{alike_right, tied_itself}
-use Rattle.wd_plan.proofs.KeyLaws.{compare_keys-exact, compare_keys-ties, compare_keys_total}
-use Rattle.wd_plan.specs.Keys.{compare_keys}
+use Rattle.wd_value.proofs.KeyLaws.{compare_keys-exact, compare_keys-ties, compare_keys_total}
+use Rattle.wd_value.specs.Keys.{compare_keys}
 use Rattle.wd_plan.specs.Partitions.{different, group_of}
 use Rattle.wd_plan.specs.Plans.{ClassRule}
 use Rattle.wd_plan.specs.Sorting.{order_columns}
-use Rattle.wd_plan.specs.declared.plan.OrderItem.{OrderItem}
+use Rattle.wd_value.specs.declared.order.SortColumn.{SortColumn}
 use Rattle.wd_value.proofs.Perms.{Perm, Perm-map, Perm-middle, Perm-refl, Perm-sym, both, keep, Perm-list_any, done, flip}
 use Rattle.wd_value.proofs.SameLaws.{same_row-Decides}
 use Rattle.wd_value.specs.Rows.{Row, columns_of, row_at, same_row}
@@ -81,7 +81,7 @@ passes_some t (x ∷ xs) (suc i) d l e = by (t x) (passes_some t xs i d (omega a
 
 -- ---- keys
 
-less_chain : (items : List OrderItem) (a b c : Row) → is_lt (compare_keys items a b) ≡ true → compare_keys items b c ≡ Less → is_lt (compare_keys items a c) ≡ true
+less_chain : (items : List SortColumn) (a b c : Row) → is_lt (compare_keys items a b) ≡ true → compare_keys items b c ≡ Less → is_lt (compare_keys items a c) ≡ true
 less_chain items a b c e f = ap is_lt ((compare_keys_total items).trans a b c (is_lt_Less _ e) f)
   where
     is_lt_Less : (o : Ordering) → is_lt o ≡ true → o ≡ Less

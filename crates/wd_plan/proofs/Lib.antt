@@ -1,4 +1,3 @@
-pub mod KeyLaws
 pub mod Sorted
 pub mod Places
 pub mod Parts
@@ -7,4 +6,5 @@ pub mod SortedGroups
 pub mod GroupsRise
 pub mod ChoiceLaws
 pub mod FitsNodes
+pub mod Ranges
 pub mod SortLaws

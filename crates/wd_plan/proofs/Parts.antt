@@ -3,7 +3,7 @@ use Rattle.std.proofs.Common.{◌≡◌, ℕ, Bool, true, false, List, [], ◌�
 use Rattle.std.specs.List.{AllByRecursion}
 use Rattle.std.proofs.lemmas.Bool.Decides.{Decides-eqb}
 use Rattle.wd_plan.proofs.Sorted.{Rising}
-use Rattle.wd_plan.specs.Keys.{compare_keys}
+use Rattle.wd_value.specs.Keys.{compare_keys}
 use Rattle.wd_plan.specs.Partitions.{partition_of}
 use Rattle.wd_plan.specs.Plans.{ClassRule}
 use Rattle.wd_plan.specs.Sorting.{IsInOrder, same_partition}

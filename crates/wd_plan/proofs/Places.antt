@@ -7,7 +7,7 @@ use Rattle.wd_plan.specs.Partitions.{place_in, members, partition_of}
 use Rattle.wd_value.proofs.Perms.{count_by-cons, count_by-no, count_by-yes}
 use Rattle.wd_value.specs.Bags.{times, EachOnce}
 use Rattle.std.proofs.lemmas.List.{length-map, get_or-map, same_lists}
-use Rattle.wd_plan.proofs.KeyLaws.{same_row_self}
+use Rattle.wd_value.proofs.KeyLaws.{same_row_self}
 use Rattle.wd_plan.specs.Plans.{ClassRule}
 use Rattle.wd_plan.specs.Sorting.{same_partition}
 use Rattle.wd_value.specs.Rows.{Row, columns_of, row_at, same_row}

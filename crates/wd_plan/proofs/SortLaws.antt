@@ -10,17 +10,17 @@ use Rattle.std.proofs.lemmas.List.Sorted.{sorted_far, ranks_by, sum_by-IsPermuta
 use Rattle.wd_value.specs.Bags.{positions, EachOnce}
 use Rattle.wd_value.specs.Rows.{Row, column_of, columns_of, row_at, rows_at}
 use Rattle.wd_value.proofs.SameLaws.{same_row-Decides}
-use Rattle.wd_plan.specs.declared.plan.OrderItem.{OrderItem}
-use Rattle.wd_plan.specs.Keys.{compare_keys, key_columns}
+use Rattle.wd_value.specs.declared.order.SortColumn.{SortColumn}
+use Rattle.wd_value.specs.Keys.{compare_keys, key_columns}
 use Rattle.wd_plan.specs.Plans.{ClassRule}
 use Rattle.wd_plan.specs.Sorting.{same_partition, IsInOrder, IsOrdering}
-use Rattle.wd_plan.proofs.KeyLaws.{compare_keys_total, compare_keys-ties}
+use Rattle.wd_value.proofs.KeyLaws.{compare_keys_total, compare_keys-ties}
 
 -- a rearrangement of the positions has each once
 pub EachOnce-from_IsPermutation : (n : ℕ) (ordering : List ℕ) → IsPermutation (positions n) ordering → EachOnce n ordering
 EachOnce-from_IsPermutation n ordering h p = sym (sum_by-IsPermutation (λ q. cond (nat_eq p q) 1 0) (positions n) ordering h)
 
-abbrev pub ascending : ℕ → OrderItem
+abbrev pub ascending : ℕ → SortColumn
 ascending c = record { column = c; key = record { desc = false; nulls_first = false } }
 
 -- by partition, ascending with NULL last, then by the keys

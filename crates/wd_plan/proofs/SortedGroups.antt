@@ -6,10 +6,10 @@ use Rattle.std.proofs.lemmas.Cmp.{tied_itself}
 use Rattle.std.proofs.lemmas.Bool.{and_parts}
 use Rattle.std.proofs.lemmas.List.{get_or_at, length-append}
 use Rattle.wd_plan.proofs.Groups.{below, group_alike, group_split, passes_some}
-use Rattle.wd_plan.proofs.KeyLaws.{compare_keys-exact, compare_keys_total}
+use Rattle.wd_value.proofs.KeyLaws.{compare_keys-exact, compare_keys_total}
 use Rattle.wd_plan.proofs.Parts.{NotAfter, all_filter}
 use Rattle.wd_plan.proofs.Sorted.{Rising}
-use Rattle.wd_plan.specs.Keys.{compare_keys}
+use Rattle.wd_value.specs.Keys.{compare_keys}
 use Rattle.wd_plan.specs.Partitions.{different, group_of}
 use Rattle.wd_plan.specs.Plans.{ClassRule}
 use Rattle.wd_plan.specs.Sorting.{order_columns}

@@ -10,8 +10,18 @@ use Rattle.wd_value.specs.declared.order.SortKey.{SortKey}
 use Rattle.wd_value.specs.Order.{compare}
 use Rattle.wd_value.specs.Rows.{Row, column_of, row_at}
 use Rattle.wd_plan.specs.declared.window.Frame.{Frame}
-use Rattle.wd_plan.specs.declared.window.Function.{Function}
-use Rattle.wd_plan.specs.declared.window.Function.TheVariants.{RowNumber, Rank, DenseRank, Ntile, Lag, Lead, FirstValue, LastValue, NthValue, CountRows, Count, Sum, Min, Max}
+use Rattle.wd_plan.specs.declared.function.Aggregate.{Aggregate as AggregateFunction}
+use Rattle.wd_plan.specs.declared.function.Aggregate.TheVariants.{CountRows, Count, Sum, Min, Max}
+use Rattle.wd_plan.specs.declared.function.Direction.{Direction}
+use Rattle.wd_plan.specs.declared.function.Direction.TheVariants.{Lag, Lead}
+use Rattle.wd_plan.specs.declared.function.FrameFunction.{FrameFunction}
+use Rattle.wd_plan.specs.declared.function.FrameFunction.TheVariants.{ValueAt, Aggregate}
+use Rattle.wd_plan.specs.declared.function.FrameRow.{FrameRow}
+use Rattle.wd_plan.specs.declared.function.FrameRow.TheVariants.{First, Last, Nth}
+use Rattle.wd_plan.specs.declared.function.Function.{Function}
+use Rattle.wd_plan.specs.declared.function.Function.TheVariants.{Ranking as Ranked, Shift as Shifted, OfFrame}
+use Rattle.wd_plan.specs.declared.function.Ranking.{Ranking}
+use Rattle.wd_plan.specs.declared.function.Ranking.TheVariants.{RowNumber, Rank, DenseRank, Ntile}
 use Rattle.wd_plan.specs.Expressions.{fits_64, is_null}
 use Rattle.wd_plan.specs.Frames.{frame_of}
 use Rattle.wd_plan.specs.Partitions.{members, partition_of, place_in, group_of}
@@ -51,26 +61,46 @@ least vs = first_by (record { desc = false; nulls_first = false }) vs
 abbrev pub greatest : List Value → Value
 greatest vs = first_by (record { desc = true; nulls_first = false }) vs
 
--- the values of a column over a frame
-abbrev pub frame_values : ClassRule → Frame → List Row → ℕ → ℕ → List Value
-frame_values class frame partition i c = map (λ r. column_of r c) (frame_of class frame partition i)
+-- the values of a column of rows
+abbrev pub column_values : ℕ → List Row → List Value
+column_values c rows = map (λ r. column_of r c) rows
+
+-- the value of an aggregate over rows, or its fault
+abbrev pub aggregate_value : AggregateFunction → List Row → Result Value Fault
+aggregate_value CountRows rows = Ok (Int (pos (length rows)))
+aggregate_value (Count c) rows = Ok (Int (pos (count_by (λ r. not (is_null (column_of r c))) rows)))
+aggregate_value (Sum c) rows = sum_of (column_values c rows)
+aggregate_value (Min c) rows = Ok (least (column_values c rows))
+aggregate_value (Max c) rows = Ok (greatest (column_values c rows))
+
+-- the first, the last or the nth of the values; NULL where there is none
+abbrev pub taken : FrameRow → List Value → Value
+taken First values = slice_index_or values 0 Null
+taken Last values = slice_index_or (reverse values) 0 Null
+taken (Nth n) values = slice_index_or values (n - 1) Null
+
+-- the value of a function of a frame over the frame's rows
+abbrev pub frame_value : FrameFunction → List Row → Result Value Fault
+frame_value (ValueAt row c) rows = Ok (taken row (column_values c rows))
+frame_value (Aggregate a) rows = aggregate_value a rows
+
+-- the number that a ranking function gives at place i of a partition list
+abbrev pub ranking_value : ClassRule → Ranking → List Row → ℕ → ℕ
+ranking_value class RowNumber partition i = i + 1
+ranking_value class Rank partition i = 1 + count_by (λ q. nat_lt (group_of class partition q) (group_of class partition (row_at partition i))) partition
+ranking_value class DenseRank partition i = group_of class partition (row_at partition i) + 1
+ranking_value class (Ntile n) partition i = bucket n (length partition) i
+
+-- the value of column c k rows earlier or later than place i, else the default
+abbrev pub value_away : Direction → ℕ → ℕ → Value → List Row → ℕ → Value
+value_away Lag c k default partition i = if nat_le k i then column_of (row_at partition (i - k)) c else default
+value_away Lead c k default partition i = if nat_lt (i + k) (length partition) then column_of (row_at partition (i + k)) c else default
 
 -- the value of a call at place i of a partition list
 abbrev pub call_value : ClassRule → Frame → Function → List Row → ℕ → Result Value Fault
-call_value class frame RowNumber partition i = Ok (Int (pos (i + 1)))
-call_value class frame Rank partition i = Ok (Int (pos (1 + count_by (λ q. nat_lt (group_of class partition q) (group_of class partition (row_at partition i))) partition)))
-call_value class frame DenseRank partition i = Ok (Int (pos (group_of class partition (row_at partition i) + 1)))
-call_value class frame (Ntile n) partition i = Ok (Int (pos (bucket n (length partition) i)))
-call_value class frame (Lag c k default) partition i = Ok (if nat_le k i then column_of (row_at partition (i - k)) c else default)
-call_value class frame (Lead c k default) partition i = Ok (if nat_lt (i + k) (length partition) then column_of (row_at partition (i + k)) c else default)
-call_value class frame (FirstValue c) partition i = Ok (slice_index_or (frame_values class frame partition i c) 0 Null)
-call_value class frame (LastValue c) partition i = Ok (slice_index_or (reverse (frame_values class frame partition i c)) 0 Null)
-call_value class frame (NthValue c n) partition i = Ok (slice_index_or (frame_values class frame partition i c) (n - 1) Null)
-call_value class frame CountRows partition i = Ok (Int (pos (length (frame_of class frame partition i))))
-call_value class frame (Count c) partition i = Ok (Int (pos (count_by (λ r. not (is_null (column_of r c))) (frame_of class frame partition i))))
-call_value class frame (Sum c) partition i = sum_of (frame_values class frame partition i c)
-call_value class frame (Min c) partition i = Ok (least (frame_values class frame partition i c))
-call_value class frame (Max c) partition i = Ok (greatest (frame_values class frame partition i c))
+call_value class frame (Ranked r) partition i = Ok (Int (pos (ranking_value class r partition i)))
+call_value class frame (Shifted s) partition i = Ok (value_away s.direction s.argument s.offset s.default partition i)
+call_value class frame (OfFrame f) partition i = frame_value f (frame_of class frame partition i)
 
 -- the value of a call at the row at position r, under an ordering
 abbrev pub value_at : ClassRule → Frame → Function → List Row → List ℕ → ℕ → Result Value Fault

@@ -1,7 +1,7 @@
 -- When a plan fits a schema: its numbers of tables, columns and classes name something, each operand has the type that its
 -- place asks for, and no node has more than 1,024 columns (SQL, value expression, window clause, window function; PG,
 -- Window Function Calls; the limit is this project's choice).
-use Rattle.std.specs.Prelude.{ℕ, ◌+◌, ◌-◌, Bool, true, false, not, ◌&&◌, ◌||◌, List, [], ◌∷◌, length, nat_eq, nat_lt, nat_le, slice_get, if◌then◌else◌, Option, Some, None, is_some, option_map, option_and_then}
+use Rattle.std.specs.Prelude.{◌≡◌, ℕ, ◌+◌, ◌-◌, Bool, true, false, not, ◌&&◌, ◌||◌, List, [], ◌∷◌, length, nat_eq, nat_lt, nat_le, slice_get, if◌then◌else◌, Option, Some, None, is_some, option_map, option_and_then}
 use Rattle.std.specs.List.{list_all}
 use Rattle.wd_value.specs.declared.value.Value.{Value}
 use Rattle.wd_value.specs.declared.value.Value.TheVariants.{Null, Int, Text as TextValue, Bool as TruthValue}
@@ -11,19 +11,28 @@ use Rattle.wd_schema.specs.declared.table.Column.{Column as TableColumn}
 use Rattle.wd_schema.specs.Tables.{TableRule}
 use Rattle.wd_plan.specs.declared.expression.ValueKind.{ValueKind}
 use Rattle.wd_plan.specs.declared.expression.ValueKind.TheVariants.{Number, Text, Truth}
-use Rattle.wd_plan.specs.declared.fits.KindSource.{KindSource}
-use Rattle.wd_plan.specs.declared.fits.KindSource.TheVariants.{OfColumn, Always}
-use Rattle.wd_plan.specs.declared.plan.OrderItem.{OrderItem}
+use Rattle.wd_plan.specs.declared.function.Argument.{Argument}
+use Rattle.wd_plan.specs.declared.function.Argument.TheVariants as asks
+use Rattle.wd_plan.specs.declared.function.FrameFunction.{FrameFunction}
+use Rattle.wd_plan.specs.declared.function.FrameFunction.TheVariants.{ValueAt, Aggregate}
+use Rattle.wd_plan.specs.declared.function.FrameRow.{FrameRow}
+use Rattle.wd_plan.specs.declared.function.FrameRow.TheVariants.{First, Last, Nth}
+use Rattle.wd_plan.specs.declared.function.Function.{Function}
+use Rattle.wd_plan.specs.declared.function.Function.TheVariants.{Ranking as Ranked, Shift as Shifted, OfFrame}
+use Rattle.wd_plan.specs.declared.function.Ranking.{Ranking}
+use Rattle.wd_plan.specs.declared.function.Ranking.TheVariants.{RowNumber, Rank, DenseRank, Ntile}
+use Rattle.wd_plan.specs.declared.function.ResultKind.{ResultKind}
+use Rattle.wd_plan.specs.declared.function.ResultKind.TheVariants.{Number as Numbers, OfArgument}
+use Rattle.wd_value.specs.declared.order.SortColumn.{SortColumn}
 use Rattle.wd_plan.specs.declared.window.Bound.{Bound}
 use Rattle.wd_plan.specs.declared.window.Bound.TheVariants.{UnboundedPreceding, Preceding, CurrentRow, Following, UnboundedFollowing}
 use Rattle.wd_plan.specs.declared.window.Call.{Call}
 use Rattle.wd_plan.specs.declared.window.Frame.{Frame}
 use Rattle.wd_plan.specs.declared.window.FrameMode.{FrameMode}
 use Rattle.wd_plan.specs.declared.window.FrameMode.TheVariants as mode
-use Rattle.wd_plan.specs.declared.window.Function.{Function}
-use Rattle.wd_plan.specs.declared.window.Function.TheVariants.{RowNumber, Rank, DenseRank, Ntile, Lag, Lead, FirstValue, LastValue, NthValue, CountRows, Count, Sum, Min, Max}
 use Rattle.wd_plan.specs.Expressions.{Expression, Column, Literal, Negate, Arithmetic, Compare, Not, And, Or, IsNull, IsNotNull, Case}
-use Rattle.wd_plan.specs.Plans.{ClassRule, WindowRule, PlanTree, Scan, Join, Filter, Map, Window, Distinct, Limit}
+use Rattle.wd_plan.specs.Functions.{argument_of, name_of, signature}
+use Rattle.wd_plan.specs.Plans.{ClassRule, LimitRule, WindowRule, PlanTree, Scan, Join, Filter, Map, Window, Distinct, Limit}
 
 -- ---- kinds of values
 
@@ -63,29 +72,21 @@ abbrev pub are_alike : Option ValueKind → Option ValueKind → Bool
 are_alike None other = false
 are_alike (Some kind) other = is_kind kind other
 
--- the kind that a source gives
-abbrev pub kind_from : Kinds → KindSource → Option ValueKind
-kind_from kinds (OfColumn c) = kinds c
-kind_from kinds (Always kind) = Some kind
-
 -- ---- expressions
 
--- what gives an expression's kind: a CASE has that of its results
-abbrev pub source_of : Expression → KindSource
-source_of (Column c) = OfColumn c
-source_of (Literal v kind) = Always kind
-source_of (Negate a) = Always Number
-source_of (Arithmetic op a b) = Always Number
-source_of (Compare op a b) = Always Truth
-source_of (Not a) = Always Truth
-source_of (And a b) = Always Truth
-source_of (Or a b) = Always Truth
-source_of (IsNull a) = Always Truth
-source_of (IsNotNull a) = Always Truth
-source_of (Case branch a b c) = source_of b
-
+-- the kind of an expression's values: a CASE has that of its results
 abbrev pub kind_of : Kinds → Expression → Option ValueKind
-kind_of kinds e = kind_from kinds (source_of e)
+kind_of kinds (Column c) = kinds c
+kind_of kinds (Literal v kind) = Some kind
+kind_of kinds (Negate a) = Some Number
+kind_of kinds (Arithmetic op a b) = Some Number
+kind_of kinds (Compare op a b) = Some Truth
+kind_of kinds (Not a) = Some Truth
+kind_of kinds (And a b) = Some Truth
+kind_of kinds (Or a b) = Some Truth
+kind_of kinds (IsNull a) = Some Truth
+kind_of kinds (IsNotNull a) = Some Truth
+kind_of kinds (Case branch a b c) = kind_of kinds b
 
 -- each operand is of the kind that its place asks for: arithmetic takes whole numbers, NOT, AND, OR and the condition of a
 -- CASE truth values, a comparison two sides of one kind, and a CASE two results of one kind
@@ -113,52 +114,68 @@ may_join kinds (Some e) = is_condition kinds e
 
 -- ---- window calls
 
--- what gives the kind of a call's values: its argument, or a call of this function gives whole numbers
-abbrev pub source_of_call : Function → KindSource
-source_of_call RowNumber = Always Number
-source_of_call Rank = Always Number
-source_of_call DenseRank = Always Number
-source_of_call (Ntile n) = Always Number
-source_of_call (Lag c k default) = OfColumn c
-source_of_call (Lead c k default) = OfColumn c
-source_of_call (FirstValue c) = OfColumn c
-source_of_call (LastValue c) = OfColumn c
-source_of_call (NthValue c n) = OfColumn c
-source_of_call CountRows = Always Number
-source_of_call (Count c) = Always Number
-source_of_call (Sum c) = Always Number
-source_of_call (Min c) = OfColumn c
-source_of_call (Max c) = OfColumn c
+-- the kind of a column, where one is named
+abbrev pub kind_at : Kinds → Option ℕ → Option ValueKind
+kind_at kinds None = None
+kind_at kinds (Some c) = kinds c
 
-abbrev pub source_of_call_at : Call → KindSource
-source_of_call_at call = source_of_call call.function
+-- the kind of a function's values, over the kind of its argument
+abbrev pub result_kind : ResultKind → Option ValueKind → Option ValueKind
+result_kind Numbers kind = Some Number
+result_kind OfArgument kind = kind
+
+abbrev pub kind_of_function : Kinds → Function → Option ValueKind
+kind_of_function kinds f = result_kind (signature (name_of f)).result (kind_at kinds (argument_of f))
+
+abbrev pub kind_of_call : Kinds → Call → Option ValueKind
+kind_of_call kinds call = kind_of_function kinds call.function
 
 -- MIN and MAX are of whole numbers and of texts
 abbrev pub has_extremes : Option ValueKind → Bool
 has_extremes kind = is_kind Number kind || is_kind Text kind
+
+-- what a signature asks of the kind of the argument
+abbrev pub is_argument : Argument → Option ValueKind → Bool
+is_argument asks.Nothing kind = true
+is_argument asks.Any kind = is_some kind
+is_argument asks.Number kind = is_kind Number kind
+is_argument asks.Ordered kind = has_extremes kind
+
+-- the argument is there and as the signature asks; COUNT(*) and the functions of a row's place have none
+abbrev pub has_argument : Kinds → Argument → Option ℕ → Bool
+has_argument kinds asked None = true
+has_argument kinds asked (Some c) = is_argument asked (kinds c)
 
 -- a default has the kind of the argument
 abbrev pub is_default : Option ValueKind → Value → Bool
 is_default None v = false
 is_default (Some kind) v = is_of_kind kind v
 
--- the arguments of a call: numbers of buckets and of rows are at least 1, SUM takes whole numbers, MIN and MAX whole numbers
--- or texts
+-- numbers of buckets and of rows are at least 1
+abbrev pub is_ranking : Ranking → Bool
+is_ranking RowNumber = true
+is_ranking Rank = true
+is_ranking DenseRank = true
+is_ranking (Ntile n) = nat_le 1 n
+
+abbrev pub is_frame_row : FrameRow → Bool
+is_frame_row First = true
+is_frame_row Last = true
+is_frame_row (Nth n) = nat_le 1 n
+
+abbrev pub is_frame_function : FrameFunction → Bool
+is_frame_function (ValueAt row c) = is_frame_row row
+is_frame_function (Aggregate a) = true
+
+-- the literals among a call's arguments
+abbrev pub has_literals : Kinds → Function → Bool
+has_literals kinds (Ranked r) = is_ranking r
+has_literals kinds (Shifted s) = is_default (kinds s.argument) s.default
+has_literals kinds (OfFrame f) = is_frame_function f
+
+-- the arguments of a call
 abbrev pub takes : Kinds → Function → Bool
-takes kinds RowNumber = true
-takes kinds Rank = true
-takes kinds DenseRank = true
-takes kinds (Ntile n) = nat_le 1 n
-takes kinds (Lag c k default) = is_default (kinds c) default
-takes kinds (Lead c k default) = is_default (kinds c) default
-takes kinds (FirstValue c) = is_some (kinds c)
-takes kinds (LastValue c) = is_some (kinds c)
-takes kinds (NthValue c n) = is_some (kinds c) && nat_le 1 n
-takes kinds CountRows = true
-takes kinds (Count c) = is_some (kinds c)
-takes kinds (Sum c) = is_kind Number (kinds c)
-takes kinds (Min c) = has_extremes (kinds c)
-takes kinds (Max c) = has_extremes (kinds c)
+takes kinds f = has_argument kinds (signature (name_of f)).argument (argument_of f) && has_literals kinds f
 
 -- bounds may follow one another in this order
 abbrev pub bound_place : Bound → ℕ
@@ -181,13 +198,13 @@ has_offset (Following n) = true
 has_offset UnboundedFollowing = false
 
 -- exactly one sort key, of whole numbers
-abbrev pub is_one_number : Kinds → List OrderItem → Bool
+abbrev pub is_one_number : Kinds → List SortColumn → Bool
 is_one_number kinds [] = false
 is_one_number kinds (item ∷ []) = is_kind Number (kinds item.column)
 is_one_number kinds (item ∷ other ∷ items) = false
 
 -- GROUPS needs sort keys, and an offset in RANGE exactly one, of whole numbers
-abbrev pub has_keys_for : Kinds → List OrderItem → Frame → Bool
+abbrev pub has_keys_for : Kinds → List SortColumn → Frame → Bool
 has_keys_for kinds keys frame = by_mode frame.mode
   where
     by_mode : FrameMode → Bool
@@ -198,8 +215,8 @@ has_keys_for kinds keys frame = by_mode frame.mode
 abbrev pub has_columns : Kinds → List ℕ → Bool
 has_columns kinds columns = list_all (λ c. is_some (kinds c)) columns
 
-abbrev pub has_keys : Kinds → List OrderItem → Bool
-has_keys kinds keys = list_all (λ (item : OrderItem). is_some (kinds item.column)) keys
+abbrev pub has_keys : Kinds → List SortColumn → Bool
+has_keys kinds keys = list_all (λ (item : SortColumn). is_some (kinds item.column)) keys
 
 abbrev pub has_class : Kinds → ClassRule → Bool
 has_class kinds class = has_columns kinds class.partition && has_keys kinds class.order
@@ -213,6 +230,10 @@ is_call kinds classes call = of_class (slice_get classes call.class)
     of_class (Some class) = takes kinds call.function && (are_bounds call.frame.start call.frame.end && has_keys_for kinds class.order call.frame)
 
 -- ---- nodes
+
+-- columns of a node with so many
+abbrev pub AreBelow : ℕ → List ℕ → Type 0
+AreBelow columns X = list_all (λ c. nat_lt c columns) X ≡ true
 
 -- the number of columns of a node's rows
 abbrev pub width : PlanTree → ℕ
@@ -234,8 +255,8 @@ abbrev pub kinds_of : List TableRule → PlanTree → Kinds
 kinds_of tables (Scan table columns) c = table_kind tables table c
 kinds_of tables (Join condition left right) c = if nat_lt c (width left) then kinds_of tables left c else kinds_of tables right (c - width left)
 kinds_of tables (Filter condition input) c = kinds_of tables input c
-kinds_of tables (Map outputs input) c = option_and_then (kind_from (kinds_of tables input)) (option_map source_of (slice_get outputs c))
-kinds_of tables (Window w input) c = if nat_lt c (width input) then kinds_of tables input c else option_and_then (kind_from (kinds_of tables input)) (option_map source_of_call_at (slice_get w.calls (c - width input)))
+kinds_of tables (Map outputs input) c = option_and_then (kind_of (kinds_of tables input)) (slice_get outputs c)
+kinds_of tables (Window w input) c = if nat_lt c (width input) then kinds_of tables input c else option_and_then (kind_of_call (kinds_of tables input)) (slice_get w.calls (c - width input))
 kinds_of tables (Distinct input) c = kinds_of tables input c
 kinds_of tables (Limit limit input) c = kinds_of tables input c
 
@@ -264,8 +285,8 @@ abbrev pub is_window : Kinds → ℕ → WindowRule → Bool
 is_window kinds columns w = is_narrow (columns + length w.calls) && (list_all (has_class kinds) w.classes && list_all (is_call kinds w.classes) w.calls)
 
 -- the sort keys of a Limit; WITH TIES needs some
-abbrev pub is_limit : Kinds → List OrderItem → Bool → Bool
-is_limit kinds keys ties = has_keys kinds keys && (not ties || nat_lt 0 (length keys))
+abbrev pub is_limit : Kinds → LimitRule → Bool
+is_limit kinds limit = has_keys kinds limit.keys && (not limit.ties || nat_lt 0 (length limit.keys))
 
 -- a plan fits the tables of a schema: each node is as the rules ask, over the columns that it reads
 abbrev pub fits : List TableRule → PlanTree → Bool
@@ -275,4 +296,4 @@ fits tables (Filter condition input) = fits tables input && is_condition (kinds_
 fits tables (Map outputs input) = fits tables input && are_outputs (kinds_of tables input) outputs
 fits tables (Window w input) = fits tables input && is_window (kinds_of tables input) (width input) w
 fits tables (Distinct input) = fits tables input
-fits tables (Limit limit input) = fits tables input && is_limit (kinds_of tables input) limit.keys limit.ties
+fits tables (Limit limit input) = fits tables input && is_limit (kinds_of tables input) limit

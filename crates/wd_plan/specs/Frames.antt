@@ -5,7 +5,7 @@ use Rattle.std.specs.List.{enumerate_from}
 use Rattle.wd_value.specs.declared.value.Value.{Value}
 use Rattle.wd_value.specs.declared.value.Value.TheVariants.{Int}
 use Rattle.wd_value.specs.Rows.{Row, column_of, row_at}
-use Rattle.wd_plan.specs.declared.plan.OrderItem.{OrderItem}
+use Rattle.wd_value.specs.declared.order.SortColumn.{SortColumn}
 use Rattle.wd_plan.specs.declared.window.Bound.{Bound}
 use Rattle.wd_plan.specs.declared.window.Bound.TheVariants.{UnboundedPreceding, Preceding, CurrentRow, Following, UnboundedFollowing}
 use Rattle.wd_plan.specs.declared.window.Exclusion.{Exclusion}
@@ -38,7 +38,7 @@ value_distance desc (Int a) (Int b) = Some (if desc then a -ℤ b else b -ℤ a)
 value_distance desc a b = None
 
 -- the distance of two rows by their one sort key
-abbrev pub key_distance : List OrderItem → Row → Row → Option ℤ
+abbrev pub key_distance : List SortColumn → Row → Row → Option ℤ
 key_distance [] r q = None
 key_distance (item ∷ []) r q = value_distance item.key.desc (column_of r item.column) (column_of q item.column)
 key_distance (item ∷ other ∷ items) r q = None

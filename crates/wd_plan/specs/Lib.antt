@@ -1,7 +1,7 @@
-pub mod Keys
 pub mod Faults
 pub mod Expressions
 pub mod Plans
+pub mod Functions
 pub mod Sorting
 pub mod Partitions
 pub mod Frames
@@ -11,3 +11,4 @@ pub mod Choices
 pub mod Facts
 pub mod Settled
 pub mod Fits
+pub mod Sources

@@ -5,14 +5,14 @@ use Rattle.wd_value.specs.declared.value.Value.{Value}
 use Rattle.wd_value.specs.declared.value.Fault.{Fault as StepFault}
 use Rattle.wd_value.specs.Bags.{SameBag, positions}
 use Rattle.wd_value.specs.Rows.{Row, Instance, same_row, rows_of, row_at, rows_at, table_at}
-use Rattle.wd_plan.specs.declared.plan.OrderItem.{OrderItem}
+use Rattle.wd_value.specs.declared.order.SortColumn.{SortColumn}
 use Rattle.wd_plan.specs.declared.plan.Outcome.{Outcome}
 use Rattle.wd_plan.specs.declared.plan.Outcome.TheVariants.{Rows, Fault}
 use Rattle.wd_plan.specs.declared.window.Call.{Call}
 use Rattle.wd_plan.specs.Calls.{value_at}
 use Rattle.wd_plan.specs.Expressions.{Expression, value_of, is_true}
 use Rattle.wd_plan.specs.Faults.{all_ok, and_then, least_fault, unless}
-use Rattle.wd_plan.specs.Keys.{compare_keys}
+use Rattle.wd_value.specs.Keys.{compare_keys}
 use Rattle.wd_plan.specs.Plans.{ClassRule, WindowRule, LimitRule, PlanTree, Scan, Join, Filter, Map, Window, Distinct, Limit, ordering_count}
 
 -- an outcome: rows as a list, or a fault
@@ -77,11 +77,11 @@ window_outcome w rows orderings = all_ok (map (extended w rows orderings) (posit
 -- ---- limits
 
 -- rows that tie on all sort keys
-abbrev pub peers : List OrderItem → Row → Row → Bool
+abbrev pub peers : List SortColumn → Row → Row → Bool
 peers keys r q = is_eq (compare_keys keys r q)
 
 -- the first n rows, and with ties those that follow and are peers of the last of them; no row where n is 0
-abbrev pub first_rows : List OrderItem → Bool → ℕ → List Row → List Row
+abbrev pub first_rows : List SortColumn → Bool → ℕ → List Row → List Row
 first_rows keys ties zero rows = []
 first_rows keys ties (suc n) [] = []
 first_rows keys ties (suc zero) (r ∷ rows) = r ∷ (if ties then take_while (peers keys r) rows else [])

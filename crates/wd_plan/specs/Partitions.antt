@@ -4,7 +4,7 @@ use Rattle.std.specs.List.{list_any}
 use Rattle.std.specs.Ordering.{is_lt}
 use Rattle.wd_value.specs.declared.value.Value.{Value}
 use Rattle.wd_value.specs.Rows.{Row, columns_of, same_row, row_at, rows_at}
-use Rattle.wd_plan.specs.Keys.{compare_keys, key_columns}
+use Rattle.wd_value.specs.Keys.{compare_keys, key_columns}
 use Rattle.wd_plan.specs.Plans.{ClassRule}
 use Rattle.wd_plan.specs.Sorting.{same_partition}
 

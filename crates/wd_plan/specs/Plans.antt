@@ -1,8 +1,11 @@
 -- Plans as pure data, and how contracts see those of the code.
-use Rattle.std.specs.Prelude.{ℕ, ◌+◌, Bool, List, map, length, Option, option_map}
-use Rattle.wd_plan.specs.declared.plan.OrderItem.{OrderItem}
+use Rattle.std.specs.Prelude.{ℕ, ◌+◌, ◌<◌, Bool, List, map, length, Option, option_map, ⊤}
+use Rattle.std.specs.List.{AllByRecursion}
+use Rattle.wd_value.specs.declared.order.SortColumn.{SortColumn}
 use Rattle.wd_plan.specs.declared.plan.Plan.{Plan}
 use Rattle.wd_plan.specs.declared.plan.Plan.TheVariants as code
+use Rattle.wd_plan.specs.declared.plan.Limit.{Limit as CodeLimit}
+use Rattle.wd_plan.specs.declared.window.Window.{Window as CodeWindow}
 use Rattle.wd_plan.specs.declared.window.Call.{Call}
 use Rattle.wd_plan.specs.declared.window.Class.{Class}
 use Rattle.wd_plan.specs.Expressions.{Expression, expression_of}
@@ -10,7 +13,7 @@ use Rattle.wd_plan.specs.Expressions.{Expression, expression_of}
 -- a class: the columns of its partition, and its sort keys
 pub record ClassRule : Type 0 where
   pub partition : List ℕ
-  pub order : List OrderItem
+  pub order : List SortColumn
 
 abbrev pub class_of : Class → ClassRule
 class_of class = record { partition = class.partition.items; order = class.order.items }
@@ -20,12 +23,18 @@ pub record WindowRule : Type 0 where
   pub classes : List ClassRule
   pub calls : List Call
 
+abbrev pub window_of : CodeWindow → WindowRule
+window_of window = record { classes = map class_of window.classes.items; calls = window.calls.items }
+
 -- what a Limit asks: its sort keys, how many rows it leaves out, how many it then gives at most, and whether with ties
 pub record LimitRule : Type 0 where
-  pub keys : List OrderItem
+  pub keys : List SortColumn
   pub offset : ℕ
   pub count : Option ℕ
   pub ties : Bool
+
+abbrev pub limit_of : CodeLimit → LimitRule
+limit_of limit = record { keys = limit.keys.items; offset = limit.offset; count = limit.count; ties = limit.ties }
 
 pub data PlanTree : Type 0 where
   -- a table of the schema by its number, with its number of columns
@@ -43,9 +52,9 @@ plan_of (code.Scan table columns) = Scan table columns
 plan_of (code.Join' p left q right condition) = Join (option_map expression_of condition) (plan_of left) (plan_of right)
 plan_of (code.Filter' p input condition) = Filter (expression_of condition) (plan_of input)
 plan_of (code.Map' p input outputs) = Map (map expression_of outputs.items) (plan_of input)
-plan_of (code.Window' p input classes calls) = Window (record { classes = map class_of classes.items; calls = calls.items }) (plan_of input)
+plan_of (code.Window' p input window) = Window (window_of window) (plan_of input)
 plan_of (code.Distinct' p input) = Distinct (plan_of input)
-plan_of (code.Limit' p input keys offset count ties) = Limit (record { keys = keys.items; offset = offset; count = count; ties = ties }) (plan_of input)
+plan_of (code.Limit' p input limit) = Limit (limit_of limit) (plan_of input)
 
 -- how many orderings a choice for a plan has: one for each class of a Window, and one for each Limit
 abbrev pub ordering_count : PlanTree → ℕ
@@ -56,3 +65,31 @@ ordering_count (Map outputs input) = ordering_count input
 ordering_count (Window rule input) = ordering_count input + length rule.classes
 ordering_count (Distinct input) = ordering_count input
 ordering_count (Limit rule input) = ordering_count input + 1
+
+-- how many nodes a plan has
+abbrev pub node_count : PlanTree → ℕ
+node_count (Scan table columns) = 1
+node_count (Join condition left right) = node_count left + node_count right + 1
+node_count (Filter condition input) = node_count input + 1
+node_count (Map outputs input) = node_count input + 1
+node_count (Window rule input) = node_count input + 1
+node_count (Distinct input) = node_count input + 1
+node_count (Limit rule input) = node_count input + 1
+
+-- each call names one of so many classes
+abbrev pub NameBelow : ℕ → List Call → Type 0
+NameBelow classes calls = AllByRecursion (λ (call : Call). call.class < classes) calls
+
+-- each call of a Window names one of its classes
+abbrev pub NamesClasses : WindowRule → Type 0
+NamesClasses w = NameBelow (length w.classes) w.calls
+
+-- and so in each Window of a plan
+abbrev pub EachNamesClasses : PlanTree → Type 0
+EachNamesClasses (Scan table columns) = ⊤
+EachNamesClasses (Join condition left right) = EachNamesClasses left × EachNamesClasses right
+EachNamesClasses (Filter condition input) = EachNamesClasses input
+EachNamesClasses (Map outputs input) = EachNamesClasses input
+EachNamesClasses (Window rule input) = EachNamesClasses input × NamesClasses rule
+EachNamesClasses (Distinct input) = EachNamesClasses input
+EachNamesClasses (Limit rule input) = EachNamesClasses input

@@ -1,38 +1,36 @@
--- When a call and a limit are settled: no choice of orderings changes them, in the rows of a node's input.
+-- When no choice of orderings changes a call or a limit, in the rows of a node's input.
 use Rattle.std.specs.Prelude.{◌≡◌, ℕ, ◌<◌, Bool, true, false, List, length, drop, ◌⊎◌, None, ⊤}
 use Rattle.std.specs.List.{AllByRecursion}
 use Rattle.wd_value.specs.Rows.{Row, Instance}
 use Rattle.wd_plan.specs.declared.window.Call.{Call}
 use Rattle.wd_plan.specs.declared.window.Frame.{Frame}
-use Rattle.wd_plan.specs.declared.window.Function.{Function}
-use Rattle.wd_plan.specs.declared.window.Function.TheVariants.{RowNumber, Rank, DenseRank, Ntile, Lag, Lead, FirstValue, LastValue, NthValue, CountRows, Count, Sum, Min, Max}
+use Rattle.wd_plan.specs.declared.function.ByPeers.{ByPeers}
+use Rattle.wd_plan.specs.declared.function.ByPeers.TheVariants.{Never, Always, OverStableFrames}
+use Rattle.wd_plan.specs.declared.function.FrameFunction.TheVariants.{ValueAt}
+use Rattle.wd_plan.specs.declared.function.FrameRow.{FrameRow}
+use Rattle.wd_plan.specs.declared.function.Function.{Function}
+use Rattle.wd_plan.specs.declared.function.Function.TheVariants.{OfFrame}
 use Rattle.wd_plan.specs.Choices.{AtRows}
 use Rattle.wd_plan.specs.Facts.{Determines, DeterminesRow, DeterminesAll, HasWidth}
 use Rattle.wd_plan.specs.Frames.{is_stable}
+use Rattle.wd_plan.specs.Functions.{name_of, signature}
 use Rattle.wd_plan.specs.Outcomes.{outcome, class_at}
-use Rattle.wd_plan.specs.Plans.{ClassRule, WindowRule, LimitRule, PlanTree, Scan, Join, Filter, Map, Window, Distinct, Limit, ordering_count}
+use Rattle.wd_plan.specs.Plans.{ClassRule, NamesClasses, WindowRule, LimitRule, PlanTree, Scan, Join, Filter, Map, Window, Distinct, Limit, ordering_count}
 use Rattle.wd_plan.specs.Sorting.{class_columns, order_columns, limit_class}
+
+-- whether a function goes by peers over a frame
+abbrev pub goes_by_peers : ByPeers → Frame → Bool
+goes_by_peers Never frame = false
+goes_by_peers Always frame = true
+goes_by_peers OverStableFrames frame = is_stable frame
 
 -- the rule `peers`: RANK, DENSE_RANK, and COUNT, SUM, MIN, MAX over a stable frame
 abbrev pub is_by_peers : Frame → Function → Bool
-is_by_peers frame RowNumber = false
-is_by_peers frame Rank = true
-is_by_peers frame DenseRank = true
-is_by_peers frame (Ntile n) = false
-is_by_peers frame (Lag c k default) = false
-is_by_peers frame (Lead c k default) = false
-is_by_peers frame (FirstValue c) = false
-is_by_peers frame (LastValue c) = false
-is_by_peers frame (NthValue c n) = false
-is_by_peers frame CountRows = is_stable frame
-is_by_peers frame (Count c) = is_stable frame
-is_by_peers frame (Sum c) = is_stable frame
-is_by_peers frame (Min c) = is_stable frame
-is_by_peers frame (Max c) = is_stable frame
+is_by_peers frame function = goes_by_peers (signature (name_of function)).by_peers frame
 
 -- the rule `values`: FIRST_VALUE, LAST_VALUE and NTH_VALUE of column c over a stable frame
 abbrev pub IsByValues : Frame → Function → ℕ → Type 0
-IsByValues frame function c = (is_stable frame ≡ true) × ((function ≡ FirstValue c) ⊎ ((function ≡ LastValue c) ⊎ ((n : ℕ) × (function ≡ NthValue c n))))
+IsByValues frame function c = (is_stable frame ≡ true) × (row : FrameRow) × (function ≡ OfFrame (ValueAt row c))
 
 -- a call goes by `peers`, or its class's columns give the row (`unique`), or the value that it takes (`values`)
 abbrev pub IsByRow : ClassRule → Frame → Function → List Row → Type 0
@@ -41,10 +39,7 @@ IsByRow class frame function rows = (is_by_peers frame function ≡ true) ⊎ (D
 -- or its class is the node's one class whose columns give every column (`exchange`)
 abbrev pub IsSettledCall : WindowRule → ℕ → ℕ → List Row → Call → Type 0
 IsSettledCall w exchange width rows call = let class = class_at w call.class in
-    (is_by_peers call.frame call.function ≡ true)
-    ⊎ (DeterminesRow rows (class_columns class)
-    ⊎ (((c : ℕ) × IsByValues call.frame call.function c × Determines rows (class_columns class) c)
-    ⊎ ((call.class ≡ exchange) × DeterminesAll rows width (class_columns class))))
+    IsByRow class call.frame call.function rows ⊎ ((call.class ≡ exchange) × DeterminesAll rows width (class_columns class))
 
 -- a limit takes all rows (`whole`), or ties and no offset (`ties`), or its sort keys give every column (`keys`)
 abbrev pub IsSettledLimit : LimitRule → ℕ → List Row → Type 0
@@ -52,10 +47,6 @@ IsSettledLimit limit width rows =
     ((limit.count ≡ None) × (limit.offset ≡ 0))
     ⊎ (((limit.ties ≡ true) × (limit.offset ≡ 0))
     ⊎ DeterminesAll rows width (order_columns (limit_class limit)))
-
--- each call names a class
-abbrev pub NamesClasses : WindowRule → Type 0
-NamesClasses w = AllByRecursion (λ (call : Call). call.class < length w.classes) w.calls
 
 -- each call of a Window and each Limit is settled in the rows that the node reads under a choice
 abbrev pub IsSettledPlan : PlanTree → Instance → List (List ℕ) → Type 0

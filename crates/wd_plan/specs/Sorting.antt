@@ -4,7 +4,7 @@ use Rattle.std.specs.List.{AllByRecursion}
 use Rattle.std.specs.Ordering.{is_gt}
 use Rattle.wd_value.specs.Bags.{EachOnce}
 use Rattle.wd_value.specs.Rows.{Row, columns_of, same_row, rows_at}
-use Rattle.wd_plan.specs.Keys.{compare_keys, key_columns}
+use Rattle.wd_value.specs.Keys.{compare_keys, key_columns}
 use Rattle.wd_plan.specs.Plans.{ClassRule, LimitRule}
 
 abbrev pub order_columns : ClassRule → List ℕ

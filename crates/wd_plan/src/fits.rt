@@ -1,24 +1,26 @@
 //! Whether a plan fits a schema.
 
-ghost use Rattle.std.specs.Prelude.{◌≡◌, ◌-◌, ◌^◌, min, map, option_map, slice_get};
+ghost use Rattle.std.specs.Prelude.{◌≡◌, ◌-◌, ◌^◌, min, map, option_and_then, option_map, slice_get};
 ghost use Rattle.std.specs.List.{list_all};
 ghost use Rattle.wd_schema.specs.Schemas.{schema_of};
 ghost use Rattle.wd_plan.specs.Expressions.{expression_of};
 ghost use Rattle.wd_plan.specs.Fits as spec;
-ghost use Rattle.wd_plan.specs.Plans.{class_of, plan_of};
+ghost use Rattle.wd_plan.specs.Plans.{class_of, limit_of, plan_of, window_of};
+ghost use Rattle.wd_plan.specs.Sources.{kind_from};
 
 use crate::expression::{Expr, ValueKind};
-use crate::plan::{OrderItem, Plan, capped};
-use crate::window::{Bound, Call, Class, Frame, FrameMode, Function};
+use crate::function::{Argument, FrameFunction, FrameRow, Function, Ranking, ResultKind};
+use crate::plan::{Limit, Plan, capped};
+use crate::window::{Bound, Call, Class, Frame, FrameMode, Window};
 use wd_schema::Schema;
-use wd_value::{ColumnType, Value};
+use wd_value::{ColumnType, SortColumn, Value};
 
 /// The largest number of columns of a node.
 const MAX_COLUMNS: u32 = 1024;
 
-/// What gives the kind of an expression's values: a column of the input, or the expression itself.
-#[derive(Clone, Copy, PartialEq, Eq)]
-pub enum KindSource {
+/// What gives the kind of an expression's or a call's values: a column of the input, or a kind of its own.
+#[derive(Clone, Copy)]
+enum KindSource {
     OfColumn(u16),
     Always(ValueKind),
 }
@@ -42,23 +44,15 @@ impl Plan {
                 && condition.is_condition(input, schema),
             Plan::Map { input, outputs } => input.fits(schema)
                 && are_outputs(outputs, input, schema),
-            Plan::Window {
-                input,
-                classes,
-                calls,
-            } => input.fits(schema) && is_window(classes, calls, input, schema),
+            Plan::Window { input, window } => input.fits(schema)
+                && is_window(window, input, schema),
             Plan::Distinct { input } => input.fits(schema),
-            Plan::Limit {
-                input,
-                keys,
-                ties,
-                ..
-            } => input.fits(schema) && is_limit(keys, *ties, input, schema),
+            Plan::Limit { input, limit } => input.fits(schema) && is_limit(limit, input, schema),
         }
     }
 
     /// The number of columns of the node's rows; `u32::MAX` where there are more.
-    fn width(&self) -> u32
+    pub fn width(&self) -> u32
         ensures { result ≡ min (spec.width (plan_of self.now)) (2 ^ 32 - 1) }
     {
         match self {
@@ -66,14 +60,16 @@ impl Plan {
             Plan::Join { left, right, .. } => left.width().saturating_add(right.width()),
             Plan::Filter { input, .. } => input.width(),
             Plan::Map { outputs, .. } => capped(outputs.len()),
-            Plan::Window { input, calls, .. } => input.width().saturating_add(capped(calls.len())),
+            Plan::Window { input, window } => input
+                .width()
+                .saturating_add(capped(window.calls.len())),
             Plan::Distinct { input } => input.width(),
             Plan::Limit { input, .. } => input.width(),
         }
     }
 
     /// The kind of a column of the node's rows; None past the last column.
-    fn kind(&self, column: u16, schema: &Schema) -> Option<ValueKind>
+    pub fn kind(&self, column: u16, schema: &Schema) -> Option<ValueKind>
         ensures { result ≡ spec.kinds_of (schema_of schema.now) (plan_of self.now) column }
     {
         match self {
@@ -91,12 +87,12 @@ impl Plan {
                 KindSource::OfColumn(c) => input.kind(c, schema),
                 KindSource::Always(kind) => Some(kind),
             },
-            Plan::Window { input, calls, .. } => {
+            Plan::Window { input, window } => {
                 let width = input.width();
                 if u32::from(column) < width {
                     return input.kind(column, schema);
                 }
-                match call_source(calls, (u32::from(column) - width) as u16)? {
+                match call_source(&window.calls, (u32::from(column) - width) as u16)? {
                     KindSource::OfColumn(c) => input.kind(c, schema),
                     KindSource::Always(kind) => Some(kind),
                 }
@@ -145,7 +141,7 @@ pub fn kind_of_type(kind: ColumnType) -> ValueKind
 
 /// What gives the kind of the output with this number.
 fn output_source(outputs: &[Expr], number: u16) -> Option<KindSource>
-    ensures { result ≡ option_map spec.source_of (slice_get (map expression_of outputs.now) number) }
+    ensures { (kinds : spec.Kinds) → option_and_then (kind_from kinds) result ≡ option_and_then (spec.kind_of kinds) (slice_get (map expression_of outputs.now) number) }
 {
     let output = outputs.get(usize::from(number))?;
     Some(output.source())
@@ -153,16 +149,16 @@ fn output_source(outputs: &[Expr], number: u16) -> Option<KindSource>
 
 /// What gives the kind of the call with this number.
 fn call_source(calls: &[Call], number: u16) -> Option<KindSource>
-    ensures { result ≡ option_map spec.source_of_call_at (slice_get calls.now number) }
+    ensures { (kinds : spec.Kinds) → option_and_then (kind_from kinds) result ≡ option_and_then (spec.kind_of_call kinds) (slice_get calls.now number) }
 {
     let call = calls.get(usize::from(number))?;
-    Some(call.function.source())
+    call.function.source()
 }
 
 impl KindSource {
     /// The kind that the source gives over the rows of a node.
     fn kind(self, input: &Plan, schema: &Schema) -> Option<ValueKind>
-        ensures { result ≡ spec.kind_from (spec.kinds_of (schema_of schema.now) (plan_of input.now)) self }
+        ensures { result ≡ kind_from (spec.kinds_of (schema_of schema.now) (plan_of input.now)) self }
     {
         match self {
             KindSource::OfColumn(c) => input.kind(c, schema),
@@ -207,7 +203,7 @@ fn is_of_kind(kind: ValueKind, value: &Value) -> bool
 impl Expr {
     /// What gives the kind of the expression's values.
     fn source(&self) -> KindSource
-        ensures { result ≡ spec.source_of (expression_of self.now) }
+        ensures { (kinds : spec.Kinds) → kind_from kinds result ≡ spec.kind_of kinds (expression_of self.now) }
     {
         match self {
             Expr::Column(c) => KindSource::OfColumn(*c),
@@ -314,17 +310,16 @@ fn are_typed(outputs: &[Expr], input: &Plan, schema: &Schema) -> bool
 }
 
 impl Function {
-    /// What gives the kind of the call's values.
-    fn source(&self) -> KindSource
-        ensures { result ≡ spec.source_of_call self.now }
+    /// What gives the kind of the function's values; None where it would be that of an argument that is not there.
+    fn source(&self) -> Option<KindSource>
+        ensures { (kinds : spec.Kinds) → option_and_then (kind_from kinds) result ≡ spec.kind_of_function kinds self.now }
     {
-        match self {
-            Function::Lag { argument, .. } | Function::Lead { argument, .. } =>
-                KindSource::OfColumn(*argument),
-            Function::FirstValue(c) | Function::LastValue(c) | Function::NthValue(c, _) =>
-                KindSource::OfColumn(*c),
-            Function::Min(c) | Function::Max(c) => KindSource::OfColumn(*c),
-            _ => KindSource::Always(ValueKind::Number),
+        match self.name().signature().result {
+            ResultKind::Number => Some(KindSource::Always(ValueKind::Number)),
+            ResultKind::OfArgument => match self.argument() {
+                Some(column) => Some(KindSource::OfColumn(column)),
+                None => None,
+            },
         }
     }
 
@@ -332,27 +327,65 @@ impl Function {
     fn takes(&self, input: &Plan, schema: &Schema) -> bool
         ensures { result ≡ spec.takes (spec.kinds_of (schema_of schema.now) (plan_of input.now)) self.now }
     {
+        has_argument(
+            self.name().signature().argument,
+            self.argument(),
+            input,
+            schema,
+        ) && self.has_literals(input, schema)
+    }
+
+    /// Whether the literals among the arguments are such as the function takes.
+    fn has_literals(&self, input: &Plan, schema: &Schema) -> bool
+        ensures { result ≡ spec.has_literals (spec.kinds_of (schema_of schema.now) (plan_of input.now)) self.now }
+    {
         match self {
-            Function::RowNumber | Function::Rank | Function::DenseRank | Function::CountRows =>
-                true,
-            Function::Ntile(n) => 1 <= *n,
-            Function::Lag {
-                argument,
-                default,
-                ..
-            }
-            | Function::Lead {
-                argument,
-                default,
-                ..
-            } => { is_default(input.kind(*argument, schema), default) }
-            Function::FirstValue(c) | Function::LastValue(c) | Function::Count(c) => input
-                .kind(*c, schema)
-                .is_some(),
-            Function::NthValue(c, n) => input.kind(*c, schema).is_some() && 1 <= *n,
-            Function::Sum(c) => is_kind(ValueKind::Number, input.kind(*c, schema)),
-            Function::Min(c) | Function::Max(c) => has_extremes(input.kind(*c, schema)),
+            Function::Ranking(ranking) => is_ranking(*ranking),
+            Function::Shift(shift) => is_default(
+                input.kind(shift.argument, schema),
+                &shift.default,
+            ),
+            Function::OfFrame(function) => is_frame_function(*function),
         }
+    }
+}
+
+/// Whether the value argument, where there is one, is as the signature asks.
+fn has_argument(asked: Argument, argument: Option<u16>, input: &Plan, schema: &Schema) -> bool
+    ensures { result ≡ spec.has_argument (spec.kinds_of (schema_of schema.now) (plan_of input.now)) asked argument }
+{
+    match argument {
+        None => true,
+        Some(column) => is_argument(asked, input.kind(column, schema)),
+    }
+}
+
+fn is_argument(asked: Argument, kind: Option<ValueKind>) -> bool
+    ensures { result ≡ spec.is_argument asked kind }
+{
+    match asked {
+        Argument::Nothing => true,
+        Argument::Any => kind.is_some(),
+        Argument::Number => is_kind(ValueKind::Number, kind),
+        Argument::Ordered => has_extremes(kind),
+    }
+}
+
+fn is_ranking(ranking: Ranking) -> bool
+    ensures { result ≡ spec.is_ranking ranking }
+{
+    match ranking {
+        Ranking::RowNumber | Ranking::Rank | Ranking::DenseRank => true,
+        Ranking::Ntile(buckets) => 1 <= buckets,
+    }
+}
+
+fn is_frame_function(function: FrameFunction) -> bool
+    ensures { result ≡ spec.is_frame_function function }
+{
+    match function {
+        FrameFunction::ValueAt(FrameRow::Nth(n), _) => 1 <= n,
+        FrameFunction::ValueAt(_, _) | FrameFunction::Aggregate(_) => true,
     }
 }
 
@@ -402,7 +435,7 @@ fn are_bounds(start: Bound, end: Bound) -> bool
 }
 
 /// Whether the sort keys are such as the frame needs.
-fn has_keys_for(keys: &[OrderItem], frame: Frame, input: &Plan, schema: &Schema) -> bool
+fn has_keys_for(keys: &[SortColumn], frame: Frame, input: &Plan, schema: &Schema) -> bool
     ensures { result ≡ spec.has_keys_for (spec.kinds_of (schema_of schema.now) (plan_of input.now)) keys.now frame }
 {
     match frame.mode {
@@ -416,7 +449,7 @@ fn has_keys_for(keys: &[OrderItem], frame: Frame, input: &Plan, schema: &Schema)
 }
 
 /// Whether there is exactly one key, of whole numbers.
-fn is_one_number(keys: &[OrderItem], input: &Plan, schema: &Schema) -> bool
+fn is_one_number(keys: &[SortColumn], input: &Plan, schema: &Schema) -> bool
     ensures { result ≡ spec.is_one_number (spec.kinds_of (schema_of schema.now) (plan_of input.now)) keys.now }
 {
     match keys {
@@ -438,7 +471,7 @@ fn has_columns(columns: &[u16], input: &Plan, schema: &Schema) -> bool
 }
 
 /// Whether the node has the columns of these sort keys.
-fn has_keys(keys: &[OrderItem], input: &Plan, schema: &Schema) -> bool
+fn has_keys(keys: &[SortColumn], input: &Plan, schema: &Schema) -> bool
     ensures { result ≡ spec.has_keys (spec.kinds_of (schema_of schema.now) (plan_of input.now)) keys.now }
 {
     for item in keys {
@@ -449,18 +482,18 @@ fn has_keys(keys: &[OrderItem], input: &Plan, schema: &Schema) -> bool
     true
 }
 
-fn is_window(classes: &[Class], calls: &[Call], input: &Plan, schema: &Schema) -> bool
-    ensures { let tree = plan_of input.now in result ≡ spec.is_window (spec.kinds_of (schema_of schema.now) tree) (spec.width tree) (record { classes = map class_of classes.now; calls = calls.now }) }
+fn is_window(window: &Window, input: &Plan, schema: &Schema) -> bool
+    ensures { let tree = plan_of input.now in result ≡ spec.is_window (spec.kinds_of (schema_of schema.now) tree) (spec.width tree) (window_of window.now) }
 {
-    is_narrow(input.width().saturating_add(capped(calls.len())))
-        && has_classes(classes, input, schema)
-        && are_calls(calls, classes, input, schema)
+    is_narrow(input.width().saturating_add(capped(window.calls.len())))
+        && has_classes(&window.classes, input, schema)
+        && are_calls(&window.calls, &window.classes, input, schema)
 }
 
-fn is_limit(keys: &[OrderItem], ties: bool, input: &Plan, schema: &Schema) -> bool
-    ensures { result ≡ spec.is_limit (spec.kinds_of (schema_of schema.now) (plan_of input.now)) keys.now ties }
+fn is_limit(limit: &Limit, input: &Plan, schema: &Schema) -> bool
+    ensures { result ≡ spec.is_limit (spec.kinds_of (schema_of schema.now) (plan_of input.now)) (limit_of limit.now) }
 {
-    has_keys(keys, input, schema) && (!ties || !keys.is_empty())
+    has_keys(&limit.keys, input, schema) && (!limit.ties || !limit.keys.is_empty())
 }
 
 fn has_classes(classes: &[Class], input: &Plan, schema: &Schema) -> bool

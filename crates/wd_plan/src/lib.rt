@@ -3,10 +3,15 @@
 
 mod expression;
 mod fits;
+mod function;
 mod plan;
 mod window;
 
 pub use expression::{ArithmeticOp, Branch, ComparisonOp, Expr, ValueKind};
 pub use fits::kind_of_type;
-pub use plan::{Choice, OrderItem, Outcome, Plan};
-pub use window::{Bound, Call, Class, Exclusion, Frame, FrameMode, Function};
+pub use function::{
+    Aggregate, Argument, ByPeers, Direction, FrameFunction, FrameRow, Function, FunctionName,
+    Ranking, ResultKind, Shift, Signature,
+};
+pub use plan::{Choice, Limit, Outcome, Plan};
+pub use window::{Bound, Call, Class, Exclusion, Frame, FrameMode, Window};

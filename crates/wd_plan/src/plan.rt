@@ -1,16 +1,9 @@
 ghost use Rattle.std.specs.Prelude.{◌≡◌, ◌-◌, ◌^◌, min};
-ghost use Rattle.wd_plan.specs.Plans.{plan_of, ordering_count};
+ghost use Rattle.wd_plan.specs.Plans.{node_count, ordering_count, plan_of};
 
 use crate::expression::Expr;
-use crate::window::{Call, Class};
-use wd_value::{Fault, Row, SortKey};
-
-/// A sort key of a plan: a column of the node's input, and how its values are sorted.
-#[derive(Clone, Copy, PartialEq, Eq, Debug)]
-pub struct OrderItem {
-    pub column: u16,
-    pub key: SortKey,
-}
+use crate::window::Window;
+use wd_value::{Fault, Row, SortColumn};
 
 /// A node of a query's plan, over the rows of its input.
 #[derive(Debug, Drop)]
@@ -39,23 +32,27 @@ pub enum Plan {
     /// Each row of the input with the value of each call.
     Window {
         input: Box<Plan>,
-        classes: Vec<Class>,
-        calls: Vec<Call>,
+        window: Window,
     },
     /// The first of rows that are not distinct.
     Distinct {
         input: Box<Plan>,
     },
-    /// The rows of the input as the keys sort them, without the first `offset`, and of those no
-    /// more than `count`, where there is a count; with ties also those that follow and are peers
-    /// of the last one taken.
+    /// The rows of the input that the limit keeps of them, in its order.
     Limit {
         input: Box<Plan>,
-        keys: Vec<OrderItem>,
-        offset: u64,
-        count: Option<u64>,
-        ties: bool,
+        limit: Limit,
     },
+}
+
+/// The rows as the keys sort them, without the first `offset`, and of those no more than `count`,
+/// where there is a count; with ties also those that follow and are peers of the last one taken.
+#[derive(Debug, Drop)]
+pub struct Limit {
+    pub keys: Vec<SortColumn>,
+    pub offset: u64,
+    pub count: Option<u64>,
+    pub ties: bool,
 }
 
 /// What a plan gives: rows, or the least fault of the first step that has one.
@@ -82,11 +79,29 @@ impl Plan {
             Plan::Join { left, right, .. } => left.orderings().saturating_add(right.orderings()),
             Plan::Filter { input, .. } => input.orderings(),
             Plan::Map { input, .. } => input.orderings(),
-            Plan::Window { input, classes, .. } => input
+            Plan::Window { input, window } => input
                 .orderings()
-                .saturating_add(capped(classes.len())),
+                .saturating_add(capped(window.classes.len())),
             Plan::Distinct { input } => input.orderings(),
             Plan::Limit { input, .. } => input.orderings().saturating_add(1),
+        }
+    }
+
+    /// How many nodes the plan has; `u32::MAX` where there are more.
+    pub fn nodes(&self) -> u32
+        ensures { result ≡ min (node_count (plan_of self.now)) (2 ^ 32 - 1) }
+    {
+        match self {
+            Plan::Scan { .. } => 1,
+            Plan::Join { left, right, .. } => left
+                .nodes()
+                .saturating_add(right.nodes())
+                .saturating_add(1),
+            Plan::Filter { input, .. } => input.nodes().saturating_add(1),
+            Plan::Map { input, .. } => input.nodes().saturating_add(1),
+            Plan::Window { input, .. } => input.nodes().saturating_add(1),
+            Plan::Distinct { input } => input.nodes().saturating_add(1),
+            Plan::Limit { input, .. } => input.nodes().saturating_add(1),
         }
     }
 }

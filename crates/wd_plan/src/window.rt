@@ -1,11 +1,15 @@
-use crate::plan::OrderItem;
-use wd_value::Value;
+ghost use Rattle.std.specs.Prelude.{◌≡◌};
+ghost use Rattle.wd_plan.specs.Frames.{is_stable, is_unbounded};
+ghost use Rattle.wd_plan.specs.Settled.{is_by_peers};
+
+use crate::function::{ByPeers, Function};
+use wd_value::SortColumn;
 
 /// The calls of one class see one and the same ordering: partition columns, and sort keys.
 #[derive(Debug, Drop)]
 pub struct Class {
     pub partition: Vec<u16>,
-    pub order: Vec<OrderItem>,
+    pub order: Vec<SortColumn>,
 }
 
 /// By what the bounds of a frame count.
@@ -44,40 +48,54 @@ pub struct Frame {
     pub exclusion: Exclusion,
 }
 
-/// A window function with its arguments; value arguments are columns of the Window's input.
-#[derive(Debug, Drop)]
-pub enum Function {
-    RowNumber,
-    Rank,
-    DenseRank,
-    /// The number of buckets, at least 1.
-    Ntile(u64),
-    Lag {
-        argument: u16,
-        offset: u64,
-        default: Value,
-    },
-    Lead {
-        argument: u16,
-        offset: u64,
-        default: Value,
-    },
-    FirstValue(u16),
-    LastValue(u16),
-    /// The argument, and which row of the frame, counted from 1.
-    NthValue(u16, u64),
-    /// COUNT(*).
-    CountRows,
-    Count(u16),
-    Sum(u16),
-    Min(u16),
-    Max(u16),
-}
-
 /// A window call: its class by number, its function, and its frame, which ranking functions ignore.
 #[derive(Debug, Drop)]
 pub struct Call {
     pub class: u16,
     pub function: Function,
     pub frame: Frame,
+}
+
+/// What a Window computes: calls, each of a class by its number.
+#[derive(Debug, Drop)]
+pub struct Window {
+    pub classes: Vec<Class>,
+    pub calls: Vec<Call>,
+}
+
+impl Frame {
+    /// Whether the rows of the frame are the same for rows that are peers, and whatever order these stand in: mode RANGE
+    /// or GROUPS, or ROWS between both unbounded ends, with any exclusion.
+    pub fn is_stable(self) -> bool
+        ensures { result ≡ is_stable self }
+    {
+        match self.mode {
+            FrameMode::Range | FrameMode::Groups => true,
+            FrameMode::Rows => self.start.is_unbounded() && self.end.is_unbounded(),
+        }
+    }
+}
+
+impl Bound {
+    fn is_unbounded(self) -> bool
+        ensures { result ≡ is_unbounded self }
+    {
+        match self {
+            Bound::UnboundedPreceding | Bound::UnboundedFollowing => true,
+            _ => false,
+        }
+    }
+}
+
+impl Call {
+    /// Whether rows that are peers have one value of the call, whatever order they stand in.
+    pub fn is_by_peers(&self) -> bool
+        ensures { result ≡ is_by_peers self.now.frame self.now.function }
+    {
+        match self.function.name().signature().by_peers {
+            ByPeers::Never => false,
+            ByPeers::Always => true,
+            ByPeers::OverStableFrames => self.frame.is_stable(),
+        }
+    }
 }

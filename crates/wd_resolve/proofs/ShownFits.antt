@@ -6,7 +6,7 @@ use Rattle.std.proofs.lemmas.List.{append-nil, length-append, length-map, nil_fr
 use Rattle.wd_schema.specs.Tables.{TableRule}
 use Rattle.wd_plan.specs.declared.expression.ValueKind.{ValueKind}
 use Rattle.wd_plan.specs.declared.expression.ValueKind.TheVariants.{Truth}
-use Rattle.wd_plan.specs.declared.plan.OrderItem.{OrderItem}
+use Rattle.wd_value.specs.declared.order.SortColumn.{SortColumn}
 use Rattle.wd_plan.specs.Expressions.{Expression}
 use Rattle.wd_plan.specs.Fits.{Kinds, kinds_of}
 use Rattle.wd_plan.specs.Plans.{PlanTree, Filter, Map}
@@ -108,11 +108,11 @@ cut_is sorted (Some (CountFirst c o)) cut h =
     let n = bound (offset_meant o) (λ offset. made offset x.0) cut x.2 in
     subst (IsCut sorted) (ok_is _ _ n.2) (count_is sorted (Some c) x.0 x.1)
 
-ties_with : (ties sorted : Bool) (items : List OrderItem) → (not ties || sorted) ≡ true → (sorted ≡ true → HasSome items) → (not ties || nat_lt 0 (length items)) ≡ true
+ties_with : (ties sorted : Bool) (items : List SortColumn) → (not ties || sorted) ≡ true → (sorted ≡ true → HasSome items) → (not ties || nat_lt 0 (length items)) ≡ true
 ties_with false sorted items h f = refl
 ties_with true sorted items h f = f h
 
-limited_is : (tables : List TableRule) (sorted : Bool) (items : List OrderItem) (cut : Option Cut) (plan : PlanTree) (ks : List ValueKind) → HasKinds tables plan ks → AreWithin (length ks) items → IsCut sorted cut → (sorted ≡ true → HasSome items) → HasKinds tables (limited items cut plan) ks
+limited_is : (tables : List TableRule) (sorted : Bool) (items : List SortColumn) (cut : Option Cut) (plan : PlanTree) (ks : List ValueKind) → HasKinds tables plan ks → AreWithin (length ks) items → IsCut sorted cut → (sorted ≡ true → HasSome items) → HasKinds tables (limited items cut plan) ks
 limited_is tables sorted [] None plan ks h within is some = h
 limited_is tables sorted (item ∷ items) None plan ks h within is some = limit_is tables (record { keys = item ∷ items; offset = 0; count = None; ties = false }) plan ks h within refl
 limited_is tables sorted [] (Some cut) plan ks h within is some = limit_is tables (record { keys = []; offset = cut.offset; count = cut.count; ties = cut.ties }) plan ks h within (ties_with cut.ties sorted [] is some)

@@ -5,7 +5,7 @@ use Rattle.std.proofs.lemmas.Bool.{false≢true, leb-true, lt-ltb}
 use Rattle.std.proofs.lemmas.List.{length_push}
 use Rattle.wd_value.specs.declared.order.SortKey.{SortKey}
 use Rattle.wd_plan.specs.declared.expression.ValueKind.{ValueKind}
-use Rattle.wd_plan.specs.declared.plan.OrderItem.{OrderItem}
+use Rattle.wd_value.specs.declared.order.SortColumn.{SortColumn}
 use Rattle.wd_plan.specs.Expressions.{Expression}
 use Rattle.wd_syntax.specs.declared.name.Name.{Name}
 use Rattle.wd_syntax.specs.declared.expression.Literal.{Literal}
@@ -123,13 +123,13 @@ pub record IsSorted (s : Shown) (so_far : Sorted) : Type 0 where
   pub among : AllByRecursion (λ call. AreAmong so_far.inputs (call_expressions (Some call))) s.calls
   pub narrow : IsNarrow s so_far
 
-abbrev pub HasSome : List OrderItem → Type 0
+abbrev pub HasSome : List SortColumn → Type 0
 HasSome items = nat_lt 0 (length items) ≡ true
 
-push_some : (items : List OrderItem) (item : OrderItem) → HasSome (items ++ item ∷ [])
+push_some : (items : List SortColumn) (item : SortColumn) → HasSome (items ++ item ∷ [])
 push_some items item = let long = length_push items item in lt-ltb 0 (length (items ++ item ∷ [])) (omega arith)
 
-within_more : (n m : ℕ) (items : List OrderItem) → n ≤ m → AreWithin n items → AreWithin m items
+within_more : (n m : ℕ) (items : List SortColumn) → n ≤ m → AreWithin n items → AreWithin m items
 within_more n m items few h = all_on items h (λ item g. omega arith)
 
 -- a key by a new hidden column
@@ -150,7 +150,7 @@ module _ (s : Shown) (all : AreCalls s.scope s.calls) (e : Expression) (k : Valu
       let new : length s.outputs + length so_far.hidden < length s.outputs + length (so_far.hidden ++ e ∷ []) = omega arith in
       let count : (length s.outputs + length so_far.hidden) + 1 ≡ length s.outputs + length (so_far.hidden ++ e ∷ []) = omega arith in
       record {
-        items_are = all_push (λ (item : OrderItem). item.column < length s.outputs + length (so_far.hidden ++ e ∷ [])) so_far.items (record { column = length s.outputs + length so_far.hidden; key = key }) old new;
+        items_are = all_push (λ (item : SortColumn). item.column < length s.outputs + length (so_far.hidden ++ e ∷ [])) so_far.items (record { column = length s.outputs + length so_far.hidden; key = key }) old new;
         kinds = h.kinds ++ k ∷ [];
         hidden_are = are_append (kinds_met s.scope []) so_far.hidden (e ∷ []) h.kinds (k ∷ []) h.hidden_are (is, tt);
         inputs_are = typed_with (kinds_met s.scope []) (length s.scope.columns) s.calls so_far.inputs e h.inputs_are (met_typed s.scope s.calls all e typed);
@@ -173,11 +173,11 @@ module _ (s : Shown) (all : AreCalls s.scope s.calls) (e : Expression) (k : Valu
 
 with_key_is : (s : Shown) → AreCalls s.scope s.calls → (p : KeyPlace) (key : SortKey) (so_far r : Sorted) → IsPlace s p → IsSorted s so_far → with_key s p key so_far ≡ Ok r → IsSorted s r × HasSome r.items
 with_key_is s all (output n) key so_far r is h e =
-    let item : OrderItem = record { column = n; key = key } in
+    let item : SortColumn = record { column = n; key = key } in
     let within : n < length s.outputs + length so_far.hidden = omega arith in
     subst (λ (z : Sorted). IsSorted s z × HasSome z.items) (ok_is _ _ e) (
       record {
-        items_are = all_push (λ (i : OrderItem). i.column < length s.outputs + length so_far.hidden) so_far.items item h.items_are within;
+        items_are = all_push (λ (i : SortColumn). i.column < length s.outputs + length so_far.hidden) so_far.items item h.items_are within;
         kinds = h.kinds;
         hidden_are = h.hidden_are;
         inputs_are = h.inputs_are;

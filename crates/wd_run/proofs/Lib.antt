@@ -1,3 +1,2 @@
 pub mod DataLemmas
 pub mod RunLemmas
-pub mod MeaningLaw

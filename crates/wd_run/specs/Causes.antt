@@ -1,21 +1,9 @@
 -- The numbers and the places of refusals, what they are about, and what stands in the inputs where they are answered.
 use Rattle.std.specs.Prelude.{◌≡◌, ◌≢◌, ◌⊎◌, ℕ, ⊤, List, ◌∷◌, ◌++◌, Option, Some, None, All, Any}
-use Rattle.wd_lex.specs.Causes as tokens
-use Rattle.wd_lex.specs.Lexed.{IsLexed, kinds_of}
-use Rattle.wd_lex.specs.declared.error.LexError.TheVariants as lex_error
-use Rattle.wd_lex.specs.declared.token.Token.{Token}
-use Rattle.wd_syntax.specs.Laws.{IsTreeOf}
-use Rattle.wd_syntax.specs.Tree.{QueryTree}
-use Rattle.wd_parse.specs.Causes as trees
-use Rattle.wd_parse.specs.declared.error.ParseError.{ParseError}
-use Rattle.wd_schema.specs.Refusals as tables
 use Rattle.wd_schema.specs.Tables.{TableRule}
-use Rattle.wd_schema.specs.Texts as schemas
-use Rattle.wd_schema.specs.Texts.{Declares}
-use Rattle.wd_schema.specs.declared.error.SchemaError.TheVariants as schema_error
-use Rattle.wd_operand.specs.Causes as meanings
-use Rattle.wd_operand.specs.declared.cause.ResolveError.{ResolveError}
-use Rattle.wd_resolve.specs.Answers.{Answer, answer}
+use Rattle.wd_query.specs.Causes.{HasTextCause, text_number, text_place}
+use Rattle.wd_query.specs.declared.error.TextError.TheVariants as text
+use Rattle.wd_resolve.specs.Answers.{Answer}
 use Rattle.wd_resolve.specs.Laws.{Reads}
 use Rattle.wd_value.specs.Rows.{Instance}
 use Rattle.wd_plan.specs.Plans.{PlanTree}
@@ -23,11 +11,8 @@ use Rattle.wd_tables.specs.Causes as records
 use Rattle.wd_tables.specs.declared.error.DataError.{DataError}
 use Rattle.wd_eval.specs.Errors as steps
 use Rattle.wd_eval.specs.Runs.{IsRunRefused}
-use Rattle.wd_eval.specs.Steps.{most_rows}
 use Rattle.wd_eval.specs.declared.error.EvalError.{EvalError}
 use Rattle.wd_run.specs.Runs.{HoldsData, IsGiven, IsNamed, ReadsTable}
-use Rattle.wd_run.specs.declared.query.QueryError.{QueryError}
-use Rattle.wd_run.specs.declared.query.QueryError.TheVariants as query_error
 use Rattle.wd_run.specs.declared.error.RunError.{RunError}
 use Rattle.wd_run.specs.declared.error.RunError.TheVariants as run
 use Rattle.wd_run.specs.declared.error.Origin.{Origin}
@@ -35,27 +20,15 @@ use Rattle.wd_run.specs.declared.error.Origin.TheVariants as origin
 
 -- ---- numbers and places
 
-abbrev pub query_number : QueryError → Option ℕ
-query_number (query_error.Tokens error) = tokens.number_of error
-query_number (query_error.Tree error) = trees.number_of error
-query_number (query_error.Meaning error) = meanings.error_number error
-
-abbrev pub query_place : QueryError → Option ℕ
-query_place (query_error.Tokens error) = tokens.place_of error
-query_place (query_error.Tree error) = trees.place_of error
-query_place (query_error.Meaning error) = None
-
 abbrev pub run_number : RunError → Option ℕ
-run_number (run.Schema error) = tables.number_of error
-run_number (run.Query error) = query_number error
+run_number (run.Texts error) = text_number error
 run_number (run.Given name) = Some 707
 run_number (run.Data name error) = records.number_of error
 run_number (run.Evaluation error) = steps.number_of error
 run_number run.OutOfMemory = None
 
 abbrev pub run_place : RunError → Option ℕ
-run_place (run.Schema error) = tables.place_of error
-run_place (run.Query error) = query_place error
+run_place (run.Texts error) = text_place error
 run_place (run.Given name) = None
 run_place (run.Data name error) = records.place_of error
 run_place (run.Evaluation error) = steps.place_of error
@@ -63,8 +36,8 @@ run_place run.OutOfMemory = None
 
 -- the input that a refusal is about; that of data goes by its name
 abbrev pub ComesFrom : RunError → Origin → Type 0
-ComesFrom (run.Schema error) origin.Schema = ⊤
-ComesFrom (run.Query error) origin.Query = ⊤
+ComesFrom (run.Texts (text.Schema error)) origin.Schema = ⊤
+ComesFrom (run.Texts (text.Query error)) origin.Query = ⊤
 ComesFrom (run.Given name) (origin.Data shown) = shown.now ≡ name
 ComesFrom (run.Data name error) (origin.Data shown) = shown.now ≡ name
 ComesFrom (run.Evaluation error) origin.Run = ⊤
@@ -72,26 +45,6 @@ ComesFrom run.OutOfMemory origin.Run = ⊤
 ComesFrom error other = ⊥
 
 -- ---- what stands in the inputs
-
--- the query's tokens are spelled by no tree, or pass a limit
-pub record HasNoTree (query : List ℕ) (error : ParseError) : Type 0 where
-  pub tokens : List Token
-  pub lexed : IsLexed query tokens
-  pub cause : trees.HasCause error (kinds_of tokens)
-
--- the query's tree has no plan over the tables, for this cause
-pub record HasNoPlan (tables : List TableRule) (query : List ℕ) (error : ResolveError) : Type 0 where
-  pub tokens : List Token
-  pub tree : QueryTree
-  pub lexed : IsLexed query tokens
-  pub spelled : IsTreeOf (kinds_of tokens) tree
-  pub cause : meanings.Fails error (answer tables tree)
-
--- why a query's text is refused over a schema's tables
-abbrev pub HasQueryCause : List TableRule → List ℕ → QueryError → Type 0
-HasQueryCause tables query (query_error.Tokens error) = error ≢ lex_error.OutOfMemory → tokens.HasCause error query
-HasQueryCause tables query (query_error.Tree error) = HasNoTree query error
-HasQueryCause tables query (query_error.Meaning error) = HasNoPlan tables query error
 
 -- data is given under the name, and no table has it
 pub record IsNoTable (tables : List TableRule) (given : List (List ℕ × List ℕ)) (name : List ℕ) : Type 0 where
@@ -129,7 +82,7 @@ pub record HasDataCause (tables : List TableRule) (given : List (List ℕ × Lis
 pub record HasStepCause (tables : List TableRule) (given : List (List ℕ × List ℕ)) (plan : PlanTree) (error : EvalError) : Type 0 where
   pub instance : Instance
   pub data_holds : HoldsData tables given instance
-  pub cause : IsRunRefused most_rows plan instance error
+  pub cause : IsRunRefused plan instance error
 
 -- the texts read as a plan over the schema's tables, of which this holds
 abbrev pub ForReading : List ℕ → List ℕ → (List TableRule → PlanTree → Type 0) → Type 0
@@ -137,8 +90,7 @@ ForReading schema query P = (read : Answer) × (reads : Reads schema query read)
 
 -- a refusal's cause stands in the inputs; where memory runs out none need
 abbrev pub HasCause : List ℕ → List ℕ → List (List ℕ × List ℕ) → RunError → Type 0
-HasCause schema query given (run.Schema error) = error ≢ schema_error.OutOfMemory → schemas.HasCause schema error
-HasCause schema query given (run.Query error) = (tables : List TableRule) × Declares schema tables × HasQueryCause tables query error
+HasCause schema query given (run.Texts error) = HasTextCause schema query error
 HasCause schema query given (run.Given name) = ForReading schema query (λ tables plan. HasNameCause tables given plan name)
 HasCause schema query given (run.Data name error) = ForReading schema query (λ tables plan. HasDataCause tables given name error)
 HasCause schema query given (run.Evaluation error) = ForReading schema query (λ tables plan. HasStepCause tables given plan error)

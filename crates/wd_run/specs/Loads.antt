@@ -1,36 +1,21 @@
--- What the readers of a query and of data give and refuse, each for its part.
-use Rattle.std.specs.Prelude.{◌≡◌, ◌⊎◌, ℕ, ⊤, List, Ok, Some, slice_get}
-use Rattle.wd_lex.specs.Lexed.{IsLexed, kinds_of}
-use Rattle.wd_lex.specs.declared.token.Token.{Token}
-use Rattle.wd_syntax.specs.Laws.{IsTreeOf}
-use Rattle.wd_syntax.specs.Tree.{QueryTree}
+-- What the readers of data give and refuse, each for its part.
+use Rattle.std.specs.Prelude.{◌≡◌, ◌⊎◌, ℕ, ⊤, List, Some, slice_get}
 use Rattle.wd_schema.specs.Tables.{TableRule}
-use Rattle.wd_resolve.specs.Answers.{Answer, answer}
 use Rattle.wd_plan.specs.Plans.{PlanTree}
 use Rattle.wd_tables.specs.Causes as records
 use Rattle.wd_value.specs.Rows.{Instance}
 use Rattle.wd_plan.specs.declared.plan.Outcome.{Outcome}
 use Rattle.wd_eval.specs.Runs.{IsRun}
-use Rattle.wd_eval.specs.Steps.{most_rows}
 use Rattle.wd_run.specs.Causes.{HasDataCause, HasNameCause, HasStepCause, IsGivenTwice, IsNoTable, LacksData}
 use Rattle.wd_run.specs.Runs.{HasData, HoldsData, IsGiven, IsNamed}
 use Rattle.wd_run.specs.declared.error.RunError.{RunError}
 use Rattle.wd_run.specs.declared.error.RunError.TheVariants as run
 
--- the plan and the names are those of the query's tree over the tables
-pub record IsPlanned (tables : List TableRule) (query : List ℕ) (a : Answer) : Type 0 where
-  pub tokens : List Token
-  pub tree : QueryTree
-  pub lexed : IsLexed query tokens
-  pub spelled : IsTreeOf (kinds_of tokens) tree
-  pub means : answer tables tree ≡ Ok a
-
 -- 707 for the name, where this holds; or out of memory
 abbrev pub RefusesName : List ℕ → Type 0 → RunError → Type 0
 RefusesName name P (run.Given refused) = (refused ≡ name) × P
 RefusesName name P run.OutOfMemory = ⊤
-RefusesName name P (run.Schema error) = ⊥
-RefusesName name P (run.Query error) = ⊥
+RefusesName name P (run.Texts error) = ⊥
 RefusesName name P (run.Data refused error) = ⊥
 RefusesName name P (run.Evaluation error) = ⊥
 
@@ -39,8 +24,7 @@ abbrev pub RefusesText : List TableRule → List (List ℕ × List ℕ) → List
 RefusesText tables earlier name text (run.Given refused) = (refused ≡ name) × (((n : ℕ) → IsNamed tables name n → ⊥) ⊎ IsGiven earlier name)
 RefusesText tables earlier name text (run.Data refused error) = (refused ≡ name) × ((n : ℕ) × (named : IsNamed tables name n) × records.HasCause named.table text error)
 RefusesText tables earlier name text run.OutOfMemory = ⊤
-RefusesText tables earlier name text (run.Schema error) = ⊥
-RefusesText tables earlier name text (run.Query error) = ⊥
+RefusesText tables earlier name text (run.Texts error) = ⊥
 RefusesText tables earlier name text (run.Evaluation error) = ⊥
 
 -- the rows of a table are refused under its name
@@ -48,8 +32,7 @@ abbrev pub RefusesRows : TableRule → List ℕ → RunError → Type 0
 RefusesRows table text (run.Data refused error) = (refused ≡ table.name) × records.HasCause table text error
 RefusesRows table text run.OutOfMemory = ⊤
 RefusesRows table text (run.Given refused) = ⊥
-RefusesRows table text (run.Schema error) = ⊥
-RefusesRows table text (run.Query error) = ⊥
+RefusesRows table text (run.Texts error) = ⊥
 RefusesRows table text (run.Evaluation error) = ⊥
 
 -- why the given data is refused, whatever the plan
@@ -57,16 +40,14 @@ abbrev pub RefusesData : List TableRule → List (List ℕ × List ℕ) → RunE
 RefusesData tables given (run.Given name) = IsNoTable tables given name ⊎ IsGivenTwice given name
 RefusesData tables given (run.Data name error) = HasDataCause tables given name error
 RefusesData tables given run.OutOfMemory = ⊤
-RefusesData tables given (run.Schema error) = ⊥
-RefusesData tables given (run.Query error) = ⊥
+RefusesData tables given (run.Texts error) = ⊥
 RefusesData tables given (run.Evaluation error) = ⊥
 
 -- a table that the plan scans has no data
 abbrev pub RefusesPlan : List TableRule → List (List ℕ × List ℕ) → PlanTree → RunError → Type 0
 RefusesPlan tables given plan (run.Given name) = LacksData tables given plan name
 RefusesPlan tables given plan run.OutOfMemory = ⊤
-RefusesPlan tables given plan (run.Schema error) = ⊥
-RefusesPlan tables given plan (run.Query error) = ⊥
+RefusesPlan tables given plan (run.Texts error) = ⊥
 RefusesPlan tables given plan (run.Data name error) = ⊥
 RefusesPlan tables given plan (run.Evaluation error) = ⊥
 
@@ -75,7 +56,7 @@ pub record GivesOutcome (tables : List TableRule) (given : List (List ℕ × Lis
   pub instance : Instance
   pub has_data : HasData tables given plan
   pub data_holds : HoldsData tables given instance
-  pub ran : IsRun most_rows plan instance o
+  pub ran : IsRun plan instance o
 
 -- why a plan has no outcome over the data given
 abbrev pub RefusesOutcome : List TableRule → List (List ℕ × List ℕ) → PlanTree → RunError → Type 0
@@ -83,8 +64,7 @@ RefusesOutcome tables given plan (run.Given name) = HasNameCause tables given pl
 RefusesOutcome tables given plan (run.Data name error) = HasDataCause tables given name error
 RefusesOutcome tables given plan (run.Evaluation error) = HasStepCause tables given plan error
 RefusesOutcome tables given plan run.OutOfMemory = ⊤
-RefusesOutcome tables given plan (run.Schema error) = ⊥
-RefusesOutcome tables given plan (run.Query error) = ⊥
+RefusesOutcome tables given plan (run.Texts error) = ⊥
 
 -- the table of that number is this one, and has the name
 abbrev pub FindsTable : List TableRule → List ℕ → ℕ → TableRule → Type 0

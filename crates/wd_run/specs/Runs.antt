@@ -8,7 +8,6 @@ use Rattle.wd_schema.specs.Tables.{TableRule}
 use Rattle.wd_plan.specs.Outcomes.{RowsOrFault}
 use Rattle.wd_plan.specs.Plans.{PlanTree, Scan, Join, Filter, Map, Window, Distinct, Limit}
 use Rattle.wd_eval.specs.Runs.{IsAnswerWithin}
-use Rattle.wd_eval.specs.Steps.{most_rows}
 use Rattle.wd_tables.specs.Data.{HoldsRows}
 use Rattle.wd_resolve.specs.Answers.{Answer}
 use Rattle.wd_resolve.specs.Laws.{Reads}
@@ -81,5 +80,5 @@ pub record IsAnswer (schema query : List ℕ) (given : List (List ℕ × List �
   pub instance : Instance
   pub has_data : HasData reads.tables given read.plan
   pub data_holds : HoldsData reads.tables given instance
-  pub answers : IsAnswerWithin most_rows read.plan instance answer
+  pub answers : IsAnswerWithin read.plan instance answer
   pub named : names ≡ read.names

@@ -11,11 +11,11 @@ ghost use Rattle.wd_schema.specs.Schemas.{schema_of};
 
 use crate::data::{check_given, load_data};
 use crate::error::RunError;
-use crate::query::read_query;
 use std::alloc::Global;
 use wd_eval::run_plan;
 use wd_plan::{Outcome, Plan};
-use wd_schema::{Schema, read_schema};
+use wd_query::{PlannedQuery, read_texts};
+use wd_schema::Schema;
 use wd_value::Text;
 
 /// The names of a query's columns and its outcome over the data of tables, which is given as pairs of a table's name and its CSV
@@ -33,15 +33,12 @@ pub fn run(
     ensures answer { IfOk result (λ a. IsAnswer schema.now query.now (data_of tables.now) a.0.items (outcome_of a.1)) }
     ensures refused { IfErr result (λ e. HasCause schema.now query.now (data_of tables.now) e) }
 {
-    let declared = match read_schema(alloc, schema) {
-        Ok(declared) => declared,
-        Err(error) => return Err(RunError::Schema(error)),
+    let planned = match read_texts(alloc, schema, query) {
+        Ok(planned) => planned,
+        Err(error) => return Err(RunError::Texts(error)),
     };
-    let resolved = match read_query(alloc, &declared, query) {
-        Ok(resolved) => resolved,
-        Err(error) => return Err(RunError::Query(error)),
-    };
-    match outcome_over(alloc, &declared, &resolved.plan, tables) {
+    let PlannedQuery { schema, resolved } = planned;
+    match outcome_over(alloc, &schema, &resolved.plan, tables) {
         Ok(outcome) => Ok((resolved.names, outcome)),
         Err(error) => Err(error),
     }

@@ -4,21 +4,19 @@ ghost use Rattle.std.specs.Prelude.{◌≡◌};
 ghost use Rattle.wd_run.specs.Causes.{ComesFrom, run_number, run_place};
 ghost use Rattle.wd_run.specs.declared.error.RunError.TheVariants as error;
 
-use crate::query::QueryError;
 use std::alloc::{AllocError, AllocFailed};
 use thiserror::Error;
 use wd_eval::EvalError;
-use wd_schema::SchemaError;
+use wd_query::TextError;
 use wd_tables::DataError;
 use wd_value::{OutOfMemory, Text};
 
 /// Why a run is refused.
 #[derive(Debug, Drop, Error)]
 pub enum RunError {
+    /// The schema's text or the query's is refused.
     #[error(transparent)]
-    Schema(SchemaError),
-    #[error(transparent)]
-    Query(QueryError),
+    Texts(TextError),
     /// 707: the name is no table's or is given twice, or the table of this name, which the query
     /// reads, has no data.
     #[error("no such table, or data given twice or not at all")]
@@ -50,8 +48,7 @@ impl RunError {
         ensures { result ≡ run_number self.now }
     {
         match self {
-            RunError::Schema(error) => error.number(),
-            RunError::Query(error) => error.number(),
+            RunError::Texts(error) => error.number(),
             RunError::Given { .. } => Some(707),
             RunError::Data { error, .. } => error.number(),
             RunError::Evaluation(error) => error.number(),
@@ -64,8 +61,7 @@ impl RunError {
         ensures { result ≡ run_place self.now }
     {
         match self {
-            RunError::Schema(error) => error.place(),
-            RunError::Query(error) => error.place(),
+            RunError::Texts(error) => error.place(),
             RunError::Given { .. } => None,
             RunError::Data { error, .. } => error.place(),
             RunError::Evaluation(error) => error.place(),
@@ -78,8 +74,8 @@ impl RunError {
         ensures { ComesFrom self.now result }
     {
         match self {
-            RunError::Schema(_) => Origin::Schema,
-            RunError::Query(_) => Origin::Query,
+            RunError::Texts(TextError::Schema(_)) => Origin::Schema,
+            RunError::Texts(TextError::Query(_)) => Origin::Query,
             RunError::Given { name } => Origin::Data(name.as_str()),
             RunError::Data { name, .. } => Origin::Data(name.as_str()),
             RunError::Evaluation(_) => Origin::Run,

@@ -5,8 +5,6 @@ mod data;
 mod engine;
 mod error;
 pub mod laws;
-mod query;
 
 pub use engine::run;
 pub use error::{Origin, RunError};
-pub use query::QueryError;

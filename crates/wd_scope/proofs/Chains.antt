@@ -1,12 +1,12 @@
 -- Chains of operators and of tests, read from the left, mean what their trees mean.
-use Rattle.std.proofs.Common.{◌≡◌, ◌∙◌, sym, ap, refl, List, [], ◌∷◌, Bool, Ok, Err}
+use Rattle.std.proofs.Common.{◌≡◌, ◌∙◌, refl, List, [], ◌∷◌, Bool, Ok, Err}
 use Rattle.wd_syntax.specs.declared.expression.Operator.{Operator}
 use Rattle.wd_syntax.specs.Tree.{Tree, Binary, IsNull}
 use Rattle.wd_syntax.specs.View.{chained, tested}
 use Rattle.wd_operand.specs.Causes.{Meant, ◌>>=◌}
 use Rattle.wd_scope.specs.Calls.{CallMeaning}
 use Rattle.wd_operand.specs.Operands.{combined}
-use Rattle.wd_scope.specs.Resolving.{ContextRule, Met, without_call, resolved, chain_met, tests_met, chain_resolved, tests_resolved}
+use Rattle.wd_scope.specs.Resolving.{ContextRule, Met, without_call, resolved, chain_met, chain_resolved, tests_resolved}
 
 -- a meaning goes on as itself
 bind_whole : (m : Meant Met) → m ≡ (m >>= λ x. Ok (x.0, x.1))

@@ -1,76 +1,37 @@
 -- Expressions and calls that are the same are equal, or of one kind.
-use Rattle.std.proofs.Common.{◌≡◌, ◌∙◌, sym, ap, refl, subst, ℕ, true, false, Option, Some, None, nat_eq}
+use Rattle.std.proofs.Common.{◌≡◌, ◌∙◌, sym, ap, refl, subst, ℕ, true, Option, Some, None, rules}
 use Rattle.std.proofs.lemmas.Bool.{false≢true, eqb-true}
+use denote.Enum.Bare.{same_true}
 use Rattle.wd_value.specs.declared.value.Value.{Value}
 use Rattle.wd_value.specs.Values.{same}
 use Rattle.wd_value.proofs.SameLaws.{same-Decides}
 use Rattle.wd_plan.specs.declared.expression.ValueKind.{ValueKind}
-use Rattle.wd_plan.specs.declared.expression.ArithmeticOp.{ArithmeticOp}
-use Rattle.wd_plan.specs.declared.expression.ArithmeticOp.TheVariants as a
-use Rattle.wd_plan.specs.declared.expression.ComparisonOp.{ComparisonOp}
-use Rattle.wd_plan.specs.declared.expression.ComparisonOp.TheVariants as c
-use Rattle.wd_plan.specs.declared.expression.Branch.{Branch}
-use Rattle.wd_plan.specs.declared.expression.Branch.TheVariants.{First, Later}
+use Rattle.wd_plan.specs.contracts.expression.ArithmeticOp.{the_type as operation}
+use Rattle.wd_plan.specs.contracts.expression.ComparisonOp.{the_type as comparison}
+use Rattle.wd_plan.specs.contracts.expression.Branch.{the_type as branches}
+use Rattle.wd_plan.specs.contracts.function.FunctionName.{the_type as function_name}
 use Rattle.wd_plan.specs.Expressions.{Expression, Column, Literal, Negate, Arithmetic, Compare, Not, And, Or, IsNull, IsNotNull, Case}
 use Rattle.wd_plan.specs.Fits.{Kinds}
-use Rattle.wd_scope.specs.declared.call.FunctionName.{FunctionName}
-use Rattle.wd_scope.specs.declared.call.FunctionName.TheVariants.{RowNumber, Rank, DenseRank, Ntile, Lag, Lead, FirstValue, LastValue, NthValue, Count, Sum, Min, Max}
-use Rattle.wd_scope.specs.Calls.{CallMeaning, FunctionMeaning, function_number, same_argument, same_call, same_function}
-use Rattle.wd_operand.specs.Equality.{arithmetic_number, comparison_number, same_branch, same_expression}
+use Rattle.wd_plan.specs.declared.function.FunctionName.{FunctionName}
+use Rattle.wd_plan.specs.declared.function.FunctionName.TheVariants.{RowNumber, Rank, DenseRank, Ntile, Lag, Lead, FirstValue, LastValue, NthValue, Count, Sum, Min, Max}
+use Rattle.wd_scope.specs.Calls.{CallMeaning, FunctionMeaning, same_argument, same_call, same_function}
+use Rattle.wd_operand.specs.Equality.{same_expression}
 use Rattle.wd_scope.specs.Typed.{IsFunction, IsFunctionOver, IsOfKind}
 use Rattle.wd_scope.proofs.Typing.{both, same_kind-is}
-
-operation_is : (x y : ArithmeticOp) → nat_eq (arithmetic_number x) (arithmetic_number y) ≡ true → x ≡ y
-operation_is a.Add a.Add h = refl
-operation_is a.Subtract a.Subtract h = refl
-operation_is a.Multiply a.Multiply h = refl
-operation_is a.Divide a.Divide h = refl
-operation_is a.Remainder a.Remainder h = refl
-operation_is x y h = absurd (false≢true h)
-
-comparison_is : (x y : ComparisonOp) → nat_eq (comparison_number x) (comparison_number y) ≡ true → x ≡ y
-comparison_is c.Equal c.Equal h = refl
-comparison_is c.NotEqual c.NotEqual h = refl
-comparison_is c.Less c.Less h = refl
-comparison_is c.LessOrEqual c.LessOrEqual h = refl
-comparison_is c.Greater c.Greater h = refl
-comparison_is c.GreaterOrEqual c.GreaterOrEqual h = refl
-comparison_is x y h = absurd (false≢true h)
-
-branch_is : (x y : Branch) → same_branch x y ≡ true → x ≡ y
-branch_is First First h = refl
-branch_is Later Later h = refl
-branch_is x y h = absurd (false≢true h)
 
 pub same_expression-is : (x y : Expression) → same_expression x y ≡ true → x ≡ y
 same_expression-is (Column n) (Column m) h = ap Column (eqb-true n m h)
 same_expression-is (Literal v k) (Literal w l) h = let p = both _ _ h in λ i. Literal ((same-Decides v w).0 p.0 i) (same_kind-is k l p.1 i)
 same_expression-is (Negate x) (Negate y) h = ap Negate (same_expression-is x y h)
-same_expression-is (Arithmetic o x y) (Arithmetic q z w) h = let p = both _ _ h in let r = both _ _ p.1 in λ i. Arithmetic (operation_is o q p.0 i) (same_expression-is x z r.0 i) (same_expression-is y w r.1 i)
-same_expression-is (Compare o x y) (Compare q z w) h = let p = both _ _ h in let r = both _ _ p.1 in λ i. Compare (comparison_is o q p.0 i) (same_expression-is x z r.0 i) (same_expression-is y w r.1 i)
+same_expression-is (Arithmetic o x y) (Arithmetic q z w) h = let p = both _ _ h in let r = both _ _ p.1 in λ i. Arithmetic (same_true operation (search rules) o q p.0 i) (same_expression-is x z r.0 i) (same_expression-is y w r.1 i)
+same_expression-is (Compare o x y) (Compare q z w) h = let p = both _ _ h in let r = both _ _ p.1 in λ i. Compare (same_true comparison (search rules) o q p.0 i) (same_expression-is x z r.0 i) (same_expression-is y w r.1 i)
 same_expression-is (Not x) (Not y) h = ap Not (same_expression-is x y h)
 same_expression-is (And x y) (And z w) h = let p = both _ _ h in λ i. And (same_expression-is x z p.0 i) (same_expression-is y w p.1 i)
 same_expression-is (Or x y) (Or z w) h = let p = both _ _ h in λ i. Or (same_expression-is x z p.0 i) (same_expression-is y w p.1 i)
 same_expression-is (IsNull x) (IsNull y) h = ap IsNull (same_expression-is x y h)
 same_expression-is (IsNotNull x) (IsNotNull y) h = ap IsNotNull (same_expression-is x y h)
-same_expression-is (Case branch x y z) (Case other u v w) h = let o = both _ _ h in let p = both _ _ o.1 in let r = both _ _ p.1 in λ i. Case (branch_is branch other o.0 i) (same_expression-is x u p.0 i) (same_expression-is y v r.0 i) (same_expression-is z w r.1 i)
+same_expression-is (Case branch x y z) (Case other u v w) h = let o = both _ _ h in let p = both _ _ o.1 in let r = both _ _ p.1 in λ i. Case (same_true branches (search rules) branch other o.0 i) (same_expression-is x u p.0 i) (same_expression-is y v r.0 i) (same_expression-is z w r.1 i)
 same_expression-is x y h = absurd (false≢true h)
-
-name_is : (x y : FunctionName) → nat_eq (function_number x) (function_number y) ≡ true → x ≡ y
-name_is RowNumber RowNumber h = refl
-name_is Rank Rank h = refl
-name_is DenseRank DenseRank h = refl
-name_is Ntile Ntile h = refl
-name_is Lag Lag h = refl
-name_is Lead Lead h = refl
-name_is FirstValue FirstValue h = refl
-name_is LastValue LastValue h = refl
-name_is NthValue NthValue h = refl
-name_is Count Count h = refl
-name_is Sum Sum h = refl
-name_is Min Min h = refl
-name_is Max Max h = refl
-name_is x y h = absurd (false≢true h)
 
 argument_is : (x y : Option Expression) → same_argument x y ≡ true → x ≡ y
 argument_is None None h = refl
@@ -108,7 +69,7 @@ module _ (kinds : Kinds) where
       let p = both _ _ same in
       let q = both _ _ p.1 in
       let r = both _ _ q.1 in
-      let name = name_is f.name g.name p.0 in
+      let name = same_true function_name (search rules) f.name g.name p.0 in
       let argument = argument_is f.argument g.argument r.1 in
       kind_is g.name g.argument f.number g.number f.default g.default f.kind g.kind (subst (λ n. IsFunctionOver kinds n g.argument f.number f.default f.kind) name (subst (λ x. IsFunctionOver kinds f.name x f.number f.default f.kind) argument h)) i
 

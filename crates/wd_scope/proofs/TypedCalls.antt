@@ -9,14 +9,14 @@ use Rattle.wd_plan.specs.declared.window.Frame.{Frame}
 use Rattle.wd_plan.specs.declared.window.FrameMode.{FrameMode}
 use Rattle.wd_plan.specs.declared.window.FrameMode.TheVariants as mode
 use Rattle.wd_plan.specs.Expressions.{Expression, Column, Literal, Negate, Arithmetic, Compare, Not, And, Or, IsNull, IsNotNull, Case}
-use Rattle.wd_plan.specs.Fits.{Kinds, are_bounds, has_offset, is_of_kind, kind_of, same_kind}
+use Rattle.wd_plan.specs.Fits.{Kinds, are_bounds, has_extremes, has_offset, is_of_kind, same_kind}
 use Rattle.wd_syntax.specs.declared.frame.Frame.{Frame as WrittenFrame}
 use Rattle.wd_operand.specs.declared.cause.Cause.{Cause}
 use Rattle.wd_operand.specs.declared.cause.Cause.TheVariants.{WrongCall, FrameBounds, RangeOffset, GroupsWithoutOrder, WindowCopy}
-use Rattle.wd_scope.specs.declared.call.FunctionName.{FunctionName}
-use Rattle.wd_scope.specs.declared.call.FunctionName.TheVariants.{RowNumber, Rank, DenseRank, Ntile, Lag, Lead, FirstValue, LastValue, NthValue, Count, Sum, Min, Max}
+use Rattle.wd_plan.specs.declared.function.FunctionName.{FunctionName}
+use Rattle.wd_plan.specs.declared.function.FunctionName.TheVariants.{RowNumber, Rank, DenseRank, Ntile, Lag, Lead, FirstValue, LastValue, NthValue, Count, Sum, Min, Max}
 use Rattle.wd_operand.specs.Causes.{Meant, ◌>>=◌}
-use Rattle.wd_scope.specs.Calls.{FunctionMeaning, applied, counting, default_of, extreme, is_ordered, numbers, over_arguments, over_none, over_one, over_star, over_three, over_two, shifted, showing, totalling, whole}
+use Rattle.wd_scope.specs.Calls.{FunctionMeaning, applied, counting, default_of, extreme, numbers, over_arguments, over_none, over_one, over_star, over_three, over_two, shifted, showing, totalling, whole}
 use Rattle.wd_operand.specs.Operands.{Operand, bare_null, typed}
 use Rattle.wd_operand.specs.Operands as operands
 use Rattle.wd_scope.specs.Windows.{KeyMeaning, WindowMeaning, copied, frame_meant, frame_over, framed_by_mode, is_empty, is_one_number, order_copied, window_meant}
@@ -73,8 +73,8 @@ module _ (kinds : Kinds) where
   numbers_is (typed a Text) e h is = cc
   numbers_is (typed a Truth) e h is = cc
 
-  extreme_is : (name : FunctionName) (x : Operand) (f : FunctionMeaning) → IsOperand kinds x → extreme name x ≡ Ok f → (showing name x 0 Null ≡ f) × (is_ordered (operands.kind_of x) ≡ true)
-  extreme_is name x f h is = let p = passed (is_ordered (operands.kind_of x)) (showing name x 0 Null) f WrongCall is in (p.1, p.0)
+  extreme_is : (name : FunctionName) (x : Operand) (f : FunctionMeaning) → IsOperand kinds x → extreme name x ≡ Ok f → (showing name x 0 Null ≡ f) × (has_extremes (Some (operands.kind_of x)) ≡ true)
+  extreme_is name x f h is = let p = passed (has_extremes (Some (operands.kind_of x))) (showing name x 0 Null) f WrongCall is in (p.1, p.0)
 
   null_is : (kind : ValueKind) → is_of_kind kind Null ≡ true
   null_is Number = refl

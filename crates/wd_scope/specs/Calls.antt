@@ -1,27 +1,28 @@
 -- Window calls: their functions and arguments, and when two are equal (SQL, window function; PG, Window Functions).
-use Rattle.std.specs.Prelude.{ℕ, ◌+◌, ℤ, pos, negsuc, Bool, true, false, ◌&&◌, codes, List, [], ◌∷◌, ◌++◌, map, length, nat_eq, nat_lt, nat_le, Option, Some, None, option_map, Ok, Err, if◌then◌else◌}
+use Rattle.std.specs.Prelude.{ℕ, ◌+◌, ℤ, pos, negsuc, Bool, true, false, ◌&&◌, List, [], ◌∷◌, ◌++◌, map, length, nat_eq, nat_lt, nat_le, Option, Some, None, option_map, Ok, Err, if◌then◌else◌}
+use Rattle.std.specs.Bool.{beq}
 use Rattle.std.specs.Str.{bytes_eq}
+use denote.Enum.Bare.{sameb}
 use lib.Pointwise.{pointwise}
 use Rattle.std.specs.declared.alloc.Global.{Global}
 use Rattle.std.specs.declared.vec.Vec.{Vec}
 use Rattle.wd_value.specs.declared.value.Value.{Value}
 use Rattle.wd_value.specs.declared.value.Value.TheVariants.{Null, Int}
-use Rattle.wd_value.specs.declared.order.SortKey.{SortKey}
 use Rattle.wd_value.specs.Values.{same}
 use Rattle.wd_plan.specs.declared.expression.ValueKind.{ValueKind}
 use Rattle.wd_plan.specs.declared.expression.ValueKind.TheVariants.{Number, Text, Truth}
 use Rattle.wd_plan.specs.declared.window.Frame.{Frame}
-use Rattle.wd_plan.specs.declared.window.FrameMode.{FrameMode}
-use Rattle.wd_plan.specs.declared.window.FrameMode.TheVariants as mode
+use Rattle.wd_plan.specs.contracts.window.FrameMode.{the_type as mode}
 use Rattle.wd_plan.specs.declared.window.Bound.{Bound}
 use Rattle.wd_plan.specs.declared.window.Bound.TheVariants.{UnboundedPreceding, Preceding, CurrentRow, Following, UnboundedFollowing}
-use Rattle.wd_plan.specs.declared.window.Exclusion.{Exclusion}
-use Rattle.wd_plan.specs.declared.window.Exclusion.TheVariants as exclude
+use Rattle.wd_plan.specs.contracts.window.Exclusion.{the_type as exclusion}
 use Rattle.wd_plan.specs.Expressions.{Expression, Column, Literal, expression_of}
-use Rattle.wd_plan.specs.Fits.{same_kind}
+use Rattle.wd_plan.specs.Fits.{has_extremes, same_kind}
+use Rattle.wd_plan.specs.Functions.{signature, word}
 use Rattle.wd_operand.specs.declared.cause.Cause.TheVariants.{WrongCall, TooMany}
-use Rattle.wd_scope.specs.declared.call.FunctionName.{FunctionName}
-use Rattle.wd_scope.specs.declared.call.FunctionName.TheVariants.{RowNumber, Rank, DenseRank, Ntile, Lag, Lead, FirstValue, LastValue, NthValue, Count, Sum, Min, Max}
+use Rattle.wd_plan.specs.contracts.function.FunctionName.{the_type as function_name}
+use Rattle.wd_plan.specs.declared.function.FunctionName.{FunctionName}
+use Rattle.wd_plan.specs.declared.function.FunctionName.TheVariants.{RowNumber, Rank, DenseRank, Ntile, Lag, Lead, FirstValue, LastValue, NthValue, Count, Sum, Min, Max}
 use Rattle.wd_scope.specs.declared.call.AppliedFunction.{AppliedFunction}
 use Rattle.wd_scope.specs.declared.call.WindowCall.{WindowCall}
 use Rattle.wd_scope.specs.declared.call.Calls.{Calls}
@@ -31,27 +32,14 @@ use Rattle.wd_operand.specs.Equality.{same_expression}
 use Rattle.wd_operand.specs.Operands.{Operand, bare_null, typed, settled, kind_of, operand_of}
 use Rattle.wd_scope.specs.Windows.{KeyMeaning, WindowMeaning, window_of}
 
--- the functions by their names
-abbrev pub function_names : List (List ℕ × FunctionName)
-function_names =
-    (codes "row_number", RowNumber)
-    ∷ (codes "rank", Rank)
-    ∷ (codes "dense_rank", DenseRank)
-    ∷ (codes "ntile", Ntile)
-    ∷ (codes "lag", Lag)
-    ∷ (codes "lead", Lead)
-    ∷ (codes "first_value", FirstValue)
-    ∷ (codes "last_value", LastValue)
-    ∷ (codes "nth_value", NthValue)
-    ∷ (codes "count", Count)
-    ∷ (codes "sum", Sum)
-    ∷ (codes "min", Min)
-    ∷ (codes "max", Max)
-    ∷ []
+-- all functions
+abbrev pub function_names : List FunctionName
+function_names = RowNumber ∷ Rank ∷ DenseRank ∷ Ntile ∷ Lag ∷ Lead ∷ FirstValue ∷ LastValue ∷ NthValue ∷ Count ∷ Sum ∷ Min ∷ Max ∷ []
 
-abbrev pub function_in : List (List ℕ × FunctionName) → List ℕ → Option FunctionName
+-- the function among these whose word a name is
+abbrev pub function_in : List FunctionName → List ℕ → Option FunctionName
 function_in [] name = None
-function_in (entry ∷ entries) name = if bytes_eq entry.0 name then Some entry.1 else function_in entries name
+function_in (function ∷ functions) name = if bytes_eq (word function) name then Some function else function_in functions name
 
 abbrev pub function_named : List ℕ → Option FunctionName
 function_named = function_in function_names
@@ -109,12 +97,6 @@ numbers (typed e Number) = Ok e
 numbers (typed e Text) = Err WrongCall
 numbers (typed e Truth) = Err WrongCall
 
--- whole numbers or texts
-abbrev pub is_ordered : ValueKind → Bool
-is_ordered Number = true
-is_ordered Text = true
-is_ordered Truth = false
-
 -- ---- functions over their arguments
 
 -- a function of whole numbers as values, without a value argument
@@ -131,7 +113,7 @@ showing name x n default = record { name = name; argument = Some (settled x); nu
 
 -- MIN and MAX
 abbrev pub extreme : FunctionName → Operand → Meant FunctionMeaning
-extreme name x = if is_ordered (kind_of x) then Ok (showing name x 0 Null) else Err WrongCall
+extreme name x = if has_extremes (Some (kind_of x)) then Ok (showing name x 0 Null) else Err WrongCall
 
 -- NTH_VALUE, with the number of the row from 1
 abbrev pub nth : Operand → Operand → Meant FunctionMeaning
@@ -177,10 +159,9 @@ over_arguments name (x ∷ y ∷ []) = over_two name x y
 over_arguments name (x ∷ y ∷ z ∷ []) = over_three name x y z
 over_arguments name (x ∷ y ∷ z ∷ u ∷ others) = Err WrongCall
 
--- COUNT( * ) alone takes a star
+-- a star in the place of arguments, which COUNT alone takes
 abbrev pub over_star : FunctionName → Meant FunctionMeaning
-over_star Count = Ok (counting Count 0)
-over_star name = Err WrongCall
+over_star name = if (signature name).star then Ok (counting name 0) else Err WrongCall
 
 -- a function by its name, over its arguments or a star
 abbrev pub applied : Option FunctionName → Option (List Operand) → Meant FunctionMeaning
@@ -190,21 +171,6 @@ applied (Some name) (Some arguments) = over_arguments name arguments
 
 -- ---- equal calls
 
-abbrev pub function_number : FunctionName → ℕ
-function_number RowNumber = 0
-function_number Rank = 1
-function_number DenseRank = 2
-function_number Ntile = 3
-function_number Lag = 4
-function_number Lead = 5
-function_number FirstValue = 6
-function_number LastValue = 7
-function_number NthValue = 8
-function_number Count = 9
-function_number Sum = 10
-function_number Min = 11
-function_number Max = 12
-
 abbrev pub same_argument : Option Expression → Option Expression → Bool
 same_argument None None = true
 same_argument (Some a) (Some b) = same_expression a b
@@ -212,26 +178,10 @@ same_argument None (Some b) = false
 same_argument (Some a) None = false
 
 abbrev pub same_function : FunctionMeaning → FunctionMeaning → Bool
-same_function f g = nat_eq (function_number f.name) (function_number g.name) && (nat_eq f.number g.number && (same f.default g.default && same_argument f.argument g.argument))
-
-abbrev pub same_bool : Bool → Bool → Bool
-same_bool true true = true
-same_bool false false = true
-same_bool a b = false
+same_function f g = sameb function_name f.name g.name && (nat_eq f.number g.number && (same f.default g.default && same_argument f.argument g.argument))
 
 abbrev pub same_key : KeyMeaning → KeyMeaning → Bool
-same_key k l = (same_bool k.key.desc l.key.desc && same_bool k.key.nulls_first l.key.nulls_first) && same_expression k.expression l.expression
-
-abbrev pub mode_number : FrameMode → ℕ
-mode_number mode.Rows = 0
-mode_number mode.Range = 1
-mode_number mode.Groups = 2
-
-abbrev pub exclusion_number : Exclusion → ℕ
-exclusion_number exclude.NoOthers = 0
-exclusion_number exclude.CurrentRow = 1
-exclusion_number exclude.Group = 2
-exclusion_number exclude.Ties = 3
+same_key k l = (beq k.key.desc l.key.desc && beq k.key.nulls_first l.key.nulls_first) && same_expression k.expression l.expression
 
 abbrev pub same_bound : Bound → Bound → Bool
 same_bound UnboundedPreceding UnboundedPreceding = true
@@ -242,7 +192,7 @@ same_bound UnboundedFollowing UnboundedFollowing = true
 same_bound a b = false
 
 abbrev pub same_frame : Frame → Frame → Bool
-same_frame f g = (nat_eq (mode_number f.mode) (mode_number g.mode) && nat_eq (exclusion_number f.exclusion) (exclusion_number g.exclusion)) && (same_bound f.start g.start && same_bound f.end g.end)
+same_frame f g = (sameb mode f.mode g.mode && sameb exclusion f.exclusion g.exclusion) && (same_bound f.start g.start && same_bound f.end g.end)
 
 -- one order, one partition, one frame; whether the frame is written does not count
 abbrev pub same_window : WindowMeaning → WindowMeaning → Bool

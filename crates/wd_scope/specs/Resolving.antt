@@ -1,5 +1,5 @@
 -- What the expressions of a query mean over the columns in scope, with the window calls that they meet.
-use Rattle.std.specs.Prelude.{ℕ, Bool, true, false, List, [], ◌∷◌, ◌++◌, map, length, Option, Some, None, option_map, Ok, Err, if◌then◌else◌}
+use Rattle.std.specs.Prelude.{ℕ, Bool, false, List, [], ◌∷◌, ◌++◌, map, length, Option, Some, None, option_map, Ok, Err, if◌then◌else◌}
 use Rattle.wd_syntax.specs.declared.name.Name.{Name}
 use Rattle.std.specs.List.{list_any}
 use Rattle.std.specs.Str.{bytes_eq}
@@ -9,7 +9,6 @@ use Rattle.wd_syntax.specs.declared.expression.Sign.{Sign}
 use Rattle.wd_syntax.specs.declared.expression.SortDirection.{SortDirection}
 use Rattle.wd_syntax.specs.declared.expression.NullsPlace.{NullsPlace}
 use Rattle.wd_syntax.specs.Tree.{Tree, Constant, Column, Qualified, CallAll, Call, Case, Bracket, Signed, Binary, IsNull, Negated, Trees, no_trees, more_trees, Arms, no_arms, more_arms, Otherwise, no_else, or_else, OverTree, no_over, over_name, over_window, WindowTree, window, Keys, no_keys, more_keys}
-use Rattle.wd_plan.specs.declared.expression.ValueKind.{ValueKind}
 use Rattle.wd_plan.specs.declared.expression.ValueKind.TheVariants.{Truth}
 use Rattle.wd_plan.specs.Expressions.{Expression}
 use Rattle.wd_operand.specs.declared.cause.Cause.TheVariants.{WrongCall, CallNotAllowed, UnknownWindow}
@@ -18,7 +17,7 @@ use Rattle.wd_operand.specs.Causes.{Meant, ◌>>=◌}
 use Rattle.wd_scope.specs.Scopes.{ScopeRule, scope_of, column_named}
 use Rattle.wd_operand.specs.Operands.{Operand, bare_null, of_kind, settled, kind_of, literal, signed_number, signed, negated, tested, combined, case_of}
 use Rattle.wd_scope.specs.Windows.{KeyMeaning, WindowMeaning, KnownMeaning, known_of, sort_key, window_meant, window_named, base_named}
-use Rattle.wd_scope.specs.Calls.{FunctionMeaning, CallMeaning, function_named, applied, met}
+use Rattle.wd_scope.specs.Calls.{CallMeaning, function_named, applied, met}
 
 -- what an expression is read in: the columns in scope, the windows that have names, and whether window calls may stand there
 pub record ContextRule : Type 0 where

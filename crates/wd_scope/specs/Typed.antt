@@ -8,11 +8,11 @@ use Rattle.wd_plan.specs.declared.window.FrameMode.{FrameMode}
 use Rattle.wd_plan.specs.declared.window.FrameMode.TheVariants as mode
 use Rattle.wd_plan.specs.declared.expression.ValueKind.{ValueKind}
 use Rattle.wd_plan.specs.Expressions.{Expression, Column, Literal, Negate, Arithmetic, Compare, Not, And, Or, IsNull, IsNotNull, Case}
-use Rattle.wd_plan.specs.Fits.{Kinds, are_bounds, has_offset, is_of_kind, is_typed, kind_of}
-use Rattle.wd_scope.specs.declared.call.FunctionName.{FunctionName}
-use Rattle.wd_scope.specs.declared.call.FunctionName.TheVariants.{RowNumber, Rank, DenseRank, Ntile, Lag, Lead, FirstValue, LastValue, NthValue, Count, Sum, Min, Max}
+use Rattle.wd_plan.specs.Fits.{Kinds, are_bounds, has_extremes, has_offset, is_of_kind, is_typed, kind_of}
+use Rattle.wd_plan.specs.declared.function.FunctionName.{FunctionName}
+use Rattle.wd_plan.specs.declared.function.FunctionName.TheVariants.{RowNumber, Rank, DenseRank, Ntile, Lag, Lead, FirstValue, LastValue, NthValue, Count, Sum, Min, Max}
 use Rattle.wd_scope.specs.declared.scope.ScopeColumn.{ScopeColumn}
-use Rattle.wd_scope.specs.Calls.{CallMeaning, FunctionMeaning, is_ordered}
+use Rattle.wd_scope.specs.Calls.{CallMeaning, FunctionMeaning}
 use Rattle.wd_scope.specs.Resolving.{Met}
 use Rattle.wd_scope.specs.Windows.{KeyMeaning, KnownMeaning, WindowMeaning, is_empty, is_one_number}
 use Rattle.wd_operand.specs.Operands.{Operand, bare_null, typed, settled}
@@ -69,8 +69,8 @@ IsFunctionOver kinds NthValue (Some e) n default kind = IsOfKind kinds e kind ×
 IsFunctionOver kinds Count None n default kind = kind ≡ Number
 IsFunctionOver kinds Count (Some e) n default kind = (is_typed kinds e ≡ true) × (kind ≡ Number)
 IsFunctionOver kinds Sum (Some e) n default kind = IsOfKind kinds e Number × (kind ≡ Number)
-IsFunctionOver kinds Min (Some e) n default kind = IsOfKind kinds e kind × (is_ordered kind ≡ true)
-IsFunctionOver kinds Max (Some e) n default kind = IsOfKind kinds e kind × (is_ordered kind ≡ true)
+IsFunctionOver kinds Min (Some e) n default kind = IsOfKind kinds e kind × (has_extremes (Some kind) ≡ true)
+IsFunctionOver kinds Max (Some e) n default kind = IsOfKind kinds e kind × (has_extremes (Some kind) ≡ true)
 IsFunctionOver kinds name argument n default kind = ⊥
 
 abbrev pub IsFunction : Kinds → FunctionMeaning → Type 0

@@ -1,6 +1,6 @@
 -- What windows mean: their partition and order, their frame, and what they copy (SQL, window clause, window specification;
 -- PG, Window Function Calls, SELECT: WINDOW Clause).
-use Rattle.std.specs.Prelude.{ℕ, Bool, true, false, not, ◌&&◌, ◌||◌, List, [], ◌∷◌, map, Option, Some, None, is_some, option_map, Ok, Err, if◌then◌else◌}
+use Rattle.std.specs.Prelude.{ℕ, Bool, true, false, not, ◌&&◌, ◌||◌, List, [], ◌∷◌, map, Option, Some, None, is_some, Ok, Err, if◌then◌else◌}
 use Rattle.std.specs.Str.{bytes_eq}
 use Rattle.wd_value.specs.declared.order.SortKey.{SortKey}
 use Rattle.wd_syntax.specs.declared.expression.SortDirection.{SortDirection}

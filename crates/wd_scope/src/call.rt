@@ -3,26 +3,8 @@
 ghost use Rattle.std.specs.Prelude.{◌≤◌, vec_len};
 
 use crate::window::Window;
-use wd_plan::{Expr, ValueKind};
+use wd_plan::{Expr, FunctionName, ValueKind};
 use wd_value::Value;
-
-/// The functions of window calls.
-#[derive(Clone, Copy, PartialEq, Eq)]
-pub enum FunctionName {
-    RowNumber,
-    Rank,
-    DenseRank,
-    Ntile,
-    Lag,
-    Lead,
-    FirstValue,
-    LastValue,
-    NthValue,
-    Count,
-    Sum,
-    Min,
-    Max,
-}
 
 /// A function over its arguments.
 #[derive(Drop)]

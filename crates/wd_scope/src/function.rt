@@ -1,16 +1,17 @@
 //! Functions over their arguments.
 
-ghost use Rattle.std.specs.Prelude.{◌≡◌, map, option_map};
+ghost use Rattle.std.specs.Prelude.{◌≡◌, Some, map, option_map};
 ghost use Rattle.wd_plan.specs.Expressions.{expression_of};
+ghost use Rattle.wd_plan.specs.Fits.{has_extremes};
 ghost use Rattle.wd_operand.specs.Causes.{Gives};
 ghost use Rattle.wd_scope.specs.Calls.{function_of};
 ghost use Rattle.wd_scope.specs.Calls as spec;
 ghost use Rattle.wd_operand.specs.Operands.{operand_of};
 
-use crate::call::{AppliedFunction, FunctionName};
+use crate::call::AppliedFunction;
 use std::alloc::Global;
 use wd_operand::{Cause, Meaning, ResolveError, same_kind};
-use wd_plan::{Expr, ValueKind};
+use wd_plan::{Expr, FunctionName, ValueKind};
 use wd_value::Value;
 
 /// How far LAG and LEAD go where they do not say.
@@ -91,7 +92,7 @@ fn numbers(operand: Meaning) -> Result<Expr, ResolveError>
 
 /// Whether MIN and MAX are there for the values.
 fn is_ordered(kind: ValueKind) -> bool
-    ensures { result ≡ spec.is_ordered kind }
+    ensures { result ≡ has_extremes (Some kind) }
 {
     match kind {
         ValueKind::Number | ValueKind::Text => true,
@@ -258,9 +259,10 @@ fn over_arguments(
 fn over_star(name: FunctionName) -> Result<AppliedFunction, ResolveError>
     ensures { Gives function_of result (spec.over_star name) }
 {
-    match name {
-        FunctionName::Count => Ok(counting(name, 0)),
-        _ => Err(ResolveError::Refused(Cause::WrongCall)),
+    if name.signature().star {
+        Ok(counting(name, 0))
+    } else {
+        Err(ResolveError::Refused(Cause::WrongCall))
     }
 }
 

@@ -11,32 +11,12 @@ ghost use Rattle.wd_operand.specs.Equality as equality;
 ghost use Rattle.wd_operand.specs.Operands.{operand_of};
 ghost use Rattle.wd_scope.specs.Windows.{key_of, window_of};
 
-use crate::call::{AppliedFunction, Calls, FunctionName, MOST_CALLS, WindowCall};
+use crate::call::{AppliedFunction, Calls, MOST_CALLS, WindowCall};
 use crate::window::{OrderKey, Window};
 use std::alloc::Global;
 use wd_operand::{Cause, Meaning, ResolveError, same_expression};
-use wd_plan::{Bound, Exclusion, Expr, Frame, FrameMode};
+use wd_plan::{Bound, Expr, Frame};
 use wd_value::same;
-
-fn function_number(name: FunctionName) -> u8
-    ensures { result ≡ spec.function_number name }
-{
-    match name {
-        FunctionName::RowNumber => 0,
-        FunctionName::Rank => 1,
-        FunctionName::DenseRank => 2,
-        FunctionName::Ntile => 3,
-        FunctionName::Lag => 4,
-        FunctionName::Lead => 5,
-        FunctionName::FirstValue => 6,
-        FunctionName::LastValue => 7,
-        FunctionName::NthValue => 8,
-        FunctionName::Count => 9,
-        FunctionName::Sum => 10,
-        FunctionName::Min => 11,
-        FunctionName::Max => 12,
-    }
-}
 
 fn same_argument(a: &Option<Expr>, b: &Option<Expr>) -> bool
     ensures { result ≡ spec.same_argument (option_map expression_of a.now) (option_map expression_of b.now) }
@@ -51,43 +31,16 @@ fn same_argument(a: &Option<Expr>, b: &Option<Expr>) -> bool
 fn same_function(f: &AppliedFunction, g: &AppliedFunction) -> bool
     ensures { result ≡ spec.same_function (function_of f.now) (function_of g.now) }
 {
-    function_number(f.name) == function_number(g.name)
+    f.name == g.name
         && (f.number == g.number
             && (same(&f.default, &g.default) && same_argument(&f.argument, &g.argument)))
-}
-
-fn same_bool(a: bool, b: bool) -> bool
-    ensures { result ≡ spec.same_bool a b }
-{
-    if a { b } else { !b }
 }
 
 fn same_key(k: &OrderKey, l: &OrderKey) -> bool
     ensures { result ≡ spec.same_key (key_of k.now) (key_of l.now) }
 {
-    (same_bool(k.key.desc, l.key.desc) && same_bool(k.key.nulls_first, l.key.nulls_first))
+    (k.key.desc == l.key.desc && k.key.nulls_first == l.key.nulls_first)
         && same_expression(&k.expression, &l.expression)
-}
-
-fn mode_number(mode: FrameMode) -> u8
-    ensures { result ≡ spec.mode_number mode }
-{
-    match mode {
-        FrameMode::Rows => 0,
-        FrameMode::Range => 1,
-        FrameMode::Groups => 2,
-    }
-}
-
-fn exclusion_number(exclusion: Exclusion) -> u8
-    ensures { result ≡ spec.exclusion_number exclusion }
-{
-    match exclusion {
-        Exclusion::NoOthers => 0,
-        Exclusion::CurrentRow => 1,
-        Exclusion::Group => 2,
-        Exclusion::Ties => 3,
-    }
 }
 
 fn same_bound(a: Bound, b: Bound) -> bool
@@ -106,8 +59,7 @@ fn same_bound(a: Bound, b: Bound) -> bool
 fn same_frame(f: &Frame, g: &Frame) -> bool
     ensures { result ≡ spec.same_frame f.now g.now }
 {
-    (mode_number(f.mode) == mode_number(g.mode)
-        && exclusion_number(f.exclusion) == exclusion_number(g.exclusion))
+    (f.mode == g.mode && f.exclusion == g.exclusion)
         && (same_bound(f.start, g.start) && same_bound(f.end, g.end))
 }
 

@@ -2,16 +2,18 @@
 use Rattle.std.proofs.Common.{◌≡◌, refl, subst, ℕ, ◌+◌, ◌-◌, inl, inr, Bool, true, false, cond, List, [], ◌∷◌, ◌++◌, map, length, nat_lt, Option, Some, None, is_some, option_map, slice_get, arith, eq-eqb}
 use Rattle.std.specs.List.{AllByRecursion, list_any}
 use Rattle.std.proofs.lemmas.Bool.{le-ltb}
+use denote.Enum.Bare.{true_same}
 use Rattle.wd_value.specs.declared.value.Value.{Value}
 use Rattle.wd_value.proofs.SameLaws.{same-Decides}
 use Rattle.wd_plan.specs.declared.expression.ValueKind.{ValueKind}
-use Rattle.wd_plan.specs.declared.expression.Branch.{Branch}
-use Rattle.wd_plan.specs.declared.expression.Branch.TheVariants.{First, Later}
+use Rattle.wd_plan.specs.contracts.expression.ArithmeticOp.{the_type as operation}
+use Rattle.wd_plan.specs.contracts.expression.ComparisonOp.{the_type as comparison}
+use Rattle.wd_plan.specs.contracts.expression.Branch.{the_type as branches}
 use Rattle.wd_plan.specs.Expressions.{Expression, Column, Literal, Negate, Arithmetic, Compare, Not, And, Or, IsNull, IsNotNull, Case}
 use Rattle.wd_plan.specs.Fits.{Kinds, is_typed}
-use Rattle.wd_operand.specs.Equality.{arithmetic_number, comparison_number, same_branch, same_expression}
-use Rattle.wd_scope.specs.declared.call.FunctionName.{FunctionName}
-use Rattle.wd_scope.specs.declared.call.FunctionName.TheVariants.{Lag, Lead, FirstValue, LastValue, NthValue, Count, Sum, Min, Max}
+use Rattle.wd_operand.specs.Equality.{same_expression}
+use Rattle.wd_plan.specs.declared.function.FunctionName.{FunctionName}
+use Rattle.wd_plan.specs.declared.function.FunctionName.TheVariants.{Lag, Lead, FirstValue, LastValue, NthValue, Count, Sum, Min, Max}
 use Rattle.wd_scope.specs.declared.scope.ScopeColumn.{ScopeColumn}
 use Rattle.wd_scope.specs.Calls.{CallMeaning}
 use Rattle.wd_scope.specs.Scopes.{ScopeRule}
@@ -22,22 +24,18 @@ use Rattle.wd_scope.proofs.TypedMet.{all_get, all_on}
 use Rattle.wd_select.specs.Outputs.{argument_of, call_expressions, inputs_with, inputs_with_all, met_in, sorted_by}
 use Rattle.wd_select.proofs.Among.{all_append, all_split, all_there, all_with_new, still_there}
 
-same_branch-itself : (branch : Branch) → same_branch branch branch ≡ true
-same_branch-itself First = refl
-same_branch-itself Later = refl
-
 pub same_expression-itself : (x : Expression) → same_expression x x ≡ true
 same_expression-itself (Column n) = eq-eqb n n refl
 same_expression-itself (Literal v k) = and_both _ _ ((same-Decides v v).1 refl) (same_kind-itself k)
 same_expression-itself (Negate x) = same_expression-itself x
-same_expression-itself (Arithmetic o x y) = and_both _ _ (eq-eqb (arithmetic_number o) (arithmetic_number o) refl) (and_both _ _ (same_expression-itself x) (same_expression-itself y))
-same_expression-itself (Compare o x y) = and_both _ _ (eq-eqb (comparison_number o) (comparison_number o) refl) (and_both _ _ (same_expression-itself x) (same_expression-itself y))
+same_expression-itself (Arithmetic o x y) = and_both _ _ (true_same operation o o refl) (and_both _ _ (same_expression-itself x) (same_expression-itself y))
+same_expression-itself (Compare o x y) = and_both _ _ (true_same comparison o o refl) (and_both _ _ (same_expression-itself x) (same_expression-itself y))
 same_expression-itself (Not x) = same_expression-itself x
 same_expression-itself (And x y) = and_both _ _ (same_expression-itself x) (same_expression-itself y)
 same_expression-itself (Or x y) = and_both _ _ (same_expression-itself x) (same_expression-itself y)
 same_expression-itself (IsNull x) = same_expression-itself x
 same_expression-itself (IsNotNull x) = same_expression-itself x
-same_expression-itself (Case branch x y z) = and_both _ _ (same_branch-itself branch) (and_both _ _ (same_expression-itself x) (and_both _ _ (same_expression-itself y) (same_expression-itself z)))
+same_expression-itself (Case branch x y z) = and_both _ _ (true_same branches branch branch refl) (and_both _ _ (same_expression-itself x) (and_both _ _ (same_expression-itself y) (same_expression-itself z)))
 
 -- ---- among the inputs
 

@@ -6,7 +6,7 @@ use Rattle.std.proofs.lemmas.List.{length-append, length-map}
 use Rattle.std.proofs.lemmas.Option.{slice_get-map, slice_get_past}
 use Rattle.wd_plan.specs.declared.expression.ValueKind.{ValueKind}
 use Rattle.wd_plan.specs.declared.expression.ValueKind.TheVariants.{Truth}
-use Rattle.wd_plan.specs.declared.plan.OrderItem.{OrderItem}
+use Rattle.wd_value.specs.declared.order.SortColumn.{SortColumn}
 use Rattle.wd_plan.specs.Expressions.{Expression}
 use Rattle.wd_plan.specs.Fits.{Kinds, fits, has_keys, is_typed, kinds_of, may_join, width}
 use Rattle.wd_plan.specs.Plans.{LimitRule, PlanTree, Join, Filter, Map, Distinct, Limit}
@@ -160,10 +160,10 @@ get_within (x ∷ xs) zero h = refl
 get_within (x ∷ xs) (suc n) h = get_within xs n (omega arith)
 
 -- sort keys that name some of so many columns
-abbrev pub AreWithin : ℕ → List OrderItem → Type 0
-AreWithin n items = AllByRecursion (λ (item : OrderItem). item.column < n) items
+abbrev pub AreWithin : ℕ → List SortColumn → Type 0
+AreWithin n items = AllByRecursion (λ (item : SortColumn). item.column < n) items
 
-keys_are : (kinds : Kinds) (ks : List ValueKind) (items : List OrderItem) → ((c : ℕ) → kinds c ≡ slice_get ks c) → AreWithin (length ks) items → has_keys kinds items ≡ true
+keys_are : (kinds : Kinds) (ks : List ValueKind) (items : List SortColumn) → ((c : ℕ) → kinds c ≡ slice_get ks c) → AreWithin (length ks) items → has_keys kinds items ≡ true
 keys_are kinds ks [] each h = refl
 keys_are kinds ks (item ∷ items) each h = and_both _ _ (rw (each item.column) (get_within ks item.column h.0)) (keys_are kinds ks items each h.1)
 

@@ -1,29 +1,30 @@
 -- The Window over the Map of the inputs fits, and what stands above it is typed.
-use Rattle.std.proofs.Common.{◌≡◌, ◌∙◌, sym, ap, refl, subst, ℕ, ◌+◌, ◌-◌, ◌<◌, ◌≤◌, Bool, true, false, cond, not, ◌||◌, List, [], ◌∷◌, ◌++◌, map, length, nat_lt, nat_eq, Option, Some, None, is_some, option_map, slice_get, arith, eq-eqb}
+use Rattle.std.proofs.Common.{◌≡◌, ◌∙◌, sym, ap, refl, subst, ℕ, ◌+◌, ◌-◌, ◌<◌, ◌≤◌, Bool, true, false, cond, not, ◌&&◌, ◌||◌, List, [], ◌∷◌, ◌++◌, map, length, nat_lt, nat_eq, Option, Some, None, is_some, option_map, slice_get, arith, eq-eqb}
 use Rattle.std.specs.List.{AllByRecursion, list_any, list_all}
 use Rattle.std.proofs.lemmas.Bool.{false≢true, eqb-true, lt-ltb, le-ltb, le-leb}
 use Rattle.std.proofs.lemmas.List.{length-map}
 use Rattle.std.proofs.lemmas.Option.{slice_get-map, slice_get_within}
+use Rattle.std.specs.Cmp.{booleans_Decides}
 use lib.Pointwise.{pointwise, pointwise_decides}
 use Rattle.wd_value.specs.declared.value.Value.{Value}
 use Rattle.wd_schema.specs.Tables.{TableRule}
 use Rattle.wd_plan.specs.declared.expression.ValueKind.{ValueKind}
-use Rattle.wd_plan.specs.declared.expression.ValueKind.TheVariants.{Number, Text, Truth}
-use Rattle.wd_plan.specs.declared.plan.OrderItem.{OrderItem}
+use Rattle.wd_plan.specs.declared.expression.ValueKind.TheVariants.{Number, Truth}
+use Rattle.wd_value.specs.declared.order.SortColumn.{SortColumn}
 use Rattle.wd_plan.specs.declared.window.Bound.{Bound}
 use Rattle.wd_plan.specs.declared.window.Call.{Call}
 use Rattle.wd_plan.specs.declared.window.Exclusion.{Exclusion}
 use Rattle.wd_plan.specs.declared.window.FrameMode.{FrameMode}
 use Rattle.wd_plan.specs.declared.window.FrameMode.TheVariants as mode
 use Rattle.wd_plan.specs.Expressions.{Expression, Column, Literal, Negate, Arithmetic, Compare, Not, And, Or, IsNull, IsNotNull, Case}
-use Rattle.wd_plan.specs.Fits.{Kinds, are_alike, are_bounds, fits, has_class, has_columns, has_extremes, has_keys, has_keys_for, has_offset, is_call, is_kind, is_typed, kind_from, kind_of, kinds_of, source_of_call, takes}
+use Rattle.wd_plan.specs.Fits.{Kinds, are_alike, are_bounds, fits, has_class, has_columns, has_keys, has_keys_for, has_offset, is_call, is_kind, is_typed, kind_of, kind_of_function, kinds_of, takes}
 use Rattle.wd_plan.specs.Fits as fits_spec
 use Rattle.wd_plan.specs.Plans.{ClassRule, PlanTree, Map, Window}
 use Rattle.wd_operand.specs.Equality.{same_expression}
-use Rattle.wd_scope.specs.declared.call.FunctionName.{FunctionName}
-use Rattle.wd_scope.specs.declared.call.FunctionName.TheVariants.{RowNumber, Rank, DenseRank, Ntile, Lag, Lead, FirstValue, LastValue, NthValue, Count, Sum, Min, Max}
+use Rattle.wd_plan.specs.declared.function.FunctionName.{FunctionName}
+use Rattle.wd_plan.specs.declared.function.FunctionName.TheVariants.{RowNumber, Rank, DenseRank, Ntile, Lag, Lead, FirstValue, LastValue, NthValue, Count, Sum, Min, Max}
 use Rattle.wd_scope.specs.declared.scope.ScopeColumn.{ScopeColumn}
-use Rattle.wd_scope.specs.Calls.{CallMeaning, is_ordered, same_bool}
+use Rattle.wd_scope.specs.Calls.{CallMeaning}
 use Rattle.wd_scope.specs.Scopes.{ScopeRule}
 use Rattle.wd_scope.specs.Windows.{KeyMeaning, is_empty, is_one_number}
 use Rattle.wd_scope.specs.Typed.{AreCalls, AreKeys, AreTyped, IsCall, IsFunctionOver, IsOfKind, is_framed, kinds_met}
@@ -38,32 +39,22 @@ use Rattle.wd_select.proofs.PlanKinds.{AreOfKinds, HasKinds, scope_is, scope_kin
 
 -- ---- classes that are the same are equal
 
-same_bool-is : (a b : Bool) → same_bool a b ≡ true → a ≡ b
-same_bool-is true true h = refl
-same_bool-is false false h = refl
-same_bool-is true false h = absurd (false≢true h)
-same_bool-is false true h = absurd (false≢true h)
-
-same_bool-itself : (a : Bool) → same_bool a a ≡ true
-same_bool-itself true = refl
-same_bool-itself false = refl
-
-same_item-is : (a b : OrderItem) → same_item a b ≡ true → a ≡ b
+same_item-is : (a b : SortColumn) → same_item a b ≡ true → a ≡ b
 same_item-is a b h =
     let p = both _ _ h in
     let q = both _ _ p.1 in
     let column : a.column ≡ b.column = eqb-true a.column b.column p.0 in
-    let desc = same_bool-is a.key.desc b.key.desc q.0 in
-    let first = same_bool-is a.key.nulls_first b.key.nulls_first q.1 in
+    let desc = (booleans_Decides a.key.desc b.key.desc).0 q.0 in
+    let first = (booleans_Decides a.key.nulls_first b.key.nulls_first).0 q.1 in
     λ i. record { column = column i; key = record { desc = desc i; nulls_first = first i } }
 
-same_item-itself : (a : OrderItem) → same_item a a ≡ true
-same_item-itself a = and_both _ _ (eq-eqb a.column a.column refl) (and_both _ _ (same_bool-itself a.key.desc) (same_bool-itself a.key.nulls_first))
+same_item-itself : (a : SortColumn) → same_item a a ≡ true
+same_item-itself a = and_both _ _ (eq-eqb a.column a.column refl) (and_both _ _ ((booleans_Decides a.key.desc a.key.desc).1 refl) ((booleans_Decides a.key.nulls_first a.key.nulls_first).1 refl))
 
 numbers_decide : (xs ys : List ℕ) → (pointwise nat_eq xs ys ≡ true → xs ≡ ys) × (xs ≡ ys → pointwise nat_eq xs ys ≡ true)
 numbers_decide = pointwise_decides (λ x y. (eqb-true x y, eq-eqb x y))
 
-items_decide : (xs ys : List OrderItem) → (pointwise same_item xs ys ≡ true → xs ≡ ys) × (xs ≡ ys → pointwise same_item xs ys ≡ true)
+items_decide : (xs ys : List SortColumn) → (pointwise same_item xs ys ≡ true → xs ≡ ys) × (xs ≡ ys → pointwise same_item xs ys ≡ true)
 items_decide = pointwise_decides (λ x y. (same_item-is x y, λ e. subst (λ z. same_item x z ≡ true) e (same_item-itself x)))
 
 same_class-is : (a b : ClassRule) → same_class a b ≡ true → a ≡ b
@@ -100,10 +91,8 @@ or_else_is : (a b c : Bool) → (a || b) ≡ true → (b ≡ true → c ≡ true
 or_else_is true b c h f = refl
 or_else_is false b c h f = f h
 
-ordered_extreme : (kind : ValueKind) → is_ordered kind ≡ true → has_extremes (Some kind) ≡ true
-ordered_extreme Number h = refl
-ordered_extreme Text h = refl
-ordered_extreme Truth h = absurd (false≢true h)
+and_true : (b : Bool) → b ≡ true → (b && true) ≡ true
+and_true b h = and_both b true h refl
 
 call_at : (kinds : Kinds) (classes : List ClassRule) (call : Call) (class : ClassRule) → slice_get classes call.class ≡ Some class → takes kinds call.function ≡ true → are_bounds call.frame.start call.frame.end ≡ true → has_keys_for kinds class.order call.frame ≡ true → is_call kinds classes call ≡ true
 call_at kinds classes call class e t b k = rw e (and_both _ _ t (and_both _ _ b k))
@@ -187,14 +176,14 @@ module _ (tables : List TableRule) (plan : PlanTree) (scope : ScopeRule) (calls 
   takes_is LastValue (Some e) n default kind h g = rw (input_kind e kind h g.0) refl
   takes_is NthValue (Some e) n default kind h g = and_both _ _ (rw (input_kind e kind h.0 g.0) refl) h.1
   takes_is Count None n default kind h g = refl
-  takes_is Count (Some e) n default kind h g = input_some e h.0 g.0
+  takes_is Count (Some e) n default kind h g = and_true _ (input_some e h.0 g.0)
   takes_is Sum (Some e) n default kind h g = rw (input_kind e Number h.0 g.0) refl
-  takes_is Min (Some e) n default kind h g = rw (input_kind e kind h.0 g.0) (ordered_extreme kind h.1)
-  takes_is Max (Some e) n default kind h g = rw (input_kind e kind h.0 g.0) (ordered_extreme kind h.1)
+  takes_is Min (Some e) n default kind h g = rw (input_kind e kind h.0 g.0) (and_true _ h.1)
+  takes_is Max (Some e) n default kind h g = rw (input_kind e kind h.0 g.0) (and_true _ h.1)
   takes_is name argument n default kind h g = absurd h
 
   gives : (name : FunctionName) (argument : Option Expression) (n : ℕ) (default : Value) (kind : ValueKind) → IsFunctionOver Read name argument n default kind → AreAmong inputs (argument_of argument)
-      → kind_from Shown (source_of_call (function_over name (option_map (input_number inputs) argument) n default)) ≡ Some kind
+      → kind_of_function Shown (function_over name (option_map (input_number inputs) argument) n default) ≡ Some kind
   gives RowNumber None n default kind h g = ap Some (sym h)
   gives Rank None n default kind h g = ap Some (sym h)
   gives DenseRank None n default kind h g = ap Some (sym h)

@@ -1,5 +1,5 @@
 -- The final ORDER BY and the limits of rows (SQL, query expression; PG, Sorting Rows, LIMIT and OFFSET, SELECT: LIMIT Clause).
-use Rattle.std.specs.Prelude.{◌≡◌, ℕ, ◌+◌, ◌-◌, Bool, true, false, not, ◌&&◌, ◌||◌, List, [], ◌∷◌, ◌++◌, map, length, nat_lt, nat_le, Option, Some, None, Ok, Err, if◌then◌else◌}
+use Rattle.std.specs.Prelude.{◌≡◌, ℕ, ◌+◌, ◌-◌, Bool, true, false, not, ◌&&◌, List, [], ◌∷◌, ◌++◌, map, length, nat_le, Option, Some, None, Ok, Err, if◌then◌else◌}
 use Rattle.std.specs.List.{list_all}
 use Rattle.std.specs.Str.{bytes_eq}
 use Rattle.wd_value.specs.declared.order.SortKey.{SortKey}
@@ -13,12 +13,12 @@ use Rattle.wd_syntax.specs.declared.query.Limits.{Limits}
 use Rattle.wd_syntax.specs.declared.query.Limits.TheVariants.{OffsetFirst, CountFirst}
 use Rattle.wd_syntax.specs.Tree as tree
 use Rattle.wd_syntax.specs.Tree.{Tree, Keys, no_keys, more_keys}
-use Rattle.wd_plan.specs.declared.plan.OrderItem.{OrderItem}
+use Rattle.wd_value.specs.declared.order.SortColumn.{SortColumn}
 use Rattle.wd_plan.specs.Expressions.{Expression, expression_of}
 use Rattle.wd_operand.specs.declared.cause.Cause.TheVariants.{Ambiguous, WrongSortKey, TiesWithoutOrder, ForeignSortKey, TooMany}
 use Rattle.wd_operand.specs.Causes.{Meant, ◌>>=◌}
 use Rattle.wd_operand.specs.Equality.{same_expression}
-use Rattle.wd_operand.specs.Operands.{number, settled, signed_number}
+use Rattle.wd_operand.specs.Operands.{number, settled}
 use Rattle.wd_scope.specs.Scopes.{ScopeRule, scope_of}
 use Rattle.wd_scope.specs.Windows.{sort_key}
 use Rattle.wd_scope.specs.Calls.{CallMeaning, calls_of}
@@ -121,7 +121,7 @@ key_place s (tree.Negated a) = expression_place s (tree.Negated a)
 -- the sort keys over the outputs and the hidden columns after them, the expressions that are hidden there, and the distinct
 -- expressions met so far
 pub record Sorted : Type 0 where
-  pub items : List OrderItem
+  pub items : List SortColumn
   pub hidden : List Expression
   pub inputs : List Expression
 

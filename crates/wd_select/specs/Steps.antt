@@ -2,19 +2,28 @@
 -- expression; PG, SELECT).
 use Rattle.std.specs.Prelude.{ℕ, ◌+◌, ◌-◌, Bool, true, false, ◌&&◌, List, [], ◌∷◌, ◌++◌, map, length, nat_eq, nat_lt, Option, Some, None, option_map, Ok, if◌then◌else◌}
 use Rattle.std.specs.List.{range_with_len}
+use Rattle.std.specs.Bool.{beq}
 use lib.Pointwise.{pointwise}
 use Rattle.wd_value.specs.declared.value.Value.{Value}
 use Rattle.wd_syntax.specs.Tree.{Tree}
-use Rattle.wd_plan.specs.declared.plan.OrderItem.{OrderItem}
+use Rattle.wd_value.specs.declared.order.SortColumn.{SortColumn}
 use Rattle.wd_plan.specs.declared.window.Call.{Call}
-use Rattle.wd_plan.specs.declared.window.Function.{Function}
-use Rattle.wd_plan.specs.declared.window.Function.TheVariants as f
+use Rattle.wd_plan.specs.declared.function.Aggregate.{Aggregate}
+use Rattle.wd_plan.specs.declared.function.Aggregate.TheVariants as of_rows
+use Rattle.wd_plan.specs.declared.function.Direction.{Direction}
+use Rattle.wd_plan.specs.declared.function.Direction.TheVariants as way
+use Rattle.wd_plan.specs.declared.function.FrameFunction.TheVariants as of_frame
+use Rattle.wd_plan.specs.declared.function.FrameRow.{FrameRow}
+use Rattle.wd_plan.specs.declared.function.FrameRow.TheVariants.{First, Last, Nth}
+use Rattle.wd_plan.specs.declared.function.Function.{Function}
+use Rattle.wd_plan.specs.declared.function.Function.TheVariants.{Ranking as Ranked, Shift as Shifted, OfFrame}
+use Rattle.wd_plan.specs.declared.function.Ranking.TheVariants as rank
 use Rattle.wd_plan.specs.Expressions.{Expression, Column, Literal, Negate, Arithmetic, Compare, Not, And, Or, IsNull, IsNotNull, Case}
 use Rattle.wd_plan.specs.Plans.{ClassRule, WindowRule, PlanTree, Filter, Map, Window, Distinct, Limit}
-use Rattle.wd_scope.specs.declared.call.FunctionName.{FunctionName}
-use Rattle.wd_scope.specs.declared.call.FunctionName.TheVariants.{RowNumber, Rank, DenseRank, Ntile, Lag, Lead, FirstValue, LastValue, NthValue, Count, Sum, Min, Max}
+use Rattle.wd_plan.specs.declared.function.FunctionName.{FunctionName}
+use Rattle.wd_plan.specs.declared.function.FunctionName.TheVariants.{RowNumber, Rank, DenseRank, Ntile, Lag, Lead, FirstValue, LastValue, NthValue, Count, Sum, Min, Max}
 use Rattle.wd_operand.specs.Causes.{Meant, ◌>>=◌}
-use Rattle.wd_scope.specs.Calls.{CallMeaning, same_bool}
+use Rattle.wd_scope.specs.Calls.{CallMeaning}
 use Rattle.wd_scope.specs.Resolving.{condition}
 use Rattle.wd_scope.specs.Scopes.{ScopeRule}
 use Rattle.wd_scope.specs.Windows.{KeyMeaning}
@@ -29,33 +38,44 @@ abbrev pub column_or_first : Option ℕ → ℕ
 column_or_first None = 0
 column_or_first (Some column) = column
 
+-- the value of a column so many rows away
+abbrev pub away : Direction → ℕ → ℕ → Value → Function
+away direction column n default = Shifted (record { direction = direction; argument = column; offset = n; default = default })
+
+-- the value of a column at one row of the frame
+abbrev pub value_at : FrameRow → ℕ → Function
+value_at row column = OfFrame (of_frame.ValueAt row column)
+
+abbrev pub aggregate : Aggregate → Function
+aggregate a = OfFrame (of_frame.Aggregate a)
+
 -- the function of a plan, over the column of its value argument
 abbrev pub function_over : FunctionName → Option ℕ → ℕ → Value → Function
-function_over RowNumber argument n default = f.RowNumber
-function_over Rank argument n default = f.Rank
-function_over DenseRank argument n default = f.DenseRank
-function_over Ntile argument n default = f.Ntile n
-function_over Lag argument n default = f.Lag (column_or_first argument) n default
-function_over Lead argument n default = f.Lead (column_or_first argument) n default
-function_over FirstValue argument n default = f.FirstValue (column_or_first argument)
-function_over LastValue argument n default = f.LastValue (column_or_first argument)
-function_over NthValue argument n default = f.NthValue (column_or_first argument) n
-function_over Count None n default = f.CountRows
-function_over Count (Some argument) n default = f.Count argument
-function_over Sum argument n default = f.Sum (column_or_first argument)
-function_over Min argument n default = f.Min (column_or_first argument)
-function_over Max argument n default = f.Max (column_or_first argument)
+function_over RowNumber argument n default = Ranked rank.RowNumber
+function_over Rank argument n default = Ranked rank.Rank
+function_over DenseRank argument n default = Ranked rank.DenseRank
+function_over Ntile argument n default = Ranked (rank.Ntile n)
+function_over Lag argument n default = away way.Lag (column_or_first argument) n default
+function_over Lead argument n default = away way.Lead (column_or_first argument) n default
+function_over FirstValue argument n default = value_at First (column_or_first argument)
+function_over LastValue argument n default = value_at Last (column_or_first argument)
+function_over NthValue argument n default = value_at (Nth n) (column_or_first argument)
+function_over Count None n default = aggregate of_rows.CountRows
+function_over Count (Some argument) n default = aggregate (of_rows.Count argument)
+function_over Sum argument n default = aggregate (of_rows.Sum (column_or_first argument))
+function_over Min argument n default = aggregate (of_rows.Min (column_or_first argument))
+function_over Max argument n default = aggregate (of_rows.Max (column_or_first argument))
 
 -- the column of a sort key among the inputs
-abbrev pub order_item : List Expression → KeyMeaning → OrderItem
+abbrev pub order_item : List Expression → KeyMeaning → SortColumn
 order_item inputs key = record { column = input_number inputs key.expression; key = key.key }
 
 -- the class of a call: its partition and its sort keys among the inputs
 abbrev pub class_over : List Expression → CallMeaning → ClassRule
 class_over inputs call = record { partition = map (input_number inputs) call.window.partition; order = map (order_item inputs) call.window.order }
 
-abbrev pub same_item : OrderItem → OrderItem → Bool
-same_item a b = nat_eq a.column b.column && (same_bool a.key.desc b.key.desc && same_bool a.key.nulls_first b.key.nulls_first)
+abbrev pub same_item : SortColumn → SortColumn → Bool
+same_item a b = nat_eq a.column b.column && (beq a.key.desc b.key.desc && beq a.key.nulls_first b.key.nulls_first)
 
 -- classes are equal where their lists are equal
 abbrev pub same_class : ClassRule → ClassRule → Bool
@@ -116,7 +136,7 @@ deduplicated false plan = plan
 deduplicated true plan = Distinct plan
 
 -- ORDER BY, OFFSET or a count is a Limit
-abbrev pub limited : List OrderItem → Option Cut → PlanTree → PlanTree
+abbrev pub limited : List SortColumn → Option Cut → PlanTree → PlanTree
 limited [] None plan = plan
 limited (item ∷ items) None plan = Limit (record { keys = item ∷ items; offset = 0; count = None; ties = false }) plan
 limited items (Some cut) plan = Limit (record { keys = items; offset = cut.offset; count = cut.count; ties = cut.ties }) plan

@@ -3,8 +3,9 @@
 ghost use Rattle.std.specs.Prelude.{◌≤◌, length};
 
 use crate::output::Output;
-use wd_plan::{Expr, OrderItem};
+use wd_plan::Expr;
 use wd_scope::{Calls, Scope};
+use wd_value::SortColumn;
 
 /// What a select has before its ORDER BY: the columns of FROM, whether it is DISTINCT, its outputs, at most 1,024, and its calls.
 #[derive(Clone, Copy)]
@@ -27,7 +28,7 @@ pub enum KeyPlace {
 /// expressions that a Map below a Window would show.
 #[derive(Drop)]
 pub struct Sorted {
-    pub items: Vec<OrderItem>,
+    pub items: Vec<SortColumn>,
     pub hidden: Vec<Expr>,
     pub inputs: Vec<Expr>,
 }

@@ -17,10 +17,11 @@ use crate::output::Output;
 use crate::shown::{KeyPlace, Shown, Sorted};
 use std::alloc::Global;
 use wd_operand::{Cause, ResolveError, number, same_expression};
-use wd_plan::{Expr, OrderItem};
+use wd_plan::Expr;
 use wd_scope::{Calls, MOST_COLUMNS, Scope, plain, sort_key, written_number};
 use wd_syntax as written;
 use wd_syntax::{Literal, Name, SortKey};
+use wd_value::SortColumn;
 
 /// Whether so many inputs and calls are too many for a Window.
 fn are_too_many(inputs: usize, calls: usize) -> bool
@@ -221,7 +222,7 @@ fn with_output(
         hidden,
         inputs,
     } = sorted;
-    items.push(OrderItem { column, key })?;
+    items.push(SortColumn { column, key })?;
     Ok(Sorted {
         items,
         hidden,
@@ -256,7 +257,7 @@ fn with_hidden(
         return Err(ResolveError::Refused(Cause::TooMany));
     }
     hidden.push(expression)?;
-    items.push(OrderItem {
+    items.push(SortColumn {
         column: column as u16,
         key,
     })?;

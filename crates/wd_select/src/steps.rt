@@ -18,10 +18,13 @@ use crate::inputs::input_number;
 use crate::limits::Cut;
 use std::alloc::Global;
 use wd_operand::ResolveError;
-use wd_plan::{Call, Class, Expr, Function, OrderItem, Plan};
-use wd_scope::{AppliedFunction, Calls, FunctionName, OrderKey, Scope, WindowCall, condition};
+use wd_plan::{
+    Aggregate, Call, Class, Direction, Expr, FrameFunction, FrameRow, Function, FunctionName,
+    Limit, Plan, Ranking, Shift, Window,
+};
+use wd_scope::{AppliedFunction, Calls, OrderKey, Scope, WindowCall, condition};
 use wd_syntax as written;
-use wd_value::OutOfMemory;
+use wd_value::{OutOfMemory, SortColumn, Value};
 
 /// All rows.
 const NO_CUT: Cut = Cut {
@@ -76,31 +79,46 @@ fn function_over(function: AppliedFunction, inputs: &[Expr]) -> Function
     } = function;
     let column = column_or_first(inputs, &argument);
     match name {
-        FunctionName::RowNumber => Function::RowNumber,
-        FunctionName::Rank => Function::Rank,
-        FunctionName::DenseRank => Function::DenseRank,
-        FunctionName::Ntile => Function::Ntile(number),
-        FunctionName::Lag => Function::Lag {
-            argument: column,
-            offset: number,
-            default,
-        },
-        FunctionName::Lead => Function::Lead {
-            argument: column,
-            offset: number,
-            default,
-        },
-        FunctionName::FirstValue => Function::FirstValue(column),
-        FunctionName::LastValue => Function::LastValue(column),
-        FunctionName::NthValue => Function::NthValue(column, number),
+        FunctionName::RowNumber => Function::Ranking(Ranking::RowNumber),
+        FunctionName::Rank => Function::Ranking(Ranking::Rank),
+        FunctionName::DenseRank => Function::Ranking(Ranking::DenseRank),
+        FunctionName::Ntile => Function::Ranking(Ranking::Ntile(number)),
+        FunctionName::Lag => away(Direction::Lag, column, number, default),
+        FunctionName::Lead => away(Direction::Lead, column, number, default),
+        FunctionName::FirstValue => value_at(FrameRow::First, column),
+        FunctionName::LastValue => value_at(FrameRow::Last, column),
+        FunctionName::NthValue => value_at(FrameRow::Nth(number), column),
         FunctionName::Count => match argument {
-            None => Function::CountRows,
-            Some(_) => Function::Count(column),
+            None => aggregate(Aggregate::CountRows),
+            Some(_) => aggregate(Aggregate::Count(column)),
         },
-        FunctionName::Sum => Function::Sum(column),
-        FunctionName::Min => Function::Min(column),
-        FunctionName::Max => Function::Max(column),
+        FunctionName::Sum => aggregate(Aggregate::Sum(column)),
+        FunctionName::Min => aggregate(Aggregate::Min(column)),
+        FunctionName::Max => aggregate(Aggregate::Max(column)),
     }
+}
+
+fn away(direction: Direction, argument: u16, offset: u64, default: Value) -> Function
+    ensures { result ≡ spec.away direction argument offset default }
+{
+    Function::Shift(Shift {
+        direction,
+        argument,
+        offset,
+        default,
+    })
+}
+
+fn value_at(row: FrameRow, column: u16) -> Function
+    ensures { result ≡ spec.value_at row column }
+{
+    Function::OfFrame(FrameFunction::ValueAt(row, column))
+}
+
+fn aggregate(aggregate: Aggregate) -> Function
+    ensures { result ≡ spec.aggregate aggregate }
+{
+    Function::OfFrame(FrameFunction::Aggregate(aggregate))
 }
 
 /// The columns of a partition among the inputs.
@@ -124,13 +142,13 @@ fn items_over(
     alloc: Global,
     inputs: &[Expr],
     keys: &[OrderKey],
-) -> Result<Vec<OrderItem>, OutOfMemory>
+) -> Result<Vec<SortColumn>, OutOfMemory>
     requires { length inputs.now ≤ 1024 }
     ensures { IfOk result (λ v. v.items ≡ map (spec.order_item (map expression_of inputs.now)) (map key_of keys.now)) }
 {
     let mut items = Vec::with_capacity(alloc, keys.len())?;
     for key in keys {
-        items.push(OrderItem {
+        items.push(SortColumn {
             column: input_number(inputs, &key.expression) as u16,
             key: key.key,
         })?;
@@ -162,13 +180,13 @@ fn same_columns(a: &[u16], b: &[u16]) -> bool
     true
 }
 
-fn same_item(a: OrderItem, b: OrderItem) -> bool
+fn same_item(a: SortColumn, b: SortColumn) -> bool
     ensures { result ≡ spec.same_item a b }
 {
     a.column == b.column && a.key.desc == b.key.desc && a.key.nulls_first == b.key.nulls_first
 }
 
-fn same_items(a: &[OrderItem], b: &[OrderItem]) -> bool
+fn same_items(a: &[SortColumn], b: &[SortColumn]) -> bool
     ensures { result ≡ pointwise spec.same_item a.now b.now }
 {
     if a.len() != b.len() {
@@ -373,8 +391,7 @@ fn windowed(alloc: Global, calls: Calls, inputs: Vec<Expr>, plan: Plan) -> Resul
     };
     Ok(Plan::Window {
         input: Box::new(alloc, inner)?,
-        classes,
-        calls,
+        window: Window { classes, calls },
     })
 }
 
@@ -420,7 +437,7 @@ pub fn deduplicated(alloc: Global, distinct: bool, plan: Plan) -> Result<Plan, O
 /// ORDER BY, OFFSET or a count is a Limit.
 pub fn limited(
     alloc: Global,
-    keys: Vec<OrderItem>,
+    keys: Vec<SortColumn>,
     cut: Option<Cut>,
     plan: Plan,
 ) -> Result<Plan, OutOfMemory>
@@ -431,12 +448,15 @@ pub fn limited(
         None if keys.is_empty() => return Ok(plan),
         None => NO_CUT,
     };
-    Ok(Plan::Limit {
-        input: Box::new(alloc, plan)?,
+    let limit = Limit {
         keys,
         offset: cut.offset,
         count: cut.count,
         ties: cut.ties,
+    };
+    Ok(Plan::Limit {
+        input: Box::new(alloc, plan)?,
+        limit,
     })
 }
 

@@ -11,40 +11,38 @@ use Rattle.std.proofs.lemmas.List.Elements.{All-from_recursion, recursion_from_A
 use Rattle.std.proofs.lemmas.List.FromFn.{get_or-range_with_len, length-range_with_len}
 use Rattle.std.proofs.lemmas.List.Sorted.{All-permutation, IsPermutation-map, IsPermutation-refl, ranks_by, ties_stay_sorted}
 use Rattle.std.specs.List.{AllByRecursion}
+use Rattle.wd_value.proofs.KeyLaws.{compare_keys_total}
 use Rattle.wd_value.proofs.OrderLaws.{compare_total}
 use Rattle.wd_value.specs.Bags.{positions}
+use Rattle.wd_value.specs.Keys.{compare_keys}
 use Rattle.wd_value.specs.Order.{compare}
 use Rattle.wd_value.specs.Rows.{Row, column_of, row_at}
 use Rattle.wd_value.specs.declared.order.SortKey.{SortKey}
 use Rattle.wd_value.specs.declared.value.Value.{Value}
 use Rattle.wd_value.specs.declared.value.Value.TheVariants.{Null, Int, Text, Bool as Truth}
 use Rattle.wd_sort.specs.declared.sort.Placed.{Placed}
-use Rattle.wd_sort.specs.declared.sort.SortColumn.{SortColumn}
+use Rattle.wd_value.specs.declared.order.SortColumn.{SortColumn}
 use Rattle.wd_sort.specs.Leads.{lead_of, text_part}
 use Rattle.wd_sort.specs.Placing.{AreSorted, compare_placed, placed, placed_rows}
-use Rattle.wd_sort.specs.Sorting.{IsSortOf, IsStableSortOf, compare_positions, compare_rows, compare_rows_at}
+use Rattle.wd_sort.specs.Sorting.{IsSortOf, IsStableSortOf, compare_positions, compare_rows_at}
 
 -- ---- total orders
-
-pub compare_rows_total : (columns : List SortColumn) → IsTotalOrder (compare_rows columns)
-compare_rows_total [] = record { antisymm = λ a b. refl; trans = λ a b c p q. p; congr = λ a b c p. refl }
-compare_rows_total (first ∷ others) = then_total (on_total (λ row. column_of row first.column) (compare_total first.key)) (compare_rows_total others)
 
 compare_placed_total : (first : SortColumn) (others : List SortColumn) (rows : List Row) → IsTotalOrder (compare_placed first others rows)
 compare_placed_total first others rows =
     then_total (on_total (λ (p : Placed). p.lead) (compare_total first.key))
     (then_total (on_total (λ (p : Placed). text_part p.lead (column_of (row_at rows p.position) first.column)) (compare_total first.key))
-    (on_total (λ (p : Placed). row_at rows p.position) (compare_rows_total others)))
+    (on_total (λ (p : Placed). row_at rows p.position) (compare_keys_total others)))
 
 pub places_order : (first : SortColumn) (others : List SortColumn) (rows : List Row) → IsStrictWeakOrder (λ a b. is_lt (compare_placed first others rows a b))
 places_order first others rows = ranks_by (compare_placed_total first others rows) (λ p. p)
 
 pub positions_order : (columns : List SortColumn) (rows : List Row) → IsStrictWeakOrder (λ p q. is_lt (compare_positions columns rows p q))
-positions_order columns rows = ranks_by (then_total (on_total (row_at rows) (compare_rows_total columns)) nat_cmp_total) (λ p. p)
+positions_order columns rows = ranks_by (then_total (on_total (row_at rows) (compare_keys_total columns)) nat_cmp_total) (λ p. p)
 
 -- positions by their rows
 pub rows_order : (columns : List SortColumn) (rows : List Row) → IsStrictWeakOrder (λ p q. is_lt (compare_rows_at columns rows p q))
-rows_order columns rows = ranks_by (compare_rows_total columns) (row_at rows)
+rows_order columns rows = ranks_by (compare_keys_total columns) (row_at rows)
 
 numbers_order : IsStrictWeakOrder (λ (p : ℕ) (q : ℕ). is_lt (nat_cmp p q))
 numbers_order = ranks_by nat_cmp_total (λ (p : ℕ). p)
@@ -118,7 +116,7 @@ module _ (first : SortColumn) (others : List SortColumn) (rows : List Row) where
       let b = column_of (row_at rows q) first.column in
       let lead = compare first.key (lead_of a) (lead_of b) in
       let text = compare first.key (text_part (lead_of a) a) (text_part (lead_of b) b) in
-      let rest = compare_rows others (row_at rows p) (row_at rows q) in
+      let rest = compare_keys others (row_at rows p) (row_at rows q) in
       sym (then_then lead text rest) ∙ ap (λ o. ordering_then o rest) (sym (in_parts first.key.desc first.key.nulls_first a b))
 
   abbrev less_place : Placed → Placed → Bool
@@ -207,7 +205,7 @@ IsSortOf-from_stable columns rows order s = record {
       let p = get_or order k d in
       let q = get_or order (k + 1) d in
       then_not_less (compare_rows_at columns rows q p) (nat_cmp q p) (compare_rows_at columns rows p q) (s.sorted k d low high)
-      ((compare_rows_total columns).antisymm (row_at rows p) (row_at rows q))
+      ((compare_keys_total columns).antisymm (row_at rows p) (row_at rows q))
       (λ tie. ties_stay_sorted (λ p q. is_lt (nat_cmp p q)) (λ p q. is_lt (compare_rows_at columns rows p q)) numbers_order (rows_order columns rows) (positions (length rows)) order (positions_rise (length rows)) s.stable k d high tie)
       );
 }

@@ -3,12 +3,12 @@ use Rattle.std.specs.Prelude.{ℕ, List, map, IsPermutation, IsSorted}
 use Rattle.std.specs.declared.cmp.Ordering.{Ordering}
 use Rattle.std.specs.List.Sorted.{IsStable}
 use Rattle.std.specs.Ordering.{ordering_then}
+use Rattle.wd_value.specs.Keys.{compare_keys}
 use Rattle.wd_value.specs.Order.{compare}
 use Rattle.wd_value.specs.Rows.{Row, column_of, row_at}
 use Rattle.wd_sort.specs.declared.sort.Placed.{Placed}
-use Rattle.wd_sort.specs.declared.sort.SortColumn.{SortColumn}
+use Rattle.wd_value.specs.declared.order.SortColumn.{SortColumn}
 use Rattle.wd_sort.specs.Leads.{lead_of, text_part}
-use Rattle.wd_sort.specs.Sorting.{compare_rows}
 
 -- a position beside the lead of its row's value in the first column
 abbrev pub placed : SortColumn → List Row → ℕ → Placed
@@ -25,7 +25,7 @@ compare_texts first rows a b =
 -- by what the leads leave open
 abbrev pub compare_tied : SortColumn → List SortColumn → List Row → Placed → Placed → Ordering
 compare_tied first others rows a b =
-    ordering_then (compare_texts first rows a b) (compare_rows others (row_at rows a.position) (row_at rows b.position))
+    ordering_then (compare_texts first rows a b) (compare_keys others (row_at rows a.position) (row_at rows b.position))
 
 abbrev pub compare_placed : SortColumn → List SortColumn → List Row → Placed → Placed → Ordering
 compare_placed first others rows a b = ordering_then (compare first.key a.lead b.lead) (compare_tied first others rows a b)

@@ -1,22 +1,16 @@
 -- Rows in the order of columns, and the stable sort of their positions.
-use Rattle.std.specs.Prelude.{ℕ, List, [], ◌∷◌, length, IsPermutation, IsSorted}
+use Rattle.std.specs.Prelude.{ℕ, List, length, IsPermutation, IsSorted}
 use Rattle.std.specs.List.Sorted.{IsStable}
 use Rattle.std.specs.declared.cmp.Ordering.{Ordering}
-use Rattle.std.specs.declared.cmp.Ordering.TheVariants.{Equal}
 use Rattle.std.specs.Ordering.{nat_cmp, ordering_then}
 use Rattle.wd_value.specs.Bags.{positions}
-use Rattle.wd_value.specs.Order.{compare}
-use Rattle.wd_value.specs.Rows.{Row, column_of, row_at}
-use Rattle.wd_sort.specs.declared.sort.SortColumn.{SortColumn}
-
--- rows compare at the first column on which they differ
-abbrev pub compare_rows : List SortColumn → Row → Row → Ordering
-compare_rows [] a b = Equal
-compare_rows (first ∷ others) a b = ordering_then (compare first.key (column_of a first.column) (column_of b first.column)) (compare_rows others a b)
+use Rattle.wd_value.specs.Keys.{compare_keys}
+use Rattle.wd_value.specs.Rows.{Row, row_at}
+use Rattle.wd_value.specs.declared.order.SortColumn.{SortColumn}
 
 -- positions compare by their rows, and where these tie by their own order
 abbrev pub compare_positions : List SortColumn → List Row → ℕ → ℕ → Ordering
-compare_positions columns rows p q = ordering_then (compare_rows columns (row_at rows p) (row_at rows q)) (nat_cmp p q)
+compare_positions columns rows p q = ordering_then (compare_keys columns (row_at rows p) (row_at rows q)) (nat_cmp p q)
 
 -- each position of the rows once, in that order
 pub record IsSortOf (columns : List SortColumn) (rows : List Row) (order : List ℕ) : Type 0 where
@@ -25,7 +19,7 @@ pub record IsSortOf (columns : List SortColumn) (rows : List Row) (order : List 
 
 -- positions compare by their rows alone
 abbrev pub compare_rows_at : List SortColumn → List Row → ℕ → ℕ → Ordering
-compare_rows_at columns rows p q = compare_rows columns (row_at rows p) (row_at rows q)
+compare_rows_at columns rows p q = compare_keys columns (row_at rows p) (row_at rows q)
 
 -- the stable sort of given positions: a rearrangement of them in the order of the columns, in which positions whose rows tie
 -- on all columns stand as they stood

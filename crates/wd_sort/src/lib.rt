@@ -4,6 +4,4 @@
 mod lead;
 mod sort;
 
-pub use sort::{
-    SortColumn, all_positions, compare_rows_at, is_sorted, row_in, sorted_from, sorted_positions,
-};
+pub use sort::{all_positions, compare_rows_at, is_sorted, row_in, sorted_from, sorted_positions};

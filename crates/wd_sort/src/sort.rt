@@ -11,15 +11,7 @@ ghost use Rattle.wd_value.specs.Rows.{rows_of, column_of};
 use crate::lead::lead_of;
 use std::alloc::Global;
 use std::cmp::Ordering;
-use wd_value::{OutOfMemory, Row, SortKey, Value, compare};
-
-/// A column to sort by: its number, from 0, and the direction and where NULL stands. Past a row's
-/// last column it holds NULL.
-#[derive(Clone, Copy, PartialEq, Eq)]
-pub struct SortColumn {
-    pub column: u16,
-    pub key: SortKey,
-}
+use wd_value::{OutOfMemory, Row, SortColumn, Value, compare, compare_keys};
 
 /// The position of a row, and the lead of its value in the first column to sort by: most
 /// comparisons end there, without a look at the row.
@@ -201,30 +193,7 @@ pub fn compare_rows_at(rows: &[Row], columns: &[SortColumn], p: u64, q: u64) -> 
     if columns.is_empty() {
         return Ordering::Equal;
     }
-    compare_rows(row_in(rows, p), row_in(rows, q), columns)
-}
-
-fn compare_rows(a: &[Value], b: &[Value], columns: &[SortColumn]) -> Ordering
-    ensures { result ≡ sorting.compare_rows columns.now a.now b.now }
-{
-    for column in columns {
-        match compare_at(a, b, *column) {
-            Ordering::Equal => {}
-            found => return found,
-        }
-    }
-    Ordering::Equal
-}
-
-fn compare_at(a: &[Value], b: &[Value], column: SortColumn) -> Ordering
-    ensures { result ≡ order.compare column.key (column_of a.now column.column) (column_of b.now column.column) }
-{
-    let null = Value::Null;
-    compare(
-        value_in(a, column.column, &null),
-        value_in(b, column.column, &null),
-        column.key,
-    )
+    compare_keys(columns, row_in(rows, p), row_in(rows, q))
 }
 
 /// The value in a column, and `null` past the last.

@@ -2,13 +2,13 @@
 use Rattle.std.proofs.Common.{◌≡◌, ◌∙◌, ◌⊎◌, inl, inr, ℕ, suc, ◌≤◌, sym, ap, subst, List, [], ◌∷◌, length, Bool, true, false, eqb-true, Option, Some, None, Ok, Err, refl, arith, cond}
 use Rattle.std.specs.Prelude.{⊤}
 use Rattle.std.proofs.lemmas.Slice.Eq.{bytes_eq-Decides}
-use Rattle.wd_lex.proofs.MarkLaws.{same_mark}
-use Rattle.wd_lex.specs.Marks.{mark_code}
-use Rattle.wd_lex.specs.declared.token.Delimiter.{Delimiter}
+use Rattle.wd_lex.proofs.TerminalLaws.{same_terminal}
+use Rattle.wd_lex.specs.Terminals.{terminal_code}
+use Rattle.wd_lex.specs.declared.token.Terminal.{Terminal}
 use Rattle.wd_lex.specs.declared.token.TokenKind.{TokenKind}
 use Rattle.wd_lex.specs.declared.token.TokenKind.TheVariants as k
 use Rattle.wd_statements.proofs.ReadingFacts.{eat_same}
-use Rattle.wd_statements.specs.Reading.{Reading, ◌>>=◌, choose, some_or, is_mark, is_word, eat, eat_word}
+use Rattle.wd_statements.specs.Reading.{Reading, ◌>>=◌, choose, some_or, is_terminal, is_word, eat, eat_word}
 
 -- The first list is the same as the second up to and with the token from which on so many are left.
 abbrev pub Agree : ℕ → List TokenKind → List TokenKind → Type 0
@@ -204,24 +204,24 @@ if_some : (b : Bool) (kinds rest : List TokenKind) → cond b (Some kinds) None 
 if_some true kinds rest e = (refl, cc)
 if_some false kinds rest e = absurd (cc)
 
-is_mark_is : (x : Delimiter) (y : TokenKind) → is_mark x y ≡ true → y ≡ k.Delimiter x
-is_mark_is x (k.Delimiter y) t = ap k.Delimiter (same_mark y x (eqb-true (mark_code y) (mark_code x) t))
-is_mark_is x (k.Word word) t = absurd (cc)
-is_mark_is x (k.Quoted name) t = absurd (cc)
-is_mark_is x (k.Literal text) t = absurd (cc)
-is_mark_is x (k.Number n) t = absurd (cc)
+is_terminal_is : (x : Terminal) (y : TokenKind) → is_terminal x y ≡ true → y ≡ k.Terminal x
+is_terminal_is x (k.Terminal y) t = ap k.Terminal (same_terminal y x (eqb-true (terminal_code y) (terminal_code x) t))
+is_terminal_is x (k.Word word) t = absurd (cc)
+is_terminal_is x (k.Quoted name) t = absurd (cc)
+is_terminal_is x (k.Literal text) t = absurd (cc)
+is_terminal_is x (k.Number n) t = absurd (cc)
 
 is_word_is : (x : List ℕ) (y : TokenKind) → is_word x y ≡ true → y ≡ k.Word x
 is_word_is x (k.Word word) t = ap k.Word ((bytes_eq-Decides word x).0 t)
-is_word_is x (k.Delimiter y) t = absurd (cc)
+is_word_is x (k.Terminal y) t = absurd (cc)
 is_word_is x (k.Quoted name) t = absurd (cc)
 is_word_is x (k.Literal text) t = absurd (cc)
 is_word_is x (k.Number n) t = absurd (cc)
 
-eat_is : (x : Delimiter) (kinds rest : List TokenKind) → eat x kinds ≡ Some rest → kinds ≡ k.Delimiter x ∷ rest
+eat_is : (x : Terminal) (kinds rest : List TokenKind) → eat x kinds ≡ Some rest → kinds ≡ k.Terminal x ∷ rest
 unfolding eat
 eat_is x [] rest e = absurd (cc)
-eat_is x (y ∷ kinds) rest e = let found = if_some (is_mark x y) kinds rest e in ap (λ z. z ∷ kinds) (is_mark_is x y found.0) ∙ ap (λ ks. k.Delimiter x ∷ ks) found.1
+eat_is x (y ∷ kinds) rest e = let found = if_some (is_terminal x y) kinds rest e in ap (λ z. z ∷ kinds) (is_terminal_is x y found.0) ∙ ap (λ ks. k.Terminal x ∷ ks) found.1
 
 eat_word_is : (x : List ℕ) (kinds rest : List TokenKind) → eat_word x kinds ≡ Some rest → kinds ≡ k.Word x ∷ rest
 unfolding eat_word
@@ -235,8 +235,8 @@ eat_word_same x kinds = rw ((bytes_eq-Decides x x).1 refl) refl
 some≢none : (kinds : List TokenKind) → Some kinds ≡ None → ⊥
 some≢none kinds e = cc
 
-pub eats_mark : (x : Delimiter) → Eats (k.Delimiter x) (eat x)
-eats_mark x = record { is = eat_is x; none = λ kinds rest e at. some≢none rest (sym (eat_same x rest) ∙ ap (eat x) (sym at) ∙ e) }
+pub eats_terminal : (x : Terminal) → Eats (k.Terminal x) (eat x)
+eats_terminal x = record { is = eat_is x; none = λ kinds rest e at. some≢none rest (sym (eat_same x rest) ∙ ap (eat x) (sym at) ∙ e) }
 
 pub eats_word : (x : List ℕ) → Eats (k.Word x) (eat_word x)
 eats_word x = record { is = eat_word_is x; none = λ kinds rest e at. some≢none rest (sym (eat_word_same x rest) ∙ ap (eat_word x) (sym at) ∙ e) }

@@ -4,8 +4,8 @@ use Rattle.std.proofs.lemmas.Bool.{true≢false}
 use Rattle.std.specs.List.{All}
 use Rattle.std.proofs.lemmas.List.Elements.{All-nil, All-cons, All-head, All-tail}
 use Rattle.std.specs.Prelude.{⊤}
-use Rattle.wd_lex.specs.declared.token.Delimiter.{Delimiter}
-use Rattle.wd_lex.specs.declared.token.Delimiter.TheVariants as m
+use Rattle.wd_lex.specs.declared.token.Terminal.{Terminal}
+use Rattle.wd_lex.specs.declared.token.Terminal.TheVariants as m
 use Rattle.wd_lex.specs.declared.token.TokenKind.{TokenKind}
 use Rattle.wd_lex.specs.declared.token.TokenKind.TheVariants as k
 use Rattle.wd_statements.specs.declared.syntax.Name.{Name}
@@ -18,9 +18,9 @@ use Rattle.wd_statements.specs.declared.syntax.Rule.{Rule}
 use Rattle.wd_statements.specs.declared.syntax.Rule.TheVariants as rule
 use Rattle.wd_statements.specs.declared.syntax.ColumnRule.{ColumnRule}
 use Rattle.wd_statements.specs.Grammar.{HasColumns, IsTable, listed, spell_column, spell_constraint, spell_element, spell_key, spell_name, spell_nulls, spell_rule, spell_rules, spell_stop, spell_table, spell_words, token_of}
-use Rattle.wd_statements.specs.Reading.{Reading, ◌>>=◌, is_mark, eat, eat_word, expect, expect_word, name_of, name_at, nulls_at, words_at, rule_at, constraint_at, column_rule_at, ends_column, rules_at, more_at, list_at, column_at, key_at, begins_key, element_at, table_at, stop_at, statement_at}
+use Rattle.wd_statements.specs.Reading.{Reading, ◌>>=◌, is_terminal, eat, eat_word, expect, expect_word, name_of, name_at, nulls_at, words_at, rule_at, constraint_at, column_rule_at, ends_column, rules_at, more_at, list_at, column_at, key_at, begins_key, element_at, table_at, stop_at, statement_at}
 use Rattle.wd_statements.specs.Written.{ColumnTree, KeyTree, ElementTree, Column, Key, TableTree}
-use Rattle.wd_statements.proofs.Exactness.{Agree, Exact, Without, before_first, choose_exact, done_exact, empty_exact, eats_mark, eats_word, expect_exact, narrow_exact, then_exact}
+use Rattle.wd_statements.proofs.Exactness.{Agree, Exact, Without, before_first, choose_exact, done_exact, empty_exact, eats_terminal, eats_word, expect_exact, narrow_exact, then_exact}
 
 abbrev Any : {A : Type 0} → A → Type 0
 Any x = ⊤
@@ -38,9 +38,9 @@ quoted_is : (x : Name) (text : List ℕ) → token_of x ≡ k.Quoted text → x 
 quoted_is (Unquoted t) text e = absurd (cc)
 quoted_is (Quoted t) text e = cc
 
-no_name_mark : (x : Name) (y : Delimiter) → token_of x ≡ k.Delimiter y → ⊥
-no_name_mark (Unquoted t) y e = cc
-no_name_mark (Quoted t) y e = cc
+no_name_terminal : (x : Name) (y : Terminal) → token_of x ≡ k.Terminal y → ⊥
+no_name_terminal (Unquoted t) y e = cc
+no_name_terminal (Quoted t) y e = cc
 
 no_name_literal : (x : Name) (y : List ℕ) → token_of x ≡ k.Literal y → ⊥
 no_name_literal (Unquoted t) y e = cc
@@ -65,7 +65,7 @@ name_first (k.Quoted text) kinds = record {
   same = λ left x after w may lt agree. (quoted_is x text agree.0, agree.1 lt);
   carries = λ left after before. λ le. (refl, before);
 }
-name_first (k.Delimiter y) kinds = record { within = omega arith; none = λ x after w may agree. no_name_mark x y agree.0; near = (Unquoted [], tt, λ after. before_first (spell_name (Unquoted []) after) (k.Delimiter y ∷ kinds)) }
+name_first (k.Terminal y) kinds = record { within = omega arith; none = λ x after w may agree. no_name_terminal x y agree.0; near = (Unquoted [], tt, λ after. before_first (spell_name (Unquoted []) after) (k.Terminal y ∷ kinds)) }
 name_first (k.Literal y) kinds = record { within = omega arith; none = λ x after w may agree. no_name_literal x y agree.0; near = (Unquoted [], tt, λ after. before_first (spell_name (Unquoted []) after) (k.Literal y ∷ kinds)) }
 name_first (k.Number y) kinds = record { within = omega arith; none = λ x after w may agree. no_name_number x y agree.0; near = (Unquoted [], tt, λ after. before_first (spell_name (Unquoted []) after) (k.Number y ∷ kinds)) }
 
@@ -92,8 +92,8 @@ said_or_not NotDistinct = inl tt
 -- what follows the word NULLS
 abbrev behind_nulls : Nulls → List TokenKind → List TokenKind
 behind_nulls Unsaid after = after
-behind_nulls Distinct after = k.Delimiter m.Distinct ∷ after
-behind_nulls NotDistinct after = k.Delimiter m.Not ∷ k.Delimiter m.Distinct ∷ after
+behind_nulls Distinct after = k.Terminal m.Distinct ∷ after
+behind_nulls NotDistinct after = k.Terminal m.Not ∷ k.Terminal m.Distinct ∷ after
 
 behind_nulls_is : (y : Nulls) (after : List TokenKind) → IsSaid y → spell_nulls y after ≡ nulls_token ∷ behind_nulls y after
 behind_nulls_is Unsaid after said = absurd said
@@ -105,7 +105,7 @@ distinct_or_not Unsaid said = absurd said
 distinct_or_not Distinct said = inr refl
 distinct_or_not NotDistinct said = inl refl
 
-distinct_not : (rest after : List TokenKind) → k.Delimiter m.Distinct ∷ after ≡ k.Delimiter m.Not ∷ rest → ⊥
+distinct_not : (rest after : List TokenKind) → k.Terminal m.Distinct ∷ after ≡ k.Terminal m.Not ∷ rest → ⊥
 distinct_not rest after e = cc
 
 abbrev MayNulls : {A : Type 0} → A → List TokenKind → Type 0
@@ -119,13 +119,13 @@ nulls_exact kinds =
     (λ y after w is may. λ rest e. may rest (sym (ap (λ z. spell_nulls z after) is) ∙ e))
     kinds _ _
     (λ nulls at.
-    choose_exact (k.Delimiter m.Not) (eat m.Not) (eats_mark m.Not) behind_nulls (λ y. Any y × IsSaid y) MayNulls (λ y after. k.Delimiter m.Distinct ∷ after) (λ y. y ≡ NotDistinct) (λ y. y ≡ Distinct)
+    choose_exact (k.Terminal m.Not) (eat m.Not) (eats_terminal m.Not) behind_nulls (λ y. Any y × IsSaid y) MayNulls (λ y after. k.Terminal m.Distinct ∷ after) (λ y. y ≡ NotDistinct) (λ y. y ≡ Distinct)
     (λ y w. distinct_or_not y w.1) (λ y after w is. ap (λ z. behind_nulls z after) is)
     (λ y after w is may. λ rest e. distinct_not rest after (sym (ap (λ z. behind_nulls z after) is) ∙ e))
     nulls _ _
-    (λ not at'. expect_exact (k.Delimiter m.Distinct) (eat m.Distinct) (eats_mark m.Distinct) (λ y after. k.Delimiter m.Distinct ∷ after) (λ y. (Any y × IsSaid y) × (y ≡ NotDistinct)) MayNulls (λ y after. after)
+    (λ not at'. expect_exact (k.Terminal m.Distinct) (eat m.Distinct) (eats_terminal m.Distinct) (λ y after. k.Terminal m.Distinct ∷ after) (λ y. (Any y × IsSaid y) × (y ≡ NotDistinct)) MayNulls (λ y after. after)
     (λ y after w. refl) (NotDistinct, ((tt, tt), refl)) not _ (λ rest. done_exact (λ y. (Any y × IsSaid y) × (y ≡ NotDistinct)) MayNulls NotDistinct rest ((tt, tt), refl) (λ y w. w.1)))
-    (expect_exact (k.Delimiter m.Distinct) (eat m.Distinct) (eats_mark m.Distinct) behind_nulls (λ y. (Any y × IsSaid y) × (y ≡ Distinct)) MayNulls (λ y after. after)
+    (expect_exact (k.Terminal m.Distinct) (eat m.Distinct) (eats_terminal m.Distinct) behind_nulls (λ y. (Any y × IsSaid y) × (y ≡ Distinct)) MayNulls (λ y after. after)
     (λ y after w. ap (λ z. behind_nulls z after) w.1) (Distinct, ((tt, tt), refl)) nulls _ (λ rest. done_exact (λ y. (Any y × IsSaid y) × (y ≡ Distinct)) MayNulls Distinct rest ((tt, tt), refl) (λ y w. w.1))))
     (empty_exact spell_nulls (λ y. Any y × (y ≡ Unsaid)) MayNulls Unsaid kinds (λ after. refl) (tt, refl) (λ y w. w.1))
 
@@ -144,7 +144,7 @@ abbrev nulls_in : KeyWords → Nulls
 nulls_in Primary = Unsaid
 nulls_in (Unique nulls) = nulls
 
-unique_is : (y : KeyWords) (after : List TokenKind) → IsUnique y → spell_words y after ≡ k.Delimiter m.Unique ∷ spell_nulls (nulls_in y) after
+unique_is : (y : KeyWords) (after : List TokenKind) → IsUnique y → spell_words y after ≡ k.Terminal m.Unique ∷ spell_nulls (nulls_in y) after
 unique_is Primary after w = absurd w
 unique_is (Unique nulls) after w = refl
 
@@ -152,19 +152,19 @@ unique_of : (y : KeyWords) (nulls : Nulls) → IsUnique y → nulls_in y ≡ nul
 unique_of Primary nulls w e = absurd w
 unique_of (Unique x) nulls w e = ap Unique e
 
-unique_not_primary : (x rest : List TokenKind) → k.Delimiter m.Unique ∷ x ≡ k.Delimiter m.Primary ∷ rest → ⊥
+unique_not_primary : (x rest : List TokenKind) → k.Terminal m.Unique ∷ x ≡ k.Terminal m.Primary ∷ rest → ⊥
 unique_not_primary x rest e = cc
 
 pub words_exact : (kinds : List TokenKind) → Exact spell_words Any MayNulls kinds (words_at kinds)
 unfolding words_at expect expect_word
 words_exact kinds =
-    choose_exact (k.Delimiter m.Primary) (eat m.Primary) (eats_mark m.Primary) spell_words Any MayNulls (λ y after. k.Word (codes "key") ∷ after) (λ y. y ≡ Primary) IsUnique
+    choose_exact (k.Terminal m.Primary) (eat m.Primary) (eats_terminal m.Primary) spell_words Any MayNulls (λ y after. k.Word (codes "key") ∷ after) (λ y. y ≡ Primary) IsUnique
     (λ y w. primary_or_unique y) (λ y after w is. ap (λ z. spell_words z after) is)
     (λ y after w is may. λ rest e. unique_not_primary (spell_nulls (nulls_in y) after) rest (sym (unique_is y after is) ∙ e))
     kinds _ _
     (λ primary at. expect_exact (k.Word (codes "key")) (eat_word (codes "key")) (eats_word (codes "key")) (λ y after. k.Word (codes "key") ∷ after) (λ y. Any y × (y ≡ Primary)) MayNulls (λ y after. after)
     (λ y after w. refl) (Primary, (tt, refl)) primary _ (λ rest. done_exact (λ y. Any y × (y ≡ Primary)) MayNulls Primary rest (tt, refl) (λ y w. w.1)))
-    (expect_exact (k.Delimiter m.Unique) (eat m.Unique) (eats_mark m.Unique) spell_words (λ y. Any y × IsUnique y) MayNulls (λ y after. spell_nulls (nulls_in y) after)
+    (expect_exact (k.Terminal m.Unique) (eat m.Unique) (eats_terminal m.Unique) spell_words (λ y. Any y × IsUnique y) MayNulls (λ y after. spell_nulls (nulls_in y) after)
     (λ y after w. unique_is y after w.1) (Unique Unsaid, (tt, tt)) kinds _
     (λ unique. then_exact spell_nulls Any MayNulls (λ y after. spell_nulls (nulls_in y) after) (λ y. Any y × IsUnique y) MayNulls nulls_in (λ y after. after)
     (λ y after w. refl) (λ y w. tt) (λ y after w may. may) (λ nulls w. (Unique nulls, (tt, tt), refl)) unique _ _ (nulls_exact unique)
@@ -207,11 +207,11 @@ key_rule_of rule.NotNull words w e = absurd w
 key_rule_of rule.Null words w e = absurd w
 key_rule_of (rule.Key x) words w e = ap rule.Key e
 
-words_not : (y : KeyWords) (after : List TokenKind) → Without (k.Delimiter m.Not) (spell_words y after) × Without (k.Delimiter m.Null) (spell_words y after) × Without (k.Delimiter m.Constraint) (spell_words y after)
+words_not : (y : KeyWords) (after : List TokenKind) → Without (k.Terminal m.Not) (spell_words y after) × Without (k.Terminal m.Null) (spell_words y after) × Without (k.Terminal m.Constraint) (spell_words y after)
 words_not Primary after = (λ rest e. cc, λ rest e. cc, λ rest e. cc)
 words_not (Unique nulls) after = (λ rest e. cc, λ rest e. cc, λ rest e. cc)
 
-other_not : (y : Rule) (after : List TokenKind) → IsOther y → Without (k.Delimiter m.Not) (spell_rule y after)
+other_not : (y : Rule) (after : List TokenKind) → IsOther y → Without (k.Terminal m.Not) (spell_rule y after)
 other_not rule.NotNull after w = absurd w
 other_not rule.Null after w = λ rest e. cc
 other_not (rule.Key words) after w = (words_not words after).0
@@ -219,12 +219,12 @@ other_not (rule.Key words) after w = (words_not words after).0
 pub rule_exact : (kinds : List TokenKind) → Exact spell_rule Any MayNulls kinds (rule_at kinds)
 unfolding rule_at expect
 rule_exact kinds =
-    choose_exact (k.Delimiter m.Not) (eat m.Not) (eats_mark m.Not) spell_rule Any MayNulls (λ y after. k.Delimiter m.Null ∷ after) (λ y. y ≡ rule.NotNull) IsOther
+    choose_exact (k.Terminal m.Not) (eat m.Not) (eats_terminal m.Not) spell_rule Any MayNulls (λ y after. k.Terminal m.Null ∷ after) (λ y. y ≡ rule.NotNull) IsOther
     (λ y w. not_null_or_other y) (λ y after w is. ap (λ z. spell_rule z after) is) (λ y after w is may. other_not y after is)
     kinds _ _
-    (λ not at. expect_exact (k.Delimiter m.Null) (eat m.Null) (eats_mark m.Null) (λ y after. k.Delimiter m.Null ∷ after) (λ y. Any y × (y ≡ rule.NotNull)) MayNulls (λ y after. after)
+    (λ not at. expect_exact (k.Terminal m.Null) (eat m.Null) (eats_terminal m.Null) (λ y after. k.Terminal m.Null ∷ after) (λ y. Any y × (y ≡ rule.NotNull)) MayNulls (λ y after. after)
     (λ y after w. refl) (rule.NotNull, (tt, refl)) not _ (λ rest. done_exact (λ y. Any y × (y ≡ rule.NotNull)) MayNulls rule.NotNull rest (tt, refl) (λ y w. w.1)))
-    (choose_exact (k.Delimiter m.Null) (eat m.Null) (eats_mark m.Null) spell_rule (λ y. Any y × IsOther y) MayNulls (λ y after. after) (λ y. y ≡ rule.Null) IsKeyRule
+    (choose_exact (k.Terminal m.Null) (eat m.Null) (eats_terminal m.Null) spell_rule (λ y. Any y × IsOther y) MayNulls (λ y after. after) (λ y. y ≡ rule.Null) IsKeyRule
     (λ y w. null_or_key y w.1) (λ y after w is. ap (λ z. spell_rule z after) is)
     (λ y after w is may. λ rest e. (words_not (words_in y) after).1 rest (sym (key_rule_is y after is) ∙ e))
     kinds _ _
@@ -247,7 +247,7 @@ abbrev name_in : Option Name → Name
 name_in None = Unquoted []
 name_in (Some name) = name
 
-constraint_is : (y : Option Name) (after : List TokenKind) → HasName y → spell_constraint y after ≡ k.Delimiter m.Constraint ∷ spell_name (name_in y) after
+constraint_is : (y : Option Name) (after : List TokenKind) → HasName y → spell_constraint y after ≡ k.Terminal m.Constraint ∷ spell_name (name_in y) after
 constraint_is None after w = absurd w
 constraint_is (Some name) after w = refl
 
@@ -256,12 +256,12 @@ constraint_of None name w e = absurd w
 constraint_of (Some x) name w e = ap (λ n. let some : Option Name = Some n in some) e
 
 abbrev MayConstraint : Option Name → List TokenKind → Type 0
-MayConstraint y after = Without (k.Delimiter m.Constraint) after
+MayConstraint y after = Without (k.Terminal m.Constraint) after
 
 pub constraint_exact : (kinds : List TokenKind) → Exact spell_constraint Any MayConstraint kinds (constraint_at kinds)
 unfolding constraint_at
 constraint_exact kinds =
-    choose_exact (k.Delimiter m.Constraint) (eat m.Constraint) (eats_mark m.Constraint) spell_constraint Any MayConstraint (λ y after. spell_name (name_in y) after) HasName (λ y. y ≡ None)
+    choose_exact (k.Terminal m.Constraint) (eat m.Constraint) (eats_terminal m.Constraint) spell_constraint Any MayConstraint (λ y after. spell_name (name_in y) after) HasName (λ y. y ≡ None)
     (λ y w. has_name_or_not y) (λ y after w is. constraint_is y after is) (λ y after w is may. λ rest e. may rest (sym (ap (λ z. spell_constraint z after) is) ∙ e))
     kinds _ _
     (λ named at. then_exact spell_name Any Ever (λ y after. spell_name (name_in y) after) (λ y. Any y × HasName y) MayConstraint name_in (λ y after. after)
@@ -271,7 +271,7 @@ constraint_exact kinds =
 
 -- ---- a rule and its constraint's name
 
-rule_not_constraint : (y : Rule) (after : List TokenKind) → Without (k.Delimiter m.Constraint) (spell_rule y after)
+rule_not_constraint : (y : Rule) (after : List TokenKind) → Without (k.Terminal m.Constraint) (spell_rule y after)
 rule_not_constraint rule.NotNull after = λ rest e. cc
 rule_not_constraint rule.Null after = λ rest e. cc
 rule_not_constraint (rule.Key words) after = (words_not words after).2
@@ -327,15 +327,15 @@ is_some_if : (b : Bool) (kinds : List TokenKind) → is_some (cond b (Some kinds
 is_some_if true kinds = refl
 is_some_if false kinds = refl
 
-ends_is : (x : TokenKind) (kinds : List TokenKind) → ends_column (x ∷ kinds) ≡ (is_mark m.Comma x || is_mark m.RightBracket x)
+ends_is : (x : TokenKind) (kinds : List TokenKind) → ends_column (x ∷ kinds) ≡ (is_terminal m.Comma x || is_terminal m.RightBracket x)
 unfolding ends_column eat
-ends_is x kinds = rw (is_some_if (is_mark m.Comma x) kinds, is_some_if (is_mark m.RightBracket x) kinds) refl
+ends_is x kinds = rw (is_some_if (is_terminal m.Comma x) kinds, is_some_if (is_terminal m.RightBracket x) kinds) refl
 
 ends_agree : (left : ℕ) (xs ys : List TokenKind) → Agree left xs ys → ends_column xs ≡ ends_column ys
 ends_agree left [] [] agree = refl
 ends_agree left (x ∷ xs) [] agree = absurd agree
 ends_agree left [] (y ∷ ys) agree = absurd agree
-ends_agree left (x ∷ xs) (y ∷ ys) agree = ends_is x xs ∙ ap (λ z. is_mark m.Comma z || is_mark m.RightBracket z) agree.0 ∙ sym (ends_is y ys)
+ends_agree left (x ∷ xs) (y ∷ ys) agree = ends_is x xs ∙ ap (λ z. is_terminal m.Comma z || is_terminal m.RightBracket z) agree.0 ∙ sym (ends_is y ys)
 
 rule_goes_on : (y : Rule) (after : List TokenKind) → ends_column (spell_rule y after) ≡ false
 unfolding ends_column eat
@@ -442,17 +442,17 @@ EachIs Whole (x ∷ xs) = Whole x × EachIs Whole xs
 -- further items, each after a comma
 abbrev spell_more : {A : Type 0} → (A → List TokenKind → List TokenKind) → List A → List TokenKind → List TokenKind
 spell_more spell [] after = after
-spell_more spell (x ∷ xs) after = k.Delimiter m.Comma ∷ spell x (spell_more spell xs after)
+spell_more spell (x ∷ xs) after = k.Terminal m.Comma ∷ spell x (spell_more spell xs after)
 
 listed_is_by : {A : Type 0} (spell : A → List TokenKind → List TokenKind) (x : A) (xs : List A) (after : List TokenKind) → listed m.Comma spell (x ∷ xs) after ≡ spell x (spell_more spell xs after)
 listed_is_by spell x [] after = refl
-listed_is_by spell x (y ∷ ys) after = ap (λ r. spell x (k.Delimiter m.Comma ∷ r)) (listed_is_by spell y ys after)
+listed_is_by spell x (y ∷ ys) after = ap (λ r. spell x (k.Terminal m.Comma ∷ r)) (listed_is_by spell y ys after)
 
 module _ {A : Type 0} (d : A) (item : List TokenKind → Reading A) (spell : A → List TokenKind → List TokenKind) (Whole : A → Type 0) (May : A → List TokenKind → Type 0)
-    (exact : (kinds : List TokenKind) → Exact spell Whole May kinds (item kinds)) (may_comma : (y : A) (after : List TokenKind) → May y (k.Delimiter m.Comma ∷ after)) where
+    (exact : (kinds : List TokenKind) → Exact spell Whole May kinds (item kinds)) (may_comma : (y : A) (after : List TokenKind) → May y (k.Terminal m.Comma ∷ after)) where
   -- no comma follows the last item
   abbrev MayMore : List A → List TokenKind → Type 0
-  MayMore ys after = Without (k.Delimiter m.Comma) after × ((y : A) → May y after)
+  MayMore ys after = Without (k.Terminal m.Comma) after × ((y : A) → May y after)
 
   may_item : (y : A) (ys : List A) (after : List TokenKind) → MayMore ys after → May y (spell_more spell ys after)
   may_item y [] after may = may.1 y
@@ -462,7 +462,7 @@ module _ {A : Type 0} (d : A) (item : List TokenKind → Reading A) (spell : A �
   listed_is [] after w = absurd w
   listed_is (y ∷ ys) after w = listed_is_by spell y ys after
 
-  more_is : (ys : List A) (after : List TokenKind) → IsCons ys → spell_more spell ys after ≡ k.Delimiter m.Comma ∷ spell (head_or d ys) (spell_more spell (tail_of ys) after)
+  more_is : (ys : List A) (after : List TokenKind) → IsCons ys → spell_more spell ys after ≡ k.Terminal m.Comma ∷ spell (head_or d ys) (spell_more spell (tail_of ys) after)
   more_is [] after w = absurd w
   more_is (y ∷ ys) after w = refl
 
@@ -485,7 +485,7 @@ module _ {A : Type 0} (d : A) (item : List TokenKind → Reading A) (spell : A �
       (empty_exact (spell_more spell) (λ y. y ≡ []) MayMore [] [] (λ after. refl) refl (λ y e. e))
   more_exact zero (x ∷ kinds) le = absurd (omega arith)
   more_exact (suc n) kinds le =
-      choose_exact (k.Delimiter m.Comma) (eat m.Comma) (eats_mark m.Comma) (spell_more spell) (EachIs Whole) MayMore (λ y after. spell (head_or d y) (spell_more spell (tail_of y) after)) IsCons (λ y. y ≡ [])
+      choose_exact (k.Terminal m.Comma) (eat m.Comma) (eats_terminal m.Comma) (spell_more spell) (EachIs Whole) MayMore (λ y after. spell (head_or d y) (spell_more spell (tail_of y) after)) IsCons (λ y. y ≡ [])
       (λ y w. cons_or_not y) (λ y after w is. more_is y after is) (λ y after w is may. λ rest e. may.0 rest (sym (ap (λ z. spell_more spell z after) is) ∙ e))
       kinds _ _
       (λ rest at. then_exact spell Whole May (λ y after. spell (head_or d y) (spell_more spell (tail_of y) after)) (λ y. EachIs Whole y × IsCons y) MayMore (head_or d) (λ y after. spell_more spell (tail_of y) after)
@@ -540,15 +540,15 @@ key_is y name words columns e f g =
     ap (λ x. let z : KeyTree = record { constraint = x; words = y.words; columns = y.columns } in z) e ∙ ap (λ x. let z : KeyTree = record { constraint = name; words = x; columns = y.columns } in z) f
     ∙ ap (λ x. let z : KeyTree = record { constraint = name; words = words; columns = x } in z) g
 
-bracket_not_nulls : (after : List TokenKind) → Without nulls_token (k.Delimiter m.LeftBracket ∷ after)
+bracket_not_nulls : (after : List TokenKind) → Without nulls_token (k.Terminal m.LeftBracket ∷ after)
 bracket_not_nulls after = λ rest e. cc
 
-bracket_not_comma : (after : List TokenKind) → Without (k.Delimiter m.Comma) (k.Delimiter m.RightBracket ∷ after)
+bracket_not_comma : (after : List TokenKind) → Without (k.Terminal m.Comma) (k.Terminal m.RightBracket ∷ after)
 bracket_not_comma after = λ rest e. cc
 
 -- what follows the name and the words of a key
 abbrev spell_names : KeyTree → List TokenKind → List TokenKind
-spell_names y after = listed m.Comma spell_name y.columns (k.Delimiter m.RightBracket ∷ after)
+spell_names y after = listed m.Comma spell_name y.columns (k.Terminal m.RightBracket ∷ after)
 
 a_name : List Name
 a_name = Unquoted [] ∷ []
@@ -560,31 +560,31 @@ has_a_name = λ e. cc
 pub key_exact : (kinds : List TokenKind) → Exact spell_key HasNames Ever kinds (key_at kinds)
 unfolding key_at expect
 key_exact kinds =
-    then_exact spell_constraint Any MayConstraint spell_key HasNames Ever (λ y. y.constraint) (λ y after. spell_words y.words (k.Delimiter m.LeftBracket ∷ spell_names y after))
-    (λ y after w. refl) (λ y w. tt) (λ y after w may. (words_not y.words (k.Delimiter m.LeftBracket ∷ spell_names y after)).2) (λ name w. (record { constraint = name; words = Primary; columns = a_name }, has_a_name, refl)) kinds _ _ (constraint_exact kinds)
-    (λ name others w e le. then_exact spell_words Any MayNulls (λ y after. spell_words y.words (k.Delimiter m.LeftBracket ∷ spell_names y after)) (λ y. HasNames y × (y.constraint ≡ name)) Ever (λ y. y.words) (λ y after. k.Delimiter m.LeftBracket ∷ spell_names y after)
+    then_exact spell_constraint Any MayConstraint spell_key HasNames Ever (λ y. y.constraint) (λ y after. spell_words y.words (k.Terminal m.LeftBracket ∷ spell_names y after))
+    (λ y after w. refl) (λ y w. tt) (λ y after w may. (words_not y.words (k.Terminal m.LeftBracket ∷ spell_names y after)).2) (λ name w. (record { constraint = name; words = Primary; columns = a_name }, has_a_name, refl)) kinds _ _ (constraint_exact kinds)
+    (λ name others w e le. then_exact spell_words Any MayNulls (λ y after. spell_words y.words (k.Terminal m.LeftBracket ∷ spell_names y after)) (λ y. HasNames y × (y.constraint ≡ name)) Ever (λ y. y.words) (λ y after. k.Terminal m.LeftBracket ∷ spell_names y after)
     (λ y after w. refl) (λ y w. tt) (λ y after w may. bracket_not_nulls (spell_names y after)) (λ words w. (record { constraint = name; words = words; columns = a_name }, (has_a_name, refl), refl)) others _ _ (words_exact others)
-    (λ words more w e le. expect_exact (k.Delimiter m.LeftBracket) (eat m.LeftBracket) (eats_mark m.LeftBracket) (λ y after. k.Delimiter m.LeftBracket ∷ spell_names y after) (λ y. (HasNames y × (y.constraint ≡ name)) × (y.words ≡ words)) Ever spell_names
+    (λ words more w e le. expect_exact (k.Terminal m.LeftBracket) (eat m.LeftBracket) (eats_terminal m.LeftBracket) (λ y after. k.Terminal m.LeftBracket ∷ spell_names y after) (λ y. (HasNames y × (y.constraint ≡ name)) × (y.words ≡ words)) Ever spell_names
     (λ y after w. refl) (record { constraint = name; words = words; columns = a_name }, ((has_a_name, refl), refl)) more _
-    (λ bracket. then_exact (listed m.Comma spell_name) (λ y. EachIs Any y × IsCons y) MayNames spell_names (λ y. (HasNames y × (y.constraint ≡ name)) × (y.words ≡ words)) Ever (λ y. y.columns) (λ y after. k.Delimiter m.RightBracket ∷ after)
+    (λ bracket. then_exact (listed m.Comma spell_name) (λ y. EachIs Any y × IsCons y) MayNames spell_names (λ y. (HasNames y × (y.constraint ≡ name)) × (y.words ≡ words)) Ever (λ y. y.columns) (λ y after. k.Terminal m.RightBracket ∷ after)
     (λ y after w. refl) (λ y w. (any_each y.columns, cons_from y.columns w.0.0)) (λ y after w may. (bracket_not_comma after, λ x. tt)) (λ columns w. (record { constraint = name; words = words; columns = columns }, ((some_from columns w.1, refl), refl), refl)) bracket _ _
     (list_exact (Unquoted []) name_at spell_name Any Ever name_exact (λ y after. tt) bracket)
-    (λ columns last some e le. expect_exact (k.Delimiter m.RightBracket) (eat m.RightBracket) (eats_mark m.RightBracket) (λ y after. k.Delimiter m.RightBracket ∷ after) (λ y. ((HasNames y × (y.constraint ≡ name)) × (y.words ≡ words)) × (y.columns ≡ columns)) Ever (λ y after. after)
+    (λ columns last some e le. expect_exact (k.Terminal m.RightBracket) (eat m.RightBracket) (eats_terminal m.RightBracket) (λ y after. k.Terminal m.RightBracket ∷ after) (λ y. ((HasNames y × (y.constraint ≡ name)) × (y.words ≡ words)) × (y.columns ≡ columns)) Ever (λ y after. after)
     (λ y after w. refl) (record { constraint = name; words = words; columns = columns }, (((some_from columns some.1, refl), refl), refl)) last _
     (λ rest. done_exact (λ y. ((HasNames y × (y.constraint ≡ name)) × (y.words ≡ words)) × (y.columns ≡ columns)) Ever (record { constraint = name; words = words; columns = columns }) rest
     (((some_from columns some.1, refl), refl), refl) (λ y h. key_is y name words columns h.0.0.1 h.0.1 h.1))))))
 
 -- ---- an element
 
-begins_is : (x : TokenKind) (kinds : List TokenKind) → begins_key (x ∷ kinds) ≡ (is_mark m.Constraint x || is_mark m.Primary x || is_mark m.Unique x)
+begins_is : (x : TokenKind) (kinds : List TokenKind) → begins_key (x ∷ kinds) ≡ (is_terminal m.Constraint x || is_terminal m.Primary x || is_terminal m.Unique x)
 unfolding begins_key eat
-begins_is x kinds = rw (is_some_if (is_mark m.Constraint x) kinds, is_some_if (is_mark m.Primary x) kinds, is_some_if (is_mark m.Unique x) kinds) refl
+begins_is x kinds = rw (is_some_if (is_terminal m.Constraint x) kinds, is_some_if (is_terminal m.Primary x) kinds, is_some_if (is_terminal m.Unique x) kinds) refl
 
 begins_agree : (left : ℕ) (xs ys : List TokenKind) → Agree left xs ys → begins_key xs ≡ begins_key ys
 begins_agree left [] [] agree = refl
 begins_agree left (x ∷ xs) [] agree = absurd agree
 begins_agree left [] (y ∷ ys) agree = absurd agree
-begins_agree left (x ∷ xs) (y ∷ ys) agree = begins_is x xs ∙ ap (λ z. is_mark m.Constraint z || is_mark m.Primary z || is_mark m.Unique z) agree.0 ∙ sym (begins_is y ys)
+begins_agree left (x ∷ xs) (y ∷ ys) agree = begins_is x xs ∙ ap (λ z. is_terminal m.Constraint z || is_terminal m.Primary z || is_terminal m.Unique z) agree.0 ∙ sym (begins_is y ys)
 
 key_begins_by : (name : Option Name) (words : KeyWords) (after : List TokenKind) → begins_key (spell_constraint name (spell_words words after)) ≡ true
 unfolding begins_key eat
@@ -627,7 +627,7 @@ key_where_begins kinds e left (Key key) after agree = tt
 column_where_not : (kinds : List TokenKind) → begins_key kinds ≡ false → (left : ℕ) (y : ElementTree) (after : List TokenKind) → Agree left (spell_element y after) kinds → IsColumn y
 column_where_not kinds e left (Column column) after agree = tt
 column_where_not kinds e left (Key key) after agree =
-    absurd (true≢false (sym (key_begins_by key.constraint key.words (k.Delimiter m.LeftBracket ∷ spell_names key after)) ∙ begins_agree left (spell_key key after) kinds agree ∙ e))
+    absurd (true≢false (sym (key_begins_by key.constraint key.words (k.Terminal m.LeftBracket ∷ spell_names key after)) ∙ begins_agree left (spell_key key after) kinds agree ∙ e))
 
 key_element_is : (y : ElementTree) (after : List TokenKind) → IsKey y → spell_element y after ≡ spell_key (key_in y) after
 key_element_is (Column column) after w = absurd w
@@ -667,11 +667,11 @@ element_exact kinds = by (begins_key kinds) refl
 
 -- ---- a table
 
-comma_ends : (y : ElementTree) (after : List TokenKind) → ends_column (k.Delimiter m.Comma ∷ after) ≡ true
+comma_ends : (y : ElementTree) (after : List TokenKind) → ends_column (k.Terminal m.Comma ∷ after) ≡ true
 unfolding ends_column eat
 comma_ends y after = refl
 
-bracket_ends : (after : List TokenKind) → ends_column (k.Delimiter m.RightBracket ∷ after) ≡ true
+bracket_ends : (after : List TokenKind) → ends_column (k.Terminal m.RightBracket ∷ after) ≡ true
 unfolding ends_column eat
 bracket_ends after = refl
 
@@ -687,7 +687,7 @@ table_of : (y : TableTree) (name : Name) (elements : List ElementTree) → y.nam
 table_of y name elements e f = ap (λ x. let z : TableTree = record { name = x; elements = y.elements } in z) e ∙ ap (λ x. let z : TableTree = record { name = name; elements = x } in z) f
 
 abbrev spell_elements : TableTree → List TokenKind → List TokenKind
-spell_elements y after = listed m.Comma spell_element y.elements (k.Delimiter m.RightBracket ∷ after)
+spell_elements y after = listed m.Comma spell_element y.elements (k.Terminal m.RightBracket ∷ after)
 
 some_elements : List ElementTree
 some_elements = Column no_column ∷ []
@@ -699,18 +699,18 @@ a_table name = record { some = λ e. cc; each = all_from_each (Column no_column 
 pub table_exact : (kinds : List TokenKind) → Exact spell_table IsTable Ever kinds (table_at kinds)
 unfolding table_at expect
 table_exact kinds =
-    expect_exact (k.Delimiter m.Create) (eat m.Create) (eats_mark m.Create) spell_table IsTable Ever (λ y after. k.Delimiter m.Table ∷ token_of y.name ∷ k.Delimiter m.LeftBracket ∷ spell_elements y after) (λ y after w. refl) (record { name = Unquoted []; elements = some_elements }, a_table (Unquoted [])) kinds _
-    (λ create. expect_exact (k.Delimiter m.Table) (eat m.Table) (eats_mark m.Table) (λ y after. k.Delimiter m.Table ∷ token_of y.name ∷ k.Delimiter m.LeftBracket ∷ spell_elements y after) IsTable Ever (λ y after. spell_name y.name (k.Delimiter m.LeftBracket ∷ spell_elements y after))
+    expect_exact (k.Terminal m.Create) (eat m.Create) (eats_terminal m.Create) spell_table IsTable Ever (λ y after. k.Terminal m.Table ∷ token_of y.name ∷ k.Terminal m.LeftBracket ∷ spell_elements y after) (λ y after w. refl) (record { name = Unquoted []; elements = some_elements }, a_table (Unquoted [])) kinds _
+    (λ create. expect_exact (k.Terminal m.Table) (eat m.Table) (eats_terminal m.Table) (λ y after. k.Terminal m.Table ∷ token_of y.name ∷ k.Terminal m.LeftBracket ∷ spell_elements y after) IsTable Ever (λ y after. spell_name y.name (k.Terminal m.LeftBracket ∷ spell_elements y after))
     (λ y after w. refl) (record { name = Unquoted []; elements = some_elements }, a_table (Unquoted [])) create _
-    (λ word. then_exact spell_name Any Ever (λ y after. spell_name y.name (k.Delimiter m.LeftBracket ∷ spell_elements y after)) IsTable Ever (λ y. y.name) (λ y after. k.Delimiter m.LeftBracket ∷ spell_elements y after)
+    (λ word. then_exact spell_name Any Ever (λ y after. spell_name y.name (k.Terminal m.LeftBracket ∷ spell_elements y after)) IsTable Ever (λ y. y.name) (λ y after. k.Terminal m.LeftBracket ∷ spell_elements y after)
     (λ y after w. refl) (λ y w. tt) (λ y after w may. tt) (λ name w. (record { name = name; elements = some_elements }, a_table name, refl)) word _ _ (name_exact word)
-    (λ name others w e le. expect_exact (k.Delimiter m.LeftBracket) (eat m.LeftBracket) (eats_mark m.LeftBracket) (λ y after. k.Delimiter m.LeftBracket ∷ spell_elements y after) (λ y. IsTable y × (y.name ≡ name)) Ever spell_elements
+    (λ name others w e le. expect_exact (k.Terminal m.LeftBracket) (eat m.LeftBracket) (eats_terminal m.LeftBracket) (λ y after. k.Terminal m.LeftBracket ∷ spell_elements y after) (λ y. IsTable y × (y.name ≡ name)) Ever spell_elements
     (λ y after w. refl) (record { name = name; elements = some_elements }, (a_table name, refl)) others _
     (λ bracket. then_exact (listed m.Comma spell_element) (λ y. EachIs HasColumns y × IsCons y) (MayMore (Column no_column) element_at spell_element HasColumns MayEnd element_exact comma_ends)
-    spell_elements (λ y. IsTable y × (y.name ≡ name)) Ever (λ y. y.elements) (λ y after. k.Delimiter m.RightBracket ∷ after)
+    spell_elements (λ y. IsTable y × (y.name ≡ name)) Ever (λ y. y.elements) (λ y after. k.Terminal m.RightBracket ∷ after)
     (λ y after w. refl) (λ y w. (each_from_all y.elements w.0.each, cons_from y.elements w.0.some)) (λ y after w may. (bracket_not_comma after, λ x. bracket_ends after)) (λ elements w. (record { name = name; elements = elements }, (record { some = some_from elements w.1; each = all_from_each elements w.0 }, refl), refl)) bracket _ _
     (list_exact (Column no_column) element_at spell_element HasColumns MayEnd element_exact comma_ends bracket)
-    (λ elements last some e le. expect_exact (k.Delimiter m.RightBracket) (eat m.RightBracket) (eats_mark m.RightBracket) (λ y after. k.Delimiter m.RightBracket ∷ after) (λ y. (IsTable y × (y.name ≡ name)) × (y.elements ≡ elements)) Ever (λ y after. after)
+    (λ elements last some e le. expect_exact (k.Terminal m.RightBracket) (eat m.RightBracket) (eats_terminal m.RightBracket) (λ y after. k.Terminal m.RightBracket ∷ after) (λ y. (IsTable y × (y.name ≡ name)) × (y.elements ≡ elements)) Ever (λ y after. after)
     (λ y after w. refl) (record { name = name; elements = elements }, ((record { some = some_from elements some.1; each = all_from_each elements some.0 }, refl), refl)) last _
     (λ rest. done_exact (λ y. (IsTable y × (y.name ≡ name)) × (y.elements ≡ elements)) Ever (record { name = name; elements = elements }) rest
     ((record { some = some_from elements some.1; each = all_from_each elements some.0 }, refl), refl) (λ y h. table_of y name elements h.0.1 h.1)))))))
@@ -735,7 +735,7 @@ stop_exact [] =
     (empty_exact spell_stop (λ y. y ≡ false) MayStop false [] (λ after. refl) refl (λ y e. e))
 stop_exact (x ∷ kinds) =
     narrow_exact spell_stop Any (λ y. y ≡ true) MayStop (x ∷ kinds) (expect m.Semicolon (x ∷ kinds) >>= λ rest. Ok (true, rest)) (λ left y after w may agree. a_stop left y after x kinds may agree) (λ y e. tt)
-    (expect_exact (k.Delimiter m.Semicolon) (eat m.Semicolon) (eats_mark m.Semicolon) spell_stop (λ y. y ≡ true) MayStop (λ y after. after) (λ y after w. ap (λ z. spell_stop z after) w) (true, refl) (x ∷ kinds) _
+    (expect_exact (k.Terminal m.Semicolon) (eat m.Semicolon) (eats_terminal m.Semicolon) spell_stop (λ y. y ≡ true) MayStop (λ y after. after) (λ y after w. ap (λ z. spell_stop z after) w) (true, refl) (x ∷ kinds) _
     (λ rest. done_exact (λ y. y ≡ true) MayStop true rest refl (λ y e. e)))
 
 -- ---- a statement

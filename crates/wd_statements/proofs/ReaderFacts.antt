@@ -1,17 +1,17 @@
 -- Lists of a schema that grow by an item at their end, as they are spelled.
 use Rattle.std.proofs.Common.{◌≡◌, ◌≢◌, ◌∙◌, sym, Bool, true, false, List, [], ◌∷◌, ◌++◌, refl, ap}
 use Rattle.std.proofs.lemmas.Bool.{true≢false}
-use Rattle.wd_lex.specs.declared.token.Delimiter.{Delimiter}
-use Rattle.wd_lex.specs.declared.token.Delimiter.TheVariants as m
+use Rattle.wd_lex.specs.declared.token.Terminal.{Terminal}
+use Rattle.wd_lex.specs.declared.token.Terminal.TheVariants as m
 use Rattle.wd_lex.specs.declared.token.TokenKind.{TokenKind}
 use Rattle.wd_lex.specs.declared.token.TokenKind.TheVariants as k
 use Rattle.wd_statements.specs.Grammar.{listed, spell_table, spell_tables, spell_stop}
 use Rattle.wd_statements.specs.Written.{TableTree}
 
-listed-push : {A : Type 0} (mark : Delimiter) (spell : A → List TokenKind → List TokenKind) (xs : List A) (y : A) (rest : List TokenKind) → xs ≢ [] → listed mark spell xs (k.Delimiter mark ∷ spell y rest) ≡ listed mark spell (xs ++ y ∷ []) rest
-listed-push mark spell [] y rest some = absurd (some refl)
-listed-push mark spell (x ∷ []) y rest some = refl
-listed-push mark spell (x ∷ z ∷ xs) y rest some = ap (λ r. spell x (k.Delimiter mark ∷ r)) (listed-push mark spell (z ∷ xs) y rest (λ e. cc))
+listed-push : {A : Type 0} (terminal : Terminal) (spell : A → List TokenKind → List TokenKind) (xs : List A) (y : A) (rest : List TokenKind) → xs ≢ [] → listed terminal spell xs (k.Terminal terminal ∷ spell y rest) ≡ listed terminal spell (xs ++ y ∷ []) rest
+listed-push terminal spell [] y rest some = absurd (some refl)
+listed-push terminal spell (x ∷ []) y rest some = refl
+listed-push terminal spell (x ∷ z ∷ xs) y rest some = ap (λ r. spell x (k.Terminal terminal ∷ r)) (listed-push terminal spell (z ∷ xs) y rest (λ e. cc))
 
 pub push-some : {A : Type 0} (xs : List A) (y : A) → xs ++ y ∷ [] ≢ []
 push-some [] y = λ e. cc
@@ -25,4 +25,4 @@ pub tables-push : (tables : List TableTree) (table : TableTree) (ended : Bool) (
 tables-push [] table true kinds rest over fresh e = absurd (true≢false (fresh refl))
 tables-push [] table false kinds rest over fresh e = e
 tables-push (x ∷ xs) table false kinds rest over fresh e = absurd (cons≢nil _ _ (sym e ∙ over (λ h. cc) refl))
-tables-push (x ∷ xs) table true kinds rest over fresh e = ap (λ w. spell_tables (x ∷ xs) (k.Delimiter m.Semicolon ∷ w)) e ∙ listed-push m.Semicolon spell_table (x ∷ xs) table rest (λ h. cc)
+tables-push (x ∷ xs) table true kinds rest over fresh e = ap (λ w. spell_tables (x ∷ xs) (k.Terminal m.Semicolon ∷ w)) e ∙ listed-push m.Semicolon spell_table (x ∷ xs) table rest (λ h. cc)

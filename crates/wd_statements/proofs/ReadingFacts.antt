@@ -1,10 +1,10 @@
--- How the code's readers go on: marks that are told apart, and lists that grow at their end.
+-- How the code's readers go on: terminals that are told apart, and lists that grow at their end.
 use Rattle.std.proofs.Common.{◌≡◌, ◌≢◌, ◌∙◌, ℕ, zero, suc, ◌+◌, ◌-◌, ◌<◌, sym, ap, List, [], ◌∷◌, ◌++◌, Bool, true, false, eqb, eq-eqb, eqb-true, Some, None, Ok, Err, refl, arith, append_assoc}
 use Rattle.std.proofs.lemmas.List.{append-nil}
-use Rattle.wd_lex.proofs.MarkLaws.{same_mark}
-use Rattle.wd_lex.specs.Marks.{mark_code}
-use Rattle.wd_lex.specs.declared.token.Delimiter.{Delimiter}
-use Rattle.wd_lex.specs.declared.token.Delimiter.TheVariants as m
+use Rattle.wd_lex.proofs.TerminalLaws.{same_terminal}
+use Rattle.wd_lex.specs.Terminals.{terminal_code}
+use Rattle.wd_lex.specs.declared.token.Terminal.{Terminal}
+use Rattle.wd_lex.specs.declared.token.Terminal.TheVariants as m
 use Rattle.wd_lex.specs.declared.token.TokenKind.{TokenKind}
 use Rattle.wd_lex.specs.declared.token.TokenKind.TheVariants as k
 use Rattle.wd_statements.specs.declared.reader.ReadError.{ReadError}
@@ -16,11 +16,11 @@ not_same : (b : Bool) → (b ≡ true → ⊥) → b ≡ false
 not_same true h = absurd (h refl)
 not_same false h = refl
 
-pub one_mark : (x y : Delimiter) → x ≡ y → eqb (mark_code x) (mark_code y) ≡ true
-one_mark x y e = eq-eqb (mark_code x) (mark_code y) (ap mark_code e)
+pub one_terminal : (x y : Terminal) → x ≡ y → eqb (terminal_code x) (terminal_code y) ≡ true
+one_terminal x y e = eq-eqb (terminal_code x) (terminal_code y) (ap terminal_code e)
 
-pub other_mark : (x y : Delimiter) → x ≢ y → eqb (mark_code x) (mark_code y) ≡ false
-other_mark x y ne = not_same (eqb (mark_code x) (mark_code y)) (λ t. ne (same_mark x y (eqb-true (mark_code x) (mark_code y) t)))
+pub other_terminal : (x y : Terminal) → x ≢ y → eqb (terminal_code x) (terminal_code y) ≡ false
+other_terminal x y ne = not_same (eqb (terminal_code x) (terminal_code y)) (λ t. ne (same_terminal x y (eqb-true (terminal_code x) (terminal_code y) t)))
 
 -- ---- the rules of a column
 
@@ -81,6 +81,6 @@ module _ {A : Type 0} (item : List TokenKind → Reading A) where
 eqb_same : (n : ℕ) → eqb n n ≡ true
 eqb_same n = eq-eqb n n refl
 
-pub eat_same : (x : Delimiter) (kinds : List TokenKind) → eat x (k.Delimiter x ∷ kinds) ≡ Some kinds
+pub eat_same : (x : Terminal) (kinds : List TokenKind) → eat x (k.Terminal x ∷ kinds) ≡ Some kinds
 unfolding eat
-eat_same x kinds = rw (eqb_same (mark_code x)) refl
+eat_same x kinds = rw (eqb_same (terminal_code x)) refl

@@ -6,7 +6,7 @@ use Rattle.std.proofs.lemmas.List.Elements.{All-head, All-push, All-tail}
 use Rattle.std.specs.List.{All}
 use Rattle.wd_lex.specs.Lexed.{kinds_of}
 use Rattle.wd_lex.specs.declared.token.Token.{Token}
-use Rattle.wd_lex.specs.declared.token.Delimiter.TheVariants as m
+use Rattle.wd_lex.specs.declared.token.Terminal.TheVariants as m
 use Rattle.wd_lex.specs.declared.token.TokenKind.{TokenKind}
 use Rattle.wd_lex.specs.declared.token.TokenKind.TheVariants as k
 use Rattle.wd_statements.specs.declared.syntax.ColumnRule.{ColumnRule}
@@ -141,7 +141,7 @@ listed_longer spell longer [] after = omega arith
 listed_longer spell longer (x ∷ []) after = longer x after
 listed_longer spell longer (x ∷ y ∷ xs) after =
     let others : length after ≤ length (listed m.Comma spell (y ∷ xs) after) = listed_longer spell longer (y ∷ xs) after in
-    let one : suc (length (listed m.Comma spell (y ∷ xs) after)) ≤ length (spell x (k.Delimiter m.Comma ∷ listed m.Comma spell (y ∷ xs) after)) = longer x (k.Delimiter m.Comma ∷ listed m.Comma spell (y ∷ xs) after) in
+    let one : suc (length (listed m.Comma spell (y ∷ xs) after)) ≤ length (spell x (k.Terminal m.Comma ∷ listed m.Comma spell (y ∷ xs) after)) = longer x (k.Terminal m.Comma ∷ listed m.Comma spell (y ∷ xs) after) in
     omega arith
 
 words_longer : (words : KeyWords) (after : List TokenKind) → length after ≤ length (spell_words words after)
@@ -157,10 +157,10 @@ constraint_longer (Some name) after = omega arith
 element_longer : (y : ElementTree) (after : List TokenKind) → length after ≤ length (spell_element y after)
 element_longer (Column column) after = let rules : length after ≤ length (spell_rules column.rules after) = rules_longer column.rules after in omega arith
 element_longer (Key key) after =
-    let names = listed m.Comma spell_name key.columns (k.Delimiter m.RightBracket ∷ after) in
-    let a : suc (length after) ≤ length names = listed_longer spell_name (λ x rest. omega arith) key.columns (k.Delimiter m.RightBracket ∷ after) in
-    let b : suc (length names) ≤ length (spell_words key.words (k.Delimiter m.LeftBracket ∷ names)) = words_longer key.words (k.Delimiter m.LeftBracket ∷ names) in
-    let c : length (spell_words key.words (k.Delimiter m.LeftBracket ∷ names)) ≤ length (spell_key key after) = constraint_longer key.constraint (spell_words key.words (k.Delimiter m.LeftBracket ∷ names)) in
+    let names = listed m.Comma spell_name key.columns (k.Terminal m.RightBracket ∷ after) in
+    let a : suc (length after) ≤ length names = listed_longer spell_name (λ x rest. omega arith) key.columns (k.Terminal m.RightBracket ∷ after) in
+    let b : suc (length names) ≤ length (spell_words key.words (k.Terminal m.LeftBracket ∷ names)) = words_longer key.words (k.Terminal m.LeftBracket ∷ names) in
+    let c : length (spell_words key.words (k.Terminal m.LeftBracket ∷ names)) ≤ length (spell_key key after) = constraint_longer key.constraint (spell_words key.words (k.Terminal m.LeftBracket ∷ names)) in
     omega arith
 
 stop_longer : (stop : Bool) (after : List TokenKind) → length after ≤ length (spell_stop stop after)
@@ -170,15 +170,15 @@ stop_longer false after = omega arith
 statement_longer : (y : TableTree × Bool) (after : List TokenKind) → length after < length (spell_statement y after)
 statement_longer y after =
     let a : length after ≤ length (spell_stop y.1 after) = stop_longer y.1 after in
-    let b : suc (length (spell_stop y.1 after)) ≤ length (listed m.Comma spell_element y.0.elements (k.Delimiter m.RightBracket ∷ spell_stop y.1 after)) = listed_longer spell_element element_longer y.0.elements (k.Delimiter m.RightBracket ∷ spell_stop y.1 after) in
+    let b : suc (length (spell_stop y.1 after)) ≤ length (listed m.Comma spell_element y.0.elements (k.Terminal m.RightBracket ∷ spell_stop y.1 after)) = listed_longer spell_element element_longer y.0.elements (k.Terminal m.RightBracket ∷ spell_stop y.1 after) in
     omega arith
 
 -- ---- the statements that tokens begin with
 
 end_cases : (rest : List TokenKind) → IsEnd rest → (stop : Bool) × (more : List TokenKind) × (rest ≡ spell_stop stop more) × (stop ≡ false → more ≡ [])
 end_cases [] is = (false, [], refl, λ e. refl)
-end_cases (k.Delimiter m.Semicolon ∷ more) is = (true, more, refl, λ e. absurd (true≢false e))
-end_cases (k.Delimiter _ ∷ more) is = absurd is
+end_cases (k.Terminal m.Semicolon ∷ more) is = (true, more, refl, λ e. absurd (true≢false e))
+end_cases (k.Terminal _ ∷ more) is = absurd is
 end_cases (k.Word text ∷ more) is = absurd is
 end_cases (k.Quoted text ∷ more) is = absurd is
 end_cases (k.Literal text ∷ more) is = absurd is

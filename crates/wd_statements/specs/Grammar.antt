@@ -1,7 +1,7 @@
 -- How a schema is spelled in tokens (this project's grammar of schemas, a part of SQL's CREATE TABLE).
 use Rattle.std.specs.Prelude.{◌≡◌, ◌≢◌, ℕ, suc, ◌≤◌, Bool, true, false, codes, List, [], ◌∷◌, ◌++◌, All, Option, Some, None, ⊤, length, take}
-use Rattle.wd_lex.specs.declared.token.Delimiter.{Delimiter}
-use Rattle.wd_lex.specs.declared.token.Delimiter.TheVariants as m
+use Rattle.wd_lex.specs.declared.token.Terminal.{Terminal}
+use Rattle.wd_lex.specs.declared.token.Terminal.TheVariants as m
 use Rattle.wd_lex.specs.declared.token.TokenKind.{TokenKind}
 use Rattle.wd_lex.specs.declared.token.TokenKind.TheVariants as k
 use Rattle.wd_statements.specs.declared.syntax.Name.{Name}
@@ -27,35 +27,35 @@ spell_name name rest = token_of name ∷ rest
 -- [NULLS [NOT] DISTINCT]
 abbrev pub spell_nulls : Nulls → List TokenKind → List TokenKind
 spell_nulls Unsaid rest = rest
-spell_nulls Distinct rest = k.Word (codes "nulls") ∷ k.Delimiter m.Distinct ∷ rest
-spell_nulls NotDistinct rest = k.Word (codes "nulls") ∷ k.Delimiter m.Not ∷ k.Delimiter m.Distinct ∷ rest
+spell_nulls Distinct rest = k.Word (codes "nulls") ∷ k.Terminal m.Distinct ∷ rest
+spell_nulls NotDistinct rest = k.Word (codes "nulls") ∷ k.Terminal m.Not ∷ k.Terminal m.Distinct ∷ rest
 
 -- PRIMARY KEY | UNIQUE [NULLS [NOT] DISTINCT]
 abbrev pub spell_words : KeyWords → List TokenKind → List TokenKind
-spell_words Primary rest = k.Delimiter m.Primary ∷ k.Word (codes "key") ∷ rest
-spell_words (Unique nulls) rest = k.Delimiter m.Unique ∷ spell_nulls nulls rest
+spell_words Primary rest = k.Terminal m.Primary ∷ k.Word (codes "key") ∷ rest
+spell_words (Unique nulls) rest = k.Terminal m.Unique ∷ spell_nulls nulls rest
 
 -- NOT NULL | NULL | the words of a key
 abbrev pub spell_rule : Rule → List TokenKind → List TokenKind
-spell_rule rule.NotNull rest = k.Delimiter m.Not ∷ k.Delimiter m.Null ∷ rest
-spell_rule rule.Null rest = k.Delimiter m.Null ∷ rest
+spell_rule rule.NotNull rest = k.Terminal m.Not ∷ k.Terminal m.Null ∷ rest
+spell_rule rule.Null rest = k.Terminal m.Null ∷ rest
 spell_rule (rule.Key words) rest = spell_words words rest
 
 -- [CONSTRAINT name]
 abbrev pub spell_constraint : Option Name → List TokenKind → List TokenKind
 spell_constraint None rest = rest
-spell_constraint (Some name) rest = k.Delimiter m.Constraint ∷ token_of name ∷ rest
+spell_constraint (Some name) rest = k.Terminal m.Constraint ∷ token_of name ∷ rest
 
 -- {[CONSTRAINT name] rule}
 abbrev pub spell_rules : List ColumnRule → List TokenKind → List TokenKind
 spell_rules [] rest = rest
 spell_rules (r ∷ rules) rest = spell_constraint r.constraint (spell_rule r.rule (spell_rules rules rest))
 
--- items with a mark between them
-abbrev pub listed : {A : Type 0} → Delimiter → (A → List TokenKind → List TokenKind) → List A → List TokenKind → List TokenKind
-listed mark spell [] rest = rest
-listed mark spell (x ∷ []) rest = spell x rest
-listed mark spell (x ∷ y ∷ others) rest = spell x (k.Delimiter mark ∷ listed mark spell (y ∷ others) rest)
+-- items with a terminal between them
+abbrev pub listed : {A : Type 0} → Terminal → (A → List TokenKind → List TokenKind) → List A → List TokenKind → List TokenKind
+listed terminal spell [] rest = rest
+listed terminal spell (x ∷ []) rest = spell x rest
+listed terminal spell (x ∷ y ∷ others) rest = spell x (k.Terminal terminal ∷ listed terminal spell (y ∷ others) rest)
 
 -- name type {rule}
 abbrev pub spell_column : ColumnTree → List TokenKind → List TokenKind
@@ -63,7 +63,7 @@ spell_column column rest = token_of column.name ∷ token_of column.kind ∷ spe
 
 -- [CONSTRAINT name] words ( name {, name} )
 abbrev pub spell_key : KeyTree → List TokenKind → List TokenKind
-spell_key key rest = spell_constraint key.constraint (spell_words key.words (k.Delimiter m.LeftBracket ∷ listed m.Comma spell_name key.columns (k.Delimiter m.RightBracket ∷ rest)))
+spell_key key rest = spell_constraint key.constraint (spell_words key.words (k.Terminal m.LeftBracket ∷ listed m.Comma spell_name key.columns (k.Terminal m.RightBracket ∷ rest)))
 
 abbrev pub spell_element : ElementTree → List TokenKind → List TokenKind
 spell_element (Column column) rest = spell_column column rest
@@ -71,7 +71,7 @@ spell_element (Key key) rest = spell_key key rest
 
 -- CREATE TABLE name ( element {, element} )
 abbrev pub spell_table : TableTree → List TokenKind → List TokenKind
-spell_table table rest = k.Delimiter m.Create ∷ k.Delimiter m.Table ∷ token_of table.name ∷ k.Delimiter m.LeftBracket ∷ listed m.Comma spell_element table.elements (k.Delimiter m.RightBracket ∷ rest)
+spell_table table rest = k.Terminal m.Create ∷ k.Terminal m.Table ∷ token_of table.name ∷ k.Terminal m.LeftBracket ∷ listed m.Comma spell_element table.elements (k.Terminal m.RightBracket ∷ rest)
 
 -- table {; table}
 abbrev pub spell_tables : List TableTree → List TokenKind → List TokenKind
@@ -79,7 +79,7 @@ spell_tables tables rest = listed m.Semicolon spell_table tables rest
 
 -- [;]
 abbrev pub spell_stop : Bool → List TokenKind → List TokenKind
-spell_stop true rest = k.Delimiter m.Semicolon ∷ rest
+spell_stop true rest = k.Terminal m.Semicolon ∷ rest
 spell_stop false rest = rest
 
 -- [table {; table} [;]]
@@ -104,7 +104,7 @@ pub record IsSchema (schema : SchemaTree) : Type 0 where
 -- a statement ends here: at a semicolon, or where no token is left
 abbrev pub IsEnd : List TokenKind → Type 0
 IsEnd [] = ⊤
-IsEnd (k.Delimiter m.Semicolon ∷ rest) = ⊤
+IsEnd (k.Terminal m.Semicolon ∷ rest) = ⊤
 IsEnd kinds = ⊥
 
 -- the tables are the first statements of the tokens

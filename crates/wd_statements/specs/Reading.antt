@@ -1,9 +1,9 @@
 -- How the tokens of a schema are read, from left to right.
 use Rattle.std.specs.Prelude.{◌≡◌, ℕ, zero, suc, ◌==◌, ◌||◌, if◌then◌else◌, codes, List, [], ◌∷◌, ◌++◌, length, Bool, true, false, Option, Some, None, is_some, Result, Ok, Err}
 use Rattle.std.specs.Str.{bytes_eq}
-use Rattle.wd_lex.specs.Marks.{mark_code}
-use Rattle.wd_lex.specs.declared.token.Delimiter.{Delimiter}
-use Rattle.wd_lex.specs.declared.token.Delimiter.TheVariants as m
+use Rattle.wd_lex.specs.Terminals.{terminal_code}
+use Rattle.wd_lex.specs.declared.token.Terminal.{Terminal}
+use Rattle.wd_lex.specs.declared.token.Terminal.TheVariants as m
 use Rattle.wd_lex.specs.declared.token.TokenKind.{TokenKind}
 use Rattle.wd_lex.specs.declared.token.TokenKind.TheVariants as k
 use Rattle.wd_statements.specs.declared.reader.ReadError.{ReadError}
@@ -46,24 +46,24 @@ abbrev pub Finds : {X Y : Type 0} → (X → Y) → Option X → Option Y → Ty
 Finds view (Some x) found = found ≡ Some (view x)
 Finds view None found = found ≡ None
 
-abbrev pub is_mark : Delimiter → TokenKind → Bool
-is_mark x (k.Delimiter y) = mark_code y == mark_code x
-is_mark x (k.Word word) = false
-is_mark x (k.Quoted name) = false
-is_mark x (k.Literal text) = false
-is_mark x (k.Number n) = false
+abbrev pub is_terminal : Terminal → TokenKind → Bool
+is_terminal x (k.Terminal y) = terminal_code y == terminal_code x
+is_terminal x (k.Word word) = false
+is_terminal x (k.Quoted name) = false
+is_terminal x (k.Literal text) = false
+is_terminal x (k.Number n) = false
 
 abbrev pub is_word : List ℕ → TokenKind → Bool
 is_word x (k.Word word) = bytes_eq word x
-is_word x (k.Delimiter y) = false
+is_word x (k.Terminal y) = false
 is_word x (k.Quoted name) = false
 is_word x (k.Literal text) = false
 is_word x (k.Number n) = false
 
--- the tokens after a mark, where it stands first
-unfoldable pub eat : Delimiter → List TokenKind → Option (List TokenKind)
+-- the tokens after a terminal, where it stands first
+unfoldable pub eat : Terminal → List TokenKind → Option (List TokenKind)
 eat x [] = None
-eat x (y ∷ kinds) = if is_mark x y then Some kinds else None
+eat x (y ∷ kinds) = if is_terminal x y then Some kinds else None
 
 -- the tokens after a word, where it stands first
 unfoldable pub eat_word : List ℕ → List TokenKind → Option (List TokenKind)
@@ -74,7 +74,7 @@ abbrev pub some_or : ℕ → Option (List TokenKind) → Result (List TokenKind)
 some_or left (Some kinds) = Ok kinds
 some_or left None = Err left
 
-unfoldable pub expect : Delimiter → List TokenKind → Result (List TokenKind) ℕ
+unfoldable pub expect : Terminal → List TokenKind → Result (List TokenKind) ℕ
 expect x kinds = some_or (length kinds) (eat x kinds)
 
 unfoldable pub expect_word : List ℕ → List TokenKind → Result (List TokenKind) ℕ
@@ -83,7 +83,7 @@ expect_word x kinds = some_or (length kinds) (eat_word x kinds)
 abbrev pub name_of : TokenKind → List TokenKind → Reading Name
 name_of (k.Word text) kinds = Ok (Unquoted text, kinds)
 name_of (k.Quoted text) kinds = Ok (Quoted text, kinds)
-name_of (k.Delimiter x) kinds = Err (suc (length kinds))
+name_of (k.Terminal x) kinds = Err (suc (length kinds))
 name_of (k.Literal text) kinds = Err (suc (length kinds))
 name_of (k.Number n) kinds = Err (suc (length kinds))
 

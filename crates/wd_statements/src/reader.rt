@@ -12,7 +12,7 @@ use crate::syntax::{
     ColumnRule, Element, KeyWords, Name, Nulls, Rule, WrittenColumn, WrittenKey, WrittenTable,
 };
 use std::alloc::{AllocError, AllocFailed, Global};
-use wd_lex::{Delimiter, Token, TokenKind};
+use wd_lex::{Terminal, Token, TokenKind};
 use wd_value::OutOfMemory;
 
 /// Why tokens can't be read.
@@ -53,14 +53,14 @@ trait Item: Drop {
         ensures { Gives (λ x. (tree x.0, kinds_of x.1.now)) result (item (kinds_of tokens.now)) };
 }
 
-/// The tokens after a mark, if it stands first.
-#[tactic(auto, unfolding(crate::specs::Reading::eat), using(crate::proofs::ReadingFacts::one_mark, crate::proofs::ReadingFacts::other_mark))]
-fn eat(tokens: &[Token], mark: Delimiter) -> Option<&[Token]>
-    ensures { Finds (λ r. kinds_of r.now) result (eat mark (kinds_of tokens.now)) }
+/// The tokens after a terminal, if it stands first.
+#[tactic(auto, unfolding(crate::specs::Reading::eat), using(crate::proofs::ReadingFacts::one_terminal, crate::proofs::ReadingFacts::other_terminal))]
+fn eat(tokens: &[Token], terminal: Terminal) -> Option<&[Token]>
+    ensures { Finds (λ r. kinds_of r.now) result (eat terminal (kinds_of tokens.now)) }
 {
     let (first, rest) = tokens.split_first()?;
     match &first.kind {
-        TokenKind::Delimiter(found) if *found == mark => Some(rest),
+        TokenKind::Terminal(found) if *found == terminal => Some(rest),
         _ => None,
     }
 }
@@ -89,12 +89,12 @@ fn unexpected(tokens: &[Token]) -> ReadError
     ReadError::Unexpected { left: tokens.len() }
 }
 
-/// The tokens after a mark, which has to stand first.
+/// The tokens after a terminal, which has to stand first.
 #[tactic(auto, unfolding(crate::specs::Reading::expect))]
-fn expect(tokens: &[Token], mark: Delimiter) -> Result<&[Token], ReadError>
-    ensures { Gives (λ r. kinds_of r.now) result (expect mark (kinds_of tokens.now)) }
+fn expect(tokens: &[Token], terminal: Terminal) -> Result<&[Token], ReadError>
+    ensures { Gives (λ r. kinds_of r.now) result (expect terminal (kinds_of tokens.now)) }
 {
-    match eat(tokens, mark) {
+    match eat(tokens, terminal) {
         Some(rest) => Ok(rest),
         None => Err(unexpected(tokens)),
     }
@@ -134,9 +134,9 @@ fn read_nulls(tokens: &[Token]) -> Result<(Nulls, &[Token]), ReadError>
     let Some(rest) = eat_word(tokens, "nulls") else {
         return Ok((Nulls::Unsaid, tokens));
     };
-    match eat(rest, Delimiter::Not) {
-        Some(rest) => Ok((Nulls::NotDistinct, expect(rest, Delimiter::Distinct)?)),
-        None => Ok((Nulls::Distinct, expect(rest, Delimiter::Distinct)?)),
+    match eat(rest, Terminal::Not) {
+        Some(rest) => Ok((Nulls::NotDistinct, expect(rest, Terminal::Distinct)?)),
+        None => Ok((Nulls::Distinct, expect(rest, Terminal::Distinct)?)),
     }
 }
 
@@ -145,10 +145,10 @@ fn read_nulls(tokens: &[Token]) -> Result<(Nulls, &[Token]), ReadError>
 fn read_words(tokens: &[Token]) -> Result<(KeyWords, &[Token]), ReadError>
     ensures { Gives (λ x. (x.0, kinds_of x.1.now)) result (words_at (kinds_of tokens.now)) }
 {
-    match eat(tokens, Delimiter::Primary) {
+    match eat(tokens, Terminal::Primary) {
         Some(rest) => Ok((KeyWords::Primary, expect_word(rest, "key")?)),
         None => {
-            let rest = expect(tokens, Delimiter::Unique)?;
+            let rest = expect(tokens, Terminal::Unique)?;
             let (nulls, rest) = read_nulls(rest)?;
             Ok((KeyWords::Unique(nulls), rest))
         }
@@ -160,10 +160,10 @@ fn read_words(tokens: &[Token]) -> Result<(KeyWords, &[Token]), ReadError>
 fn read_rule(tokens: &[Token]) -> Result<(Rule, &[Token]), ReadError>
     ensures { Gives (λ x. (x.0, kinds_of x.1.now)) result (rule_at (kinds_of tokens.now)) }
 {
-    if let Some(rest) = eat(tokens, Delimiter::Not) {
-        return Ok((Rule::NotNull, expect(rest, Delimiter::Null)?));
+    if let Some(rest) = eat(tokens, Terminal::Not) {
+        return Ok((Rule::NotNull, expect(rest, Terminal::Null)?));
     }
-    if let Some(rest) = eat(tokens, Delimiter::Null) {
+    if let Some(rest) = eat(tokens, Terminal::Null) {
         return Ok((Rule::Null, rest));
     }
     let (words, rest) = read_words(tokens)?;
@@ -175,7 +175,7 @@ fn read_rule(tokens: &[Token]) -> Result<(Rule, &[Token]), ReadError>
 fn read_constraint(alloc: Global, tokens: &[Token]) -> Result<(Option<Name>, &[Token]), ReadError>
     ensures { Gives (λ x. (x.0, kinds_of x.1.now)) result (constraint_at (kinds_of tokens.now)) }
 {
-    match eat(tokens, Delimiter::Constraint) {
+    match eat(tokens, Terminal::Constraint) {
         Some(rest) => {
             let (name, rest) = read_name(alloc, rest)?;
             Ok((Some(name), rest))
@@ -198,7 +198,7 @@ fn read_column_rule(alloc: Global, tokens: &[Token]) -> Result<(ColumnRule, &[To
 fn ends_column(tokens: &[Token]) -> bool
     ensures { result ≡ ends_column (kinds_of tokens.now) }
 {
-    eat(tokens, Delimiter::Comma).is_some() || eat(tokens, Delimiter::RightBracket).is_some()
+    eat(tokens, Terminal::Comma).is_some() || eat(tokens, Terminal::RightBracket).is_some()
 }
 
 /// The rules of a column, up to the comma or bracket that ends it.
@@ -228,7 +228,7 @@ fn read_list<T: Item>(alloc: Global, tokens: &[Token]) -> Result<(Vec<T>, &[Toke
     let mut items = Vec::new(alloc);
     items.push(first)?;
     for _ in 0..tokens.len() {
-        let Some(after) = eat(rest, Delimiter::Comma) else {
+        let Some(after) = eat(rest, Terminal::Comma) else {
             break;
         };
         let (item, after) = T::read(alloc, after)?;
@@ -269,9 +269,9 @@ fn read_key(alloc: Global, tokens: &[Token]) -> Result<(WrittenKey, &[Token]), R
 {
     let (constraint, rest) = read_constraint(alloc, tokens)?;
     let (words, rest) = read_words(rest)?;
-    let rest = expect(rest, Delimiter::LeftBracket)?;
+    let rest = expect(rest, Terminal::LeftBracket)?;
     let (columns, rest) = read_list(alloc, rest)?;
-    let rest = expect(rest, Delimiter::RightBracket)?;
+    let rest = expect(rest, Terminal::RightBracket)?;
     let key = WrittenKey {
         constraint,
         words,
@@ -285,9 +285,9 @@ fn read_key(alloc: Global, tokens: &[Token]) -> Result<(WrittenKey, &[Token]), R
 fn begins_key(tokens: &[Token]) -> bool
     ensures { result ≡ begins_key (kinds_of tokens.now) }
 {
-    eat(tokens, Delimiter::Constraint).is_some()
-        || eat(tokens, Delimiter::Primary).is_some()
-        || eat(tokens, Delimiter::Unique).is_some()
+    eat(tokens, Terminal::Constraint).is_some()
+        || eat(tokens, Terminal::Primary).is_some()
+        || eat(tokens, Terminal::Unique).is_some()
 }
 
 impl Item for Element {
@@ -316,12 +316,12 @@ impl Item for Element {
 fn read_table(alloc: Global, tokens: &[Token]) -> Result<(WrittenTable, &[Token]), ReadError>
     ensures { Gives (λ x. (table_tree x.0, kinds_of x.1.now)) result (table_at (kinds_of tokens.now)) }
 {
-    let rest = expect(tokens, Delimiter::Create)?;
-    let rest = expect(rest, Delimiter::Table)?;
+    let rest = expect(tokens, Terminal::Create)?;
+    let rest = expect(rest, Terminal::Table)?;
     let (name, rest) = read_name(alloc, rest)?;
-    let rest = expect(rest, Delimiter::LeftBracket)?;
+    let rest = expect(rest, Terminal::LeftBracket)?;
     let (elements, rest) = read_list(alloc, rest)?;
-    let rest = expect(rest, Delimiter::RightBracket)?;
+    let rest = expect(rest, Terminal::RightBracket)?;
     Ok((WrittenTable { name, elements }, rest))
 }
 
@@ -350,7 +350,7 @@ fn read_stop(tokens: &[Token]) -> Result<(bool, &[Token]), ReadError>
     if tokens.is_empty() {
         return Ok((false, tokens));
     }
-    let rest = expect(tokens, Delimiter::Semicolon)?;
+    let rest = expect(tokens, Terminal::Semicolon)?;
     Ok((true, rest))
 }
 

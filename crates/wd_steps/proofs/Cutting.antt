@@ -3,7 +3,7 @@ use Rattle.std.proofs.Common.{◌≡◌, ℕ, zero, suc, ◌+◌, ◌-◌, ◌<�
 use Rattle.std.specs.List.{prefix_len}
 use Rattle.std.proofs.lemmas.List.{take-map, take_min, drop_min, length-map, length-take, get_or-map}
 use Rattle.wd_value.specs.Rows.{Row, row_at, rows_at}
-use Rattle.wd_plan.specs.declared.plan.OrderItem.{OrderItem}
+use Rattle.wd_value.specs.declared.order.SortColumn.{SortColumn}
 use Rattle.wd_plan.specs.Outcomes.{first_rows, peers}
 
 drop-map : {X Y : Type 0} (f : X → Y) (n : ℕ) (xs : List X) → drop n (map f xs) ≡ map f (drop n xs)
@@ -11,13 +11,13 @@ drop-map f zero xs = refl
 drop-map f (suc n) [] = refl
 drop-map f (suc n) (x ∷ xs) = drop-map f n xs
 
-pub first_rows-take : (keys : List OrderItem) (n : ℕ) (rows : List Row) → first_rows keys false n rows ≡ take n rows
+pub first_rows-take : (keys : List SortColumn) (n : ℕ) (rows : List Row) → first_rows keys false n rows ≡ take n rows
 first_rows-take keys zero rows = refl
 first_rows-take keys (suc n) [] = refl
 first_rows-take keys (suc zero) (r ∷ rows) = refl
 first_rows-take keys (suc (suc n)) (r ∷ rows) = ap (λ rs. r ∷ rs) (first_rows-take keys (suc n) rows)
 
-pub first_rows-none : (keys : List OrderItem) (ties : Bool) (n : ℕ) (rows : List Row) → min n (length rows) ≡ 0 → first_rows keys ties n rows ≡ []
+pub first_rows-none : (keys : List SortColumn) (ties : Bool) (n : ℕ) (rows : List Row) → min n (length rows) ≡ 0 → first_rows keys ties n rows ≡ []
 first_rows-none keys ties zero rows e = refl
 first_rows-none keys ties (suc n) [] e = refl
 first_rows-none keys ties (suc n) (r ∷ rows) e = absurd (omega arith)
@@ -28,7 +28,7 @@ take_while-take t xs = ap (λ k. take k xs) (length-take (prefix_len t xs) xs) �
 take-cons : {X : Type 0} (x : X) (xs : List X) (n k : ℕ) → n ≡ suc k → take n (x ∷ xs) ≡ x ∷ take k xs
 take-cons x xs n k e = ap (λ m. take m (x ∷ xs)) e
 
-module _ (keys : List OrderItem) (last : Row) where
+module _ (keys : List SortColumn) (last : Row) where
   -- the rows up to here, and those that follow and tie with the last
   abbrev and_peers : ℕ → List Row → List Row
   and_peers end rows = take (end + length (take_while (peers keys last) (drop end rows))) rows
@@ -50,7 +50,7 @@ module _ (keys : List OrderItem) (last : Row) where
       ap (λ rs. r ∷ rs) (first_rows-ties (suc n) (q ∷ rows) place (omega arith) is)
       ∙ sym (take-cons r (q ∷ rows) (suc (suc place) + length (take_while (peers keys last) (drop (suc place) (q ∷ rows)))) _ (omega arith))
 
-module _ (keys : List OrderItem) (rows : List Row) (ordering : List ℕ) (n end : ℕ) (is : end ≡ min n (length ordering)) where
+module _ (keys : List SortColumn) (rows : List Row) (ordering : List ℕ) (n end : ℕ) (is : end ≡ min n (length ordering)) where
   rows_long : end ≡ min n (length (rows_at rows ordering))
   rows_long = is ∙ ap (min n) (sym (length-map ordering (row_at rows)))
 
@@ -73,6 +73,6 @@ module _ (keys : List OrderItem) (rows : List Row) (ordering : List ℕ) (n end 
       ∙ ap (λ k. take (end + k) (rows_at rows ordering)) (counted ∙ ap (λ rs. length (take_while (peers keys last) rs)) (sym (drop-map (row_at rows) end ordering)))
       ∙ sym (ap (λ t. first_rows keys t n (rows_at rows ordering)) with_ties ∙ first_rows-ties keys last n (rows_at rows ordering) (end - 1) (here ∙ rows_long) at ∙ ap (λ e. and_peers keys last e (rows_at rows ordering)) here)
 
-pub rows_behind : (rows : List Row) (ordering : List ℕ) (offset start : ℕ) → start ≡ min offset (length ordering) → rows_at rows (drop start ordering) ≡ drop offset (rows_at rows ordering)
-rows_behind rows ordering offset start is =
+pub rows_after : (rows : List Row) (ordering : List ℕ) (offset start : ℕ) → start ≡ min offset (length ordering) → rows_at rows (drop start ordering) ≡ drop offset (rows_at rows ordering)
+rows_after rows ordering offset start is =
     ap (λ k. rows_at rows (drop k ordering)) is ∙ ap (rows_at rows) (drop_min offset ordering) ∙ sym (drop-map (row_at rows) offset ordering)

@@ -2,57 +2,48 @@
 
 ghost use Rattle.std.specs.Prelude.{◌≡◌, IfOk, length, take_while};
 ghost use Rattle.wd_plan.specs.Outcomes.{cut, first_rows, peers};
+ghost use Rattle.wd_plan.specs.Plans.{limit_of};
 ghost use Rattle.wd_value.specs.Rows.{rows_of, rows_at};
 
 use crate::peers::are_peers;
 use crate::rows::rows_in;
 use std::alloc::Global;
-use wd_plan::OrderItem;
+use wd_plan::Limit;
 use wd_sort::row_in;
-use wd_value::{OutOfMemory, Row, Value};
+use wd_value::{OutOfMemory, Row, SortColumn, Value};
 
 /// What a Limit keeps of the rows as an ordering of their positions has them: those after the
 /// offset, and where there is a count the first of them, with ties also those that follow and tie
 /// with the last of these.
 pub fn cut_rows(
     alloc: Global,
-    keys: &[OrderItem],
-    offset: u64,
-    count: Option<u64>,
-    ties: bool,
+    limit: &Limit,
     rows: &[Row],
     ordering: &[u64],
 ) -> Result<Vec<Row>, OutOfMemory>
-    ensures { IfOk result (λ v. rows_of v.items ≡ cut (record { keys = keys.now; offset = offset; count = count; ties = ties }) (rows_at (rows_of rows.now) ordering.now)) }
+    ensures { IfOk result (λ v. rows_of v.items ≡ cut (limit_of limit.now) (rows_at (rows_of rows.now) ordering.now)) }
 {
-    let kept = kept_positions(keys, offset, count, ties, rows, ordering);
+    let kept = kept_positions(limit, rows, ordering);
     let picked = rows_in(alloc, rows, kept)?;
     Ok(picked)
 }
 
 /// The part of the ordering that stands for the rows kept.
-fn kept_positions<'a>(
-    keys: &[OrderItem],
-    offset: u64,
-    count: Option<u64>,
-    ties: bool,
-    rows: &[Row],
-    ordering: &'a [u64],
-) -> &'a [u64]
-    ensures { rows_at (rows_of rows.now) result.now ≡ cut (record { keys = keys.now; offset = offset; count = count; ties = ties }) (rows_at (rows_of rows.now) ordering.now) }
+fn kept_positions<'a>(limit: &Limit, rows: &[Row], ordering: &'a [u64]) -> &'a [u64]
+    ensures { rows_at (rows_of rows.now) result.now ≡ cut (limit_of limit.now) (rows_at (rows_of rows.now) ordering.now) }
 {
-    let start = (offset as usize).min(ordering.len());
+    let start = (limit.offset as usize).min(ordering.len());
     let rest = &ordering[start..];
-    match count {
+    match limit.count {
         None => rest,
-        Some(count) => first_positions(keys, ties, count, rows, rest),
+        Some(count) => first_positions(&limit.keys, limit.ties, count, rows, rest),
     }
 }
 
 /// The first positions of an ordering, and with ties those of the rows that follow and tie with the
 /// last one; none where the count is 0.
 fn first_positions<'a>(
-    keys: &[OrderItem],
+    keys: &[SortColumn],
     ties: bool,
     count: u64,
     rows: &[Row],
@@ -70,7 +61,7 @@ fn first_positions<'a>(
 }
 
 /// How many rows at the front tie with this one.
-fn count_peers(keys: &[OrderItem], row: &[Value], rows: &[Row], ordering: &[u64]) -> usize
+fn count_peers(keys: &[SortColumn], row: &[Value], rows: &[Row], ordering: &[u64]) -> usize
     ensures { result ≡ length (take_while (peers keys.now row.now) (rows_at (rows_of rows.now) ordering.now)) }
 {
     for (count, position) in ordering.iter().enumerate() {

@@ -1,8 +1,8 @@
 -- What a well-levelled expression spells is read as that expression, or passes a limit that the expression passes.
 use Rattle.std.proofs.Common.{◌≡◌, ◌≢◌, ℕ, zero, suc, ◌+◌, ◌<◌, ◌≤◌, ◌⊎◌, inl, inr, Bool, true, false, List, [], ◌∷◌, length, Option, Some, None, Ok, Err, refl, sym, ap, subst, ◌∙◌, arith, ⊎_elim}
 use Rattle.std.proofs.lemmas.Bool.{cases_lt}
-use Rattle.wd_lex.specs.declared.token.Delimiter.{Delimiter}
-use Rattle.wd_lex.specs.declared.token.Delimiter.TheVariants as m
+use Rattle.wd_lex.specs.declared.token.Terminal.{Terminal}
+use Rattle.wd_lex.specs.declared.token.Terminal.TheVariants as m
 use Rattle.wd_lex.specs.declared.token.TokenKind.TheVariants as t
 use Rattle.wd_syntax.specs.declared.name.Name.{Name}
 use Rattle.wd_syntax.specs.declared.frame.Frame.{Frame}
@@ -24,13 +24,13 @@ use Rattle.wd_syntax.specs.declared.expression.SortDirection.{SortDirection}
 use Rattle.wd_syntax.specs.declared.expression.SortDirection.TheVariants.{Ascending, Descending}
 use Rattle.wd_syntax.specs.declared.expression.NullsPlace.{NullsPlace}
 use Rattle.wd_syntax.specs.declared.expression.NullsPlace.TheVariants as p
-use Rattle.wd_syntax.specs.Tokens.{Kinds, ◌▸◌, written, name_kind, literal_kind, operator_mark, sign_mark, operator_height}
+use Rattle.wd_syntax.specs.Tokens.{Kinds, ◌▸◌, written, name_kind, literal_kind, operator_terminal, sign_terminal, operator_height}
 use Rattle.wd_syntax.specs.Tree.{Tree, Constant, Column, Qualified, CallAll, Call, Case, Bracket, Signed, Binary, IsNull, Negated, Trees, no_trees, more_trees, Arms, no_arms, more_arms, Otherwise, no_else, or_else, OverTree, no_over, over_name, over_window, WindowTree, window, Keys, no_keys, more_keys, Key, trees_of, arms_of, keys_of, Each}
 use Rattle.wd_syntax.specs.Spelling.{mode_onto, bound_onto, extent_onto, exclusion_onto, frame_onto, direction_onto, nulls_onto, not_onto, base_onto, onto, list_onto, more_onto, arms_onto, else_onto, over_onto, window_onto, partition_onto, order_onto, more_keys_onto}
 use Rattle.wd_syntax.specs.Levels.{height, left_height, IsLevelled, AreLevelled, ArmsLevelled, ElseLevelled, OverLevelled, WindowLevelled, KeysLevelled}
 use Rattle.wd_syntax.specs.Limits.{operators, Below, Fits, AllFit, ArmsFit, ElseFits, OverFits, WindowFits, KeysFit}
 use Rattle.wd_syntax.specs.Reading.{Unexpected, Limit, ◌>>=◌, Reads, Parser, Chance, eat, expect, eat_name, operator_at, sign_at, many, after, list_at, frame_at, direction_at, nulls_at, key_at, partition_at, order_at, window_at, links, compared, null_at, tests, arguments_at, call_of, enter, over_at, call_at, named_at, arm_at, else_at, case_at, bracket_at, primary, goes_on, levels, deeper_of, star_at}
-use Rattle.wd_syntax.proofs.Marking.{eat_same, expect_same, eat_name_same, name_at_same, eat_name_kind, sign_name_kind, grips, eat_other, grip_stops, eqb-same, eqb-below, operator_stops, operator_same, operator_grip, operator_bounds, sign_same, clauses, clause_stops, clause_grips}
+use Rattle.wd_syntax.proofs.TerminalFacts.{eat_same, expect_same, eat_name_same, name_at_same, eat_name_kind, sign_name_kind, grips, eat_other, grip_stops, eqb-same, eqb-below, operator_stops, operator_same, operator_grip, operator_bounds, sign_same, clauses, clause_stops, clause_grips}
 use Rattle.wd_syntax.proofs.Pieces.{frame_same, frame_clause, direction_same, nulls_same, nulls_begins, base_same}
 
 -- a value and the tokens after it; a limit is met only where F fails
@@ -83,15 +83,15 @@ many_yields F item (suc n) (x ∷ xs) ts rest le h =
     (then_yields (F x) (Each F (x ∷ xs)) (x, h.0) (x ∷ xs, rest) h.1 (λ a. many item n a.1 >>= λ ys. Ok (a.0 ∷ ys.0, ys.1)) (λ f. f.0) h.3
     (then_yields (Each F xs) (Each F (x ∷ xs)) (xs, rest) (x ∷ xs, rest) (many item n h.0) (λ ys. Ok (x ∷ ys.0, ys.1)) (λ f. f.1) (many_yields F item n xs h.0 rest (omega arith) h.5) refl))
 
-pub after_same : {A : Type 0} (x : Delimiter) (item : Parser A) (ts : Kinds) → after x item (x ▸ ts) ≡ Some (item ts)
+pub after_same : {A : Type 0} (x : Terminal) (item : Parser A) (ts : Kinds) → after x item (x ▸ ts) ≡ Some (item ts)
 unfolding after
 after_same x item ts = rw (eat_same x ts) refl
 
-pub after_none : {A : Type 0} (x : Delimiter) (item : Parser A) (ts : Kinds) → eat x ts ≡ None → after x item ts ≡ None
+pub after_none : {A : Type 0} (x : Terminal) (item : Parser A) (ts : Kinds) → eat x ts ≡ None → after x item ts ≡ None
 unfolding after
 after_none x item ts e = rw e refl
 
-pub list_yields : {A : Type 0} (F : A → Type 0) (x : Delimiter) (item : Parser A) (a : A) (xs : List A) (ts mid rest : Kinds) → Yields (F a) (a, mid) (item ts) → Turns F (after x item) xs mid rest → Yields (Each F (a ∷ xs)) (a ∷ xs, rest) (list_at x item ts)
+pub list_yields : {A : Type 0} (F : A → Type 0) (x : Terminal) (item : Parser A) (a : A) (xs : List A) (ts mid rest : Kinds) → Yields (F a) (a, mid) (item ts) → Turns F (after x item) xs mid rest → Yields (Each F (a ∷ xs)) (a ∷ xs, rest) (list_at x item ts)
 unfolding list_at
 list_yields F x item a xs ts mid rest y h =
     then_yields (F a) (Each F (a ∷ xs)) (a, mid) (a ∷ xs, rest) (item ts) (λ z. many (after x item) (length z.1) z.1 >>= λ ys. Ok (z.0 ∷ ys.0, ys.1)) (λ f. f.0) y
@@ -159,12 +159,12 @@ begins (Case arms other) ts wl = (λ _. refl, λ _. refl)
 begins (Bracket a) ts wl = (λ _. refl, λ _. refl)
 begins (Signed s.Plus a) ts wl = (λ h. absurd (omega arith), λ _. refl)
 begins (Signed s.Minus a) ts wl = (λ h. absurd (omega arith), λ _. refl)
-begins (Binary o a b) ts wl = let i = begins a (operator_mark o ▸ onto b ts) wl.0 in (λ h. absurd (omega (arith, operator_bounds o)), λ h. i.1 (omega (arith, operator_bounds o, wl.1)))
+begins (Binary o a b) ts wl = let i = begins a (operator_terminal o ▸ onto b ts) wl.0 in (λ h. absurd (omega (arith, operator_bounds o)), λ h. i.1 (omega (arith, operator_bounds o, wl.1)))
 begins (IsNull a not) ts wl = let i = begins a (m.Is ▸ not_onto not (m.Null ▸ ts)) wl.0 in (λ h. absurd (omega arith), λ h. i.1 (omega (arith, wl.1)))
 begins (Negated a) ts wl = (λ h. absurd (omega arith), λ h. absurd (omega arith))
 
--- the marks that begin an expression
-abbrev start : Delimiter → ℕ
+-- the terminals that begin an expression
+abbrev start : Terminal → ℕ
 start m.Plus = 1
 start m.Minus = 1
 start m.Not = 1
@@ -177,13 +177,13 @@ start _ = 0
 
 abbrev pub IsBegun : Kinds → Type 0
 IsBegun [] = ⊥
-IsBegun (t.Delimiter x ∷ ts) = start x ≡ 1
+IsBegun (t.Terminal x ∷ ts) = start x ≡ 1
 IsBegun (_ ∷ ts) = Unit {0}
 
-pub begun_stops : (x : Delimiter) (ts : Kinds) → start x ≡ 0 → IsBegun ts → eat x ts ≡ None
+pub begun_stops : (x : Terminal) (ts : Kinds) → start x ≡ 0 → IsBegun ts → eat x ts ≡ None
 unfolding eat
 begun_stops x [] e h = refl
-begun_stops x (t.Delimiter y ∷ ts) e h = eat_other x y ts (λ same. let q : start y ≡ start x = ap start same in omega arith)
+begun_stops x (t.Terminal y ∷ ts) e h = eat_other x y ts (λ same. let q : start y ≡ start x = ap start same in omega arith)
 begun_stops x (t.Word text ∷ ts) e h = refl
 begun_stops x (t.Quoted text ∷ ts) e h = refl
 begun_stops x (t.Literal text ∷ ts) e h = refl
@@ -210,7 +210,7 @@ begun (Case arms other) ts = refl
 begun (Bracket a) ts = refl
 begun (Signed s.Plus a) ts = refl
 begun (Signed s.Minus a) ts = refl
-begun (Binary o a b) ts = begun a (operator_mark o ▸ onto b ts)
+begun (Binary o a b) ts = begun a (operator_terminal o ▸ onto b ts)
 begun (IsNull a not) ts = begun a (m.Is ▸ not_onto not (m.Null ▸ ts))
 begun (Negated a) ts = refl
 
@@ -226,7 +226,7 @@ star_unnamed : (ts : Kinds) → eat_name ts ≡ None → star_at ts ≡ None
 unfolding star_at
 star_unnamed ts e = rw e refl
 
-unnamed : (x : Delimiter) (ts : Kinds) → eat_name (x ▸ ts) ≡ None
+unnamed : (x : Terminal) (ts : Kinds) → eat_name (x ▸ ts) ≡ None
 unfolding eat_name
 unnamed x ts = refl
 
@@ -240,8 +240,8 @@ star_stops (CallAll f over) ts lt = star_none f (m.LeftBracket ▸ m.Star ▸ m.
 star_stops (Call f bs over) ts lt = star_none f (m.LeftBracket ▸ list_onto bs (m.RightBracket ▸ over_onto over ts)) refl
 star_stops (Case arms other) ts lt = star_unnamed (m.Case ▸ arms_onto arms (else_onto other (m.End ▸ ts))) (unnamed m.Case (arms_onto arms (else_onto other (m.End ▸ ts))))
 star_stops (Bracket a) ts lt = star_unnamed (m.LeftBracket ▸ onto a (m.RightBracket ▸ ts)) (unnamed m.LeftBracket (onto a (m.RightBracket ▸ ts)))
-star_stops (Signed s a) ts lt = star_unnamed (sign_mark s ▸ onto a ts) (unnamed (sign_mark s) (onto a ts))
-star_stops (Binary o a b) ts lt = star_stops a (operator_mark o ▸ onto b ts) (omega (arith, operator_grip o, operator_bounds o))
+star_stops (Signed s a) ts lt = star_unnamed (sign_terminal s ▸ onto a ts) (unnamed (sign_terminal s) (onto a ts))
+star_stops (Binary o a b) ts lt = star_stops a (operator_terminal o ▸ onto b ts) (omega (arith, operator_grip o, operator_bounds o))
 star_stops (IsNull a not) ts lt = star_stops a (m.Is ▸ not_onto not (m.Null ▸ ts)) (omega arith)
 star_stops (Negated a) ts lt = star_unnamed (m.Not ▸ onto a ts) (unnamed m.Not (onto a ts))
 
@@ -274,10 +274,10 @@ stops (suc (suc (suc zero))) p n a ts lt = rw (operator_stops 4 ts lt) refl
 stops (suc (suc (suc (suc zero)))) p n a ts lt = stops_tests n a ts lt
 stops (suc (suc (suc (suc (suc g))))) p n a ts lt = stops_links p (suc (suc (suc (suc (suc (suc g)))))) n a ts lt
 
--- marks that are not the one sought
-other_marks : (ts : Kinds) → (eat m.Not (m.Null ▸ ts) ≡ None) × (eat m.Comma (m.RightBracket ▸ ts) ≡ None) × (eat m.Star (m.RightBracket ▸ ts) ≡ None) × (eat m.Dot (m.LeftBracket ▸ ts) ≡ None) × (eat m.Else (m.End ▸ ts) ≡ None)
+-- terminals that are not the one sought
+other_terminals : (ts : Kinds) → (eat m.Not (m.Null ▸ ts) ≡ None) × (eat m.Comma (m.RightBracket ▸ ts) ≡ None) × (eat m.Star (m.RightBracket ▸ ts) ≡ None) × (eat m.Dot (m.LeftBracket ▸ ts) ≡ None) × (eat m.Else (m.End ▸ ts) ≡ None)
 unfolding eat
-other_marks ts = (refl, refl, refl, refl, refl)
+other_terminals ts = (refl, refl, refl, refl, refl)
 
 when_stops : (other : Otherwise) (ts : Kinds) → (eat m.When (else_onto other (m.End ▸ ts)) ≡ None) × (8 < grips (else_onto other (m.End ▸ ts)))
 unfolding eat
@@ -371,7 +371,7 @@ mutual
   longer (Case arms other) ts = omega (arith, arms_longer arms (else_onto other (m.End ▸ ts)), else_longer other (m.End ▸ ts))
   longer (Bracket a) ts = omega (arith, longer a (m.RightBracket ▸ ts))
   longer (Signed s a) ts = omega (arith, longer a ts)
-  longer (Binary o a b) ts = omega (arith, longer a (operator_mark o ▸ onto b ts), longer b ts)
+  longer (Binary o a b) ts = omega (arith, longer a (operator_terminal o ▸ onto b ts), longer b ts)
   longer (IsNull a not) ts = omega (arith, longer a (m.Is ▸ not_onto not (m.Null ▸ ts)), not_longer not (m.Null ▸ ts))
   longer (Negated a) ts = omega (arith, longer a ts)
 
@@ -521,14 +521,14 @@ module _ (c : ℕ) where
   pub operators_more : (o : Operator) (a b : Tree) (h : ℕ) → operator_height o ≡ h → operators h (Binary o a b) ≡ suc (operators h a)
   operators_more o a b h e = rw (e, eqb-same h) refl
 
-  operator_here : (h : ℕ) (o : Operator) (ts : Kinds) → operator_height o ≡ h → operator_at h (operator_mark o ▸ ts) ≡ Some (o, ts)
-  operator_here h o ts e = subst (λ k. operator_at k (operator_mark o ▸ ts) ≡ Some (o, ts)) e (operator_same o ts)
+  operator_here : (h : ℕ) (o : Operator) (ts : Kinds) → operator_height o ≡ h → operator_at h (operator_terminal o ▸ ts) ≡ Some (o, ts)
+  operator_here h o ts e = subst (λ k. operator_at k (operator_terminal o ▸ ts) ≡ Some (o, ts)) e (operator_same o ts)
 
-  link_full : (p : Parser Tree) (h : ℕ) (o : Operator) (a : Tree) (ts : Kinds) → operator_height o ≡ h → links p h 0 a (operator_mark o ▸ ts) ≡ Err (Limit (length (operator_mark o ▸ ts)))
+  link_full : (p : Parser Tree) (h : ℕ) (o : Operator) (a : Tree) (ts : Kinds) → operator_height o ≡ h → links p h 0 a (operator_terminal o ▸ ts) ≡ Err (Limit (length (operator_terminal o ▸ ts)))
   unfolding links
   link_full p h o a ts e = rw (operator_here h o ts e) refl
 
-  link_one : (p : Parser Tree) (h n : ℕ) (o : Operator) (a : Tree) (ts : Kinds) → operator_height o ≡ h → links p h (suc n) a (operator_mark o ▸ ts) ≡ p ts >>= λ b. links p h n (Binary o a b.0) b.1
+  link_one : (p : Parser Tree) (h n : ℕ) (o : Operator) (a : Tree) (ts : Kinds) → operator_height o ≡ h → links p h (suc n) a (operator_terminal o ▸ ts) ≡ p ts >>= λ b. links p h n (Binary o a b.0) b.1
   unfolding links
   link_one p h n o a ts e = rw (operator_here h o ts e) refl
 
@@ -537,21 +537,21 @@ module _ (c : ℕ) where
   chain_operand g d n o a b rest ch e (Err (Limit n')) y = inr (n', refl, λ f. y f.1)
   chain_operand g d n o a b rest ch e (Err Unexpected) y = absurd y
 
-  chain_on : (g d n : ℕ) (o : Operator) (a b : Tree) (rest : Kinds) (r : Reads Tree) → IsChain g o → n + operators (suc g) a ≡ c → r ≡ goes_on g (level d g) n a (operator_mark o ▸ onto b rest) → Yields (Fits c d b) (b, rest) (level d g (onto b rest)) → Leads g d (Binary o a b) rest r
+  chain_on : (g d n : ℕ) (o : Operator) (a b : Tree) (rest : Kinds) (r : Reads Tree) → IsChain g o → n + operators (suc g) a ≡ c → r ≡ goes_on g (level d g) n a (operator_terminal o ▸ onto b rest) → Yields (Fits c d b) (b, rest) (level d g (onto b rest)) → Leads g d (Binary o a b) rest r
   chain_on g d zero o a b rest r ch e er y =
-      inr (length (operator_mark o ▸ onto b rest), er ∙ ch.goes (level d g) 0 a (operator_mark o ▸ onto b rest) ∙ link_full (level d g) (suc g) o a (onto b rest) ch.op, λ f. let q : operators (suc g) (Binary o a b) ≤ c = subst (λ k. operators k (Binary o a b) ≤ c) ch.op f.2 in omega (arith, operators_more o a b (suc g) ch.op, q))
+      inr (length (operator_terminal o ▸ onto b rest), er ∙ ch.goes (level d g) 0 a (operator_terminal o ▸ onto b rest) ∙ link_full (level d g) (suc g) o a (onto b rest) ch.op, λ f. let q : operators (suc g) (Binary o a b) ≤ c = subst (λ k. operators k (Binary o a b) ≤ c) ch.op f.2 in omega (arith, operators_more o a b (suc g) ch.op, q))
   chain_on g d (suc n) o a b rest r ch e er y =
-      subst (Leads g d (Binary o a b) rest) (sym (er ∙ ch.goes (level d g) (suc n) a (operator_mark o ▸ onto b rest) ∙ link_one (level d g) (suc g) n o a (onto b rest) ch.op)) (chain_operand g d n o a b rest ch e (level d g (onto b rest)) y)
+      subst (Leads g d (Binary o a b) rest) (sym (er ∙ ch.goes (level d g) (suc n) a (operator_terminal o ▸ onto b rest) ∙ link_one (level d g) (suc g) n o a (onto b rest) ch.op)) (chain_operand g d n o a b rest ch e (level d g (onto b rest)) y)
 
   chain : (g : ℕ) (o : Operator) (a b : Tree) (d : ℕ) → IsChain g o → IsLevelled (Binary o a b) → Known d a → Known d b → Known d (Binary o a b)
   chain g o a b d ch wl ka kb =
       looped g (Binary o a b) d wl ch.op ch.n0 ch.n5 (λ rest lt.
       let y = kb.0 g rest (omega (arith, wl.3, ch.op)) lt in
-      let next : g < grips (operator_mark o ▸ onto b rest) = omega (arith, operator_grip o, ch.op) in
+      let next : g < grips (operator_terminal o ▸ onto b rest) = omega (arith, operator_grip o, ch.op) in
       ⊎_elim
-      (λ k. chain_on g d k.0 o a b rest (level d (suc g) (onto a (operator_mark o ▸ onto b rest))) ch k.1 k.2 y)
+      (λ k. chain_on g d k.0 o a b rest (level d (suc g) (onto a (operator_terminal o ▸ onto b rest))) ch k.1 k.2 y)
       (λ k. inr (k.0, k.1, λ f. k.2 f.0))
-      (ka.1 g (operator_mark o ▸ onto b rest) ch.n0 ch.n3 ch.n5 (omega (arith, wl.1, ch.left)) next))
+      (ka.1 g (operator_terminal o ▸ onto b rest) ch.n0 ch.n3 ch.n5 (omega (arith, wl.1, ch.left)) next))
 
   -- ---- one comparison
 
@@ -560,26 +560,26 @@ module _ (c : ℕ) where
   compare_operand d o a b rest (Err (Limit n')) y = λ f. y f.1
   compare_operand d o a b rest (Err Unexpected) y = absurd y
 
-  compared_one : (p : Parser Tree) (o : Operator) (a : Tree) (ts : Kinds) → operator_height o ≡ 4 → compared p a (operator_mark o ▸ ts) ≡ p ts >>= λ b. Ok (Binary o a b.0, b.1)
+  compared_one : (p : Parser Tree) (o : Operator) (a : Tree) (ts : Kinds) → operator_height o ≡ 4 → compared p a (operator_terminal o ▸ ts) ≡ p ts >>= λ b. Ok (Binary o a b.0, b.1)
   unfolding compared
   compared_one p o a ts e = rw (operator_here 4 o ts e) refl
 
   comparison : (o : Operator) (a b : Tree) (d : ℕ) → operator_height o ≡ 4 → left_height o ≡ 3 → IsLevelled (Binary o a b) → Known d a → Known d b → Known d (Binary o a b)
   comparison o a b d e4 e3 wl ka kb =
       plain (Binary o a b) d wl (λ g n0 n3 n5 le. omega (arith, e4)) (λ rest lt.
-      let next : 3 < grips (operator_mark o ▸ onto b rest) = omega (arith, operator_grip o, e4) in
-      let ya = ka.0 3 (operator_mark o ▸ onto b rest) (omega (arith, wl.1, e3)) next in
+      let next : 3 < grips (operator_terminal o ▸ onto b rest) = omega (arith, operator_grip o, e4) in
+      let ya = ka.0 3 (operator_terminal o ▸ onto b rest) (omega (arith, wl.1, e3)) next in
       let yb = kb.0 3 rest (omega (arith, wl.3, e4)) (omega (arith, e4)) in
-      let both : Yields (Fits c d (Binary o a b)) (Binary o a b, rest) (compared (level d 3) a (operator_mark o ▸ onto b rest)) = subst (Yields (Fits c d (Binary o a b)) (Binary o a b, rest)) (sym (compared_one (level d 3) o a (onto b rest) e4)) (compare_operand d o a b rest (level d 3 (onto b rest)) yb) in
-      let whole : Yields (Fits c d (Binary o a b)) (Binary o a b, rest) (level d 4 (onto a (operator_mark o ▸ onto b rest))) = subst (Yields (Fits c d (Binary o a b)) (Binary o a b, rest)) (sym (operand_first 3 d (onto a (operator_mark o ▸ onto b rest)) (omega arith) (omega arith))) (then_yields (Fits c d a) (Fits c d (Binary o a b)) (a, operator_mark o ▸ onto b rest) (Binary o a b, rest) (level d 3 (onto a (operator_mark o ▸ onto b rest))) (λ x. compared (level d 3) x.0 x.1) (λ f. f.0) ya both) in
-      subst (λ k. Yields (Fits c d (Binary o a b)) (Binary o a b, rest) (level d k (onto a (operator_mark o ▸ onto b rest)))) (sym e4) whole)
+      let both : Yields (Fits c d (Binary o a b)) (Binary o a b, rest) (compared (level d 3) a (operator_terminal o ▸ onto b rest)) = subst (Yields (Fits c d (Binary o a b)) (Binary o a b, rest)) (sym (compared_one (level d 3) o a (onto b rest) e4)) (compare_operand d o a b rest (level d 3 (onto b rest)) yb) in
+      let whole : Yields (Fits c d (Binary o a b)) (Binary o a b, rest) (level d 4 (onto a (operator_terminal o ▸ onto b rest))) = subst (Yields (Fits c d (Binary o a b)) (Binary o a b, rest)) (sym (operand_first 3 d (onto a (operator_terminal o ▸ onto b rest)) (omega arith) (omega arith))) (then_yields (Fits c d a) (Fits c d (Binary o a b)) (a, operator_terminal o ▸ onto b rest) (Binary o a b, rest) (level d 3 (onto a (operator_terminal o ▸ onto b rest))) (λ x. compared (level d 3) x.0 x.1) (λ f. f.0) ya both) in
+      subst (λ k. Yields (Fits c d (Binary o a b)) (Binary o a b, rest) (level d k (onto a (operator_terminal o ▸ onto b rest)))) (sym e4) whole)
 
   -- ---- tests for NULL
 
   null_same : (not : Bool) (ts : Kinds) → null_at (not_onto not (m.Null ▸ ts)) ≡ Ok (not, ts)
   unfolding null_at
   null_same true ts = rw (eat_same m.Not (m.Null ▸ ts), expect_same m.Null ts) refl
-  null_same false ts = rw (let e : eat m.Not (m.Null ▸ ts) ≡ None = (other_marks ts).0 in e, expect_same m.Null ts) refl
+  null_same false ts = rw (let e : eat m.Not (m.Null ▸ ts) ≡ None = (other_terminals ts).0 in e, expect_same m.Null ts) refl
 
   test_full : (a : Tree) (not : Bool) (ts : Kinds) → tests 0 a (m.Is ▸ not_onto not (m.Null ▸ ts)) ≡ Err (Limit (length (m.Is ▸ not_onto not (m.Null ▸ ts))))
   unfolding tests
@@ -612,7 +612,7 @@ module _ (c : ℕ) where
   unfolding levels
   signed s a d wl ka =
       plain (Signed s a) d wl (λ g n0 n3 n5 le. omega arith) (λ rest lt.
-      rw (sign_same s (onto a rest)) (enter_yields (length (sign_mark s ▸ onto a rest)) d (λ k. Fits c k a) (Signed s a, rest) (λ p. p 1 (onto a rest) >>= λ x. Ok (Signed s x.0, x.1)) (λ k. then_yields (Fits c k a) (Fits c k a) (a, rest) (Signed s a, rest) (level k 1 (onto a rest)) (λ x. Ok (Signed s x.0, x.1)) (λ f. f) ((ka k).0 1 rest wl.1 lt) refl)))
+      rw (sign_same s (onto a rest)) (enter_yields (length (sign_terminal s ▸ onto a rest)) d (λ k. Fits c k a) (Signed s a, rest) (λ p. p 1 (onto a rest) >>= λ x. Ok (Signed s x.0, x.1)) (λ k. then_yields (Fits c k a) (Fits c k a) (a, rest) (Signed s a, rest) (level k 1 (onto a rest)) (λ x. Ok (Signed s x.0, x.1)) (λ f. f) ((ka k).0 1 rest wl.1 lt) refl)))
 
   negated : (a : Tree) (d : ℕ) → IsLevelled (Negated a) → ((k : ℕ) → Known k a) → Known d (Negated a)
   unfolding levels
@@ -749,7 +749,7 @@ module _ (c : ℕ) where
 
   arguments_none : (k : ℕ) (rest : Kinds) → Yields (Unit {0}) (Some [], rest) (arguments_at (level k 8) (m.RightBracket ▸ rest))
   unfolding arguments_at
-  arguments_none k rest = rw (other_marks rest).2 (rw (eat_same m.RightBracket rest) refl)
+  arguments_none k rest = rw (other_terminals rest).2 (rw (eat_same m.RightBracket rest) refl)
 
   arguments_some : (k : ℕ) (a : Tree) (bs : Trees) (rest : Kinds) → Known k a → MoreTurns k bs → Yields (AllFit c k (more_trees a bs)) (Some (a ∷ tree_items bs), rest) (arguments_at (level k 8) (onto a (more_onto bs (m.RightBracket ▸ rest))))
   unfolding arguments_at
@@ -757,7 +757,7 @@ module _ (c : ℕ) where
       let close : Kinds = m.RightBracket ▸ rest in
       let b = begun a (more_onto bs close) in
       rw (begun_stops m.Star (onto a (more_onto bs close)) refl b) (rw (begun_stops m.RightBracket (onto a (more_onto bs close)) refl b)
-      (then_exactly (Each (Fits c k) (a ∷ tree_items bs)) (AllFit c k (more_trees a bs)) (a ∷ tree_items bs, close) (Some (a ∷ tree_items bs), rest) (list_at m.Comma (level k 8) (onto a (more_onto bs close))) (λ bs. expect m.RightBracket bs.1 >>= λ r. Ok (Some bs.0, r)) (trees_each c k (more_trees a bs)) (list_reads k a bs ka more close (omega arith) (other_marks rest).1)
+      (then_exactly (Each (Fits c k) (a ∷ tree_items bs)) (AllFit c k (more_trees a bs)) (a ∷ tree_items bs, close) (Some (a ∷ tree_items bs), rest) (list_at m.Comma (level k 8) (onto a (more_onto bs close))) (λ bs. expect m.RightBracket bs.1 >>= λ r. Ok (Some bs.0, r)) (trees_each c k (more_trees a bs)) (list_reads k a bs ka more close (omega arith) (other_terminals rest).1)
       (rw (expect_same m.RightBracket rest) refl)))
 
   primary_name : (d : ℕ) (b : Bool) (text : List ℕ) (ts : Kinds) → level d 0 (written b text ∷ ts) ≡ named_at (deeper_of c d) (record { text = text; quoted = b }) ts
@@ -770,7 +770,7 @@ module _ (c : ℕ) where
 
   call_first : (d : ℕ) (f : Name) (ts : Kinds) → named_at (deeper_of c d) f (m.LeftBracket ▸ ts) ≡ call_at (deeper_of c d) f ts
   unfolding named_at
-  call_first d f ts = rw (other_marks ts).3 (rw (eat_same m.LeftBracket ts) refl)
+  call_first d f ts = rw (other_terminals ts).3 (rw (eat_same m.LeftBracket ts) refl)
 
   -- the call's brackets open a level
   called : (d : ℕ) (f : Name) (arguments : Option (List Tree)) (over : OverTree) (F : ℕ → Type 0) (inside rest : Kinds) → OverReads d over → 0 < grips rest → ((k : ℕ) → Yields (F k) (arguments, over_onto over rest) (arguments_at (level k 8) inside)) → Yields (Below d F × OverFits c d over) (call_of f arguments over, rest) (level d 0 (name_kind f ∷ (m.LeftBracket ▸ inside)))
@@ -841,7 +841,7 @@ module _ (c : ℕ) where
 
   else_none : (k : ℕ) → ElseReads k no_else
   unfolding else_at
-  else_none k rest = rw (other_marks rest).4 refl
+  else_none k rest = rw (other_terminals rest).4 refl
 
   else_some : (k : ℕ) (a : Tree) → Known k a → ElseReads k (or_else a)
   unfolding else_at

@@ -1,7 +1,7 @@
 -- What a well-levelled query spells is read as that query, or passes a limit that the query passes.
 use Rattle.std.proofs.Common.{◌≡◌, ℕ, zero, suc, ◌<◌, ◌≤◌, Bool, true, false, List, [], ◌∷◌, length, Option, Some, None, Result, Ok, Err, refl, sym, ap, subst, arith}
-use Rattle.wd_lex.specs.declared.token.Delimiter.{Delimiter}
-use Rattle.wd_lex.specs.declared.token.Delimiter.TheVariants as m
+use Rattle.wd_lex.specs.declared.token.Terminal.{Terminal}
+use Rattle.wd_lex.specs.declared.token.Terminal.TheVariants as m
 use Rattle.wd_syntax.specs.declared.name.Name.{Name}
 use Rattle.wd_syntax.specs.declared.query.Alias.{Alias}
 use Rattle.wd_syntax.specs.declared.query.Quantifier.{Quantifier}
@@ -20,7 +20,7 @@ use Rattle.wd_syntax.specs.Spelling.{onto, window_onto, order_onto, quantifier_o
 use Rattle.wd_syntax.specs.Levels.{IsLevelled, WindowLevelled, ItemLevelled, OptionLevelled, TableLevelled, JoinLevelled, JoinsLevelled, SelectLevelled, IsWellLevelled}
 use Rattle.wd_syntax.specs.Limits.{Below, Fits, WindowFits, KeysFit, ItemFits, OptionFits, TableFits, JoinFits, JoinsFit, SelectFits, QueryFits}
 use Rattle.wd_syntax.specs.Reading.{Fault, Unexpected, Limit, ◌>>=◌, Reads, Parser, Chance, choose, eat, expect, many, after, list_at, order_at, window_at, enter, deeper_of, given_at, alias_at, item_at, filter_at, named_window_at, windows_at, limits_at, Inner, table_at, inner_at, join_at, from_at, select_at, selects, inside_of, if_last, whole}
-use Rattle.wd_syntax.proofs.Marking.{eat_same, expect_same, name_at_same, eat_name_kind, grips, grips_name, clauses, clause_stops, clause_grips}
+use Rattle.wd_syntax.proofs.TerminalFacts.{eat_same, expect_same, name_at_same, eat_name_kind, grips, grips_name, clauses, clause_stops, clause_grips}
 use Rattle.wd_syntax.proofs.Pieces.{quantifier_same, given_same, alias_same, star_same, limits_same, limits_clause}
 use Rattle.wd_syntax.proofs.Complete.{Yields, then_yields, then_exactly, Turns, turns_longer, many_yields, after_same, after_none, list_yields, key_items, keys_back, begun, begun_stops, star_stops, longer, window_longer, order_longer, order_clause, level, enter_yields, item, known, window_known, order_known}
 
@@ -163,13 +163,13 @@ joins_each : (c d : ℕ) (joins : Joins) → JoinsFit c d joins → Each (JoinFi
 joins_each c d no_joins h = tt
 joins_each c d (more_joins join joins) h = (h.0, joins_each c d joins h.1)
 
--- marks that are not the one sought
+-- terminals that are not the one sought
 other_joins : (ts : Kinds) → (eat m.Comma (m.Cross ▸ ts) ≡ None) × (eat m.Comma (m.Inner ▸ ts) ≡ None) × (eat m.Cross (m.Inner ▸ ts) ≡ None) × (eat m.Comma (m.Join ▸ ts) ≡ None) × (eat m.Cross (m.Join ▸ ts) ≡ None) × (eat m.Inner (m.Join ▸ ts) ≡ None)
 unfolding eat
 other_joins ts = (refl, refl, refl, refl, refl, refl)
 
 -- what begins a select list is neither ALL nor DISTINCT
-item_begins : (x : Delimiter) (a : ItemTree) (ts : Kinds) → (eat x (m.Star ▸ ts) ≡ None) → ((b : Tree) (rest : Kinds) → eat x (onto b rest) ≡ None) → eat x (item_onto a ts) ≡ None
+item_begins : (x : Terminal) (a : ItemTree) (ts : Kinds) → (eat x (m.Star ▸ ts) ≡ None) → ((b : Tree) (rest : Kinds) → eat x (onto b rest) ≡ None) → eat x (item_onto a ts) ≡ None
 item_begins x all_columns ts e h = e
 item_begins x (all_of n) ts e h = eat_name_kind x n (m.Dot ▸ m.Star ▸ ts)
 item_begins x (shown a alias) ts e h = h a (alias_onto alias ts)

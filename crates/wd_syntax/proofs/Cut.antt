@@ -1,25 +1,25 @@
 -- Where reading an expression passes a limit, some tree with the same front passes it at the same token.
 use Rattle.std.proofs.Common.{◌≡◌, ◌≢◌, ℕ, zero, suc, ◌+◌, ◌≤◌, ◌⊎◌, inl, inr, true, false, eqb, List, [], ◌∷◌, length, Option, Some, None, Result, Ok, Err, refl, sym, ap, subst, ◌∙◌, arith, ⊎_elim}
-use Rattle.wd_lex.specs.declared.token.Delimiter.{Delimiter}
-use Rattle.wd_lex.specs.declared.token.Delimiter.TheVariants as m
+use Rattle.wd_lex.specs.declared.token.Terminal.{Terminal}
+use Rattle.wd_lex.specs.declared.token.Terminal.TheVariants as m
 use Rattle.wd_lex.specs.declared.token.TokenKind.{TokenKind}
 use Rattle.wd_lex.specs.declared.token.TokenKind.TheVariants as t
 use Rattle.wd_syntax.specs.declared.name.Name.{Name}
 use Rattle.wd_syntax.specs.declared.expression.Operator.{Operator}
 use Rattle.wd_syntax.specs.declared.expression.Sign.{Sign}
 use Rattle.wd_syntax.specs.declared.expression.Literal.TheVariants as l
-use Rattle.wd_syntax.specs.Tokens.{Kinds, ◌▸◌, name_kind, operator_mark, sign_mark, operator_height}
+use Rattle.wd_syntax.specs.Tokens.{Kinds, ◌▸◌, name_kind, operator_terminal, sign_terminal, operator_height}
 use Rattle.wd_syntax.specs.Tree.{Tree, Constant, Column, Qualified, CallAll, Call, Case, Bracket, Signed, Binary, IsNull, Negated, Trees, no_trees, more_trees, no_arms, more_arms, Otherwise, no_else, or_else, no_over, over_name, over_window, WindowTree, window, no_keys, Key, trees_of, arms_of, keys_of, Each}
 use Rattle.wd_syntax.specs.Spelling.{direction_onto, nulls_onto, not_onto, base_onto, onto, list_onto, more_onto, arms_onto, else_onto, over_onto, window_onto, partition_onto, order_onto}
 use Rattle.wd_syntax.specs.Levels.{height, left_height, IsLevelled, AreLevelled, ArmsLevelled, ElseLevelled, OverLevelled, WindowLevelled, KeysLevelled}
 use Rattle.wd_syntax.specs.Limits.{operators, Fits}
-use Rattle.wd_syntax.specs.Reading.{Fault, Unexpected, Limit, ◌>>=◌, Reads, Parser, Chance, choose, eat, expect, name_at, operator_at, sign_at, if_begun, many, after, list_at, frame_at, direction_at, nulls_at, key_at, partition_at, order_at, base_at, window_at, link, ended, links, compared, null_at, tests, arguments_at, call_of, enter, over_at, call_at, named_at, arm_at, else_at, case_at, bracket_at, primary_by_mark, primary, signed_by, goes_on, levels, deeper_of}
+use Rattle.wd_syntax.specs.Reading.{Fault, Unexpected, Limit, ◌>>=◌, Reads, Parser, Chance, choose, eat, expect, name_at, operator_at, sign_at, if_begun, many, after, list_at, frame_at, direction_at, nulls_at, key_at, partition_at, order_at, base_at, window_at, link, ended, links, compared, null_at, tests, arguments_at, call_of, enter, over_at, call_at, named_at, arm_at, else_at, case_at, bracket_at, primary_by_terminal, primary, signed_by, goes_on, levels, deeper_of}
 use Rattle.std.proofs.Common.{◌++◌}
 use Rattle.wd_syntax.specs.Passing.{Passes, OnePasses, ArmPasses, ElsePasses, OverPasses, WindowPasses, KeyPasses}
 use Rattle.wd_syntax.specs.Reading.{none_begins}
-use Rattle.wd_syntax.proofs.Marking.{eqb-same, not_same}
+use Rattle.wd_syntax.proofs.TerminalFacts.{eqb-same, not_same}
 use Rattle.wd_syntax.proofs.Complete.{operand_first, operators_zero}
-use Rattle.wd_syntax.proofs.SoundPieces.{Kept, Holds, MayHold, at_mark, IsPart, all_onto, marked, after_holds, list_holds, expect_holds, base_is, IsListed}
+use Rattle.wd_syntax.proofs.SoundPieces.{Kept, Holds, MayHold, at_terminal, IsPart, all_onto, led_by, after_holds, list_holds, expect_holds, base_is, IsListed}
 use Rattle.wd_syntax.proofs.Sound.{left_chain, key_onto, arm_onto, trees_spelled, keys_spelled, arms_spelled, null_is, operator_at_is, IsOperator, sign_is, IsRead, Sound, Within, whole_expression, Good, Whole, GoodKey, GoodArm, GoodTrees, GoodKeys, arguments_closed, trees_onto, keys_row_onto, key_holds, arm_holds, partition_holds, order_holds, arguments_below, ArgumentsBelow, each_left, sound}
 use Rattle.wd_syntax.proofs.CutPieces.{CutBy, MayCut, then_cuts, expect_cuts, name_cuts, on_cuts, frame_cuts, nulls_cuts, null_cuts, IsPre, pre_then, pre_tree, pre_list, pre_arms, pre_partition, pre_key, pre_arm, pre_base}
 
@@ -90,44 +90,44 @@ unfolding many
 many_cut one Good GoodS passes item zero ts hp hg k h = none_cuts (IsCut (all_onto one) (Each Good) (SomePasses one passes) ts) (item ts) ts
 many_cut one Good GoodS passes item (suc n) ts hp hg k h = many_cut_begun one Good GoodS passes item n ts (item ts) hp hg (k ts) (h ts) (λ us. many_cut one Good GoodS passes item n us hp hg k h)
 
--- ---- lists with a mark between their items
+-- ---- lists with a terminal between their items
 
-abbrev pub listed : {A : Type 0} → Delimiter → (A → Kinds → Kinds) → List A → Kinds → Kinds
+abbrev pub listed : {A : Type 0} → Terminal → (A → Kinds → Kinds) → List A → Kinds → Kinds
 listed x one [] us = us
-listed x one (a ∷ xs) us = one a (all_onto (marked x one) xs us)
+listed x one (a ∷ xs) us = one a (all_onto (led_by x one) xs us)
 
 abbrev pub GoodList : {A : Type 0} → (A → Type 0) → List A → Type 0
 GoodList Good [] = ⊥
 GoodList Good (a ∷ xs) = Good a × Each Good xs
 
-abbrev pub ListPasses : {A : Type 0} → Delimiter → (A → Kinds → Kinds) → (A → Kinds → Kinds → Type 0) → List A → Kinds → Kinds → Type 0
+abbrev pub ListPasses : {A : Type 0} → Terminal → (A → Kinds → Kinds) → (A → Kinds → Kinds → Type 0) → List A → Kinds → Kinds → Type 0
 ListPasses x one passes [] us rest = ⊥
-ListPasses x one passes (a ∷ xs) us rest = passes a (all_onto (marked x one) xs us) rest ⊎ SomePasses (marked x one) passes xs us rest
+ListPasses x one passes (a ∷ xs) us rest = passes a (all_onto (led_by x one) xs us) rest ⊎ SomePasses (led_by x one) passes xs us rest
 
-marked_cut : {A : Type 0} (x : Delimiter) (one : A → Kinds → Kinds) (Good : A → Type 0) (passes : A → Kinds → Kinds → Type 0) (ts r : Kinds) (o : Reads A) → ts ≡ x ▸ r → CutBy (IsCut one Good passes r) o → CutBy (IsCut (marked x one) Good passes ts) o
-marked_cut x one Good passes ts r (Ok y) e k = tt
-marked_cut x one Good passes ts r (Err Unexpected) e k = tt
-marked_cut x one Good passes ts r (Err (Limit left)) e k = cut_step one Good passes r (marked x one) Good passes ts (λ z. x ▸ z) (λ a. a) (λ a us. us) (pre_kind (t.Delimiter x)) e (λ a g. g) (λ a us g. refl) (λ a us rest g s. s) left k
+led_by_cut : {A : Type 0} (x : Terminal) (one : A → Kinds → Kinds) (Good : A → Type 0) (passes : A → Kinds → Kinds → Type 0) (ts r : Kinds) (o : Reads A) → ts ≡ x ▸ r → CutBy (IsCut one Good passes r) o → CutBy (IsCut (led_by x one) Good passes ts) o
+led_by_cut x one Good passes ts r (Ok y) e k = tt
+led_by_cut x one Good passes ts r (Err Unexpected) e k = tt
+led_by_cut x one Good passes ts r (Err (Limit left)) e k = cut_step one Good passes r (led_by x one) Good passes ts (λ z. x ▸ z) (λ a. a) (λ a us. us) (pre_kind (t.Terminal x)) e (λ a g. g) (λ a us g. refl) (λ a us rest g s. s) left k
 
-after_cuts : {A : Type 0} (x : Delimiter) (one : A → Kinds → Kinds) (Good : A → Type 0) (passes : A → Kinds → Kinds → Type 0) (item : Parser A) (ts : Kinds) → ((us : Kinds) → CutBy (IsCut one Good passes us) (item us)) → MayCut (IsCut (marked x one) Good passes ts) (after x item ts)
+after_cuts : {A : Type 0} (x : Terminal) (one : A → Kinds → Kinds) (Good : A → Type 0) (passes : A → Kinds → Kinds → Type 0) (item : Parser A) (ts : Kinds) → ((us : Kinds) → CutBy (IsCut one Good passes us) (item us)) → MayCut (IsCut (led_by x one) Good passes ts) (after x item ts)
 unfolding after
-after_cuts x one Good passes item ts h = at_mark (MayCut (IsCut (marked x one) Good passes ts)) x ts (λ r. Some (item r)) None (λ r e. marked_cut x one Good passes ts r (item r) e (h r)) tt
+after_cuts x one Good passes item ts h = at_terminal (MayCut (IsCut (led_by x one) Good passes ts)) x ts (λ r. Some (item r)) None (λ r e. led_by_cut x one Good passes ts r (item r) e (h r)) tt
 
-pub list_cut : {A : Type 0} (x : Delimiter) (one : A → Kinds → Kinds) (Good : A → Type 0) (GoodS : A → Type 0) (passes : A → Kinds → Kinds → Type 0) (item : Parser A) (ts : Kinds) → ((a : A) → IsPre (one a)) → ((a : A) → GoodS a → Good a) → ((us : Kinds) → CutBy (IsCut one Good passes us) (item us)) → ((us : Kinds) → Holds (IsPart one GoodS us) (item us)) → CutBy (IsCut (listed x one) (GoodList Good) (ListPasses x one passes) ts) (list_at x item ts)
+pub list_cut : {A : Type 0} (x : Terminal) (one : A → Kinds → Kinds) (Good : A → Type 0) (GoodS : A → Type 0) (passes : A → Kinds → Kinds → Type 0) (item : Parser A) (ts : Kinds) → ((a : A) → IsPre (one a)) → ((a : A) → GoodS a → Good a) → ((us : Kinds) → CutBy (IsCut one Good passes us) (item us)) → ((us : Kinds) → Holds (IsPart one GoodS us) (item us)) → CutBy (IsCut (listed x one) (GoodList Good) (ListPasses x one passes) ts) (list_at x item ts)
 unfolding list_at
 list_cut {A} x one Good GoodS passes item ts hp hg k h =
     let L : ℕ → Type 0 = IsCut (listed x one) (GoodList Good) (ListPasses x one passes) ts in
     then_cuts (IsCut one Good passes ts) L (IsPart one GoodS ts) (item ts) (λ a. many (after x item) (length a.1) a.1 >>= λ xs. Ok (a.0 ∷ xs.0, xs.1)) (k ts) (h ts)
     (cut_step one Good passes ts (listed x one) (GoodList Good) (ListPasses x one passes) ts (λ z. z) (λ a. a ∷ []) (λ a us. us) pre_none refl (λ a g. (g, tt)) (λ a us g. refl) (λ a us rest g s. inl s))
-    (λ a i. then_cuts (IsCut (all_onto (marked x one)) (Each Good) (SomePasses (marked x one) passes) a.1) L (λ z. Unit {0}) (many (after x item) (length a.1) a.1) (λ xs. Ok (a.0 ∷ xs.0, xs.1))
-    (many_cut (marked x one) Good GoodS passes (after x item) (length a.1) a.1 (λ b. pre_then (λ z. x ▸ z) (one b) (pre_kind (t.Delimiter x)) (hp b)) hg (λ us. after_cuts x one Good passes item us k) (λ us. after_holds x one GoodS item us h)) (all_things (many (after x item) (length a.1) a.1))
-    (cut_step (all_onto (marked x one)) (Each Good) (SomePasses (marked x one) passes) a.1 (listed x one) (GoodList Good) (ListPasses x one passes) ts (one a.0) (λ xs. a.0 ∷ xs) (λ xs us. us) (hp a.0) i.parts (λ xs g. (hg a.0 i.good, g)) (λ xs us g. refl) (λ xs us rest g s. inr s))
+    (λ a i. then_cuts (IsCut (all_onto (led_by x one)) (Each Good) (SomePasses (led_by x one) passes) a.1) L (λ z. Unit {0}) (many (after x item) (length a.1) a.1) (λ xs. Ok (a.0 ∷ xs.0, xs.1))
+    (many_cut (led_by x one) Good GoodS passes (after x item) (length a.1) a.1 (λ b. pre_then (λ z. x ▸ z) (one b) (pre_kind (t.Terminal x)) (hp b)) hg (λ us. after_cuts x one Good passes item us k) (λ us. after_holds x one GoodS item us h)) (all_things (many (after x item) (length a.1) a.1))
+    (cut_step (all_onto (led_by x one)) (Each Good) (SomePasses (led_by x one) passes) a.1 (listed x one) (GoodList Good) (ListPasses x one passes) ts (one a.0) (λ xs. a.0 ∷ xs) (λ xs us. us) (hp a.0) i.parts (λ xs g. (hg a.0 i.good, g)) (λ xs us g. refl) (λ xs us rest g s. inr s))
     (λ z u. tt))
 
--- after a mark that stands there
-pub mark_cuts : {B : Type 0} (L : ℕ → Type 0) (x : Delimiter) (ts : Kinds) (f : Kinds → Result B Fault) → ((r : Kinds) → ts ≡ x ▸ r → CutBy L (f r)) → CutBy L (expect x ts >>= f)
+-- after a terminal that stands there
+pub terminal_cuts : {B : Type 0} (L : ℕ → Type 0) (x : Terminal) (ts : Kinds) (f : Kinds → Result B Fault) → ((r : Kinds) → ts ≡ x ▸ r → CutBy L (f r)) → CutBy L (expect x ts >>= f)
 unfolding expect
-mark_cuts L x ts f h = then_cuts L L (λ r. ts ≡ x ▸ r) (expect x ts) f (expect_cuts L x ts) (expect_holds x ts) (λ left k. k) h
+terminal_cuts L x ts f h = then_cuts L L (λ r. ts ≡ x ▸ r) (expect x ts) f (expect_cuts L x ts) (expect_holds x ts) (λ left k. k) h
 
 pub mapped_cuts : {B : Type 0} (K L : ℕ → Type 0) (r : Result B Fault) → CutBy K r → ((left : ℕ) → K left → L left) → CutBy L r
 mapped_cuts K L (Ok x) h k = tt
@@ -136,18 +136,18 @@ mapped_cuts K L (Err (Limit left)) h k = k left h
 
 -- ---- rows of trees
 
-trees_pass : (c d : ℕ) (xs : List Tree) (us rest : Kinds) → SomePasses (marked m.Comma onto) (Passes c d) xs us rest → OnePasses c d (trees_of xs) us rest
+trees_pass : (c d : ℕ) (xs : List Tree) (us rest : Kinds) → SomePasses (led_by m.Comma onto) (Passes c d) xs us rest → OnePasses c d (trees_of xs) us rest
 trees_pass c d [] us rest h = h
 trees_pass c d (a ∷ xs) us rest h = ⊎_elim (λ s. inl (subst (λ z. Passes c d a z rest) (trees_spelled xs us) s)) (λ s. inr (trees_pass c d xs us rest s)) h
 
-keys_pass : (c d : ℕ) (xs : List Key) (us rest : Kinds) → SomePasses (marked m.Comma key_onto) (λ key us rest. Passes c d key.0 (direction_onto key.1 (nulls_onto key.2 us)) rest) xs us rest → KeyPasses c d (keys_of xs) us rest
+keys_pass : (c d : ℕ) (xs : List Key) (us rest : Kinds) → SomePasses (led_by m.Comma key_onto) (λ key us rest. Passes c d key.0 (direction_onto key.1 (nulls_onto key.2 us)) rest) xs us rest → KeyPasses c d (keys_of xs) us rest
 keys_pass c d [] us rest h = h
 keys_pass c d (a ∷ xs) us rest h = ⊎_elim (λ s. inl (subst (λ z. Passes c d a.0 (direction_onto a.1 (nulls_onto a.2 z)) rest) (keys_spelled xs us) s)) (λ s. inr (keys_pass c d xs us rest s)) h
 
 abbrev ArmPass : ℕ → ℕ → Tree × Tree → Kinds → Kinds → Type 0
 ArmPass c d arm us rest = Passes c d arm.0 (m.Then ▸ onto arm.1 us) rest ⊎ Passes c d arm.1 us rest
 
-arms_pass : (c d : ℕ) (xs : List (Tree × Tree)) (us rest : Kinds) → SomePasses (marked m.When arm_onto) (ArmPass c d) xs us rest → ArmPasses c d (arms_of xs) us rest
+arms_pass : (c d : ℕ) (xs : List (Tree × Tree)) (us rest : Kinds) → SomePasses (led_by m.When arm_onto) (ArmPass c d) xs us rest → ArmPasses c d (arms_of xs) us rest
 arms_pass c d [] us rest h = h
 arms_pass c d (a ∷ xs) us rest h = ⊎_elim (λ s. inl (subst (λ z. ArmPass c d a z rest) (arms_spelled xs us) s)) (λ s. inr (arms_pass c d xs us rest s)) h
 
@@ -205,14 +205,14 @@ module _ (c : ℕ) where
   ended_cuts g d None a ts n3 n0 e wl le k = tt
   ended_cuts g d (Some x) a ts n3 n0 e wl le k =
       let left = left_chain c x.0 (suc g) k.1 (omega arith) in
-      cut_here onto (Tight (suc g)) (Passes c d) (onto a ts) (onto a) (t.Delimiter (operator_mark x.0)) x.1 (Binary x.0 a nothing) (λ us. t.Delimiter m.Null ∷ us) (length ts) (pre_tree a) ((wl, omega (arith, left), tt, omega (arith, k.1)), omega (arith, k.1)) (ap (onto a) k.0) (sym (ap length k.0)) (λ us. refl) (λ us. inr (inr (operators_more x.0 a nothing (suc g) k.1 ∙ ap suc e, refl)))
+      cut_here onto (Tight (suc g)) (Passes c d) (onto a ts) (onto a) (t.Terminal (operator_terminal x.0)) x.1 (Binary x.0 a nothing) (λ us. t.Terminal m.Null ∷ us) (length ts) (pre_tree a) ((wl, omega (arith, left), tt, omega (arith, k.1)), omega (arith, k.1)) (ap (onto a) k.0) (sym (ap length k.0)) (λ us. refl) (λ us. inr (inr (operators_more x.0 a nothing (suc g) k.1 ∙ ap suc e, refl)))
 
-  link_cuts : (g h d : ℕ) (a : Tree) (ts : Kinds) (p : Parser Tree) (next : Tree → Parser Tree) (o : Option (Operator × Kinds)) → ((us : Kinds) → CutBy (TreeCut g d us) (p us)) → ((us : Kinds) → Holds (IsRead c g d us) (p us)) → IsLevelled a → ((o : Operator) → operator_height o ≡ suc g → height a ≤ left_height o) → suc g ≤ h → Kept (IsOperator (suc g) ts) o → ((o : Operator) (b : Tree) (rest : Kinds) → operator_height o ≡ suc g → ts ≡ operator_mark o ▸ onto b rest → IsLevelled b → height b ≤ g → CutBy (TreeCut h d (onto a ts)) (next (Binary o a b) rest)) → CutBy (TreeCut h d (onto a ts)) (link o p a ts next)
+  link_cuts : (g h d : ℕ) (a : Tree) (ts : Kinds) (p : Parser Tree) (next : Tree → Parser Tree) (o : Option (Operator × Kinds)) → ((us : Kinds) → CutBy (TreeCut g d us) (p us)) → ((us : Kinds) → Holds (IsRead c g d us) (p us)) → IsLevelled a → ((o : Operator) → operator_height o ≡ suc g → height a ≤ left_height o) → suc g ≤ h → Kept (IsOperator (suc g) ts) o → ((o : Operator) (b : Tree) (rest : Kinds) → operator_height o ≡ suc g → ts ≡ operator_terminal o ▸ onto b rest → IsLevelled b → height b ≤ g → CutBy (TreeCut h d (onto a ts)) (next (Binary o a b) rest)) → CutBy (TreeCut h d (onto a ts)) (link o p a ts next)
   link_cuts g h d a ts p next None cut op wl lf le k n = tt
   link_cuts g h d a ts p next (Some x) cut op wl lf le k n =
       then_cuts (TreeCut g d x.1) (TreeCut h d (onto a ts)) (IsRead c g d x.1) (p x.1) (λ b. next (Binary x.0 a b.0) b.1) (cut x.1) (op x.1)
-      (cut_step onto (Tight g) (Passes c d) x.1 onto (Tight h) (Passes c d) (onto a ts) (λ z. onto a (operator_mark x.0 ▸ z)) (λ b. Binary x.0 a b) (λ b us. us) (pre_then (onto a) (λ z. operator_mark x.0 ▸ z) (pre_tree a) (pre_kind (t.Delimiter (operator_mark x.0)))) (ap (onto a) k.0) (λ b t. ((wl, lf x.0 k.1, t.0, omega (arith, t.1, k.1)), omega (arith, k.1))) (λ b us t. refl) (λ b us rest t s. inr (inl s)))
-      (λ b j. n x.0 b.0 b.1 k.1 (k.0 ∙ ap (λ (z : Kinds). operator_mark x.0 ▸ z) j.parts) j.levelled j.tight)
+      (cut_step onto (Tight g) (Passes c d) x.1 onto (Tight h) (Passes c d) (onto a ts) (λ z. onto a (operator_terminal x.0 ▸ z)) (λ b. Binary x.0 a b) (λ b us. us) (pre_then (onto a) (λ z. operator_terminal x.0 ▸ z) (pre_tree a) (pre_kind (t.Terminal (operator_terminal x.0)))) (ap (onto a) k.0) (λ b t. ((wl, lf x.0 k.1, t.0, omega (arith, t.1, k.1)), omega (arith, k.1))) (λ b us t. refl) (λ b us rest t s. inr (inl s)))
+      (λ b j. n x.0 b.0 b.1 k.1 (k.0 ∙ ap (λ (z : Kinds). operator_terminal x.0 ▸ z) j.parts) j.levelled j.tight)
 
   links_cut : (g d n : ℕ) (p : Parser Tree) (a : Tree) (ts : Kinds) → g ≢ 3 → g ≢ 0 → ((us : Kinds) → CutBy (TreeCut g d us) (p us)) → ((us : Kinds) → Holds (IsRead c g d us) (p us)) → n + operators (suc g) a ≡ c → IsLevelled a → height a ≤ suc g → CutBy (TreeCut (suc g) d (onto a ts)) (links p (suc g) n a ts)
   unfolding links
@@ -231,11 +231,11 @@ module _ (c : ℕ) where
   tests_cut : (d n : ℕ) (a : Tree) (ts : Kinds) → n + operators 5 a ≡ c → IsLevelled a → height a ≤ 5 → CutBy (TreeCut 5 d (onto a ts)) (tests n a ts)
   unfolding tests
   tests_cut d zero a ts e wl le =
-      at_mark (CutBy (TreeCut 5 d (onto a ts))) m.Is ts (λ r. Err (Limit (length ts))) (Ok (a, ts))
-      (λ r k. cut_here onto (Tight 5) (Passes c d) (onto a ts) (onto a) (t.Delimiter m.Is) r (IsNull a false) (λ us. t.Delimiter m.Null ∷ us) (length ts) (pre_tree a) ((wl, le), omega arith) (ap (onto a) k) (sym (ap length k)) (λ us. refl) (λ us. inr (let q : operators 5 a ≡ c = omega arith in ap suc q, refl)))
+      at_terminal (CutBy (TreeCut 5 d (onto a ts))) m.Is ts (λ r. Err (Limit (length ts))) (Ok (a, ts))
+      (λ r k. cut_here onto (Tight 5) (Passes c d) (onto a ts) (onto a) (t.Terminal m.Is) r (IsNull a false) (λ us. t.Terminal m.Null ∷ us) (length ts) (pre_tree a) ((wl, le), omega arith) (ap (onto a) k) (sym (ap length k)) (λ us. refl) (λ us. inr (let q : operators 5 a ≡ c = omega arith in ap suc q, refl)))
       tt
   tests_cut d (suc n) a ts e wl le =
-      at_mark (CutBy (TreeCut 5 d (onto a ts))) m.Is ts (λ r. null_at r >>= λ x. tests n (IsNull a x.0) x.1) (Ok (a, ts))
+      at_terminal (CutBy (TreeCut 5 d (onto a ts))) m.Is ts (λ r. null_at r >>= λ x. tests n (IsNull a x.0) x.1) (Ok (a, ts))
       (λ r k. then_cuts (TreeCut 5 d (onto a ts)) (TreeCut 5 d (onto a ts)) (λ x. r ≡ not_onto x.0 (m.Null ▸ x.1)) (null_at r) (λ x. tests n (IsNull a x.0) x.1) (null_cuts (TreeCut 5 d (onto a ts)) r) (null_is r) (λ left i. i) (λ x q.
       subst (λ z. CutBy (TreeCut 5 d z) (tests n (IsNull a x.0) x.1)) (sym (ap (onto a) (k ∙ ap (λ (z : Kinds). m.Is ▸ z) q))) (tests_cut d n (IsNull a x.0) x.1 (omega arith) (wl, le) (omega arith))))
       tt
@@ -299,8 +299,8 @@ module _ (c : ℕ) where
   unfolding partition_at
   partition_cut d item ts cut op =
       let L : ℕ → Type 0 = IsCut partition_onto AreLevelled (OnePasses c d) ts in
-      at_mark (CutBy L) m.Partition ts (λ r. expect m.By r >>= λ r. list_at m.Comma item r) (Ok ([], ts))
-      (λ r e. mark_cuts L m.By r (λ r. list_at m.Comma item r) (λ us f.
+      at_terminal (CutBy L) m.Partition ts (λ r. expect m.By r >>= λ r. list_at m.Comma item r) (Ok ([], ts))
+      (λ r e. terminal_cuts L m.By r (λ r. list_at m.Comma item r) (λ us f.
       mapped_cuts (IsCut (listed m.Comma onto) (GoodList IsLevelled) (ListPasses m.Comma onto (Passes c d)) us) L (list_at m.Comma item us) (expr_list d item us cut op) (trees_row d (λ z. m.Partition ▸ m.By ▸ z) partition_onto (λ z. z) us ts (λ x y. refl) (e ∙ ap (λ (z : Kinds). m.Partition ▸ z) f) (λ a bs us. refl))))
       tt
 
@@ -323,8 +323,8 @@ module _ (c : ℕ) where
   unfolding order_at
   order_cut d item ts cut op =
       let L : ℕ → Type 0 = OrderCut d ts in
-      at_mark (CutBy L) m.Order ts (λ r. expect m.By r >>= λ r. list_at m.Comma (key_at item) r) (Ok ([], ts))
-      (λ r e. mark_cuts L m.By r (λ r. list_at m.Comma (key_at item) r) (λ us f.
+      at_terminal (CutBy L) m.Order ts (λ r. expect m.By r >>= λ r. list_at m.Comma (key_at item) r) (Ok ([], ts))
+      (λ r e. terminal_cuts L m.By r (λ r. list_at m.Comma (key_at item) r) (λ us f.
       mapped_cuts (IsCut (listed m.Comma key_onto) (GoodList (λ key. IsLevelled key.0)) (ListPasses m.Comma key_onto (KeyPass d)) us) L (list_at m.Comma (key_at item) us) (key_list d item us cut op)
       (cut_step (listed m.Comma key_onto) (GoodList (λ key. IsLevelled key.0)) (ListPasses m.Comma key_onto (KeyPass d)) us order_onto KeysLevelled (KeyPasses c d) ts (λ z. m.Order ▸ m.By ▸ z) keys_of (λ xs us. us) (λ x y. refl) (e ∙ ap (λ (z : Kinds). m.Order ▸ z) f) keys_row_good keys_row_spelled (keys_row_passes d))))
       tt
@@ -362,10 +362,10 @@ module _ (c : ℕ) where
   unfolding over_at
   over_cut d ts cut lower =
       let L : ℕ → ℕ → Type 0 = λ k. OverCut k ts in
-      at_mark (CutBy (L d)) m.Over ts (λ r. choose (eat m.LeftBracket r) (λ q. enter (length r) (deeper_of c d) (λ p. window_at (p 8) q >>= λ w. Ok (over_window w.0, w.1))) (name_at r >>= λ n. Ok (over_name n.0, n.1))) (Ok (no_over, ts))
-      (λ r e. at_mark (CutBy (L d)) m.LeftBracket r (λ q. enter (length r) (deeper_of c d) (λ p. window_at (p 8) q >>= λ w. Ok (over_window w.0, w.1))) (name_at r >>= λ n. Ok (over_name n.0, n.1))
+      at_terminal (CutBy (L d)) m.Over ts (λ r. choose (eat m.LeftBracket r) (λ q. enter (length r) (deeper_of c d) (λ p. window_at (p 8) q >>= λ w. Ok (over_window w.0, w.1))) (name_at r >>= λ n. Ok (over_name n.0, n.1))) (Ok (no_over, ts))
+      (λ r e. at_terminal (CutBy (L d)) m.LeftBracket r (λ q. enter (length r) (deeper_of c d) (λ p. window_at (p 8) q >>= λ w. Ok (over_window w.0, w.1))) (name_at r >>= λ n. Ok (over_name n.0, n.1))
       (λ q f. enter_cuts (length r) L (λ p. window_at (p 8) q >>= λ w. Ok (over_window w.0, w.1))
-      (cut_here over_onto OverLevelled (OverPasses c 0) ts (λ z. m.Over ▸ z) (t.Delimiter m.LeftBracket) q (over_window no_window) (λ us. m.RightBracket ▸ us) (length r) (pre_kind (t.Delimiter m.Over)) (tt, tt) (e ∙ ap (λ (z : Kinds). m.Over ▸ z) f) (sym (ap length f)) (λ us. refl) (λ us. refl))
+      (cut_here over_onto OverLevelled (OverPasses c 0) ts (λ z. m.Over ▸ z) (t.Terminal m.LeftBracket) q (over_window no_window) (λ us. m.RightBracket ▸ us) (length r) (pre_kind (t.Terminal m.Over)) (tt, tt) (e ∙ ap (λ (z : Kinds). m.Over ▸ z) f) (sym (ap length f)) (λ us. refl) (λ us. refl))
       (λ k cut sound. then_cuts (WindowCut k q) (L (suc k)) (λ z. Unit {0}) (window_at (levels c (deeper_of c k) 8) q) (λ w. Ok (over_window w.0, w.1)) (window_cut k (levels c (deeper_of c k) 8) q (whole_cut k cut) (whole_expression c k sound)) (all_things (window_at (levels c (deeper_of c k) 8) q))
       (cut_step window_close WindowLevelled (WindowPass k) q over_onto OverLevelled (OverPasses c (suc k)) ts (λ z. m.Over ▸ m.LeftBracket ▸ z) (λ w. over_window w) (λ w us. us) (λ x y. refl) (e ∙ ap (λ (z : Kinds). m.Over ▸ z) f) (λ w g. g) (λ w us g. refl) (λ w us rest g s. s))
       (λ w u. tt)) d cut lower)
@@ -382,9 +382,9 @@ module _ (c : ℕ) where
   unfolding arguments_at
   arguments_cut d item ts cut op =
       let L : ℕ → Type 0 = IsCut arguments_close AreLevelled (ArgumentsPass d) ts in
-      at_mark (CutBy L) m.Star ts (λ r. expect m.RightBracket r >>= λ r. Ok (None, r)) (choose (eat m.RightBracket ts) (λ r. Ok (Some [], r)) (list_at m.Comma item ts >>= λ bs. expect m.RightBracket bs.1 >>= λ r. Ok (Some bs.0, r)))
+      at_terminal (CutBy L) m.Star ts (λ r. expect m.RightBracket r >>= λ r. Ok (None, r)) (choose (eat m.RightBracket ts) (λ r. Ok (Some [], r)) (list_at m.Comma item ts >>= λ bs. expect m.RightBracket bs.1 >>= λ r. Ok (Some bs.0, r)))
       (λ r e. on_cuts L (expect m.RightBracket r) (λ r. Ok (None, r)) (expect_cuts L m.RightBracket r) (λ r. tt))
-      (at_mark (CutBy L) m.RightBracket ts (λ r. Ok (Some [], r)) (list_at m.Comma item ts >>= λ bs. expect m.RightBracket bs.1 >>= λ r. Ok (Some bs.0, r)) (λ r e. tt)
+      (at_terminal (CutBy L) m.RightBracket ts (λ r. Ok (Some [], r)) (list_at m.Comma item ts >>= λ bs. expect m.RightBracket bs.1 >>= λ r. Ok (Some bs.0, r)) (λ r e. tt)
       (then_cuts (IsCut (listed m.Comma onto) (GoodList IsLevelled) (ListPasses m.Comma onto (Passes c d)) ts) L (λ z. Unit {0}) (list_at m.Comma item ts) (λ bs. expect m.RightBracket bs.1 >>= λ r. Ok (Some bs.0, r)) (expr_list d item ts cut op) (all_things (list_at m.Comma item ts)) (trees_row d (λ z. z) arguments_close (λ z. m.RightBracket ▸ z) ts ts pre_none refl (λ a bs us. refl))
       (λ bs u. on_cuts L (expect m.RightBracket bs.1) (λ r. Ok (Some bs.0, r)) (expect_cuts L m.RightBracket bs.1) (λ r. tt))))
 
@@ -397,7 +397,7 @@ module _ (c : ℕ) where
   call_over d f ts mid None e good =
       cut_step over_onto OverLevelled (OverPasses c d) mid onto (Tight 0) (Passes c d) (name_kind f ∷ (m.LeftBracket ▸ ts)) (λ z. name_kind f ∷ (m.LeftBracket ▸ m.Star ▸ m.RightBracket ▸ z)) (λ over. CallAll f over) (λ over us. us) (λ x y. refl) (ap (λ (z : Kinds). name_kind f ∷ (m.LeftBracket ▸ z)) e) (λ over g. (g, omega arith)) (λ over us g. refl) (λ over us rest g s. inr s)
   call_over d f ts mid (Some xs) e good =
-      cut_step over_onto OverLevelled (OverPasses c d) mid onto (Tight 0) (Passes c d) (name_kind f ∷ (m.LeftBracket ▸ ts)) (λ z. name_kind f ∷ (m.LeftBracket ▸ list_onto (trees_of xs) (m.RightBracket ▸ z))) (λ over. Call f (trees_of xs) over) (λ over us. us) (pre_then (λ z. name_kind f ∷ (m.LeftBracket ▸ z)) (λ z. list_onto (trees_of xs) (m.RightBracket ▸ z)) (λ x y. refl) (pre_then (list_onto (trees_of xs)) (λ z. m.RightBracket ▸ z) (pre_list (trees_of xs)) (pre_kind (t.Delimiter m.RightBracket)))) (ap (λ (z : Kinds). name_kind f ∷ (m.LeftBracket ▸ z)) e) (λ over g. ((good, g), omega arith)) (λ over us g. refl) (λ over us rest g s. inr s)
+      cut_step over_onto OverLevelled (OverPasses c d) mid onto (Tight 0) (Passes c d) (name_kind f ∷ (m.LeftBracket ▸ ts)) (λ z. name_kind f ∷ (m.LeftBracket ▸ list_onto (trees_of xs) (m.RightBracket ▸ z))) (λ over. Call f (trees_of xs) over) (λ over us. us) (pre_then (λ z. name_kind f ∷ (m.LeftBracket ▸ z)) (λ z. list_onto (trees_of xs) (m.RightBracket ▸ z)) (λ x y. refl) (pre_then (list_onto (trees_of xs)) (λ z. m.RightBracket ▸ z) (pre_list (trees_of xs)) (pre_kind (t.Terminal m.RightBracket)))) (ap (λ (z : Kinds). name_kind f ∷ (m.LeftBracket ▸ z)) e) (λ over g. ((good, g), omega arith)) (λ over us g. refl) (λ over us rest g s. inr s)
 
   arguments_good : (d : ℕ) (arguments : Option (List Tree)) → ArgumentsBelow c d arguments → GoodListed arguments
   arguments_good d None g = tt
@@ -409,7 +409,7 @@ module _ (c : ℕ) where
       let ts' : Kinds = name_kind f ∷ (m.LeftBracket ▸ ts) in
       then_cuts (TreeCut 0 d ts') (TreeCut 0 d ts') (IsPart (arguments_closed c) (ArgumentsBelow c d) ts) (enter (suc (length ts)) (deeper_of c d) (λ p. arguments_at (p 8) ts)) (λ bs. over_at (deeper_of c d) bs.1 >>= λ over. Ok (call_of f bs.0 over.0, over.1))
       (enter_cuts (suc (length ts)) (λ k. TreeCut 0 k ts') (λ p. arguments_at (p 8) ts)
-      (cut_here onto (Tight 0) (Passes c 0) ts' (λ z. name_kind f ∷ z) (t.Delimiter m.LeftBracket) ts (CallAll f no_over) (λ us. m.Star ▸ m.RightBracket ▸ us) (suc (length ts)) (pre_kind (name_kind f)) (tt, omega arith) refl refl (λ us. refl) (λ us. inl refl))
+      (cut_here onto (Tight 0) (Passes c 0) ts' (λ z. name_kind f ∷ z) (t.Terminal m.LeftBracket) ts (CallAll f no_over) (λ us. m.Star ▸ m.RightBracket ▸ us) (suc (length ts)) (pre_kind (name_kind f)) (tt, omega arith) refl refl (λ us. refl) (λ us. inl refl))
       (λ k cut sound. mapped_cuts (IsCut arguments_close AreLevelled (ArgumentsPass k) ts) (TreeCut 0 (suc k) ts') (arguments_at (levels c (deeper_of c k) 8) ts) (arguments_cut k (levels c (deeper_of c k) 8) ts (whole_cut k cut) (whole_expression c k sound))
       (cut_step arguments_close AreLevelled (ArgumentsPass k) ts onto (Tight 0) (Passes c (suc k)) ts' (λ z. name_kind f ∷ (m.LeftBracket ▸ z)) (λ bs. Call f bs no_over) (λ bs us. us) (λ x y. refl) refl (λ bs g. ((g, tt), omega arith)) (λ bs us g. refl) (λ bs us rest g s. inl s))) d cut lower)
       (arguments_below c d ts lower) (λ left i. i)
@@ -419,9 +419,9 @@ module _ (c : ℕ) where
   unfolding named_at
   named_cut d f ts cut lower =
       let L : ℕ → Type 0 = TreeCut 0 d (name_kind f ∷ ts) in
-      at_mark (CutBy L) m.Dot ts (λ r. name_at r >>= λ b. Ok (Qualified f b.0, b.1)) (choose (eat m.LeftBracket ts) (λ r. call_at (deeper_of c d) f r) (Ok (Column f, ts)))
+      at_terminal (CutBy L) m.Dot ts (λ r. name_at r >>= λ b. Ok (Qualified f b.0, b.1)) (choose (eat m.LeftBracket ts) (λ r. call_at (deeper_of c d) f r) (Ok (Column f, ts)))
       (λ r e. on_cuts L (name_at r) (λ b. Ok (Qualified f b.0, b.1)) (name_cuts L r) (λ b. tt))
-      (at_mark (CutBy L) m.LeftBracket ts (λ r. call_at (deeper_of c d) f r) (Ok (Column f, ts)) (λ r e. subst (λ z. CutBy (TreeCut 0 d (name_kind f ∷ z)) (call_at (deeper_of c d) f r)) (sym e) (call_cut d f r cut lower)) tt)
+      (at_terminal (CutBy L) m.LeftBracket ts (λ r. call_at (deeper_of c d) f r) (Ok (Column f, ts)) (λ r e. subst (λ z. CutBy (TreeCut 0 d (name_kind f ∷ z)) (call_at (deeper_of c d) f r)) (sym e) (call_cut d f r cut lower)) tt)
 
   -- ---- CASE and brackets
 
@@ -431,10 +431,10 @@ module _ (c : ℕ) where
       let GoodA : Tree × Tree → Type 0 = λ arm. IsLevelled arm.0 × IsLevelled arm.1 in
       let L : ℕ → Type 0 = IsCut arm_onto GoodA (ArmPass c d) ts in
       then_cuts (IsCut onto IsLevelled (Passes c d) ts) L (IsPart onto (Good c d) ts) (item ts) (λ a. expect m.Then a.1 >>= λ r. item r >>= λ b. Ok ((a.0, b.0), b.1)) (cut ts) (op ts)
-      (cut_step onto IsLevelled (Passes c d) ts arm_onto GoodA (ArmPass c d) ts (λ z. z) (λ a. (a, nothing)) (λ a us. m.Then ▸ (t.Delimiter m.Null ∷ us)) pre_none refl (λ a g. (g, tt)) (λ a us g. refl) (λ a us rest g s. inl s))
-      (λ a i. mark_cuts L m.Then a.1 (λ r. item r >>= λ b. Ok ((a.0, b.0), b.1)) (λ r e.
+      (cut_step onto IsLevelled (Passes c d) ts arm_onto GoodA (ArmPass c d) ts (λ z. z) (λ a. (a, nothing)) (λ a us. m.Then ▸ (t.Terminal m.Null ∷ us)) pre_none refl (λ a g. (g, tt)) (λ a us g. refl) (λ a us rest g s. inl s))
+      (λ a i. terminal_cuts L m.Then a.1 (λ r. item r >>= λ b. Ok ((a.0, b.0), b.1)) (λ r e.
       then_cuts (IsCut onto IsLevelled (Passes c d) r) L (λ z. Unit {0}) (item r) (λ b. Ok ((a.0, b.0), b.1)) (cut r) (all_things (item r))
-      (cut_step onto IsLevelled (Passes c d) r arm_onto GoodA (ArmPass c d) ts (λ z. onto a.0 (m.Then ▸ z)) (λ b. (a.0, b)) (λ b us. us) (pre_then (onto a.0) (λ z. m.Then ▸ z) (pre_tree a.0) (pre_kind (t.Delimiter m.Then))) (i.parts ∙ ap (onto a.0) e) (λ b g. (i.good.0, g)) (λ b us g. refl) (λ b us rest g s. inr s))
+      (cut_step onto IsLevelled (Passes c d) r arm_onto GoodA (ArmPass c d) ts (λ z. onto a.0 (m.Then ▸ z)) (λ b. (a.0, b)) (λ b us. us) (pre_then (onto a.0) (λ z. m.Then ▸ z) (pre_tree a.0) (pre_kind (t.Terminal m.Then))) (i.parts ∙ ap (onto a.0) e) (λ b g. (i.good.0, g)) (λ b us g. refl) (λ b us rest g s. inr s))
       (λ b u. tt)))
 
   abbrev ArmList : ℕ → Kinds → ℕ → Type 0
@@ -456,8 +456,8 @@ module _ (c : ℕ) where
   unfolding else_at
   else_cut d item ts cut =
       let L : ℕ → Type 0 = IsCut else_onto ElseLevelled (ElsePasses c d) ts in
-      at_mark (CutBy L) m.Else ts (λ r. item r >>= λ a. Ok (or_else a.0, a.1)) (Ok (no_else, ts))
-      (λ r e. then_cuts (IsCut onto IsLevelled (Passes c d) r) L (λ z. Unit {0}) (item r) (λ a. Ok (or_else a.0, a.1)) (cut r) (all_things (item r)) (cut_step onto IsLevelled (Passes c d) r else_onto ElseLevelled (ElsePasses c d) ts (λ z. m.Else ▸ z) (λ a. or_else a) (λ a us. us) (pre_kind (t.Delimiter m.Else)) e (λ a g. g) (λ a us g. refl) (λ a us rest g s. s)) (λ a u. tt))
+      at_terminal (CutBy L) m.Else ts (λ r. item r >>= λ a. Ok (or_else a.0, a.1)) (Ok (no_else, ts))
+      (λ r e. then_cuts (IsCut onto IsLevelled (Passes c d) r) L (λ z. Unit {0}) (item r) (λ a. Ok (or_else a.0, a.1)) (cut r) (all_things (item r)) (cut_step onto IsLevelled (Passes c d) r else_onto ElseLevelled (ElsePasses c d) ts (λ z. m.Else ▸ z) (λ a. or_else a) (λ a us. us) (pre_kind (t.Terminal m.Else)) e (λ a g. g) (λ a us g. refl) (λ a us rest g s. s)) (λ a u. tt))
       tt
 
   -- what the arms that were read say of the list
@@ -472,13 +472,13 @@ module _ (c : ℕ) where
       let wc : WholeCut k p = whole_cut k cut in
       let ws : Whole c k p = whole_expression c k sound in
       let L : ℕ → Type 0 = TreeCut 0 (suc k) (m.Case ▸ ts) in
-      mark_cuts L m.When ts (λ r. list_at m.When (arm_at p) r >>= λ arms. else_at p arms.1 >>= λ other. expect m.End other.1 >>= λ r. Ok (Case (arms_of arms.0) other.0, r)) (λ us e.
+      terminal_cuts L m.When ts (λ r. list_at m.When (arm_at p) r >>= λ arms. else_at p arms.1 >>= λ other. expect m.End other.1 >>= λ r. Ok (Case (arms_of arms.0) other.0, r)) (λ us e.
       then_cuts (ArmList k us) L (λ y. IsListed m.When arm_onto (GoodArm c k) us y.0 y.1) (list_at m.When (arm_at p) us) (λ arms. else_at p arms.1 >>= λ other. expect m.End other.1 >>= λ r. Ok (Case (arms_of arms.0) other.0, r))
       (list_cut m.When arm_onto (λ arm. IsLevelled arm.0 × IsLevelled arm.1) (GoodArm c k) (ArmPass c k) (arm_at p) us pre_arm (λ a g. g.0) (λ vs. arm_cut k p vs wc ws) (λ vs. arm_holds c k p vs ws)) (list_holds m.When arm_onto (GoodArm c k) (arm_at p) us (λ vs. arm_holds c k p vs ws))
       (cut_step (listed m.When arm_onto) (GoodList (λ arm. IsLevelled arm.0 × IsLevelled arm.1)) (ListPasses m.When arm_onto (ArmPass c k)) us onto (Tight 0) (Passes c (suc k)) (m.Case ▸ ts) (λ z. m.Case ▸ m.When ▸ z) (λ xs. Case (arms_of xs) no_else) (λ xs us. m.End ▸ us) (λ x y. refl) (ap (λ (z : Kinds). m.Case ▸ z) e) (λ xs g. case_good xs no_else g tt) (λ xs us g. ap (λ (z : Kinds). m.Case ▸ z) (case_spelled xs (m.End ▸ us) g)) (λ xs us rest g s. inl (case_passes k xs (m.End ▸ us) rest g s)))
       (λ arms h. let y = listed_arms k us arms.1 arms.0 h in
       then_cuts (IsCut else_onto ElseLevelled (ElsePasses c k) arms.1) L (λ z. Unit {0}) (else_at p arms.1) (λ other. expect m.End other.1 >>= λ r. Ok (Case (arms_of arms.0) other.0, r)) (else_cut k p arms.1 wc) (all_things (else_at p arms.1))
-      (cut_step else_onto ElseLevelled (ElsePasses c k) arms.1 onto (Tight 0) (Passes c (suc k)) (m.Case ▸ ts) (λ z. m.Case ▸ arms_onto (arms_of arms.0) z) (λ other. Case (arms_of arms.0) other) (λ other us. m.End ▸ us) (pre_then (λ z. m.Case ▸ z) (arms_onto (arms_of arms.0)) (pre_kind (t.Delimiter m.Case)) (pre_arms (arms_of arms.0))) (ap (λ (z : Kinds). m.Case ▸ z) (e ∙ ap (λ (z : Kinds). m.When ▸ z) y.1 ∙ sym (case_spelled arms.0 arms.1 y.0))) (λ other g. case_good arms.0 other y.0 g) (λ other us g. refl) (λ other us rest g s. inr s))
+      (cut_step else_onto ElseLevelled (ElsePasses c k) arms.1 onto (Tight 0) (Passes c (suc k)) (m.Case ▸ ts) (λ z. m.Case ▸ arms_onto (arms_of arms.0) z) (λ other. Case (arms_of arms.0) other) (λ other us. m.End ▸ us) (pre_then (λ z. m.Case ▸ z) (arms_onto (arms_of arms.0)) (pre_kind (t.Terminal m.Case)) (pre_arms (arms_of arms.0))) (ap (λ (z : Kinds). m.Case ▸ z) (e ∙ ap (λ (z : Kinds). m.When ▸ z) y.1 ∙ sym (case_spelled arms.0 arms.1 y.0))) (λ other g. case_good arms.0 other y.0 g) (λ other us g. refl) (λ other us rest g s. inr s))
       (λ other u. on_cuts L (expect m.End other.1) (λ r. Ok (Case (arms_of arms.0) other.0, r)) (expect_cuts L m.End other.1) (λ r. tt))))
 
   bracket_cut : (k : ℕ) (ts : Kinds) → CutAt k → CutBy (TreeCut 0 (suc k) (m.LeftBracket ▸ ts)) (bracket_at (levels c (deeper_of c k) 8) ts)
@@ -487,24 +487,24 @@ module _ (c : ℕ) where
       let p : Parser Tree = levels c (deeper_of c k) 8 in
       let L : ℕ → Type 0 = TreeCut 0 (suc k) (m.LeftBracket ▸ ts) in
       then_cuts (IsCut onto IsLevelled (Passes c k) ts) L (λ z. Unit {0}) (p ts) (λ a. expect m.RightBracket a.1 >>= λ r. Ok (Bracket a.0, r)) (whole_cut k cut ts) (all_things (p ts))
-      (cut_step onto IsLevelled (Passes c k) ts onto (Tight 0) (Passes c (suc k)) (m.LeftBracket ▸ ts) (λ z. m.LeftBracket ▸ z) (λ a. Bracket a) (λ a us. m.RightBracket ▸ us) (pre_kind (t.Delimiter m.LeftBracket)) refl (λ a g. (g, omega arith)) (λ a us g. refl) (λ a us rest g s. s))
+      (cut_step onto IsLevelled (Passes c k) ts onto (Tight 0) (Passes c (suc k)) (m.LeftBracket ▸ ts) (λ z. m.LeftBracket ▸ z) (λ a. Bracket a) (λ a us. m.RightBracket ▸ us) (pre_kind (t.Terminal m.LeftBracket)) refl (λ a g. (g, omega arith)) (λ a us g. refl) (λ a us rest g s. s))
       (λ a u. on_cuts L (expect m.RightBracket a.1) (λ r. Ok (Bracket a.0, r)) (expect_cuts L m.RightBracket a.1) (λ r. tt))
 
   -- ---- from height to height
 
-  mark_cut : (d : ℕ) (x : Delimiter) (ts : Kinds) → WithinCut d → Within c d → CutBy (TreeCut 0 d (x ▸ ts)) (primary_by_mark (deeper_of c d) x ts)
-  mark_cut d m.True ts cut lower = tt
-  mark_cut d m.False ts cut lower = tt
-  mark_cut d m.Null ts cut lower = tt
-  mark_cut d m.LeftBracket ts cut lower =
+  terminal_cut : (d : ℕ) (x : Terminal) (ts : Kinds) → WithinCut d → Within c d → CutBy (TreeCut 0 d (x ▸ ts)) (primary_by_terminal (deeper_of c d) x ts)
+  terminal_cut d m.True ts cut lower = tt
+  terminal_cut d m.False ts cut lower = tt
+  terminal_cut d m.Null ts cut lower = tt
+  terminal_cut d m.LeftBracket ts cut lower =
       enter_cuts (suc (length ts)) (λ j. TreeCut 0 j (m.LeftBracket ▸ ts)) (λ p. bracket_at (p 8) ts)
-      (cut_here onto (Tight 0) (Passes c 0) (m.LeftBracket ▸ ts) (λ z. z) (t.Delimiter m.LeftBracket) ts (Bracket nothing) (λ us. t.Delimiter m.Null ∷ (m.RightBracket ▸ us)) (suc (length ts)) pre_none (tt, omega arith) refl refl (λ us. refl) (λ us. refl))
+      (cut_here onto (Tight 0) (Passes c 0) (m.LeftBracket ▸ ts) (λ z. z) (t.Terminal m.LeftBracket) ts (Bracket nothing) (λ us. t.Terminal m.Null ∷ (m.RightBracket ▸ us)) (suc (length ts)) pre_none (tt, omega arith) refl refl (λ us. refl) (λ us. refl))
       (λ k cut sound. bracket_cut k ts cut) d cut lower
-  mark_cut d m.Case ts cut lower =
+  terminal_cut d m.Case ts cut lower =
       enter_cuts (suc (length ts)) (λ j. TreeCut 0 j (m.Case ▸ ts)) (λ p. case_at (p 8) ts)
-      (cut_here onto (Tight 0) (Passes c 0) (m.Case ▸ ts) (λ z. z) (t.Delimiter m.Case) ts (Case (more_arms nothing nothing no_arms) no_else) (λ us. m.When ▸ (t.Delimiter m.Null ∷ (m.Then ▸ (t.Delimiter m.Null ∷ (m.End ▸ us))))) (suc (length ts)) pre_none ((tt, (tt, tt, tt), tt), omega arith) refl refl (λ us. refl) (λ us. refl))
+      (cut_here onto (Tight 0) (Passes c 0) (m.Case ▸ ts) (λ z. z) (t.Terminal m.Case) ts (Case (more_arms nothing nothing no_arms) no_else) (λ us. m.When ▸ (t.Terminal m.Null ∷ (m.Then ▸ (t.Terminal m.Null ∷ (m.End ▸ us))))) (suc (length ts)) pre_none ((tt, (tt, tt, tt), tt), omega arith) refl refl (λ us. refl) (λ us. refl))
       (λ k cut sound. case_cut k ts cut sound) d cut lower
-  mark_cut d _ ts cut lower = tt
+  terminal_cut d _ ts cut lower = tt
 
   primary_cut : (d : ℕ) (ts : Kinds) → WithinCut d → Within c d → CutBy (TreeCut 0 d ts) (primary (deeper_of c d) ts)
   unfolding primary
@@ -513,24 +513,24 @@ module _ (c : ℕ) where
   primary_cut d (t.Literal text ∷ ts) cut lower = tt
   primary_cut d (t.Word text ∷ ts) cut lower = named_cut d (record { text = text; quoted = false }) ts cut lower
   primary_cut d (t.Quoted text ∷ ts) cut lower = named_cut d (record { text = text; quoted = true }) ts cut lower
-  primary_cut d (t.Delimiter x ∷ ts) cut lower = mark_cut d x ts cut lower
+  primary_cut d (t.Terminal x ∷ ts) cut lower = terminal_cut d x ts cut lower
 
-  signed_cut : (d : ℕ) (ts : Kinds) (o : Option (Sign × Kinds)) (p : Parser Tree) → WithinCut d → Within c d → CutBy (TreeCut 0 d ts) (p ts) → Kept (λ y. ts ≡ sign_mark y.0 ▸ y.1) o → CutBy (TreeCut 1 d ts) (signed_by o (deeper_of c d) p ts)
+  signed_cut : (d : ℕ) (ts : Kinds) (o : Option (Sign × Kinds)) (p : Parser Tree) → WithinCut d → Within c d → CutBy (TreeCut 0 d ts) (p ts) → Kept (λ y. ts ≡ sign_terminal y.0 ▸ y.1) o → CutBy (TreeCut 1 d ts) (signed_by o (deeper_of c d) p ts)
   signed_cut d ts None p cut lower own k = cuts_looser 0 d ts (p ts) own
   signed_cut d ts (Some x) p cut lower own k =
       enter_cuts (length ts) (λ j. TreeCut 1 j ts) (λ p. p 1 x.1 >>= λ a. Ok (Signed x.0 a.0, a.1))
-      (cut_here onto (Tight 1) (Passes c 0) ts (λ z. z) (t.Delimiter (sign_mark x.0)) x.1 (Signed x.0 nothing) (λ us. t.Delimiter m.Null ∷ us) (length ts) pre_none ((tt, omega arith), omega arith) k (sym (ap length k)) (λ us. refl) (λ us. refl))
+      (cut_here onto (Tight 1) (Passes c 0) ts (λ z. z) (t.Terminal (sign_terminal x.0)) x.1 (Signed x.0 nothing) (λ us. t.Terminal m.Null ∷ us) (length ts) pre_none ((tt, omega arith), omega arith) k (sym (ap length k)) (λ us. refl) (λ us. refl))
       (λ j cut sound. then_cuts (TreeCut 1 j x.1) (TreeCut 1 (suc j) ts) (λ z. Unit {0}) (levels c (deeper_of c j) 1 x.1) (λ a. Ok (Signed x.0 a.0, a.1)) (cut 1 x.1) (all_things (levels c (deeper_of c j) 1 x.1))
-      (cut_step onto (Tight 1) (Passes c j) x.1 onto (Tight 1) (Passes c (suc j)) ts (λ z. sign_mark x.0 ▸ z) (λ a. Signed x.0 a) (λ a us. us) (pre_kind (t.Delimiter (sign_mark x.0))) k (λ a g. (g, omega arith)) (λ a us g. refl) (λ a us rest g s. s))
+      (cut_step onto (Tight 1) (Passes c j) x.1 onto (Tight 1) (Passes c (suc j)) ts (λ z. sign_terminal x.0 ▸ z) (λ a. Signed x.0 a) (λ a us. us) (pre_kind (t.Terminal (sign_terminal x.0))) k (λ a g. (g, omega arith)) (λ a us g. refl) (λ a us rest g s. s))
       (λ a u. tt)) d cut lower
 
   negated_cut : (d : ℕ) (ts : Kinds) (p : Parser Tree) → WithinCut d → Within c d → CutBy (TreeCut 5 d ts) (p ts) → CutBy (TreeCut 6 d ts) (choose (eat m.Not ts) (λ r. enter (length ts) (deeper_of c d) (λ p. p 6 r >>= λ a. Ok (Negated a.0, a.1))) (p ts))
   negated_cut d ts p cut lower own =
-      at_mark (CutBy (TreeCut 6 d ts)) m.Not ts (λ r. enter (length ts) (deeper_of c d) (λ p. p 6 r >>= λ a. Ok (Negated a.0, a.1))) (p ts)
+      at_terminal (CutBy (TreeCut 6 d ts)) m.Not ts (λ r. enter (length ts) (deeper_of c d) (λ p. p 6 r >>= λ a. Ok (Negated a.0, a.1))) (p ts)
       (λ r e. enter_cuts (length ts) (λ j. TreeCut 6 j ts) (λ p. p 6 r >>= λ a. Ok (Negated a.0, a.1))
-      (cut_here onto (Tight 6) (Passes c 0) ts (λ z. z) (t.Delimiter m.Not) r (Negated nothing) (λ us. t.Delimiter m.Null ∷ us) (length ts) pre_none ((tt, omega arith), omega arith) e (sym (ap length e)) (λ us. refl) (λ us. refl))
+      (cut_here onto (Tight 6) (Passes c 0) ts (λ z. z) (t.Terminal m.Not) r (Negated nothing) (λ us. t.Terminal m.Null ∷ us) (length ts) pre_none ((tt, omega arith), omega arith) e (sym (ap length e)) (λ us. refl) (λ us. refl))
       (λ j cut sound. then_cuts (TreeCut 6 j r) (TreeCut 6 (suc j) ts) (λ z. Unit {0}) (levels c (deeper_of c j) 6 r) (λ a. Ok (Negated a.0, a.1)) (cut 6 r) (all_things (levels c (deeper_of c j) 6 r))
-      (cut_step onto (Tight 6) (Passes c j) r onto (Tight 6) (Passes c (suc j)) ts (λ z. m.Not ▸ z) (λ a. Negated a) (λ a us. us) (pre_kind (t.Delimiter m.Not)) e (λ a g. (g, omega arith)) (λ a us g. refl) (λ a us rest g s. s))
+      (cut_step onto (Tight 6) (Passes c j) r onto (Tight 6) (Passes c (suc j)) ts (λ z. m.Not ▸ z) (λ a. Negated a) (λ a us. us) (pre_kind (t.Terminal m.Not)) e (λ a g. (g, omega arith)) (λ a us g. refl) (λ a us rest g s. s))
       (λ a u. tt)) d cut lower)
       (cuts_looser 5 d ts (p ts) own)
 

@@ -1,7 +1,7 @@
 -- What never passes a limit, and what stands before other tokens.
 use Rattle.std.proofs.Common.{◌≡◌, ℕ, Bool, true, false, List, [], ◌∷◌, Option, Some, None, Result, Ok, Err, refl, ap, ◌∙◌}
-use Rattle.wd_lex.specs.declared.token.Delimiter.{Delimiter}
-use Rattle.wd_lex.specs.declared.token.Delimiter.TheVariants as m
+use Rattle.wd_lex.specs.declared.token.Terminal.{Terminal}
+use Rattle.wd_lex.specs.declared.token.Terminal.TheVariants as m
 use Rattle.wd_lex.specs.declared.token.TokenKind.TheVariants as t
 use Rattle.wd_syntax.specs.declared.words.KeyWord.{KeyWord}
 use Rattle.wd_syntax.specs.declared.words.KeyWord.TheVariants as k
@@ -31,7 +31,7 @@ use Rattle.wd_syntax.specs.declared.query.Count.{Count}
 use Rattle.wd_syntax.specs.declared.query.Count.TheVariants as c
 use Rattle.wd_syntax.specs.declared.query.Limits.{Limits}
 use Rattle.wd_syntax.specs.declared.query.Limits.TheVariants.{OffsetFirst, CountFirst}
-use Rattle.wd_syntax.specs.Tokens.{Kinds, ◌▸◌, ◌▹◌, name_kind, operator_mark, sign_mark}
+use Rattle.wd_syntax.specs.Tokens.{Kinds, ◌▸◌, ◌▹◌, name_kind, operator_terminal, sign_terminal}
 use Rattle.wd_syntax.specs.Tree.{Tree, Constant, Column, Qualified, CallAll, Call, Case, Bracket, Signed, Binary, IsNull, Negated, Trees, no_trees, more_trees, Arms, no_arms, more_arms, Otherwise, no_else, or_else, OverTree, no_over, over_name, over_window, WindowTree, window, Keys, no_keys, more_keys, ItemTree, all_columns, all_of, shown, TableTree, named, derived, JoinTree, comma, cross, inner, Joins, no_joins, more_joins, SelectTree, select, Key}
 use Rattle.wd_syntax.specs.Spelling.{mode_onto, bound_onto, extent_onto, exclusion_onto, frame_onto, direction_onto, nulls_onto, not_onto, base_onto, onto, list_onto, more_onto, arms_onto, else_onto, over_onto, window_onto, partition_onto, order_onto, more_keys_onto, quantifier_onto, as_onto, given_onto, alias_onto, item_onto, more_items_onto, items_onto, filter_onto, named_window_onto, more_windows_onto, windows_onto, row_onto, row_option_onto, offset_onto, fetch_onto, number_onto, ties_onto, count_onto, limits_onto, tail_onto, table_onto, join_onto, joins_onto, select_onto}
 use Rattle.wd_syntax.specs.Reading.{Fault, Unexpected, Limit, ◌>>=◌, Reads, choose, eat, expect, eat_word, expect_word, eat_name, name_at, number_at, some_or_unexpected, try, optional, mode_at, side_at, unbounded, away, bound_at, extent_at, excluded_at, exclusion_at, frame_if, frame_at, nulls_at, null_at, given_at, bare_if, alias_at, row_at, row_if, offset_at, fetch_word_at, number_option_at, ties_at, fetch_at, limit_at, count_if, offset_if, limits_at}
@@ -60,7 +60,7 @@ some_cuts : {A : Type 0} (K : ℕ → Type 0) (o : Option A) → CutBy K (some_o
 some_cuts K None = tt
 some_cuts K (Some x) = tt
 
-pub expect_cuts : (K : ℕ → Type 0) (x : Delimiter) (ts : Kinds) → CutBy K (expect x ts)
+pub expect_cuts : (K : ℕ → Type 0) (x : Terminal) (ts : Kinds) → CutBy K (expect x ts)
 unfolding expect
 expect_cuts K x ts = some_cuts K (eat x ts)
 
@@ -75,7 +75,7 @@ name_cuts K ts = some_cuts K (eat_name ts)
 pub number_cuts : (K : ℕ → Type 0) (ts : Kinds) → CutBy K (number_at ts)
 unfolding number_at
 number_cuts K [] = tt
-number_cuts K (t.Delimiter y ∷ ts) = tt
+number_cuts K (t.Terminal y ∷ ts) = tt
 number_cuts K (t.Word text ∷ ts) = tt
 number_cuts K (t.Quoted text ∷ ts) = tt
 number_cuts K (t.Literal text ∷ ts) = tt
@@ -262,8 +262,8 @@ mutual
   pre_tree (Call f bs over) ts us = ap (λ (z : Kinds). name_kind f ∷ (m.LeftBracket ▸ list_onto bs (m.RightBracket ▸ z))) (pre_over over ts us) ∙ ap (λ (z : Kinds). name_kind f ∷ (m.LeftBracket ▸ z)) (pre_list bs (m.RightBracket ▸ over_onto over ts) us)
   pre_tree (Case arms other) ts us = ap (λ (z : Kinds). m.Case ▸ arms_onto arms z) (pre_else other (m.End ▸ ts) us) ∙ ap (λ (z : Kinds). m.Case ▸ z) (pre_arms arms (else_onto other (m.End ▸ ts)) us)
   pre_tree (Bracket a) ts us = ap (λ (z : Kinds). m.LeftBracket ▸ z) (pre_tree a (m.RightBracket ▸ ts) us)
-  pre_tree (Signed s a) ts us = ap (λ (z : Kinds). sign_mark s ▸ z) (pre_tree a ts us)
-  pre_tree (Binary o a b) ts us = ap (λ (z : Kinds). onto a (operator_mark o ▸ z)) (pre_tree b ts us) ∙ pre_tree a (operator_mark o ▸ onto b ts) us
+  pre_tree (Signed s a) ts us = ap (λ (z : Kinds). sign_terminal s ▸ z) (pre_tree a ts us)
+  pre_tree (Binary o a b) ts us = ap (λ (z : Kinds). onto a (operator_terminal o ▸ z)) (pre_tree b ts us) ∙ pre_tree a (operator_terminal o ▸ onto b ts) us
   pre_tree (IsNull a not) ts us = ap (λ (z : Kinds). onto a (m.Is ▸ z)) (pre_not not ts us) ∙ pre_tree a (m.Is ▸ not_onto not (m.Null ▸ ts)) us
   pre_tree (Negated a) ts us = ap (λ (z : Kinds). m.Not ▸ z) (pre_tree a ts us)
 

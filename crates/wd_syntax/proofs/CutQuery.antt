@@ -1,6 +1,6 @@
 -- Where reading a query passes a limit, some query with the same front passes it at the same token.
 use Rattle.std.proofs.Common.{◌≡◌, ℕ, zero, suc, ◌≤◌, ◌⊎◌, inl, inr, Bool, true, false, List, [], ◌∷◌, length, Option, Some, None, Ok, refl, sym, ap, subst, ◌∙◌, ⊎_elim}
-use Rattle.wd_lex.specs.declared.token.Delimiter.TheVariants as m
+use Rattle.wd_lex.specs.declared.token.Terminal.TheVariants as m
 use Rattle.wd_lex.specs.declared.token.TokenKind.{TokenKind}
 use Rattle.wd_lex.specs.declared.token.TokenKind.TheVariants as t
 use Rattle.wd_syntax.specs.declared.name.Name.{Name}
@@ -15,11 +15,11 @@ use Rattle.wd_syntax.specs.Reading.{◌>>=◌, Reads, Parser, choose, eat, expec
 use Rattle.std.proofs.Common.{◌++◌}
 use Rattle.std.specs.Prelude.{codes}
 use Rattle.wd_syntax.specs.Passing.{Passes, WindowPasses, KeyPasses, ItemPasses, OneItemPasses, FilterPasses, NamedPasses, OneWindowPasses, TablePasses, JoinPasses, OneJoinPasses, SelectPasses, QueryPasses}
-use Rattle.wd_syntax.proofs.SoundPieces.{at_mark, IsPart, all_onto, marked, list_holds, IsListed, quantifier_is, name_holds}
+use Rattle.wd_syntax.proofs.SoundPieces.{at_terminal, IsPart, all_onto, led_by, list_holds, IsListed, quantifier_is, name_holds}
 use Rattle.wd_syntax.proofs.Sound.{each_left, Whole, whole_expression, Within, sound, within}
 use Rattle.wd_syntax.proofs.SoundQuery.{items_spelled, windows_spelled, joins_spelled, item_holds, named_window_holds, filter_holds, windows_hold, table_holds, join_holds, from_holds, selects_hold, GoodItem, GoodNamed, GoodTable, GoodJoin, GoodFilter, GoodWindows, Inside, from_onto, GoodTables}
 use Rattle.wd_syntax.proofs.CutPieces.{CutBy, MayCut, then_cuts, expect_cuts, name_cuts, on_cuts, either_cuts, given_cuts, alias_cuts, limits_cuts, IsPre, pre_then, pre_item, pre_items, pre_quantifier, pre_filter, pre_named, pre_windows, pre_table, pre_join, pre_joins}
-use Rattle.wd_syntax.proofs.Cut.{IsCut, cut_step, cut_here, pre_kind, SomePasses, many_cut, listed, GoodList, ListPasses, list_cut, mark_cuts, mapped_cuts, all_things, nothing, WholeCut, whole_cut, enter_cuts, WithinCut, WindowCut, window_cut, no_window, OrderCut, order_cut, cut, cut_within}
+use Rattle.wd_syntax.proofs.Cut.{IsCut, cut_step, cut_here, pre_kind, SomePasses, many_cut, listed, GoodList, ListPasses, list_cut, terminal_cuts, mapped_cuts, all_things, nothing, WholeCut, whole_cut, enter_cuts, WithinCut, WindowCut, window_cut, no_window, OrderCut, order_cut, cut, cut_within}
 
 -- a name and a select, which may stand where one is wanted
 abbrev some_name : Name
@@ -38,11 +38,11 @@ some_select = select None (all_columns ∷ []) some_table no_joins None [] no_ke
 abbrev short : Option Quantifier → List ItemTree → TableTree → List JoinTree → Option Tree → List (Name × WindowTree) → Keys → SelectTree
 short quantifier items first joins filter windows order = select quantifier items first (joins_of joins) filter windows order None
 
-items_pass : (c d : ℕ) (xs : List ItemTree) (us rest : Kinds) → SomePasses (marked m.Comma item_onto) (ItemPasses c d) xs us rest → OneItemPasses c d xs us rest
+items_pass : (c d : ℕ) (xs : List ItemTree) (us rest : Kinds) → SomePasses (led_by m.Comma item_onto) (ItemPasses c d) xs us rest → OneItemPasses c d xs us rest
 items_pass c d [] us rest h = h
 items_pass c d (a ∷ xs) us rest h = ⊎_elim (λ s. inl (subst (λ z. ItemPasses c d a z rest) (items_spelled xs us) s)) (λ s. inr (items_pass c d xs us rest s)) h
 
-windows_pass : (c d : ℕ) (xs : List (Name × WindowTree)) (us rest : Kinds) → SomePasses (marked m.Comma named_window_onto) (NamedPasses c d) xs us rest → OneWindowPasses c d xs us rest
+windows_pass : (c d : ℕ) (xs : List (Name × WindowTree)) (us rest : Kinds) → SomePasses (led_by m.Comma named_window_onto) (NamedPasses c d) xs us rest → OneWindowPasses c d xs us rest
 windows_pass c d [] us rest h = h
 windows_pass c d (a ∷ xs) us rest h = ⊎_elim (λ s. inl (subst (λ z. NamedPasses c d a z rest) (windows_spelled xs us) s)) (λ s. inr (windows_pass c d xs us rest s)) h
 
@@ -63,7 +63,7 @@ module _ (c : ℕ) where
   unfolding item_at
   item_cut d item ts cut =
       let L : ℕ → Type 0 = IsCut item_onto ItemLevelled (ItemPasses c d) ts in
-      at_mark (CutBy L) m.Star ts (λ r. Ok (all_columns, r)) (item_if (star_at ts) (item ts >>= λ a. alias_at a.1 >>= λ alias. Ok (shown a.0 alias.0, alias.1))) (λ r e. tt)
+      at_terminal (CutBy L) m.Star ts (λ r. Ok (all_columns, r)) (item_if (star_at ts) (item ts >>= λ a. alias_at a.1 >>= λ alias. Ok (shown a.0 alias.0, alias.1))) (λ r e. tt)
       (item_else_cuts L (star_at ts) (item ts >>= λ a. alias_at a.1 >>= λ alias. Ok (shown a.0 alias.0, alias.1))
       (then_cuts (IsCut onto IsLevelled (Passes c d) ts) L (λ z. Unit {0}) (item ts) (λ a. alias_at a.1 >>= λ alias. Ok (shown a.0 alias.0, alias.1)) (cut ts) (all_things (item ts))
       (cut_step onto IsLevelled (Passes c d) ts item_onto ItemLevelled (ItemPasses c d) ts (λ z. z) (λ a. shown a None) (λ a us. us) (λ x y. refl) refl (λ a g. g) (λ a us g. refl) (λ a us rest g s. s))
@@ -73,7 +73,7 @@ module _ (c : ℕ) where
   unfolding filter_at
   filter_cut d item ts cut =
       let L : ℕ → Type 0 = IsCut filter_onto OptionLevelled (FilterPasses c d) ts in
-      at_mark (CutBy L) m.Where ts (λ r. item r >>= λ a. Ok (Some a.0, a.1)) (Ok (None, ts))
+      at_terminal (CutBy L) m.Where ts (λ r. item r >>= λ a. Ok (Some a.0, a.1)) (Ok (None, ts))
       (λ r e. then_cuts (IsCut onto IsLevelled (Passes c d) r) L (λ z. Unit {0}) (item r) (λ a. Ok (Some a.0, a.1)) (cut r) (all_things (item r)) (cut_step onto IsLevelled (Passes c d) r filter_onto OptionLevelled (FilterPasses c d) ts (λ z. m.Where ▸ z) (λ a. Some a) (λ a us. us) (λ x y. refl) e (λ a g. g) (λ a us g. refl) (λ a us rest g s. s)) (λ a u. tt))
       tt
 
@@ -85,12 +85,12 @@ module _ (c : ℕ) where
   named_window_cut d ts cut lower =
       let L : ℕ → ℕ → Type 0 = λ j. IsCut named_window_onto NamedLevelled (NamedPasses c j) ts in
       then_cuts (L d) (L d) (λ x. ts ≡ name_kind x.0 ∷ x.1) (name_at ts) (λ n. expect m.As n.1 >>= λ r. expect m.LeftBracket r >>= λ q. enter (length r) (deeper_of c d) (λ p. window_at (p 8) q) >>= λ w. Ok ((n.0, w.0), w.1)) (name_cuts (L d) ts) (name_holds ts) (λ left i. i) (λ n e.
-      mark_cuts (L d) m.As n.1 (λ r. expect m.LeftBracket r >>= λ q. enter (length r) (deeper_of c d) (λ p. window_at (p 8) q) >>= λ w. Ok ((n.0, w.0), w.1)) (λ r f.
-      mark_cuts (L d) m.LeftBracket r (λ q. enter (length r) (deeper_of c d) (λ p. window_at (p 8) q) >>= λ w. Ok ((n.0, w.0), w.1)) (λ q h.
+      terminal_cuts (L d) m.As n.1 (λ r. expect m.LeftBracket r >>= λ q. enter (length r) (deeper_of c d) (λ p. window_at (p 8) q) >>= λ w. Ok ((n.0, w.0), w.1)) (λ r f.
+      terminal_cuts (L d) m.LeftBracket r (λ q. enter (length r) (deeper_of c d) (λ p. window_at (p 8) q) >>= λ w. Ok ((n.0, w.0), w.1)) (λ q h.
       let start : ts ≡ name_kind n.0 ∷ (m.As ▸ m.LeftBracket ▸ q) = e ∙ ap (λ (z : Kinds). name_kind n.0 ∷ z) (f ∙ ap (λ (z : Kinds). m.As ▸ z) h) in
       on_cuts (L d) (enter (length r) (deeper_of c d) (λ p. window_at (p 8) q)) (λ w. Ok ((n.0, w.0), w.1))
       (enter_cuts c (length r) L (λ p. window_at (p 8) q)
-      (cut_here named_window_onto NamedLevelled (NamedPasses c 0) ts (λ z. name_kind n.0 ∷ (m.As ▸ z)) (t.Delimiter m.LeftBracket) q (n.0, no_window c) (λ us. m.RightBracket ▸ us) (length r) (λ x y. refl) (tt, tt) start (sym (ap length h)) (λ us. refl) (λ us. refl))
+      (cut_here named_window_onto NamedLevelled (NamedPasses c 0) ts (λ z. name_kind n.0 ∷ (m.As ▸ z)) (t.Terminal m.LeftBracket) q (n.0, no_window c) (λ us. m.RightBracket ▸ us) (length r) (λ x y. refl) (tt, tt) start (sym (ap length h)) (λ us. refl) (λ us. refl))
       (λ k cut sound. mapped_cuts (WindowCut c k q) (L (suc k)) (window_at (levels c (deeper_of c k) 8) q) (window_cut c k (levels c (deeper_of c k) 8) q (whole_cut c k cut) (whole_expression c k sound))
       (cut_step (λ w us. window_onto w (m.RightBracket ▸ us)) WindowLevelled (λ w us rest. WindowPasses c k w (m.RightBracket ▸ us) rest) q named_window_onto NamedLevelled (NamedPasses c (suc k)) ts (λ z. name_kind n.0 ∷ (m.As ▸ m.LeftBracket ▸ z)) (λ w. (n.0, w)) (λ w us. us) (λ x y. refl) start (λ w g. g) (λ w us g. refl) (λ w us rest g s. s))) d cut lower)
       (λ w. tt))))
@@ -113,7 +113,7 @@ module _ (c : ℕ) where
   windows_cut : (d : ℕ) (ts : Kinds) → WithinCut c d → Within c d → CutBy (WindowsCut d ts) (windows_at (deeper_of c d) ts)
   unfolding windows_at
   windows_cut d ts cut lower =
-      at_mark (CutBy (WindowsCut d ts)) m.Window ts (λ r. list_at m.Comma (named_window_at (deeper_of c d)) r) (Ok ([], ts))
+      at_terminal (CutBy (WindowsCut d ts)) m.Window ts (λ r. list_at m.Comma (named_window_at (deeper_of c d)) r) (Ok ([], ts))
       (λ r e. mapped_cuts (IsCut (listed m.Comma named_window_onto) (GoodList NamedLevelled) (ListPasses m.Comma named_window_onto (NamedPasses c d)) r) (WindowsCut d ts) (list_at m.Comma (named_window_at (deeper_of c d)) r)
       (list_cut m.Comma named_window_onto NamedLevelled (GoodNamed c d) (NamedPasses c d) (named_window_at (deeper_of c d)) r pre_named (λ a g. g.0) (λ us. named_window_cut d us cut lower) (λ us. named_window_holds c d us lower))
       (cut_step (listed m.Comma named_window_onto) (GoodList NamedLevelled) (ListPasses m.Comma named_window_onto (NamedPasses c d)) r windows_onto (Each NamedLevelled) (OneWindowPasses c d) ts (λ z. m.Window ▸ z) (λ xs. xs) (λ xs us. us) (λ x y. refl) e windows_good windows_spelled' (windows_passes d)))
@@ -142,10 +142,10 @@ module _ (c : ℕ) where
   unfolding table_at
   table_cut d ts cut =
       let L : ℕ → ℕ → Type 0 = λ j. TableCut j ts in
-      at_mark (CutBy (L d)) m.LeftBracket ts (λ r. enter (length ts) (inside_of c d) (λ p. p r) >>= λ s. expect m.RightBracket s.1 >>= λ r. given_at r >>= λ alias. Ok (derived s.0 alias.0, alias.1)) (name_at ts >>= λ n. alias_at n.1 >>= λ alias. Ok (named n.0 alias.0, alias.1))
+      at_terminal (CutBy (L d)) m.LeftBracket ts (λ r. enter (length ts) (inside_of c d) (λ p. p r) >>= λ s. expect m.RightBracket s.1 >>= λ r. given_at r >>= λ alias. Ok (derived s.0 alias.0, alias.1)) (name_at ts >>= λ n. alias_at n.1 >>= λ alias. Ok (named n.0 alias.0, alias.1))
       (λ r e. on_cuts (L d) (enter (length ts) (inside_of c d) (λ p. p r)) (λ s. expect m.RightBracket s.1 >>= λ r. given_at r >>= λ alias. Ok (derived s.0 alias.0, alias.1))
       (inside_cuts (length ts) L r
-      (cut_here table_onto TableLevelled (TablePasses c 0) ts (λ z. z) (t.Delimiter m.LeftBracket) r (derived some_select some_alias) (λ us. select_onto some_select (m.RightBracket ▸ given_onto some_alias us)) (length ts) (λ x y. refl) (tt, (tt, tt), tt, tt, tt, tt, tt) e (sym (ap length e)) (λ us. refl) (λ us. refl))
+      (cut_here table_onto TableLevelled (TablePasses c 0) ts (λ z. z) (t.Terminal m.LeftBracket) r (derived some_select some_alias) (λ us. select_onto some_select (m.RightBracket ▸ given_onto some_alias us)) (length ts) (λ x y. refl) (tt, (tt, tt), tt, tt, tt, tt, tt) e (sym (ap length e)) (λ us. refl) (λ us. refl))
       (λ k all. mapped_cuts (SelectCut k r) (L (suc k)) (selects c k r) (all r)
       (cut_step select_onto SelectLevelled (SelectPasses c k) r table_onto TableLevelled (TablePasses c (suc k)) ts (λ z. m.LeftBracket ▸ z) (λ s. derived s some_alias) (λ s us. m.RightBracket ▸ given_onto some_alias us) (λ x y. refl) e (λ s g. g) (λ s us g. refl) (λ s us rest g p. p))) d cut)
       (λ s. on_cuts (L d) (expect m.RightBracket s.1) (λ r. given_at r >>= λ alias. Ok (derived s.0 alias.0, alias.1)) (expect_cuts (L d) m.RightBracket s.1) (λ q. on_cuts (L d) (given_at q) (λ alias. Ok (derived s.0 alias.0, alias.1)) (given_cuts (L d) q) (λ alias. tt))))
@@ -155,27 +155,27 @@ module _ (c : ℕ) where
   JoinCut d ts = IsCut join_onto JoinLevelled (JoinPasses c d) ts
 
   -- what stands before the table of an inner join
-  abbrev inner_mark : Bool → Kinds → Kinds
-  inner_mark true z = m.Inner ▸ m.Join ▸ z
-  inner_mark false z = m.Join ▸ z
+  abbrev inner_terminal : Bool → Kinds → Kinds
+  inner_terminal true z = m.Inner ▸ m.Join ▸ z
+  inner_terminal false z = m.Join ▸ z
 
-  pre_inner : (b : Bool) → IsPre (inner_mark b)
+  pre_inner : (b : Bool) → IsPre (inner_terminal b)
   pre_inner true ts us = refl
   pre_inner false ts us = refl
 
-  inner_spelled : (b : Bool) (table : TableTree) (on : Tree) (us : Kinds) → join_onto (inner b table on) us ≡ inner_mark b (table_onto table (m.On ▸ onto on us))
+  inner_spelled : (b : Bool) (table : TableTree) (on : Tree) (us : Kinds) → join_onto (inner b table on) us ≡ inner_terminal b (table_onto table (m.On ▸ onto on us))
   inner_spelled true table on us = refl
   inner_spelled false table on us = refl
 
-  inner_cut : (d : ℕ) (b : Bool) (item : Parser Tree) (ts us : Kinds) → WholeCut c d item → InsideCut d → Inside c d → ts ≡ inner_mark b us → CutBy (JoinCut d ts) (inner_at (inside_of c d) item b us)
+  inner_cut : (d : ℕ) (b : Bool) (item : Parser Tree) (ts us : Kinds) → WholeCut c d item → InsideCut d → Inside c d → ts ≡ inner_terminal b us → CutBy (JoinCut d ts) (inner_at (inside_of c d) item b us)
   unfolding inner_at
   inner_cut d b item ts us cut tables lower e =
       let L : ℕ → Type 0 = JoinCut d ts in
       then_cuts (TableCut d us) L (IsPart table_onto (GoodTable c d) us) (table_at (inside_of c d) us) (λ table. expect m.On table.1 >>= λ r. item r >>= λ on. Ok (inner b table.0 on.0, on.1)) (table_cut d us tables) (table_holds c d us lower)
-      (cut_step table_onto TableLevelled (TablePasses c d) us join_onto JoinLevelled (JoinPasses c d) ts (inner_mark b) (λ table. inner b table nothing) (λ table us. m.On ▸ (t.Delimiter m.Null ∷ us)) (pre_inner b) e (λ table g. (g, tt)) (λ table us g. inner_spelled b table nothing us) (λ table us rest g s. inl s))
-      (λ table i. mark_cuts L m.On table.1 (λ r. item r >>= λ on. Ok (inner b table.0 on.0, on.1)) (λ r f.
+      (cut_step table_onto TableLevelled (TablePasses c d) us join_onto JoinLevelled (JoinPasses c d) ts (inner_terminal b) (λ table. inner b table nothing) (λ table us. m.On ▸ (t.Terminal m.Null ∷ us)) (pre_inner b) e (λ table g. (g, tt)) (λ table us g. inner_spelled b table nothing us) (λ table us rest g s. inl s))
+      (λ table i. terminal_cuts L m.On table.1 (λ r. item r >>= λ on. Ok (inner b table.0 on.0, on.1)) (λ r f.
       then_cuts (IsCut onto IsLevelled (Passes c d) r) L (λ z. Unit {0}) (item r) (λ on. Ok (inner b table.0 on.0, on.1)) (cut r) (all_things (item r))
-      (cut_step onto IsLevelled (Passes c d) r join_onto JoinLevelled (JoinPasses c d) ts (λ z. inner_mark b (table_onto table.0 (m.On ▸ z))) (λ on. inner b table.0 on) (λ on us. us) (pre_then (inner_mark b) (λ z. table_onto table.0 (m.On ▸ z)) (pre_inner b) (pre_then (table_onto table.0) (λ z. m.On ▸ z) (pre_table table.0) (pre_kind (t.Delimiter m.On)))) (e ∙ ap (inner_mark b) (i.parts ∙ ap (table_onto table.0) f)) (λ on g. (i.good.0, g)) (λ on us g. inner_spelled b table.0 on us) (λ on us rest g s. inr s))
+      (cut_step onto IsLevelled (Passes c d) r join_onto JoinLevelled (JoinPasses c d) ts (λ z. inner_terminal b (table_onto table.0 (m.On ▸ z))) (λ on. inner b table.0 on) (λ on us. us) (pre_then (inner_terminal b) (λ z. table_onto table.0 (m.On ▸ z)) (pre_inner b) (pre_then (table_onto table.0) (λ z. m.On ▸ z) (pre_table table.0) (pre_kind (t.Terminal m.On)))) (e ∙ ap (inner_terminal b) (i.parts ∙ ap (table_onto table.0) f)) (λ on g. (i.good.0, g)) (λ on us g. inner_spelled b table.0 on us) (λ on us rest g s. inr s))
       (λ on u. tt)))
 
   join_cut : (d : ℕ) (item : Parser Tree) (ts : Kinds) → WholeCut c d item → InsideCut d → Inside c d → MayCut (JoinCut d ts) (join_at (inside_of c d) item ts)
@@ -185,14 +185,14 @@ module _ (c : ℕ) where
       let last : Option (Reads JoinTree) = choose (eat m.Join ts) (λ r. Some (inner_at (inside_of c d) item false r)) None in
       let third : Option (Reads JoinTree) = choose (eat m.Inner ts) (λ r. Some (expect m.Join r >>= λ r. inner_at (inside_of c d) item true r)) last in
       let second : Option (Reads JoinTree) = choose (eat m.Cross ts) (λ r. Some (expect m.Join r >>= λ r. table_at (inside_of c d) r >>= λ table. Ok (cross table.0, table.1))) third in
-      at_mark (MayCut L) m.Comma ts (λ r. Some (table_at (inside_of c d) r >>= λ table. Ok (comma table.0, table.1))) second
+      at_terminal (MayCut L) m.Comma ts (λ r. Some (table_at (inside_of c d) r >>= λ table. Ok (comma table.0, table.1))) second
       (λ r e. then_cuts (TableCut d r) L (λ z. Unit {0}) (table_at (inside_of c d) r) (λ table. Ok (comma table.0, table.1)) (table_cut d r tables) (all_things (table_at (inside_of c d) r)) (cut_step table_onto TableLevelled (TablePasses c d) r join_onto JoinLevelled (JoinPasses c d) ts (λ z. m.Comma ▸ z) (λ table. comma table) (λ table us. us) (λ x y. refl) e (λ table g. g) (λ table us g. refl) (λ table us rest g s. s)) (λ table u. tt))
-      (at_mark (MayCut L) m.Cross ts (λ r. Some (expect m.Join r >>= λ r. table_at (inside_of c d) r >>= λ table. Ok (cross table.0, table.1))) third
-      (λ r e. mark_cuts L m.Join r (λ r. table_at (inside_of c d) r >>= λ table. Ok (cross table.0, table.1)) (λ us f.
+      (at_terminal (MayCut L) m.Cross ts (λ r. Some (expect m.Join r >>= λ r. table_at (inside_of c d) r >>= λ table. Ok (cross table.0, table.1))) third
+      (λ r e. terminal_cuts L m.Join r (λ r. table_at (inside_of c d) r >>= λ table. Ok (cross table.0, table.1)) (λ us f.
       then_cuts (TableCut d us) L (λ z. Unit {0}) (table_at (inside_of c d) us) (λ table. Ok (cross table.0, table.1)) (table_cut d us tables) (all_things (table_at (inside_of c d) us)) (cut_step table_onto TableLevelled (TablePasses c d) us join_onto JoinLevelled (JoinPasses c d) ts (λ z. m.Cross ▸ m.Join ▸ z) (λ table. cross table) (λ table us. us) (λ x y. refl) (e ∙ ap (λ (z : Kinds). m.Cross ▸ z) f) (λ table g. g) (λ table us g. refl) (λ table us rest g s. s)) (λ table u. tt)))
-      (at_mark (MayCut L) m.Inner ts (λ r. Some (expect m.Join r >>= λ r. inner_at (inside_of c d) item true r)) last
-      (λ r e. mark_cuts L m.Join r (λ r. inner_at (inside_of c d) item true r) (λ us f. inner_cut d true item ts us cut tables lower (e ∙ ap (λ (z : Kinds). m.Inner ▸ z) f)))
-      (at_mark (MayCut L) m.Join ts (λ r. Some (inner_at (inside_of c d) item false r)) None (λ r e. inner_cut d false item ts r cut tables lower e) tt)))
+      (at_terminal (MayCut L) m.Inner ts (λ r. Some (expect m.Join r >>= λ r. inner_at (inside_of c d) item true r)) last
+      (λ r e. terminal_cuts L m.Join r (λ r. inner_at (inside_of c d) item true r) (λ us f. inner_cut d true item ts us cut tables lower (e ∙ ap (λ (z : Kinds). m.Inner ▸ z) f)))
+      (at_terminal (MayCut L) m.Join ts (λ r. Some (inner_at (inside_of c d) item false r)) None (λ r e. inner_cut d false item ts r cut tables lower e) tt)))
 
   -- the tables, and nothing more
   abbrev from_pair : TableTree × Joins → Kinds → Kinds
@@ -242,7 +242,7 @@ module _ (c : ℕ) where
       let op : Whole c d p = whole_expression c d (sound c d one) in
       let cuts : WholeCut c d p = whole_cut c d (cut c d one) in
       let inside : Inner = inside_of c d in
-      mark_cuts L m.Select ts (λ r. list_at m.Comma (item_at p) (quantifier_at r).1 >>= λ items. expect m.From items.1 >>= λ q. from_at inside p q >>= λ tables. filter_at p tables.1 >>= λ filter. windows_at (deeper_of c d) filter.1 >>= λ windows. order_at p windows.1 >>= λ order. limits_at order.1 >>= λ limits. Ok (select (quantifier_at r).0 items.0 tables.0.0 (joins_of tables.0.1) filter.0 windows.0 (keys_of order.0) limits.0, limits.1)) (λ r e.
+      terminal_cuts L m.Select ts (λ r. list_at m.Comma (item_at p) (quantifier_at r).1 >>= λ items. expect m.From items.1 >>= λ q. from_at inside p q >>= λ tables. filter_at p tables.1 >>= λ filter. windows_at (deeper_of c d) filter.1 >>= λ windows. order_at p windows.1 >>= λ order. limits_at order.1 >>= λ limits. Ok (select (quantifier_at r).0 items.0 tables.0.0 (joins_of tables.0.1) filter.0 windows.0 (keys_of order.0) limits.0, limits.1)) (λ r e.
       let quantifier : Option Quantifier = (quantifier_at r).0 in
       let us : Kinds = (quantifier_at r).1 in
       let start : ts ≡ m.Select ▸ quantifier_onto quantifier us = e ∙ ap (λ (z : Kinds). m.Select ▸ z) (quantifier_is r) in
@@ -252,7 +252,7 @@ module _ (c : ℕ) where
       (list_cut m.Comma item_onto ItemLevelled (GoodItem c d) (ItemPasses c d) (item_at p) us pre_item (λ a g. g.0) (λ vs. item_cut d p vs cuts) (λ vs. item_holds c d p vs op)) (list_holds m.Comma item_onto (GoodItem c d) (item_at p) us (λ vs. item_holds c d p vs op))
       (cut_step (listed m.Comma item_onto) (GoodList ItemLevelled) (ListPasses m.Comma item_onto (ItemPasses c d)) us select_onto SelectLevelled (SelectPasses c d) ts pre0 (λ xs. short quantifier xs some_table [] None [] no_keys) (λ xs us. m.From ▸ table_onto some_table us) hp0 start (λ xs g. let y = items_good xs g in (y.0, y.1, tt, tt, tt, tt, tt)) (λ xs us g. ap pre0 (items_listed xs (m.From ▸ table_onto some_table us) g)) (λ xs us rest g s. inl (items_passes d xs (m.From ▸ table_onto some_table us) rest g s)))
       (λ items h. let read = items_read d us items.1 items.0 h in
-      mark_cuts L m.From items.1 (λ q. from_at inside p q >>= λ tables. filter_at p tables.1 >>= λ filter. windows_at (deeper_of c d) filter.1 >>= λ windows. order_at p windows.1 >>= λ order. limits_at order.1 >>= λ limits. Ok (select quantifier items.0 tables.0.0 (joins_of tables.0.1) filter.0 windows.0 (keys_of order.0) limits.0, limits.1)) (λ q f.
+      terminal_cuts L m.From items.1 (λ q. from_at inside p q >>= λ tables. filter_at p tables.1 >>= λ filter. windows_at (deeper_of c d) filter.1 >>= λ windows. order_at p windows.1 >>= λ order. limits_at order.1 >>= λ limits. Ok (select quantifier items.0 tables.0.0 (joins_of tables.0.1) filter.0 windows.0 (keys_of order.0) limits.0, limits.1)) (λ q f.
       let pre1 : Kinds → Kinds = λ z. pre0 (items_onto items.0 (m.From ▸ z)) in
       let hp1 : IsPre pre1 = pre_then pre0 (λ z. items_onto items.0 (m.From ▸ z)) hp0 (pre_then (items_onto items.0) (λ z. m.From ▸ z) (pre_items items.0) (λ x y. refl)) in
       let start1 : ts ≡ pre1 q = start ∙ ap pre0 (read.1 ∙ ap (items_onto items.0) f) in

@@ -1,4 +1,4 @@
-pub mod Marking
+pub mod TerminalFacts
 pub mod Pieces
 pub mod Complete
 pub mod CompleteQuery

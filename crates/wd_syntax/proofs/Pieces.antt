@@ -1,7 +1,7 @@
 -- What the parts that hold no expression spell is read as those parts.
 use Rattle.std.proofs.Common.{◌≡◌, ℕ, ◌<◌, Bool, true, false, [], ◌∷◌, Option, Some, None, Ok, refl, arith}
-use Rattle.wd_lex.specs.declared.token.Delimiter.{Delimiter}
-use Rattle.wd_lex.specs.declared.token.Delimiter.TheVariants as m
+use Rattle.wd_lex.specs.declared.token.Terminal.{Terminal}
+use Rattle.wd_lex.specs.declared.token.Terminal.TheVariants as m
 use Rattle.wd_lex.specs.declared.token.TokenKind.TheVariants as t
 use Rattle.wd_syntax.specs.declared.words.KeyWord.TheVariants as k
 use Rattle.wd_syntax.specs.declared.name.Name.{Name}
@@ -33,7 +33,7 @@ use Rattle.wd_syntax.specs.declared.query.Limits.TheVariants.{OffsetFirst, Count
 use Rattle.wd_syntax.specs.Tokens.{Kinds, ◌▸◌, name_kind}
 use Rattle.wd_syntax.specs.Spelling.{mode_onto, bound_onto, extent_onto, excluded_onto, exclusion_onto, frame_onto, direction_onto, nulls_onto, base_onto, quantifier_onto, as_onto, given_onto, alias_onto, row_onto, row_option_onto, offset_onto, fetch_onto, number_onto, ties_onto, count_onto, offset_option_onto, count_option_onto, limits_onto}
 use Rattle.wd_syntax.specs.Reading.{eat, eat_word, expect_word, number_at, optional, mode_if, mode_at, side_at, bound_at, extent_at, excluded_at, exclusion_at, frame_at, direction_at, nulls_at, base_at, quantifier_at, given_at, alias_at, star_at, row_at, offset_at, fetch_word_at, number_option_at, ties_at, fetch_at, limit_at, count_if, offset_if, limits_at}
-use Rattle.wd_syntax.proofs.Marking.{eat_same, expect_same, eat_word_same, eat_name_same, name_at_same, eat_name_kind, clause, clauses, clause_stops, clause_no_name, clause_no_word}
+use Rattle.wd_syntax.proofs.TerminalFacts.{eat_same, expect_same, eat_word_same, eat_name_same, name_at_same, eat_name_kind, clause, clauses, clause_stops, clause_no_name, clause_no_word}
 
 -- ---- frames
 
@@ -43,7 +43,7 @@ mode_same Rows ts = refl
 mode_same Range ts = refl
 mode_same Groups ts = refl
 
-mode_stops_at : (x : Delimiter) → 5 < clause x → mode_if x ≡ None
+mode_stops_at : (x : Terminal) → 5 < clause x → mode_if x ≡ None
 mode_stops_at m.Rows lt = absurd (omega arith)
 mode_stops_at m.Range lt = absurd (omega arith)
 mode_stops_at m.Groups lt = absurd (omega arith)
@@ -52,7 +52,7 @@ mode_stops_at _ lt = refl
 mode_stops : (ts : Kinds) → 5 < clauses ts → mode_at ts ≡ None
 unfolding mode_at
 mode_stops [] lt = refl
-mode_stops (t.Delimiter x ∷ ts) lt = rw (mode_stops_at x lt) refl
+mode_stops (t.Terminal x ∷ ts) lt = rw (mode_stops_at x lt) refl
 mode_stops (t.Word text ∷ ts) lt = refl
 mode_stops (t.Quoted text ∷ ts) lt = refl
 mode_stops (t.Literal text ∷ ts) lt = refl
@@ -130,13 +130,13 @@ pub nulls_same : (nulls : Option NullsPlace) (ts : Kinds) → 0 < clauses ts →
 nulls_same None ts lt = nulls_same_absent ts (clause_no_word k.Nulls ts lt)
 nulls_same (Some place) ts lt = nulls_same_there place ts
 
-nulls_begins_there : (x : Delimiter) (place : NullsPlace) (ts : Kinds) → eat x (nulls_onto (Some place) ts) ≡ None
+nulls_begins_there : (x : Terminal) (place : NullsPlace) (ts : Kinds) → eat x (nulls_onto (Some place) ts) ≡ None
 unfolding eat
 nulls_begins_there x p.First ts = refl
 nulls_begins_there x p.Last ts = refl
 
--- a word is no mark, and what ends a clause is no direction
-pub nulls_begins : (x : Delimiter) (nulls : Option NullsPlace) (ts : Kinds) → clause x < clauses ts → eat x (nulls_onto nulls ts) ≡ None
+-- a word is no terminal, and what ends a clause is no direction
+pub nulls_begins : (x : Terminal) (nulls : Option NullsPlace) (ts : Kinds) → clause x < clauses ts → eat x (nulls_onto nulls ts) ≡ None
 nulls_begins x None ts lt = clause_stops x ts lt
 nulls_begins x (Some place) ts lt = nulls_begins_there x place ts
 

@@ -1,25 +1,25 @@
 -- What is read of an expression is spelled so, is well-levelled and keeps the limits.
 use Rattle.std.proofs.Common.{◌≡◌, ◌≢◌, ℕ, zero, suc, ◌+◌, ◌≤◌, Bool, true, false, cond, eqb, List, [], ◌∷◌, length, Option, Some, None, Result, Ok, Err, refl, sym, ap, subst, ◌∙◌, arith}
-use Rattle.wd_lex.specs.declared.token.Delimiter.{Delimiter}
-use Rattle.wd_lex.specs.declared.token.Delimiter.TheVariants as m
+use Rattle.wd_lex.specs.declared.token.Terminal.{Terminal}
+use Rattle.wd_lex.specs.declared.token.Terminal.TheVariants as m
 use Rattle.wd_lex.specs.declared.token.TokenKind.TheVariants as t
 use Rattle.wd_syntax.specs.declared.name.Name.{Name}
 use Rattle.wd_syntax.specs.declared.expression.Operator.{Operator}
 use Rattle.wd_syntax.specs.declared.expression.Sign.{Sign}
-use Rattle.wd_syntax.specs.Tokens.{Kinds, ◌▸◌, name_kind, operator_mark, sign_mark, operator_height}
+use Rattle.wd_syntax.specs.Tokens.{Kinds, ◌▸◌, name_kind, operator_terminal, sign_terminal, operator_height}
 use Rattle.wd_syntax.specs.Tree.{Tree, Column, Qualified, Case, Bracket, Signed, Binary, IsNull, Negated, Trees, Otherwise, no_else, or_else, OverTree, no_over, over_name, over_window, WindowTree, window, Key, trees_of, arms_of, keys_of, Each}
 use Rattle.wd_syntax.specs.Spelling.{frame_onto, direction_onto, nulls_onto, not_onto, base_onto, onto, list_onto, more_onto, arms_onto, else_onto, over_onto, window_onto, partition_onto, order_onto, more_keys_onto}
 use Rattle.wd_syntax.specs.Levels.{height, left_height, IsLevelled, AreLevelled, ArmsLevelled, ElseLevelled, OverLevelled, WindowLevelled, KeysLevelled}
 use Rattle.wd_syntax.specs.Limits.{operators, Below, Fits, AllFit, ArmsFit, ElseFits, OverFits, WindowFits, KeysFit}
-use Rattle.wd_syntax.specs.Reading.{Fault, Limit, ◌>>=◌, Reads, Parser, choose, eat, expect, with_rest, name_at, operator_of, operator_if, operator_at, sign_of, sign_at, list_at, frame_at, direction_at, nulls_at, key_at, partition_at, order_at, base_at, window_at, link, ended, links, compared, null_at, tests, arguments_at, call_of, enter, over_at, call_at, named_at, arm_at, else_at, case_at, bracket_at, primary_by_mark, primary, signed_by, goes_on, levels, deeper_of}
+use Rattle.wd_syntax.specs.Reading.{Fault, Limit, ◌>>=◌, Reads, Parser, choose, eat, expect, with_rest, name_at, operator_of, operator_if, operator_at, sign_of, sign_at, list_at, frame_at, direction_at, nulls_at, key_at, partition_at, order_at, base_at, window_at, link, ended, links, compared, null_at, tests, arguments_at, call_of, enter, over_at, call_at, named_at, arm_at, else_at, case_at, bracket_at, primary_by_terminal, primary, signed_by, goes_on, levels, deeper_of}
 use Rattle.std.proofs.lemmas.Bool.{eqb-true}
-use Rattle.wd_syntax.proofs.Marking.{eqb-same, not_same}
-use Rattle.wd_syntax.proofs.SoundPieces.{kept_if, Kept, Holds, then_holds, at_mark, past_mark, past_name, IsPart, Spelled, all_onto, marked, IsListed, list_holds, frame_is, direction_is, nulls_is, base_is, looser_holds}
+use Rattle.wd_syntax.proofs.TerminalFacts.{eqb-same, not_same}
+use Rattle.wd_syntax.proofs.SoundPieces.{kept_if, Kept, Holds, then_holds, at_terminal, past_terminal, past_name, IsPart, Spelled, all_onto, led_by, IsListed, list_holds, frame_is, direction_is, nulls_is, base_is, looser_holds}
 use Rattle.wd_syntax.proofs.Complete.{operators_more, operand_first, operators_zero}
 
--- ---- marks of operators
+-- ---- terminals of operators
 
-operator_of_is : (x : Delimiter) → Kept (λ o. x ≡ operator_mark o) (operator_of x)
+operator_of_is : (x : Terminal) → Kept (λ o. x ≡ operator_terminal o) (operator_of x)
 operator_of_is m.Or = refl
 operator_of_is m.And = refl
 operator_of_is m.Equals = refl
@@ -36,30 +36,30 @@ operator_of_is m.Percent = refl
 operator_of_is _ = tt
 
 abbrev pub IsOperator : ℕ → Kinds → Operator × Kinds → Type 0
-IsOperator h ts x = (ts ≡ operator_mark x.0 ▸ x.1) × (operator_height x.0 ≡ h)
+IsOperator h ts x = (ts ≡ operator_terminal x.0 ▸ x.1) × (operator_height x.0 ≡ h)
 
-operator_if_is : (h : ℕ) (x : Delimiter) (ts : Kinds) (o : Option Operator) → Kept (λ o. x ≡ operator_mark o) o → Kept (IsOperator h (x ▸ ts)) (operator_if h ts o)
+operator_if_is : (h : ℕ) (x : Terminal) (ts : Kinds) (o : Option Operator) → Kept (λ o. x ≡ operator_terminal o) o → Kept (IsOperator h (x ▸ ts)) (operator_if h ts o)
 operator_if_is h x ts None k = tt
-operator_if_is h x ts (Some o) k = kept_if (IsOperator h (x ▸ ts)) (eqb (operator_height o) h) (o, ts) (λ e. (ap (λ (z : Delimiter). z ▸ ts) k, eqb-true (operator_height o) h e))
+operator_if_is h x ts (Some o) k = kept_if (IsOperator h (x ▸ ts)) (eqb (operator_height o) h) (o, ts) (λ e. (ap (λ (z : Terminal). z ▸ ts) k, eqb-true (operator_height o) h e))
 
 pub operator_at_is : (h : ℕ) (ts : Kinds) → Kept (IsOperator h ts) (operator_at h ts)
 unfolding operator_at
 operator_at_is h [] = tt
-operator_at_is h (t.Delimiter x ∷ ts) = operator_if_is h x ts (operator_of x) (operator_of_is x)
+operator_at_is h (t.Terminal x ∷ ts) = operator_if_is h x ts (operator_of x) (operator_of_is x)
 operator_at_is h (t.Word text ∷ ts) = tt
 operator_at_is h (t.Quoted text ∷ ts) = tt
 operator_at_is h (t.Literal text ∷ ts) = tt
 operator_at_is h (t.Number n ∷ ts) = tt
 
-sign_is_at : (x : Delimiter) (ts : Kinds) → Kept (λ y. x ▸ ts ≡ sign_mark y.0 ▸ y.1) (with_rest ts (sign_of x))
+sign_is_at : (x : Terminal) (ts : Kinds) → Kept (λ y. x ▸ ts ≡ sign_terminal y.0 ▸ y.1) (with_rest ts (sign_of x))
 sign_is_at m.Plus ts = refl
 sign_is_at m.Minus ts = refl
 sign_is_at _ ts = tt
 
-pub sign_is : (ts : Kinds) → Kept (λ y. ts ≡ sign_mark y.0 ▸ y.1) (sign_at ts)
+pub sign_is : (ts : Kinds) → Kept (λ y. ts ≡ sign_terminal y.0 ▸ y.1) (sign_at ts)
 unfolding sign_at
 sign_is [] = tt
-sign_is (t.Delimiter x ∷ ts) = sign_is_at x ts
+sign_is (t.Terminal x ∷ ts) = sign_is_at x ts
 sign_is (t.Word text ∷ ts) = tt
 sign_is (t.Quoted text ∷ ts) = tt
 sign_is (t.Literal text ∷ ts) = tt
@@ -69,9 +69,9 @@ pub null_is : (ts : Kinds) → Holds (λ x. ts ≡ not_onto x.0 (m.Null ▸ x.1)
 unfolding null_at
 null_is ts =
     let Q : Bool × Kinds → Type 0 = λ x. ts ≡ not_onto x.0 (m.Null ▸ x.1) in
-    at_mark (Holds Q) m.Not ts (λ r. expect m.Null r >>= λ q. Ok (true, q)) (expect m.Null ts >>= λ q. Ok (false, q))
-    (λ r e. past_mark Q m.Null r (λ q. Ok (true, q)) (λ q f. e ∙ ap (λ (z : Kinds). m.Not ▸ z) f))
-    (past_mark Q m.Null ts (λ q. Ok (false, q)) (λ q f. f))
+    at_terminal (Holds Q) m.Not ts (λ r. expect m.Null r >>= λ q. Ok (true, q)) (expect m.Null ts >>= λ q. Ok (false, q))
+    (λ r e. past_terminal Q m.Null r (λ q. Ok (true, q)) (λ q f. e ∙ ap (λ (z : Kinds). m.Not ▸ z) f))
+    (past_terminal Q m.Null ts (λ q. Ok (false, q)) (λ q f. f))
 
 pub each_left : {A : Type 0} (P Q : A → Type 0) (xs : List A) → Each (λ a. P a × Q a) xs → Each P xs
 each_left P Q [] h = tt
@@ -89,15 +89,15 @@ key_onto key ts = onto key.0 (direction_onto key.1 (nulls_onto key.2 ts))
 abbrev pub arm_onto : Tree × Tree → Kinds → Kinds
 arm_onto arm ts = onto arm.0 (m.Then ▸ onto arm.1 ts)
 
-pub trees_spelled : (xs : List Tree) (ts : Kinds) → all_onto (marked m.Comma onto) xs ts ≡ more_onto (trees_of xs) ts
+pub trees_spelled : (xs : List Tree) (ts : Kinds) → all_onto (led_by m.Comma onto) xs ts ≡ more_onto (trees_of xs) ts
 trees_spelled [] ts = refl
 trees_spelled (a ∷ xs) ts = ap (λ (z : Kinds). m.Comma ▸ onto a z) (trees_spelled xs ts)
 
-pub keys_spelled : (xs : List Key) (ts : Kinds) → all_onto (marked m.Comma key_onto) xs ts ≡ more_keys_onto (keys_of xs) ts
+pub keys_spelled : (xs : List Key) (ts : Kinds) → all_onto (led_by m.Comma key_onto) xs ts ≡ more_keys_onto (keys_of xs) ts
 keys_spelled [] ts = refl
 keys_spelled (a ∷ xs) ts = ap (λ (z : Kinds). m.Comma ▸ key_onto a z) (keys_spelled xs ts)
 
-pub arms_spelled : (xs : List (Tree × Tree)) (ts : Kinds) → all_onto (marked m.When arm_onto) xs ts ≡ arms_onto (arms_of xs) ts
+pub arms_spelled : (xs : List (Tree × Tree)) (ts : Kinds) → all_onto (led_by m.When arm_onto) xs ts ≡ arms_onto (arms_of xs) ts
 arms_spelled [] ts = refl
 arms_spelled (a ∷ xs) ts = ap (λ (z : Kinds). m.When ▸ arm_onto a z) (arms_spelled xs ts)
 
@@ -146,10 +146,10 @@ module _ (c : ℕ) where
   ended_holds h d None a ts i = i
   ended_holds h d (Some x) a ts i = tt
 
-  link_holds : (g h d : ℕ) (a : Tree) (ts : Kinds) (p : Parser Tree) (next : Tree → Parser Tree) (o : Option (Operator × Kinds)) → Operand g d p → IsRead h d (onto a ts) (a, ts) → Kept (IsOperator (suc g) ts) o → ((o : Operator) (b : Tree) (rest : Kinds) → operator_height o ≡ suc g → ts ≡ operator_mark o ▸ onto b rest → IsRead g d (onto b rest) (b, rest) → Holds (IsRead h d (onto a ts)) (next (Binary o a b) rest)) → Holds (IsRead h d (onto a ts)) (link o p a ts next)
+  link_holds : (g h d : ℕ) (a : Tree) (ts : Kinds) (p : Parser Tree) (next : Tree → Parser Tree) (o : Option (Operator × Kinds)) → Operand g d p → IsRead h d (onto a ts) (a, ts) → Kept (IsOperator (suc g) ts) o → ((o : Operator) (b : Tree) (rest : Kinds) → operator_height o ≡ suc g → ts ≡ operator_terminal o ▸ onto b rest → IsRead g d (onto b rest) (b, rest) → Holds (IsRead h d (onto a ts)) (next (Binary o a b) rest)) → Holds (IsRead h d (onto a ts)) (link o p a ts next)
   link_holds g h d a ts p next None op i k n = i
   link_holds g h d a ts p next (Some x) op i k n =
-      then_holds (IsRead g d x.1) (IsRead h d (onto a ts)) (p x.1) (λ b. next (Binary x.0 a b.0) b.1) (op x.1) (λ b j. n x.0 b.0 b.1 k.1 (k.0 ∙ ap (λ (z : Kinds). operator_mark x.0 ▸ z) j.parts) (record { parts = refl; levelled = j.levelled; tight = j.tight; fits = j.fits }))
+      then_holds (IsRead g d x.1) (IsRead h d (onto a ts)) (p x.1) (λ b. next (Binary x.0 a b.0) b.1) (op x.1) (λ b j. n x.0 b.0 b.1 k.1 (k.0 ∙ ap (λ (z : Kinds). operator_terminal x.0 ▸ z) j.parts) (record { parts = refl; levelled = j.levelled; tight = j.tight; fits = j.fits }))
 
   pub left_chain : (o : Operator) (h : ℕ) → operator_height o ≡ h → h ≢ 4 → left_height o ≡ h
   left_chain o h e n = rw (e, let q : eqb h 4 ≡ false = not_same h 4 n in q) refl
@@ -176,9 +176,9 @@ module _ (c : ℕ) where
 
   tests_hold : (d n : ℕ) (a : Tree) (ts : Kinds) → n + operators 5 a ≡ c → IsRead 5 d (onto a ts) (a, ts) → Holds (IsRead 5 d (onto a ts)) (tests n a ts)
   unfolding tests
-  tests_hold d zero a ts e i = at_mark (Holds (IsRead 5 d (onto a ts))) m.Is ts (λ r. Err (Limit (length ts))) (Ok (a, ts)) (λ r k. tt) i
+  tests_hold d zero a ts e i = at_terminal (Holds (IsRead 5 d (onto a ts))) m.Is ts (λ r. Err (Limit (length ts))) (Ok (a, ts)) (λ r k. tt) i
   tests_hold d (suc n) a ts e i =
-      at_mark (Holds (IsRead 5 d (onto a ts))) m.Is ts (λ r. null_at r >>= λ x. tests n (IsNull a x.0) x.1) (Ok (a, ts))
+      at_terminal (Holds (IsRead 5 d (onto a ts))) m.Is ts (λ r. null_at r >>= λ x. tests n (IsNull a x.0) x.1) (Ok (a, ts))
       (λ r k. then_holds (λ x. r ≡ not_onto x.0 (m.Null ▸ x.1)) (IsRead 5 d (onto a ts)) (null_at r) (λ x. tests n (IsNull a x.0) x.1) (null_is r) (λ x q.
       subst (λ z. Holds (IsRead 5 d z) (tests n (IsNull a x.0) x.1)) (sym (ap (onto a) (k ∙ ap (λ (z : Kinds). m.Is ▸ z) q))) (tests_hold d n (IsNull a x.0) x.1 (omega arith) (record { parts = refl; levelled = (i.levelled, i.tight); tight = omega arith; fits = (i.fits, omega arith) }))))
       i
@@ -254,8 +254,8 @@ module _ (c : ℕ) where
   unfolding partition_at
   partition_holds d item ts op =
       let Q : List Tree × Kinds → Type 0 = IsPart (trees_onto partition_onto) (GoodTrees d) ts in
-      at_mark (Holds Q) m.Partition ts (λ r. expect m.By r >>= λ r. list_at m.Comma item r) (Ok ([], ts))
-      (λ r e. past_mark Q m.By r (λ r. list_at m.Comma item r) (λ us f.
+      at_terminal (Holds Q) m.Partition ts (λ r. expect m.By r >>= λ r. list_at m.Comma item r) (Ok ([], ts))
+      (λ r e. past_terminal Q m.By r (λ r. list_at m.Comma item r) (λ us f.
       looser_holds (λ y. IsListed m.Comma onto (Good d) us y.0 y.1) Q (list_at m.Comma item us) (list_holds m.Comma onto (Good d) item us op) (λ y h. partition_listed d ts us y.1 y.0 (e ∙ ap (λ (z : Kinds). m.Partition ▸ z) f) h)))
       (record { parts = refl; good = (tt, tt) })
 
@@ -267,8 +267,8 @@ module _ (c : ℕ) where
   unfolding order_at
   order_holds d item ts op =
       let Q : List Key × Kinds → Type 0 = IsPart keys_row_onto (GoodKeys d) ts in
-      at_mark (Holds Q) m.Order ts (λ r. expect m.By r >>= λ r. list_at m.Comma (key_at item) r) (Ok ([], ts))
-      (λ r e. past_mark Q m.By r (λ r. list_at m.Comma (key_at item) r) (λ us f.
+      at_terminal (Holds Q) m.Order ts (λ r. expect m.By r >>= λ r. list_at m.Comma (key_at item) r) (Ok ([], ts))
+      (λ r e. past_terminal Q m.By r (λ r. list_at m.Comma (key_at item) r) (λ us f.
       looser_holds (λ y. IsListed m.Comma key_onto (GoodKey d) us y.0 y.1) Q (list_at m.Comma (key_at item) us) (list_holds m.Comma key_onto (GoodKey d) (key_at item) us (λ vs. key_holds d item vs op)) (λ y h. order_listed d ts us y.1 y.0 (e ∙ ap (λ (z : Kinds). m.Order ▸ z) f) h)))
       (record { parts = refl; good = (tt, tt) })
 
@@ -287,7 +287,7 @@ module _ (c : ℕ) where
       then_holds (IsPart (trees_onto partition_onto) (GoodTrees d) start) Q (partition_at item start) (λ ps. order_at item ps.1 >>= λ ks. frame_at ks.1 >>= λ f. expect m.RightBracket f.1 >>= λ r. Ok (window base (trees_of ps.0) (keys_of ks.0) f.0, r)) (partition_holds d item start op) (λ ps i.
       then_holds (IsPart keys_row_onto (GoodKeys d) ps.1) Q (order_at item ps.1) (λ ks. frame_at ks.1 >>= λ f. expect m.RightBracket f.1 >>= λ r. Ok (window base (trees_of ps.0) (keys_of ks.0) f.0, r)) (order_holds d item ps.1 op) (λ ks j.
       then_holds (Spelled frame_onto ks.1) Q (frame_at ks.1) (λ f. expect m.RightBracket f.1 >>= λ r. Ok (window base (trees_of ps.0) (keys_of ks.0) f.0, r)) (frame_is ks.1) (λ f g.
-      past_mark Q m.RightBracket f.1 (λ r. Ok (window base (trees_of ps.0) (keys_of ks.0) f.0, r)) (λ r h.
+      past_terminal Q m.RightBracket f.1 (λ r. Ok (window base (trees_of ps.0) (keys_of ks.0) f.0, r)) (λ r h.
       record { parts = base_is ts ∙ ap (base_onto base) (i.parts ∙ ap (partition_onto (trees_of ps.0)) (j.parts ∙ ap (order_onto (keys_of ks.0)) (g ∙ ap (frame_onto f.0) h))); good = ((i.good.0, j.good.0), (i.good.1, j.good.1)) }))))
 
   -- ---- calls
@@ -299,8 +299,8 @@ module _ (c : ℕ) where
   unfolding over_at
   over_holds d ts lower =
       let Q : ℕ → OverTree × Kinds → Type 0 = λ k. IsPart over_onto (GoodOver k) ts in
-      at_mark (Holds (Q d)) m.Over ts (λ r. choose (eat m.LeftBracket r) (λ q. enter (length r) (deeper_of c d) (λ p. window_at (p 8) q >>= λ w. Ok (over_window w.0, w.1))) (name_at r >>= λ n. Ok (over_name n.0, n.1))) (Ok (no_over, ts))
-      (λ r e. at_mark (Holds (Q d)) m.LeftBracket r (λ q. enter (length r) (deeper_of c d) (λ p. window_at (p 8) q >>= λ w. Ok (over_window w.0, w.1))) (name_at r >>= λ n. Ok (over_name n.0, n.1))
+      at_terminal (Holds (Q d)) m.Over ts (λ r. choose (eat m.LeftBracket r) (λ q. enter (length r) (deeper_of c d) (λ p. window_at (p 8) q >>= λ w. Ok (over_window w.0, w.1))) (name_at r >>= λ n. Ok (over_name n.0, n.1))) (Ok (no_over, ts))
+      (λ r e. at_terminal (Holds (Q d)) m.LeftBracket r (λ q. enter (length r) (deeper_of c d) (λ p. window_at (p 8) q >>= λ w. Ok (over_window w.0, w.1))) (name_at r >>= λ n. Ok (over_name n.0, n.1))
       (λ q f. enter_holds (length r) Q (λ p. window_at (p 8) q >>= λ w. Ok (over_window w.0, w.1)) (λ k sound.
       then_holds (IsPart window_closed (GoodWindow k) q) (Q (suc k)) (window_at (levels c (deeper_of c k) 8) q) (λ w. Ok (over_window w.0, w.1)) (window_holds k (levels c (deeper_of c k) 8) q (whole_expression k sound)) (λ w i.
       record { parts = e ∙ ap (λ (z : Kinds). m.Over ▸ z) (f ∙ ap (λ (z : Kinds). m.LeftBracket ▸ z) i.parts); good = (i.good.0, i.good.1) })) d lower)
@@ -330,12 +330,12 @@ module _ (c : ℕ) where
   unfolding arguments_at
   arguments_hold d item ts op =
       let Q : Option (List Tree) × Kinds → Type 0 = IsPart arguments_closed (GoodArguments d) ts in
-      at_mark (Holds Q) m.Star ts (λ r. expect m.RightBracket r >>= λ r. Ok (None, r)) (choose (eat m.RightBracket ts) (λ r. Ok (Some [], r)) (list_at m.Comma item ts >>= λ bs. expect m.RightBracket bs.1 >>= λ r. Ok (Some bs.0, r)))
-      (λ r e. past_mark Q m.RightBracket r (λ r. Ok (None, r)) (λ q f. record { parts = e ∙ ap (λ (z : Kinds). m.Star ▸ z) f; good = (tt, tt) }))
-      (at_mark (Holds Q) m.RightBracket ts (λ r. Ok (Some [], r)) (list_at m.Comma item ts >>= λ bs. expect m.RightBracket bs.1 >>= λ r. Ok (Some bs.0, r))
+      at_terminal (Holds Q) m.Star ts (λ r. expect m.RightBracket r >>= λ r. Ok (None, r)) (choose (eat m.RightBracket ts) (λ r. Ok (Some [], r)) (list_at m.Comma item ts >>= λ bs. expect m.RightBracket bs.1 >>= λ r. Ok (Some bs.0, r)))
+      (λ r e. past_terminal Q m.RightBracket r (λ r. Ok (None, r)) (λ q f. record { parts = e ∙ ap (λ (z : Kinds). m.Star ▸ z) f; good = (tt, tt) }))
+      (at_terminal (Holds Q) m.RightBracket ts (λ r. Ok (Some [], r)) (list_at m.Comma item ts >>= λ bs. expect m.RightBracket bs.1 >>= λ r. Ok (Some bs.0, r))
       (λ r e. record { parts = e; good = (tt, tt) })
       (then_holds (λ y. IsListed m.Comma onto (Good d) ts y.0 y.1) Q (list_at m.Comma item ts) (λ bs. expect m.RightBracket bs.1 >>= λ r. Ok (Some bs.0, r)) (list_holds m.Comma onto (Good d) item ts op) (λ bs h.
-      past_mark Q m.RightBracket bs.1 (λ r. Ok (Some bs.0, r)) (λ q f. arguments_listed d ts bs.1 q bs.0 h f))))
+      past_terminal Q m.RightBracket bs.1 (λ r. Ok (Some bs.0, r)) (λ q f. arguments_listed d ts bs.1 q bs.0 h f))))
 
   abbrev pub ArgumentsBelow : ℕ → Option (List Tree) → Type 0
   ArgumentsBelow d arguments = ArgumentsLevelled arguments × Below d (λ k. ArgumentsFit k arguments)
@@ -363,9 +363,9 @@ module _ (c : ℕ) where
   unfolding named_at
   named_holds d f ts lower =
       let Q : Tree × Kinds → Type 0 = IsRead 0 d (name_kind f ∷ ts) in
-      at_mark (Holds Q) m.Dot ts (λ r. name_at r >>= λ b. Ok (Qualified f b.0, b.1)) (choose (eat m.LeftBracket ts) (λ r. call_at (deeper_of c d) f r) (Ok (Column f, ts)))
+      at_terminal (Holds Q) m.Dot ts (λ r. name_at r >>= λ b. Ok (Qualified f b.0, b.1)) (choose (eat m.LeftBracket ts) (λ r. call_at (deeper_of c d) f r) (Ok (Column f, ts)))
       (λ r e. past_name Q r (λ b. Ok (Qualified f b.0, b.1)) (λ x l. record { parts = ap (λ (z : Kinds). name_kind f ∷ z) (e ∙ ap (λ (z : Kinds). m.Dot ▸ z) l); levelled = tt; tight = omega arith; fits = tt }))
-      (at_mark (Holds Q) m.LeftBracket ts (λ r. call_at (deeper_of c d) f r) (Ok (Column f, ts))
+      (at_terminal (Holds Q) m.LeftBracket ts (λ r. call_at (deeper_of c d) f r) (Ok (Column f, ts))
       (λ r e. subst (λ z. Holds (IsRead 0 d (name_kind f ∷ z)) (call_at (deeper_of c d) f r)) (sym e) (call_holds d f r lower))
       (record { parts = refl; levelled = tt; tight = omega arith; fits = tt }))
 
@@ -376,7 +376,7 @@ module _ (c : ℕ) where
   arm_holds d item ts op =
       let Q : (Tree × Tree) × Kinds → Type 0 = IsPart arm_onto (GoodArm d) ts in
       then_holds (IsPart onto (Good d) ts) Q (item ts) (λ a. expect m.Then a.1 >>= λ r. item r >>= λ b. Ok ((a.0, b.0), b.1)) (op ts) (λ a i.
-      past_mark Q m.Then a.1 (λ r. item r >>= λ b. Ok ((a.0, b.0), b.1)) (λ r e.
+      past_terminal Q m.Then a.1 (λ r. item r >>= λ b. Ok ((a.0, b.0), b.1)) (λ r e.
       then_holds (IsPart onto (Good d) r) Q (item r) (λ b. Ok ((a.0, b.0), b.1)) (op r) (λ b j.
       record { parts = i.parts ∙ ap (onto a.0) (e ∙ ap (λ (z : Kinds). m.Then ▸ z) j.parts); good = ((i.good.0, j.good.0), (i.good.1, j.good.1)) })))
 
@@ -387,7 +387,7 @@ module _ (c : ℕ) where
   unfolding else_at
   else_holds d item ts op =
       let Q : Otherwise × Kinds → Type 0 = IsPart else_onto (GoodElse d) ts in
-      at_mark (Holds Q) m.Else ts (λ r. item r >>= λ a. Ok (or_else a.0, a.1)) (Ok (no_else, ts))
+      at_terminal (Holds Q) m.Else ts (λ r. item r >>= λ a. Ok (or_else a.0, a.1)) (Ok (no_else, ts))
       (λ r e. then_holds (IsPart onto (Good d) r) Q (item r) (λ a. Ok (or_else a.0, a.1)) (op r) (λ a i. record { parts = e ∙ ap (λ (z : Kinds). m.Else ▸ z) i.parts; good = i.good }))
       (record { parts = refl; good = (tt, tt) })
 
@@ -401,10 +401,10 @@ module _ (c : ℕ) where
       let p : Parser Tree = levels c (deeper_of c k) 8 in
       let whole : Whole k p = whole_expression k sound in
       let Q : Tree × Kinds → Type 0 = IsRead 0 (suc k) (m.Case ▸ ts) in
-      past_mark Q m.When ts (λ r. list_at m.When (arm_at p) r >>= λ arms. else_at p arms.1 >>= λ other. expect m.End other.1 >>= λ r. Ok (Case (arms_of arms.0) other.0, r)) (λ us e.
+      past_terminal Q m.When ts (λ r. list_at m.When (arm_at p) r >>= λ arms. else_at p arms.1 >>= λ other. expect m.End other.1 >>= λ r. Ok (Case (arms_of arms.0) other.0, r)) (λ us e.
       then_holds (λ y. IsListed m.When arm_onto (GoodArm k) us y.0 y.1) Q (list_at m.When (arm_at p) us) (λ arms. else_at p arms.1 >>= λ other. expect m.End other.1 >>= λ r. Ok (Case (arms_of arms.0) other.0, r)) (list_holds m.When arm_onto (GoodArm k) (arm_at p) us (λ vs. arm_holds k p vs whole)) (λ arms h.
       then_holds (IsPart else_onto (GoodElse k) arms.1) Q (else_at p arms.1) (λ other. expect m.End other.1 >>= λ r. Ok (Case (arms_of arms.0) other.0, r)) (else_holds k p arms.1 whole) (λ other j.
-      past_mark Q m.End other.1 (λ r. Ok (Case (arms_of arms.0) other.0, r)) (λ q l.
+      past_terminal Q m.End other.1 (λ r. Ok (Case (arms_of arms.0) other.0, r)) (λ q l.
       case_is k ts us arms.1 q arms.0 other.0 e h (j.parts ∙ ap (else_onto other.0) l) j.good))))
 
   bracket_holds : (k : ℕ) (ts : Kinds) → Sound k → Holds (IsRead 0 (suc k) (m.LeftBracket ▸ ts)) (bracket_at (levels c (deeper_of c k) 8) ts)
@@ -413,18 +413,18 @@ module _ (c : ℕ) where
       let p : Parser Tree = levels c (deeper_of c k) 8 in
       let Q : Tree × Kinds → Type 0 = IsRead 0 (suc k) (m.LeftBracket ▸ ts) in
       then_holds (IsRead 8 k ts) Q (p ts) (λ a. expect m.RightBracket a.1 >>= λ r. Ok (Bracket a.0, r)) (sound 8 ts) (λ a i.
-      past_mark Q m.RightBracket a.1 (λ r. Ok (Bracket a.0, r)) (λ q l.
+      past_terminal Q m.RightBracket a.1 (λ r. Ok (Bracket a.0, r)) (λ q l.
       record { parts = ap (λ (z : Kinds). m.LeftBracket ▸ z) (i.parts ∙ ap (onto a.0) l); levelled = i.levelled; tight = omega arith; fits = i.fits }))
 
   -- ---- from height to height
 
-  primary_by_mark_holds : (d : ℕ) (x : Delimiter) (ts : Kinds) → Within d → Holds (IsRead 0 d (x ▸ ts)) (primary_by_mark (deeper_of c d) x ts)
-  primary_by_mark_holds d m.True ts lower = record { parts = refl; levelled = tt; tight = omega arith; fits = tt }
-  primary_by_mark_holds d m.False ts lower = record { parts = refl; levelled = tt; tight = omega arith; fits = tt }
-  primary_by_mark_holds d m.Null ts lower = record { parts = refl; levelled = tt; tight = omega arith; fits = tt }
-  primary_by_mark_holds d m.LeftBracket ts lower = enter_holds (suc (length ts)) (λ j. IsRead 0 j (m.LeftBracket ▸ ts)) (λ p. bracket_at (p 8) ts) (λ k. bracket_holds k ts) d lower
-  primary_by_mark_holds d m.Case ts lower = enter_holds (suc (length ts)) (λ j. IsRead 0 j (m.Case ▸ ts)) (λ p. case_at (p 8) ts) (λ k. case_holds k ts) d lower
-  primary_by_mark_holds d _ ts lower = tt
+  primary_by_terminal_holds : (d : ℕ) (x : Terminal) (ts : Kinds) → Within d → Holds (IsRead 0 d (x ▸ ts)) (primary_by_terminal (deeper_of c d) x ts)
+  primary_by_terminal_holds d m.True ts lower = record { parts = refl; levelled = tt; tight = omega arith; fits = tt }
+  primary_by_terminal_holds d m.False ts lower = record { parts = refl; levelled = tt; tight = omega arith; fits = tt }
+  primary_by_terminal_holds d m.Null ts lower = record { parts = refl; levelled = tt; tight = omega arith; fits = tt }
+  primary_by_terminal_holds d m.LeftBracket ts lower = enter_holds (suc (length ts)) (λ j. IsRead 0 j (m.LeftBracket ▸ ts)) (λ p. bracket_at (p 8) ts) (λ k. bracket_holds k ts) d lower
+  primary_by_terminal_holds d m.Case ts lower = enter_holds (suc (length ts)) (λ j. IsRead 0 j (m.Case ▸ ts)) (λ p. case_at (p 8) ts) (λ k. case_holds k ts) d lower
+  primary_by_terminal_holds d _ ts lower = tt
 
   primary_holds : (d : ℕ) (ts : Kinds) → Within d → Holds (IsRead 0 d ts) (primary (deeper_of c d) ts)
   unfolding primary
@@ -433,17 +433,17 @@ module _ (c : ℕ) where
   primary_holds d (t.Literal text ∷ ts) lower = record { parts = refl; levelled = tt; tight = omega arith; fits = tt }
   primary_holds d (t.Word text ∷ ts) lower = named_holds d (record { text = text; quoted = false }) ts lower
   primary_holds d (t.Quoted text ∷ ts) lower = named_holds d (record { text = text; quoted = true }) ts lower
-  primary_holds d (t.Delimiter x ∷ ts) lower = primary_by_mark_holds d x ts lower
+  primary_holds d (t.Terminal x ∷ ts) lower = primary_by_terminal_holds d x ts lower
 
-  signed_holds : (d : ℕ) (ts : Kinds) (o : Option (Sign × Kinds)) (p : Parser Tree) → Within d → Operand 0 d p → Kept (λ y. ts ≡ sign_mark y.0 ▸ y.1) o → Holds (IsRead 1 d ts) (signed_by o (deeper_of c d) p ts)
+  signed_holds : (d : ℕ) (ts : Kinds) (o : Option (Sign × Kinds)) (p : Parser Tree) → Within d → Operand 0 d p → Kept (λ y. ts ≡ sign_terminal y.0 ▸ y.1) o → Holds (IsRead 1 d ts) (signed_by o (deeper_of c d) p ts)
   signed_holds d ts None p lower op k = looser 0 d ts (p ts) (op ts)
   signed_holds d ts (Some x) p lower op k =
       enter_holds (length ts) (λ j. IsRead 1 j ts) (λ p. p 1 x.1 >>= λ a. Ok (Signed x.0 a.0, a.1)) (λ k' sound.
-      then_holds (IsRead 1 k' x.1) (IsRead 1 (suc k') ts) (levels c (deeper_of c k') 1 x.1) (λ a. Ok (Signed x.0 a.0, a.1)) (sound 1 x.1) (λ a i. record { parts = k ∙ ap (λ (z : Kinds). sign_mark x.0 ▸ z) i.parts; levelled = (i.levelled, i.tight); tight = omega arith; fits = i.fits })) d lower
+      then_holds (IsRead 1 k' x.1) (IsRead 1 (suc k') ts) (levels c (deeper_of c k') 1 x.1) (λ a. Ok (Signed x.0 a.0, a.1)) (sound 1 x.1) (λ a i. record { parts = k ∙ ap (λ (z : Kinds). sign_terminal x.0 ▸ z) i.parts; levelled = (i.levelled, i.tight); tight = omega arith; fits = i.fits })) d lower
 
   negated_holds : (d : ℕ) (ts : Kinds) (p : Parser Tree) → Within d → Operand 5 d p → Holds (IsRead 6 d ts) (choose (eat m.Not ts) (λ r. enter (length ts) (deeper_of c d) (λ p. p 6 r >>= λ a. Ok (Negated a.0, a.1))) (p ts))
   negated_holds d ts p lower op =
-      at_mark (Holds (IsRead 6 d ts)) m.Not ts (λ r. enter (length ts) (deeper_of c d) (λ p. p 6 r >>= λ a. Ok (Negated a.0, a.1))) (p ts)
+      at_terminal (Holds (IsRead 6 d ts)) m.Not ts (λ r. enter (length ts) (deeper_of c d) (λ p. p 6 r >>= λ a. Ok (Negated a.0, a.1))) (p ts)
       (λ r e. enter_holds (length ts) (λ j. IsRead 6 j ts) (λ p. p 6 r >>= λ a. Ok (Negated a.0, a.1)) (λ k sound.
       then_holds (IsRead 6 k r) (IsRead 6 (suc k) ts) (levels c (deeper_of c k) 6 r) (λ a. Ok (Negated a.0, a.1)) (sound 6 r) (λ a i. record { parts = e ∙ ap (λ (z : Kinds). m.Not ▸ z) i.parts; levelled = (i.levelled, i.tight); tight = omega arith; fits = i.fits })) d lower)
       (looser 5 d ts (p ts) (op ts))

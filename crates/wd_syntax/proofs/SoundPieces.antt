@@ -1,9 +1,9 @@
 -- What is read of the parts that hold no expression is spelled so.
 use Rattle.std.proofs.Common.{◌≡◌, ℕ, zero, suc, Bool, true, false, cond, eqb, List, [], ◌∷◌, length, Option, Some, None, Result, Ok, Err, refl, ap, ◌∙◌}
-use Rattle.wd_lex.specs.declared.token.Delimiter.{Delimiter}
-use Rattle.wd_lex.specs.declared.token.Delimiter.TheVariants as m
+use Rattle.wd_lex.specs.declared.token.Terminal.{Terminal}
+use Rattle.wd_lex.specs.declared.token.Terminal.TheVariants as m
 use Rattle.wd_lex.specs.declared.token.TokenKind.TheVariants as t
-use Rattle.wd_lex.specs.Marks.{mark_code}
+use Rattle.wd_lex.specs.Terminals.{terminal_code}
 use Rattle.wd_syntax.specs.declared.words.KeyWord.{KeyWord}
 use Rattle.wd_syntax.specs.declared.words.KeyWord.TheVariants as k
 use Rattle.wd_syntax.specs.declared.name.Name.{Name}
@@ -37,7 +37,7 @@ use Rattle.wd_syntax.specs.Reading.{Fault, ◌>>=◌, Reads, Parser, Chance, cho
 use Rattle.std.proofs.lemmas.Bool.{eqb-true}
 use Rattle.std.proofs.lemmas.Slice.Eq.{bytes_eq-Decides}
 use Rattle.std.specs.Str.{bytes_eq}
-use Rattle.wd_lex.proofs.MarkLaws.{same_mark}
+use Rattle.wd_lex.proofs.TerminalLaws.{same_terminal}
 
 -- what holds of the value, if there is one
 abbrev pub Kept : {A : Type 0} → (A → Type 0) → Option A → Type 0
@@ -63,10 +63,10 @@ pub kept_if : {A : Type 0} (P : A → Type 0) (b : Bool) (x : A) → (b ≡ true
 kept_if P true x h = h refl
 kept_if P false x h = tt
 
-eat_is : (x : Delimiter) (ts : Kinds) → Kept (λ r. ts ≡ x ▸ r) (eat x ts)
+eat_is : (x : Terminal) (ts : Kinds) → Kept (λ r. ts ≡ x ▸ r) (eat x ts)
 unfolding eat
 eat_is x [] = tt
-eat_is x (t.Delimiter y ∷ ts) = kept_if (λ r. t.Delimiter y ∷ ts ≡ x ▸ r) (eqb (mark_code y) (mark_code x)) ts (λ e. ap (λ (z : Delimiter). z ▸ ts) (same_mark y x (eqb-true (mark_code y) (mark_code x) e)))
+eat_is x (t.Terminal y ∷ ts) = kept_if (λ r. t.Terminal y ∷ ts ≡ x ▸ r) (eqb (terminal_code y) (terminal_code x)) ts (λ e. ap (λ (z : Terminal). z ▸ ts) (same_terminal y x (eqb-true (terminal_code y) (terminal_code x) e)))
 eat_is x (t.Word text ∷ ts) = tt
 eat_is x (t.Quoted text ∷ ts) = tt
 eat_is x (t.Literal text ∷ ts) = tt
@@ -75,7 +75,7 @@ eat_is x (t.Number n ∷ ts) = tt
 eat_word_is : (x : KeyWord) (ts : Kinds) → Kept (λ r. ts ≡ x ▹ r) (eat_word x ts)
 unfolding eat_word
 eat_word_is x [] = tt
-eat_word_is x (t.Delimiter y ∷ ts) = tt
+eat_word_is x (t.Terminal y ∷ ts) = tt
 eat_word_is x (t.Word text ∷ ts) = kept_if (λ r. t.Word text ∷ ts ≡ x ▹ r) (bytes_eq text (letters x)) ts (λ e. ap (λ (z : List ℕ). t.Word z ∷ ts) ((bytes_eq-Decides text (letters x)).0 e))
 eat_word_is x (t.Quoted text ∷ ts) = tt
 eat_word_is x (t.Literal text ∷ ts) = tt
@@ -85,8 +85,8 @@ chosen : {B : Type 0} (P : B → Type 0) (K : Kinds → Type 0) (o : Option Kind
 chosen P K None f b k h i = i
 chosen P K (Some r) f b k h i = h r k
 
-pub at_mark : {B : Type 0} (P : B → Type 0) (x : Delimiter) (ts : Kinds) (f : Kinds → B) (b : B) → ((r : Kinds) → ts ≡ x ▸ r → P (f r)) → P b → P (choose (eat x ts) f b)
-at_mark P x ts f b h i = chosen P (λ r. ts ≡ x ▸ r) (eat x ts) f b (eat_is x ts) h i
+pub at_terminal : {B : Type 0} (P : B → Type 0) (x : Terminal) (ts : Kinds) (f : Kinds → B) (b : B) → ((r : Kinds) → ts ≡ x ▸ r → P (f r)) → P b → P (choose (eat x ts) f b)
+at_terminal P x ts f b h i = chosen P (λ r. ts ≡ x ▸ r) (eat x ts) f b (eat_is x ts) h i
 
 pub at_word : {B : Type 0} (P : B → Type 0) (x : KeyWord) (ts : Kinds) (f : Kinds → B) (b : B) → ((r : Kinds) → ts ≡ x ▹ r → P (f r)) → P b → P (choose (eat_word x ts) f b)
 at_word P x ts f b h i = chosen P (λ r. ts ≡ x ▹ r) (eat_word x ts) f b (eat_word_is x ts) h i
@@ -95,13 +95,13 @@ some_holds : {A : Type 0} (P : A → Type 0) (o : Option A) → Kept P o → Hol
 some_holds P None k = tt
 some_holds P (Some x) k = k
 
-pub expect_holds : (x : Delimiter) (ts : Kinds) → Holds (λ r. ts ≡ x ▸ r) (expect x ts)
+pub expect_holds : (x : Terminal) (ts : Kinds) → Holds (λ r. ts ≡ x ▸ r) (expect x ts)
 unfolding expect
 expect_holds x ts = some_holds (λ r. ts ≡ x ▸ r) (eat x ts) (eat_is x ts)
 
-pub past_mark : {B : Type 0} (Q : B → Type 0) (x : Delimiter) (ts : Kinds) (f : Kinds → Result B Fault) → ((r : Kinds) → ts ≡ x ▸ r → Holds Q (f r)) → Holds Q (expect x ts >>= f)
+pub past_terminal : {B : Type 0} (Q : B → Type 0) (x : Terminal) (ts : Kinds) (f : Kinds → Result B Fault) → ((r : Kinds) → ts ≡ x ▸ r → Holds Q (f r)) → Holds Q (expect x ts >>= f)
 unfolding expect
-past_mark Q x ts f h = then_holds (λ r. ts ≡ x ▸ r) Q (some_or_unexpected (eat x ts)) f (some_holds (λ r. ts ≡ x ▸ r) (eat x ts) (eat_is x ts)) h
+past_terminal Q x ts f h = then_holds (λ r. ts ≡ x ▸ r) Q (some_or_unexpected (eat x ts)) f (some_holds (λ r. ts ≡ x ▸ r) (eat x ts) (eat_is x ts)) h
 
 past_word : {B : Type 0} (Q : B → Type 0) (x : KeyWord) (ts : Kinds) (f : Kinds → Result B Fault) → ((r : Kinds) → ts ≡ x ▹ r → Holds Q (f r)) → Holds Q (expect_word x ts >>= f)
 unfolding expect_word
@@ -110,7 +110,7 @@ past_word Q x ts f h = then_holds (λ r. ts ≡ x ▹ r) Q (some_or_unexpected (
 eat_name_is : (ts : Kinds) → Kept (λ x. ts ≡ name_kind x.0 ∷ x.1) (eat_name ts)
 unfolding eat_name
 eat_name_is [] = tt
-eat_name_is (t.Delimiter y ∷ ts) = tt
+eat_name_is (t.Terminal y ∷ ts) = tt
 eat_name_is (t.Word text ∷ ts) = refl
 eat_name_is (t.Quoted text ∷ ts) = refl
 eat_name_is (t.Literal text ∷ ts) = tt
@@ -127,7 +127,7 @@ past_name Q ts f h = then_holds (λ x. ts ≡ name_kind x.0 ∷ x.1) Q (some_or_
 number_is : (ts : Kinds) → Holds (λ x. ts ≡ t.Number x.0 ∷ x.1) (number_at ts)
 unfolding number_at
 number_is [] = tt
-number_is (t.Delimiter y ∷ ts) = tt
+number_is (t.Terminal y ∷ ts) = tt
 number_is (t.Word text ∷ ts) = tt
 number_is (t.Quoted text ∷ ts) = tt
 number_is (t.Literal text ∷ ts) = tt
@@ -164,33 +164,33 @@ many_hold one Good item (suc n) ts h =
     then_holds (IsPart (all_onto one) (Each Good) x.1) (IsPart (all_onto one) (Each Good) ts) (many item n x.1) (λ xs. Ok (x.0 ∷ xs.0, xs.1)) (many_hold one Good item n x.1 h) (λ xs j.
     record { parts = i.parts ∙ ap (one x.0) j.parts; good = (i.good, j.good) }))
 
--- a mark, and an item
-abbrev pub marked : {A : Type 0} → Delimiter → (A → Kinds → Kinds) → A → Kinds → Kinds
-marked x one a ts = x ▸ one a ts
+-- a terminal, and an item
+abbrev pub led_by : {A : Type 0} → Terminal → (A → Kinds → Kinds) → A → Kinds → Kinds
+led_by x one a ts = x ▸ one a ts
 
-marked_part : {A : Type 0} (x : Delimiter) (one : A → Kinds → Kinds) (Good : A → Type 0) (ts r : Kinds) (o : Reads A) → ts ≡ x ▸ r → Holds (IsPart one Good r) o → Holds (IsPart (marked x one) Good ts) o
-marked_part x one Good ts r (Ok y) e i = record { parts = e ∙ ap (λ (z : Kinds). x ▸ z) i.parts; good = i.good }
-marked_part x one Good ts r (Err f) e i = tt
+led_by_part : {A : Type 0} (x : Terminal) (one : A → Kinds → Kinds) (Good : A → Type 0) (ts r : Kinds) (o : Reads A) → ts ≡ x ▸ r → Holds (IsPart one Good r) o → Holds (IsPart (led_by x one) Good ts) o
+led_by_part x one Good ts r (Ok y) e i = record { parts = e ∙ ap (λ (z : Kinds). x ▸ z) i.parts; good = i.good }
+led_by_part x one Good ts r (Err f) e i = tt
 
-pub after_holds : {A : Type 0} (x : Delimiter) (one : A → Kinds → Kinds) (Good : A → Type 0) (item : Parser A) (ts : Kinds) → ((us : Kinds) → Holds (IsPart one Good us) (item us)) → MayHold (IsPart (marked x one) Good ts) (after x item ts)
+pub after_holds : {A : Type 0} (x : Terminal) (one : A → Kinds → Kinds) (Good : A → Type 0) (item : Parser A) (ts : Kinds) → ((us : Kinds) → Holds (IsPart one Good us) (item us)) → MayHold (IsPart (led_by x one) Good ts) (after x item ts)
 unfolding after
-after_holds x one Good item ts h = at_mark (MayHold (IsPart (marked x one) Good ts)) x ts (λ r. Some (item r)) None (λ r e. marked_part x one Good ts r (item r) e (h r)) tt
+after_holds x one Good item ts h = at_terminal (MayHold (IsPart (led_by x one) Good ts)) x ts (λ r. Some (item r)) None (λ r e. led_by_part x one Good ts r (item r) e (h r)) tt
 
 -- a list is not empty
-abbrev pub IsListed : {A : Type 0} → Delimiter → (A → Kinds → Kinds) → (A → Type 0) → Kinds → List A → Kinds → Type 0
+abbrev pub IsListed : {A : Type 0} → Terminal → (A → Kinds → Kinds) → (A → Type 0) → Kinds → List A → Kinds → Type 0
 IsListed x one Good ts [] rest = ⊥
-IsListed x one Good ts (a ∷ xs) rest = (ts ≡ one a (all_onto (marked x one) xs rest)) × Good a × Each Good xs
+IsListed x one Good ts (a ∷ xs) rest = (ts ≡ one a (all_onto (led_by x one) xs rest)) × Good a × Each Good xs
 
-pub list_holds : {A : Type 0} (x : Delimiter) (one : A → Kinds → Kinds) (Good : A → Type 0) (item : Parser A) (ts : Kinds) → ((us : Kinds) → Holds (IsPart one Good us) (item us)) → Holds (λ y. IsListed x one Good ts y.0 y.1) (list_at x item ts)
+pub list_holds : {A : Type 0} (x : Terminal) (one : A → Kinds → Kinds) (Good : A → Type 0) (item : Parser A) (ts : Kinds) → ((us : Kinds) → Holds (IsPart one Good us) (item us)) → Holds (λ y. IsListed x one Good ts y.0 y.1) (list_at x item ts)
 unfolding list_at
 list_holds x one Good item ts h =
     then_holds (IsPart one Good ts) (λ y. IsListed x one Good ts y.0 y.1) (item ts) (λ a. many (after x item) (length a.1) a.1 >>= λ xs. Ok (a.0 ∷ xs.0, xs.1)) (h ts) (λ a i.
-    then_holds (IsPart (all_onto (marked x one)) (Each Good) a.1) (λ y. IsListed x one Good ts y.0 y.1) (many (after x item) (length a.1) a.1) (λ xs. Ok (a.0 ∷ xs.0, xs.1)) (many_hold (marked x one) Good (after x item) (length a.1) a.1 (λ us. after_holds x one Good item us h)) (λ xs j.
+    then_holds (IsPart (all_onto (led_by x one)) (Each Good) a.1) (λ y. IsListed x one Good ts y.0 y.1) (many (after x item) (length a.1) a.1) (λ xs. Ok (a.0 ∷ xs.0, xs.1)) (many_hold (led_by x one) Good (after x item) (length a.1) a.1 (λ us. after_holds x one Good item us h)) (λ xs j.
     (i.parts ∙ ap (one a.0) j.parts, i.good, j.good)))
 
 -- ---- frames
 
-mode_is_at : (x : Delimiter) (ts : Kinds) → Kept (λ y. x ▸ ts ≡ mode_onto y.0 y.1) (with_rest ts (mode_if x))
+mode_is_at : (x : Terminal) (ts : Kinds) → Kept (λ y. x ▸ ts ≡ mode_onto y.0 y.1) (with_rest ts (mode_if x))
 mode_is_at m.Rows ts = refl
 mode_is_at m.Range ts = refl
 mode_is_at m.Groups ts = refl
@@ -199,7 +199,7 @@ mode_is_at _ ts = tt
 mode_is : (ts : Kinds) → Kept (λ y. ts ≡ mode_onto y.0 y.1) (mode_at ts)
 unfolding mode_at
 mode_is [] = tt
-mode_is (t.Delimiter x ∷ ts) = mode_is_at x ts
+mode_is (t.Terminal x ∷ ts) = mode_is_at x ts
 mode_is (t.Word text ∷ ts) = tt
 mode_is (t.Quoted text ∷ ts) = tt
 mode_is (t.Literal text ∷ ts) = tt
@@ -240,7 +240,7 @@ extent_is ts =
     let Q : Extent × Kinds → Type 0 = Spelled extent_onto ts in
     at_word (Holds Q) k.Between ts (λ r. bound_at r >>= λ a. expect m.And a.1 >>= λ r. bound_at r >>= λ b. Ok (Between a.0 b.0, b.1)) (bound_at ts >>= λ a. Ok (Start a.0, a.1))
     (λ r e. then_holds (Spelled bound_onto r) Q (bound_at r) (λ a. expect m.And a.1 >>= λ r. bound_at r >>= λ b. Ok (Between a.0 b.0, b.1)) (bound_is r) (λ a f.
-    past_mark Q m.And a.1 (λ r. bound_at r >>= λ b. Ok (Between a.0 b.0, b.1)) (λ q g.
+    past_terminal Q m.And a.1 (λ r. bound_at r >>= λ b. Ok (Between a.0 b.0, b.1)) (λ q g.
     then_holds (Spelled bound_onto q) Q (bound_at q) (λ b. Ok (Between a.0 b.0, b.1)) (bound_is q) (λ b h.
     e ∙ ap (λ (z : Kinds). k.Between ▹ z) (f ∙ ap (bound_onto a.0) (g ∙ ap (λ (z : Kinds). m.And ▸ z) h))))))
     (then_holds (Spelled bound_onto ts) Q (bound_at ts) (λ a. Ok (Start a.0, a.1)) (bound_is ts) (λ a f. f))
@@ -251,7 +251,7 @@ excluded_is ts =
     let Q : Exclusion × Kinds → Type 0 = Spelled excluded_onto ts in
     at_word (Holds Q) k.Current ts (λ r. expect_word k.Row r >>= λ r. Ok (x.CurrentRow, r)) (choose (eat m.Group ts) (λ r. Ok (x.Group, r)) (choose (eat_word k.Ties ts) (λ r. Ok (x.Ties, r)) (expect_word k.No ts >>= λ r. expect_word k.Others r >>= λ r. Ok (x.NoOthers, r))))
     (λ r e. past_word Q k.Row r (λ r. Ok (x.CurrentRow, r)) (λ q f. e ∙ ap (λ (z : Kinds). k.Current ▹ z) f))
-    (at_mark (Holds Q) m.Group ts (λ r. Ok (x.Group, r)) (choose (eat_word k.Ties ts) (λ r. Ok (x.Ties, r)) (expect_word k.No ts >>= λ r. expect_word k.Others r >>= λ r. Ok (x.NoOthers, r))) (λ r e. e)
+    (at_terminal (Holds Q) m.Group ts (λ r. Ok (x.Group, r)) (choose (eat_word k.Ties ts) (λ r. Ok (x.Ties, r)) (expect_word k.No ts >>= λ r. expect_word k.Others r >>= λ r. Ok (x.NoOthers, r))) (λ r e. e)
     (at_word (Holds Q) k.Ties ts (λ r. Ok (x.Ties, r)) (expect_word k.No ts >>= λ r. expect_word k.Others r >>= λ r. Ok (x.NoOthers, r)) (λ r e. e)
     (past_word Q k.No ts (λ r. expect_word k.Others r >>= λ r. Ok (x.NoOthers, r)) (λ r e.
     past_word Q k.Others r (λ r. Ok (x.NoOthers, r)) (λ q f. e ∙ ap (λ (z : Kinds). k.No ▹ z) f)))))
@@ -282,8 +282,8 @@ pub direction_is : (ts : Kinds) → ts ≡ direction_onto (direction_at ts).0 (d
 unfolding direction_at
 direction_is ts =
     let P : Option SortDirection × Kinds → Type 0 = λ y. ts ≡ direction_onto y.0 y.1 in
-    at_mark P m.Asc ts (λ r. (Some Ascending, r)) (choose (eat m.Desc ts) (λ r. (Some Descending, r)) (None, ts)) (λ r e. e)
-    (at_mark P m.Desc ts (λ r. (Some Descending, r)) (None, ts) (λ r e. e) refl)
+    at_terminal P m.Asc ts (λ r. (Some Ascending, r)) (choose (eat m.Desc ts) (λ r. (Some Descending, r)) (None, ts)) (λ r e. e)
+    (at_terminal P m.Desc ts (λ r. (Some Descending, r)) (None, ts) (λ r e. e) refl)
 
 pub nulls_is : (ts : Kinds) → Holds (Spelled nulls_onto ts) (nulls_at ts)
 unfolding nulls_at
@@ -308,14 +308,14 @@ pub quantifier_is : (ts : Kinds) → ts ≡ quantifier_onto (quantifier_at ts).0
 unfolding quantifier_at
 quantifier_is ts =
     let P : Option Quantifier × Kinds → Type 0 = λ y. ts ≡ quantifier_onto y.0 y.1 in
-    at_mark P m.All ts (λ r. (Some q.All, r)) (choose (eat m.Distinct ts) (λ r. (Some q.Distinct, r)) (None, ts)) (λ r e. e)
-    (at_mark P m.Distinct ts (λ r. (Some q.Distinct, r)) (None, ts) (λ r e. e) refl)
+    at_terminal P m.All ts (λ r. (Some q.All, r)) (choose (eat m.Distinct ts) (λ r. (Some q.Distinct, r)) (None, ts)) (λ r e. e)
+    (at_terminal P m.Distinct ts (λ r. (Some q.Distinct, r)) (None, ts) (λ r e. e) refl)
 
 pub given_is : (ts : Kinds) → Holds (Spelled given_onto ts) (given_at ts)
 unfolding given_at
 given_is ts =
     let Q : Alias × Kinds → Type 0 = Spelled given_onto ts in
-    at_mark (Holds Q) m.As ts (λ r. name_at r >>= λ n. Ok (record { with_as = true; name = n.0 }, n.1)) (name_at ts >>= λ n. Ok (record { with_as = false; name = n.0 }, n.1))
+    at_terminal (Holds Q) m.As ts (λ r. name_at r >>= λ n. Ok (record { with_as = true; name = n.0 }, n.1)) (name_at ts >>= λ n. Ok (record { with_as = false; name = n.0 }, n.1))
     (λ r e. past_name Q r (λ n. Ok (record { with_as = true; name = n.0 }, n.1)) (λ n f. e ∙ ap (λ (z : Kinds). m.As ▸ z) f))
     (past_name Q ts (λ n. Ok (record { with_as = false; name = n.0 }, n.1)) (λ n f. f))
 
@@ -327,7 +327,7 @@ pub alias_is : (ts : Kinds) → Holds (Spelled alias_onto ts) (alias_at ts)
 unfolding alias_at
 alias_is ts =
     let Q : Option Alias × Kinds → Type 0 = Spelled alias_onto ts in
-    at_mark (Holds Q) m.As ts (λ r. name_at r >>= λ n. Ok (Some (record { with_as = true; name = n.0 }), n.1)) (bare_if (eat_name ts) ts)
+    at_terminal (Holds Q) m.As ts (λ r. name_at r >>= λ n. Ok (Some (record { with_as = true; name = n.0 }), n.1)) (bare_if (eat_name ts) ts)
     (λ r e. past_name Q r (λ n. Ok (Some (record { with_as = true; name = n.0 }), n.1)) (λ n f. e ∙ ap (λ (z : Kinds). m.As ▸ z) f))
     (bare_is ts (eat_name ts) (eat_name_is ts))
 
@@ -335,8 +335,8 @@ star_if_is : (ts : Kinds) (o : Option (Name × Kinds)) → Kept (λ x. ts ≡ na
 star_if_is ts None k = tt
 star_if_is ts (Some n) k =
     let P : Option (Name × Kinds) → Type 0 = Kept (λ x. ts ≡ name_kind x.0 ∷ (m.Dot ▸ m.Star ▸ x.1)) in
-    at_mark P m.Dot n.1 (λ r. choose (eat m.Star r) (λ r. Some (n.0, r)) None) None
-    (λ r e. at_mark P m.Star r (λ r. Some (n.0, r)) None (λ q f. k ∙ ap (λ (z : Kinds). name_kind n.0 ∷ z) (e ∙ ap (λ (z : Kinds). m.Dot ▸ z) f)) tt)
+    at_terminal P m.Dot n.1 (λ r. choose (eat m.Star r) (λ r. Some (n.0, r)) None) None
+    (λ r e. at_terminal P m.Star r (λ r. Some (n.0, r)) None (λ q f. k ∙ ap (λ (z : Kinds). name_kind n.0 ∷ z) (e ∙ ap (λ (z : Kinds). m.Dot ▸ z) f)) tt)
     tt
 
 pub star_is : (ts : Kinds) → Kept (λ x. ts ≡ name_kind x.0 ∷ (m.Dot ▸ m.Star ▸ x.1)) (star_at ts)
@@ -350,7 +350,7 @@ unfolding row_at
 row_is ts =
     let P : Option (RowWord × Kinds) → Type 0 = Kept (λ x. ts ≡ row_onto x.0 x.1) in
     at_word P k.Row ts (λ r. Some (w.Row, r)) (choose (eat m.Rows ts) (λ r. Some (w.Rows, r)) None) (λ r e. e)
-    (at_mark P m.Rows ts (λ r. Some (w.Rows, r)) None (λ r e. e) tt)
+    (at_terminal P m.Rows ts (λ r. Some (w.Rows, r)) None (λ r e. e) tt)
 
 row_if_is : (ts : Kinds) (o : Option (RowWord × Kinds)) → Kept (λ x. ts ≡ row_onto x.0 x.1) o → ts ≡ row_option_onto (row_if o ts).0 (row_if o ts).1
 row_if_is ts None k = refl
@@ -381,7 +381,7 @@ ties_is : (ts : Kinds) → Holds (Spelled ties_onto ts) (ties_at ts)
 unfolding ties_at
 ties_is ts =
     let Q : Bool × Kinds → Type 0 = Spelled ties_onto ts in
-    at_mark (Holds Q) m.With ts (λ r. expect_word k.Ties r >>= λ r. Ok (true, r)) (expect_word k.Only ts >>= λ r. Ok (false, r))
+    at_terminal (Holds Q) m.With ts (λ r. expect_word k.Ties r >>= λ r. Ok (true, r)) (expect_word k.Only ts >>= λ r. Ok (false, r))
     (λ r e. past_word Q k.Ties r (λ r. Ok (true, r)) (λ q f. e ∙ ap (λ (z : Kinds). m.With ▸ z) f))
     (past_word Q k.Only ts (λ r. Ok (false, r)) (λ r e. e))
 
@@ -403,12 +403,12 @@ count_if_is : (ts : Kinds) → MayHold (Spelled count_onto ts) (count_if ts)
 unfolding count_if
 count_if_is ts =
     let P : Option (Reads Count) → Type 0 = MayHold (Spelled count_onto ts) in
-    at_mark P m.Limit ts (λ r. Some (limit_at r)) (choose (eat m.Fetch ts) (λ r. Some (fetch_at r)) None) (λ r e. limit_is ts r e)
-    (at_mark P m.Fetch ts (λ r. Some (fetch_at r)) None (λ r e. fetch_is ts r e) tt)
+    at_terminal P m.Limit ts (λ r. Some (limit_at r)) (choose (eat m.Fetch ts) (λ r. Some (fetch_at r)) None) (λ r e. limit_is ts r e)
+    (at_terminal P m.Fetch ts (λ r. Some (fetch_at r)) None (λ r e. fetch_is ts r e) tt)
 
 offset_if_is : (ts : Kinds) → MayHold (Spelled offset_onto ts) (offset_if ts)
 unfolding offset_if
-offset_if_is ts = at_mark (MayHold (Spelled offset_onto ts)) m.Offset ts (λ r. Some (offset_at r)) None (λ r e. offset_is ts r e) tt
+offset_if_is ts = at_terminal (MayHold (Spelled offset_onto ts)) m.Offset ts (λ r. Some (offset_at r)) None (λ r e. offset_is ts r e) tt
 
 try_holds : {A B : Type 0} (P : A × Kinds → Type 0) (Q : B × Kinds → Type 0) (o : Option (Reads A)) (f : A × Kinds → Reads B) (b : Reads B) → MayHold P o → ((x : A × Kinds) → P x → Holds Q (f x)) → Holds Q b → Holds Q (try o f b)
 try_holds P Q None f b h k i = i

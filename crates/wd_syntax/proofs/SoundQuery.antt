@@ -1,6 +1,6 @@
 -- What is read of a query is spelled so, is well-levelled and keeps the limits.
 use Rattle.std.proofs.Common.{◌≡◌, ℕ, zero, suc, ◌≤◌, Bool, true, false, List, [], ◌∷◌, length, Option, Some, None, Ok, refl, sym, ap, ◌∙◌}
-use Rattle.wd_lex.specs.declared.token.Delimiter.TheVariants as m
+use Rattle.wd_lex.specs.declared.token.Terminal.TheVariants as m
 use Rattle.wd_syntax.specs.declared.name.Name.{Name}
 use Rattle.wd_syntax.specs.declared.query.Quantifier.{Quantifier}
 use Rattle.wd_syntax.specs.declared.query.Limits.{Limits}
@@ -10,14 +10,14 @@ use Rattle.wd_syntax.specs.Spelling.{onto, order_onto, quantifier_onto, given_on
 use Rattle.wd_syntax.specs.Levels.{WindowLevelled, KeysLevelled, ItemLevelled, OptionLevelled, TableLevelled, JoinLevelled, JoinsLevelled, SelectLevelled, IsWellLevelled}
 use Rattle.wd_syntax.specs.Limits.{Below, WindowFits, KeysFit, ItemFits, OptionFits, TableFits, JoinFits, JoinsFit, SelectFits, QueryFits}
 use Rattle.wd_syntax.specs.Reading.{◌>>=◌, Reads, Parser, choose, eat, expect, name_at, many, list_at, order_at, window_at, enter, levels, deeper_of, read, quantifier_at, given_at, alias_at, star_at, item_if, item_at, filter_at, named_window_at, windows_at, limits_at, Inner, table_at, inner_at, join_at, from_at, select_at, selects, inside_of, if_last, whole}
-use Rattle.wd_syntax.proofs.SoundPieces.{Kept, Holds, MayHold, then_holds, at_mark, past_mark, past_name, IsPart, Spelled, all_onto, marked, IsListed, list_holds, many_hold, quantifier_is, given_is, alias_is, star_is, limits_is, looser_holds}
+use Rattle.wd_syntax.proofs.SoundPieces.{Kept, Holds, MayHold, then_holds, at_terminal, past_terminal, past_name, IsPart, Spelled, all_onto, led_by, IsListed, list_holds, many_hold, quantifier_is, given_is, alias_is, star_is, limits_is, looser_holds}
 use Rattle.wd_syntax.proofs.Sound.{each_left, each_right, Good, Whole, whole_expression, Within, enter_holds, GoodKeys, keys_row_onto, order_holds, window_closed, GoodWindow, window_holds, sound, within}
 
-pub items_spelled : (xs : List ItemTree) (ts : Kinds) → all_onto (marked m.Comma item_onto) xs ts ≡ more_items_onto xs ts
+pub items_spelled : (xs : List ItemTree) (ts : Kinds) → all_onto (led_by m.Comma item_onto) xs ts ≡ more_items_onto xs ts
 items_spelled [] ts = refl
 items_spelled (a ∷ xs) ts = ap (λ (z : Kinds). m.Comma ▸ item_onto a z) (items_spelled xs ts)
 
-pub windows_spelled : (xs : List (Name × WindowTree)) (ts : Kinds) → all_onto (marked m.Comma named_window_onto) xs ts ≡ more_windows_onto xs ts
+pub windows_spelled : (xs : List (Name × WindowTree)) (ts : Kinds) → all_onto (led_by m.Comma named_window_onto) xs ts ≡ more_windows_onto xs ts
 windows_spelled [] ts = refl
 windows_spelled (a ∷ xs) ts = ap (λ (z : Kinds). m.Comma ▸ named_window_onto a z) (windows_spelled xs ts)
 
@@ -54,7 +54,7 @@ module _ (c : ℕ) where
   unfolding item_at
   item_holds d item ts op =
       let Q : ItemTree × Kinds → Type 0 = IsPart item_onto (GoodItem d) ts in
-      at_mark (Holds Q) m.Star ts (λ r. Ok (all_columns, r)) (item_if (star_at ts) (item ts >>= λ a. alias_at a.1 >>= λ alias. Ok (shown a.0 alias.0, alias.1)))
+      at_terminal (Holds Q) m.Star ts (λ r. Ok (all_columns, r)) (item_if (star_at ts) (item ts >>= λ a. alias_at a.1 >>= λ alias. Ok (shown a.0 alias.0, alias.1)))
       (λ r e. record { parts = e; good = (tt, tt) })
       (item_else d ts (star_at ts) (item ts >>= λ a. alias_at a.1 >>= λ alias. Ok (shown a.0 alias.0, alias.1)) (star_is ts)
       (then_holds (IsPart onto (Good c d) ts) Q (item ts) (λ a. alias_at a.1 >>= λ alias. Ok (shown a.0 alias.0, alias.1)) (op ts) (λ a i.
@@ -67,7 +67,7 @@ module _ (c : ℕ) where
   unfolding filter_at
   filter_holds d item ts op =
       let Q : Option Tree × Kinds → Type 0 = IsPart filter_onto (GoodFilter d) ts in
-      at_mark (Holds Q) m.Where ts (λ r. item r >>= λ a. Ok (Some a.0, a.1)) (Ok (None, ts))
+      at_terminal (Holds Q) m.Where ts (λ r. item r >>= λ a. Ok (Some a.0, a.1)) (Ok (None, ts))
       (λ r e. then_holds (IsPart onto (Good c d) r) Q (item r) (λ a. Ok (Some a.0, a.1)) (op r) (λ a i. record { parts = e ∙ ap (λ (z : Kinds). m.Where ▸ z) i.parts; good = i.good }))
       (record { parts = refl; good = (tt, tt) })
 
@@ -76,8 +76,8 @@ module _ (c : ℕ) where
   named_window_holds d ts lower =
       let R : (Name × WindowTree) × Kinds → Type 0 = IsPart named_window_onto (GoodNamed d) ts in
       past_name R ts (λ n. expect m.As n.1 >>= λ r. expect m.LeftBracket r >>= λ q. enter (length r) (deeper_of c d) (λ p. window_at (p 8) q) >>= λ w. Ok ((n.0, w.0), w.1)) (λ n e.
-      past_mark R m.As n.1 (λ r. expect m.LeftBracket r >>= λ q. enter (length r) (deeper_of c d) (λ p. window_at (p 8) q) >>= λ w. Ok ((n.0, w.0), w.1)) (λ r f.
-      past_mark R m.LeftBracket r (λ q. enter (length r) (deeper_of c d) (λ p. window_at (p 8) q) >>= λ w. Ok ((n.0, w.0), w.1)) (λ us g.
+      past_terminal R m.As n.1 (λ r. expect m.LeftBracket r >>= λ q. enter (length r) (deeper_of c d) (λ p. window_at (p 8) q) >>= λ w. Ok ((n.0, w.0), w.1)) (λ r f.
+      past_terminal R m.LeftBracket r (λ q. enter (length r) (deeper_of c d) (λ p. window_at (p 8) q) >>= λ w. Ok ((n.0, w.0), w.1)) (λ us g.
       then_holds (IsPart (window_closed c) (λ w. WindowLevelled w × Below d (λ k. WindowFits c k w)) us) R (enter (length r) (deeper_of c d) (λ p. window_at (p 8) us)) (λ w. Ok ((n.0, w.0), w.1))
       (enter_holds c (length r) (λ j. IsPart (window_closed c) (λ w. WindowLevelled w × Below j (λ k. WindowFits c k w)) us) (λ p. window_at (p 8) us) (λ k sound.
       looser_holds (IsPart (window_closed c) (GoodWindow c k) us) (IsPart (window_closed c) (λ w. WindowLevelled w × Below (suc k) (λ k. WindowFits c k w)) us) (window_at (levels c (deeper_of c k) 8) us) (window_holds c k (levels c (deeper_of c k) 8) us (whole_expression c k sound)) (λ x i. record { parts = i.parts; good = (i.good.0, i.good.1) })) d lower)
@@ -94,7 +94,7 @@ module _ (c : ℕ) where
   unfolding windows_at
   windows_hold d ts lower =
       let Q : List (Name × WindowTree) × Kinds → Type 0 = IsPart windows_onto (GoodWindows d) ts in
-      at_mark (Holds Q) m.Window ts (λ r. list_at m.Comma (named_window_at (deeper_of c d)) r) (Ok ([], ts))
+      at_terminal (Holds Q) m.Window ts (λ r. list_at m.Comma (named_window_at (deeper_of c d)) r) (Ok ([], ts))
       (λ r e. looser_holds (λ y. IsListed m.Comma named_window_onto (GoodNamed d) r y.0 y.1) Q (list_at m.Comma (named_window_at (deeper_of c d)) r) (list_holds m.Comma named_window_onto (GoodNamed d) (named_window_at (deeper_of c d)) r (λ us. named_window_holds d us lower)) (λ y h. windows_listed d ts r y.1 y.0 e h))
       (record { parts = refl; good = (tt, tt) })
 
@@ -116,11 +116,11 @@ module _ (c : ℕ) where
   table_holds d ts lower =
       let Q : TableTree × Kinds → Type 0 = IsPart table_onto (GoodTable d) ts in
       let Below-select : ℕ → SelectTree → Type 0 = λ j s. SelectLevelled s × Below j (λ k. SelectFits c k s) in
-      at_mark (Holds Q) m.LeftBracket ts (λ r. enter (length ts) (inside_of c d) (λ p. p r) >>= λ s. expect m.RightBracket s.1 >>= λ r. given_at r >>= λ alias. Ok (derived s.0 alias.0, alias.1)) (name_at ts >>= λ n. alias_at n.1 >>= λ alias. Ok (named n.0 alias.0, alias.1))
+      at_terminal (Holds Q) m.LeftBracket ts (λ r. enter (length ts) (inside_of c d) (λ p. p r) >>= λ s. expect m.RightBracket s.1 >>= λ r. given_at r >>= λ alias. Ok (derived s.0 alias.0, alias.1)) (name_at ts >>= λ n. alias_at n.1 >>= λ alias. Ok (named n.0 alias.0, alias.1))
       (λ r e. then_holds (IsPart select_onto (Below-select d) r) Q (enter (length ts) (inside_of c d) (λ p. p r)) (λ s. expect m.RightBracket s.1 >>= λ r. given_at r >>= λ alias. Ok (derived s.0 alias.0, alias.1))
       (inside_holds (length ts) (λ j. IsPart select_onto (Below-select j) r) r (λ k all.
       looser_holds (IsPart select_onto (GoodSelect k) r) (IsPart select_onto (Below-select (suc k)) r) (selects c k r) (all r) (λ x i. record { parts = i.parts; good = (i.good.0, i.good.1) })) d lower)
-      (λ s i. past_mark Q m.RightBracket s.1 (λ r. given_at r >>= λ alias. Ok (derived s.0 alias.0, alias.1)) (λ q f.
+      (λ s i. past_terminal Q m.RightBracket s.1 (λ r. given_at r >>= λ alias. Ok (derived s.0 alias.0, alias.1)) (λ q f.
       then_holds (Spelled given_onto q) Q (given_at q) (λ alias. Ok (derived s.0 alias.0, alias.1)) (given_is q) (λ alias g.
       record { parts = e ∙ ap (λ (z : Kinds). m.LeftBracket ▸ z) (i.parts ∙ ap (select_onto s.0) (f ∙ ap (λ (z : Kinds). m.RightBracket ▸ z) g)); good = i.good }))))
       (past_name Q ts (λ n. alias_at n.1 >>= λ alias. Ok (named n.0 alias.0, alias.1)) (λ n e.
@@ -136,7 +136,7 @@ module _ (c : ℕ) where
   inner_holds d b item ts us op lower with_inner without =
       let Q : JoinTree × Kinds → Type 0 = IsPart join_onto (GoodJoin d) ts in
       then_holds (IsPart table_onto (GoodTable d) us) Q (table_at (inside_of c d) us) (λ table. expect m.On table.1 >>= λ r. item r >>= λ on. Ok (inner b table.0 on.0, on.1)) (table_holds d us lower) (λ table i.
-      past_mark Q m.On table.1 (λ r. item r >>= λ on. Ok (inner b table.0 on.0, on.1)) (λ r e.
+      past_terminal Q m.On table.1 (λ r. item r >>= λ on. Ok (inner b table.0 on.0, on.1)) (λ r e.
       then_holds (IsPart onto (Good c d) r) Q (item r) (λ on. Ok (inner b table.0 on.0, on.1)) (op r) (λ on j.
       record { parts = inner_onto b table.0 on.0 us on.1 ts (i.parts ∙ ap (table_onto table.0) (e ∙ ap (λ (z : Kinds). m.On ▸ z) j.parts)) with_inner without; good = ((i.good.0, j.good.0), (i.good.1, j.good.1)) })))
 
@@ -153,14 +153,14 @@ module _ (c : ℕ) where
       let last : Option (Reads JoinTree) = choose (eat m.Join ts) (λ r. Some (inner_at (inside_of c d) item false r)) None in
       let third : Option (Reads JoinTree) = choose (eat m.Inner ts) (λ r. Some (expect m.Join r >>= λ r. inner_at (inside_of c d) item true r)) last in
       let second : Option (Reads JoinTree) = choose (eat m.Cross ts) (λ r. Some (expect m.Join r >>= λ r. table_at (inside_of c d) r >>= λ table. Ok (cross table.0, table.1))) third in
-      at_mark (MayHold Q) m.Comma ts (λ r. Some (table_at (inside_of c d) r >>= λ table. Ok (comma table.0, table.1))) second
+      at_terminal (MayHold Q) m.Comma ts (λ r. Some (table_at (inside_of c d) r >>= λ table. Ok (comma table.0, table.1))) second
       (λ r e. then_holds (IsPart table_onto (GoodTable d) r) Q (table_at (inside_of c d) r) (λ table. Ok (comma table.0, table.1)) (table_holds d r lower) (λ table i. record { parts = e ∙ ap (λ (z : Kinds). m.Comma ▸ z) i.parts; good = i.good }))
-      (at_mark (MayHold Q) m.Cross ts (λ r. Some (expect m.Join r >>= λ r. table_at (inside_of c d) r >>= λ table. Ok (cross table.0, table.1))) third
-      (λ r e. past_mark Q m.Join r (λ r. table_at (inside_of c d) r >>= λ table. Ok (cross table.0, table.1)) (λ us f.
+      (at_terminal (MayHold Q) m.Cross ts (λ r. Some (expect m.Join r >>= λ r. table_at (inside_of c d) r >>= λ table. Ok (cross table.0, table.1))) third
+      (λ r e. past_terminal Q m.Join r (λ r. table_at (inside_of c d) r >>= λ table. Ok (cross table.0, table.1)) (λ us f.
       then_holds (IsPart table_onto (GoodTable d) us) Q (table_at (inside_of c d) us) (λ table. Ok (cross table.0, table.1)) (table_holds d us lower) (λ table i. record { parts = e ∙ ap (λ (z : Kinds). m.Cross ▸ z) (f ∙ ap (λ (z : Kinds). m.Join ▸ z) i.parts); good = i.good })))
-      (at_mark (MayHold Q) m.Inner ts (λ r. Some (expect m.Join r >>= λ r. inner_at (inside_of c d) item true r)) last
-      (λ r e. past_mark Q m.Join r (λ r. inner_at (inside_of c d) item true r) (λ us f. inner_holds d true item ts us op lower (λ h. e ∙ ap (λ (z : Kinds). m.Inner ▸ z) f) (λ h. absurd (no_truth h))))
-      (at_mark (MayHold Q) m.Join ts (λ r. Some (inner_at (inside_of c d) item false r)) None
+      (at_terminal (MayHold Q) m.Inner ts (λ r. Some (expect m.Join r >>= λ r. inner_at (inside_of c d) item true r)) last
+      (λ r e. past_terminal Q m.Join r (λ r. inner_at (inside_of c d) item true r) (λ us f. inner_holds d true item ts us op lower (λ h. e ∙ ap (λ (z : Kinds). m.Inner ▸ z) f) (λ h. absurd (no_truth h))))
+      (at_terminal (MayHold Q) m.Join ts (λ r. Some (inner_at (inside_of c d) item false r)) None
       (λ r e. inner_holds d false item ts r op lower (λ h. absurd (no_falsehood h)) (λ h. e))
       tt)))
 
@@ -208,11 +208,11 @@ module _ (c : ℕ) where
       let p : Parser Tree = read c d 8 in
       let op : Whole c d p = whole_expression c d (sound c d one) in
       let inside : Inner = inside_of c d in
-      past_mark Q m.Select ts (λ r. list_at m.Comma (item_at p) (quantifier_at r).1 >>= λ items. expect m.From items.1 >>= λ q. from_at inside p q >>= λ tables. filter_at p tables.1 >>= λ filter. windows_at (deeper_of c d) filter.1 >>= λ windows. order_at p windows.1 >>= λ order. limits_at order.1 >>= λ limits. Ok (select (quantifier_at r).0 items.0 tables.0.0 (joins_of tables.0.1) filter.0 windows.0 (keys_of order.0) limits.0, limits.1)) (λ r e.
+      past_terminal Q m.Select ts (λ r. list_at m.Comma (item_at p) (quantifier_at r).1 >>= λ items. expect m.From items.1 >>= λ q. from_at inside p q >>= λ tables. filter_at p tables.1 >>= λ filter. windows_at (deeper_of c d) filter.1 >>= λ windows. order_at p windows.1 >>= λ order. limits_at order.1 >>= λ limits. Ok (select (quantifier_at r).0 items.0 tables.0.0 (joins_of tables.0.1) filter.0 windows.0 (keys_of order.0) limits.0, limits.1)) (λ r e.
       let quantifier : Option Quantifier = (quantifier_at r).0 in
       let us : Kinds = (quantifier_at r).1 in
       then_holds (λ y. IsListed m.Comma item_onto (GoodItem d) us y.0 y.1) Q (list_at m.Comma (item_at p) us) (λ items. expect m.From items.1 >>= λ q. from_at inside p q >>= λ tables. filter_at p tables.1 >>= λ filter. windows_at (deeper_of c d) filter.1 >>= λ windows. order_at p windows.1 >>= λ order. limits_at order.1 >>= λ limits. Ok (select quantifier items.0 tables.0.0 (joins_of tables.0.1) filter.0 windows.0 (keys_of order.0) limits.0, limits.1)) (list_holds m.Comma item_onto (GoodItem d) (item_at p) us (λ vs. item_holds d p vs op)) (λ items h.
-      past_mark Q m.From items.1 (λ q. from_at inside p q >>= λ tables. filter_at p tables.1 >>= λ filter. windows_at (deeper_of c d) filter.1 >>= λ windows. order_at p windows.1 >>= λ order. limits_at order.1 >>= λ limits. Ok (select quantifier items.0 tables.0.0 (joins_of tables.0.1) filter.0 windows.0 (keys_of order.0) limits.0, limits.1)) (λ q f.
+      past_terminal Q m.From items.1 (λ q. from_at inside p q >>= λ tables. filter_at p tables.1 >>= λ filter. windows_at (deeper_of c d) filter.1 >>= λ windows. order_at p windows.1 >>= λ order. limits_at order.1 >>= λ limits. Ok (select quantifier items.0 tables.0.0 (joins_of tables.0.1) filter.0 windows.0 (keys_of order.0) limits.0, limits.1)) (λ q f.
       then_holds (IsPart from_onto (GoodTables d) q) Q (from_at inside p q) (λ tables. filter_at p tables.1 >>= λ filter. windows_at (deeper_of c d) filter.1 >>= λ windows. order_at p windows.1 >>= λ order. limits_at order.1 >>= λ limits. Ok (select quantifier items.0 tables.0.0 (joins_of tables.0.1) filter.0 windows.0 (keys_of order.0) limits.0, limits.1)) (from_holds d p q op lower) (λ tables it.
       then_holds (IsPart filter_onto (GoodFilter d) tables.1) Q (filter_at p tables.1) (λ filter. windows_at (deeper_of c d) filter.1 >>= λ windows. order_at p windows.1 >>= λ order. limits_at order.1 >>= λ limits. Ok (select quantifier items.0 tables.0.0 (joins_of tables.0.1) filter.0 windows.0 (keys_of order.0) limits.0, limits.1)) (filter_holds d p tables.1 op) (λ filter iw.
       then_holds (IsPart windows_onto (GoodWindows d) filter.1) Q (windows_at (deeper_of c d) filter.1) (λ windows. order_at p windows.1 >>= λ order. limits_at order.1 >>= λ limits. Ok (select quantifier items.0 tables.0.0 (joins_of tables.0.1) filter.0 windows.0 (keys_of order.0) limits.0, limits.1)) (windows_hold d filter.1 (within c d one)) (λ windows is.
@@ -239,6 +239,6 @@ module _ (c : ℕ) where
   unfolding whole
   whole_holds d ts one =
       then_holds (IsPart select_onto (GoodSelect d) ts) (IsQuery d ts) (selects c d ts) (λ s. choose (eat m.Semicolon s.1) (λ r. if_last (query s.0 true) r) (if_last (query s.0 false) s.1)) (selects_hold d one ts) (λ s i.
-      at_mark (Holds (IsQuery d ts)) m.Semicolon s.1 (λ r. if_last (query s.0 true) r) (if_last (query s.0 false) s.1)
+      at_terminal (Holds (IsQuery d ts)) m.Semicolon s.1 (λ r. if_last (query s.0 true) r) (if_last (query s.0 false) s.1)
       (λ r e. last_holds d ts r (query s.0 true) (λ f. (i.good.0, sym (i.parts ∙ ap (select_onto s.0) (e ∙ ap (λ (z : Kinds). m.Semicolon ▸ z) f)), i.good.1)))
       (last_holds d ts s.1 (query s.0 false) (λ f. (i.good.0, sym (i.parts ∙ ap (select_onto s.0) f), i.good.1))))

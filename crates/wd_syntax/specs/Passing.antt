@@ -1,9 +1,9 @@
 -- The token at which a tree passes a limit: it opens a level where none is left, or is one operator too many of its chain.
 use Rattle.std.specs.Prelude.{◌≡◌, ◌⊎◌, ◌++◌, ℕ, zero, suc, List, [], ◌∷◌, length, Option, Some, None}
-use Rattle.wd_lex.specs.declared.token.Delimiter.TheVariants as m
+use Rattle.wd_lex.specs.declared.token.Terminal.TheVariants as m
 use Rattle.wd_lex.specs.declared.token.TokenKind.{TokenKind}
 use Rattle.wd_syntax.specs.declared.name.Name.{Name}
-use Rattle.wd_syntax.specs.Tokens.{Kinds, ◌▸◌, operator_mark, sign_mark, operator_height}
+use Rattle.wd_syntax.specs.Tokens.{Kinds, ◌▸◌, operator_terminal, sign_terminal, operator_height}
 use Rattle.wd_syntax.specs.Tree.{Tree, Constant, Column, Qualified, CallAll, Call, Case, Bracket, Signed, Binary, IsNull, Negated, Trees, no_trees, more_trees, Arms, no_arms, more_arms, Otherwise, no_else, or_else, OverTree, no_over, over_name, over_window, WindowTree, window, Keys, no_keys, more_keys, ItemTree, all_columns, all_of, shown, TableTree, named, derived, JoinTree, comma, cross, inner, Joins, no_joins, more_joins, SelectTree, select, QueryTree, query}
 use Rattle.wd_syntax.specs.Spelling.{frame_onto, direction_onto, nulls_onto, not_onto, onto, list_onto, more_onto, arms_onto, else_onto, over_onto, window_onto, order_onto, more_keys_onto, given_onto, alias_onto, more_items_onto, more_windows_onto, windows_onto, limits_onto, tail_onto, table_onto, joins_onto, select_onto, end_onto, spell}
 use Rattle.wd_syntax.specs.Levels.{IsWellLevelled}
@@ -24,8 +24,8 @@ abbrev mutual
   Passes c d (Call f bs over) ts rest = Opens d (λ k. OnePasses c k bs (m.RightBracket ▸ over_onto over ts) rest) (m.LeftBracket ▸ list_onto bs (m.RightBracket ▸ over_onto over ts)) rest ⊎ OverPasses c d over ts rest
   Passes c d (Case arms other) ts rest = Opens d (λ k. ArmPasses c k arms (else_onto other (m.End ▸ ts)) rest ⊎ ElsePasses c k other (m.End ▸ ts) rest) (m.Case ▸ arms_onto arms (else_onto other (m.End ▸ ts))) rest
   Passes c d (Bracket a) ts rest = Opens d (λ k. Passes c k a (m.RightBracket ▸ ts) rest) (m.LeftBracket ▸ onto a (m.RightBracket ▸ ts)) rest
-  Passes c d (Signed s a) ts rest = Opens d (λ k. Passes c k a ts rest) (sign_mark s ▸ onto a ts) rest
-  Passes c d (Binary o a b) ts rest = Passes c d a (operator_mark o ▸ onto b ts) rest ⊎ (Passes c d b ts rest ⊎ ((operators (operator_height o) (Binary o a b) ≡ suc c) × (rest ≡ operator_mark o ▸ onto b ts)))
+  Passes c d (Signed s a) ts rest = Opens d (λ k. Passes c k a ts rest) (sign_terminal s ▸ onto a ts) rest
+  Passes c d (Binary o a b) ts rest = Passes c d a (operator_terminal o ▸ onto b ts) rest ⊎ (Passes c d b ts rest ⊎ ((operators (operator_height o) (Binary o a b) ≡ suc c) × (rest ≡ operator_terminal o ▸ onto b ts)))
   Passes c d (IsNull a not) ts rest = Passes c d a (m.Is ▸ not_onto not (m.Null ▸ ts)) rest ⊎ ((operators 5 (IsNull a not) ≡ suc c) × (rest ≡ m.Is ▸ not_onto not (m.Null ▸ ts)))
   Passes c d (Negated a) ts rest = Opens d (λ k. Passes c k a ts rest) (m.Not ▸ onto a ts) rest
 

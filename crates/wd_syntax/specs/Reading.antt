@@ -1,11 +1,11 @@
 -- Reading tokens from left to right.
 use Rattle.std.specs.Prelude.{ℕ, zero, suc, ◌==◌, if◌then◌else◌, List, [], ◌∷◌, length, Bool, true, false, Option, Some, None, Result, Ok, Err}
 use Rattle.std.specs.Str.{bytes_eq}
-use Rattle.wd_lex.specs.declared.token.Delimiter.{Delimiter}
-use Rattle.wd_lex.specs.declared.token.Delimiter.TheVariants as m
+use Rattle.wd_lex.specs.declared.token.Terminal.{Terminal}
+use Rattle.wd_lex.specs.declared.token.Terminal.TheVariants as m
 use Rattle.wd_lex.specs.declared.token.TokenKind.{TokenKind}
 use Rattle.wd_lex.specs.declared.token.TokenKind.TheVariants as t
-use Rattle.wd_lex.specs.Marks.{mark_code}
+use Rattle.wd_lex.specs.Terminals.{terminal_code}
 use Rattle.wd_syntax.specs.declared.words.KeyWord.{KeyWord}
 use Rattle.wd_syntax.specs.declared.words.KeyWord.TheVariants as k
 use Rattle.wd_syntax.specs.declared.name.Name.{Name}
@@ -70,20 +70,20 @@ choose None f b = b
 
 -- ---- single tokens
 
-abbrev pub is_mark : Delimiter → TokenKind → Bool
-is_mark x (t.Delimiter y) = mark_code y == mark_code x
-is_mark x _ = false
+abbrev pub is_terminal : Terminal → TokenKind → Bool
+is_terminal x (t.Terminal y) = terminal_code y == terminal_code x
+is_terminal x _ = false
 
--- the tokens after that mark, where it stands first
-unfoldable pub eat : Delimiter → Kinds → Option Kinds
+-- the tokens after that terminal, where it stands first
+unfoldable pub eat : Terminal → Kinds → Option Kinds
 eat x [] = None
-eat x (y ∷ ts) = if is_mark x y then Some ts else None
+eat x (y ∷ ts) = if is_terminal x y then Some ts else None
 
 abbrev pub some_or_unexpected : {A : Type 0} → Option A → Result A Fault
 some_or_unexpected (Some x) = Ok x
 some_or_unexpected None = Err Unexpected
 
-unfoldable pub expect : Delimiter → Kinds → Result Kinds Fault
+unfoldable pub expect : Terminal → Kinds → Result Kinds Fault
 expect x ts = some_or_unexpected (eat x ts)
 
 abbrev pub is_word : KeyWord → TokenKind → Bool
@@ -120,7 +120,7 @@ number_at (t.Number n ∷ ts) = Ok (n, ts)
 number_at (_ ∷ ts) = Err Unexpected
 
 -- an operator of that height
-abbrev pub operator_of : Delimiter → Option Operator
+abbrev pub operator_of : Terminal → Option Operator
 operator_of m.Or = Some o.Or
 operator_of m.And = Some o.And
 operator_of m.Equals = Some o.Equal
@@ -142,17 +142,17 @@ operator_if h ts (Some o) = if operator_height o == h then Some (o, ts) else Non
 
 unfoldable pub operator_at : ℕ → Kinds → Option (Operator × Kinds)
 operator_at h [] = None
-operator_at h (t.Delimiter x ∷ ts) = operator_if h ts (operator_of x)
+operator_at h (t.Terminal x ∷ ts) = operator_if h ts (operator_of x)
 operator_at h (_ ∷ ts) = None
 
-abbrev pub sign_of : Delimiter → Option Sign
+abbrev pub sign_of : Terminal → Option Sign
 sign_of m.Plus = Some s.Plus
 sign_of m.Minus = Some s.Minus
 sign_of _ = None
 
 unfoldable pub sign_at : Kinds → Option (Sign × Kinds)
 sign_at [] = None
-sign_at (t.Delimiter x ∷ ts) = with_rest ts (sign_of x)
+sign_at (t.Terminal x ∷ ts) = with_rest ts (sign_of x)
 sign_at (_ ∷ ts) = None
 
 -- ---- lists
@@ -170,12 +170,12 @@ unfoldable pub many : {A : Type 0} → Chance A → ℕ → Parser (List A)
 many item zero ts = none_begins (item ts) ts
 many item (suc n) ts = if_begun (item ts) ts (λ a. many item n a.1 >>= λ xs. Ok (a.0 ∷ xs.0, xs.1))
 
--- what is read after a mark, where the mark stands first
-unfoldable pub after : {A : Type 0} → Delimiter → Parser A → Chance A
+-- what is read after a terminal, where the terminal stands first
+unfoldable pub after : {A : Type 0} → Terminal → Parser A → Chance A
 after x item ts = choose (eat x ts) (λ r. Some (item r)) None
 
--- items with a mark between them
-unfoldable pub list_at : {A : Type 0} → Delimiter → Parser A → Parser (List A)
+-- items with a terminal between them
+unfoldable pub list_at : {A : Type 0} → Terminal → Parser A → Parser (List A)
 list_at x item ts = item ts >>= λ a. many (after x item) (length a.1) a.1 >>= λ xs. Ok (a.0 ∷ xs.0, xs.1)
 
 abbrev pub try : {A B : Type 0} → Option (Reads A) → (A × Kinds → Reads B) → Reads B → Reads B
@@ -188,7 +188,7 @@ optional item ts = try (item ts) (λ x. Ok (Some x.0, x.1)) (Ok (None, ts))
 
 -- ---- frames
 
-abbrev pub mode_if : Delimiter → Option FrameMode
+abbrev pub mode_if : Terminal → Option FrameMode
 mode_if m.Rows = Some Rows
 mode_if m.Range = Some Range
 mode_if m.Groups = Some Groups
@@ -196,7 +196,7 @@ mode_if _ = None
 
 unfoldable pub mode_at : Kinds → Option (FrameMode × Kinds)
 mode_at [] = None
-mode_at (t.Delimiter x ∷ ts) = with_rest ts (mode_if x)
+mode_at (t.Terminal x ∷ ts) = with_rest ts (mode_if x)
 mode_at (_ ∷ ts) = None
 
 -- PRECEDING or FOLLOWING: whether it is the first
@@ -345,13 +345,13 @@ case_at item ts = expect m.When ts >>= λ r. list_at m.When (arm_at item) r >>= 
 unfoldable pub bracket_at : Parser Tree → Parser Tree
 bracket_at item ts = item ts >>= λ a. expect m.RightBracket a.1 >>= λ r. Ok (Bracket a.0, r)
 
-abbrev pub primary_by_mark : Deeper → Delimiter → Parser Tree
-primary_by_mark deeper m.True ts = Ok (Constant (l.Truth true), ts)
-primary_by_mark deeper m.False ts = Ok (Constant (l.Truth false), ts)
-primary_by_mark deeper m.Null ts = Ok (Constant l.Null, ts)
-primary_by_mark deeper m.LeftBracket ts = enter (suc (length ts)) deeper (λ p. bracket_at (p 8) ts)
-primary_by_mark deeper m.Case ts = enter (suc (length ts)) deeper (λ p. case_at (p 8) ts)
-primary_by_mark deeper _ ts = Err Unexpected
+abbrev pub primary_by_terminal : Deeper → Terminal → Parser Tree
+primary_by_terminal deeper m.True ts = Ok (Constant (l.Truth true), ts)
+primary_by_terminal deeper m.False ts = Ok (Constant (l.Truth false), ts)
+primary_by_terminal deeper m.Null ts = Ok (Constant l.Null, ts)
+primary_by_terminal deeper m.LeftBracket ts = enter (suc (length ts)) deeper (λ p. bracket_at (p 8) ts)
+primary_by_terminal deeper m.Case ts = enter (suc (length ts)) deeper (λ p. case_at (p 8) ts)
+primary_by_terminal deeper _ ts = Err Unexpected
 
 unfoldable pub primary : Deeper → Parser Tree
 primary deeper [] = Err Unexpected
@@ -359,7 +359,7 @@ primary deeper (t.Number n ∷ ts) = Ok (Constant (l.Number n), ts)
 primary deeper (t.Literal text ∷ ts) = Ok (Constant (l.Text text), ts)
 primary deeper (t.Word text ∷ ts) = named_at deeper (record { text = text; quoted = false }) ts
 primary deeper (t.Quoted text ∷ ts) = named_at deeper (record { text = text; quoted = true }) ts
-primary deeper (t.Delimiter x ∷ ts) = primary_by_mark deeper x ts
+primary deeper (t.Terminal x ∷ ts) = primary_by_terminal deeper x ts
 
 abbrev pub signed_by : Option (Sign × Kinds) → Deeper → Parser Tree → Parser Tree
 signed_by None deeper tighter ts = tighter ts

@@ -1,6 +1,6 @@
 -- What a query is spelled by: the tokens of a tree, and those after it.
 use Rattle.std.specs.Prelude.{ℕ, Bool, true, false, List, [], ◌∷◌, Option, Some, None}
-use Rattle.wd_lex.specs.declared.token.Delimiter.TheVariants as m
+use Rattle.wd_lex.specs.declared.token.Terminal.TheVariants as m
 use Rattle.wd_lex.specs.declared.token.TokenKind.TheVariants as t
 use Rattle.wd_syntax.specs.declared.words.KeyWord.TheVariants as k
 use Rattle.wd_syntax.specs.declared.name.Name.{Name}
@@ -29,7 +29,7 @@ use Rattle.wd_syntax.specs.declared.query.Count.{Count}
 use Rattle.wd_syntax.specs.declared.query.Count.TheVariants.{Limit, Fetch}
 use Rattle.wd_syntax.specs.declared.query.Limits.{Limits}
 use Rattle.wd_syntax.specs.declared.query.Limits.TheVariants.{OffsetFirst, CountFirst}
-use Rattle.wd_syntax.specs.Tokens.{Kinds, ◌▸◌, ◌▹◌, name_kind, literal_kind, operator_mark, sign_mark}
+use Rattle.wd_syntax.specs.Tokens.{Kinds, ◌▸◌, ◌▹◌, name_kind, literal_kind, operator_terminal, sign_terminal}
 use Rattle.wd_syntax.specs.Tree.{Tree, Constant, Column, Qualified, CallAll, Call, Case, Bracket, Signed, Binary, IsNull, Negated, Trees, no_trees, more_trees, Arms, no_arms, more_arms, Otherwise, no_else, or_else, OverTree, no_over, over_name, over_window, WindowTree, window, Keys, no_keys, more_keys, ItemTree, all_columns, all_of, shown, TableTree, named, derived, JoinTree, comma, cross, inner, Joins, no_joins, more_joins, SelectTree, select, QueryTree, query}
 
 -- ---- frames
@@ -95,8 +95,8 @@ abbrev mutual
   onto (Call f bs over) ts = name_kind f ∷ (m.LeftBracket ▸ list_onto bs (m.RightBracket ▸ over_onto over ts))
   onto (Case arms other) ts = m.Case ▸ arms_onto arms (else_onto other (m.End ▸ ts))
   onto (Bracket a) ts = m.LeftBracket ▸ onto a (m.RightBracket ▸ ts)
-  onto (Signed s a) ts = sign_mark s ▸ onto a ts
-  onto (Binary o a b) ts = onto a (operator_mark o ▸ onto b ts)
+  onto (Signed s a) ts = sign_terminal s ▸ onto a ts
+  onto (Binary o a b) ts = onto a (operator_terminal o ▸ onto b ts)
   onto (IsNull a not) ts = onto a (m.Is ▸ not_onto not (m.Null ▸ ts))
   onto (Negated a) ts = m.Not ▸ onto a ts
 

@@ -1,7 +1,7 @@
--- What tokens say: marks, words that are key words in their place, names and literals.
+-- What tokens say: terminals, words that are key words in their place, names and literals.
 use Rattle.std.specs.Prelude.{ℕ, codes, Bool, true, false, List, ◌∷◌}
-use Rattle.wd_lex.specs.declared.token.Delimiter.{Delimiter}
-use Rattle.wd_lex.specs.declared.token.Delimiter.TheVariants as m
+use Rattle.wd_lex.specs.declared.token.Terminal.{Terminal}
+use Rattle.wd_lex.specs.declared.token.Terminal.TheVariants as m
 use Rattle.wd_lex.specs.declared.token.TokenKind.{TokenKind}
 use Rattle.wd_lex.specs.declared.token.TokenKind.TheVariants as t
 use Rattle.wd_syntax.specs.declared.name.Name.{Name}
@@ -17,10 +17,10 @@ use Rattle.wd_syntax.specs.declared.words.KeyWord.TheVariants as k
 abbrev pub Kinds : Type 0
 Kinds = List TokenKind
 
--- a mark, and the tokens after it
+-- a terminal, and the tokens after it
 infixr 20 ◌▸◌
-abbrev pub ◌▸◌ : Delimiter → Kinds → Kinds
-x ▸ ts = t.Delimiter x ∷ ts
+abbrev pub ◌▸◌ : Terminal → Kinds → Kinds
+x ▸ ts = t.Terminal x ∷ ts
 
 -- how a word that is a key word in its place is spelled
 abbrev pub letters : KeyWord → List ℕ
@@ -56,28 +56,28 @@ name_kind n = written n.quoted n.text
 abbrev pub literal_kind : Literal → TokenKind
 literal_kind (l.Number n) = t.Number n
 literal_kind (l.Text text) = t.Literal text
-literal_kind (l.Truth true) = t.Delimiter m.True
-literal_kind (l.Truth false) = t.Delimiter m.False
-literal_kind l.Null = t.Delimiter m.Null
+literal_kind (l.Truth true) = t.Terminal m.True
+literal_kind (l.Truth false) = t.Terminal m.False
+literal_kind l.Null = t.Terminal m.Null
 
-abbrev pub operator_mark : Operator → Delimiter
-operator_mark o.Or = m.Or
-operator_mark o.And = m.And
-operator_mark o.Equal = m.Equals
-operator_mark o.NotEqual = m.NotEquals
-operator_mark o.Less = m.Less
-operator_mark o.LessOrEqual = m.LessOrEqual
-operator_mark o.Greater = m.Greater
-operator_mark o.GreaterOrEqual = m.GreaterOrEqual
-operator_mark o.Add = m.Plus
-operator_mark o.Subtract = m.Minus
-operator_mark o.Multiply = m.Star
-operator_mark o.Divide = m.Slash
-operator_mark o.Remainder = m.Percent
+abbrev pub operator_terminal : Operator → Terminal
+operator_terminal o.Or = m.Or
+operator_terminal o.And = m.And
+operator_terminal o.Equal = m.Equals
+operator_terminal o.NotEqual = m.NotEquals
+operator_terminal o.Less = m.Less
+operator_terminal o.LessOrEqual = m.LessOrEqual
+operator_terminal o.Greater = m.Greater
+operator_terminal o.GreaterOrEqual = m.GreaterOrEqual
+operator_terminal o.Add = m.Plus
+operator_terminal o.Subtract = m.Minus
+operator_terminal o.Multiply = m.Star
+operator_terminal o.Divide = m.Slash
+operator_terminal o.Remainder = m.Percent
 
-abbrev pub sign_mark : Sign → Delimiter
-sign_mark s.Plus = m.Plus
-sign_mark s.Minus = m.Minus
+abbrev pub sign_terminal : Sign → Terminal
+sign_terminal s.Plus = m.Plus
+sign_terminal s.Minus = m.Minus
 
 -- How loosely an operator binds: a primary expression has height 0, a sign 1, a test for NULL 5 and NOT 6.
 abbrev pub operator_height : Operator → ℕ

@@ -17,8 +17,10 @@ use Rattle.wd_value.specs.Rows.{Row, column_of, columns_of, row_at, same_row}
 use Rattle.wd_schema.specs.Meets.{is_null, violates}
 use Rattle.wd_schema.specs.Tables.{KeyRule}
 use Rattle.wd_tables.specs.Causes.{RepeatsIn}
-use Rattle.wd_sort.specs.Sorting.{IsSortOf, compare_positions, compare_rows}
-use Rattle.wd_sort.proofs.Order.{compare_rows_total, positions_order}
+use Rattle.wd_sort.specs.Sorting.{IsSortOf, compare_positions}
+use Rattle.wd_value.proofs.KeyLaws.{compare_keys_total}
+use Rattle.wd_value.specs.Keys.{compare_keys}
+use Rattle.wd_sort.proofs.Order.{positions_order}
 use Rattle.wd_tables.specs.Keys.{ViolatesBefore, ascending, sort_columns}
 
 -- ---- the order of rows by columns
@@ -29,16 +31,16 @@ then_equal Equal p e = (refl, e)
 then_equal Greater p e = absurd (cc e)
 
 -- rows that tie are the same on the columns
-compare_columns-exact : (columns : List ℕ) (a b : Row) → compare_rows (sort_columns columns) a b ≡ Equal → columns_of columns a ≡ columns_of columns b
+compare_columns-exact : (columns : List ℕ) (a b : Row) → compare_keys (sort_columns columns) a b ≡ Equal → columns_of columns a ≡ columns_of columns b
 compare_columns-exact [] a b e = refl
 compare_columns-exact (column ∷ columns) a b e =
-    let parts = then_equal (compare ascending (column_of a column) (column_of b column)) (compare_rows (sort_columns columns) a b) e in
+    let parts = then_equal (compare ascending (column_of a column) (column_of b column)) (compare_keys (sort_columns columns) a b) e in
     let head : column_of a column ≡ column_of b column = compare-exact ascending _ _ parts.0 in
     let tail : columns_of columns a ≡ columns_of columns b = compare_columns-exact columns a b parts.1 in
     λ i. head i ∷ tail i
 
 -- and the other way round
-compare_columns-tie : (columns : List ℕ) (a b : Row) → columns_of columns a ≡ columns_of columns b → compare_rows (sort_columns columns) a b ≡ Equal
+compare_columns-tie : (columns : List ℕ) (a b : Row) → columns_of columns a ≡ columns_of columns b → compare_keys (sort_columns columns) a b ≡ Equal
 compare_columns-tie [] a b e = refl
 compare_columns-tie (column ∷ columns) a b e =
     let head : column_of a column ≡ column_of b column = cc in
@@ -159,8 +161,8 @@ module _ (key : KeyRule) (rows : List Row) (order : List ℕ) (s : IsSortOf (sor
       let next : k + 1 ≡ j = omega arith in
       let from_p : lt m p ≡ false = rw i-is at (far i k 0 (omega arith) (omega arith)) in
       let to_q : lt q m ≡ false = rw j-is at (far k j 0 (omega arith) j-within) in
-      let total = compare_rows_total (sort_columns key.columns) in
+      let total = compare_keys_total (sort_columns key.columns) in
       let alike = total.congr (row_at rows q) (row_at rows p) (row_at rows m) (compare_columns-tie key.columns (row_at rows q) (row_at rows p) (sym parts.0)) in
-      let tie = tie_from (compare_rows (sort_columns key.columns) (row_at rows p) (row_at rows m)) (compare_rows (sort_columns key.columns) (row_at rows m) (row_at rows p)) (total.antisymm (row_at rows p) (row_at rows m)) (λ e. not_less _ _ to_q (alike ∙ e)) (not_less _ _ from_p) in
+      let tie = tie_from (compare_keys (sort_columns key.columns) (row_at rows p) (row_at rows m)) (compare_keys (sort_columns key.columns) (row_at rows m) (row_at rows p)) (total.antisymm (row_at rows p) (row_at rows m)) (λ e. not_less _ _ to_q (alike ∙ e)) (not_less _ _ from_p) in
       let same = compare_columns-exact key.columns (row_at rows p) (row_at rows m) tie in
       (k, rw next j-within, rw next j-is, rw same at bad)

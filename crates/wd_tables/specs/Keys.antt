@@ -2,7 +2,7 @@
 use Rattle.std.specs.Prelude.{◌≡◌, ◌+◌, ◌<◌, ℕ, true, false, List, map, length, Option, Some, None, if◌then◌else◌, nat_lt, slice_index_or}
 use Rattle.wd_value.specs.declared.order.SortKey.{SortKey}
 use Rattle.wd_value.specs.Rows.{Row, row_at}
-use Rattle.wd_sort.specs.declared.sort.SortColumn.{SortColumn}
+use Rattle.wd_value.specs.declared.order.SortColumn.{SortColumn}
 use Rattle.wd_schema.specs.Tables.{KeyRule}
 use Rattle.wd_schema.specs.Meets.{violates}
 

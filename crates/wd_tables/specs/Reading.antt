@@ -1,5 +1,5 @@
 -- Where a reader stands in a CSV text.
-use Rattle.std.specs.Prelude.{◌≡◌, ℕ, zero, suc, ◌+◌, ◌<◌, ◌≤◌, true, false, List, length, map, Option, Some, None, ⊤}
+use Rattle.std.specs.Prelude.{◌≡◌, ℕ, zero, suc, ◌+◌, ◌<◌, ◌≤◌, true, false, List, [], length, map, Option, Some, None, ⊤}
 use Rattle.std.specs.Borrow.{Bor}
 use Rattle.csv.specs.Reading.{Reached, Ready, default_config, expected_len, is_flexible, reader_config, reader_state, reader_trim, source_of, strip_bom}
 use Rattle.csv.specs.Records.{AllText}
@@ -78,3 +78,15 @@ pub record HoldsRecord (columns : List Column) (text : List ℕ) (n : ℕ) (row 
   pub read : IsRecord text n fields
   pub values : values_in columns (header_of text) fields ≡ map (λ v. Some v) row
   pub fits : fits_columns columns row ≡ true
+
+-- where the reader has read so many records of some text, and the columns have these places in its header: this of the text
+abbrev pub WhereRead : List Column → ℕ → Reader (Bor (List ℕ)) → List ℕ → (List ℕ → Type 0) → Type 0
+WhereRead columns n reader places P = (text : List ℕ) → HasRead text n reader → HasPlaces columns text places → P text
+
+-- where it has read the header of some text, which names each column once: this of the text
+abbrev pub WhereHeaded : List Column → Reader (Bor (List ℕ)) → List ℕ → (List ℕ → Type 0) → Type 0
+WhereHeaded columns reader places P = WhereRead columns 1 reader places (λ text. HoldsFirst columns text 0 [] → P text)
+
+-- where the columns have these places in some header: this of the header
+abbrev pub WherePlaced : List Column → List ℕ → (List (List ℕ) → Type 0) → Type 0
+WherePlaced columns places P = (header : List (List ℕ)) → places ≡ map (λ column. field_place header column.name) columns → P header

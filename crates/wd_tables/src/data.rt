@@ -1,9 +1,9 @@
-ghost use Rattle.std.specs.Prelude.{◌≡◌, ◌+◌, ◌<◌, ◌≤◌, ℕ, List, [], true, length, All, IfOk, IfErr, MatchOption};
+ghost use Rattle.std.specs.Prelude.{◌≡◌, ◌+◌, ◌<◌, ◌≤◌, ℕ, List, true, length, All, IfOk, IfErr, MatchOption};
 ghost use Rattle.wd_schema.specs.Meets.{MeetsTable, fits_columns};
 ghost use Rattle.wd_schema.specs.Tables.{table_of};
 ghost use Rattle.wd_tables.specs.Causes.{AreAccepted, HasCause};
 ghost use Rattle.wd_tables.specs.Data.{HoldsRows, most_records, records_of};
-ghost use Rattle.wd_tables.specs.Reading.{HasPlaces, HasRead, HoldsFirst, HoldsRecord};
+ghost use Rattle.wd_tables.specs.Reading.{HasRead, HoldsRecord, WhereHeaded, WhereRead};
 ghost use Rattle.wd_value.specs.Rows.{rows_of};
 
 use crate::error::DataError;
@@ -76,9 +76,9 @@ fn read_data(
     fields: &mut StringRecord,
 ) -> Result<Vec<Row>, DataError>
     requires { length places.now ≡ length table.now.columns.items }
-    ensures holds { (text : List ℕ) → HasRead text 1 reader.old → HasPlaces table.now.columns.items text places.now → HoldsFirst table.now.columns.items text 0 [] → IfOk result (λ v. HoldsRows (table_of table.now) text (rows_of v.items)) }
-    ensures fits { (text : List ℕ) → HasRead text 1 reader.old → HasPlaces table.now.columns.items text places.now → HoldsFirst table.now.columns.items text 0 [] → IfOk result (λ v. All (λ row. fits_columns table.now.columns.items row ≡ true) (rows_of v.items)) }
-    ensures refused { (text : List ℕ) → HasRead text 1 reader.old → HasPlaces table.now.columns.items text places.now → HoldsFirst table.now.columns.items text 0 [] → IfErr result (λ e. HasCause (table_of table.now) text e) }
+    ensures holds { WhereHeaded table.now.columns.items reader.old places.now (λ text. IfOk result (λ v. HoldsRows (table_of table.now) text (rows_of v.items))) }
+    ensures fits { WhereHeaded table.now.columns.items reader.old places.now (λ text. IfOk result (λ v. All (λ row. fits_columns table.now.columns.items row ≡ true) (rows_of v.items))) }
+    ensures refused { WhereHeaded table.now.columns.items reader.old places.now (λ text. IfErr result (λ e. HasCause (table_of table.now) text e)) }
 {
     let mut rows = Vec::new(alloc);
     for before in 0..MOST_RECORDS {
@@ -104,8 +104,8 @@ fn next_row(
     number: u64,
 ) -> Result<Option<Row>, DataError>
     requires { length places.now ≡ length table.now.columns.items }
-    ensures read { (text : List ℕ) → HasRead text number reader.old → HasPlaces table.now.columns.items text places.now → IfOk result (λ o. MatchOption o (length (records_of text) ≡ number) (λ row. HasRead text (number + 1) reader.new × HoldsRecord table.now.columns.items text number row.items)) }
-    ensures refused { (text : List ℕ) → HasRead text number reader.old → HasPlaces table.now.columns.items text places.now → 0 < number → number ≤ most_records → AreAccepted (table_of table.now) text number → IfErr result (λ e. HasCause (table_of table.now) text e) }
+    ensures read { WhereRead table.now.columns.items number reader.old places.now (λ text. IfOk result (λ o. MatchOption o (length (records_of text) ≡ number) (λ row. HasRead text (number + 1) reader.new × HoldsRecord table.now.columns.items text number row.items))) }
+    ensures refused { WhereRead table.now.columns.items number reader.old places.now (λ text. 0 < number → number ≤ most_records → AreAccepted (table_of table.now) text number → IfErr result (λ e. HasCause (table_of table.now) text e)) }
 {
     let found = next_record(reader, fields)?;
     if !found {

@@ -6,8 +6,8 @@ ghost use Rattle.wd_value.specs.Rows.{rows_of};
 
 use std::alloc::Global;
 use wd_schema::{Key, violates};
-use wd_sort::{SortColumn, row_in, sorted_positions};
-use wd_value::{OutOfMemory, Row, SortKey};
+use wd_sort::{row_in, sorted_positions};
+use wd_value::{OutOfMemory, Row, SortColumn, SortKey};
 
 /// The first row that repeats an earlier one in some key.
 pub fn first_repeat(alloc: Global, keys: &[Key], rows: &[Row]) -> Result<Option<u64>, OutOfMemory>

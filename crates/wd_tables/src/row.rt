@@ -1,9 +1,10 @@
-ghost use Rattle.std.specs.Prelude.{◌≡◌, ℕ, List, true, length, map, Some, All, IfOk, IfErr};
+ghost use Rattle.std.specs.Prelude.{◌≡◌, true, length, map, Some, All, IfOk, IfErr};
 ghost use Rattle.csv.specs.Records.{fields_of};
 ghost use Rattle.wd_schema.specs.Meets.{fits_columns, may_hold};
 ghost use Rattle.wd_tables.specs.Refusals.{IsRefusedIn, RefusesField, RefusesRecord};
 ghost use Rattle.wd_tables.specs.Refused.{leftmost as leftmost_of};
-ghost use Rattle.wd_tables.specs.Data.{field_place, values_in};
+ghost use Rattle.wd_tables.specs.Data.{values_in};
+ghost use Rattle.wd_tables.specs.Reading.{WherePlaced};
 ghost use Rattle.wd_tables.specs.Fields as spec;
 
 use crate::error::DataError;
@@ -23,9 +24,9 @@ pub fn row_of(
     number: u64,
 ) -> Result<Row, DataError>
     requires { length places.now ≡ length columns.now }
-    ensures values { (header : List (List ℕ)) → places.now ≡ map (λ column. field_place header column.name) columns.now → IfOk result (λ r. values_in columns.now header (fields_of fields.now) ≡ map (λ v. Some v) r.items) }
+    ensures values { WherePlaced columns.now places.now (λ header. IfOk result (λ r. values_in columns.now header (fields_of fields.now) ≡ map (λ v. Some v) r.items)) }
     ensures fits { IfOk result (λ r. fits_columns columns.now r.items ≡ true) }
-    ensures refused { (header : List (List ℕ)) → places.now ≡ map (λ column. field_place header column.name) columns.now → IfErr result (λ e. RefusesRecord columns.now header (fields_of fields.now) number e) }
+    ensures refused { WherePlaced columns.now places.now (λ header. IfErr result (λ e. RefusesRecord columns.now header (fields_of fields.now) number e)) }
 {
     let mut row = Vec::with_capacity(alloc, columns.len())?;
     for c in 0..columns.len() {
@@ -56,8 +57,8 @@ fn refuse_first(
     number: u64,
 ) -> Result<(), DataError>
     requires { length places.now ≡ length columns.now }
-    ensures passed { (header : List (List ℕ)) → places.now ≡ map (λ column. field_place header column.name) columns.now → IfOk result (λ u. All (λ column. ¬ (IsRefusedIn header (fields_of fields.now) column)) columns.now) }
-    ensures refused { (header : List (List ℕ)) → places.now ≡ map (λ column. field_place header column.name) columns.now → IfErr result (λ e. RefusesRecord columns.now header (fields_of fields.now) number e) }
+    ensures passed { WherePlaced columns.now places.now (λ header. IfOk result (λ u. All (λ column. ¬ (IsRefusedIn header (fields_of fields.now) column)) columns.now)) }
+    ensures refused { WherePlaced columns.now places.now (λ header. IfErr result (λ e. RefusesRecord columns.now header (fields_of fields.now) number e)) }
 {
     let mut first = None;
     for c in 0..columns.len() {

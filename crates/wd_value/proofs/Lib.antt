@@ -1,4 +1,5 @@
 pub mod Perms
 pub mod SameLaws
 pub mod OrderLaws
+pub mod KeyLaws
 pub mod Bags

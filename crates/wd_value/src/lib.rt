@@ -9,7 +9,7 @@ mod text;
 mod value;
 
 pub use bag::same_bag;
-pub use order::{SortKey, compare};
+pub use order::{SortColumn, SortKey, compare, compare_keys};
 pub use rows::copy_row;
 pub use text::Text;
 pub use value::{ColumnType, Fault, Instance, OutOfMemory, Row, Value, same};

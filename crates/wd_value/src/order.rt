@@ -1,5 +1,7 @@
 ghost use Rattle.std.specs.Prelude.{◌≡◌};
+ghost use Rattle.wd_value.specs.Keys as spec;
 ghost use Rattle.wd_value.specs.Order as order;
+ghost use Rattle.wd_value.specs.Rows.{column_of};
 
 use crate::value::Value;
 use std::cmp::Ordering;
@@ -9,6 +11,14 @@ use std::cmp::Ordering;
 pub struct SortKey {
     pub desc: bool,
     pub nulls_first: bool,
+}
+
+/// A sort key of rows: a column by its number, from 0, and how its values are sorted. Past a row's
+/// last column stands NULL.
+#[derive(Clone, Copy, PartialEq, Eq, Debug)]
+pub struct SortColumn {
+    pub column: u16,
+    pub key: SortKey,
 }
 
 /// The place of one value beside another under a sort key. Whole numbers stand before texts and
@@ -34,6 +44,31 @@ pub fn compare(a: &Value, b: &Value, key: SortKey) -> Ordering
             compare_ascending(a, b)
         },
     }
+}
+
+/// The place of one row beside another under sort keys: the first key on which they differ decides.
+pub fn compare_keys(keys: &[SortColumn], a: &[Value], b: &[Value]) -> Ordering
+    ensures { result ≡ spec.compare_keys keys.now a.now b.now }
+{
+    for key in keys {
+        match compare_at(*key, a, b) {
+            Ordering::Equal => {}
+            found => return found,
+        }
+    }
+    Ordering::Equal
+}
+
+fn compare_at(key: SortColumn, a: &[Value], b: &[Value]) -> Ordering
+    ensures { result ≡ order.compare key.key (column_of a.now key.column) (column_of b.now key.column) }
+{
+    let null = Value::Null;
+    let column = key.column as usize;
+    compare(
+        a.get(column).unwrap_or(&null),
+        b.get(column).unwrap_or(&null),
+        key.key,
+    )
 }
 
 fn compare_ascending(a: &Value, b: &Value) -> Ordering

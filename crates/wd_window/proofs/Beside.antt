@@ -9,12 +9,11 @@ use Rattle.wd_value.specs.declared.value.Fault.{Fault}
 use Rattle.wd_value.specs.declared.value.Fault.TheVariants.{DivisionByZero, OutOfRange}
 use Rattle.wd_value.specs.Bags.{positions}
 use Rattle.wd_value.specs.Rows.{Row, row_at, rows_of}
-use Rattle.wd_plan.specs.declared.window.Call.{Call}
 use Rattle.wd_plan.specs.Faults.{all_ok, and_then, has_fault, least_fault, unless, values_among}
 use Rattle.wd_plan.specs.Outcomes.{RowsOrFault, window_outcome}
 use Rattle.wd_plan.specs.Plans.{WindowRule}
 use Rattle.wd_steps.proofs.Filtering.{items}
-use Rattle.wd_window.specs.Listings.{beside, calls_at}
+use Rattle.wd_window.specs.Listings.{beside, calls_at, first_calls}
 
 -- a result with a row in front
 abbrev behind : Row → Result Row Fault → Result Row Fault
@@ -93,11 +92,11 @@ module _ (f : ℕ → Result Row Fault) where
     beside_all = by_fault (least_fault (map f every)) refl
 
 -- what a Window gives, from the values of its calls
-pub window_from_values : (w : WindowRule) (rows : List Row) (orderings : List (List ℕ)) (calls : List Call) (n : ℕ) (values : RowsOrFault) → w.calls ≡ calls → n ≡ length rows
-    → values ≡ all_ok (map (calls_at w rows orderings calls) (positions n)) → and_then values (λ vs. Ok (beside rows vs)) ≡ window_outcome w rows orderings
-window_from_values w rows orderings calls n values e long is =
-    ap (λ r. and_then r (λ vs. Ok (beside rows vs))) (is ∙ (λ i. all_ok (map (calls_at w rows orderings (sym e i)) (positions (long i)))))
-    ∙ sym (beside_all (calls_at w rows orderings w.calls) rows)
+pub window_from_values : (w : WindowRule) (rows : List Row) (orderings : List (List ℕ)) (n : ℕ) (values : RowsOrFault) → n ≡ length rows
+    → values ≡ first_calls w rows orderings n → and_then values (λ vs. Ok (beside rows vs)) ≡ window_outcome w rows orderings
+window_from_values w rows orderings n values long is =
+    ap (λ r. and_then r (λ vs. Ok (beside rows vs))) (is ∙ (λ i. first_calls w rows orderings (long i)))
+    ∙ sym (beside_all (calls_at w rows orderings) rows)
 
 -- ---- one row extended
 

@@ -9,9 +9,9 @@ use Rattle.wd_value.specs.declared.value.Value.TheVariants.{Null, Int, Text, Boo
 use Rattle.wd_value.specs.declared.value.Fault.{Fault}
 use Rattle.wd_value.specs.Bags.{positions}
 use Rattle.wd_value.specs.Rows.{Row, column_of, row_at, rows_at}
-use Rattle.wd_plan.specs.declared.plan.OrderItem.{OrderItem}
+use Rattle.wd_value.specs.declared.order.SortColumn.{SortColumn}
 use Rattle.wd_plan.specs.declared.window.Frame.{Frame}
-use Rattle.wd_plan.specs.declared.window.Function.{Function}
+use Rattle.wd_plan.specs.declared.function.Function.{Function}
 use Rattle.wd_plan.specs.Calls.{value_at}
 use Rattle.wd_plan.specs.Frames.{key_distance, value_distance}
 use Rattle.wd_plan.specs.Partitions.{partition_of}
@@ -35,10 +35,10 @@ number_distance desc (Text t) b = refl
 number_distance desc (Truth t) b = refl
 
 module _ (partition : List Row) (p q : ℕ) (at_p : p < length partition) (at_q : q < length partition) where
-  key_at : (item : OrderItem) (r : ℕ) → r < length partition → get_or (map (λ (row : Row). number_part (column_of row item.column)) partition) r Null ≡ number_part (column_of (row_at partition r) item.column)
+  key_at : (item : SortColumn) (r : ℕ) → r < length partition → get_or (map (λ (row : Row). number_part (column_of row item.column)) partition) r Null ≡ number_part (column_of (row_at partition r) item.column)
   key_at item r h = get_or-map (λ (row : Row). number_part (column_of row item.column)) partition r [] Null h
 
-  same_distance : (order : List OrderItem) → value_distance (is_descending order) (get_or (key_numbers true order partition) p Null) (get_or (key_numbers true order partition) q Null) ≡ key_distance order (row_at partition p) (row_at partition q)
+  same_distance : (order : List SortColumn) → value_distance (is_descending order) (get_or (key_numbers true order partition) p Null) (get_or (key_numbers true order partition) q Null) ≡ key_distance order (row_at partition p) (row_at partition q)
   same_distance [] = refl
   same_distance (item ∷ []) =
       (λ i. value_distance item.key.desc (key_at item p at_p i) (key_at item q at_q i))

@@ -1,5 +1,5 @@
 -- The orderings of a Window's classes, one by one and together.
-use Rattle.std.proofs.Common.{◌≡◌, ℕ, zero, suc, ◌+◌, ◌<◌, ◌≤◌, false, List, [], ◌∷◌, map, take, drop, length, get_or, ◌++◌, below_more, length-append, Ok, Err, refl, sym, ap, ◌∙◌, subst, arith, length-drop, length-take}
+use Rattle.std.proofs.Common.{◌≡◌, ℕ, zero, suc, ◌+◌, ◌<◌, ◌≤◌, false, List, [], ◌∷◌, take, drop, length, get_or, ◌++◌, below_more, length-append, Ok, Err, refl, sym, ap, ◌∙◌, subst, arith, length-drop, length-take}
 use Rattle.std.specs.List.{AllByRecursion}
 use Rattle.std.proofs.lemmas.List.{get_or-take, get_or-drop, get_or-map, get_or_append_left, length-map}
 use Rattle.std.proofs.Math.Seq.{get_or-append_seam}
@@ -7,11 +7,12 @@ use Rattle.wd_value.specs.declared.value.Fault.{Fault}
 use Rattle.wd_value.specs.Rows.{Row}
 use Rattle.wd_plan.specs.declared.plan.Outcome.{Outcome}
 use Rattle.wd_plan.specs.declared.window.Class.{Class}
+use Rattle.wd_plan.specs.declared.window.Window.{Window}
 use Rattle.wd_plan.specs.Outcomes.{RowsOrFault, class_at, ordering_at, outcome_of, window_outcome}
-use Rattle.wd_plan.specs.Plans.{ClassRule, WindowRule, class_of}
+use Rattle.wd_plan.specs.Plans.{ClassRule, WindowRule, class_of, window_of}
 use Rattle.wd_plan.specs.Sorting.{IsOrdering}
-use Rattle.wd_window.specs.Windows.{HasOrdering, IsExtended, IsLeast, IsUnserved, IsWindowServed, IsWrong, IsWrongIn}
-use Rattle.wd_window.specs.Listings.{AreEmpty, AreListed, AreListings, IsEmptyAt, IsListed, IsListing, IsNotEmptyIn}
+use Rattle.wd_window.specs.Windows.{AreUnserved, HasOrdering, IsExtended, IsLeast, IsUnserved, IsWindowServed, IsWrong}
+use Rattle.wd_window.specs.Listings.{AreEmpty, AreListed, AreListings, IsEmptyAt, IsListed, IsListing, IsNotEmptyIn, WhereListed}
 use Rattle.wd_window.specs.declared.error.WindowError.{WindowError}
 use Rattle.wd_window.specs.declared.error.WindowError.TheVariants.{NotValid, OutOfMemory}
 use Rattle.wd_window.specs.declared.listing.Listing.{Listing}
@@ -23,9 +24,10 @@ length_own : (choice : List (List ℕ)) (first m : ℕ) → first + m ≤ length
 length_own choice first m h = let a = length-take m (drop first choice) in let b = length-drop first choice in omega arith
 
 -- the first class that does not serve stops its Window
-pub class_unserved : (classes : List Class) (class : Class) (rows : List Row) (choice : List (List ℕ)) (first k : ℕ) (e : WindowError) (listings : List Listing) → k < length classes → class ≡ get_or classes k class
-    → AreListings (map class_of classes) rows choice first k listings → IsUnserved (IsWrong (class_of class) (Ok rows) choice (first + k)) e → IsUnserved (IsLeast (IsWrongIn (map class_of classes) (Ok rows) choice first)) e
-class_unserved classes class rows choice first k (NotValid p) listings lt is a h =
+pub class_unserved : (window : Window) (class : Class) (rows : List Row) (choice : List (List ℕ)) (first k : ℕ) (e : WindowError) (listings : List Listing) → k < length window.classes.items → class ≡ get_or window.classes.items k class
+    → AreListings (window_of window) rows choice first k listings → IsUnserved (IsWrong (class_of class) (Ok rows) choice (first + k)) e → AreUnserved (window_of window) (Ok rows) choice first e
+class_unserved window class rows choice first k (NotValid p) listings lt is a h =
+    let classes = window.classes.items in
     let long = length-map classes class_of in
     let here = h.0 in
     let there = a.present in (
@@ -34,46 +36,46 @@ class_unserved classes class rows choice first k (NotValid p) listings lt is a h
         within = omega arith;
         wrong = subst (λ (rule : ClassRule). IsWrong rule (Ok rows) choice (first + k) p) (ap class_of is ∙ sym (get_or-map class_of classes k class (record { partition = []; order = [] }) lt)) h;
       },
-      λ m earlier w. (
-          let at = w.wrong.0 in
-          let before : w.number < k = omega arith in
-          w.wrong.1 (record {
+      λ m earlier x. (
+          let at = x.wrong.0 in
+          let before : x.number < k = omega arith in
+          x.wrong.1 (record {
             present = omega arith;
-            lawful = (a.each w.number (record { partition = []; order = [] }) (record { partitions = []; desc = false }) before).lawful;
+            lawful = (a.each x.number (record { partitions = []; desc = false }) before).lawful;
           })),
     )
-class_unserved classes class rows choice first k OutOfMemory listings lt is a h = tt
+class_unserved window class rows choice first k OutOfMemory listings lt is a h = tt
 
 -- the partitions of one class more
-pub listings_more : (classes : List Class) (class : Class) (rows : List Row) (choice : List (List ℕ)) (first n : ℕ) (ls more : List Listing) (l : Listing) → n < length classes → class ≡ get_or classes n class
-    → AreListings (map class_of classes) rows choice first n ls → IsListed (class_of class) rows choice (first + n) l → more ≡ ls ++ l ∷ [] → AreListings (map class_of classes) rows choice first (n + 1) more
-listings_more classes class rows choice first n ls more l lt is a b e =
+pub listings_more : (window : Window) (class : Class) (rows : List Row) (choice : List (List ℕ)) (first n : ℕ) (ls more : List Listing) (l : Listing) → n < length window.classes.items → class ≡ get_or window.classes.items n class
+    → AreListings (window_of window) rows choice first n ls → IsListed (class_of class) rows choice (first + n) l → more ≡ ls ++ l ∷ [] → AreListings (window_of window) rows choice first (n + 1) more
+listings_more window class rows choice first n ls more l lt is a b e =
     let there = b.present in
     let long = a.long in
-    let rules = map class_of classes in
+    let w = window_of window in
     let last : (d : Listing) → get_or more n d ≡ l = λ d. ap (λ xs. get_or xs n d) e ∙ ap (λ k. get_or (ls ++ l ∷ []) k d) (sym long) ∙ get_or-append_seam ls l [] d in
-    let earlier : (k : ℕ) → k < n → (rule : ClassRule) (d : Listing) → IsListing (get_or rules k rule) rows (ordering_at choice (first + k)) (get_or more k d) =
-    λ k h rule d. (let within : k < length ls = omega arith in subst (λ (x : Listing). IsListing (get_or rules k rule) rows (ordering_at choice (first + k)) x) (sym (ap (λ xs. get_or xs k d) e ∙ get_or_append_left ls (l ∷ []) d k within)) (a.each k rule d h)) in
-    let here : (rule : ClassRule) (d : Listing) → IsListing (get_or rules n rule) rows (ordering_at choice (first + n)) (get_or more n d) =
-    λ rule d. subst (λ (x : Listing). IsListing (get_or rules n rule) rows (ordering_at choice (first + n)) x) (sym (last d))
-    (subst (λ (r : ClassRule). IsListing r rows (ordering_at choice (first + n)) l) (sym (get_or-map class_of classes n class rule lt ∙ ap class_of (sym is))) b.is) in
+    let earlier : (k : ℕ) → k < n → (d : Listing) → IsListing (class_at w k) rows (ordering_at choice (first + k)) (get_or more k d) =
+    λ k h d. (let within : k < length ls = omega arith in subst (λ (x : Listing). IsListing (class_at w k) rows (ordering_at choice (first + k)) x) (sym (ap (λ xs. get_or xs k d) e ∙ get_or_append_left ls (l ∷ []) d k within)) (a.each k d h)) in
+    let here : (d : Listing) → IsListing (class_at w n) rows (ordering_at choice (first + n)) (get_or more n d) =
+    λ d. subst (λ (x : Listing). IsListing (class_at w n) rows (ordering_at choice (first + n)) x) (sym (last d))
+    (subst (λ (r : ClassRule). IsListing r rows (ordering_at choice (first + n)) l) (sym (get_or-map class_of window.classes.items n class (record { partition = []; order = [] }) lt ∙ ap class_of (sym is))) b.is) in
     record {
       long = ap length e ∙ length-append ls (l ∷ []) ∙ ap (λ k. k + 1) long;
       present = omega arith;
-      each = λ k rule d h. below_more (λ i. (rule : ClassRule) (d : Listing) → IsListing (get_or rules i rule) rows (ordering_at choice (first + i)) (get_or more i d)) n earlier here k h rule d;
+      each = λ k d h. below_more (λ i. (d : Listing) → IsListing (class_at w i) rows (ordering_at choice (first + i)) (get_or more i d)) n earlier here k h d;
     }
 
 module _ (w : WindowRule) (rows : List Row) (choice : List (List ℕ)) (first : ℕ) where
   abbrev own : List (List ℕ)
   own = take (length w.classes) (drop first choice)
 
-  pub listed : (listings : List Listing) → AreListings w.classes rows choice first (length w.classes) listings → AreListed w rows own listings
+  pub listed : (listings : List Listing) → AreListings w rows choice first (length w.classes) listings → AreListed w rows own listings
   listed listings a = record {
     long = a.long;
-    each = λ k l h. subst (λ (o : List ℕ). IsListing (class_at w k) rows o (get_or listings k l)) (sym (own_at choice first (length w.classes) k h)) (a.each k (record { partition = []; order = [] }) l h);
+    each = λ k l h. subst (λ (o : List ℕ). IsListing (class_at w k) rows o (get_or listings k l)) (sym (own_at choice first (length w.classes) k h)) (a.each k l h);
   }
 
-  pub served : (listings : List Listing) → AreListings w.classes rows choice first (length w.classes) listings → IsWindowServed w (Ok rows) choice first
+  pub served : (listings : List Listing) → AreListings w rows choice first (length w.classes) listings → IsWindowServed w (Ok rows) choice first
   served listings a = record {
     present = a.present;
     lawful = record {
@@ -82,8 +84,8 @@ module _ (w : WindowRule) (rows : List Row) (choice : List (List ℕ)) (first : 
     };
   }
 
-  pub rows_done : (listings : List Listing) (o : Outcome) → AreListings w.classes rows choice first (length w.classes) listings
-      → ((orderings : List (List ℕ)) → AreListed w rows orderings listings → outcome_of o ≡ window_outcome w rows orderings) → IsExtended w (Ok rows) choice first o
+  pub rows_done : (listings : List Listing) (o : Outcome) → AreListings w rows choice first (length w.classes) listings
+      → WhereListed w rows listings (λ orderings. outcome_of o ≡ window_outcome w rows orderings) → IsExtended w (Ok rows) choice first o
   rows_done listings o a is = record { served = served listings a; is = is own (listed listings a) }
 
 -- ---- an input that is a fault
@@ -111,7 +113,7 @@ module _ (w : WindowRule) (fault : Fault) (choice : List (List ℕ)) (first n : 
         is = is;
       }
 
-  pub fault_unserved : (e : WindowError) → IsUnserved (IsLeast (IsNotEmptyIn n choice first)) e → IsUnserved (IsLeast (IsWrongIn w.classes (Err fault) choice first)) e
+  pub fault_unserved : (e : WindowError) → IsUnserved (IsLeast (IsNotEmptyIn n choice first)) e → AreUnserved w (Err fault) choice first e
   fault_unserved (NotValid p) h =
       let small = h.0.within in (
         record {

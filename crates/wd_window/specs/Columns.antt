@@ -1,5 +1,5 @@
 -- The values of a Window's calls at all rows, one call after another.
-use Rattle.std.specs.Prelude.{◌≡◌, ℕ, ◌<◌, List, [], length, map, slice_index_or, Result}
+use Rattle.std.specs.Prelude.{◌≡◌, ℕ, ◌+◌, ◌<◌, List, [], length, map, slice_index_or, Result}
 use Rattle.std.specs.declared.alloc.Global.{Global}
 use Rattle.std.specs.declared.vec.Vec.{Vec}
 use Rattle.wd_value.specs.declared.value.Value.{Value}
@@ -10,6 +10,8 @@ use Rattle.wd_plan.specs.Calls.{value_at}
 use Rattle.wd_plan.specs.Outcomes.{call_at}
 use Rattle.wd_plan.specs.Partitions.{members}
 use Rattle.wd_plan.specs.Plans.{ClassRule, WindowRule}
+use Rattle.wd_window.specs.declared.listing.Listing.{Listing}
+use Rattle.wd_window.specs.Listings.{WhereListed}
 
 -- the first row of a row's partition, as the ordering has it
 abbrev pub first_of : ClassRule → List Row → List ℕ → ℕ → ℕ
@@ -21,13 +23,21 @@ pub record AreFilled (class : ClassRule) (call : Call) (rows : List Row) (orderi
   pub each : (p : ℕ) (other : Result Value Fault) → p < length rows → first_of class rows ordering p < n
       → slice_index_or column p other ≡ value_at class call.frame call.function rows ordering p
 
+-- where a column is filled as far as n, the new one is filled one position further
+abbrev pub FillsNext : ClassRule → Call → List Row → List ℕ → ℕ → List (Result Value Fault) → List (Result Value Fault) → Type 0
+FillsNext class call rows ordering n old new = AreFilled class call rows ordering n old → AreFilled class call rows ordering (n + 1) new
+
 -- the values of a call at the first rows, as many as there are
 abbrev pub IsColumn : WindowRule → List Row → List (List ℕ) → Call → List (Result Value Fault) → Type 0
 IsColumn w rows orderings call column = (p : ℕ) (other : Result Value Fault) → p < length column → slice_index_or column p other ≡ call_at w rows orderings p call
 
--- of each call; none of a call past the last column
-abbrev pub AreColumns : WindowRule → List Row → List (List ℕ) → List Call → List (List (Result Value Fault)) → Type 0
-AreColumns w rows orderings calls columns = (k : ℕ) (call : Call) → k < length calls → IsColumn w rows orderings (slice_index_or calls k call) (slice_index_or columns k [])
+-- of each call of a Window; none of a call past the last column
+abbrev pub AreColumns : WindowRule → List Row → List (List ℕ) → List (List (Result Value Fault)) → Type 0
+AreColumns w rows orderings columns = (k : ℕ) (call : Call) → k < length w.calls → IsColumn w rows orderings (slice_index_or w.calls k call) (slice_index_or columns k [])
+
+-- what is so for all orderings of a Window's classes that make these partitions, where these are the columns under them
+abbrev pub WhereColumns : WindowRule → List Row → List Listing → List (List (Result Value Fault)) → (List (List ℕ) → Type 0) → Type 0
+WhereColumns w rows listings columns Holds = WhereListed w rows listings (λ orderings. AreColumns w rows orderings columns → Holds orderings)
 
 -- the lists that columns of the code show
 abbrev pub columns_of : List (Vec (Result Value Fault) Global) → List (List (Result Value Fault))

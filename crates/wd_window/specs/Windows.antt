@@ -1,31 +1,20 @@
 -- A Window over its input, under the orderings of a choice from a number on.
-use Rattle.std.specs.Prelude.{◌≡◌, ℕ, ◌+◌, ◌<◌, ◌≤◌, List, [], drop, take, length, map, ⊤, Ok, Err}
+use Rattle.std.specs.Prelude.{◌≡◌, ℕ, ◌+◌, ◌<◌, ◌≤◌, List, [], drop, take, length, map, ⊤, Result, Ok, Err, IfErr, IfOk}
 use Rattle.std.specs.List.{AllByRecursion}
 use Rattle.std.specs.declared.alloc.Global.{Global}
 use Rattle.std.specs.declared.vec.Vec.{Vec}
 use Rattle.wd_plan.specs.declared.plan.Outcome.{Outcome}
-use Rattle.wd_plan.specs.declared.window.Call.{Call}
-use Rattle.wd_plan.specs.declared.window.Class.{Class}
 use Rattle.wd_plan.specs.Choices.{AtRows, AreOrderings}
 use Rattle.wd_plan.specs.Faults.{and_then}
-use Rattle.wd_plan.specs.Outcomes.{RowsOrFault, ordering_at, outcome_of, window_outcome}
-use Rattle.wd_plan.specs.Plans.{ClassRule, WindowRule, class_of}
+use Rattle.wd_plan.specs.Outcomes.{RowsOrFault, class_at, ordering_at, outcome_of, window_outcome}
+use Rattle.wd_plan.specs.Plans.{ClassRule, WindowRule}
 use Rattle.wd_plan.specs.Sorting.{IsOrdering}
-use Rattle.wd_window.specs.Listings.{class_in}
 use Rattle.wd_window.specs.declared.error.WindowError.{WindowError}
 use Rattle.wd_window.specs.declared.error.WindowError.TheVariants.{NotValid, OutOfMemory}
 
 -- the orderings that a choice of the code shows
 abbrev pub orderings_of : List (Vec ℕ Global) → List (List ℕ)
 orderings_of choice = map (λ o. o.items) choice
-
--- the Window that values of the code show
-abbrev pub window_of : List Class → List Call → WindowRule
-window_of classes calls = record { classes = map class_of classes; calls = calls }
-
--- each call names one of so many classes
-abbrev pub EachNames : ℕ → List Call → Type 0
-EachNames count calls = AllByRecursion (λ (call : Call). call.class < count) calls
 
 -- not more rows than this
 abbrev pub AreFew : ℕ → RowsOrFault → Type 0
@@ -57,11 +46,12 @@ pub record HasOrdering (class : ClassRule) (input : RowsOrFault) (choice : List 
 abbrev pub IsWrong : ClassRule → RowsOrFault → List (List ℕ) → ℕ → ℕ → Type 0
 IsWrong class input choice number place = (place ≡ number) × (HasOrdering class input choice number → ⊥)
 
--- the place is that of a class with no such ordering, where the orderings of the classes stand from the number `first` on
-pub record IsWrongIn (classes : List ClassRule) (input : RowsOrFault) (choice : List (List ℕ)) (first place : ℕ) : Type 0 where
+-- the place is that of a class of a Window with no such ordering, where the orderings of the classes stand from the number
+-- `first` on
+pub record IsWrongIn (w : WindowRule) (input : RowsOrFault) (choice : List (List ℕ)) (first place : ℕ) : Type 0 where
   pub number : ℕ
-  pub within : number < length classes
-  pub wrong : IsWrong (class_in classes number) input choice (first + number) place
+  pub within : number < length w.classes
+  pub wrong : IsWrong (class_at w number) input choice (first + number) place
 
 -- the least number of which this holds
 abbrev pub IsLeast : (ℕ → Type 0) → ℕ → Type 0
@@ -71,3 +61,13 @@ IsLeast Holds n = Holds n × ((m : ℕ) → m < n → Holds m → ⊥)
 abbrev pub IsUnserved : (ℕ → Type 0) → WindowError → Type 0
 IsUnserved IsPlace (NotValid place) = IsPlace place
 IsUnserved IsPlace OutOfMemory = ⊤
+
+-- the orderings from the number `first` on do not serve a Window over its input: the place is that of the first of them that is
+-- missing or not lawful; or out of memory
+abbrev pub AreUnserved : WindowRule → RowsOrFault → List (List ℕ) → ℕ → WindowError → Type 0
+AreUnserved w input choice first e = IsUnserved (IsLeast (IsWrongIn w input choice first)) e
+
+-- the outcome of a Window over its input under the orderings from the number `first` on, or why they do not serve it
+pub record IsExtendedOrUnserved (w : WindowRule) (input : RowsOrFault) (choice : List (List ℕ)) (first : ℕ) (r : Result Outcome WindowError) : Type 0 where
+  pub ok : IfOk r (λ o. IsExtended w input choice first o)
+  pub refused : IfErr r (λ e. AreUnserved w input choice first e)

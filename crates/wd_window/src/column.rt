@@ -1,20 +1,18 @@
 //! The values of a call at all rows, one partition after another.
 
-ghost use Rattle.std.specs.Prelude.{◌≡◌, ℕ, ◌+◌, ◌<◌, ◌≤◌, List, [], IfOk, OnOk, length, set, slice_get, slice_index_or, Result};
-ghost use Rattle.wd_plan.specs.Outcomes.{call_at};
-ghost use Rattle.wd_plan.specs.Plans.{ClassRule, WindowRule};
+ghost use Rattle.std.specs.Prelude.{◌≡◌, ℕ, ◌<◌, ◌≤◌, [], IfOk, OnOk, length, set, slice_get, slice_index_or, Result};
+ghost use Rattle.wd_plan.specs.Plans.{NameBelow, WindowRule, window_of};
 ghost use Rattle.wd_value.specs.Rows.{rows_of};
 ghost use Rattle.wd_value.specs.declared.value.Fault as fault;
 ghost use Rattle.wd_value.specs.declared.value.Value as value;
-ghost use Rattle.wd_window.specs.Columns.{AreAt, AreColumns, AreFilled, IsColumn, IsSpread, columns_of};
-ghost use Rattle.wd_window.specs.Listings.{AreListed, IsListing};
-ghost use Rattle.wd_window.specs.Windows.{EachNames};
+ghost use Rattle.wd_window.specs.Columns.{AreAt, AreColumns, AreFilled, FillsNext, IsColumn, IsSpread, columns_of};
+ghost use Rattle.wd_window.specs.Listings.{WhereListed, WhereListing};
 
 use crate::listing::Listing;
 use std::alloc::Global;
 use wd_calls::{Partition, call_values, is_running};
 use wd_frame::Part;
-use wd_plan::Call;
+use wd_plan::{Call, Window};
 use wd_value::{Fault, OutOfMemory, Row, Value};
 
 /// The values of a call at the rows, by their positions, or their faults; none where each value is
@@ -49,15 +47,15 @@ pub(crate) fn known(
 /// The column of each call that is a running count or total, and an empty one of each other call.
 pub(crate) fn running_columns(
     alloc: Global,
-    calls: &[Call],
+    window: &Window,
     rows: &[Row],
     listings: &[Listing],
 ) -> Result<Vec<Column>, OutOfMemory>
-    requires { EachNames (length listings.now) calls.now }
-    ensures { IfOk result (λ v. (w : WindowRule) (orderings : List (List ℕ)) → AreListed w (rows_of rows.now) orderings listings.now → AreColumns w (rows_of rows.now) orderings calls.now (columns_of v.items)) }
+    requires { NameBelow (length listings.now) (window_of window.now).calls }
+    ensures { let w = window_of window.now in IfOk result (λ v. WhereListed w (rows_of rows.now) listings.now (λ orderings. AreColumns w (rows_of rows.now) orderings (columns_of v.items))) }
 {
-    let mut columns = Vec::with_capacity(alloc, calls.len())?;
-    for call in calls {
+    let mut columns = Vec::with_capacity(alloc, window.calls.len())?;
+    for call in &window.calls {
         let column = running_column(alloc, call, rows, listings)?;
         columns.push(column)?;
     }
@@ -72,7 +70,7 @@ fn running_column(
     listings: &[Listing],
 ) -> Result<Column, OutOfMemory>
     requires { call.now.class < length listings.now }
-    ensures { IfOk result (λ v. (w : WindowRule) (orderings : List (List ℕ)) → AreListed w (rows_of rows.now) orderings listings.now → IsColumn w (rows_of rows.now) orderings call.now v.items) }
+    ensures { IfOk result (λ v. (w : WindowRule) → WhereListed w (rows_of rows.now) listings.now (λ orderings. IsColumn w (rows_of rows.now) orderings call.now v.items)) }
 {
     if !is_running(call) {
         return Ok(Vec::new(alloc));
@@ -88,7 +86,7 @@ fn column_of(
     rows: &[Row],
     listing: &Listing,
 ) -> Result<Column, OutOfMemory>
-    ensures { IfOk result (λ v. (class : ClassRule) (ordering : List ℕ) → IsListing class (rows_of rows.now) ordering listing.now → AreFilled class call.now (rows_of rows.now) ordering (length rows.now) v.items) }
+    ensures { IfOk result (λ v. WhereListing (rows_of rows.now) listing.now (λ class ordering. AreFilled class call.now (rows_of rows.now) ordering (length rows.now) v.items)) }
 {
     let mut column = blank(alloc, rows.len())?;
     for position in 0..rows.len() {
@@ -119,7 +117,7 @@ fn fill(
     column: &mut Column,
 ) -> Result<(), OutOfMemory>
     requires { position < length rows.now }
-    ensures { OnOk result ((class : ClassRule) (ordering : List ℕ) → IsListing class (rows_of rows.now) ordering listing.now → AreFilled class call.now (rows_of rows.now) ordering position column.old.items → AreFilled class call.now (rows_of rows.now) ordering (position + 1) column.new.items) }
+    ensures { OnOk result (WhereListing (rows_of rows.now) listing.now (λ class ordering. FillsNext class call.now (rows_of rows.now) ordering position column.old.items column.new.items)) }
 {
     match listing.partitions.member(position) {
         None => Ok(()),

@@ -1,15 +1,13 @@
 //! A Window under the orderings of a choice.
 
-ghost use Rattle.std.specs.Prelude.{◌≡◌, ◌↔◌, ℕ, ◌+◌, ◌-◌, ◌++◌, ◌^◌, ◌<◌, ◌≤◌, List, IfOk, IsTrue, OnOk, length, map, MatchResult};
-ghost use Rattle.wd_window.specs.Windows.{AreFew, EachNames, IsExtended, IsLeast, IsUnserved, IsWrongIn, orderings_of, window_of};
-ghost use Rattle.wd_window.specs.Columns.{AreColumns, IsColumn, columns_of};
+ghost use Rattle.std.specs.Prelude.{◌≡◌, ◌↔◌, ◌-◌, ◌++◌, ◌^◌, ◌<◌, ◌≤◌, IfOk, IsTrue, OnOk, length};
+ghost use Rattle.wd_window.specs.Windows.{AreFew, IsExtendedOrUnserved, orderings_of};
+ghost use Rattle.wd_window.specs.Columns.{IsColumn, WhereColumns, columns_of};
 ghost use Rattle.wd_window.specs.Listings as spec;
-ghost use Rattle.wd_window.specs.Listings.{AreEmpty, AreListed, IsEmptyAt, IsNotEmptyIn, IsListing, calls_at};
+ghost use Rattle.wd_window.specs.Listings.{AreEmptyOrUnserved, IsEmptyAt, WhereListed, WhereListing, calls_at, first_calls};
 ghost use Rattle.wd_plan.specs.Calls as calls;
-ghost use Rattle.wd_plan.specs.Faults.{all_ok};
 ghost use Rattle.wd_plan.specs.Outcomes.{call_at, outcome_of, window_outcome};
-ghost use Rattle.wd_plan.specs.Plans.{ClassRule, WindowRule, class_of};
-ghost use Rattle.wd_value.specs.Bags.{positions};
+ghost use Rattle.wd_plan.specs.Plans.{NameBelow, NamesClasses, WindowRule, window_of};
 ghost use Rattle.wd_value.specs.Rows.{rows_of};
 
 use crate::column::{Column, column_in, known, running_columns};
@@ -18,7 +16,7 @@ use crate::listing::{Listing, listings};
 use std::alloc::Global;
 use wd_calls::{Partition, call_value};
 use wd_frame::Part;
-use wd_plan::{Call, Class, Outcome};
+use wd_plan::{Call, Outcome, Window};
 use wd_steps::with_fault;
 use wd_value::{Fault, OutOfMemory, Row, Value};
 
@@ -27,25 +25,24 @@ use wd_value::{Fault, OutOfMemory, Row, Value};
 /// that is not is refused by its number in the choice.
 pub fn evaluate_window(
     alloc: Global,
-    classes: &[Class],
-    calls: &[Call],
+    window: &Window,
     input: Outcome,
     choice: &[Vec<u64>],
     first: usize,
 ) -> Result<Outcome, WindowError>
     requires few { AreFew (2 ^ 32 - 1) (outcome_of input) }
     requires within { first ≤ length choice.now }
-    requires named { EachNames (length classes.now) calls.now }
-    ensures { MatchResult result (λ o. IsExtended (window_of classes.now calls.now) (outcome_of input) (orderings_of choice.now) first o) (λ e. IsUnserved (IsLeast (IsWrongIn (map class_of classes.now) (outcome_of input) (orderings_of choice.now) first)) e) }
+    requires named { NamesClasses (window_of window.now) }
+    ensures { IsExtendedOrUnserved (window_of window.now) (outcome_of input) (orderings_of choice.now) first result }
 {
     match input {
         Outcome::Fault(fault) => {
-            all_empty(classes.len(), choice, first)?;
+            all_empty(window.classes.len(), choice, first)?;
             Ok(Outcome::Fault(fault))
         }
         Outcome::Rows(rows) => {
-            let listings = listings(alloc, &rows, classes, choice, first)?;
-            let outcome = with_calls(alloc, calls, rows, &listings)?;
+            let listings = listings(alloc, window, &rows, choice, first)?;
+            let outcome = with_calls(alloc, window, rows, &listings)?;
             Ok(outcome)
         }
     }
@@ -54,14 +51,14 @@ pub fn evaluate_window(
 /// The rows with the values of the calls after each of them, or the least fault of the calls.
 fn with_calls(
     alloc: Global,
-    calls: &[Call],
+    window: &Window,
     rows: Vec<Row>,
     listings: &[Listing],
 ) -> Result<Outcome, OutOfMemory>
-    requires { EachNames (length listings.now) calls.now }
-    ensures { IfOk result (λ o. (w : WindowRule) (orderings : List (List ℕ)) → w.calls ≡ calls.now → AreListed w (rows_of rows.items) orderings listings.now → outcome_of o ≡ window_outcome w (rows_of rows.items) orderings) }
+    requires { NameBelow (length listings.now) (window_of window.now).calls }
+    ensures { let w = window_of window.now in IfOk result (λ o. WhereListed w (rows_of rows.items) listings.now (λ orderings. outcome_of o ≡ window_outcome w (rows_of rows.items) orderings)) }
 {
-    match all_values(alloc, calls, &rows, listings)? {
+    match all_values(alloc, window, &rows, listings)? {
         Err(fault) => Ok(Outcome::Fault(fault)),
         Ok(values) => {
             let extended = beside(rows, values)?;
@@ -97,15 +94,15 @@ fn append(row: &mut Row, values: Row) -> Result<(), OutOfMemory>
 /// The values of the calls at each row, or the least fault of all.
 fn all_values(
     alloc: Global,
-    calls: &[Call],
+    window: &Window,
     rows: &[Row],
     listings: &[Listing],
 ) -> Result<Result<Vec<Row>, Fault>, OutOfMemory>
-    requires { EachNames (length listings.now) calls.now }
-    ensures { IfOk result (λ r. (w : WindowRule) (orderings : List (List ℕ)) → AreListed w (rows_of rows.now) orderings listings.now → spec.rows_or_fault r ≡ all_ok (map (calls_at w (rows_of rows.now) orderings calls.now) (positions (length rows.now)))) }
+    requires { NameBelow (length listings.now) (window_of window.now).calls }
+    ensures { let w = window_of window.now in IfOk result (λ r. WhereListed w (rows_of rows.now) listings.now (λ orderings. spec.rows_or_fault r ≡ first_calls w (rows_of rows.now) orderings (length rows.now))) }
 {
-    let columns = running_columns(alloc, calls, rows, listings)?;
-    let values = row_by_row(alloc, calls, &columns, rows, listings)?;
+    let columns = running_columns(alloc, window, rows, listings)?;
+    let values = row_by_row(alloc, window, &columns, rows, listings)?;
     Ok(values)
 }
 
@@ -113,18 +110,18 @@ fn all_values(
 /// them.
 fn row_by_row(
     alloc: Global,
-    calls: &[Call],
+    window: &Window,
     columns: &[Column],
     rows: &[Row],
     listings: &[Listing],
 ) -> Result<Result<Vec<Row>, Fault>, OutOfMemory>
-    requires { EachNames (length listings.now) calls.now }
-    ensures { IfOk result (λ r. (w : WindowRule) (orderings : List (List ℕ)) → AreListed w (rows_of rows.now) orderings listings.now → AreColumns w (rows_of rows.now) orderings calls.now (columns_of columns.now) → spec.rows_or_fault r ≡ all_ok (map (calls_at w (rows_of rows.now) orderings calls.now) (positions (length rows.now)))) }
+    requires { NameBelow (length listings.now) (window_of window.now).calls }
+    ensures { let w = window_of window.now in IfOk result (λ r. WhereColumns w (rows_of rows.now) listings.now (columns_of columns.now) (λ orderings. spec.rows_or_fault r ≡ first_calls w (rows_of rows.now) orderings (length rows.now))) }
 {
     let mut all = Vec::with_capacity(alloc, rows.len())?;
     let mut fault = None;
     for position in 0..rows.len() {
-        match row_values(alloc, calls, columns, rows, listings, position)? {
+        match row_values(alloc, window, columns, rows, listings, position)? {
             Ok(values) => all.push(values)?,
             Err(found) => fault = Some(with_fault(fault, found)),
         }
@@ -138,19 +135,19 @@ fn row_by_row(
 /// The values of the calls at the row at a position, or their least fault.
 fn row_values(
     alloc: Global,
-    calls: &[Call],
+    window: &Window,
     columns: &[Column],
     rows: &[Row],
     listings: &[Listing],
     position: usize,
 ) -> Result<Result<Row, Fault>, OutOfMemory>
     requires within { position < length rows.now }
-    requires named { EachNames (length listings.now) calls.now }
-    ensures { IfOk result (λ r. (w : WindowRule) (orderings : List (List ℕ)) → AreListed w (rows_of rows.now) orderings listings.now → AreColumns w (rows_of rows.now) orderings calls.now (columns_of columns.now) → spec.values_of r ≡ calls_at w (rows_of rows.now) orderings calls.now position) }
+    requires named { NameBelow (length listings.now) (window_of window.now).calls }
+    ensures { let w = window_of window.now in IfOk result (λ r. WhereColumns w (rows_of rows.now) listings.now (columns_of columns.now) (λ orderings. spec.values_of r ≡ calls_at w (rows_of rows.now) orderings position)) }
 {
-    let mut values = Vec::with_capacity(alloc, calls.len())?;
+    let mut values = Vec::with_capacity(alloc, window.calls.len())?;
     let mut fault = None;
-    for (number, call) in calls.iter().enumerate() {
+    for (number, call) in window.calls.iter().enumerate() {
         let column = column_in(columns, number);
         match class_value(alloc, call, column, rows, listings, position)? {
             Ok(value) => values.push(value)?,
@@ -174,7 +171,7 @@ fn class_value(
 ) -> Result<Result<Value, Fault>, OutOfMemory>
     requires within { position < length rows.now }
     requires named { call.now.class < length listings.now }
-    ensures { IfOk result (λ r. (w : WindowRule) (orderings : List (List ℕ)) → AreListed w (rows_of rows.now) orderings listings.now → IsColumn w (rows_of rows.now) orderings call.now column.now → r ≡ call_at w (rows_of rows.now) orderings position call.now) }
+    ensures { IfOk result (λ r. (w : WindowRule) → WhereListed w (rows_of rows.now) listings.now (λ orderings. IsColumn w (rows_of rows.now) orderings call.now column.now → r ≡ call_at w (rows_of rows.now) orderings position call.now)) }
 {
     if let Some(value) = known(alloc, column, position)? {
         return Ok(value);
@@ -192,7 +189,7 @@ fn listed_value(
     listing: &Listing,
     position: usize,
 ) -> Result<Result<Value, Fault>, OutOfMemory>
-    ensures { IfOk result (λ r. (class : ClassRule) (ordering : List ℕ) → position < length rows.now → IsListing class (rows_of rows.now) ordering listing.now → r ≡ calls.value_at class call.now.frame call.now.function (rows_of rows.now) ordering position) }
+    ensures { IfOk result (λ r. position < length rows.now → WhereListing (rows_of rows.now) listing.now (λ class ordering. r ≡ calls.value_at class call.now.frame call.now.function (rows_of rows.now) ordering position)) }
 {
     match listing.partitions.member(position) {
         None => Ok(Ok(Value::Null)),
@@ -214,7 +211,7 @@ fn listed_value(
 /// Refuses the first of so many orderings from `first` on that is not there or not empty.
 fn all_empty(count: usize, choice: &[Vec<u64>], first: usize) -> Result<(), WindowError>
     requires { first ≤ length choice.now }
-    ensures { MatchResult result (λ u. AreEmpty count (orderings_of choice.now) first) (λ e. IsUnserved (IsLeast (IsNotEmptyIn count (orderings_of choice.now) first)) e) }
+    ensures { AreEmptyOrUnserved count (orderings_of choice.now) first result }
 {
     for number in 0..count {
         if !is_empty_at(choice, first + number) {

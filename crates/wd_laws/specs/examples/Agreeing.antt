@@ -4,10 +4,9 @@ use Rattle.wd_value.specs.declared.value.Value.TheVariants.{Null}
 use Rattle.wd_value.specs.declared.value.Fault.TheVariants.{DivisionByZero, OutOfRange}
 use Rattle.wd_value.specs.Bags.{positions}
 use Rattle.wd_value.specs.Rows.{Instance}
-use Rattle.wd_plan.specs.declared.window.Function.TheVariants.{RowNumber}
 use Rattle.wd_plan.specs.Outcomes.{outcome, Agree}
 use Rattle.wd_plan.specs.Plans.{PlanTree}
-use Rattle.wd_laws.specs.examples.Literals.{n, ascending, over, call, window, select, scan_t, four_rows, four_rows_reversed, zero_and_greatest, only, a, b}
+use Rattle.wd_laws.specs.examples.Literals.{n, ascending, row_number, over, call, window, select, scan_t, four_rows, four_rows_reversed, zero_and_greatest, only, a, b}
 use Rattle.wd_laws.specs.examples.Functions.{numbered_by_v}
 use Rattle.wd_laws.specs.examples.Limits.{first_with_ties, least_two, two_columns}
 use Rattle.wd_laws.specs.examples.Faults.{two_outputs}
@@ -20,7 +19,7 @@ two_rows_that_tie = only ((n 1 ∷ a ∷ Null ∷ n 1 ∷ []) ∷ (n 2 ∷ b ∷
 abbrev pub numbered_ids : PlanTree
 numbered_ids =
     select (0 ∷ 2 ∷ [])
-    (window (over [] (ascending 1 ∷ []) ∷ []) (call 0 RowNumber ∷ [])
+    (window (over [] (ascending 1 ∷ []) ∷ []) (call 0 row_number ∷ [])
     (select (0 ∷ 2 ∷ []) scan_t))
 
 -- Which outcomes are one answer: the same rows, each equally often, or the same fault.

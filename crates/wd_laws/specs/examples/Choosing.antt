@@ -1,10 +1,9 @@
 -- Worked examples of choices: the orderings that a plan allows.
 use Rattle.std.specs.Prelude.{[], ◌∷◌}
 use Rattle.wd_value.specs.Bags.{positions}
-use Rattle.wd_plan.specs.declared.window.Function.TheVariants.{RowNumber}
 use Rattle.wd_plan.specs.Choices.{IsValidChoice}
 use Rattle.wd_plan.specs.Plans.{PlanTree}
-use Rattle.wd_laws.specs.examples.Literals.{ascending, over, call, window, select, scan_t, four_rows, two_groups, zero_and_greatest}
+use Rattle.wd_laws.specs.examples.Literals.{ascending, row_number, over, call, window, select, scan_t, four_rows, two_groups, zero_and_greatest}
 use Rattle.wd_laws.specs.examples.Functions.{numbered_by_v}
 use Rattle.wd_laws.specs.examples.Limits.{second_by_v, limit_of_limited}
 use Rattle.wd_laws.specs.examples.Faults.{numbered_over_a_fault, limited_over_a_fault}
@@ -13,7 +12,7 @@ use Rattle.wd_laws.specs.examples.Faults.{numbered_over_a_fault, limited_over_a_
 abbrev pub numbered_in_groups : PlanTree
 numbered_in_groups =
     select (0 ∷ 2 ∷ [])
-    (window (over (1 ∷ []) (ascending 0 ∷ []) ∷ []) (call 0 RowNumber ∷ [])
+    (window (over (1 ∷ []) (ascending 0 ∷ []) ∷ []) (call 0 row_number ∷ [])
     (select (0 ∷ 1 ∷ []) scan_t))
 
 -- Which choices are valid.

@@ -3,14 +3,13 @@ use Rattle.std.specs.Prelude.{◌≡◌, [], ◌∷◌, Ok, Err, Some, None, fal
 use Rattle.wd_value.specs.declared.value.Value.TheVariants.{Null}
 use Rattle.wd_value.specs.declared.value.Fault.TheVariants.{DivisionByZero, OutOfRange}
 use Rattle.wd_value.specs.Bags.{positions}
-use Rattle.wd_plan.specs.declared.window.Function.TheVariants.{RowNumber, Sum}
 use Rattle.wd_plan.specs.declared.expression.ArithmeticOp.TheVariants.{Add, Subtract, Divide, Remainder}
 use Rattle.wd_plan.specs.declared.expression.ComparisonOp.TheVariants.{Equal, NotEqual}
 use Rattle.wd_plan.specs.declared.expression.ValueKind.TheVariants.{Number}
 use Rattle.wd_plan.specs.Expressions.{Column, Literal, Negate, Arithmetic, Compare}
 use Rattle.wd_plan.specs.Outcomes.{outcome}
 use Rattle.wd_plan.specs.Plans.{PlanTree, Join, Filter, Map}
-use Rattle.wd_laws.specs.examples.Literals.{n, minus, num, ascending, over, call, window, select, limited, scan_t, four_rows, one_row, greatest_and_more, zero_and_greatest, greatest_beside_zero, row, only, a, b}
+use Rattle.wd_laws.specs.examples.Literals.{n, minus, num, ascending, row_number, sum, over, call, window, select, limited, scan_t, four_rows, one_row, greatest_and_more, zero_and_greatest, greatest_beside_zero, row, only, a, b}
 
 -- SELECT 10 / v, v + 1 FROM t
 abbrev pub two_outputs : PlanTree
@@ -61,13 +60,13 @@ joined_by_a_fault = Join (Some (Compare Equal (Arithmetic Divide (Column 2) (Col
 
 -- SELECT SUM(v) OVER (ORDER BY id) FROM t
 abbrev pub summed_by_id : PlanTree
-summed_by_id = select (2 ∷ []) (window (over [] (ascending 1 ∷ []) ∷ []) (call 0 (Sum 0) ∷ []) (select (2 ∷ 0 ∷ []) scan_t))
+summed_by_id = select (2 ∷ []) (window (over [] (ascending 1 ∷ []) ∷ []) (call 0 (sum 0) ∷ []) (select (2 ∷ 0 ∷ []) scan_t))
 
 -- SELECT ROW_NUMBER() OVER (ORDER BY 10 / v) FROM t
 abbrev pub numbered_over_a_fault : PlanTree
 numbered_over_a_fault =
     select (1 ∷ [])
-    (window (over [] (ascending 0 ∷ []) ∷ []) (call 0 RowNumber ∷ [])
+    (window (over [] (ascending 0 ∷ []) ∷ []) (call 0 row_number ∷ [])
     (Map (Arithmetic Divide (num 10) (Column 2) ∷ []) scan_t))
 
 -- SELECT 10 / v FROM t LIMIT 1

@@ -8,47 +8,46 @@ use Rattle.wd_plan.specs.declared.window.Bound.TheVariants.{UnboundedPreceding, 
 use Rattle.wd_plan.specs.declared.window.FrameMode.TheVariants.{Rows, Range, Groups}
 use Rattle.wd_plan.specs.declared.window.Frame.{Frame}
 use Rattle.wd_plan.specs.declared.window.Exclusion.{Exclusion}
-use Rattle.wd_plan.specs.declared.plan.OrderItem.{OrderItem}
-use Rattle.wd_plan.specs.declared.window.Function.TheVariants.{CountRows, Count, Sum}
+use Rattle.wd_value.specs.declared.order.SortColumn.{SortColumn}
 use Rattle.wd_plan.specs.Frames.{frame_of}
 use Rattle.wd_plan.specs.Outcomes.{outcome}
 use Rattle.wd_plan.specs.Plans.{PlanTree}
-use Rattle.wd_laws.specs.examples.Literals.{n, minus, ascending, descending, over, between, call_in, window, select, scan_t, four_rows, row, only, a}
+use Rattle.wd_laws.specs.examples.Literals.{n, minus, ascending, descending, count_rows, count, sum, over, between, call_in, window, select, scan_t, four_rows, row, only, a}
 use Rattle.wd_plan.specs.declared.window.Exclusion.TheVariants as exclude
 
 -- SELECT id, COUNT(*) OVER (ORDER BY v DESC RANGE BETWEEN 10 PRECEDING AND CURRENT ROW) FROM t
 abbrev pub counted_behind : PlanTree
 counted_behind =
     select (0 ∷ 2 ∷ [])
-    (window (over [] (descending 1 ∷ []) ∷ []) (call_in (between Range (Preceding 10) CurrentRow) 0 CountRows ∷ [])
+    (window (over [] (descending 1 ∷ []) ∷ []) (call_in (between Range (Preceding 10) CurrentRow) 0 count_rows ∷ [])
     (select (0 ∷ 2 ∷ []) scan_t))
 
 -- SELECT id, COUNT(*) OVER (ORDER BY v DESC RANGE BETWEEN 5 PRECEDING AND CURRENT ROW) FROM t
 abbrev pub counted_near_behind : PlanTree
 counted_near_behind =
     select (0 ∷ 2 ∷ [])
-    (window (over [] (descending 1 ∷ []) ∷ []) (call_in (between Range (Preceding 5) CurrentRow) 0 CountRows ∷ [])
+    (window (over [] (descending 1 ∷ []) ∷ []) (call_in (between Range (Preceding 5) CurrentRow) 0 count_rows ∷ [])
     (select (0 ∷ 2 ∷ []) scan_t))
 
 -- SELECT id, COUNT(*) OVER (ORDER BY v DESC RANGE BETWEEN CURRENT ROW AND 10 FOLLOWING) FROM t
 abbrev pub counted_ahead : PlanTree
 counted_ahead =
     select (0 ∷ 2 ∷ [])
-    (window (over [] (descending 1 ∷ []) ∷ []) (call_in (between Range CurrentRow (Following 10)) 0 CountRows ∷ [])
+    (window (over [] (descending 1 ∷ []) ∷ []) (call_in (between Range CurrentRow (Following 10)) 0 count_rows ∷ [])
     (select (0 ∷ 2 ∷ []) scan_t))
 
 -- SELECT COUNT(*) OVER (ORDER BY v RANGE 1 PRECEDING) FROM t
 abbrev pub counted_below : PlanTree
 counted_below =
     select (1 ∷ [])
-    (window (over [] (ascending 0 ∷ []) ∷ []) (call_in (between Range (Preceding 1) CurrentRow) 0 CountRows ∷ [])
+    (window (over [] (ascending 0 ∷ []) ∷ []) (call_in (between Range (Preceding 1) CurrentRow) 0 count_rows ∷ [])
     (select (2 ∷ []) scan_t))
 
 -- SELECT SUM(v) OVER w, COUNT(v) OVER w FROM t WINDOW w AS (ORDER BY id ROWS BETWEEN 7 PRECEDING AND 8 PRECEDING)
 abbrev pub far_before : PlanTree
 far_before =
     select (2 ∷ 3 ∷ [])
-    (window (over [] (ascending 1 ∷ []) ∷ []) (call_in (between Rows (Preceding 7) (Preceding 8)) 0 (Sum 0) ∷ call_in (between Rows (Preceding 7) (Preceding 8)) 0 (Count 0) ∷ [])
+    (window (over [] (ascending 1 ∷ []) ∷ []) (call_in (between Rows (Preceding 7) (Preceding 8)) 0 (sum 0) ∷ call_in (between Rows (Preceding 7) (Preceding 8)) 0 (count 0) ∷ [])
     (select (2 ∷ 0 ∷ []) scan_t))
 
 -- the rows 1 to 6, as they stand in their ordering, with the keys 10, 10, 20, 25, NULL and NULL
@@ -56,7 +55,7 @@ abbrev pub six_rows : List Row
 six_rows = (n 1 ∷ n 10 ∷ []) ∷ (n 2 ∷ n 10 ∷ []) ∷ (n 3 ∷ n 20 ∷ []) ∷ (n 4 ∷ n 25 ∷ []) ∷ (n 5 ∷ Null ∷ []) ∷ (n 6 ∷ Null ∷ []) ∷ []
 
 -- the rows in the frame of each of the rows of a partition list
-abbrev pub frames_over : OrderItem → Frame → List Row → List (List Value)
+abbrev pub frames_over : SortColumn → Frame → List Row → List (List Value)
 frames_over item frame rows = map (λ i. map (λ r. column_of r 0) (frame_of (over [] (item ∷ [])) frame rows i)) (positions (length rows))
 
 -- OVER (ORDER BY v ..) with this frame

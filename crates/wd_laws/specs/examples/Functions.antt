@@ -5,12 +5,11 @@ use Rattle.wd_value.specs.Bags.{positions}
 use Rattle.wd_plan.specs.declared.window.Bound.TheVariants.{Preceding, CurrentRow, Following}
 use Rattle.wd_plan.specs.declared.window.FrameMode.TheVariants.{Rows, Range, Groups}
 use Rattle.wd_plan.specs.declared.window.Frame.{Frame}
-use Rattle.wd_plan.specs.declared.window.Function.TheVariants.{RowNumber, Rank, DenseRank, Ntile, Lag, Lead, FirstValue, LastValue, NthValue, CountRows, Count, Sum, Min, Max}
 use Rattle.wd_plan.specs.declared.expression.ComparisonOp.TheVariants.{Equal}
 use Rattle.wd_plan.specs.Expressions.{Column, Compare}
 use Rattle.wd_plan.specs.Outcomes.{outcome}
 use Rattle.wd_plan.specs.Plans.{PlanTree, Filter}
-use Rattle.wd_laws.specs.examples.Literals.{n, minus, num, ascending, descending, over, between, call, call_in, window, select, scan_t, four_rows, two_groups, greatest_and_more, row, only, a, b, c, d}
+use Rattle.wd_laws.specs.examples.Literals.{n, minus, num, ascending, descending, row_number, rank, dense_rank, ntile, lag, lead, first_value, last_value, nth_value, count_rows, count, sum, min, max, over, between, call, call_in, window, select, scan_t, four_rows, two_groups, greatest_and_more, row, only, a, b, c, d}
 use Rattle.wd_plan.specs.declared.window.Exclusion.TheVariants as exclude
 
 -- ROWS BETWEEN 1 PRECEDING AND CURRENT ROW
@@ -21,7 +20,7 @@ two_rows = between Rows (Preceding 1) CurrentRow
 abbrev pub numbered_by_v : PlanTree
 numbered_by_v =
     select (0 ∷ 1 ∷ [])
-    (window (over [] (ascending 0 ∷ []) ∷ []) (call 0 RowNumber ∷ [])
+    (window (over [] (ascending 0 ∷ []) ∷ []) (call 0 row_number ∷ [])
     (select (2 ∷ []) scan_t))
 
 -- SELECT id, RANK() OVER w, DENSE_RANK() OVER w, COUNT(*) OVER (w RANGE BETWEEN 5 PRECEDING AND 10 FOLLOWING), LAG(id, 2, -1) OVER w FROM t WINDOW w
@@ -29,25 +28,25 @@ numbered_by_v =
 abbrev pub ranked : PlanTree
 ranked =
     select (0 ∷ 2 ∷ 3 ∷ 4 ∷ 5 ∷ [])
-    (window (over [] (ascending 1 ∷ []) ∷ []) (call 0 Rank ∷ call 0 DenseRank ∷ call_in (between Range (Preceding 5) (Following 10)) 0 CountRows ∷ call 0 (Lag 0 2 (minus 1)) ∷ [])
+    (window (over [] (ascending 1 ∷ []) ∷ []) (call 0 rank ∷ call 0 dense_rank ∷ call_in (between Range (Preceding 5) (Following 10)) 0 count_rows ∷ call 0 (lag 0 2 (minus 1)) ∷ [])
     (select (0 ∷ 2 ∷ []) scan_t))
 
 -- SELECT id, SUM(v) OVER (ORDER BY v GROUPS BETWEEN 1 PRECEDING AND CURRENT ROW EXCLUDE TIES), LAST_VALUE(id) OVER (ORDER BY v) FROM t
 abbrev pub without_ties : PlanTree
 without_ties =
     select (0 ∷ 2 ∷ 3 ∷ [])
-    (window (over [] (ascending 1 ∷ []) ∷ []) (call_in (record { mode = Groups; start = Preceding 1; end = CurrentRow; exclusion = exclude.Ties }) 0 (Sum 1) ∷ call 0 (LastValue 0) ∷ [])
+    (window (over [] (ascending 1 ∷ []) ∷ []) (call_in (record { mode = Groups; start = Preceding 1; end = CurrentRow; exclusion = exclude.Ties }) 0 (sum 1) ∷ call 0 (last_value 0) ∷ [])
     (select (0 ∷ 2 ∷ []) scan_t))
 
 -- SELECT NTILE(4) OVER (ORDER BY id) FROM t
 abbrev pub dealt : PlanTree
-dealt = select (1 ∷ []) (window (over [] (ascending 0 ∷ []) ∷ []) (call 0 (Ntile 4) ∷ []) (select (0 ∷ []) scan_t))
+dealt = select (1 ∷ []) (window (over [] (ascending 0 ∷ []) ∷ []) (call 0 (ntile 4) ∷ []) (select (0 ∷ []) scan_t))
 
 -- SELECT id, LEAD(v, 1, 0) OVER (ORDER BY id) FROM t
 abbrev pub led : PlanTree
 led =
     select (0 ∷ 2 ∷ [])
-    (window (over [] (ascending 0 ∷ []) ∷ []) (call 0 (Lead 1 1 (n 0)) ∷ [])
+    (window (over [] (ascending 0 ∷ []) ∷ []) (call 0 (lead 1 1 (n 0)) ∷ [])
     (select (0 ∷ 2 ∷ []) scan_t))
 
 -- SELECT id, FIRST_VALUE(v) OVER w, NTH_VALUE(v, 2) OVER w, COUNT(v) OVER w FROM t WINDOW w AS (ORDER BY id DESC ROWS BETWEEN 1 PRECEDING AND CURRENT
@@ -55,26 +54,26 @@ led =
 abbrev pub first_and_second : PlanTree
 first_and_second =
     select (0 ∷ 2 ∷ 3 ∷ 4 ∷ [])
-    (window (over [] (descending 0 ∷ []) ∷ []) (call_in two_rows 0 (FirstValue 1) ∷ call_in two_rows 0 (NthValue 1 2) ∷ call_in two_rows 0 (Count 1) ∷ [])
+    (window (over [] (descending 0 ∷ []) ∷ []) (call_in two_rows 0 (first_value 1) ∷ call_in two_rows 0 (nth_value 1 2) ∷ call_in two_rows 0 (count 1) ∷ [])
     (select (0 ∷ 2 ∷ []) scan_t))
 
 -- SELECT id, MIN(v) OVER w, MAX(v) OVER w FROM t WINDOW w AS (ORDER BY id ROWS BETWEEN 1 PRECEDING AND 1 FOLLOWING)
 abbrev pub neighbours : PlanTree
 neighbours =
     select (0 ∷ 2 ∷ 3 ∷ [])
-    (window (over [] (ascending 0 ∷ []) ∷ []) (call_in (between Rows (Preceding 1) (Following 1)) 0 (Min 1) ∷ call_in (between Rows (Preceding 1) (Following 1)) 0 (Max 1) ∷ [])
+    (window (over [] (ascending 0 ∷ []) ∷ []) (call_in (between Rows (Preceding 1) (Following 1)) 0 (min 1) ∷ call_in (between Rows (Preceding 1) (Following 1)) 0 (max 1) ∷ [])
     (select (0 ∷ 2 ∷ []) scan_t))
 
 -- SELECT id, SUM(v) OVER (ORDER BY g) FROM t
 abbrev pub summed_by_g : PlanTree
 summed_by_g =
     select (0 ∷ 3 ∷ [])
-    (window (over [] (ascending 2 ∷ []) ∷ []) (call 0 (Sum 1) ∷ [])
+    (window (over [] (ascending 2 ∷ []) ∷ []) (call 0 (sum 1) ∷ [])
     (select (0 ∷ 2 ∷ 1 ∷ []) scan_t))
 
 -- SELECT SUM(v) OVER () FROM t
 abbrev pub total_of_all : PlanTree
-total_of_all = select (1 ∷ []) (window (over [] [] ∷ []) (call 0 (Sum 0) ∷ []) (select (2 ∷ []) scan_t))
+total_of_all = select (1 ∷ []) (window (over [] [] ∷ []) (call 0 (sum 0) ∷ []) (select (2 ∷ []) scan_t))
 
 -- SELECT id, g FROM (SELECT id, g, ROW_NUMBER() OVER (PARTITION BY g ORDER BY v, id) AS n FROM t) AS s WHERE n = 1
 abbrev pub first_of_each : PlanTree
@@ -82,31 +81,31 @@ first_of_each =
     select (0 ∷ 1 ∷ [])
     (Filter (Compare Equal (Column 2) (num 1))
     (select (0 ∷ 1 ∷ 3 ∷ [])
-    (window (over (1 ∷ []) (ascending 2 ∷ ascending 0 ∷ []) ∷ []) (call 0 RowNumber ∷ [])
+    (window (over (1 ∷ []) (ascending 2 ∷ ascending 0 ∷ []) ∷ []) (call 0 row_number ∷ [])
     (select (0 ∷ 1 ∷ 2 ∷ []) scan_t))))
 
 -- SELECT v, k, ROW_NUMBER() OVER (ORDER BY k) FROM (SELECT v, RANK() OVER (ORDER BY v) AS k FROM t) AS s
 abbrev pub numbered_by_a_rank : PlanTree
 numbered_by_a_rank =
     select (0 ∷ 1 ∷ 2 ∷ [])
-    (window (over [] (ascending 1 ∷ []) ∷ []) (call 0 RowNumber ∷ [])
+    (window (over [] (ascending 1 ∷ []) ∷ []) (call 0 row_number ∷ [])
     (select (0 ∷ 1 ∷ [])
     (select (0 ∷ 1 ∷ [])
-    (window (over [] (ascending 0 ∷ []) ∷ []) (call 0 Rank ∷ [])
+    (window (over [] (ascending 0 ∷ []) ∷ []) (call 0 rank ∷ [])
     (select (2 ∷ []) scan_t)))))
 
 -- SELECT id, ROW_NUMBER() OVER (ORDER BY v), ROW_NUMBER() OVER (ORDER BY v DESC) FROM t
 abbrev pub in_two_classes : PlanTree
 in_two_classes =
     select (0 ∷ 2 ∷ 3 ∷ [])
-    (window (over [] (ascending 1 ∷ []) ∷ over [] (descending 1 ∷ []) ∷ []) (call 0 RowNumber ∷ call 1 RowNumber ∷ [])
+    (window (over [] (ascending 1 ∷ []) ∷ over [] (descending 1 ∷ []) ∷ []) (call 0 row_number ∷ call 1 row_number ∷ [])
     (select (0 ∷ 2 ∷ []) scan_t))
 
 -- SELECT id, MIN(g) OVER w, MAX(g) OVER w FROM t WINDOW w AS (PARTITION BY v)
 abbrev pub greatest_text : PlanTree
 greatest_text =
     select (0 ∷ 3 ∷ 4 ∷ [])
-    (window (over (2 ∷ []) [] ∷ []) (call 0 (Min 1) ∷ call 0 (Max 1) ∷ [])
+    (window (over (2 ∷ []) [] ∷ []) (call 0 (min 1) ∷ call 0 (max 1) ∷ [])
     (select (0 ∷ 1 ∷ 2 ∷ []) scan_t))
 
 -- SELECT id, RANK() OVER w, DENSE_RANK() OVER w, ROW_NUMBER() OVER w, SUM(v) OVER w, COUNT(*) OVER (PARTITION BY g) FROM t WINDOW w AS (PARTITION BY
@@ -114,28 +113,28 @@ greatest_text =
 abbrev pub ranked_in_groups : PlanTree
 ranked_in_groups =
     select (0 ∷ 3 ∷ 4 ∷ 5 ∷ 6 ∷ 7 ∷ [])
-    (window (over (2 ∷ []) (descending 1 ∷ []) ∷ over (2 ∷ []) [] ∷ []) (call 0 Rank ∷ call 0 DenseRank ∷ call 0 RowNumber ∷ call 0 (Sum 1) ∷ call 1 CountRows ∷ [])
+    (window (over (2 ∷ []) (descending 1 ∷ []) ∷ over (2 ∷ []) [] ∷ []) (call 0 rank ∷ call 0 dense_rank ∷ call 0 row_number ∷ call 0 (sum 1) ∷ call 1 count_rows ∷ [])
     (select (0 ∷ 2 ∷ 1 ∷ []) scan_t))
 
 -- SELECT id, RANK() OVER w, DENSE_RANK() OVER w FROM t WINDOW w AS (ORDER BY g DESC, v)
 abbrev pub ranked_by_two_keys : PlanTree
 ranked_by_two_keys =
     select (0 ∷ 3 ∷ 4 ∷ [])
-    (window (over [] (descending 1 ∷ ascending 2 ∷ []) ∷ []) (call 0 Rank ∷ call 0 DenseRank ∷ [])
+    (window (over [] (descending 1 ∷ ascending 2 ∷ []) ∷ []) (call 0 rank ∷ call 0 dense_rank ∷ [])
     (select (0 ∷ 1 ∷ 2 ∷ []) scan_t))
 
 -- SELECT NTILE(3) OVER (ORDER BY id), NTILE(6) OVER (ORDER BY id), NTILE(1) OVER (ORDER BY id) FROM t
 abbrev pub dealt_to_many : PlanTree
 dealt_to_many =
     select (1 ∷ 2 ∷ 3 ∷ [])
-    (window (over [] (ascending 0 ∷ []) ∷ []) (call 0 (Ntile 3) ∷ call 0 (Ntile 6) ∷ call 0 (Ntile 1) ∷ [])
+    (window (over [] (ascending 0 ∷ []) ∷ []) (call 0 (ntile 3) ∷ call 0 (ntile 6) ∷ call 0 (ntile 1) ∷ [])
     (select (0 ∷ []) scan_t))
 
 -- SELECT id, LAG(v, 0) OVER w, LAG(v) OVER w, LEAD(v, 2, 7) OVER w FROM t WINDOW w AS (ORDER BY id)
 abbrev pub looked_about : PlanTree
 looked_about =
     select (0 ∷ 2 ∷ 3 ∷ 4 ∷ [])
-    (window (over [] (ascending 0 ∷ []) ∷ []) (call 0 (Lag 1 0 Null) ∷ call 0 (Lag 1 1 Null) ∷ call 0 (Lead 1 2 (n 7)) ∷ [])
+    (window (over [] (ascending 0 ∷ []) ∷ []) (call 0 (lag 1 0 Null) ∷ call 0 (lag 1 1 Null) ∷ call 0 (lead 1 2 (n 7)) ∷ [])
     (select (0 ∷ 2 ∷ []) scan_t))
 
 -- What the window functions give over a few rows.

@@ -3,18 +3,17 @@ use Rattle.std.specs.Prelude.{◌≡◌, [], ◌∷◌, Ok, Some, None, false}
 use Rattle.wd_value.specs.declared.value.Value.TheVariants.{Null}
 use Rattle.wd_value.specs.Bags.{positions}
 use Rattle.wd_value.specs.Rows.{Instance}
-use Rattle.wd_plan.specs.declared.window.Function.TheVariants.{RowNumber}
 use Rattle.wd_plan.specs.declared.expression.ComparisonOp.TheVariants.{Equal, Greater}
 use Rattle.wd_plan.specs.Expressions.{Column, Compare, Not, IsNotNull}
 use Rattle.wd_plan.specs.Outcomes.{outcome}
 use Rattle.wd_plan.specs.Plans.{PlanTree, Scan, Join, Filter, Distinct}
-use Rattle.wd_laws.specs.examples.Literals.{n, num, ascending, descending, over, call, window, select, limited, scan_t, four_rows, four_rows_reversed, row, only, a, b, c, d}
+use Rattle.wd_laws.specs.examples.Literals.{n, num, ascending, descending, row_number, over, call, window, select, limited, scan_t, four_rows, four_rows_reversed, row, only, a, b, c, d}
 
 -- SELECT a.id, b.id, ROW_NUMBER() OVER (ORDER BY a.id, b.id) FROM t AS a JOIN t AS b ON a.v = b.v
 abbrev pub numbered_self_join : PlanTree
 numbered_self_join =
     select (0 ∷ 1 ∷ 2 ∷ [])
-    (window (over [] (ascending 0 ∷ ascending 1 ∷ []) ∷ []) (call 0 RowNumber ∷ [])
+    (window (over [] (ascending 0 ∷ ascending 1 ∷ []) ∷ []) (call 0 row_number ∷ [])
     (select (0 ∷ 4 ∷ [])
     (Join (Some (Compare Equal (Column 2) (Column 6))) scan_t scan_t)))
 
@@ -52,7 +51,7 @@ not_with_ten = select (0 ∷ []) (Filter (Not (Compare Equal (Column 2) (num 10)
 abbrev pub numbered_where_unique : PlanTree
 numbered_where_unique =
     select (0 ∷ 2 ∷ [])
-    (window (over [] (ascending 1 ∷ []) ∷ []) (call 0 RowNumber ∷ [])
+    (window (over [] (ascending 1 ∷ []) ∷ []) (call 0 row_number ∷ [])
     (select (0 ∷ 3 ∷ [])
     (Filter (IsNotNull (Column 3)) scan_t)))
 

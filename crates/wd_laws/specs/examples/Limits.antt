@@ -3,10 +3,9 @@ use Rattle.std.specs.Prelude.{◌≡◌, [], ◌∷◌, Ok, Some, None, true, fa
 use Rattle.wd_value.specs.declared.value.Value.TheVariants.{Null}
 use Rattle.wd_value.specs.Bags.{positions}
 use Rattle.wd_value.specs.Rows.{Instance}
-use Rattle.wd_plan.specs.declared.window.Function.TheVariants.{Sum}
 use Rattle.wd_plan.specs.Outcomes.{outcome}
 use Rattle.wd_plan.specs.Plans.{PlanTree, Scan}
-use Rattle.wd_laws.specs.examples.Literals.{n, ascending, descending, over, call, window, select, limited, scan_t, four_rows, a, b}
+use Rattle.wd_laws.specs.examples.Literals.{n, ascending, descending, sum, over, call, window, select, limited, scan_t, four_rows, a, b}
 
 -- id, v: two rows tie on v, and one has none
 abbrev pub two_columns : Instance
@@ -80,7 +79,7 @@ greatest_total =
     (limited (descending 1 ∷ ascending 0 ∷ []) 0 (Some 1) true
     (select (0 ∷ 1 ∷ [])
     (select (0 ∷ 2 ∷ [])
-    (window (over [] (ascending 0 ∷ []) ∷ []) (call 0 (Sum 1) ∷ [])
+    (window (over [] (ascending 0 ∷ []) ∷ []) (call 0 (sum 1) ∷ [])
     (select (0 ∷ 2 ∷ []) scan_t)))))
 
 -- The rows that OFFSET, FETCH and LIMIT leave.

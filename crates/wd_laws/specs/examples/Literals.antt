@@ -1,9 +1,16 @@
--- Short forms in which the worked examples write values, sort keys, windows and plans.
+-- Short forms in which the worked examples write values, sort keys, functions, windows and plans.
 use Rattle.std.specs.Prelude.{ℕ, pos, neg_ℤ, Bool, true, false, List, [], ◌∷◌, map, Option, codes}
 use Rattle.wd_value.specs.declared.value.Value.{Value}
 use Rattle.wd_value.specs.declared.value.Value.TheVariants.{Null, Int, Text, Bool as Truth}
 use Rattle.wd_value.specs.Rows.{Row, Instance}
-use Rattle.wd_plan.specs.declared.plan.OrderItem.{OrderItem}
+use Rattle.wd_value.specs.declared.order.SortColumn.{SortColumn}
+use Rattle.wd_plan.specs.declared.function.Aggregate.TheVariants as of_rows
+use Rattle.wd_plan.specs.declared.function.Direction.TheVariants as way
+use Rattle.wd_plan.specs.declared.function.FrameFunction.TheVariants.{ValueAt, Aggregate}
+use Rattle.wd_plan.specs.declared.function.FrameRow.TheVariants as frame_row
+use Rattle.wd_plan.specs.declared.function.Function.{Function}
+use Rattle.wd_plan.specs.declared.function.Function.TheVariants.{Ranking as Ranked, Shift as Shifted, OfFrame}
+use Rattle.wd_plan.specs.declared.function.Ranking.TheVariants as ranking
 use Rattle.wd_plan.specs.declared.window.Bound.{Bound}
 use Rattle.wd_plan.specs.declared.window.Bound.TheVariants.{UnboundedPreceding, CurrentRow}
 use Rattle.wd_plan.specs.declared.window.Call.{Call}
@@ -11,7 +18,6 @@ use Rattle.wd_plan.specs.declared.window.Exclusion.TheVariants as exclude
 use Rattle.wd_plan.specs.declared.window.Frame.{Frame}
 use Rattle.wd_plan.specs.declared.window.FrameMode.{FrameMode}
 use Rattle.wd_plan.specs.declared.window.FrameMode.TheVariants.{Range}
-use Rattle.wd_plan.specs.declared.window.Function.{Function}
 use Rattle.wd_plan.specs.declared.expression.ValueKind.TheVariants.{Number}
 use Rattle.wd_plan.specs.Expressions.{Expression, Column, Literal}
 use Rattle.wd_plan.specs.Plans.{ClassRule, PlanTree, Scan, Map, Window, Limit}
@@ -53,17 +59,65 @@ num k = Literal (n k) Number
 -- ---- sort keys
 
 -- NULL stands last
-abbrev pub ascending : ℕ → OrderItem
+abbrev pub ascending : ℕ → SortColumn
 ascending column = record { column = column; key = record { desc = false; nulls_first = false } }
 
 -- NULL stands first
-abbrev pub descending : ℕ → OrderItem
+abbrev pub descending : ℕ → SortColumn
 descending column = record { column = column; key = record { desc = true; nulls_first = true } }
+
+-- ---- functions
+
+abbrev pub row_number : Function
+row_number = Ranked ranking.RowNumber
+
+abbrev pub rank : Function
+rank = Ranked ranking.Rank
+
+abbrev pub dense_rank : Function
+dense_rank = Ranked ranking.DenseRank
+
+abbrev pub ntile : ℕ → Function
+ntile buckets = Ranked (ranking.Ntile buckets)
+
+-- of a column, so many rows earlier, with this default
+abbrev pub lag : ℕ → ℕ → Value → Function
+lag column offset default = Shifted (record { direction = way.Lag; argument = column; offset = offset; default = default })
+
+-- so many rows later
+abbrev pub lead : ℕ → ℕ → Value → Function
+lead column offset default = Shifted (record { direction = way.Lead; argument = column; offset = offset; default = default })
+
+abbrev pub first_value : ℕ → Function
+first_value column = OfFrame (ValueAt frame_row.First column)
+
+abbrev pub last_value : ℕ → Function
+last_value column = OfFrame (ValueAt frame_row.Last column)
+
+-- of a column, at the row with this number
+abbrev pub nth_value : ℕ → ℕ → Function
+nth_value column number = OfFrame (ValueAt (frame_row.Nth number) column)
+
+-- COUNT(*)
+abbrev pub count_rows : Function
+count_rows = OfFrame (Aggregate of_rows.CountRows)
+
+abbrev pub count : ℕ → Function
+count column = OfFrame (Aggregate (of_rows.Count column))
+
+abbrev pub sum : ℕ → Function
+sum column = OfFrame (Aggregate (of_rows.Sum column))
+
+abbrev pub min : ℕ → Function
+min column = OfFrame (Aggregate (of_rows.Min column))
+
+abbrev pub max : ℕ → Function
+max column = OfFrame (Aggregate (of_rows.Max column))
 
 -- ---- windows
 
 -- PARTITION BY these columns ORDER BY these keys
-abbrev pub over : List ℕ → List OrderItem → ClassRule
+abbrev pub over : List ℕ → List SortColumn → ClassRule
 over partition keys = record { partition = partition; order = keys }
 
 -- a frame that leaves out no row
@@ -90,7 +144,7 @@ window classes calls input = Window (record { classes = classes; calls = calls }
 abbrev pub select : List ℕ → PlanTree → PlanTree
 select columns input = Map (map Column columns) input
 
-abbrev pub limited : List OrderItem → ℕ → Option ℕ → Bool → PlanTree → PlanTree
+abbrev pub limited : List SortColumn → ℕ → Option ℕ → Bool → PlanTree → PlanTree
 limited keys offset count ties input = Limit (record { keys = keys; offset = offset; count = count; ties = ties }) input
 
 -- ---- the table t, with the columns id, g, v and u

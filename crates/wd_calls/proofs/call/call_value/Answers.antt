@@ -1,43 +1,13 @@
-use Rattle.std.proofs.Common.{◌≡◌, ◌∙◌, ◌<◌, ◌≤◌, ◌^◌, pos, Ok, sym, ap, length, arith, rules}
-use Rattle.std.proofs.lemmas.List.{length-map}
-use Rattle.wd_value.specs.declared.value.Value.TheVariants.{Int}
-use Rattle.wd_value.specs.Rows.{rows_of, row_at}
-use Rattle.wd_plan.specs.Calls.{bucket}
+use Rattle.std.proofs.Common.{◌≡◌, ◌∙◌, ap}
+use Rattle.wd_value.specs.Rows.{rows_at}
+use Rattle.wd_plan.specs.Calls.{frame_value}
 use Rattle.wd_calls.specs.Parts.{partition_of}
-use Rattle.wd_calls.specs.Values.{IsRising, frame_value, lower_groups}
-use Rattle.wd_calls.proofs.Columns.{rises}
-use Rattle.wd_calls.proofs.FrameCalls.{IfOk-on, frame_call, lower_groups-is, lower_groups-le, of_frame}
+use Rattle.wd_calls.proofs.FrameCalls.{IfOk-on, frame_call}
 use Rattle.wd_calls.proofs.call.call_value.Goals as goal
 
-pub returns-in-Rank : goal.returns-in-Rank
-returns-in-Rank c class is within =
+pub returns-in_ok-places-in-OfFrame : goal.returns-in_ok-places-in-OfFrame
+returns-in_ok-places-in-OfFrame c =
+    let f = c.in-OfFrame.function in
     let p = partition_of c.args.partition.now in
-    let groups = c.args.part.now.groups.now in
-    let rising : IsRising groups = rw is.groups (rises is.rising) in
-    let lower = c.lower_groups.ensures rising ∙ lower_groups-is class p groups c.args.place is.groups within in
-    let few : lower_groups groups c.args.place ≤ length p = lower_groups-le class p groups c.args.place is.groups in
-    let same : length p ≡ length c.args.partition.now.positions.now = length-map c.args.partition.now.positions.now (row_at (rows_of c.args.partition.now.rows.now)) in
-    let bound : length c.args.partition.now.positions.now < 2 ^ 60 = search rules in
-    let result = c.lower_groups.ensures rising in
-    let small : c.saturating_add-in-Rank.result < 2 ^ 63 = omega (arith, few, same, bound, result, c.saturating_add-in-Rank.ensures) in
-    let value = c.number-in-Rank.ensures small in
-    rw c.in-Rank.is (ap Ok (value ∙ ap (λ n. Int (pos n)) (omega (arith, few, same, bound, lower, result, c.saturating_add-in-Rank.ensures))))
-
-pub returns-in-Ntile : goal.returns-in-Ntile
-returns-in-Ntile c class is within =
-    let p = partition_of c.args.partition.now in
-    let same : length p ≡ length c.args.partition.now.positions.now = length-map c.args.partition.now.positions.now (row_at (rows_of c.args.partition.now.rows.now)) in
-    let bound : length c.args.partition.now.positions.now < 2 ^ 60 = search rules in
-    let least = c.bucket-bucket.ensures.within in
-    let value = c.number-in-Ntile.ensures (omega (arith, same, bound, least, within)) in
-    let dealt = c.bucket-bucket.ensures.value (omega (arith, same, within)) in
-    rw c.in-Ntile.is (ap Ok (value ∙ ap (λ n. Int (pos n)) (dealt ∙ ap (λ n. bucket c.in-Ntile.buckets n c.args.place) (sym same))))
-
-pub returns-in_ok-places-in_default : goal.returns-in_ok-places-in_default
-returns-in_ok-places-in_default c =
-    let d = c.in_default in
-    let f = c.args.call.now.function in
-    let sure = of_frame f d.not-RowNumber d.not-Rank d.not-DenseRank d.not-Ntile d.not-Lag d.not-Lead in
-    let places = c.deref.ensures.value ∙ c.in_ok-places-in_default.ensures in
-    IfOk-on c.frame_value.result c.frame_value.ensures
-    (λ r e class is within. e ∙ ap (frame_value f (partition_of c.args.partition.now)) places ∙ frame_call c.args.place is within f sure)
+    let places = c.deref.ensures.value ∙ c.in_ok-places-in-OfFrame.ensures in
+    rw c.in-OfFrame.is (IfOk-on c.frame_value.result c.frame_value.ensures (λ r e class is within. e ∙ ap (λ ps. frame_value f (rows_at p ps)) places ∙ frame_call c.args.place is within f))

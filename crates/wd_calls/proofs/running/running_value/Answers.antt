@@ -7,6 +7,7 @@ use Rattle.wd_value.specs.Bags.{positions}
 use Rattle.wd_plan.specs.Calls.{total}
 use Rattle.wd_calls.specs.declared.running.Running.{Running}
 use Rattle.wd_calls.specs.Values.{present, values_at}
+use Rattle.wd_calls.proofs.FrameCalls.{present_is}
 use Rattle.wd_calls.proofs.RunningTotals.{counts_members, present_few}
 use Rattle.wd_calls.proofs.running.running_value.Goals as goal
 
@@ -19,7 +20,7 @@ returns-in-Count c partition told within small =
     let is = (told column (inl c.in-Count.is)).each c.args.members nothing within in
     let counted : c.totals_over-running.result.present ≡ present (values_at partition column (positions c.args.members)) = ap (λ (r : Running). r.present) c.totals_over-running.ensures ∙ is.counted in
     let few = present_few partition column c.args.members in
-    rw c.in-Count.is (ap Ok (c.number.ensures (omega (arith, counted, few, small)) ∙ ap (λ n. Int (pos n)) counted))
+    rw c.in-Count.is (ap Ok (c.number.ensures (omega (arith, counted, few, small)) ∙ ap (λ n. Int (pos n)) (counted ∙ present_is partition column (positions c.args.members))))
 
 pub returns-in-Sum : goal.returns-in-Sum
 returns-in-Sum c partition told within small =
@@ -34,4 +35,4 @@ returns-in-Sum c partition told within small =
 
 pub returns-in_default : goal.returns-in_default
 returns-in_default c partition told within small =
-    ap Ok (c.number-in_default.ensures small) ∙ counts_members c.args.function.now partition c.args.members c.requires c.in_default.not-Count c.in_default.not-Sum
+    ap Ok (c.number-in_default.ensures small) ∙ counts_members c.args.aggregate partition c.args.members c.requires c.in_default.not-Count c.in_default.not-Sum

@@ -1,4 +1,4 @@
-use Rattle.std.proofs.Common.{◌≡◌, ◌∙◌, sym, ap, map, ◌++◌, ◌∷◌, [], Ok, Err}
+use Rattle.std.proofs.Common.{◌≡◌, ◌∙◌, sym, ap, map, ◌++◌, ◌∷◌, [], Ok}
 use Rattle.std.proofs.lemmas.List.{map_push}
 use Rattle.wd_plan.specs.declared.expression.Branch.TheVariants.{First}
 use Rattle.wd_plan.specs.Expressions.{expression_of}

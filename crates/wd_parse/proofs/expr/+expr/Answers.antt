@@ -1,7 +1,7 @@
 use Rattle.std.proofs.Common.{◌-◌, length, map, refl}
 use Rattle.std.proofs.lemmas.Result.{err_from_is_err_and}
 use Rattle.wd_lex.specs.Lexed.{kinds_of}
-use Rattle.wd_lex.specs.declared.token.Delimiter.TheVariants as m
+use Rattle.wd_lex.specs.declared.token.Terminal.TheVariants as m
 use Rattle.wd_syntax.specs.View.{view, view_link, chained, view_arm, view_key}
 use Rattle.wd_syntax.specs.Reading.{read, links, list_at, arm_at, key_at}
 use Rattle.wd_parse.proofs.Loops.{links_more, links_fail, links_full, length_kinds, list_more, list_fail, list_end, list_full}

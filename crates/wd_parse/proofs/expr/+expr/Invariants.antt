@@ -1,6 +1,6 @@
 use Rattle.std.proofs.Common.{◌≡◌, ◌-◌, ◌+◌, ◌*◌, map}
 use Rattle.wd_lex.specs.Lexed.{kinds_of}
-use Rattle.wd_lex.specs.declared.token.Delimiter.TheVariants as m
+use Rattle.wd_lex.specs.declared.token.Terminal.TheVariants as m
 use Rattle.wd_syntax.specs.View.{view, view_link, chained, view_arm, view_key}
 use Rattle.wd_syntax.specs.Reading.{read, links, many, after, list_at, arm_at, key_at}
 use Rattle.wd_parse.specs.Given.{with_front}
@@ -31,8 +31,8 @@ decreases-signed l = 60 * l.depth + 22
 abbrev pub decreases-primary : goal.decreases-primary
 decreases-primary l = 60 * l.depth + 19
 
-abbrev pub decreases-marked : goal.decreases-marked
-decreases-marked l = 60 * l.depth + 18
+abbrev pub decreases-led_by : goal.decreases-led_by
+decreases-led_by l = 60 * l.depth + 18
 
 abbrev pub decreases-named : goal.decreases-named
 decreases-named l = 60 * l.depth + 18

@@ -1,7 +1,7 @@
 use Rattle.std.proofs.Common.{◌-◌, length, map}
 use Rattle.std.proofs.lemmas.Result.{err_from_is_err_and}
 use Rattle.wd_lex.specs.Lexed.{kinds_of}
-use Rattle.wd_lex.specs.declared.token.Delimiter.TheVariants as m
+use Rattle.wd_lex.specs.declared.token.Terminal.TheVariants as m
 use Rattle.wd_syntax.specs.View.{view_item}
 use Rattle.wd_syntax.specs.Reading.{read, list_at, item_at}
 use Rattle.wd_parse.proofs.Loops.{list_more, list_fail, list_end, list_full}

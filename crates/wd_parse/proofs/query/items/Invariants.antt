@@ -1,6 +1,6 @@
 use Rattle.std.proofs.Common.{◌≡◌, ◌-◌, map}
 use Rattle.wd_lex.specs.Lexed.{kinds_of}
-use Rattle.wd_lex.specs.declared.token.Delimiter.TheVariants as m
+use Rattle.wd_lex.specs.declared.token.Terminal.TheVariants as m
 use Rattle.wd_syntax.specs.View.{view_item}
 use Rattle.wd_syntax.specs.Reading.{read, many, after, list_at, item_at}
 use Rattle.wd_parse.specs.Given.{with_front}

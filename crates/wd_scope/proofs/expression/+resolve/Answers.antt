@@ -1,7 +1,7 @@
 use Rattle.std.proofs.Common.{◌≡◌, ◌∙◌, sym, ap, map, refl, [], Err}
 use Rattle.std.proofs.lemmas.Result.{err_from_is_err_and}
 use Rattle.wd_syntax.specs.declared.expression.Expr.TheViews.{out-Window}
-use Rattle.wd_syntax.specs.Tree.{Tree, Call, Case, window, trees_of, arms_of, keys_of}
+use Rattle.wd_syntax.specs.Tree.{Call, Case, window, trees_of, arms_of, keys_of}
 use Rattle.wd_syntax.specs.View.{view, view_link, view_arm, view_key, view_window, view_over_option, view_else_option, chained, tested}
 use Rattle.wd_syntax.proofs.Rows.{view_call, view_case, view_chain}
 use Rattle.wd_scope.specs.Calls.{calls_of}

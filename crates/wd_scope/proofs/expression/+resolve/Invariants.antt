@@ -1,4 +1,4 @@
-use Rattle.std.proofs.Common.{◌≡◌, map, drop, [], take}
+use Rattle.std.proofs.Common.{◌≡◌, map, drop, []}
 use Rattle.wd_syntax.specs.View.{view, view_link, view_arm, view_key}
 use Rattle.wd_syntax.specs.Tree.{trees_of, arms_of, keys_of}
 use Rattle.wd_scope.specs.Calls.{calls_of}

@@ -1,5 +1,5 @@
 use Rattle.std.proofs.Common.{◌≡◌, ◌∙◌, sym, ap, map, arith, vec_len, length, []}
-use Rattle.wd_syntax.specs.View.{view, view_link, chained, tested}
+use Rattle.wd_syntax.specs.View.{view, view_link, chained}
 use Rattle.wd_syntax.proofs.Rows.{view_chain}
 use Rattle.wd_scope.specs.Resolving.{written_number}
 use Rattle.wd_scope.proofs.Written.{some_links, some_tests, no_items, some_items}

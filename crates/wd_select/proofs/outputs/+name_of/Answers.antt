@@ -1,5 +1,5 @@
 use Rattle.std.proofs.Common.{◌≡◌, ◌∙◌, sym, ap, map, arith, vec_len, length, []}
-use Rattle.wd_syntax.specs.View.{view, view_link, chained, tested}
+use Rattle.wd_syntax.specs.View.{view, view_link, chained}
 use Rattle.wd_syntax.proofs.Rows.{view_chain}
 use Rattle.wd_select.specs.Outputs.{name_of}
 use Rattle.wd_select.proofs.Unnamed.{some_links, some_tests, no_items, some_items}

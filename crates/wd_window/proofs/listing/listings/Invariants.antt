@@ -1,9 +1,8 @@
-use Rattle.std.proofs.Common.{map}
 use Rattle.wd_value.specs.Rows.{rows_of}
-use Rattle.wd_plan.specs.Plans.{class_of}
+use Rattle.wd_plan.specs.Plans.{window_of}
 use Rattle.wd_window.specs.Windows.{orderings_of}
 use Rattle.wd_window.specs.Listings.{AreListings}
 use Rattle.wd_window.proofs.listing.listings.Given as goal
 
 abbrev pub invariant-loop-number : goal.invariant-loop-number
-invariant-loop-number l = AreListings (map class_of l.classes) (rows_of l.rows) (orderings_of l.choice) l.first l.number l.listings.items
+invariant-loop-number l = AreListings (window_of l.window) (rows_of l.rows) (orderings_of l.choice) l.first l.number l.listings.items

@@ -13,4 +13,4 @@ returns c = λ w orderings listed _. (
     let long = listed.long in
     let there : k < length w.classes = omega arith in
     let is : IsListing (class_at w k) rows (ordering_at orderings k) listing = subst (λ (l : Listing). IsListing (class_at w k) rows (ordering_at orderings k) l) (sym c.index-listings-call.is) (listed.each k listing there) in
-    c.in_ok-value-2.ensures (class_at w k) (ordering_at orderings k) c.requires.within is)
+    c.in_ok-value-2.ensures c.requires.within (class_at w k) (ordering_at orderings k) is)

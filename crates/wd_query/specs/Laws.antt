@@ -1,0 +1,18 @@
+-- Laws of texts, over the definitions alone.
+use Rattle.std.specs.Prelude.{ℕ, List, IsSome}
+use Rattle.wd_syntax.specs.Limits.{KeepsLimits}
+use Rattle.wd_resolve.specs.Answers.{Answer}
+use Rattle.wd_resolve.specs.Laws.{Reads}
+use Rattle.wd_query.specs.Causes.{HasTextCause, text_number}
+use Rattle.wd_query.specs.declared.error.TextError.{TextError}
+
+-- a plan reads the texts, and the query's tree keeps the limits of trees
+pub record HaveMeaning (schema query : List ℕ) : Type 0 where
+  pub read : Answer
+  pub reads : Reads schema query read
+  pub limits : KeepsLimits reads.tree
+
+-- Texts that have a meaning are refused for nothing that stands in them, on the whole way from their bytes to the plan: a refusal
+-- for another reason than that memory runs out has no cause there.
+abbrev pub HasMeaningOrCause : Type 0
+HasMeaningOrCause = (schema query : List ℕ) (refusal : TextError) → HaveMeaning schema query → IsSome (text_number refusal) → HasTextCause schema query refusal → ⊥

@@ -1,0 +1,24 @@
+-- The plan that a schema's text and a query's text mean.
+use Rattle.std.specs.Prelude.{◌≡◌, ℕ, List, Ok}
+use Rattle.wd_lex.specs.Lexed.{IsLexed, kinds_of}
+use Rattle.wd_lex.specs.declared.token.Token.{Token}
+use Rattle.wd_syntax.specs.Laws.{IsTreeOf}
+use Rattle.wd_syntax.specs.Tree.{QueryTree}
+use Rattle.wd_schema.specs.Schemas.{schema_of}
+use Rattle.wd_schema.specs.Tables.{TableRule}
+use Rattle.wd_resolve.specs.Answers.{Answer, answer, resolved_of}
+use Rattle.wd_resolve.specs.Laws.{Reads}
+use Rattle.wd_query.specs.declared.read.PlannedQuery.{PlannedQuery}
+
+-- the plan and the names are those of the query's tree over the tables
+pub record IsPlanned (tables : List TableRule) (query : List ℕ) (a : Answer) : Type 0 where
+  pub tokens : List Token
+  pub tree : QueryTree
+  pub lexed : IsLexed query tokens
+  pub spelled : IsTreeOf (kinds_of tokens) tree
+  pub means : answer tables tree ≡ Ok a
+
+-- the plan and the names read the two texts, over the schema that the one declares
+pub record IsRead (schema query : List ℕ) (planned : PlannedQuery) : Type 0 where
+  pub reads : Reads schema query (resolved_of planned.resolved)
+  pub tables : reads.tables ≡ schema_of planned.schema
