@@ -1,7 +1,7 @@
 //! From a line to what is printed after it.
 
 use crate::shown::push;
-use crate::{calls, plans, sorts, steps, values};
+use crate::{calls, facts, plans, sorts, steps, values};
 use std::alloc::Global;
 use wd_cases::{Cases, Failure, text_of};
 use wd_cases_notation::{Line, State};
@@ -76,6 +76,7 @@ fn asked(alloc: Global, state: &State, line: Line, out: &mut String) -> Result<(
         "eval_with" | "run_plan" | "first_choice" | "tied_choice" => {
             plans::answer(alloc, state, line, out)
         }
+        "given" => facts::answer(alloc, state, out),
         "refusals" => plans::refusals(out),
         "laws" => laws(out),
         _ => steps::expression_answer(alloc, state, line.word.name, out),

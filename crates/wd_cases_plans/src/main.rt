@@ -5,6 +5,7 @@
 
 mod answer;
 mod calls;
+mod facts;
 mod plans;
 mod shown;
 mod sorts;

@@ -1,0 +1,17 @@
+pub mod Lists
+pub mod Sides
+pub mod Embeds
+pub mod Conjuncts
+pub mod Keys
+pub mod Pairs
+pub mod Outputs
+pub mod CallFacts
+pub mod Windows
+pub mod Nodes
+pub mod GivenHolds
+pub mod Appended
+pub mod UsedBelow
+pub mod Plain
+pub mod Added
+pub mod KeyRanges
+pub mod Asked

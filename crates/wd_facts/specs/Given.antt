@@ -1,0 +1,349 @@
+-- What a plan and a schema say of a node's rows: columns that are not null, nullable keys, and the given facts.
+use Rattle.std.specs.Prelude.{ℕ, ◌+◌, ◌-◌, Bool, true, false, not, ◌&&◌, ◌||◌, List, [], ◌∷◌, ◌++◌, map, filter, flat_map, length, nat_eq, nat_lt, slice_get, Option, Some, None, if◌then◌else◌}
+use Rattle.std.specs.List.{list_any, list_all, range_with_len}
+use Rattle.wd_value.specs.declared.value.Value.{Value}
+use Rattle.wd_schema.specs.declared.table.Column.{Column as TableColumn}
+use Rattle.wd_schema.specs.Tables.{KeyRule, TableRule}
+use Rattle.wd_plan.specs.declared.expression.ComparisonOp.{ComparisonOp}
+use Rattle.wd_plan.specs.declared.expression.ComparisonOp.TheVariants as op
+use Rattle.wd_plan.specs.declared.function.FrameFunction.{FrameFunction}
+use Rattle.wd_plan.specs.declared.function.FrameFunction.TheVariants.{ValueAt, Aggregate}
+use Rattle.wd_plan.specs.declared.function.Function.{Function}
+use Rattle.wd_plan.specs.declared.function.Function.TheVariants.{Ranking as Ranked, Shift as Shifted, OfFrame}
+use Rattle.wd_plan.specs.declared.function.Ranking.{Ranking}
+use Rattle.wd_plan.specs.declared.function.Ranking.TheVariants.{RowNumber, Rank, DenseRank, Ntile}
+use Rattle.wd_plan.specs.declared.window.Call.{Call}
+use Rattle.wd_plan.specs.declared.window.Exclusion.{Exclusion}
+use Rattle.wd_plan.specs.declared.window.Exclusion.TheVariants as exclude
+use Rattle.wd_plan.specs.declared.window.Frame.{Frame}
+use Rattle.wd_plan.specs.Expressions.{Expression, Column, Literal, Negate, Arithmetic, Compare, Not, And, Or, IsNull, IsNotNull, Case, is_null}
+use Rattle.wd_plan.specs.Fits.{width}
+use Rattle.wd_plan.specs.Frames.{is_stable}
+use Rattle.wd_plan.specs.Functions.{name_of, signature}
+use Rattle.wd_plan.specs.Outcomes.{class_at}
+use Rattle.wd_plan.specs.Plans.{ClassRule, WindowRule, PlanTree, Scan, Join, Filter, Map, Window, Distinct, Limit}
+use Rattle.wd_plan.specs.Sorting.{class_columns, order_columns}
+use Rattle.wd_facts.specs.declared.facts.Member.{Member}
+use Rattle.wd_facts.specs.declared.facts.Member.TheVariants as member
+use Rattle.wd_facts.specs.Facts.{Fact, FactList, columns_named, key_fact, moved_facts}
+
+-- ---- expressions
+
+-- what an expression is, for facts: a column, a literal, or another one
+pub data Side : Type 0 where
+  Plain : ℕ → Side
+  Fixed : Value → Side
+  Other : Side
+
+abbrev pub side_of : Expression → Side
+side_of (Column c) = Plain c
+side_of (Literal v kind) = Fixed v
+side_of (Negate a) = Other
+side_of (Arithmetic o a b) = Other
+side_of (Compare o a b) = Other
+side_of (Not a) = Other
+side_of (And a b) = Other
+side_of (Or a b) = Other
+side_of (IsNull a) = Other
+side_of (IsNotNull a) = Other
+side_of (Case k a b c) = Other
+
+-- the columns that an expression uses
+abbrev pub used : Expression → List ℕ
+used (Column c) = c ∷ []
+used (Literal v kind) = []
+used (Negate a) = used a
+used (Arithmetic o a b) = used a ++ used b
+used (Compare o a b) = used a ++ used b
+used (Not a) = used a
+used (And a b) = used a ++ used b
+used (Or a b) = used a ++ used b
+used (IsNull a) = used a
+used (IsNotNull a) = used a
+used (Case k a b c) = used a ++ (used b ++ used c)
+
+-- the parts of a condition between its top ANDs
+abbrev pub conjuncts : Expression → List Expression
+conjuncts (Column c) = Column c ∷ []
+conjuncts (Literal v kind) = Literal v kind ∷ []
+conjuncts (Negate a) = Negate a ∷ []
+conjuncts (Arithmetic o a b) = Arithmetic o a b ∷ []
+conjuncts (Compare o a b) = Compare o a b ∷ []
+conjuncts (Not a) = Not a ∷ []
+conjuncts (And a b) = conjuncts a ++ conjuncts b
+conjuncts (Or a b) = Or a b ∷ []
+conjuncts (IsNull a) = IsNull a ∷ []
+conjuncts (IsNotNull a) = IsNotNull a ∷ []
+conjuncts (Case k a b c) = Case k a b c ∷ []
+
+abbrev pub conjuncts_of : Option Expression → List Expression
+conjuncts_of None = []
+conjuncts_of (Some condition) = conjuncts condition
+
+-- ---- conjuncts
+
+abbrev pub fixed_fact : ℕ → Fact
+fixed_fact c = record { from = []; to = member.Column c ∷ [] }
+
+abbrev pub column_fact : ℕ → ℕ → Fact
+column_fact c d = record { from = member.Column c ∷ []; to = member.Column d ∷ [] }
+
+-- what equals column c: `c = d` is that c gives d, then that d gives c; `c = literal` that nothing gives c
+abbrev pub facts_of_equal : ℕ → Side → List Fact
+facts_of_equal c (Plain d) = column_fact c d ∷ column_fact d c ∷ []
+facts_of_equal c (Fixed v) = fixed_fact c ∷ []
+facts_of_equal c Other = []
+
+-- what equals a literal
+abbrev pub facts_of_fixed : Side → List Fact
+facts_of_fixed (Plain d) = fixed_fact d ∷ []
+facts_of_fixed (Fixed w) = []
+facts_of_fixed Other = []
+
+abbrev pub equality_facts : Side → Side → List Fact
+equality_facts (Plain c) b = facts_of_equal c b
+equality_facts (Fixed v) b = facts_of_fixed b
+equality_facts Other b = []
+
+abbrev pub comparison_facts : ComparisonOp → Side → Side → List Fact
+comparison_facts op.Equal a b = equality_facts a b
+comparison_facts op.NotEqual a b = []
+comparison_facts op.Less a b = []
+comparison_facts op.LessOrEqual a b = []
+comparison_facts op.Greater a b = []
+comparison_facts op.GreaterOrEqual a b = []
+
+-- `c IS NULL`: nothing gives c
+abbrev pub null_facts : Side → List Fact
+null_facts (Plain c) = fixed_fact c ∷ []
+null_facts (Fixed v) = []
+null_facts Other = []
+
+abbrev pub conjunct_facts : Expression → List Fact
+conjunct_facts (Column c) = []
+conjunct_facts (Literal v kind) = []
+conjunct_facts (Negate a) = []
+conjunct_facts (Arithmetic o a b) = []
+conjunct_facts (Compare o a b) = comparison_facts o (side_of a) (side_of b)
+conjunct_facts (Not a) = []
+conjunct_facts (And a b) = []
+conjunct_facts (Or a b) = []
+conjunct_facts (IsNull a) = null_facts (side_of a)
+conjunct_facts (IsNotNull a) = []
+conjunct_facts (Case k a b c) = []
+
+abbrev pub facts_of_conjuncts : List Expression → List Fact
+facts_of_conjuncts es = flat_map conjunct_facts es
+
+abbrev pub is_side : ℕ → Side → Bool
+is_side c (Plain d) = nat_eq c d
+is_side c (Fixed v) = false
+is_side c Other = false
+
+-- a column is no NULL where it is a side of a comparison that is true, or IS NOT NULL is
+abbrev pub rules_out_null : ℕ → Expression → Bool
+rules_out_null c (Column d) = false
+rules_out_null c (Literal v kind) = false
+rules_out_null c (Negate a) = false
+rules_out_null c (Arithmetic o a b) = false
+rules_out_null c (Compare o a b) = is_side c (side_of a) || is_side c (side_of b)
+rules_out_null c (Not a) = false
+rules_out_null c (And a b) = false
+rules_out_null c (Or a b) = false
+rules_out_null c (IsNull a) = false
+rules_out_null c (IsNotNull a) = is_side c (side_of a)
+rules_out_null c (Case k a b d) = false
+
+abbrev pub some_rules_out_null : List Expression → ℕ → Bool
+some_rules_out_null es c = list_any (rules_out_null c) es
+
+-- ---- tables
+
+abbrev pub no_table : TableRule
+no_table = record { name = []; columns = []; keys = [] }
+
+abbrev pub table_rule : List TableRule → ℕ → TableRule
+table_rule tables table = of_option (slice_get tables table)
+  where
+    of_option : Option TableRule → TableRule
+    of_option None = no_table
+    of_option (Some t) = t
+
+abbrev pub is_not_null_column : List TableColumn → ℕ → Bool
+is_not_null_column columns c = of_option (slice_get columns c)
+  where
+    of_option : Option TableColumn → Bool
+    of_option None = false
+    of_option (Some column) = column.not_null
+
+-- a key that gives the row: NULLs are not distinct in it, or there are none; in a primary key there are none
+abbrev pub gives_row : TableRule → KeyRule → Bool
+gives_row t key = not key.nulls_distinct || list_all (is_not_null_column t.columns) key.columns
+
+-- the key names columns of the table: each does, in a schema that was read
+abbrev pub names_columns : TableRule → KeyRule → Bool
+names_columns t key = list_all (λ c. nat_lt c (length t.columns)) key.columns
+
+-- the columns of the keys that give the row, in text order
+abbrev pub row_keys : TableRule → List (List ℕ)
+row_keys t = map (λ (key : KeyRule). key.columns) (filter (λ (key : KeyRule). names_columns t key && gives_row t key) t.keys)
+
+-- the columns of the other keys
+abbrev pub null_keys : TableRule → List (List ℕ)
+null_keys t = map (λ (key : KeyRule). key.columns) (filter (λ (key : KeyRule). names_columns t key && not (gives_row t key)) t.keys)
+
+-- ---- outputs of a Map
+
+-- a copy of a column that is not null, or a literal other than NULL
+abbrev pub is_side_not_null : (ℕ → Bool) → Side → Bool
+is_side_not_null below (Plain c) = below c
+is_side_not_null below (Fixed v) = not (is_null v)
+is_side_not_null below Other = false
+
+abbrev pub is_output_not_null : (ℕ → Bool) → Option Expression → Bool
+is_output_not_null below None = false
+is_output_not_null below (Some e) = is_side_not_null below (side_of e)
+
+-- the lowest of the outputs, from number n on, that copies a column
+abbrev pub copy_from : ℕ → List Expression → ℕ → Option ℕ
+copy_from n [] c = None
+copy_from n (e ∷ outputs) c = if is_side c (side_of e) then Some n else copy_from (n + 1) outputs c
+
+abbrev pub both_copied : Option ℕ → Option (List ℕ) → Option (List ℕ)
+both_copied None rest = None
+both_copied (Some d) None = None
+both_copied (Some d) (Some Y) = Some (d ∷ Y)
+
+-- the columns by their copies, if each has one
+abbrev pub copies : List Expression → List ℕ → Option (List ℕ)
+copies outputs [] = Some []
+copies outputs (c ∷ X) = both_copied (copy_from 0 outputs c) (copies outputs X)
+
+abbrev pub if_copied : Option (List ℕ) → List (List ℕ) → List (List ℕ)
+if_copied None keys = keys
+if_copied (Some Y) keys = Y ∷ keys
+
+abbrev pub copied_keys : List Expression → List (List ℕ) → List (List ℕ)
+copied_keys outputs [] = []
+copied_keys outputs (X ∷ keys) = if_copied (copies outputs X) (copied_keys outputs keys)
+
+-- the inputs that output j uses give it; input c is column m + c
+abbrev pub used_fact : ℕ → ℕ → Expression → Fact
+used_fact m j e = record { from = columns_named (map (λ c. m + c) (used e)); to = member.Column j ∷ [] }
+
+-- a plain column gives the input that it copies
+abbrev pub copy_facts : ℕ → ℕ → Side → List Fact
+copy_facts m j (Plain c) = column_fact j (m + c) ∷ []
+copy_facts m j (Fixed v) = []
+copy_facts m j Other = []
+
+abbrev pub output_facts : ℕ → ℕ → Expression → List Fact
+output_facts m j e = used_fact m j e ∷ copy_facts m j (side_of e)
+
+abbrev pub outputs_facts : ℕ → ℕ → List Expression → List Fact
+outputs_facts m j [] = []
+outputs_facts m j (e ∷ outputs) = output_facts m j e ++ outputs_facts m (j + 1) outputs
+
+-- ---- calls of a Window
+
+-- a call whose values are never NULL
+abbrev pub is_call_not_null : Option Call → Bool
+is_call_not_null None = false
+is_call_not_null (Some call) = not (signature (name_of call.function)).nullable
+
+-- the frame keeps a row's peers all or none
+abbrev pub keeps_peers_whole : Exclusion → Bool
+keeps_peers_whole exclude.NoOthers = true
+keeps_peers_whole exclude.CurrentRow = false
+keeps_peers_whole exclude.Group = true
+keeps_peers_whole exclude.Ties = false
+
+abbrev pub goes_by_key : Frame → Bool
+goes_by_key frame = is_stable frame && keeps_peers_whole frame.exclusion
+
+-- of a call with column w: its class's columns give w
+abbrev pub value_fact : ClassRule → ℕ → Fact
+value_fact class w = record { from = columns_named (class_columns class); to = member.Column w ∷ [] }
+
+-- partition and w give the order columns
+abbrev pub rank_fact : ClassRule → ℕ → Fact
+rank_fact class w = record { from = columns_named (class.partition ++ w ∷ []); to = columns_named (order_columns class) }
+
+abbrev pub over_frame : ClassRule → Frame → ℕ → List Fact
+over_frame class frame w = if goes_by_key frame then value_fact class w ∷ [] else []
+
+abbrev pub ranking_facts : ClassRule → Ranking → ℕ → List Fact
+ranking_facts class RowNumber w = key_fact member.Row (class.partition ++ w ∷ []) ∷ []
+ranking_facts class Rank w = value_fact class w ∷ rank_fact class w ∷ []
+ranking_facts class DenseRank w = value_fact class w ∷ rank_fact class w ∷ []
+ranking_facts class (Ntile n) w = []
+
+abbrev pub frame_facts : ClassRule → Frame → FrameFunction → ℕ → List Fact
+frame_facts class frame (ValueAt row c) w = []
+frame_facts class frame (Aggregate a) w = over_frame class frame w
+
+abbrev pub call_facts : ClassRule → Frame → Function → ℕ → List Fact
+call_facts class frame (Ranked r) w = ranking_facts class r w
+call_facts class frame (Shifted s) w = []
+call_facts class frame (OfFrame f) w = frame_facts class frame f w
+
+abbrev pub calls_facts : WindowRule → ℕ → List Call → List Fact
+calls_facts rule w [] = []
+calls_facts rule w (call ∷ calls) = call_facts (class_at rule call.class) call.frame call.function w ++ calls_facts rule (w + 1) calls
+
+-- ---- nodes
+
+-- whether a column of a node's rows is known not null
+abbrev pub is_not_null : List TableRule → PlanTree → ℕ → Bool
+is_not_null tables (Scan table columns) c = is_not_null_column (table_rule tables table).columns c
+is_not_null tables (Join condition left right) c = (if nat_lt c (width left) then is_not_null tables left c else is_not_null tables right (c - width left)) || some_rules_out_null (conjuncts_of condition) c
+is_not_null tables (Filter condition input) c = is_not_null tables input c || some_rules_out_null (conjuncts condition) c
+is_not_null tables (Map outputs input) c = is_output_not_null (is_not_null tables input) (slice_get outputs c)
+is_not_null tables (Window w input) c = if nat_lt c (width input) then is_not_null tables input c else is_call_not_null (slice_get w.calls (c - width input))
+is_not_null tables (Distinct input) c = is_not_null tables input c
+is_not_null tables (Limit limit input) c = is_not_null tables input c
+
+abbrev pub nullable_keys : List TableRule → PlanTree → List (List ℕ)
+nullable_keys tables (Scan table columns) = null_keys (table_rule tables table)
+nullable_keys tables (Join condition left right) = []
+nullable_keys tables (Filter condition input) = nullable_keys tables input
+nullable_keys tables (Map outputs input) = copied_keys outputs (nullable_keys tables input)
+nullable_keys tables (Window w input) = nullable_keys tables input
+nullable_keys tables (Distinct input) = nullable_keys tables input
+nullable_keys tables (Limit limit input) = nullable_keys tables input
+
+-- the keys all of whose columns are not null
+abbrev pub full_keys : (ℕ → Bool) → List (List ℕ) → List (List ℕ)
+full_keys not_null keys = filter (list_all not_null) keys
+
+abbrev pub keys_facts : Member → List (List ℕ) → List Fact
+keys_facts row keys = map (key_fact row) keys
+
+abbrev pub all_columns : ℕ → List ℕ
+all_columns n = range_with_len 0 n
+
+-- the given facts of a node whose children keep these; a node with one child has the first list
+abbrev pub given : List TableRule → PlanTree → List Fact → List Fact → FactList
+given tables (Scan table columns) kept more = record { columns = columns; split = None; list = keys_facts member.Row (row_keys (table_rule tables table)) }
+given tables (Join condition left right) kept more = record {
+  columns = width left + width right;
+  split = Some (width left);
+  list = (((moved_facts (λ c. c) member.Left kept
+      ++ moved_facts (λ c. width left + c) member.Right more)
+      ++ facts_of_conjuncts (conjuncts_of condition))
+      ++ keys_facts member.Left (full_keys (is_not_null tables (Join condition left right)) (nullable_keys tables left)))
+      ++ keys_facts member.Right (full_keys (is_not_null tables (Join condition left right)) (map (map (λ c. width left + c)) (nullable_keys tables right)));
+}
+given tables (Filter condition input) kept more = record {
+  columns = width input;
+  split = None;
+  list = (kept ++ facts_of_conjuncts (conjuncts condition)) ++ keys_facts member.Row (full_keys (is_not_null tables (Filter condition input)) (nullable_keys tables input));
+}
+given tables (Map outputs input) kept more = record {
+  columns = length outputs + width input;
+  split = None;
+  list = moved_facts (λ c. length outputs + c) member.Row kept ++ outputs_facts (length outputs) 0 outputs;
+}
+given tables (Window w input) kept more = record { columns = width input + length w.calls; split = None; list = kept ++ calls_facts w (width input) w.calls }
+given tables (Distinct input) kept more = record { columns = width input; split = None; list = kept ++ key_fact member.Row (all_columns (width input)) ∷ [] }
+given tables (Limit limit input) kept more = record { columns = width input; split = None; list = kept }

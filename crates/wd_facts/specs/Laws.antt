@@ -1,0 +1,84 @@
+-- What holds in the rows of each node of a plan that fits, over an instance that meets the schema.
+use Rattle.std.specs.Prelude.{◌≡◌, ℕ, true, List, drop, ⊤}
+use Rattle.std.specs.List.{AllByRecursion}
+use Rattle.wd_value.specs.Rows.{Row, Instance}
+use Rattle.wd_schema.specs.Meets.{Meets}
+use Rattle.wd_schema.specs.Tables.{TableRule}
+use Rattle.wd_plan.specs.Choices.{AreLawful, AtRows}
+use Rattle.wd_plan.specs.Facts.{HasWidth, IsNotNullIn, IsNullableKey}
+use Rattle.wd_plan.specs.Fits.{AreBelow, fits, width}
+use Rattle.wd_plan.specs.Outcomes.{outcome}
+use Rattle.wd_plan.specs.Plans.{PlanTree, Scan, Join, Filter, Map, Window, Distinct, Limit, ordering_count}
+use Rattle.wd_facts.specs.Facts.{Fact, Holds, Paired, PairsRows, beside, is_plain_fact, unpaired}
+use Rattle.wd_facts.specs.Given.{given, is_not_null, nullable_keys}
+
+-- facts of rows with so many columns
+abbrev pub ArePlain : ℕ → List Fact → Type 0
+ArePlain columns facts = AllByRecursion (λ fact. is_plain_fact columns fact ≡ true) facts
+
+-- facts of rows with so many columns that hold in these
+pub record AreKept (columns : ℕ) (facts : List Fact) (rows : List Row) : Type 0 where
+  pub named : ArePlain columns facts
+  pub hold : AllByRecursion (Holds (unpaired rows)) facts
+
+-- what plan and schema say of a node's rows: their width, columns that are not null, nullable keys, which name its columns
+pub record Known (tables : List TableRule) (plan : PlanTree) (rows : List Row) : Type 0 where
+  pub wide : HasWidth (width plan) rows
+  pub not_null : (c : ℕ) → is_not_null tables plan c ≡ true → IsNotNullIn rows c
+  pub keys : AllByRecursion (IsNullableKey rows) (nullable_keys tables plan)
+  pub range : AllByRecursion (AreBelow (width plan)) (nullable_keys tables plan)
+
+-- where a plan that fits has rows, what it and the schema say of them is true
+abbrev pub KnownHolds : Type 0
+KnownHolds = (tables : List TableRule) (plan : PlanTree) (instance : Instance) (choice : List (List ℕ))
+    → fits tables plan ≡ true → Meets tables instance → AreLawful plan instance choice → AtRows (outcome plan instance choice) (Known tables plan) ⊤
+
+-- the facts that the children of a plan's top node keep hold in the children's rows, where these have rows
+abbrev pub ChildrenKeep : PlanTree → Instance → List (List ℕ) → List Fact → List Fact → Type 0
+ChildrenKeep (Scan table columns) instance choice kept more = ⊤
+ChildrenKeep (Join condition left right) instance choice kept more =
+    AtRows (outcome left instance choice) (AreKept (width left) kept) ⊤ × AtRows (outcome right instance (drop (ordering_count left) choice)) (AreKept (width right) more) ⊤
+ChildrenKeep (Filter condition input) instance choice kept more = AtRows (outcome input instance choice) (AreKept (width input) kept) ⊤
+ChildrenKeep (Map outputs input) instance choice kept more = AtRows (outcome input instance choice) (AreKept (width input) kept) ⊤
+ChildrenKeep (Window w input) instance choice kept more = AtRows (outcome input instance choice) (AreKept (width input) kept) ⊤
+ChildrenKeep (Distinct input) instance choice kept more = AtRows (outcome input instance choice) (AreKept (width input) kept) ⊤
+ChildrenKeep (Limit limit input) instance choice kept more = AtRows (outcome input instance choice) (AreKept (width input) kept) ⊤
+
+-- the given facts of a plan's top node hold in these rows of it
+abbrev pub InRows : List TableRule → PlanTree → List Fact → List Fact → List Row → Type 0
+InRows tables plan kept more rows = AllByRecursion (Holds (unpaired rows)) (given tables plan kept more).list
+
+-- and at a Join in its rows with the positions on each side
+abbrev pub InPairs : List TableRule → PlanTree → List Fact → List Fact → List Row → List Row → List Row → Type 0
+InPairs tables plan kept more ls rs rows = (n : Paired) × (n.rows ≡ rows) × PairsRows ls rs n × AllByRecursion (Holds n) (given tables plan kept more).list
+
+-- where there are rows, the given facts of a plan's top node hold: at a Join with the positions on each side, at a Map in its
+-- rows beside those of its input
+abbrev pub GivenHold : List TableRule → PlanTree → Instance → List (List ℕ) → List Fact → List Fact → Type 0
+GivenHold tables (Scan table columns) instance choice kept more = let plan = Scan table columns in AtRows (outcome plan instance choice) (InRows tables plan kept more) ⊤
+GivenHold tables (Join condition left right) instance choice kept more =
+    let plan = Join condition left right in
+    AtRows (outcome left instance choice) (λ ls. AtRows (outcome right instance (drop (ordering_count left) choice)) (λ rs. AtRows (outcome plan instance choice) (InPairs tables plan kept more ls rs) ⊤) ⊤) ⊤
+GivenHold tables (Filter condition input) instance choice kept more = let plan = Filter condition input in AtRows (outcome plan instance choice) (InRows tables plan kept more) ⊤
+GivenHold tables (Map outputs input) instance choice kept more =
+    let plan = Map outputs input in
+    AtRows (outcome input instance choice) (λ ins. AtRows (outcome plan instance choice) (λ outs. InRows tables plan kept more (beside outs ins)) ⊤) ⊤
+GivenHold tables (Window w input) instance choice kept more = let plan = Window w input in AtRows (outcome plan instance choice) (InRows tables plan kept more) ⊤
+GivenHold tables (Distinct input) instance choice kept more = let plan = Distinct input in AtRows (outcome plan instance choice) (InRows tables plan kept more) ⊤
+GivenHold tables (Limit limit input) instance choice kept more = let plan = Limit limit input in AtRows (outcome plan instance choice) (InRows tables plan kept more) ⊤
+
+-- the given facts of a node hold where its children's kept facts do
+abbrev pub GivenFactsHold : Type 0
+GivenFactsHold = (tables : List TableRule) (plan : PlanTree) (instance : Instance) (choice : List (List ℕ)) (kept more : List Fact)
+    → fits tables plan ≡ true → Meets tables instance → AreLawful plan instance choice → ChildrenKeep plan instance choice kept more → GivenHold tables plan instance choice kept more
+
+-- the facts that the children of a plan's top node keep are facts of the children's rows: they name their columns and the row
+-- alone; a node with one child has the first list
+abbrev pub AreOfChildren : PlanTree → List Fact → List Fact → Type 0
+AreOfChildren (Scan table columns) kept more = ⊤
+AreOfChildren (Join condition left right) kept more = ArePlain (width left) kept × ArePlain (width right) more
+AreOfChildren (Filter condition input) kept more = ArePlain (width input) kept
+AreOfChildren (Map outputs input) kept more = ArePlain (width input) kept
+AreOfChildren (Window w input) kept more = ArePlain (width input) kept
+AreOfChildren (Distinct input) kept more = ArePlain (width input) kept
+AreOfChildren (Limit limit input) kept more = ArePlain (width input) kept

@@ -1,0 +1,5 @@
+pub mod Refused
+pub mod Traces
+pub mod Kept
+pub mod Settled
+pub mod Sound

@@ -1,0 +1,243 @@
+-- What a valid certificate keeps holds, and its rules settle the plan: by induction on the plan.
+use Rattle.std.proofs.Common.{◌≡◌, ℕ, ◌+◌, true, ◌&&◌, List, [], ◌∷◌, ◌++◌, length, take, drop, refl, ◌∙◌, ap, subst, nat_eq, None, Result, Ok, Err}
+use Rattle.std.specs.List.{AllByRecursion}
+use Rattle.std.proofs.lemmas.Bool.{and_parts}
+use Rattle.wd_value.specs.Rows.{Row as RowValues, Instance}
+use Rattle.wd_schema.specs.Meets.{Meets}
+use Rattle.wd_schema.specs.Tables.{TableRule}
+use Rattle.wd_plan.specs.declared.window.Call.{Call}
+use Rattle.wd_plan.specs.Choices.{AreLawful, AreOrderings, AtRows}
+use Rattle.wd_plan.specs.Facts.{HasWidth}
+use Rattle.wd_plan.specs.Faults.{and_then}
+use Rattle.wd_plan.specs.Fits.{are_outputs, fits, is_condition, is_join, is_limit, is_window, kinds_of, width}
+use Rattle.wd_plan.specs.Outcomes.{RowsOrFault, join_outcome, map_outcome, outcome, pairs}
+use Rattle.wd_plan.specs.Plans.{WindowRule, PlanTree, Scan, Join, Filter, Map, Window, Distinct, Limit, node_count, ordering_count}
+use Rattle.wd_plan.specs.Settled.{IsSettledCall, IsSettledLimit, IsSettledPlan}
+use Rattle.wd_plan.proofs.Ranges.{IsSound, calls_sound, kinds_below, names_classes}
+use Rattle.wd_laws.proofs.TheLaws.{plan_has_one}
+use Rattle.wd_certificate.specs.Certificates.{NodeRecord}
+use Rattle.wd_certificate.specs.declared.error.CertError.{CertError}
+use Rattle.wd_certificate.specs.declared.error.CertError.TheVariants.{Count, Shape}
+use Rattle.wd_facts.specs.declared.facts.Member.TheVariants as member
+use Rattle.wd_facts.specs.Facts.{Fact, FactList, Holds, Paired, PairsRows, beside, unpaired}
+use Rattle.wd_facts.specs.Given.{calls_facts}
+use Rattle.wd_facts.specs.Laws.{AreKept, ChildrenKeep, InPairs, InRows, Known}
+use Rattle.wd_facts.proofs.Embeds.{hold_moved, same_facts}
+use Rattle.wd_facts.proofs.GivenHolds.{given_facts_hold, known_holds}
+use Rattle.wd_facts.proofs.Lists.{all_append}
+use Rattle.wd_facts.proofs.Nodes.{kept_map}
+use Rattle.wd_facts.proofs.Pairs.{sides}
+use Rattle.wd_facts.proofs.Sides.{AreSides, HasSides}
+use Rattle.wd_facts.proofs.Windows.{IsWell, calls_hold, shown_carries, shown_rows}
+use Rattle.wd_rules.specs.Laws.{FactsHold, GivenHoldAt, KeptHold, NeverBoth, ValidHasOne, ValidShows}
+use Rattle.wd_rules.specs.Rules.{claims_refusal, entry_refusal, keep_refusal, kept_facts, or_else, refuse_unless, rules_refusal}
+use Rattle.wd_rules.specs.Traces.{Traced, each_traced}
+use Rattle.wd_rules.specs.Validity.{all_entries, given_at, has_its_calls, has_its_limit, kept_below, kept_right, nodes_refusal, top_at, top_number, top_refusal}
+use Rattle.wd_rules.proofs.Kept.{keeps}
+use Rattle.wd_rules.proofs.Refused.{first_passed, later_passed}
+use Rattle.wd_rules.proofs.Settled.{in_range, limit_settled, window_settled}
+use Rattle.wd_rules.proofs.Traces.{each_true}
+
+-- ---- outcomes of a step
+
+at_step : (a : RowsOrFault) (f : List RowValues → RowsOrFault) (P Q : List RowValues → Type 0) → AtRows a P (Unit {0}) → ((xs ys : List RowValues) → a ≡ Ok xs → P xs → f xs ≡ Ok ys → Q ys) → AtRows (and_then a f) Q (Unit {0})
+at_step (Ok xs) f P Q h g = at_end (f xs) (λ ys e. g xs ys refl h e)
+  where
+    at_end : (o : RowsOrFault) → ((ys : List RowValues) → o ≡ Ok ys → Q ys) → AtRows o Q (Unit {0})
+    at_end (Ok ys) k = k ys refl
+    at_end (Err d) k = tt
+at_step (Err d) f P Q h g = tt
+
+at_rows : (o : RowsOrFault) (rows : List RowValues) (P : List RowValues → Type 0) (Q : Type 0) → o ≡ Ok rows → AtRows o P Q → P rows
+at_rows o rows P Q e h = let family : RowsOrFault → Type 0 = λ v. AtRows v P Q in subst family e h
+
+at_map : (o : RowsOrFault) (P Q : List RowValues → Type 0) → AtRows o P (Unit {0}) → ((rows : List RowValues) → o ≡ Ok rows → P rows → Q rows) → AtRows o Q (Unit {0})
+at_map (Ok rows) P Q h g = g rows refl h
+at_map (Err f) P Q h g = tt
+
+-- ---- an entry that is not refused
+
+-- its traces are good, and show its claims
+pub record IsGood (node : ℕ) (facts : FactList) (plan : PlanTree) (entry : NodeRecord) : Type 0 where
+  pub shown : List Traced
+  pub traced : each_traced node facts entry.traces ≡ Ok shown
+  pub keep : keep_refusal node facts (width plan) shown entry.keep ≡ None
+  pub rules : rules_refusal node facts shown plan entry ≡ None
+
+is_good : (node : ℕ) (facts : FactList) (plan : PlanTree) (entry : NodeRecord) → entry_refusal node facts plan entry ≡ None → IsGood node facts plan entry
+is_good node facts plan entry e = by (each_traced node facts entry.traces) refl e
+  where
+    by : (o : Result (List Traced) CertError) → each_traced node facts entry.traces ≡ o → claims_refusal node facts plan entry o ≡ None → IsGood node facts plan entry
+    by (Ok shown) h f =
+        let keep = keep_refusal node facts (width plan) shown entry.keep in
+        let rules = rules_refusal node facts shown plan entry in
+        record { shown = shown; traced = h; keep = first_passed keep rules f; rules = later_passed keep rules f }
+    by (Err refusal) h f = cc
+
+-- in positions in which its given facts hold it keeps what holds in them and in their rows
+entry_keeps : (n : Paired) (node : ℕ) (facts : FactList) (plan : PlanTree) (entry : NodeRecord) → IsGood node facts plan entry → HasSides n facts.split facts.columns → AllByRecursion (Holds n) facts.list → AreKept (width plan) (kept_facts entry) n.rows × AllByRecursion (Holds n) (kept_facts entry)
+entry_keeps n node facts plan entry good sides hold = keeps n facts sides hold node (width plan) entry.traces good.shown good.traced entry.keep good.keep
+
+-- ---- Windows
+
+all_well : (tables : List TableRule) (input : PlanTree) (f : fits tables input ≡ true) (w : WindowRule) (rows : List RowValues) (os : List (List ℕ)) (wide : HasWidth (width input) rows) (calls : List Call) → AllByRecursion (IsSound (kinds_of tables input) (width input) (kinds_below tables input f) w) calls → AllByRecursion (IsWell w rows os (width input) wide) calls
+all_well tables input f w rows os wide [] a = tt
+all_well tables input f w rows os wide (call ∷ calls) a = (record { names = a.0.names; in_partition = a.0.in_partition; in_order = a.0.in_order }, all_well tables input f w rows os wide calls a.1)
+
+-- the given facts of a Window hold in its rows with NULL for a fault
+window_given : (w : WindowRule) (rows : List RowValues) (os : List (List ℕ)) (width : ℕ) (wide : HasWidth width rows) (kept : List Fact) → AreKept width kept rows → AreOrderings w rows os → AllByRecursion (IsWell w rows os width wide) w.calls → AllByRecursion (Holds (unpaired (shown_rows w rows os))) (kept ++ calls_facts w width w.calls)
+window_given w rows os width wide kept k valid well =
+    all_append (Holds (unpaired (shown_rows w rows os))) kept (calls_facts w width w.calls)
+    (subst (AllByRecursion (Holds (unpaired (shown_rows w rows os)))) (same_facts kept) (hold_moved rows (unpaired (shown_rows w rows os)) (λ c. c) member.Row width (shown_carries w rows os width wide) kept k.named k.hold))
+    (calls_hold w rows os width wide valid well)
+
+-- ---- Joins
+
+-- the positions of a Join's rows are sides
+pairs_sides : (ls rs : List RowValues) (n : Paired) (wl wr : ℕ) → HasWidth wl ls → HasWidth wr rs → PairsRows ls rs n → AreSides n wl (wl + wr)
+pairs_sides ls rs n wl wr wide_left wide_right paired = sides ls rs n.rows (record { left = n.left; right = n.right; left_within = paired.left_within; right_within = paired.right_within; is = paired.is; apart = paired.apart }) wl wr wide_left wide_right
+
+-- ---- the induction
+
+module _ (tables : List TableRule) (instance : Instance) (nodes : List NodeRecord) (meets : Meets tables instance) where
+  -- what holds of a plan whose entries begin at a number
+  record IsSoundPlan (plan : PlanTree) (choice : List (List ℕ)) (first : ℕ) : Type 0 where
+    settled : IsSettledPlan plan instance choice
+    facts : FactsHold tables plan instance choice first nodes
+    kept : KeptHold plan instance choice first nodes
+
+  abbrev Keeps : PlanTree → ℕ → List RowValues → Type 0
+  Keeps plan first rows = AreKept (width plan) (kept_facts (top_at plan first nodes)) rows
+
+  abbrev Good : PlanTree → ℕ → Type 0
+  Good plan first = IsGood (top_number plan first) (given_at tables plan first nodes) plan (top_at plan first nodes)
+
+  good : (plan : PlanTree) (first : ℕ) → top_refusal tables plan first nodes ≡ None → Good plan first
+  good plan first e = is_good (top_number plan first) (given_at tables plan first nodes) plan (top_at plan first nodes) e
+
+  -- in the rows of a node whose positions have no sides
+  kept_in : (plan : PlanTree) (first : ℕ) (rows : List RowValues) → Good plan first → HasSides (unpaired rows) (given_at tables plan first nodes).split (given_at tables plan first nodes).columns → InRows tables plan (kept_below plan first nodes) (kept_right plan first nodes) rows → Keeps plan first rows
+  kept_in plan first rows g none hold = (entry_keeps (unpaired rows) (top_number plan first) (given_at tables plan first nodes) plan (top_at plan first nodes) g none hold).0
+
+  known : (plan : PlanTree) (choice : List (List ℕ)) → fits tables plan ≡ true → AreLawful plan instance choice → AtRows (outcome plan instance choice) (Known tables plan) (Unit {0})
+  known plan choice f l = known_holds tables plan instance choice f meets l
+
+  given_here : (plan : PlanTree) (choice : List (List ℕ)) (first : ℕ) → fits tables plan ≡ true → AreLawful plan instance choice → ChildrenKeep plan instance choice (kept_below plan first nodes) (kept_right plan first nodes) → GivenHoldAt tables plan instance choice first nodes
+  given_here plan choice first f l a = given_facts_hold tables plan instance choice (kept_below plan first nodes) (kept_right plan first nodes) f meets l a
+
+  sound : (plan : PlanTree) (choice : List (List ℕ)) (first : ℕ) → fits tables plan ≡ true → nodes_refusal tables plan first nodes ≡ None → AreLawful plan instance choice → IsSoundPlan plan choice first
+  sound (Scan table columns) choice first f v l =
+      let plan = Scan table columns in
+      let given = given_here plan choice first f l tt in
+      let kept = kept_in plan first _ (good plan first v) tt given in
+      record { settled = tt; facts = (given, kept); kept = kept }
+  sound (Filter condition input) choice first f v l =
+      let plan = Filter condition input in
+      let below = nodes_refusal tables input first nodes in
+      let own = top_refusal tables plan first nodes in
+      let under = sound input choice first (and_parts (fits tables input) (is_condition (kinds_of tables input) condition) f).0 (first_passed below own v) l in
+      let given = given_here plan choice first f l under.kept in
+      let kept = at_map (outcome plan instance choice) (InRows tables plan (kept_below plan first nodes) []) (Keeps plan first) given (λ rows e h. kept_in plan first rows (good plan first (later_passed below own v)) tt h) in
+      record { settled = under.settled; facts = ((given, kept), under.facts); kept = kept }
+  sound (Map outputs input) choice first f v l =
+      let plan = Map outputs input in
+      let below = nodes_refusal tables input first nodes in
+      let own = top_refusal tables plan first nodes in
+      let fitting = (and_parts (fits tables input) (are_outputs (kinds_of tables input) outputs) f).0 in
+      let under = sound input choice first fitting (first_passed below own v) l in
+      let given = given_here plan choice first f l under.kept in
+      let Beside : List RowValues → Type 0 = λ ins. AtRows (outcome plan instance choice) (λ outs. InRows tables plan (kept_below plan first nodes) [] (beside outs ins)) (Unit {0}) in
+      let kept : KeptHold plan instance choice first nodes = at_step (outcome input instance choice) (map_outcome outputs) Beside (Keeps plan first) given (λ xs ys e h is.
+      (let hold = at_rows (outcome plan instance choice) ys (λ outs. InRows tables plan (kept_below plan first nodes) [] (beside outs xs)) (Unit {0}) (ap (λ o. and_then o (map_outcome outputs)) e ∙ is) h in
+      let both = kept_in plan first (beside ys xs) (good plan first (later_passed below own v)) tt hold in
+      record { named = both.named; hold = kept_map tables outputs input xs ys (at_rows (outcome input instance choice) xs (Known tables input) (Unit {0}) e (known input choice fitting l)) is (kept_facts (top_at plan first nodes)) both.named both.hold })) in
+      record { settled = under.settled; facts = ((given, kept), under.facts); kept = kept }
+  sound (Distinct input) choice first f v l =
+      let plan = Distinct input in
+      let below = nodes_refusal tables input first nodes in
+      let own = top_refusal tables plan first nodes in
+      let under = sound input choice first f (first_passed below own v) l in
+      let given = given_here plan choice first f l under.kept in
+      let kept = at_map (outcome plan instance choice) (InRows tables plan (kept_below plan first nodes) []) (Keeps plan first) given (λ rows e h. kept_in plan first rows (good plan first (later_passed below own v)) tt h) in
+      record { settled = under.settled; facts = ((given, kept), under.facts); kept = kept }
+  sound (Limit limit input) choice first f v l =
+      let plan = Limit limit input in
+      let below = nodes_refusal tables input first nodes in
+      let own = top_refusal tables plan first nodes in
+      let fitting = (and_parts (fits tables input) (is_limit (kinds_of tables input) limit) f).0 in
+      let under = sound input choice first fitting (first_passed below own v) l.0 in
+      let given = given_here plan choice first f l under.kept in
+      let g = good plan first (later_passed below own v) in
+      let facts = given_at tables plan first nodes in
+      let node = top_number plan first in
+      let kept = at_map (outcome plan instance choice) (InRows tables plan (kept_below plan first nodes) []) (Keeps plan first) given (λ rows e h. kept_in plan first rows g tt h) in
+      let settled = at_map (outcome input instance choice) (Keeps input first) (λ rows. (width' : ℕ) × HasWidth width' rows × IsSettledLimit limit width' rows) under.kept (λ rows e k. (
+        width input,
+        (at_rows (outcome input instance choice) rows (Known tables input) (Unit {0}) e (known input choice fitting l.0)).wide,
+        limit_settled rows facts tt g.shown (each_true (unpaired rows) facts tt k.hold node (top_at plan first nodes).traces g.shown g.traced) node (width input) limit (top_at plan first nodes).limit g.rules,
+      )) in
+      record { settled = (under.settled, settled); facts = ((given, kept), under.facts); kept = kept }
+  sound (Window w input) choice first f v l =
+      let plan = Window w input in
+      let below = nodes_refusal tables input first nodes in
+      let own = top_refusal tables plan first nodes in
+      let fitting = and_parts (fits tables input) (is_window (kinds_of tables input) (width input) w) f in
+      let under = sound input choice first fitting.0 (first_passed below own v) l.0 in
+      let given = given_here plan choice first f l under.kept in
+      let g = good plan first (later_passed below own v) in
+      let facts = given_at tables plan first nodes in
+      let node = top_number plan first in
+      let entry = top_at plan first nodes in
+      let os = take (length w.classes) (drop (ordering_count input) choice) in
+      let calls = calls_sound (kinds_of tables input) (width input) (kinds_below tables input fitting.0) w fitting.1 in
+      let kept = at_map (outcome plan instance choice) (InRows tables plan (kept_below plan first nodes) []) (Keeps plan first) given (λ rows e h. kept_in plan first rows g tt h) in
+      let settled = at_map (outcome input instance choice) (Keeps input first) (λ rows. (exchange : ℕ) × (width' : ℕ) × HasWidth width' rows × AllByRecursion (IsSettledCall w exchange width' rows) w.calls) under.kept (λ rows e k.
+      (let wide = (at_rows (outcome input instance choice) rows (Known tables input) (Unit {0}) e (known input choice fitting.0 l.0)).wide in
+      let valid = at_rows (outcome input instance choice) rows (λ rows. AreOrderings w rows os) (AllByRecursion (λ o. o ≡ []) os) e l.1 in
+      let hold = window_given w rows os (width input) wide (kept_below plan first nodes) k valid (all_well tables input fitting.0 w rows os wide w.calls calls) in
+      let shown = each_true (unpaired (shown_rows w rows os)) facts tt hold node entry.traces g.shown g.traced in
+      (_, width input, wide, window_settled w rows os (width input) wide facts tt g.shown shown node entry.calls (in_range (kinds_of tables input) (width input) (kinds_below tables input fitting.0) w w.calls calls) g.rules))) in
+      record { settled = (under.settled, (names_classes tables plan f).1, settled); facts = ((given, kept), under.facts); kept = kept }
+  sound (Join condition left right) choice first f v l =
+      let plan = Join condition left right in
+      let c2 = drop (ordering_count left) choice in
+      let second = first + node_count left in
+      let of_left = nodes_refusal tables left first nodes in
+      let of_right = nodes_refusal tables right second nodes in
+      let own = top_refusal tables plan first nodes in
+      let rest = later_passed of_left (or_else of_right own) v in
+      let fitting = and_parts (fits tables left) (fits tables right) (and_parts (fits tables left && fits tables right) (is_join (kinds_of tables plan) (width left + width right) condition) f).0 in
+      let at_left = sound left choice first fitting.0 (first_passed of_left (or_else of_right own) v) l.0 in
+      let at_right = sound right c2 second fitting.1 (first_passed of_right own rest) l.1 in
+      let given = given_here plan choice first f l (at_left.kept, at_right.kept) in
+      let g = good plan first (later_passed of_right own rest) in
+      let facts = given_at tables plan first nodes in
+      let lk = kept_below plan first nodes in
+      let rk = kept_right plan first nodes in
+      let Pairs : List RowValues → List RowValues → Type 0 = λ ls rs. AtRows (outcome plan instance choice) (InPairs tables plan lk rk ls rs) (Unit {0}) in
+      let kept : KeptHold plan instance choice first nodes = at_step (outcome left instance choice) (λ ls. and_then (outcome right instance c2) (λ rs. join_outcome condition (pairs ls rs))) (λ ls. AtRows (outcome right instance c2) (Pairs ls) (Unit {0})) (Keeps plan first) given (λ ls ys e h is.
+      at_rows (and_then (outcome right instance c2) (λ rs. join_outcome condition (pairs ls rs))) ys (Keeps plan first) (Unit {0}) is
+      (at_step (outcome right instance c2) (λ rs. join_outcome condition (pairs ls rs)) (Pairs ls) (Keeps plan first) h (λ rs zs e' h' is'.
+      (let here : outcome plan instance choice ≡ Ok zs = (λ i. and_then (e i) (λ ls'. and_then (e' i) (λ rs'. join_outcome condition (pairs ls' rs')))) ∙ is' in
+      let p = at_rows (outcome plan instance choice) zs (InPairs tables plan lk rk ls rs) (Unit {0}) here h' in
+      let wide_left = (at_rows (outcome left instance choice) ls (Known tables left) (Unit {0}) e (known left choice fitting.0 l.0)).wide in
+      let wide_right = (at_rows (outcome right instance c2) rs (Known tables right) (Unit {0}) e' (known right c2 fitting.1 l.1)).wide in
+      subst (Keeps plan first) p.1 (entry_keeps p.0 (top_number plan first) facts plan (top_at plan first nodes) g (pairs_sides ls rs p.0 (width left) (width right) wide_left wide_right p.2) p.3).0)))) in
+      record { settled = (at_left.settled, at_right.settled); facts = ((given, kept), at_left.facts, at_right.facts); kept = kept }
+
+pub valid_shows : ValidShows
+valid_shows tables plan nodes f v instance choice meets valid =
+    let counted = refuse_unless (nat_eq (length nodes) (node_count plan)) Count in
+    let limits = refuse_unless (all_entries has_its_limit plan 0 nodes) Shape in
+    let calls = refuse_unless (all_entries has_its_calls plan 0 nodes) Count in
+    let entries = nodes_refusal tables plan 0 nodes in
+    let past_count = later_passed counted (or_else limits (or_else calls entries)) v in
+    let past_limits = later_passed limits (or_else calls entries) past_count in
+    let is = sound tables instance nodes meets plan choice 0 f (later_passed calls entries past_limits) valid.lawful in
+    record { facts = is.facts; settled = is.settled }
+
+pub valid_has_one : ValidHasOne
+valid_has_one tables plan nodes f v instance other c1 c2 meets same v1 v2 = plan_has_one plan instance other c1 c2 same v1 v2 (valid_shows tables plan nodes f v instance c1 meets v1).settled
+
+pub never_both : NeverBoth
+never_both tables plan nodes instance c1 c2 f v w = w.differ (valid_has_one tables plan nodes f v instance instance c1 c2 w.meets (λ table row. refl) w.first w.second)

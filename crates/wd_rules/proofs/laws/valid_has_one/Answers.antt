@@ -1,0 +1,5 @@
+use Rattle.wd_rules.proofs.Sound as laws
+use Rattle.wd_rules.proofs.laws.valid_has_one.Goals as goal
+
+pub returns : goal.returns
+returns c = laws.valid_has_one

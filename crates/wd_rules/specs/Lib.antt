@@ -1,0 +1,5 @@
+pub mod Traces
+pub mod Rules
+pub mod Validity
+pub mod Laws
+pub mod Examples

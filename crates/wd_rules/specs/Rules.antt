@@ -1,0 +1,179 @@
+-- What a node's entry in a certificate claims, and by which refusal a claim fails that its traces don't show.
+use Rattle.std.specs.Prelude.{ℕ, Bool, true, false, not, ◌&&◌, ◌||◌, List, [], ◌∷◌, map, nat_eq, nat_lt, slice_get, Option, Some, None, Result, Ok, Err, is_some, if◌then◌else◌}
+use Rattle.std.specs.List.{list_any, list_all}
+use Rattle.wd_plan.specs.declared.function.FrameFunction.{FrameFunction}
+use Rattle.wd_plan.specs.declared.function.FrameFunction.TheVariants.{ValueAt, Aggregate}
+use Rattle.wd_plan.specs.declared.function.Function.{Function}
+use Rattle.wd_plan.specs.declared.function.Function.TheVariants.{Ranking as Ranked, Shift as Shifted, OfFrame}
+use Rattle.wd_plan.specs.declared.window.Call.{Call}
+use Rattle.wd_plan.specs.Fits.{width}
+use Rattle.wd_plan.specs.Frames.{is_stable}
+use Rattle.wd_plan.specs.Outcomes.{class_at}
+use Rattle.wd_plan.specs.Plans.{WindowRule, LimitRule, PlanTree, Scan, Join, Filter, Map, Window, Distinct, Limit}
+use Rattle.wd_plan.specs.Settled.{is_by_peers}
+use Rattle.wd_plan.specs.Sorting.{class_columns, order_columns, limit_class}
+use Rattle.wd_certificate.specs.Certificates.{KeptRecord, NodeRecord, TraceRecord}
+use Rattle.wd_certificate.specs.declared.certificate.Rule.{Rule}
+use Rattle.wd_certificate.specs.declared.certificate.Rule.TheVariants as rule
+use Rattle.wd_certificate.specs.declared.certificate.Target.{Target}
+use Rattle.wd_certificate.specs.declared.certificate.Target.TheVariants as target
+use Rattle.wd_certificate.specs.declared.error.CertError.{CertError}
+use Rattle.wd_certificate.specs.declared.error.CertError.TheVariants.{Count, UnreachedClaim, UnjustifiedCall, SecondExchange, UnjustifiedLimit, OutOfRange}
+use Rattle.wd_facts.specs.declared.facts.Member.{Member}
+use Rattle.wd_facts.specs.declared.facts.Member.TheVariants as member
+use Rattle.wd_facts.specs.Facts.{Fact, FactList, columns_named}
+use Rattle.wd_facts.specs.Given.{all_columns}
+use Rattle.wd_rules.specs.Traces.{Traced, each_traced, reaches_each}
+
+-- ---- refusals in turn
+
+-- the first of two refusals
+abbrev pub or_else : Option CertError → Option CertError → Option CertError
+or_else (Some refusal) later = Some refusal
+or_else None later = later
+
+-- the refusal of the first element that has one
+abbrev pub first_of : {X : Type 0} → (X → Option CertError) → List X → Option CertError
+first_of f [] = None
+first_of f (x ∷ xs) = or_else (f x) (first_of f xs)
+
+abbrev pub refuse_unless : Bool → CertError → Option CertError
+refuse_unless true refusal = None
+refuse_unless false refusal = Some refusal
+
+-- ---- kept facts
+
+abbrev pub member_of : Target → Member
+member_of (target.Column c) = member.Column c
+member_of target.Row = member.Row
+
+abbrev pub no_trace : TraceRecord
+no_trace = record { from = []; uses = [] }
+
+abbrev pub trace_or : Option TraceRecord → TraceRecord
+trace_or None = no_trace
+trace_or (Some trace) = trace
+
+-- what an entry keeps: the trace's columns give the targets
+abbrev pub kept_fact : List TraceRecord → KeptRecord → Fact
+kept_fact traces kept = record { from = columns_named (trace_or (slice_get traces kept.trace)).from; to = map member_of kept.to }
+
+-- the facts that an entry keeps, in their order
+abbrev pub kept_facts : NodeRecord → List Fact
+kept_facts entry = map (kept_fact entry.traces) entry.keep
+
+-- a column among so many, or the row
+abbrev pub is_target : ℕ → Target → Bool
+is_target columns (target.Column c) = nat_lt c columns
+is_target columns target.Row = true
+
+-- a kept fact of a node with so many columns, by its trace
+abbrev pub kept_refusal : ℕ → FactList → ℕ → List Target → Option Traced → Option CertError
+kept_refusal node facts columns to None = Some (OutOfRange node)
+kept_refusal node facts columns to (Some trace) =
+    or_else (refuse_unless (list_all (is_target columns) to) (OutOfRange node))
+    (refuse_unless (list_all (λ c. nat_lt c columns) trace.from && reaches_each facts trace.has (map member_of to)) (UnreachedClaim node))
+
+abbrev pub keep_refusal : ℕ → FactList → ℕ → List Traced → List KeptRecord → Option CertError
+keep_refusal node facts columns shown keep = first_of (λ (kept : KeptRecord). kept_refusal node facts columns kept.to (slice_get shown kept.trace)) keep
+
+-- ---- calls and limits
+
+-- a trace shows that columns give members: it starts from among the columns, and reaches each member
+abbrev pub shows : FactList → List ℕ → List Member → Traced → Bool
+shows facts within members trace = list_all (λ c. list_any (nat_eq c) within) trace.from && reaches_each facts trace.has members
+
+-- a trace that the entry has passes a test
+abbrev pub refuse_unless_shown : ℕ → CertError → (Traced → Bool) → Option Traced → Option CertError
+refuse_unless_shown node refusal test None = Some (OutOfRange node)
+refuse_unless_shown node refusal test (Some trace) = refuse_unless (test trace) refusal
+
+abbrev pub column_at_frame : FrameFunction → Option ℕ
+column_at_frame (ValueAt row c) = Some c
+column_at_frame (Aggregate a) = None
+
+-- the column whose value FIRST_VALUE, LAST_VALUE or NTH_VALUE takes
+abbrev pub taken_column : Function → Option ℕ
+taken_column (Ranked r) = None
+taken_column (Shifted s) = None
+taken_column (OfFrame f) = column_at_frame f
+
+abbrev pub shows_column : FactList → List ℕ → Option ℕ → Traced → Bool
+shows_column facts within None trace = false
+shows_column facts within (Some c) trace = shows facts within (member.Column c ∷ []) trace
+
+-- over a stable frame, the trace shows the column whose value the call takes
+abbrev pub shows_value : FactList → List ℕ → Call → Traced → Bool
+shows_value facts within call trace = is_stable call.frame && shows_column facts within (taken_column call.function) trace
+
+-- a call by its rule, of a class with these columns, over an input with so many
+abbrev pub call_refusal : ℕ → FactList → ℕ → List Traced → List ℕ → Call → Rule → Option CertError
+call_refusal node facts columns shown within call rule.Peers = refuse_unless (is_by_peers call.frame call.function) (UnjustifiedCall node)
+call_refusal node facts columns shown within call (rule.Unique n) = refuse_unless_shown node (UnjustifiedCall node) (shows facts within (member.Row ∷ [])) (slice_get shown n)
+call_refusal node facts columns shown within call (rule.Values n) = refuse_unless_shown node (UnjustifiedCall node) (shows_value facts within call) (slice_get shown n)
+call_refusal node facts columns shown within call (rule.Exchange n) = refuse_unless_shown node (UnjustifiedCall node) (shows facts within (columns_named (all_columns columns))) (slice_get shown n)
+
+-- calls, each by its own rule; there are as many rules as calls
+abbrev pub calls_refusal : ℕ → FactList → ℕ → List Traced → WindowRule → List Call → List Rule → Option CertError
+calls_refusal node facts columns shown w [] [] = None
+calls_refusal node facts columns shown w [] (r ∷ rules) = Some Count
+calls_refusal node facts columns shown w (call ∷ calls) [] = Some Count
+calls_refusal node facts columns shown w (call ∷ calls) (r ∷ rules) =
+    or_else (call_refusal node facts columns shown (class_columns (class_at w call.class)) call r) (calls_refusal node facts columns shown w calls rules)
+
+abbrev pub is_exchange : Rule → Bool
+is_exchange rule.Peers = false
+is_exchange (rule.Unique n) = false
+is_exchange (rule.Values n) = false
+is_exchange (rule.Exchange n) = true
+
+-- the class of the first call that goes by `exchange`
+abbrev pub exchange_class : List Call → List Rule → ℕ
+exchange_class [] rules = 0
+exchange_class (call ∷ calls) [] = 0
+exchange_class (call ∷ calls) (r ∷ rules) = if is_exchange r then call.class else exchange_class calls rules
+
+-- each call that goes by `exchange` is of this class
+abbrev pub exchange_only : ℕ → List Call → List Rule → Bool
+exchange_only class [] rules = true
+exchange_only class (call ∷ calls) [] = true
+exchange_only class (call ∷ calls) (r ∷ rules) = (not (is_exchange r) || nat_eq call.class class) && exchange_only class calls rules
+
+-- no two classes of a Window go by `exchange`
+abbrev pub has_one_exchange : List Call → List Rule → Bool
+has_one_exchange calls rules = exchange_only (exchange_class calls rules) calls rules
+
+-- the rules of a Window: of each call, and of its classes
+abbrev pub window_refusal : ℕ → FactList → ℕ → List Traced → WindowRule → List Rule → Option CertError
+window_refusal node facts columns shown w rules =
+    or_else (calls_refusal node facts columns shown w w.calls rules) (refuse_unless (has_one_exchange w.calls rules) (SecondExchange node))
+
+-- a limit without a trace takes all rows, or ties, and has no offset
+abbrev pub is_whole_or_ties : LimitRule → Bool
+is_whole_or_ties limit = nat_eq limit.offset 0 && (not (is_some limit.count) || limit.ties)
+
+-- a limit; with a trace, its sort keys give every column
+abbrev pub limit_refusal : ℕ → FactList → ℕ → List Traced → LimitRule → Option ℕ → Option CertError
+limit_refusal node facts columns shown limit None = refuse_unless (is_whole_or_ties limit) (UnjustifiedLimit node)
+limit_refusal node facts columns shown limit (Some n) =
+    refuse_unless_shown node (UnjustifiedLimit node) (shows facts (order_columns (limit_class limit)) (columns_named (all_columns columns))) (slice_get shown n)
+
+-- ---- the entry of a plan's top node
+
+abbrev pub rules_refusal : ℕ → FactList → List Traced → PlanTree → NodeRecord → Option CertError
+rules_refusal node facts shown (Scan table columns) entry = None
+rules_refusal node facts shown (Join condition left right) entry = None
+rules_refusal node facts shown (Filter condition input) entry = None
+rules_refusal node facts shown (Map outputs input) entry = None
+rules_refusal node facts shown (Window w input) entry = window_refusal node facts (width input) shown w entry.calls
+rules_refusal node facts shown (Distinct input) entry = None
+rules_refusal node facts shown (Limit limit input) entry = limit_refusal node facts (width input) shown limit entry.limit
+
+-- the claims of an entry, by its traces
+abbrev pub claims_refusal : ℕ → FactList → PlanTree → NodeRecord → Result (List Traced) CertError → Option CertError
+claims_refusal node facts plan entry (Err refusal) = Some refusal
+claims_refusal node facts plan entry (Ok shown) = or_else (keep_refusal node facts (width plan) shown entry.keep) (rules_refusal node facts shown plan entry)
+
+-- traces, then kept facts, then calls or the limit
+abbrev pub entry_refusal : ℕ → FactList → PlanTree → NodeRecord → Option CertError
+entry_refusal node facts plan entry = claims_refusal node facts plan entry (each_traced node facts entry.traces)

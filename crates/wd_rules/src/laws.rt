@@ -1,0 +1,25 @@
+//! Laws over the definitions alone.
+
+ghost use Rattle.wd_rules.specs.Examples.{CertificatesComeOut};
+ghost use Rattle.wd_rules.specs.Laws.{NeverBoth, ValidHasOne, ValidShows};
+
+/// Where a plan fits a schema and a certificate is valid for them, each given and each kept fact
+/// holds in its node's rows, and each call and limit is settled.
+pub fn valid_shows()
+    ensures { ValidShows }
+{}
+
+/// A plan with a valid certificate has one answer.
+pub fn valid_has_one()
+    ensures { ValidHasOne }
+{}
+
+/// No plan has both a valid certificate and a true witness.
+pub fn never_both()
+    ensures { NeverBoth }
+{}
+
+/// By what some certificates are refused, and that others are valid.
+pub fn certificates_come_out()
+    ensures { CertificatesComeOut }
+{}

@@ -1,0 +1,5 @@
+//! When a certificate is valid for a plan and a schema: traces of facts, rules of calls and limits,
+//! and the laws that a valid certificate's facts hold and that its plan has one answer.
+#![tactic(auto)]
+
+pub mod laws;
