@@ -1,1 +1,2 @@
 pub mod MeaningLaw
+pub mod ForReadings

@@ -6,6 +6,7 @@ use Rattle.wd_syntax.specs.Laws.{IsTreeOf}
 use Rattle.wd_syntax.specs.Tree.{QueryTree}
 use Rattle.wd_schema.specs.Schemas.{schema_of}
 use Rattle.wd_schema.specs.Tables.{TableRule}
+use Rattle.wd_plan.specs.Plans.{PlanTree}
 use Rattle.wd_resolve.specs.Answers.{Answer, answer, resolved_of}
 use Rattle.wd_resolve.specs.Laws.{Reads}
 use Rattle.wd_query.specs.declared.read.PlannedQuery.{PlannedQuery}
@@ -22,3 +23,7 @@ pub record IsPlanned (tables : List TableRule) (query : List ℕ) (a : Answer) :
 pub record IsRead (schema query : List ℕ) (planned : PlannedQuery) : Type 0 where
   pub reads : Reads schema query (resolved_of planned.resolved)
   pub tables : reads.tables ≡ schema_of planned.schema
+
+-- the texts read as a plan over the schema's tables, of which this holds
+abbrev pub ForReading : List ℕ → List ℕ → (List TableRule → PlanTree → Type 0) → Type 0
+ForReading schema query P = (read : Answer) × (reads : Reads schema query read) × P reads.tables read.plan

@@ -1,16 +1,19 @@
 -- What an entry that is not refused keeps names columns of its node and the row, and holds where the given facts do.
-use Rattle.std.proofs.Common.{◌≡◌, ℕ, zero, suc, true, ◌&&◌, List, [], ◌∷◌, map, refl, sym, subst, Option, Some, None, slice_get, nat_lt, Ok}
+use Rattle.std.proofs.Common.{◌≡◌, ℕ, zero, suc, true, ◌&&◌, List, [], ◌∷◌, map, refl, sym, subst, Option, Some, None, slice_get, nat_lt, Result, Ok, Err}
 use Rattle.std.specs.List.{AllByRecursion, list_all}
 use Rattle.std.proofs.lemmas.Bool.{and_parts}
-use Rattle.wd_certificate.specs.Certificates.{KeptRecord, TraceRecord}
+use Rattle.wd_plan.specs.Fits.{width}
+use Rattle.wd_plan.specs.Plans.{PlanTree}
+use Rattle.wd_certificate.specs.Certificates.{KeptRecord, NodeRecord, TraceRecord}
 use Rattle.wd_certificate.specs.declared.certificate.Target.{Target}
 use Rattle.wd_certificate.specs.declared.certificate.Target.TheVariants as target
+use Rattle.wd_certificate.specs.declared.error.CertError.{CertError}
 use Rattle.wd_certificate.specs.declared.error.CertError.TheVariants.{OutOfRange, UnreachedClaim}
 use Rattle.wd_facts.specs.Facts.{columns_named, FactList, Paired, Same, Holds, is_column, is_plain, is_plain_fact}
 use Rattle.wd_facts.specs.Laws.{AreKept, ArePlain}
 use Rattle.wd_facts.proofs.Nodes.{unpaired_hold}
 use Rattle.wd_facts.proofs.Sides.{HasSides}
-use Rattle.wd_rules.specs.Rules.{is_target, keep_refusal, kept_fact, kept_refusal, member_of, refuse_unless}
+use Rattle.wd_rules.specs.Rules.{claims_refusal, entry_refusal, is_target, keep_refusal, kept_fact, kept_facts, kept_refusal, member_of, refuse_unless, rules_refusal}
 use Rattle.wd_rules.specs.Traces.{Traced, each_traced, reaches_each}
 use Rattle.wd_rules.proofs.Refused.{each_passed, first_passed, later_passed, passed}
 use Rattle.wd_rules.proofs.Traces.{IsTrue, each_same, each_true, from_is}
@@ -51,6 +54,33 @@ at_number P [] i t a e = cc
 at_number P (x ∷ list) zero t a e = let f : x ≡ t = cc in subst P f a.0
 at_number P (x ∷ list) (suc i) t a e = at_number P list i t a.1 e
 
+-- ---- what is kept names columns of the node and the row
+
+module _ (node : ℕ) (facts : FactList) (columns : ℕ) (traces : List TraceRecord) (shown : List Traced) (are : each_traced node facts traces ≡ Ok shown) where
+  pub is_plain_kept : (kept : KeptRecord) → kept_refusal node facts columns kept.to (slice_get shown kept.trace) ≡ None → is_plain_fact columns (kept_fact traces kept) ≡ true
+  is_plain_kept kept e =
+      let is = is_shown node facts columns kept.to (slice_get shown kept.trace) e in
+      let from = from_is node facts traces shown are kept.trace is.trace is.at in
+      let from_columns = subst (λ X. list_all (is_column columns) (columns_named X) ≡ true) (sym from) (columns_plain columns is.trace.from is.columns_from) in
+      λ i. from_columns i && targets_plain columns kept.to is.targets i
+
+  pub keeps_plain : (keep : List KeptRecord) → keep_refusal node facts columns shown keep ≡ None → ArePlain columns (map (kept_fact traces) keep)
+  keeps_plain [] e = tt
+  keeps_plain (kept ∷ keep) e =
+      let own = kept_refusal node facts columns kept.to (slice_get shown kept.trace) in
+      let later = keep_refusal node facts columns shown keep in
+      (is_plain_kept kept (first_passed own later e), keeps_plain keep (later_passed own later e))
+
+-- what an entry that is not refused keeps
+pub entry_plain : (node : ℕ) (facts : FactList) (plan : PlanTree) (entry : NodeRecord) → entry_refusal node facts plan entry ≡ None → ArePlain (width plan) (kept_facts entry)
+entry_plain node facts plan entry e = by (each_traced node facts entry.traces) refl e
+  where
+    by : (shown : Result (List Traced) CertError) → each_traced node facts entry.traces ≡ shown → claims_refusal node facts plan entry shown ≡ None → ArePlain (width plan) (kept_facts entry)
+    by (Ok shown) are f = keeps_plain node facts (width plan) entry.traces shown are entry.keep (first_passed (keep_refusal node facts (width plan) shown entry.keep) (rules_refusal node facts shown plan entry) f)
+    by (Err refusal) are f = cc
+
+-- ---- and holds
+
 module _ (n : Paired) (facts : FactList) (sides : HasSides n facts.split facts.columns) (hold : AllByRecursion (Holds n) facts.list) (node columns : ℕ) (traces : List TraceRecord) (shown : List Traced) (are : each_traced node facts traces ≡ Ok shown) where
   abbrev IsKept : KeptRecord → Type 0
   IsKept kept = (is_plain_fact columns (kept_fact traces kept) ≡ true) × Holds n (kept_fact traces kept)
@@ -58,9 +88,8 @@ module _ (n : Paired) (facts : FactList) (sides : HasSides n facts.split facts.c
   is_kept : (kept : KeptRecord) → kept_refusal node facts columns kept.to (slice_get shown kept.trace) ≡ None → IsKept kept
   is_kept kept e =
       let is = is_shown node facts columns kept.to (slice_get shown kept.trace) e in
-      let from = from_is node facts traces shown are kept.trace is.trace is.at in
-      let from_columns = subst (λ X. list_all (is_column columns) (columns_named X) ≡ true) (sym from) (columns_plain columns is.trace.from is.columns_from) in (
-        λ i. from_columns i && targets_plain columns kept.to is.targets i,
+      let from = from_is node facts traces shown are kept.trace is.trace is.at in (
+        is_plain_kept node facts columns traces shown are kept e,
         λ p q k l a. each_same n p q k l facts sides is.trace.has (map member_of kept.to)
             (at_number (IsTrue n) shown kept.trace is.trace (each_true n facts sides hold node traces shown are) is.at p q k l (subst (λ X. AllByRecursion (Same n p q) (columns_named X)) from a))
             is.reached,

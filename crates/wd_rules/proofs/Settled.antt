@@ -29,6 +29,7 @@ use Rattle.wd_facts.proofs.Keys.{named_same}
 use Rattle.wd_facts.proofs.Lists.{range_pick}
 use Rattle.wd_facts.proofs.Sides.{HasSides}
 use Rattle.wd_facts.proofs.Windows.{input_column, inputs_shown, shown_long, shown_rows}
+use Rattle.wd_sets.specs.Sets.{is_in}
 use Rattle.wd_rules.specs.Rules.{call_refusal, calls_refusal, exchange_class, exchange_only, has_one_exchange, is_exchange, is_whole_or_ties, limit_refusal, refuse_unless, refuse_unless_shown, shows, shows_column, shows_value, taken_column, window_refusal}
 use Rattle.wd_rules.specs.Traces.{Traced, reaches_each}
 use Rattle.wd_rules.proofs.Kept.{at_number}
@@ -42,9 +43,9 @@ module _ (n : Paired) (facts : FactList) (sides : HasSides n facts.split facts.c
   abbrev Gives : List ℕ → List Member → Type 0
   Gives within members = (p q : ℕ) → p < length n.rows → q < length n.rows → AllByRecursion (Same n p q) (columns_named within) → AllByRecursion (Same n p q) members
 
-  gives : (within : List ℕ) (members : List Member) (i : ℕ) (t : Traced) → slice_get shown i ≡ Some t → shows facts within members t ≡ true → Gives within members
+  gives : (within : List ℕ) (members : List Member) (i : ℕ) (t : Traced) → slice_get shown i ≡ Some t → shows facts (is_in within) members t ≡ true → Gives within members
   gives within members i t at e p q k l a =
-      let parts = and_parts (list_all (λ c. list_any (nat_eq c) within) t.from) (reaches_each facts t.has members) e in
+      let parts = and_parts (list_all (is_in within) t.from) (reaches_each facts t.has members) e in
       each_same n p q k l facts sides t.has members (at_number (IsTrue n) shown i t hold at p q k l (among_same (Same n p q) within t.from a parts.0)) parts.1
 
 -- ---- a Limit
@@ -66,7 +67,7 @@ module _ (rows : List RowValues) (facts : FactList) (sides : HasSides (unpaired 
   limit_settled node width limit (Some i) e =
       let keys = order_columns (limit_class limit) in
       let all = columns_named (all_columns width) in
-      let there = shown_there (λ fact. Gives (unpaired rows) facts sides shown hold keys all) node (UnjustifiedLimit node) (shows facts keys all) (slice_get shown i) e (gives (unpaired rows) facts sides shown hold keys all i) in
+      let there = shown_there (λ fact. Gives (unpaired rows) facts sides shown hold keys all) node (UnjustifiedLimit node) (shows facts (is_in keys) all) (slice_get shown i) e (gives (unpaired rows) facts sides shown hold keys all i) in
       inr (inr (λ c l p q k m same. range_pick (Same (unpaired rows) p q) 0 width c (there.1 p q k m (named_same (unpaired rows) p q keys same)) (omega arith) (omega arith)))
 
 -- ---- a Window's calls
@@ -85,18 +86,18 @@ below_append width (c ∷ X) Y a b =
     λ i. parts.0 i && below_append width X Y parts.1 b i
 
 -- the column that a call takes, by a trace
-pub record IsTaken (facts : FactList) (within : List ℕ) (call : Call) (fact : Traced) : Type 0 where
+pub record IsTaken (facts : FactList) (among : ℕ → Bool) (call : Call) (fact : Traced) : Type 0 where
   pub column : ℕ
   pub stable : is_stable call.frame ≡ true
   pub takes : taken_column call.function ≡ Some column
-  pub shown : shows facts within (member.Column column ∷ []) fact ≡ true
+  pub shown : shows facts among (member.Column column ∷ []) fact ≡ true
 
-is_taken : (facts : FactList) (within : List ℕ) (call : Call) (fact : Traced) → shows_value facts within call fact ≡ true → IsTaken facts within call fact
-is_taken facts within call fact e = by (taken_column call.function) refl (and_parts (is_stable call.frame) (shows_column facts within (taken_column call.function) fact) e)
+is_taken : (facts : FactList) (among : ℕ → Bool) (call : Call) (fact : Traced) → shows_value facts among call fact ≡ true → IsTaken facts among call fact
+is_taken facts among call fact e = by (taken_column call.function) refl (and_parts (is_stable call.frame) (shows_column facts among (taken_column call.function) fact) e)
   where
-    by : (o : Option ℕ) → taken_column call.function ≡ o → (is_stable call.frame ≡ true) × (shows_column facts within (taken_column call.function) fact ≡ true) → IsTaken facts within call fact
-    by None h parts = let g : shows_column facts within None fact ≡ true = subst (λ o. shows_column facts within o fact ≡ true) h parts.1 in absurd (false≢true g)
-    by (Some c) h parts = record { column = c; stable = parts.0; takes = h; shown = subst (λ o. shows_column facts within o fact ≡ true) h parts.1 }
+    by : (o : Option ℕ) → taken_column call.function ≡ o → (is_stable call.frame ≡ true) × (shows_column facts among (taken_column call.function) fact ≡ true) → IsTaken facts among call fact
+    by None h parts = let g : shows_column facts among None fact ≡ true = subst (λ o. shows_column facts among o fact ≡ true) h parts.1 in absurd (false≢true g)
+    by (Some c) h parts = record { column = c; stable = parts.0; takes = h; shown = subst (λ o. shows_column facts among o fact ≡ true) h parts.1 }
 
 -- past a row's end there is NULL
 past : (row : RowValues) (c : ℕ) → length row ≤ c → column_of row c ≡ Null
@@ -126,20 +127,20 @@ module _ (w : WindowRule) (rows : List RowValues) (os : List (List ℕ)) (width 
           past (row_at rows p) c (let d = wide_at width rows p wide k in omega arith) ∙ sym (past (row_at rows q) c (let d = wide_at width rows q wide l in omega arith))
 
   -- what a rule's trace shows
-  by_trace : (within : List ℕ) (members : List Member) (i : ℕ) → AreBelow width within → refuse_unless_shown node (UnjustifiedCall node) (shows facts within members) (slice_get shown i) ≡ None → ClassGives within members
+  by_trace : (within : List ℕ) (members : List Member) (i : ℕ) → AreBelow width within → refuse_unless_shown node (UnjustifiedCall node) (shows facts (is_in within) members) (slice_get shown i) ≡ None → ClassGives within members
   by_trace within members i range e =
-      (shown_there (λ fact. ClassGives within members) node (UnjustifiedCall node) (shows facts within members) (slice_get shown i) e (λ fact at f. class_gives within members range (gives n facts sides shown hold within members i fact at f))).1
+      (shown_there (λ fact. ClassGives within members) node (UnjustifiedCall node) (shows facts (is_in within) members) (slice_get shown i) e (λ fact at f. class_gives within members range (gives n facts sides shown hold within members i fact at f))).1
 
   abbrev Taken : List ℕ → Call → Type 0
   Taken within call = (c : ℕ) × IsByValues call.frame call.function c × ClassGives within (member.Column c ∷ [])
 
-  by_value : (within : List ℕ) (call : Call) (i : ℕ) → AreBelow width within → refuse_unless_shown node (UnjustifiedCall node) (shows_value facts within call) (slice_get shown i) ≡ None → Taken within call
+  by_value : (within : List ℕ) (call : Call) (i : ℕ) → AreBelow width within → refuse_unless_shown node (UnjustifiedCall node) (shows_value facts (is_in within) call) (slice_get shown i) ≡ None → Taken within call
   by_value within call i range e =
-      (shown_there (λ fact. Taken within call) node (UnjustifiedCall node) (shows_value facts within call) (slice_get shown i) e (λ fact at f.
-      (let t = is_taken facts within call fact f in
+      (shown_there (λ fact. Taken within call) node (UnjustifiedCall node) (shows_value facts (is_in within) call) (slice_get shown i) e (λ fact at f.
+      (let t = is_taken facts (is_in within) call fact f in
       (t.column, taken_is call.frame call.function t.column t.stable t.takes, class_gives within (member.Column t.column ∷ []) range (gives n facts sides shown hold within (member.Column t.column ∷ []) i fact at t.shown))))).1
 
-  call_settled : (exchange : ℕ) (call : Call) (r : Rule) → AreBelow width (class_columns (class_at w call.class)) → call_refusal node facts width shown (class_columns (class_at w call.class)) call r ≡ None → (not (is_exchange r) || nat_eq call.class exchange) ≡ true → IsSettledCall w exchange width rows call
+  call_settled : (exchange : ℕ) (call : Call) (r : Rule) → AreBelow width (class_columns (class_at w call.class)) → call_refusal node facts width shown (is_in (class_columns (class_at w call.class))) call r ≡ None → (not (is_exchange r) || nat_eq call.class exchange) ≡ true → IsSettledCall w exchange width rows call
   call_settled exchange call rule.Peers range e f = inl (inl (passed (is_by_peers call.frame call.function) (UnjustifiedCall node) e))
   call_settled exchange call (rule.Unique i) range e f = inl (inr (inl (λ p q k l same. (by_trace (class_columns (class_at w call.class)) (member.Row ∷ []) i range e p q k l same).0)))
   call_settled exchange call (rule.Values i) range e f =
@@ -156,7 +157,7 @@ module _ (w : WindowRule) (rows : List RowValues) (os : List (List ℕ)) (width 
   calls_settled exchange [] rules range e f = tt
   calls_settled exchange (call ∷ calls) [] range e f = cc
   calls_settled exchange (call ∷ calls) (r ∷ rules) range e f =
-      let own = call_refusal node facts width shown (class_columns (class_at w call.class)) call r in
+      let own = call_refusal node facts width shown (is_in (class_columns (class_at w call.class))) call r in
       let later = calls_refusal node facts width shown w calls rules in
       let only = and_parts (not (is_exchange r) || nat_eq call.class exchange) (exchange_only exchange calls rules) f in
       (call_settled exchange call r range.0 (first_passed own later e) only.0, calls_settled exchange calls rules range.1 (later_passed own later e) only.1)

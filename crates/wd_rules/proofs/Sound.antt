@@ -32,7 +32,7 @@ use Rattle.wd_facts.proofs.Windows.{IsWell, calls_hold, shown_carries, shown_row
 use Rattle.wd_rules.specs.Laws.{FactsHold, GivenHoldAt, KeptHold, NeverBoth, ValidHasOne, ValidShows}
 use Rattle.wd_rules.specs.Rules.{claims_refusal, entry_refusal, keep_refusal, kept_facts, or_else, refuse_unless, rules_refusal}
 use Rattle.wd_rules.specs.Traces.{Traced, each_traced}
-use Rattle.wd_rules.specs.Validity.{all_entries, given_at, has_its_calls, has_its_limit, kept_below, kept_right, nodes_refusal, top_at, top_number, top_refusal}
+use Rattle.wd_rules.specs.Validity.{form_refusal, given_at, kept_below, kept_right, nodes_refusal, top_at, top_number, top_refusal}
 use Rattle.wd_rules.proofs.Kept.{keeps}
 use Rattle.wd_rules.proofs.Refused.{first_passed, later_passed}
 use Rattle.wd_rules.proofs.Settled.{in_range, limit_settled, window_settled}
@@ -227,13 +227,7 @@ module _ (tables : List TableRule) (instance : Instance) (nodes : List NodeRecor
 
 pub valid_shows : ValidShows
 valid_shows tables plan nodes f v instance choice meets valid =
-    let counted = refuse_unless (nat_eq (length nodes) (node_count plan)) Count in
-    let limits = refuse_unless (all_entries has_its_limit plan 0 nodes) Shape in
-    let calls = refuse_unless (all_entries has_its_calls plan 0 nodes) Count in
-    let entries = nodes_refusal tables plan 0 nodes in
-    let past_count = later_passed counted (or_else limits (or_else calls entries)) v in
-    let past_limits = later_passed limits (or_else calls entries) past_count in
-    let is = sound tables instance nodes meets plan choice 0 f (later_passed calls entries past_limits) valid.lawful in
+    let is = sound tables instance nodes meets plan choice 0 f (later_passed (form_refusal plan nodes) (nodes_refusal tables plan 0 nodes) v) valid.lawful in
     record { facts = is.facts; settled = is.settled }
 
 pub valid_has_one : ValidHasOne

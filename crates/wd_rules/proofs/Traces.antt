@@ -9,8 +9,9 @@ use Rattle.wd_facts.specs.declared.facts.Member.{Member}
 use Rattle.wd_facts.specs.declared.facts.Member.TheVariants.{Column, Left, Right, Row}
 use Rattle.wd_facts.specs.Facts.{Fact, FactList, Paired, Same, Holds, columns_named}
 use Rattle.wd_facts.proofs.Sides.{HasSides}
+use Rattle.wd_sets.specs.Sets.{is_in, same_member, stands_in}
 use Rattle.wd_rules.specs.Rules.{trace_or}
-use Rattle.wd_rules.specs.Traces.{Traced, also, and_then, by_side, each_traced, has_row, reaches, reaches_each, same_member, stands_in, traced, with_use, with_uses}
+use Rattle.wd_rules.specs.Traces.{Traced, also, and_then, by_side, each_traced, has_row, reaches, reaches_each, traced, with_use, with_uses}
 use Rattle.wd_rules.proofs.Refused.{ok_parts}
 
 pub same_member-is : (a b : Member) → same_member a b ≡ true → a ≡ b
@@ -34,15 +35,15 @@ listed S m (d ∷ s) a e = by (or_cases (same_member m d) (list_any (same_member
     by (inr f) later = later f
 
 -- columns among others
-pub among_same : (S : Member → Type 0) (within X : List ℕ) → AllByRecursion S (columns_named within) → list_all (λ c. list_any (nat_eq c) within) X ≡ true → AllByRecursion S (columns_named X)
+pub among_same : (S : Member → Type 0) (within X : List ℕ) → AllByRecursion S (columns_named within) → list_all (is_in within) X ≡ true → AllByRecursion S (columns_named X)
 among_same S within [] a e = tt
 among_same S within (c ∷ X) a e =
-    let parts = and_parts (list_any (nat_eq c) within) (list_all (λ c. list_any (nat_eq c) within) X) e in
+    let parts = and_parts (is_in within c) (list_all (is_in within) X) e in
     (found within a c parts.0, among_same S within X a parts.1)
   where
-    found : (Y : List ℕ) → AllByRecursion S (columns_named Y) → (d : ℕ) → list_any (nat_eq d) Y ≡ true → S (Column d)
+    found : (Y : List ℕ) → AllByRecursion S (columns_named Y) → (d : ℕ) → is_in Y d ≡ true → S (Column d)
     found [] b d f = absurd (false≢true f)
-    found (y ∷ Y) b d f = ⊎_elim (λ g. subst (λ x. S (Column x)) (sym (eqb-true d y g)) b.0) (found Y b.1 d) (or_cases (nat_eq d y) (list_any (nat_eq d) Y) f)
+    found (y ∷ Y) b d f = ⊎_elim (λ g. subst (λ x. S (Column x)) (sym (eqb-true d y g)) b.0) (found Y b.1 d) (or_cases (nat_eq d y) (is_in Y d) f)
 
 -- each member that a test names
 abbrev pub AllIn : (Member → Type 0) → (Member → Bool) → Type 0

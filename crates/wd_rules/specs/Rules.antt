@@ -1,6 +1,6 @@
 -- What a node's entry in a certificate claims, and by which refusal a claim fails that its traces don't show.
 use Rattle.std.specs.Prelude.{ℕ, Bool, true, false, not, ◌&&◌, ◌||◌, List, [], ◌∷◌, map, nat_eq, nat_lt, slice_get, Option, Some, None, Result, Ok, Err, is_some, if◌then◌else◌}
-use Rattle.std.specs.List.{list_any, list_all}
+use Rattle.std.specs.List.{list_all}
 use Rattle.wd_plan.specs.declared.function.FrameFunction.{FrameFunction}
 use Rattle.wd_plan.specs.declared.function.FrameFunction.TheVariants.{ValueAt, Aggregate}
 use Rattle.wd_plan.specs.declared.function.Function.{Function}
@@ -23,6 +23,7 @@ use Rattle.wd_facts.specs.declared.facts.Member.{Member}
 use Rattle.wd_facts.specs.declared.facts.Member.TheVariants as member
 use Rattle.wd_facts.specs.Facts.{Fact, FactList, columns_named}
 use Rattle.wd_facts.specs.Given.{all_columns}
+use Rattle.wd_sets.specs.Sets.{is_in}
 use Rattle.wd_rules.specs.Traces.{Traced, each_traced, reaches_each}
 
 -- ---- refusals in turn
@@ -80,8 +81,8 @@ keep_refusal node facts columns shown keep = first_of (λ (kept : KeptRecord). k
 -- ---- calls and limits
 
 -- a trace shows that columns give members: it starts from among the columns, and reaches each member
-abbrev pub shows : FactList → List ℕ → List Member → Traced → Bool
-shows facts within members trace = list_all (λ c. list_any (nat_eq c) within) trace.from && reaches_each facts trace.has members
+abbrev pub shows : FactList → (ℕ → Bool) → List Member → Traced → Bool
+shows facts among members trace = list_all among trace.from && reaches_each facts trace.has members
 
 -- a trace that the entry has passes a test
 abbrev pub refuse_unless_shown : ℕ → CertError → (Traced → Bool) → Option Traced → Option CertError
@@ -98,20 +99,20 @@ taken_column (Ranked r) = None
 taken_column (Shifted s) = None
 taken_column (OfFrame f) = column_at_frame f
 
-abbrev pub shows_column : FactList → List ℕ → Option ℕ → Traced → Bool
-shows_column facts within None trace = false
-shows_column facts within (Some c) trace = shows facts within (member.Column c ∷ []) trace
+abbrev pub shows_column : FactList → (ℕ → Bool) → Option ℕ → Traced → Bool
+shows_column facts among None trace = false
+shows_column facts among (Some c) trace = shows facts among (member.Column c ∷ []) trace
 
 -- over a stable frame, the trace shows the column whose value the call takes
-abbrev pub shows_value : FactList → List ℕ → Call → Traced → Bool
-shows_value facts within call trace = is_stable call.frame && shows_column facts within (taken_column call.function) trace
+abbrev pub shows_value : FactList → (ℕ → Bool) → Call → Traced → Bool
+shows_value facts among call trace = is_stable call.frame && shows_column facts among (taken_column call.function) trace
 
--- a call by its rule, of a class with these columns, over an input with so many
-abbrev pub call_refusal : ℕ → FactList → ℕ → List Traced → List ℕ → Call → Rule → Option CertError
-call_refusal node facts columns shown within call rule.Peers = refuse_unless (is_by_peers call.frame call.function) (UnjustifiedCall node)
-call_refusal node facts columns shown within call (rule.Unique n) = refuse_unless_shown node (UnjustifiedCall node) (shows facts within (member.Row ∷ [])) (slice_get shown n)
-call_refusal node facts columns shown within call (rule.Values n) = refuse_unless_shown node (UnjustifiedCall node) (shows_value facts within call) (slice_get shown n)
-call_refusal node facts columns shown within call (rule.Exchange n) = refuse_unless_shown node (UnjustifiedCall node) (shows facts within (columns_named (all_columns columns))) (slice_get shown n)
+-- a call by its rule, of a class with the columns that pass a test, over an input with so many columns
+abbrev pub call_refusal : ℕ → FactList → ℕ → List Traced → (ℕ → Bool) → Call → Rule → Option CertError
+call_refusal node facts columns shown among call rule.Peers = refuse_unless (is_by_peers call.frame call.function) (UnjustifiedCall node)
+call_refusal node facts columns shown among call (rule.Unique n) = refuse_unless_shown node (UnjustifiedCall node) (shows facts among (member.Row ∷ [])) (slice_get shown n)
+call_refusal node facts columns shown among call (rule.Values n) = refuse_unless_shown node (UnjustifiedCall node) (shows_value facts among call) (slice_get shown n)
+call_refusal node facts columns shown among call (rule.Exchange n) = refuse_unless_shown node (UnjustifiedCall node) (shows facts among (columns_named (all_columns columns))) (slice_get shown n)
 
 -- calls, each by its own rule; there are as many rules as calls
 abbrev pub calls_refusal : ℕ → FactList → ℕ → List Traced → WindowRule → List Call → List Rule → Option CertError
@@ -119,7 +120,7 @@ calls_refusal node facts columns shown w [] [] = None
 calls_refusal node facts columns shown w [] (r ∷ rules) = Some Count
 calls_refusal node facts columns shown w (call ∷ calls) [] = Some Count
 calls_refusal node facts columns shown w (call ∷ calls) (r ∷ rules) =
-    or_else (call_refusal node facts columns shown (class_columns (class_at w call.class)) call r) (calls_refusal node facts columns shown w calls rules)
+    or_else (call_refusal node facts columns shown (is_in (class_columns (class_at w call.class))) call r) (calls_refusal node facts columns shown w calls rules)
 
 abbrev pub is_exchange : Rule → Bool
 is_exchange rule.Peers = false
@@ -156,7 +157,7 @@ is_whole_or_ties limit = nat_eq limit.offset 0 && (not (is_some limit.count) || 
 abbrev pub limit_refusal : ℕ → FactList → ℕ → List Traced → LimitRule → Option ℕ → Option CertError
 limit_refusal node facts columns shown limit None = refuse_unless (is_whole_or_ties limit) (UnjustifiedLimit node)
 limit_refusal node facts columns shown limit (Some n) =
-    refuse_unless_shown node (UnjustifiedLimit node) (shows facts (order_columns (limit_class limit)) (columns_named (all_columns columns))) (slice_get shown n)
+    refuse_unless_shown node (UnjustifiedLimit node) (shows facts (is_in (order_columns (limit_class limit))) (columns_named (all_columns columns))) (slice_get shown n)
 
 -- ---- the entry of a plan's top node
 

@@ -1,24 +1,15 @@
 -- Traces: what a list of columns reaches by the given facts that are used, one after another.
-use Rattle.std.specs.Prelude.{ℕ, Bool, true, false, ◌&&◌, ◌||◌, List, [], ◌∷◌, nat_eq, nat_lt, nat_le, slice_get, Option, Some, None, Result, Ok, Err, if◌then◌else◌}
-use Rattle.std.specs.List.{list_any, list_all}
+use Rattle.std.specs.Prelude.{ℕ, Bool, true, false, ◌&&◌, ◌||◌, List, [], ◌∷◌, nat_lt, nat_le, slice_get, Option, Some, None, Result, Ok, Err, if◌then◌else◌}
+use Rattle.std.specs.List.{list_all}
 use Rattle.wd_certificate.specs.Certificates.{TraceRecord}
 use Rattle.wd_certificate.specs.declared.error.CertError.{CertError}
 use Rattle.wd_certificate.specs.declared.error.CertError.TheVariants.{UnreachedUse, OutOfRange}
 use Rattle.wd_facts.specs.declared.facts.Member.{Member}
 use Rattle.wd_facts.specs.declared.facts.Member.TheVariants.{Column, Left, Right, Row}
 use Rattle.wd_facts.specs.Facts.{Fact, FactList, columns_named}
+use Rattle.wd_sets.specs.Sets.{stands_in}
 
 -- ---- what members reach
-
-abbrev pub same_member : Member → Member → Bool
-same_member (Column c) (Column d) = nat_eq c d
-same_member Left Left = true
-same_member Right Right = true
-same_member Row Row = true
-same_member a b = false
-
-abbrev pub stands_in : List Member → Member → Bool
-stands_in s m = list_any (same_member m) s
 
 -- both sides bring the row
 abbrev pub has_row : Option ℕ → (Member → Bool) → Bool

@@ -108,14 +108,16 @@ nodes_refusal tables (Window w input) first nodes = or_else (nodes_refusal table
 nodes_refusal tables (Distinct input) first nodes = or_else (nodes_refusal tables input first nodes) (top_refusal tables (Distinct input) first nodes)
 nodes_refusal tables (Limit limit input) first nodes = or_else (nodes_refusal tables input first nodes) (top_refusal tables (Limit limit input) first nodes)
 
--- By what a certificate is refused: another number of entries than the plan has nodes; a limit that stands outside a Limit;
--- another number of rules than a node has calls; then the first refusal in postorder.
-abbrev pub first_refusal : List TableRule → PlanTree → List NodeRecord → Option CertError
-first_refusal tables plan nodes =
+-- a plan's entries have its form: one for each node; limits at Limits alone; as many rules as a node has calls
+abbrev pub form_refusal : PlanTree → List NodeRecord → Option CertError
+form_refusal plan nodes =
     or_else (refuse_unless (nat_eq (length nodes) (node_count plan)) Count)
     (or_else (refuse_unless (all_entries has_its_limit plan 0 nodes) Shape)
-    (or_else (refuse_unless (all_entries has_its_calls plan 0 nodes) Count)
-    (nodes_refusal tables plan 0 nodes)))
+    (refuse_unless (all_entries has_its_calls plan 0 nodes) Count))
+
+-- by what a certificate is refused: by its form, then by the first refusal in postorder
+abbrev pub first_refusal : List TableRule → PlanTree → List NodeRecord → Option CertError
+first_refusal tables plan nodes = or_else (form_refusal plan nodes) (nodes_refusal tables plan 0 nodes)
 
 -- a valid certificate is one that is not refused
 abbrev pub IsValidCertificate : List TableRule → PlanTree → List NodeRecord → Type 0

@@ -8,7 +8,8 @@ use Rattle.wd_plan.specs.Plans.{PlanTree, plan_of}
 use Rattle.wd_query.specs.declared.read.PlannedQuery.{PlannedQuery}
 use Rattle.wd_query.specs.Readings.{IsRead}
 use Rattle.wd_resolve.specs.Answers.{resolved_of}
-use Rattle.wd_run.specs.Causes.{ForReading, HasCause, HasDataCause, HasNameCause, HasStepCause}
+use Rattle.wd_query.proofs.ForReadings.{for_reading}
+use Rattle.wd_run.specs.Causes.{HasCause, HasDataCause, HasNameCause, HasStepCause}
 use Rattle.wd_run.specs.Loads.{GivesOutcome, RefusesData, RefusesOutcome, RefusesPlan}
 use Rattle.wd_run.specs.Runs.{HasData, HoldsData, IsAnswer}
 use Rattle.wd_run.specs.declared.error.RunError.{RunError}
@@ -27,13 +28,10 @@ module _ (schema query : List ℕ) (given : List (List ℕ × List ℕ)) (planne
     named = refl;
   }
 
-  for_reading : (P : List TableRule → PlanTree → Type 0) → P (schema_of planned.schema) (plan_of planned.resolved.plan) → ForReading schema query P
-  for_reading P h = (resolved_of planned.resolved, is.reads, subst (λ tables. P tables (plan_of planned.resolved.plan)) (sym is.tables) h)
-
   pub HasCause-from_outcome : (e : RunError) → RefusesOutcome (schema_of planned.schema) given (plan_of planned.resolved.plan) e → HasCause schema query given e
-  HasCause-from_outcome (run.Given name) cause = for_reading (λ tables plan. HasNameCause tables given plan name) cause
-  HasCause-from_outcome (run.Data name error) cause = for_reading (λ tables plan. HasDataCause tables given name error) cause
-  HasCause-from_outcome (run.Evaluation error) cause = for_reading (λ tables plan. HasStepCause tables given plan error) cause
+  HasCause-from_outcome (run.Given name) cause = for_reading schema query planned is (λ tables plan. HasNameCause tables given plan name) cause
+  HasCause-from_outcome (run.Data name error) cause = for_reading schema query planned is (λ tables plan. HasDataCause tables given name error) cause
+  HasCause-from_outcome (run.Evaluation error) cause = for_reading schema query planned is (λ tables plan. HasStepCause tables given plan error) cause
   HasCause-from_outcome run.OutOfMemory h = tt
   HasCause-from_outcome (run.Texts error) h = absurd h
 

@@ -2,6 +2,7 @@
 use Rattle.std.specs.Prelude.{◌≡◌, ◌≢◌, ◌⊎◌, ℕ, ⊤, List, ◌∷◌, ◌++◌, Option, Some, None, All, Any}
 use Rattle.wd_schema.specs.Tables.{TableRule}
 use Rattle.wd_query.specs.Causes.{HasTextCause, text_number, text_place}
+use Rattle.wd_query.specs.Readings.{ForReading}
 use Rattle.wd_query.specs.declared.error.TextError.TheVariants as text
 use Rattle.wd_resolve.specs.Answers.{Answer}
 use Rattle.wd_resolve.specs.Laws.{Reads}
@@ -83,10 +84,6 @@ pub record HasStepCause (tables : List TableRule) (given : List (List ℕ × Lis
   pub instance : Instance
   pub data_holds : HoldsData tables given instance
   pub cause : IsRunRefused plan instance error
-
--- the texts read as a plan over the schema's tables, of which this holds
-abbrev pub ForReading : List ℕ → List ℕ → (List TableRule → PlanTree → Type 0) → Type 0
-ForReading schema query P = (read : Answer) × (reads : Reads schema query read) × P reads.tables read.plan
 
 -- a refusal's cause stands in the inputs; where memory runs out none need
 abbrev pub HasCause : List ℕ → List ℕ → List (List ℕ × List ℕ) → RunError → Type 0

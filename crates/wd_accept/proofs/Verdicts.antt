@@ -1,0 +1,43 @@
+-- What an accepted certificate implies for each reading of the texts.
+use Rattle.std.proofs.Common.{◌≡◌, ℕ, List, Option, Some, None, ◌∙◌, ap, subst, sym, true, is_some, inl, inr}
+use Rattle.std.proofs.lemmas.Bool.{false≢true}
+use Rattle.wd_schema.specs.Laws.{HasOneMeaning}
+use Rattle.wd_schema.specs.Tables.{TableRule}
+use Rattle.wd_plan.specs.Plans.{PlanTree}
+use Rattle.wd_certificate.specs.Laws.{IsReadBack, SpellsOne}
+use Rattle.wd_certificate.specs.Refusals.{number_of}
+use Rattle.wd_certificate.specs.declared.error.CertError.{CertError}
+use Rattle.wd_resolve.specs.Answers.{Answer}
+use Rattle.wd_resolve.specs.Laws.{HasOnePlan, PlansFit, Reads}
+use Rattle.wd_rules.specs.Laws.{ValidHasOne}
+use Rattle.wd_rules.specs.Validity.{first_refusal}
+use Rattle.wd_accept.specs.Acceptance.{RefusesPlan, SpellsValid}
+use Rattle.wd_accept.specs.Laws.{AcceptedHasOne, NotBoth}
+
+-- what holds of one reading holds of each
+every : HasOneMeaning → HasOnePlan → (schema query : List ℕ) (P : List TableRule → PlanTree → Type 0) (first second : Answer) (a : Reads schema query first) (b : Reads schema query second) → P a.tables first.plan → P b.tables second.plan
+every one_meaning one_plan schema query P first second a b h =
+    subst (λ tables. P tables second.plan) (one_meaning schema a.tables b.tables a.declares b.declares)
+    (subst (λ (read : Answer). P a.tables read.plan) (one_plan schema query first second a b) h)
+
+pub accepted_has_one : HasOneMeaning → HasOnePlan → PlansFit → ValidHasOne → AcceptedHasOne
+accepted_has_one one_meaning one_plan plans_fit valid_has_one schema query certificate accepted read reads =
+    let valid = every one_meaning one_plan schema query (SpellsValid certificate) accepted.0 read accepted.1 reads accepted.2 in
+    valid_has_one reads.tables read.plan valid.0 (plans_fit reads.tables reads.tree read reads.means) valid.2
+
+no_refusal : (o : Option CertError) (refusal : CertError) → o ≡ None → o ≡ Some refusal → ⊥
+no_refusal o refusal e f = false≢true (ap is_some (sym e ∙ f))
+
+pub not_both : HasOneMeaning → HasOnePlan → SpellsOne → IsReadBack → NotBoth
+not_both one_meaning one_plan spells_one is_read_back schema query certificate refusal accepted some refused =
+    by (every one_meaning one_plan schema query (SpellsValid certificate) accepted.0 refused.0 accepted.1 refused.1 accepted.2) refused.2
+  where
+    tables : List TableRule
+    tables = refused.1.tables
+
+    plan : PlanTree
+    plan = refused.0.plan
+
+    by : SpellsValid certificate tables plan → RefusesPlan refusal certificate tables plan → ⊥
+    by valid (inl cause) = false≢true (subst (λ e. is_some (number_of e) ≡ true) ((is_read_back certificate valid.0 valid.1).1 refusal cause) some)
+    by valid (inr cause) = no_refusal (first_refusal tables plan cause.0) refusal (subst (λ nodes. first_refusal tables plan nodes ≡ None) (sym (spells_one certificate 1 1 cause.0 valid.0 cause.1 valid.1).1) valid.2) cause.2

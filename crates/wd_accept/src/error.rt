@@ -1,0 +1,60 @@
+//! Why a certificate is not accepted.
+
+ghost use Rattle.std.specs.Prelude.{◌≡◌};
+ghost use Rattle.wd_accept.specs.Acceptance.{origin_of, verify_number, verify_place};
+
+use thiserror::Error;
+use wd_certificate::CertError;
+use wd_query::TextError;
+
+/// Why a certificate's text is not accepted for the texts of a schema and a query.
+#[derive(Debug, Drop, Error)]
+pub enum VerifyError {
+    /// The schema's text or the query's is refused.
+    #[error(transparent)]
+    Texts(TextError),
+    /// 501 to 510: the certificate's text is refused, or the certificate is not valid for the plan.
+    #[error(transparent)]
+    Certificate(CertError),
+}
+
+/// Which of its inputs a refusal is about.
+#[derive(Clone, Copy, Debug, PartialEq, Eq)]
+pub enum VerifyOrigin {
+    Schema,
+    Query,
+    Certificate,
+}
+
+impl VerifyError {
+    /// The refusal's number, and None where memory runs out.
+    pub fn number(&self) -> Option<u32>
+        ensures { result ≡ verify_number self.now }
+    {
+        match self {
+            VerifyError::Texts(error) => error.number(),
+            VerifyError::Certificate(error) => error.number(),
+        }
+    }
+
+    /// The byte, the token or the node that the refusal is about.
+    pub fn place(&self) -> Option<u64>
+        ensures { result ≡ verify_place self.now }
+    {
+        match self {
+            VerifyError::Texts(error) => error.place(),
+            VerifyError::Certificate(error) => error.place(),
+        }
+    }
+
+    /// Which of the inputs the refusal is about.
+    pub fn origin(&self) -> VerifyOrigin
+        ensures { result ≡ origin_of self.now }
+    {
+        match self {
+            VerifyError::Texts(TextError::Schema(_)) => VerifyOrigin::Schema,
+            VerifyError::Texts(TextError::Query(_)) => VerifyOrigin::Query,
+            VerifyError::Certificate(_) => VerifyOrigin::Certificate,
+        }
+    }
+}

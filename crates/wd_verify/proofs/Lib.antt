@@ -1,0 +1,5 @@
+pub mod Calls
+pub mod Claims
+pub mod Columns
+pub mod Joins
+pub mod Members

@@ -1,0 +1,10 @@
+use Rattle.std.proofs.Common.{◌≡◌}
+use Rattle.wd_facts.specs.Facts.{columns_named, facts_of}
+use Rattle.wd_facts.specs.Given.{all_columns}
+use Rattle.wd_sets.specs.Sets.{has}
+use Rattle.wd_rules.specs.Traces.{reaches_each}
+use Rattle.wd_verify.proofs.Columns.{columns_from}
+use Rattle.wd_verify.proofs.rules.reaches_all.Given as goal
+
+abbrev pub invariant-loop-column : goal.invariant-loop-column
+invariant-loop-column l = reaches_each (facts_of l.facts) (has l.set) (columns_named (columns_from l.column l.columns)) ≡ reaches_each (facts_of l.facts) (has l.set) (columns_named (all_columns l.columns))

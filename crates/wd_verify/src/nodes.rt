@@ -1,0 +1,174 @@
+//! The entries of a plan's nodes in postorder.
+
+ghost use Rattle.std.specs.Prelude.{◌≡◌, ◌≢◌, ◌+◌, ◌-◌, ◌≤◌, ◌<◌, true, length, map, None, Some, IfOk, IfErr, IfSome, IfNone};
+ghost use Rattle.wd_schema.specs.Schemas.{schema_of};
+ghost use Rattle.wd_plan.specs.Fits as fitting;
+ghost use Rattle.wd_plan.specs.Plans.{node_count, plan_of};
+ghost use Rattle.wd_certificate.specs.Certificates.{node_of};
+ghost use Rattle.wd_facts.specs.Facts.{fact_of, kept_by};
+ghost use Rattle.wd_facts.specs.Given.{given};
+ghost use Rattle.wd_facts.specs.Laws.{AreOfChildren, ArePlain};
+ghost use Rattle.wd_rules.specs.Rules as rules;
+ghost use Rattle.wd_rules.specs.Validity as spec;
+
+use crate::entry::{check_entry, kept_facts, width};
+use std::alloc::Global;
+use wd_certificate::{CertError, Node};
+use wd_facts::Given;
+use wd_plan::Plan;
+use wd_schema::Schema;
+
+/// How many of so many entries are left where each node of the plan has one.
+pub(crate) fn left_over(plan: &Plan, entries: usize) -> Option<usize>
+    ensures enough { IfSome result (λ n. n + node_count (plan_of plan.now) ≡ entries) }
+    ensures few { IfNone result (entries < node_count (plan_of plan.now)) }
+{
+    let left = match plan {
+        Plan::Scan { .. } => entries,
+        Plan::Join { left, right, .. } => left_over(right, left_over(left, entries)?)?,
+        Plan::Filter { input, .. }
+        | Plan::Map { input, .. }
+        | Plan::Window { input, .. }
+        | Plan::Distinct { input }
+        | Plan::Limit { input, .. } => left_over(input, entries)?,
+    };
+    left.checked_sub(1)
+}
+
+/// A limit stands at a Limit alone.
+fn has_its_limit(plan: &Plan, entry: &Node) -> bool
+    ensures { result ≡ spec.has_its_limit (plan_of plan.now) (node_of entry.now) }
+{
+    match plan {
+        Plan::Limit { .. } => true,
+        _ => entry.limit.is_none(),
+    }
+}
+
+/// As many rules as calls.
+fn has_its_calls(plan: &Plan, entry: &Node) -> bool
+    ensures { result ≡ spec.has_its_calls (plan_of plan.now) (node_of entry.now) }
+{
+    match plan {
+        Plan::Window { window, .. } => entry.calls.len() == window.calls.len(),
+        _ => entry.calls.is_empty(),
+    }
+}
+
+/// What a first look over the entries of a plan sees.
+#[derive(Drop)]
+pub(crate) struct Seen {
+    /// The number behind the plan's top node.
+    next: usize,
+    /// Whether limits stand at Limits alone.
+    pub(crate) limits: bool,
+    /// Whether each node has as many rules as calls.
+    pub(crate) calls: bool,
+}
+
+/// A look over the entries of a plan, which begin at a number.
+pub(crate) fn look_over(plan: &Plan, nodes: &[Node], first: usize) -> Seen
+    requires { first + node_count (plan_of plan.now) ≤ length nodes.now }
+    ensures next { result.next ≡ first + node_count (plan_of plan.now) }
+    ensures limits { result.limits ≡ spec.all_entries spec.has_its_limit (plan_of plan.now) first (map node_of nodes.now) }
+    ensures calls { result.calls ≡ spec.all_entries spec.has_its_calls (plan_of plan.now) first (map node_of nodes.now) }
+{
+    let below = match plan {
+        Plan::Scan { .. } => Seen {
+            next: first,
+            limits: true,
+            calls: true,
+        },
+        Plan::Join { left, right, .. } => {
+            let left = look_over(left, nodes, first);
+            let right = look_over(right, nodes, left.next);
+            Seen {
+                next: right.next,
+                limits: left.limits && right.limits,
+                calls: left.calls && right.calls,
+            }
+        }
+        Plan::Filter { input, .. }
+        | Plan::Map { input, .. }
+        | Plan::Window { input, .. }
+        | Plan::Distinct { input }
+        | Plan::Limit { input, .. } => look_over(input, nodes, first),
+    };
+    let entry = &nodes[below.next];
+    Seen {
+        next: below.next + 1,
+        limits: below.limits && has_its_limit(plan, entry),
+        calls: below.calls && has_its_calls(plan, entry),
+    }
+}
+
+/// What a plan keeps whose entries are valid.
+#[derive(Drop)]
+pub(crate) struct Checked {
+    /// The number behind the plan's top node.
+    next: usize,
+    /// The facts that the top node's entry keeps.
+    kept: Vec<Given>,
+}
+
+/// The entry of a plan's top node, which has this number, and whose children keep these facts.
+#[tactic(auto, using(wd_plan::proofs::Ranges::narrow))]
+fn check_top(
+    alloc: Global,
+    plan: &Plan,
+    schema: &Schema,
+    nodes: &[Node],
+    number: usize,
+    kept: &[&[Given]],
+) -> Result<Checked, CertError>
+    requires fits { fitting.fits (schema_of schema.now) (plan_of plan.now) ≡ true }
+    requires within { number < length nodes.now }
+    requires named { AreOfChildren (plan_of plan.now) (kept_by kept.now 0) (kept_by kept.now 1) }
+    ensures next { IfOk result (λ c. c.next ≡ number + 1) }
+    ensures plain { IfOk result (λ c. ArePlain (fitting.width (plan_of plan.now)) (map fact_of c.kept.items)) }
+    ensures kept { IfOk result (λ c. map fact_of c.kept.items ≡ rules.kept_facts (spec.entry_at (map node_of nodes.now) number)) }
+    ensures passed { IfOk result (λ _. rules.entry_refusal number (given (schema_of schema.now) (plan_of plan.now) (kept_by kept.now 0) (kept_by kept.now 1)) (plan_of plan.now) (spec.entry_at (map node_of nodes.now) number) ≡ None) }
+    ensures refused { IfErr result (λ e. e ≢ CertError.OutOfMemory → rules.entry_refusal number (given (schema_of schema.now) (plan_of plan.now) (kept_by kept.now 0) (kept_by kept.now 1)) (plan_of plan.now) (spec.entry_at (map node_of nodes.now) number) ≡ Some e) }
+{
+    let entry = &nodes[number];
+    check_entry(alloc, plan, schema, number as u64, entry, kept)?;
+    let kept = kept_facts(alloc, width(plan), entry)?;
+    Ok(Checked {
+        next: number + 1,
+        kept,
+    })
+}
+
+/// The entries of a plan's nodes, which begin at a number.
+pub(crate) fn check_nodes(
+    alloc: Global,
+    plan: &Plan,
+    schema: &Schema,
+    nodes: &[Node],
+    first: usize,
+) -> Result<Checked, CertError>
+    requires fits { fitting.fits (schema_of schema.now) (plan_of plan.now) ≡ true }
+    requires within { first + node_count (plan_of plan.now) ≤ length nodes.now }
+    ensures next { IfOk result (λ c. c.next ≡ first + node_count (plan_of plan.now)) }
+    ensures plain { IfOk result (λ c. ArePlain (fitting.width (plan_of plan.now)) (map fact_of c.kept.items)) }
+    ensures kept { IfOk result (λ c. map fact_of c.kept.items ≡ rules.kept_facts (spec.top_at (plan_of plan.now) first (map node_of nodes.now))) }
+    ensures passed { IfOk result (λ _. spec.nodes_refusal (schema_of schema.now) (plan_of plan.now) first (map node_of nodes.now) ≡ None) }
+    ensures refused { IfErr result (λ e. e ≢ CertError.OutOfMemory → spec.nodes_refusal (schema_of schema.now) (plan_of plan.now) first (map node_of nodes.now) ≡ Some e) }
+{
+    match plan {
+        Plan::Scan { .. } => check_top(alloc, plan, schema, nodes, first, &[]),
+        Plan::Join { left, right, .. } => {
+            let left = check_nodes(alloc, left, schema, nodes, first)?;
+            let right = check_nodes(alloc, right, schema, nodes, left.next)?;
+            check_top(alloc, plan, schema, nodes, right.next, &[&left.kept, &right.kept])
+        }
+        Plan::Filter { input, .. }
+        | Plan::Map { input, .. }
+        | Plan::Window { input, .. }
+        | Plan::Distinct { input }
+        | Plan::Limit { input, .. } => {
+            let below = check_nodes(alloc, input, schema, nodes, first)?;
+            check_top(alloc, plan, schema, nodes, below.next, &[&below.kept])
+        }
+    }
+}

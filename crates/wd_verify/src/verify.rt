@@ -1,0 +1,72 @@
+//! Whether a certificate is valid.
+
+ghost use Rattle.std.specs.Prelude.{◌≡◌, ◌≢◌, true, map, None, Some, IfOk, IfErr};
+ghost use Rattle.wd_schema.specs.Schemas.{schema_of};
+ghost use Rattle.wd_plan.specs.Fits.{fits};
+ghost use Rattle.wd_plan.specs.Plans.{plan_of};
+ghost use Rattle.wd_certificate.specs.Certificates.{node_of, nodes_of};
+ghost use Rattle.wd_rules.specs.Laws.{AlwaysShows, HasOneAnswer};
+ghost use Rattle.wd_rules.specs.Validity.{IsValidCertificate, first_refusal, form_refusal};
+ghost use Rattle.wd_verify.specs.Shown.{refusal_of};
+
+use crate::nodes::{check_nodes, left_over, look_over};
+use std::alloc::Global;
+use wd_certificate::{CertError, Certificate, Node};
+use wd_plan::Plan;
+use wd_schema::Schema;
+
+/// Whether the entries have the form that the plan asks for: one for each node, limits at Limits alone, a rule for each call.
+fn check_form(plan: &Plan, nodes: &[Node]) -> Result<(), CertError>
+    ensures { refusal_of result ≡ form_refusal (plan_of plan.now) (map node_of nodes.now) }
+{
+    if left_over(plan, nodes.len()) != Some(0) {
+        return Err(CertError::Count);
+    }
+    let seen = look_over(plan, nodes, 0);
+    if !seen.limits {
+        return Err(CertError::Shape);
+    }
+    if !seen.calls {
+        return Err(CertError::Count);
+    }
+    Ok(())
+}
+
+/// The checks of a certificate, in their order.
+fn check(
+    alloc: Global,
+    plan: &Plan,
+    schema: &Schema,
+    nodes: &[Node],
+) -> Result<(), CertError>
+    requires { fits (schema_of schema.now) (plan_of plan.now) ≡ true }
+    ensures passed { IfOk result (λ _. first_refusal (schema_of schema.now) (plan_of plan.now) (map node_of nodes.now) ≡ None) }
+    ensures refused { IfErr result (λ e. e ≢ CertError.OutOfMemory → first_refusal (schema_of schema.now) (plan_of plan.now) (map node_of nodes.now) ≡ Some e) }
+{
+    check_form(plan, nodes)?;
+    check_nodes(alloc, plan, schema, nodes, 0)?;
+    Ok(())
+}
+
+/// Checks a certificate against a plan that fits the schema. Accepted is exactly a valid certificate; where it is accepted,
+/// what its nodes keep and what is given at them holds in their rows, over each instance that meets the schema and under any
+/// valid choice, and the plan has one answer.
+///
+/// # Errors
+/// The first refusal, which is looked for in this order: 504 where the certificate has another number of nodes than the plan,
+/// 502 for a limit at a node that is no Limit, 504 for another number of rules than a node has calls; then, node by node in
+/// postorder, 505 to 510 of its traces, of what it keeps, and of its calls or its limit. Out of memory.
+pub fn verify_plan(
+    alloc: Global,
+    plan: &Plan,
+    schema: &Schema,
+    certificate: &Certificate,
+) -> Result<(), CertError>
+    requires { fits (schema_of schema.now) (plan_of plan.now) ≡ true }
+    ensures valid { IfOk result (λ _. IsValidCertificate (schema_of schema.now) (plan_of plan.now) (nodes_of certificate.now)) }
+    ensures refused { IfErr result (λ e. e ≢ CertError.OutOfMemory → first_refusal (schema_of schema.now) (plan_of plan.now) (nodes_of certificate.now) ≡ Some e) }
+    ensures shows { IfOk result (λ _. AlwaysShows (schema_of schema.now) (plan_of plan.now) (nodes_of certificate.now)) }
+    ensures one_answer { IfOk result (λ _. HasOneAnswer (schema_of schema.now) (plan_of plan.now)) }
+{
+    check(alloc, plan, schema, &certificate.nodes)
+}
