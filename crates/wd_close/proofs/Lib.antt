@@ -1,0 +1,15 @@
+pub mod Lists
+pub mod Ranges
+pub mod Counts
+pub mod Names
+pub mod Gives
+pub mod JoinSides
+pub mod Model
+pub mod Queue
+pub mod Steps
+pub mod Step
+pub mod Ends
+pub mod Watching
+pub mod Once
+pub mod Loop
+pub mod Worked

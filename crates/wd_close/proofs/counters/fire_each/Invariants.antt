@@ -1,0 +1,9 @@
+use Rattle.std.proofs.Common.{◌≡◌, ◌-◌, map, length}
+use Rattle.std.specs.List.{range_with_len}
+use Rattle.wd_facts.specs.Facts.{fact_of}
+use Rattle.wd_close.specs.Reached.{Mirrors}
+use Rattle.wd_close.specs.Reached as spec
+use Rattle.wd_close.proofs.counters.fire_each.Given as goal
+
+abbrev pub invariant-loop-fact : goal.invariant-loop-fact
+invariant-loop-fact l = Mirrors l.set l.queue.items × (spec.fired (map fact_of l.list) l.counters l.queue.items (range_with_len l.fact (length l.list - l.fact)) ≡ spec.fired (map fact_of l.list) l.counters l.fn.queue.items (range_with_len 0 (length l.list)))

@@ -1,0 +1,60 @@
+-- What columns give by facts: what they give in each row list in which the facts hold (SQL, functional dependencies).
+use Rattle.std.specs.Prelude.{◌≡◌, ℕ, ◌+◌, ◌-◌, ◌↔◌, Bool, true, ◌&&◌, List, [], ◌∷◌, count_by, sum_by, nat_lt, nat_le, Option, Some, None, is_some}
+use Rattle.std.specs.List.{AllByRecursion, list_all, range_with_len}
+use Rattle.wd_facts.specs.declared.facts.Member.{Member}
+use Rattle.wd_facts.specs.declared.facts.Member.TheVariants.{Column, Left, Right, Row}
+use Rattle.wd_facts.specs.Facts.{Fact, FactList, Paired, Holds, columns_named, key_fact}
+use Rattle.wd_sets.specs.Sets.{stands_in}
+
+-- ---- names
+
+-- what facts may name: a column of theirs, a side where there are sides, the row
+abbrev pub is_named : FactList → Member → Bool
+is_named facts (Column c) = nat_lt c facts.columns
+is_named facts Left = is_some facts.split
+is_named facts Right = is_some facts.split
+is_named facts Row = true
+
+-- facts that name nothing else
+abbrev pub are_named : FactList → Bool
+are_named facts = list_all (λ (fact : Fact). list_all (is_named facts) fact.from && list_all (is_named facts) fact.to) facts.list
+
+-- the left side's columns are among all columns
+abbrev pub is_split_within : Option ℕ → ℕ → Bool
+is_split_within None columns = true
+is_split_within (Some split) columns = nat_le split columns
+
+-- ---- what columns give
+
+abbrev pub columns_between : ℕ → ℕ → List Member
+columns_between a b = columns_named (range_with_len a (b - a))
+
+-- at a Join each side gives its columns, and both give the row
+abbrev pub side_facts : Option ℕ → ℕ → List Fact
+side_facts None columns = []
+side_facts (Some split) columns =
+    record { from = Left ∷ []; to = columns_between 0 split }
+    ∷ record { from = Right ∷ []; to = columns_between split columns }
+    ∷ record { from = Left ∷ Right ∷ []; to = Row ∷ [] }
+    ∷ []
+
+-- in all rows in which the facts hold, and those of the sides, the columns give the member
+abbrev pub Follows : FactList → List ℕ → Member → Type 0
+Follows facts columns m =
+    (n : Paired) → AllByRecursion (Holds n) (side_facts facts.split facts.columns) → AllByRecursion (Holds n) facts.list → Holds n (key_fact m columns)
+
+-- a set has just what columns give
+abbrev pub IsClosure : FactList → List ℕ → (Member → Bool) → Type 0
+IsClosure facts columns has = (m : Member) → (has m ≡ true) ↔ ((is_named facts m ≡ true) × Follows facts columns m)
+
+-- ---- steps
+
+-- all that facts over so many columns may name
+abbrev pub all_members : ℕ → List Member
+all_members columns = Row ∷ Left ∷ Right ∷ columns_between 0 columns
+
+-- the steps to a set: one for each of its members, and for each fact one for each different member of its left side there
+abbrev pub steps_of : FactList → (Member → Bool) → ℕ
+steps_of facts has =
+    let all = all_members facts.columns in
+    count_by has all + sum_by (λ (fact : Fact). count_by (λ m. has m && stands_in fact.from m) all) facts.list

@@ -1,0 +1,100 @@
+//! For each fact, how many members of its left side are not reached yet.
+
+ghost use Rattle.std.specs.Prelude.{◌≡◌, map, length, IfOk, option_map};
+ghost use Rattle.std.specs.List.{range_with_len};
+ghost use Rattle.wd_facts.specs.Facts.{fact_of};
+ghost use Rattle.wd_close.specs.Reached.{Mirrors};
+ghost use Rattle.wd_close.specs.Reached as spec;
+
+use crate::reached::add_all;
+use wd_facts::{Given, Member};
+use wd_sets::Set;
+use wd_value::OutOfMemory;
+
+/// The counters of these facts fall.
+#[tactic(auto, using(std::proofs::lemmas::List::set_past))]
+pub(crate) fn fall(counters: &mut [usize], watchers: &[usize])
+    ensures { counters.new ≡ spec.fallen counters.old watchers.now }
+{
+    for fact in watchers {
+        if *fact < counters.len() {
+            counters[*fact] = counters[*fact].saturating_sub(1);
+        }
+    }
+}
+
+/// Whether all of a fact's left side is reached.
+fn is_done(counters: &[usize], fact: usize) -> bool
+    ensures { result ≡ spec.is_done counters.now fact }
+{
+    fact < counters.len() && counters[fact] == 0
+}
+
+/// Reaches a fact's right side.
+fn add_fact(fact: Option<&Given>, set: &mut Set, queue: &mut Vec<Member>) -> Result<(), OutOfMemory>
+    requires mirrors { Mirrors set.old queue.old.items }
+    ensures mirrors { IfOk result (λ _. Mirrors set.new queue.new.items) }
+    ensures queue { IfOk result (λ _. queue.new.items ≡ spec.with_fact queue.old.items (option_map (λ g. fact_of g.now) fact.entry)) }
+{
+    match fact {
+        None => Ok(()),
+        Some(fact) => {
+            add_all(set, queue, &fact.to)?;
+            Ok(())
+        }
+    }
+}
+
+/// Reaches a fact's right side where its counter is at 0.
+fn fire_one(
+    list: &[Given],
+    counters: &[usize],
+    set: &mut Set,
+    queue: &mut Vec<Member>,
+    fact: usize,
+) -> Result<(), OutOfMemory>
+    requires mirrors { Mirrors set.old queue.old.items }
+    ensures mirrors { IfOk result (λ _. Mirrors set.new queue.new.items) }
+    ensures queue { IfOk result (λ _. queue.new.items ≡ spec.fired_one (map fact_of list.now) counters.now queue.old.items fact) }
+{
+    if is_done(counters, fact) {
+        add_fact(list.get(fact), set, queue)?;
+    }
+    Ok(())
+}
+
+/// Those of these facts whose counters are at 0 give their right sides.
+pub(crate) fn fire(
+    list: &[Given],
+    counters: &[usize],
+    set: &mut Set,
+    queue: &mut Vec<Member>,
+    watchers: &[usize],
+) -> Result<(), OutOfMemory>
+    requires mirrors { Mirrors set.old queue.old.items }
+    ensures mirrors { IfOk result (λ _. Mirrors set.new queue.new.items) }
+    ensures queue { IfOk result (λ _. queue.new.items ≡ spec.fired (map fact_of list.now) counters.now queue.old.items watchers.now) }
+{
+    for fact in watchers {
+        fire_one(list, counters, set, queue, *fact)?;
+    }
+    Ok(())
+}
+
+/// The same of each fact.
+#[tactic(auto, using(crate::proofs::Ranges::fired_more, crate::proofs::Ranges::fired_none))]
+pub(crate) fn fire_each(
+    list: &[Given],
+    counters: &[usize],
+    set: &mut Set,
+    queue: &mut Vec<Member>,
+) -> Result<(), OutOfMemory>
+    requires mirrors { Mirrors set.old queue.old.items }
+    ensures mirrors { IfOk result (λ _. Mirrors set.new queue.new.items) }
+    ensures queue { IfOk result (λ _. queue.new.items ≡ spec.fired (map fact_of list.now) counters.now queue.old.items (range_with_len 0 (length list.now))) }
+{
+    for fact in 0..list.len() {
+        fire_one(list, counters, set, queue, fact)?;
+    }
+    Ok(())
+}

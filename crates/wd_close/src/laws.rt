@@ -1,0 +1,8 @@
+//! Laws over the definitions alone.
+
+ghost use Rattle.wd_close.specs.Examples.{ClosuresComeOut};
+
+/// What some columns give by three facts, and in how many steps.
+pub fn closures_come_out()
+    ensures { ClosuresComeOut }
+{}

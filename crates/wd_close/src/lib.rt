@@ -1,0 +1,10 @@
+//! What columns give by facts.
+#![tactic(auto)]
+
+mod closing;
+mod counters;
+pub mod laws;
+mod reached;
+mod watchers;
+
+pub use closing::{closure, closure_counted};
