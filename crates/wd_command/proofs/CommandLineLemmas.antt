@@ -1,21 +1,20 @@
--- What `clap` makes of words of which none begins with a hyphen.
-use Rattle.std.proofs.Common.{arith, ◌≡◌, ◌∙◌, ◌==◌, ℕ, Bool, true, false, suc, List, [], ◌∷◌, ◌++◌, Option, Some, None, codes, refl, sym, ap, ap₂, subst, ne_eqb, append_assoc, append-nil}
-use Rattle.std.specs.Prelude.{fold, is_some, slice_get}
+-- What `clap` makes of words of which none begins with a hyphen: the first word, which names a command, and the words of a command one by one.
+use Rattle.std.proofs.Common.{arith, ◌≡◌, ◌∙◌, ◌==◌, ◌⊎◌, ℕ, Bool, true, false, suc, List, [], ◌∷◌, map, Option, Some, None, inl, inr, codes, refl, sym, ap, ap₂, ne_eqb}
+use Rattle.std.specs.Prelude.{find, fold, is_some}
 use Rattle.std.specs.List.{All}
-use Rattle.std.specs.Option.{unwrap_or}
+use Rattle.std.specs.Option.{option_map, option_map_or}
 use lib.Pointwise.{bytes_decides}
-use Rattle.clap.specs.Walk.{Held, Names, Row, Rule, Step, Text, Walk, Waiting, after_step, all_of, finished, first_of, idle, nothing_held, plain_word, positional, reading_by, rows_after, settled, subcommand_met, value, walk, walk_from, walked, word_met}
+use Rattle.clap.specs.Walk.{Held, Names, Rule, Step, Text, Walk, Waiting, idle, option, positional, after_step, answers_to, arg_by_index, finished, nothing_held, plain_word, rows_after, settled, subcommand_met, to_positional, value, walk, walk_from, walked, word_met}
 use Rattle.clap.specs.Lexer.{long_of, short_of}
 use Rattle.std.specs.Str.{bytes_eq}
-use Rattle.clap.specs.Simple.{App, Shape, built, entered, names_of, subcommand_of}
+use Rattle.clap.specs.Simple.{App, Shape, built, built_leaf, entered, inherited, label_of, names_of, rows_at, subcommand_of}
 use Rattle.clap.specs.Kinds.{Kinds, or_else}
-use Rattle.clap.specs.Faults.{check_fault, defaults_fault, entered_fault, fault_of, level_fault, settle_fault, other_fault, step_fault, stray_fault, turn_fault, walk_fault}
-use Rattle.clap.specs.declared.parser.matches.ValueSource.TheVariants.{CommandLine}
+use Rattle.clap.specs.Faults.{check_fault, defaults_fault, entered_fault, fault_of, level_fault, other_fault, settle_fault, step_fault, turn_fault, walk_fault}
 use Rattle.clap.proofs.FaultLemmas.{stopped_fault}
 use Rattle.clap.proofs.WalkLemmas.{walk_stopped}
 use Rattle.clap.proofs.OnLiterals.{clap_on_literals}
-use Rattle.wd_command.specs.CommandLine.{command_line}
-use Rattle.wd_command.specs.Words.{IsPlain, run_line}
+use Rattle.wd_command.specs.CommandLine.{command_line, program}
+use Rattle.wd_command.specs.Words.{IsPlain}
 
 -- ---- plain words
 
@@ -37,232 +36,170 @@ no_flag (x ∷ xs) plain =
     let no_hyphen : (x == 45) ≡ false = ne_eqb x 45 plain in
     record { dashes = rw no_hyphen refl; long = rw no_hyphen refl; short = rw no_hyphen refl }
 
-pub value_met : (c : List Rule) (names : Names) (waiting : Waiting) (position : ℕ) (word : Text) (h : Held) → IsPlain word → subcommand_met names waiting word ≡ None
-    → plain_word c waiting word h ≡ (h, value) → word_met c names false waiting position word h ≡ (h, value)
-value_met c names waiting position word h plain none is =
-    let flag = no_flag word plain in
-    rw (none, flag.dashes, flag.long, flag.short) is
+-- between two words, where the next one goes to the positional with this number
+abbrev pub between : Held → Waiting → ℕ → Walk
+between h waiting position = record { held = h; waiting = waiting; position = position; is_trailing = false; stopped = None }
 
--- ---- the words of `run`
+-- before the first word
+abbrev pub start : Walk
+start = walk_from nothing_held
 
--- the program's commands and `run`, as they are built
-abbrev pub app : App
-app = built command_line
+-- a plain word that names no command goes to a positional
+module _ (names : Names) (waiting : Waiting) (position : ℕ) (word : Text) (h : Held) (plain : IsPlain word) (unnamed : subcommand_met names waiting word ≡ None) where
+  value_met : (c : List Rule) → plain_word c waiting word h ≡ (h, value) → word_met c names false waiting position word h ≡ (h, value)
+  value_met c is =
+      let flag = no_flag word plain in
+      rw (unnamed, flag.dashes, flag.long, flag.short) is
 
-abbrev pub run_shape : Shape
-run_shape = unwrap_or (slice_get app.subs 0) app.top
+  no_other : (s : Shape) → other_fault s None word h ≡ []
+  no_other s =
+      let flag = no_flag word plain in
+      rw (flag.dashes, flag.long, flag.short) refl
 
-abbrev pub rules : List Rule
-rules = run_shape.rules
+  -- its fault is that of the step
+  pub value_turn : (s : Shape) → plain_word s.rules waiting word h ≡ (h, value) → turn_fault s names (between h waiting position) word ≡ step_fault s position h value
+  value_turn s is =
+      let fault : Option Text → Held × Step → Kinds = λ met step. or_else (other_fault s met word h) (step_fault s position step.0 step.1) in
+      ap₂ fault unnamed (value_met s.rules is) ∙ ap (λ kinds. or_else kinds (step_fault s position h value)) (no_other s)
 
-abbrev pub rule_at : ℕ → Rule
-rule_at i = Rattle.std.specs.List.slice_index_or rules i (Rattle.clap.specs.Simple.new_rule [])
+-- ---- the words of a command
 
-abbrev pub row : Rule → List Text → Row
-row r values = record { id = r.id; values = values; count = None; source = Some CommandLine; reading = reading_by r }
+unnamed : (waiting : Waiting) (word : Text) → subcommand_met [] waiting word ≡ None
+unnamed idle word = refl
+unnamed (option id) word = refl
+unnamed positional word = refl
 
-abbrev pub after_schema : Text → Walk
-after_schema s = record {
-  held = record { rows = []; pending = Some (codes "schema", s ∷ []); skip = 0 };
-  waiting = idle;
-  position = 2;
-  is_trailing = false;
-  stopped = None;
-}
+-- the word has no fault
+pub record Takes (s : Shape) (before : Walk) (word : Text) (after : Walk) : Type 0 where
+  pub turn : turn_fault s [] before word ≡ []
+  pub step : walked s.rules [] before word ≡ after
 
-abbrev pub after_query : Text → Text → Walk
-after_query s q = record {
-  held = record { rows = row (rule_at 0) (s ∷ []) ∷ []; pending = Some (codes "query", q ∷ []); skip = 0 };
-  waiting = idle;
-  position = 3;
-  is_trailing = false;
-  stopped = None;
-}
+-- a plain word goes to the next positional
+pub taken : (s : Shape) (h : Held) (waiting : Waiting) (position : ℕ) (word : Text) (after : Walk) → IsPlain word → plain_word s.rules waiting word h ≡ (h, value)
+    → step_fault s position h value ≡ [] → to_positional s.rules (arg_by_index s.rules position) word (between h waiting position) h ≡ after
+    → Takes s (between h waiting position) word after
+unfolding walked
+taken s h waiting position word after plain is fine to =
+    let alone = unnamed waiting word in
+    record {
+      turn = value_turn [] waiting position word h plain alone s is ∙ fine;
+      step = ap (λ (met : Held × Step). after_step s.rules word (between h waiting position) met.0 met.1) (value_met [] waiting position word h plain alone s.rules is) ∙ to;
+    }
 
-abbrev pub after_tables : Text → Text → List Text → Walk
-after_tables s q tables = record {
-  held = record { rows = row (rule_at 0) (s ∷ []) ∷ row (rule_at 1) (q ∷ []) ∷ []; pending = Some (codes "tables", tables); skip = 0 };
-  waiting = positional;
-  position = 3;
-  is_trailing = false;
-  stopped = None;
-}
+-- the checks after the words
+abbrev pub end_fault : Shape → Held → Kinds
+end_fault s h = or_else (settle_fault s.rules s.args_override_self h)
+    (or_else (defaults_fault (settled s.rules h).rows s.rules) (check_fault s (finished s.rules h) false))
 
-abbrev stepped : Walk → Text → Held × Step → Walk
-stepped w word met = after_step rules word w met.0 met.1
+-- the fault of the words that are left
+abbrev pub rest_fault : Shape → Walk → List Text → Kinds
+rest_fault s w words = or_else (walk_fault s [] w words) (end_fault s (fold (walked s.rules []) w words).held)
 
-pub schema_step : (s : Text) → IsPlain s → walked rules [] (walk_from nothing_held) s ≡ after_schema s
-unfolding clap_on_literals
-schema_step s plain = ap (stepped (walk_from nothing_held) s) (value_met rules [] idle 1 s nothing_held plain refl refl)
+-- the fault of all the words of a command
+abbrev pub level : Shape → List Text → Kinds
+level s words = level_fault s [] nothing_held words false []
 
-pub query_step : (s q : Text) → IsPlain q → walked rules [] (after_schema s) q ≡ after_query s q
-unfolding clap_on_literals
-query_step s q plain = ap (stepped (after_schema s) q) (value_met rules [] idle 2 q (after_schema s).held plain refl refl)
+pub level_start : (s : Shape) (words : List Text) → level s words ≡ rest_fault s start words
+level_start s words = refl
 
-pub first_table_step : (s q t : Text) → IsPlain t → walked rules [] (after_query s q) t ≡ after_tables s q (t ∷ [])
-unfolding clap_on_literals
-first_table_step s q t plain = ap (stepped (after_query s q) t) (value_met rules [] idle 3 t (after_query s q).held plain refl refl)
+pub none_left : (s : Shape) (w : Walk) → rest_fault s w [] ≡ end_fault s w.held
+unfolding walk_fault
+none_left s w = refl
 
-pub table_step : (s q : Text) (seen : List Text) (t : Text) → IsPlain t → walked rules [] (after_tables s q seen) t ≡ after_tables s q (seen ++ t ∷ [])
-unfolding clap_on_literals
-table_step s q seen t plain = ap (stepped (after_tables s q seen) t) (value_met rules [] positional 3 t (after_tables s q seen).held plain refl refl)
-
-pub tables_walk : (s q : Text) (seen tables : List Text) → All IsPlain tables → fold (walked rules []) (after_tables s q seen) tables ≡ after_tables s q (seen ++ tables)
-tables_walk s q seen [] plain = ap (after_tables s q) (sym (append-nil seen))
-tables_walk s q seen (t ∷ tables) plain =
-    ap (λ w. fold (walked rules []) w tables) (table_step s q seen t (plain_first t tables plain))
-    ∙ (tables_walk s q (seen ++ t ∷ []) tables (plain_rest t tables plain) ∙ ap (after_tables s q) (append_assoc seen (t ∷ []) tables))
-
--- the walk over the words of `run`
-abbrev pub run_walk : List Text → Walk
-run_walk words = walk rules [] nothing_held words
-
-pub query_walk : (s q : Text) (tables : List Text) → IsPlain s → IsPlain q → run_walk (s ∷ q ∷ tables) ≡ fold (walked rules []) (after_query s q) tables
-query_walk s q tables plain_s plain_q =
-    ap (λ w. fold (walked rules []) (walked rules [] w q) tables) (schema_step s plain_s) ∙ ap (λ w. fold (walked rules []) w tables) (query_step s q plain_q)
-
--- what a parse finds for `run`
-pub record HasRows (schema_path query_path : Text) (words : List Text) (rows : List Row) : Type 0 where
-  pub schema : first_of (codes "schema") rows ≡ Some schema_path
-  pub query : first_of (codes "query") rows ≡ Some query_path
-  pub tables : unwrap_or (all_of (codes "tables") rows) [] ≡ words
-
-run_rows : (s q : Text) (tables : List Text) → All IsPlain (s ∷ q ∷ tables) → HasRows s q tables (rows_after rules [] (s ∷ q ∷ tables))
-unfolding clap_on_literals
-run_rows s q [] plain =
-    let end = query_walk s q [] (plain_first s (q ∷ []) plain) (plain_first q [] (plain_rest s (q ∷ []) plain)) in
-    subst (λ (w : Walk). HasRows s q [] (finished rules w.held)) (sym end) (record { schema = refl; query = refl; tables = refl })
-run_rows s q (t ∷ tables) plain =
-    let after_first = plain_rest s (q ∷ t ∷ tables) plain in
-    let after_second = plain_rest q (t ∷ tables) after_first in
-    let end : run_walk (s ∷ q ∷ t ∷ tables) ≡ after_tables s q (t ∷ tables) = query_walk s q (t ∷ tables) (plain_first s (q ∷ t ∷ tables) plain) (plain_first q (t ∷ tables) after_first)
-    ∙ (ap (λ w. fold (walked rules []) w tables) (first_table_step s q t (plain_first t tables after_second)) ∙ tables_walk s q (t ∷ []) tables (plain_rest t tables after_second)) in
-    subst (λ (w : Walk). HasRows s q (t ∷ tables) (finished rules w.held)) (sym end) (record { schema = refl; query = refl; tables = refl })
-
--- ---- faults
+pub fault_next : (s : Shape) (before after : Walk) (word : Text) (words : List Text) → Takes s before word after → rest_fault s before (word ∷ words) ≡ rest_fault s after words
+unfolding walk_fault
+fault_next s before after word words takes =
+    ap₂ (λ (kinds : Kinds) (w : Walk). or_else (or_else kinds (walk_fault s [] w words)) (end_fault s (fold (walked s.rules []) w words).held)) takes.turn takes.step
 
 or_else_first : (a b : Kinds) → or_else a b ≡ [] → a ≡ []
 or_else_first [] b none = refl
 or_else_first (k ∷ ks) b none = none
 
-or_else_second : (a b : Kinds) → or_else a b ≡ [] → b ≡ []
-or_else_second [] b none = none
-or_else_second (k ∷ ks) b none = cc
+or_else_none : (a : Kinds) → or_else a [] ≡ a
+or_else_none [] = refl
+or_else_none (k ∷ ks) = refl
 
--- where a level of the parse has no fault, its words and its last checks have none
-module _ (s : Shape) (names : Names) (words : List Text) (has : Bool) (below : Kinds) (none : level_fault s names nothing_held words has below ≡ []) where
-  end : Held
-  end = (walk s.rules names nothing_held words).held
-
-  level_walks : walk_fault s names (walk_from nothing_held) words ≡ []
-  unfolding end
-  level_walks = or_else_first (walk_fault s names (walk_from nothing_held) words) _ none
-
-  level_checks : check_fault s (finished s.rules end) has ≡ []
-  unfolding end
-  level_checks =
-      or_else_second (defaults_fault (settled s.rules end).rows s.rules) (check_fault s (finished s.rules end) has)
-      (or_else_second (settle_fault s.rules s.args_override_self end) _
-      (or_else_second below _ (or_else_second (walk_fault s names (walk_from nothing_held) words) _ none)))
-
--- `run` is wanted with a schema and a query
-level_words : (words : List Text) → All IsPlain words → level_fault run_shape [] nothing_held words false [] ≡ [] → (s : Text) × (q : Text) × (tables : List Text) × (words ≡ s ∷ q ∷ tables)
-unfolding clap_on_literals
-level_words [] plain none = cc
-level_words (s ∷ []) plain none =
-    let missing = subst (λ (w : Walk). check_fault run_shape (finished rules w.held) false ≡ []) (schema_step s (plain_first s [] plain))
-    (unfold end in level_checks run_shape [] (s ∷ []) false [] none) in
-    cc
-level_words (s ∷ q ∷ tables) plain none = (s, q, tables, refl)
+-- where the words that are left have no fault, the next one has none
+pub next_turn : (s : Shape) (w : Walk) (word : Text) (words : List Text) → rest_fault s w (word ∷ words) ≡ [] → turn_fault s [] w word ≡ []
+unfolding walk_fault
+next_turn s w word words none = or_else_first (turn_fault s [] w word) _ (or_else_first (or_else (turn_fault s [] w word) (walk_fault s [] (walked s.rules [] w word) words)) _ none)
 
 -- ---- the first word
 
-abbrev start : Walk
-start = walk_from nothing_held
+-- the program's commands, and one of them, as they are built
+abbrev pub app : App
+app = built command_line
 
-pub no_other : (s : Shape) (word : Text) (h : Held) → IsPlain word → other_fault s None word h ≡ []
-no_other s word h plain =
-    let flag = no_flag word plain in
-    rw (flag.dashes, flag.long, flag.short) refl
+abbrev pub shape : App → Shape
+shape command = built_leaf (inherited program.top command.top)
 
--- a word that names no command is refused
-stray : (word : Text) → IsPlain word → subcommand_met (names_of app) idle word ≡ None → turn_fault app.top (names_of app) start word ≡ stray_fault app.top
-stray word plain none =
-    let fault : Option Text → Held × Step → Kinds = λ met step. or_else (other_fault app.top met word nothing_held) (step_fault app.top 1 step.0 step.1) in
-    ap₂ fault none (value_met app.top.rules (names_of app) idle 1 word nothing_held plain none refl)
-    ∙ ap (λ kinds. or_else kinds (stray_fault app.top)) (no_other app.top word nothing_held plain)
+abbrev pub IsName : List Text → Text → Type 0
+IsName [] word = ⊥
+IsName (name ∷ names) word = (word ≡ name) ⊎ IsName names word
 
-abbrev stop_at : List Text → Option (Text × List Text)
-stop_at words = (walk app.top.rules (names_of app) nothing_held words).stopped
+named : (names : List Text) (word : Text) → IsName names word ⊎ (find (answers_to word) (map (λ name. (name, [])) names) ≡ None)
+named [] word = inr refl
+named (name ∷ names) word = go (bytes_eq name word) refl (named names word)
+  where
+    go : (is : Bool) → bytes_eq name word ≡ is → IsName names word ⊎ (find (answers_to word) (map (λ name. (name, [])) names) ≡ None)
+        → IsName (name ∷ names) word ⊎ (find (answers_to word) (map (λ name. (name, [])) (name ∷ names)) ≡ None)
+    go true is rest = inl (inl (sym ((bytes_decides name word).0 is)))
+    go false is (inl there) = inl (inr there)
+    go false is (inr none) = inr (rw is none)
+
+-- the names of the commands, and of `help`
+abbrev pub all_names : List Text
+all_names = codes "verify" ∷ codes "run" ∷ codes "help" ∷ []
 
 -- where the words have no fault, the first one has none
 first_turn : (word : Text) (words : List Text) → fault_of command_line (word ∷ words) ≡ [] → turn_fault app.top (names_of app) start word ≡ []
-unfolding clap_on_literals
+unfolding walk_fault
 first_turn word words none =
-    or_else_first (turn_fault app.top (names_of app) start word) (walk_fault app.top (names_of app) (walked app.top.rules (names_of app) start word) words)
-    (level_walks app.top (names_of app) (word ∷ words) (is_some (entered app (stop_at (word ∷ words)))) (entered_fault app (stop_at (word ∷ words))) none)
+    let turn = turn_fault app.top (names_of app) start word in
+    or_else_first turn _ (or_else_first (or_else turn (walk_fault app.top (names_of app) (walked app.top.rules (names_of app) start word) words)) _ none)
 
--- the first word is `run`, since a call for help is no success
-first_word : (word : Text) → IsPlain word → turn_fault app.top (names_of app) start word ≡ [] → word ≡ codes "run"
+pub first_word : (word : Text) (words : List Text) → IsPlain word → fault_of command_line (word ∷ words) ≡ [] → IsName all_names word
 unfolding clap_on_literals
-first_word word plain none = go (bytes_eq (codes "run") word) (bytes_eq (codes "help") word) refl refl
+first_word word words plain none = go (named all_names word)
   where
-    go : (is_run is_help : Bool) → bytes_eq (codes "run") word ≡ is_run → bytes_eq (codes "help") word ≡ is_help → word ≡ codes "run"
-    go true is_help run help = sym ((bytes_decides (codes "run") word).0 run)
-    go false true run help =
-        let shown = subst (λ (w : Text). turn_fault app.top (names_of app) start w ≡ []) (sym ((bytes_decides (codes "help") word).0 help)) none in
-        cc
-    go false false run help =
-        let unmet : subcommand_met (names_of app) idle word ≡ None = rw (run, help) refl in
-        let refused = sym (stray word plain unmet) ∙ none in
+    go : IsName all_names word ⊎ (find (answers_to word) (map (λ name. (name, [])) all_names) ≡ None) → IsName all_names word
+    go (inl there) = there
+    go (inr lacks) =
+        let refused = sym (value_turn (names_of app) idle 1 word nothing_held plain (ap (option_map (λ (s : Text × List Text). s.0)) lacks) app.top refl) ∙ first_turn word words none in
         cc
 
--- ---- the whole line
-
-abbrev met_run : Walk
-met_run = record start { stopped = Some (codes "run", []) }
-
--- the fault of the words after `run` is that of the whole line
-pub run_fault : (words : List Text) → fault_of command_line (codes "run" ∷ words) ≡ or_else (level_fault run_shape [] nothing_held words false []) []
+-- a call for help is no success
+pub no_help : (words : List Text) → fault_of command_line (codes "help" ∷ words) ≡ [] → ⊥
 unfolding clap_on_literals
-run_fault words =
-    let fault : Kinds → Walk → Kinds = λ first w. or_else first (or_else (entered_fault app w.stopped)
-    (or_else (settle_fault app.top.rules app.top.args_override_self w.held)
-    (or_else (defaults_fault (settled app.top.rules w.held).rows app.top.rules)
-    (check_fault app.top (finished app.top.rules w.held) (is_some (entered app w.stopped)))))) in
-    ap₂ fault (stopped_fault app.top (names_of app) start (codes "run", []) words) (sym (walk_stopped app.top.rules (names_of app) start (codes "run") [] words))
+no_help words none =
+    let shown = first_turn (codes "help") words none in
+    cc
 
-run_met : (words : List Text) → subcommand_of command_line (codes "run" ∷ words) ≡ Some (codes "run", rows_after rules [] words)
-unfolding clap_on_literals
-run_met words = ap (λ (w : Walk). entered app w.stopped) (sym (walk_stopped app.top.rules (names_of app) start (codes "run") [] words))
+-- the name of a command, and the command as it is built
+pub record IsCommand (name : Text) (s : Shape) : Type 0 where
+  pub step : walked app.top.rules (names_of app) start name ≡ record start { stopped = Some (name, []) }
+  pub turn : turn_fault app.top (names_of app) start name ≡ []
+  pub is : find (λ sub. answers_to name (label_of sub)) app.subs ≡ Some s
 
--- what words without a fault are, and what a parse finds in them
-pub record IsLine (words : List Text) : Type 0 where
-  pub schema : Text
-  pub query : Text
-  pub tables : List Text
-  pub rows : List Row
-  pub line : words ≡ run_line schema query tables
-  pub met : subcommand_of command_line words ≡ Some (codes "run", rows)
-  pub found : HasRows schema query tables rows
+module _ (name : Text) (s : Shape) (command : IsCommand name s) (words : List Text) where
+  stops : ◌≡◌ {A = Walk} (walk app.top.rules (names_of app) nothing_held (name ∷ words)) (record start { stopped = Some (name, words) })
+  stops = ap (λ w. fold (walked app.top.rules (names_of app)) w words) command.step ∙ sym (walk_stopped app.top.rules (names_of app) start name [] words)
 
-after_run : (words : List Text) → All IsPlain words → fault_of command_line (codes "run" ∷ words) ≡ [] → IsLine (codes "run" ∷ words)
-after_run words plain none =
-    let given = level_words words plain (or_else_first (level_fault run_shape [] nothing_held words false []) [] (sym (run_fault words) ∙ none)) in
-    record {
-      schema = given.0;
-      query = given.1;
-      tables = given.2;
-      rows = rows_after rules [] words;
-      line = ap (λ (rest : List Text). codes "run" ∷ rest) given.3;
-      met = run_met words;
-      found = subst (λ (ws : List Text). HasRows given.0 given.1 given.2 (rows_after rules [] ws)) (sym given.3)
-          (run_rows given.0 given.1 given.2 (subst (All IsPlain) given.3 plain));
-    }
+  passes : or_else (turn_fault app.top (names_of app) start name) (walk_fault app.top (names_of app) (walked app.top.rules (names_of app) start name) words) ≡ []
+  passes = ap₂ (λ (kinds : Kinds) (w : Walk). or_else kinds (walk_fault app.top (names_of app) w words)) command.turn command.step
+      ∙ stopped_fault app.top (names_of app) start (name, []) words
 
-pub line_of : (words : List Text) → All IsPlain words → fault_of command_line words ≡ [] → IsLine words
-line_of [] plain none = unfold clap_on_literals in cc
-line_of (word ∷ words) plain none =
-    let is_run = first_word word (plain_first word words plain) (first_turn word words none) in
-    subst (λ (w : Text). IsLine (w ∷ words)) (sym is_run)
-    (after_run words (plain_rest word words plain) (subst (λ (w : Text). fault_of command_line (w ∷ words) ≡ []) is_run none))
+  -- the fault of a line is that of the words after the command's name
+  pub command_fault : fault_of command_line (name ∷ words) ≡ level s words
+  unfolding clap_on_literals
+  command_fault =
+      let checks : Walk → Bool → Kinds = λ w has. or_else (settle_fault app.top.rules app.top.args_override_self w.held)
+      (or_else (defaults_fault (settled app.top.rules w.held).rows app.top.rules) (check_fault app.top (finished app.top.rules w.held) has)) in
+      let on_walk : Kinds → Walk → Kinds = λ first w. or_else first (or_else (entered_fault app w.stopped) (checks w (is_some (entered app w.stopped)))) in
+      let on_shape : Option Shape → Kinds = λ found. or_else (option_map_or (λ sub. level sub words) found [])
+      (checks start (is_some (option_map (λ sub. rows_at sub words) found))) in
+      ap₂ on_walk passes stops ∙ (ap on_shape command.is ∙ or_else_none (level s words))
+
+  -- what a parse enters
+  pub command_rows : subcommand_of command_line (name ∷ words) ≡ Some (s.name, rows_after s.rules [] words)
+  command_rows = ap (λ (w : Walk). entered app w.stopped) stops ∙ ap (option_map (λ sub. rows_at sub words)) command.is

@@ -1,6 +1,7 @@
 -- What was handed over by several reads.
-use Rattle.std.proofs.Common.{◌∙◌, ◌++◌, ℕ, List, [], Option, Some, None, ap, append_assoc, append-nil, refl, sym}
-use Rattle.wd_command.specs.Files.{File, HandsOver, ReadsNothing}
+use Rattle.std.proofs.Common.{◌≡◌, ◌∙◌, ◌++◌, ℕ, List, [], ◌∷◌, Option, Some, None, ap, append_assoc, append-nil, refl, sym}
+use Rattle.wd_command.specs.Commands.{data_in}
+use Rattle.wd_command.specs.Files.{File, HandsOver, Reads, ReadsNothing}
 
 pub HandsOver-trans : (before middle after : Option (List File)) (files more : List File) → HandsOver before middle files → HandsOver middle after more
     → HandsOver before after (files ++ more)
@@ -14,5 +15,10 @@ HandsOver-nil None = tt
 HandsOver-nil (Some before) = ap Some (sym (append-nil before))
 
 -- nothing was read yet
-pub ReadsNothing-refl : (handed : Option (List File)) (failures : ℕ) → ReadsNothing handed handed failures failures
-ReadsNothing-refl handed failures = record { nothing = HandsOver-nil handed; none_failed = refl }
+pub ReadsNothing-refl : (before : Reads) → ReadsNothing before before
+ReadsNothing-refl before = record { nothing = HandsOver-nil before.handed; none_failed = refl }
+
+-- tables without files have no data
+pub no_data : (tables : List (List ℕ × List ℕ)) → data_in tables [] ≡ []
+no_data [] = refl
+no_data (t ∷ tables) = refl

@@ -1,13 +1,12 @@
 -- What the program's output is, for the words of its command line and the files that it was handed.
-use Rattle.std.specs.Prelude.{◌≡◌, ℕ, List, [], ◌∷◌, ◌++◌, map, codes, All, Ok, Err}
+use Rattle.std.specs.Prelude.{◌≡◌, ℕ, List, [], ◌∷◌, ◌++◌, map, codes, drop, slice_index_or, Ok, Err}
 use Rattle.wd_value.specs.Rows.{Row}
 use Rattle.wd_value.specs.declared.value.Fault.{Fault}
 use Rattle.wd_tables.specs.Answers.{answer_text}
-use Rattle.wd_run.specs.Causes.{HasCause}
-use Rattle.wd_run.specs.declared.error.RunError.{RunError}
-use Rattle.wd_command.specs.Files.{File}
 use Rattle.wd_run.specs.Runs.{IsAnswer}
-use Rattle.wd_command.specs.Words.{IsPlain, HasNoEquals, run_line, word_of}
+use Rattle.wd_accept.specs.Acceptance.{IsAccepted}
+use Rattle.wd_command.specs.Files.{File}
+use Rattle.wd_command.specs.Words.{AskFor, Task, Verify, Run, paths_of}
 
 -- a line of text: its characters and a line feed
 abbrev pub line : List ℕ → List ℕ
@@ -19,54 +18,53 @@ usage_text = line (codes "wdcheck check SCHEMA QUERY") ++ line (codes "wdcheck e
     ++ line (codes "wdcheck verify SCHEMA QUERY CERT") ++ line (codes "wdcheck refute SCHEMA QUERY WITNESS")
     ++ line (codes "wdcheck run SCHEMA QUERY [NAME=PATH]...")
 
--- the data of a table: its name, and the file that it stands in
-pub record TableFile : Type 0 where
-  pub name : List ℕ
-  pub file : File
+-- the text of the file with a number
+abbrev pub text_at : List File → ℕ → List ℕ
+text_at files n = (slice_index_or files n ([], [])).1
 
--- what `run` reads: the files of the schema, of the query and of the tables
-pub record Inputs : Type 0 where
-  pub schema : File
-  pub query : File
-  pub tables : List TableFile
+-- the tables' names, each with the text of its file
+abbrev pub data_in : List (List ℕ × List ℕ) → List File → List (List ℕ × List ℕ)
+data_in [] files = []
+data_in (t ∷ tables) [] = []
+data_in (t ∷ tables) (f ∷ files) = (t.0, f.1) ∷ data_in tables files
 
--- the inputs are those that the words ask for, each word NAME=PATH being cut at its first `=`
-pub record AreInputsOf (words : List (List ℕ)) (inputs : Inputs) : Type 0 where
-  pub named : All IsPlain words → words ≡ run_line inputs.schema.0 inputs.query.0 (map (λ t. word_of t.name t.file.0) inputs.tables)
-  pub first : All (λ t. HasNoEquals t.name) inputs.tables
+-- ---- answers
 
--- the files of the inputs, in the order of the words
-abbrev pub files_of : Inputs → List File
-files_of inputs = inputs.schema ∷ inputs.query ∷ map (λ t. t.file) inputs.tables
-
--- the tables' names with their data
-abbrev pub data_in : List TableFile → List (List ℕ × List ℕ)
-data_in tables = map (λ t. (t.name, t.file.1)) tables
-
--- the text of an answer to the query over the data
-pub record IsAnswerText (inputs : Inputs) (text : List ℕ) : Type 0 where
+-- the text of an answer to a query over data
+pub record IsAnswerText (schema query : List ℕ) (given : List (List ℕ × List ℕ)) (text : List ℕ) : Type 0 where
   pub names : List (List ℕ)
   pub rows : List Row
-  pub answer : IsAnswer inputs.schema.1 inputs.query.1 (data_in inputs.tables) names (Ok rows)
+  pub answer : IsAnswer schema query given names (Ok rows)
   pub spelled : text ≡ answer_text names rows
 
--- the query has this fault over the data
-pub record HasFault (inputs : Inputs) (fault : Fault) : Type 0 where
+-- a query has this fault over data
+pub record HasFault (schema query : List ℕ) (given : List (List ℕ × List ℕ)) (fault : Fault) : Type 0 where
   pub names : List (List ℕ)
-  pub answer : IsAnswer inputs.schema.1 inputs.query.1 (data_in inputs.tables) names (Err fault)
+  pub answer : IsAnswer schema query given names (Err fault)
 
--- the schema, the query or the data is refused, for a cause that stands there
-abbrev pub IsRefusedWith : Inputs → RunError → Type 0
-IsRefusedWith inputs error = HasCause inputs.schema.1 inputs.query.1 (data_in inputs.tables) error
+-- what `verify` prints for the files of a schema, a query and a certificate, and its exit status
+abbrev pub AnswersVerify : List File → List ℕ → ℕ → Type 0
+AnswersVerify files text status = IsAccepted (text_at files 0) (text_at files 1) (text_at files 2) × (text ≡ line (codes "ACCEPTED")) × (status ≡ 0)
 
--- the output for the words of `run`, when these files were handed over
-pub record IsRunOutput (words : List (List ℕ)) (files : List File) (text : List ℕ) : Type 0 where
-  pub inputs : Inputs
-  pub asked : AreInputsOf words inputs
-  pub read : files ≡ files_of inputs
-  pub answered : IsAnswerText inputs text
+-- what `run` prints for the files of a schema, a query and these tables
+abbrev pub AnswersRun : List (List ℕ × List ℕ) → List File → List ℕ → ℕ → Type 0
+AnswersRun tables files text status = IsAnswerText (text_at files 0) (text_at files 1) (data_in tables (drop 2 files)) text × (status ≡ 0)
+
+-- what is printed for a task over its files
+abbrev pub HasAnswer : Task → List File → List ℕ → ℕ → Type 0
+HasAnswer (Verify schema query certificate) files text status = AnswersVerify files text status
+HasAnswer (Run schema query tables) files text status = AnswersRun tables files text status
+
+-- ---- outputs
+
+-- the output for the words of a task, when these files were handed over
+pub record IsTaskOutput (words : List (List ℕ)) (files : List File) (text : List ℕ) (status : ℕ) : Type 0 where
+  pub task : Task
+  pub asked : AskFor words task
+  pub named : map (λ f. f.0) files ≡ paths_of task
+  pub answered : HasAnswer task files text status
 
 -- the output for the words, when these files were handed over: without words the forms of the command line
-abbrev pub IsOutput : List (List ℕ) → List File → List ℕ → Type 0
-IsOutput [] files text = (files ≡ []) × (text ≡ usage_text)
-IsOutput (word ∷ words) files text = IsRunOutput (word ∷ words) files text
+abbrev pub IsOutput : List (List ℕ) → List File → List ℕ → ℕ → Type 0
+IsOutput [] files text status = (files ≡ []) × (text ≡ usage_text) × (status ≡ 0)
+IsOutput (word ∷ words) files text status = IsTaskOutput (word ∷ words) files text status

@@ -1,28 +1,35 @@
 -- Why the program ends without its output: the exit status, the line on standard error, and what stands after it.
-use Rattle.std.specs.Prelude.{◌≡◌, ◌≢◌, ℕ, ⊤, List, [], ◌++◌, codes, All, Any, Option, Some, None, IfSome}
+use Rattle.std.specs.Prelude.{◌≡◌, ◌≢◌, ℕ, ⊤, List, [], ◌∷◌, ◌++◌, codes, drop, map, All, Any, Option, Some, None, IfSome}
 use Rattle.std.specs.Fmt.{decimal}
 use Rattle.clap.specs.Values.{kind_of}
 use Rattle.clap.specs.declared.error.Error.{Error}
 use Rattle.clap.specs.declared.error.kind.ErrorKind.TheVariants as kind
 use Rattle.wd_value.specs.declared.value.Fault.{Fault as QueryFault}
 use Rattle.wd_value.specs.declared.value.Fault.TheVariants.{DivisionByZero, OutOfRange}
+use Rattle.wd_query.specs.declared.error.TextError.{TextError}
 use Rattle.wd_query.specs.declared.error.TextError.TheVariants as text
-use Rattle.wd_run.specs.Causes.{run_number, run_place}
+use Rattle.wd_run.specs.Causes as runs
 use Rattle.wd_run.specs.declared.error.RunError.{RunError}
 use Rattle.wd_run.specs.declared.error.RunError.TheVariants as run
-use Rattle.wd_command.specs.Commands.{AreInputsOf, HasFault, Inputs, IsRefusedWith, files_of, line}
-use Rattle.wd_command.specs.Files.{File, HandsOver, ReadsNothing, StandsNext, StopsAt}
+use Rattle.wd_accept.specs.Acceptance as acceptance
+use Rattle.wd_accept.specs.declared.error.VerifyError.{VerifyError}
+use Rattle.wd_accept.specs.declared.error.VerifyError.TheVariants as verify
+use Rattle.wd_command.specs.Commands.{HasFault, data_in, line, text_at}
+use Rattle.wd_command.specs.Files.{File, HandsOver, Reads, ReadsNothing, StandsNext, StopsAt}
 use Rattle.wd_command.specs.Streams.{AppendsPart}
-use Rattle.wd_command.specs.Words.{AreOtherWords, ArePathsOf, HasNoEquals, IsPlain, IsTableWord}
+use Rattle.wd_command.specs.Words.{AreOtherWords, AskFor, HasNoEquals, IsPlain, Task, Verify, Run, paths_of}
 use Rattle.wd_command.specs.declared.failure.Failure.{Failure}
 use Rattle.wd_command.specs.declared.failure.Failure.TheVariants.{CommandLine, NotText, Unassigned, Refused, Fault, CannotRead, CannotWrite, OutOfMemory}
+use Rattle.wd_command.specs.declared.failure.Input.{Input}
+use Rattle.wd_command.specs.declared.failure.Input.TheVariants as input
+use Rattle.wd_command.specs.declared.failure.Refusal.{Refusal}
 
 -- the exit status for a failure
 abbrev pub status_of : Failure → ℕ
 status_of (CommandLine error) = 3
 status_of NotText = 3
 status_of (Unassigned word) = 3
-status_of (Refused error number) = 3
+status_of (Refused refusal) = 3
 status_of (Fault fault) = 4
 status_of (CannotRead path) = 5
 status_of CannotWrite = 5
@@ -31,13 +38,12 @@ status_of OutOfMemory = 5
 -- ---- the line on standard error
 
 -- WHERE: the input that a refusal is about
-abbrev pub where_of : RunError → List ℕ
-where_of (run.Texts (text.Schema error)) = codes "schema"
-where_of (run.Texts (text.Query error)) = codes "query"
-where_of (run.Given name) = codes "data " ++ name
-where_of (run.Data name error) = codes "data " ++ name
-where_of (run.Evaluation error) = codes "run"
-where_of run.OutOfMemory = codes "run"
+abbrev pub where_of : Input → List ℕ
+where_of input.Schema = codes "schema"
+where_of input.Query = codes "query"
+where_of input.Certificate = codes "certificate"
+where_of (input.Data name) = codes "data " ++ name
+where_of input.Run = codes "run"
 
 -- ` at PLACE`, where there is a place
 abbrev pub at_place : Option ℕ → List ℕ
@@ -45,8 +51,8 @@ at_place None = []
 at_place (Some place) = codes " at " ++ decimal place
 
 -- `WHERE: refused N` or `WHERE: refused N at PLACE`
-abbrev pub refusal_line : RunError → ℕ → List ℕ
-refusal_line error number = where_of error ++ codes ": refused " ++ decimal number ++ line (at_place (run_place error))
+abbrev pub refusal_line : Refusal → List ℕ
+refusal_line refusal = where_of refusal.input ++ codes ": refused " ++ decimal refusal.number ++ line (at_place refusal.place)
 
 -- the line of a fault of the query
 abbrev pub fault_line : QueryFault → List ℕ
@@ -58,7 +64,7 @@ abbrev pub line_of : Failure → Option (List ℕ)
 line_of (CommandLine error) = None
 line_of NotText = Some (line (codes "error: invalid UTF-8 was detected in one or more arguments"))
 line_of (Unassigned word) = Some (codes "data " ++ word.now ++ line (codes ": refused 707"))
-line_of (Refused error number) = Some (refusal_line error number)
+line_of (Refused refusal) = Some (refusal_line refusal)
 line_of (Fault fault) = Some (fault_line fault)
 line_of (CannotRead path) = Some (line (codes "cannot read " ++ path.now))
 line_of CannotWrite = Some (line (codes "cannot write"))
@@ -68,6 +74,37 @@ line_of OutOfMemory = Some (line (codes "out of memory"))
 abbrev pub Shows : Option (List ℕ) → Option (List ℕ) → Failure → Type 0
 Shows err err_after failure = IfSome (line_of failure) (AppendsPart err err_after)
 
+-- ---- refusals
+
+-- what a refusal says: the input that it is about, its number and its place; without a number memory is wanting
+abbrev pub Says : Input → Option ℕ → Option ℕ → Failure → Type 0
+Says input number place (Refused refusal) = (refusal.input ≡ input) × (Some refusal.number ≡ number) × (refusal.place ≡ place)
+Says input number place OutOfMemory = ⊤
+Says input number place failure = ⊥
+
+abbrev pub text_input : TextError → Input
+text_input (text.Schema error) = input.Schema
+text_input (text.Query error) = input.Query
+
+abbrev pub run_input : RunError → Input
+run_input (run.Texts error) = text_input error
+run_input (run.Given name) = input.Data name
+run_input (run.Data name error) = input.Data name
+run_input (run.Evaluation error) = input.Run
+run_input run.OutOfMemory = input.Run
+
+abbrev pub verify_input : VerifyError → Input
+verify_input (verify.Texts error) = text_input error
+verify_input (verify.Certificate error) = input.Certificate
+
+-- the failure is that of a refusal of a run
+abbrev pub IsRunRefusal : RunError → Failure → Type 0
+IsRunRefusal error failure = Says (run_input error) (runs.run_number error) (runs.run_place error) failure
+
+-- or of a certificate
+abbrev pub IsVerifyRefusal : VerifyError → Failure → Type 0
+IsVerifyRefusal error failure = Says (verify_input error) (acceptance.verify_number error) (acceptance.verify_place error) failure
+
 -- ---- what stands after a failure
 
 -- `clap` refuses the words, or memory is wanting
@@ -76,23 +113,11 @@ IsFaultOfWords fault (CommandLine error) = kind_of fault ≢ kind.OutOfMemory
 IsFaultOfWords fault OutOfMemory = ⊤
 IsFaultOfWords fault failure = ⊥
 
--- a fault of the command line, or memory is wanting
-abbrev pub IsOfCommandLine : Failure → Type 0
-IsOfCommandLine (CommandLine error) = ⊤
-IsOfCommandLine OutOfMemory = ⊤
-IsOfCommandLine failure = ⊥
-
 -- a word is no text, or memory is wanting
 abbrev pub IsOfArguments : Failure → Type 0
 IsOfArguments NotText = ⊤
 IsOfArguments OutOfMemory = ⊤
 IsOfArguments failure = ⊥
-
--- the refusal has this number, or memory is wanting
-abbrev pub IsRefusal : RunError → Failure → Type 0
-IsRefusal refusal (Refused error number) = (error ≡ refusal) × (run_number error ≡ Some number)
-IsRefusal refusal OutOfMemory = ⊤
-IsRefusal refusal failure = ⊥
 
 -- one of the words has no `=`, or memory is wanting
 abbrev pub IsUncut : List (List ℕ) → Failure → Type 0
@@ -101,38 +126,55 @@ IsUncut words OutOfMemory = ⊤
 IsUncut words failure = ⊥
 
 -- one read failed, of a path that comes next so after the files that were handed over, or memory is wanting
-abbrev pub IsUnread : (List File → List ℕ → Type 0) → Option (List File) → Option (List File) → ℕ → ℕ → Failure → Type 0
-IsUnread IsNext handed handed_after failures failures_after (CannotRead path) = StopsAt IsNext handed handed_after failures failures_after path.now
-IsUnread IsNext handed handed_after failures failures_after OutOfMemory = ⊤
-IsUnread IsNext handed handed_after failures failures_after failure = ⊥
+abbrev pub IsUnread : (List File → List ℕ → Type 0) → Reads → Reads → Failure → Type 0
+IsUnread IsNext before after (CannotRead path) = StopsAt IsNext before after path.now
+IsUnread IsNext before after OutOfMemory = ⊤
+IsUnread IsNext before after failure = ⊥
 
--- the inputs are refused by this number, the query faults over them, or memory is wanting
-abbrev pub IsUnanswered : Inputs → Failure → Type 0
-IsUnanswered inputs (Refused error number) = IsRefusedWith inputs error × (run_number error ≡ Some number)
-IsUnanswered inputs (Fault fault) = HasFault inputs fault
-IsUnanswered inputs OutOfMemory = ⊤
-IsUnanswered inputs failure = ⊥
+-- `verify` over the files of a schema, a query and a certificate is refused, for a cause that stands there, or memory is wanting
+abbrev pub FailsVerify : List File → Failure → Type 0
+FailsVerify files (Refused refusal) = (error : VerifyError) × acceptance.HasCause (text_at files 0) (text_at files 1) (text_at files 2) error × IsVerifyRefusal error (Refused refusal)
+FailsVerify files OutOfMemory = ⊤
+FailsVerify files failure = ⊥
+
+-- `run` over the files of a schema, a query and these tables is refused, for a cause that stands there, its query faults, or memory is wanting
+abbrev pub FailsRun : List (List ℕ × List ℕ) → List File → Failure → Type 0
+FailsRun tables files (Refused refusal) = (error : RunError) × runs.HasCause (text_at files 0) (text_at files 1) (data_in tables (drop 2 files)) error × IsRunRefusal error (Refused refusal)
+FailsRun tables files (Fault fault) = HasFault (text_at files 0) (text_at files 1) (data_in tables (drop 2 files)) fault
+FailsRun tables files OutOfMemory = ⊤
+FailsRun tables files failure = ⊥
+
+-- a task over its files has no answer
+abbrev pub IsUnanswered : Task → List File → Failure → Type 0
+IsUnanswered (Verify schema query certificate) files failure = FailsVerify files failure
+IsUnanswered (Run schema query tables) files failure = FailsRun tables files failure
 
 -- the files that the words ask for were read, and the failure comes of them
-pub record ComesOfInputs (words : List (List ℕ)) (handed handed_after : Option (List File)) (failure : Failure) : Type 0 where
-  pub inputs : Inputs
-  pub asked : AreInputsOf words inputs
-  pub read : HandsOver handed handed_after (files_of inputs)
-  pub unanswered : IsUnanswered inputs failure
+pub record ComesOfFiles (words : List (List ℕ)) (before after : Reads) (failure : Failure) : Type 0 where
+  pub task : Task
+  pub files : List File
+  pub asked : AskFor words task
+  pub named : map (λ f. f.0) files ≡ paths_of task
+  pub read : HandsOver before.handed after.handed files
+  pub unanswered : IsUnanswered task files failure
 
--- where none begins with a hyphen, the words are those of `run`, and ask for the paths of these files, in their order, and then for this one
+-- where none begins with a hyphen, the words ask for the paths of these files, in their order, and then for this one
 abbrev pub AskNext : List (List ℕ) → List File → List ℕ → Type 0
-AskNext words files path = All IsPlain words → (paths : List (List ℕ)) × ArePathsOf words paths × StandsNext paths files path
+AskNext words files path = All IsPlain words → (task : Task) × AskFor words task × StandsNext (paths_of task) files path
+
+-- where none begins with a hyphen, the word stands in the place of NAME=PATH in the words of `run`
+abbrev pub IsTableWord : List (List ℕ) → List ℕ → Type 0
+IsTableWord words word = All IsPlain words → (schema query : List ℕ) × (tables : List (List ℕ)) × (words ≡ codes "run" ∷ schema ∷ query ∷ tables) × Any (λ w. w ≡ word) tables
 
 -- The reason of a failure to make the output. A fault of the command line and a word without an `=` come before any file is read. A file cannot be read only
 -- where one read failed, of a path that the words ask for; what was handed over is what the words before that one ask for. A refusal and a fault come of the
--- inputs. Words of which one begins with a hyphen are read as `clap` reads them.
-abbrev pub HasReason : List (List ℕ) → Option (List File) → Option (List File) → ℕ → ℕ → Failure → Type 0
-HasReason words handed handed_after failures failures_after (CommandLine error) = AreOtherWords words × ReadsNothing handed handed_after failures failures_after
-HasReason words handed handed_after failures failures_after NotText = ⊥
-HasReason words handed handed_after failures failures_after (Unassigned word) = AreOtherWords words × HasNoEquals word.now × (All IsPlain words → IsTableWord words word.now) × ReadsNothing handed handed_after failures failures_after
-HasReason words handed handed_after failures failures_after (Refused error number) = ComesOfInputs words handed handed_after (Refused error number)
-HasReason words handed handed_after failures failures_after (Fault fault) = ComesOfInputs words handed handed_after (Fault fault)
-HasReason words handed handed_after failures failures_after (CannotRead path) = StopsAt (AskNext words) handed handed_after failures failures_after path.now
-HasReason words handed handed_after failures failures_after CannotWrite = ⊥
-HasReason words handed handed_after failures failures_after OutOfMemory = ⊤
+-- files. Words of which one begins with a hyphen are read as `clap` reads them.
+abbrev pub HasReason : List (List ℕ) → Reads → Reads → Failure → Type 0
+HasReason words before after (CommandLine error) = AreOtherWords words × ReadsNothing before after
+HasReason words before after NotText = ⊥
+HasReason words before after (Unassigned word) = AreOtherWords words × HasNoEquals word.now × IsTableWord words word.now × ReadsNothing before after
+HasReason words before after (Refused refusal) = ComesOfFiles words before after (Refused refusal)
+HasReason words before after (Fault fault) = ComesOfFiles words before after (Fault fault)
+HasReason words before after (CannotRead path) = StopsAt (AskNext words) before after path.now
+HasReason words before after CannotWrite = ⊥
+HasReason words before after OutOfMemory = ⊤

@@ -19,16 +19,24 @@ HandsOver (Some before) new files = new ≡ Some (before ++ files)
 abbrev pub StandsNext : List (List ℕ) → List File → List ℕ → Type 0
 StandsNext paths files path = (rest : List (List ℕ)) × (paths ≡ map (λ f. f.0) files ++ path ∷ rest)
 
+-- what is known of reads: the files that were handed over, in their order, where that is told, and how many reads failed
+pub record Reads : Type 0 where
+  pub handed : Option (List File)
+  pub failures : ℕ
+
+abbrev pub reads : Option (List File) → ℕ → Reads
+reads handed failures = record { handed = handed; failures = failures }
+
 -- nothing was handed over, and no read failed
-pub record ReadsNothing (handed handed_after : Option (List File)) (failures failures_after : ℕ) : Type 0 where
-  pub nothing : HandsOver handed handed_after []
-  pub none_failed : failures_after ≡ failures
+pub record ReadsNothing (before after : Reads) : Type 0 where
+  pub nothing : HandsOver before.handed after.handed []
+  pub none_failed : after.failures ≡ before.failures
 
 -- one read failed, that of a path which comes next after the files that were handed over before it
-pub record StopsAt (IsNext : List File → List ℕ → Type 0) (handed handed_after : Option (List File)) (failures failures_after : ℕ) (path : List ℕ) : Type 0 where
+pub record StopsAt (IsNext : List File → List ℕ → Type 0) (before after : Reads) (path : List ℕ) : Type 0 where
   pub files : List File
-  pub before : HandsOver handed handed_after files
-  pub one_failed : failures_after ≡ failures + 1
+  pub read : HandsOver before.handed after.handed files
+  pub one_failed : after.failures ≡ before.failures + 1
   pub next : IsNext files path
 
 -- how many reads failed, of one

@@ -1,23 +1,26 @@
 -- How contracts see what the code has read.
-use Rattle.std.specs.Prelude.{map}
-use Rattle.wd_command.specs.Commands.{Inputs as InputFiles, TableFile as TableData}
-use Rattle.wd_command.specs.declared.inputs.Inputs.{Inputs}
-use Rattle.wd_command.specs.declared.inputs.InputFile.{InputFile}
-use Rattle.wd_command.specs.declared.inputs.TableFile.{TableFile}
+use Rattle.std.specs.Prelude.{ℕ, List, map}
 use Rattle.wd_command.specs.Files.{File}
+use Rattle.wd_command.specs.Words.{Task, Verify, Run}
+use Rattle.wd_command.specs.declared.inputs.InputFile.{InputFile}
+use Rattle.wd_command.specs.declared.inputs.Inputs.{Inputs}
+use Rattle.wd_command.specs.declared.inputs.Task.{Task as CodeTask}
+use Rattle.wd_command.specs.declared.inputs.Task.TheVariants as code
+use Rattle.wd_command.specs.declared.words.Assignment.{Assignment}
 
 -- a file that was read
 abbrev pub file_of : InputFile → File
 file_of file = (file.path.now, file.bytes.items)
 
--- the data of a table that was read
-abbrev pub table_of : TableFile → TableData
-table_of table = record { name = table.name.now; file = file_of table.file }
+-- the files that were read
+abbrev pub files_of : Inputs → List File
+files_of inputs = map file_of inputs.files.items
 
--- all that was read
-abbrev pub inputs_of : Inputs → InputFiles
-inputs_of inputs = record {
-  schema = file_of inputs.schema;
-  query = file_of inputs.query;
-  tables = map table_of inputs.tables.items;
-}
+-- a table's name with its path
+abbrev pub name_of : Assignment → List ℕ × List ℕ
+name_of assignment = (assignment.name.now, assignment.path.now)
+
+-- the task of the words
+abbrev pub task_of : CodeTask → Task
+task_of (code.Verify schema query certificate) = Verify schema.now query.now certificate.now
+task_of (code.Run schema query tables) = Run schema.now query.now (map name_of tables.items)

@@ -8,3 +8,4 @@ pub mod Inputs
 pub mod Streams
 pub mod Failures
 pub mod Statuses
+pub mod Outputs

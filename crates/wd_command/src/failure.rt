@@ -3,7 +3,7 @@
 ghost use Rattle.std.specs.Prelude.{◌≡◌, ◌++◌, IfSome, OnOk};
 ghost use Rattle.std.specs.Io.KnownBytes.{Appends};
 ghost use Rattle.wd_command.specs.Failures as spec;
-ghost use Rattle.wd_command.specs.Failures.{IsFaultOfWords, IsRefusal, Shows, line_of, refusal_line, status_of, where_of};
+ghost use Rattle.wd_command.specs.Failures.{IsFaultOfWords, IsRunRefusal, IsVerifyRefusal, Says, Shows, line_of, refusal_line, status_of, where_of};
 ghost use Rattle.wd_command.specs.Streams.{AppendsPart};
 ghost use Rattle.wd_command.specs.declared.failure.Failure.TheVariants as failed;
 
@@ -12,8 +12,10 @@ use clap::error::ErrorKind;
 use std::alloc::{AllocError, AllocFailed};
 use std::io;
 use std::io::Write;
-use wd_run::{Origin, RunError};
-use wd_value::{Fault, OutOfMemory};
+use wd_accept::{VerifyError, VerifyOrigin};
+use wd_query::TextError;
+use wd_run::RunError;
+use wd_value::{Fault, OutOfMemory, Text};
 
 /// Why the program ends without its output.
 #[derive(Debug, Drop)]
@@ -24,12 +26,32 @@ pub enum Failure<'a> {
     NotText,
     /// The word stands in the place of NAME=PATH and has no `=`.
     Unassigned(&'a str),
-    /// A refusal with this number.
-    Refused { error: RunError, number: u32 },
+    /// An input is refused.
+    Refused(Refusal),
     Fault(Fault),
     CannotRead(&'a str),
     CannotWrite,
     OutOfMemory,
+}
+
+/// What a refusal says.
+#[derive(Debug, Drop)]
+pub struct Refusal {
+    pub input: Input,
+    pub number: u32,
+    /// The byte, the token, the node or the record that it is about.
+    pub place: Option<u64>,
+}
+
+/// The input that a refusal is about.
+#[derive(Debug, Drop)]
+pub enum Input {
+    Schema,
+    Query,
+    Certificate,
+    /// The data that was given, or should have been, under this name.
+    Data(Text),
+    Run,
 }
 
 impl Failure<'_> {
@@ -41,7 +63,7 @@ impl Failure<'_> {
             Failure::CommandLine(_)
             | Failure::NotText
             | Failure::Unassigned(_)
-            | Failure::Refused { .. } => 3,
+            | Failure::Refused(_) => 3,
             Failure::Fault(_) => 4,
             Failure::CannotRead(_) | Failure::CannotWrite | Failure::OutOfMemory => 5,
         }
@@ -84,13 +106,57 @@ impl From<clap::Error> for Failure<'_> {
 }
 
 impl From<RunError> for Failure<'_> {
-    ghost from_gives = { λ e failure. IsRefusal e failure };
+    ghost from_gives = { λ e failure. IsRunRefusal e failure };
 
     fn from(error: RunError) -> Self {
-        match error.number() {
-            Some(number) => Failure::Refused { error, number },
-            None => Failure::OutOfMemory,
-        }
+        let (number, place) = (error.number(), error.place());
+        refused(run_input(error), number, place)
+    }
+}
+
+impl From<VerifyError> for Failure<'_> {
+    ghost from_gives = { λ e failure. IsVerifyRefusal e failure };
+
+    fn from(error: VerifyError) -> Self {
+        refused(verify_input(&error), error.number(), error.place())
+    }
+}
+
+// A refusal, or out of memory where it has no number.
+fn refused<'a>(input: Input, number: Option<u32>, place: Option<u64>) -> Failure<'a>
+    ensures { Says input number place result }
+{
+    match number {
+        Some(number) => Failure::Refused(Refusal {
+            input,
+            number,
+            place,
+        }),
+        None => Failure::OutOfMemory,
+    }
+}
+
+// The input that a run's refusal is about.
+fn run_input(error: RunError) -> Input
+    ensures { result ≡ spec.run_input error }
+{
+    match error {
+        RunError::Texts(TextError::Schema(_)) => Input::Schema,
+        RunError::Texts(TextError::Query(_)) => Input::Query,
+        RunError::Given { name } => Input::Data(name),
+        RunError::Data { name, .. } => Input::Data(name),
+        RunError::Evaluation(_) | RunError::OutOfMemory => Input::Run,
+    }
+}
+
+// The input that a refusal of a certificate is about.
+fn verify_input(error: &VerifyError) -> Input
+    ensures { result ≡ spec.verify_input error.now }
+{
+    match error.origin() {
+        VerifyOrigin::Schema => Input::Schema,
+        VerifyOrigin::Query => Input::Query,
+        VerifyOrigin::Certificate => Input::Certificate,
     }
 }
 
@@ -122,7 +188,7 @@ fn write_line<E: Write>(failure: &Failure<'_>, err: &mut E) -> io::Result<()>
                 Piece::Text(": refused 707\n"),
             ],
         ),
-        Failure::Refused { error, number } => write_refusal(error, *number, err),
+        Failure::Refused(refusal) => write_refusal(refusal, err),
         Failure::Fault(fault) => write_pieces(err, &[Piece::Text(fault_line(*fault))]),
         Failure::CannotRead(path) => write_pieces(
             err,
@@ -147,17 +213,17 @@ fn fault_line(fault: Fault) -> &'static str
 }
 
 // Writes the line of a refusal: what it is about, its number and its place.
-fn write_refusal<E: Write>(error: &RunError, number: u32, err: &mut E) -> io::Result<()>
-    ensures whole { OnOk result (Appends (E.contents err.old) (E.contents err.new) (refusal_line error.now number)) }
-    ensures part { AppendsPart (E.contents err.old) (E.contents err.new) (refusal_line error.now number) }
+fn write_refusal<E: Write>(refusal: &Refusal, err: &mut E) -> io::Result<()>
+    ensures whole { OnOk result (Appends (E.contents err.old) (E.contents err.new) (refusal_line refusal.now)) }
+    ensures part { AppendsPart (E.contents err.old) (E.contents err.new) (refusal_line refusal.now) }
 {
-    let (input, name) = input_of(error);
+    let (input, name) = where_text(&refusal.input);
     let input = Piece::Text(input);
     let name = Piece::Text(name);
     let refused = Piece::Text(": refused ");
-    let number = Piece::Number(number as u64);
+    let number = Piece::Number(refusal.number as u64);
     let end = Piece::Text("\n");
-    match error.place() {
+    match refusal.place {
         Some(place) => {
             let at = Piece::Text(" at ");
             let place = Piece::Number(place);
@@ -167,14 +233,15 @@ fn write_refusal<E: Write>(error: &RunError, number: u32, err: &mut E) -> io::Re
     }
 }
 
-// The input that a refusal is about: its kind, and the name of a table.
-fn input_of<'a>(error: &'a RunError) -> (&'a str, &'a str)
-    ensures { result.0.now ++ result.1.now ≡ where_of error.now }
+// The input that a refusal is about, as text: its kind, and the name of a table.
+fn where_text<'a>(input: &'a Input) -> (&'a str, &'a str)
+    ensures { result.0.now ++ result.1.now ≡ where_of input.now }
 {
-    match error.origin() {
-        Origin::Schema => ("schema", ""),
-        Origin::Query => ("query", ""),
-        Origin::Data(name) => ("data ", name),
-        Origin::Run => ("run", ""),
+    match input {
+        Input::Schema => ("schema", ""),
+        Input::Query => ("query", ""),
+        Input::Certificate => ("certificate", ""),
+        Input::Data(name) => ("data ", name.as_str()),
+        Input::Run => ("run", ""),
     }
 }

@@ -1,16 +1,33 @@
-//! What `run` reads: the files that its words name.
+//! What a task reads: the files that its words name.
 
 ghost use Rattle.std.specs.Prelude.{◌≡◌, ◌≢◌, ◌-◌, ◌^◌, ◌<◌, [], ◌∷◌, map, IfOk, IfErr};
-ghost use Rattle.wd_command.specs.Commands.{AreInputsOf, files_of};
-ghost use Rattle.wd_command.specs.Files.{HandsOver, StandsNext};
-ghost use Rattle.wd_command.specs.Inputs.{file_of, inputs_of};
-ghost use Rattle.wd_command.specs.Failures.{HasReason, IsOfCommandLine, IsUnread};
-ghost use Rattle.wd_command.specs.Words.{word_of};
+ghost use Rattle.wd_command.specs.CommandLine.{asked_by, line_of, table_words};
+ghost use Rattle.wd_command.specs.Failures.{HasReason, IsUncut, IsUnread};
+ghost use Rattle.wd_command.specs.Files.{HandsOver, StandsNext, reads};
+ghost use Rattle.wd_command.specs.Inputs.{file_of, files_of};
+ghost use Rattle.wd_command.specs.Inputs as spec;
+ghost use Rattle.wd_command.specs.Words.{AskFor, IsCut, paths_of, words_of};
 
 use crate::failure::Failure;
 use crate::files::{Files, ReadFault};
-use crate::words::{Assignment, assignments, run_words};
-use std::alloc::Global;
+use crate::words::{Assignment, Request, assignments, read_words};
+use std::alloc::{AllocError, Global};
+
+/// What is asked of the program: a command, and the paths that it names.
+#[derive(Drop)]
+pub enum Task<'a> {
+    Verify {
+        schema: &'a str,
+        query: &'a str,
+        certificate: &'a str,
+    },
+    /// The tables' names with their paths.
+    Run {
+        schema: &'a str,
+        query: &'a str,
+        tables: Vec<Assignment<'a>>,
+    },
+}
 
 /// A file that was read.
 #[derive(Drop)]
@@ -19,19 +36,11 @@ pub struct InputFile<'a> {
     pub bytes: Vec<u8>,
 }
 
-/// The data of a table.
-#[derive(Drop)]
-pub struct TableFile<'a> {
-    pub name: &'a str,
-    pub file: InputFile<'a>,
-}
-
-/// All that `run` reads.
+/// A task, and the files that it names, in the order of the words.
 #[derive(Drop)]
 pub struct Inputs<'a> {
-    pub schema: InputFile<'a>,
-    pub query: InputFile<'a>,
-    pub tables: Vec<TableFile<'a>>,
+    pub task: Task<'a>,
+    pub files: Vec<InputFile<'a>>,
 }
 
 /// Reads the files that the words ask for, in the order of the words.
@@ -41,22 +50,75 @@ pub fn read_inputs<'a, F: Files>(
     words: &'a [&'a str],
 ) -> Result<Inputs<'a>, Failure<'a>>
     requires { F.failures files.old < 2 ^ 64 - 1 }
-    ensures asked { IfOk result (λ inputs. AreInputsOf (map (λ w. w.now) words.now) (inputs_of inputs)) }
-    ensures read { IfOk result (λ inputs. HandsOver (F.handed files.old) (F.handed files.new) (files_of (inputs_of inputs))) }
+    ensures asked { IfOk result (λ inputs. AskFor (map (λ w. w.now) words.now) (spec.task_of inputs.task)) }
+    ensures named { IfOk result (λ inputs. map (λ f. f.0) (files_of inputs) ≡ paths_of (spec.task_of inputs.task)) }
+    ensures read { IfOk result (λ inputs. HandsOver (F.handed files.old) (F.handed files.new) (files_of inputs)) }
     ensures err { map (λ w. w.now) words.now ≢ [] → IfErr result (HasReason (map (λ w. w.now) words.now)
-        (F.handed files.old) (F.handed files.new) (F.failures files.old) (F.failures files.new)) }
-    ensures no_words { map (λ w. w.now) words.now ≡ [] → IfErr result IsOfCommandLine }
+        (reads (F.handed files.old) (F.failures files.old)) (reads (F.handed files.new) (F.failures files.new))) }
 {
-    let given = run_words(alloc, words)?;
-    let assignments = assignments(alloc, given.tables.as_slice())?;
-    let schema = read_file(alloc, files, given.schema)?;
-    let query = read_file(alloc, files, given.query)?;
-    let tables = read_tables(alloc, files, assignments.as_slice())?;
-    Ok(Inputs {
-        schema,
-        query,
-        tables,
-    })
+    let request = read_words(alloc, words)?;
+    let task = task_of(alloc, request)?;
+    let paths = paths_named(alloc, &task)?;
+    let files = read_files(alloc, files, paths.as_slice())?;
+    Ok(Inputs { task, files })
+}
+
+// The task of a request: each word NAME=PATH is cut at its first `=`.
+fn task_of<'a>(alloc: Global, request: Request<'a>) -> Result<Task<'a>, Failure<'a>>
+    ensures words { IfOk result (λ task. words_of (spec.task_of task) ≡ line_of (asked_by request.entry)) }
+    ensures cut { IfOk result (λ task. IsCut (spec.task_of task)) }
+    ensures err { IfErr result (IsUncut (table_words (asked_by request.entry))) }
+{
+    match request {
+        Request::Verify {
+            schema,
+            query,
+            certificate,
+        } => Ok(Task::Verify {
+            schema,
+            query,
+            certificate,
+        }),
+        Request::Run {
+            schema,
+            query,
+            tables,
+        } => {
+            let tables = assignments(alloc, tables.as_slice())?;
+            Ok(Task::Run {
+                schema,
+                query,
+                tables,
+            })
+        }
+    }
+}
+
+// The paths that a task names.
+fn paths_named<'a>(alloc: Global, task: &Task<'a>) -> Result<Vec<&'a str>, AllocError>
+    ensures { IfOk result (λ v. map (λ p. p.now) v.items ≡ paths_of (spec.task_of task.now)) }
+{
+    match task {
+        Task::Verify {
+            schema,
+            query,
+            certificate,
+        } => {
+            let list = Vec::from_slice(alloc, &[*schema, *query, *certificate])?;
+            Ok(list)
+        }
+        Task::Run {
+            schema,
+            query,
+            tables,
+        } => {
+            let mut list = Vec::from_slice(alloc, &[*schema, *query])?;
+            for table in tables {
+                list.push(table.path)?;
+            }
+            Ok(list)
+        }
+    }
 }
 
 fn read_file<'a, F: Files>(
@@ -69,7 +131,7 @@ fn read_file<'a, F: Files>(
     ensures read { IfOk result (λ file. HandsOver (F.handed files.old) (F.handed files.new) (file_of file ∷ [])) }
     ensures failures { IfOk result (λ _. F.failures files.new ≡ F.failures files.old) }
     ensures err { IfErr result (IsUnread (λ before asked. (before ≡ []) × (asked ≡ path.now))
-        (F.handed files.old) (F.handed files.new) (F.failures files.old) (F.failures files.new)) }
+        (reads (F.handed files.old) (F.failures files.old)) (reads (F.handed files.new) (F.failures files.new))) }
 {
     match files.read(alloc, path) {
         Ok(bytes) => Ok(InputFile { path, bytes }),
@@ -78,25 +140,22 @@ fn read_file<'a, F: Files>(
     }
 }
 
-fn read_tables<'a, F: Files>(
+// Reads the files at these paths.
+fn read_files<'a, F: Files>(
     alloc: Global,
     files: &mut F,
-    assignments: &[Assignment<'a>],
-) -> Result<Vec<TableFile<'a>>, Failure<'a>>
+    paths: &[&'a str],
+) -> Result<Vec<InputFile<'a>>, Failure<'a>>
     requires { F.failures files.old < 2 ^ 64 - 1 }
-    ensures names { IfOk result (λ tables. map (λ t. t.name.now) tables.items ≡ map (λ a. a.name.now) assignments.now) }
-    ensures words { IfOk result (λ tables. map (λ t. word_of t.name.now t.file.path.now) tables.items
-        ≡ map (λ a. word_of a.name.now a.path.now) assignments.now) }
-    ensures read { IfOk result (λ tables. HandsOver (F.handed files.old) (F.handed files.new)
-        (map (λ t. file_of t.file) tables.items)) }
-    ensures err { IfErr result (IsUnread (StandsNext (map (λ a. a.path.now) assignments.now))
-        (F.handed files.old) (F.handed files.new) (F.failures files.old) (F.failures files.new)) }
+    ensures named { IfOk result (λ v. map (λ f. f.0) (map file_of v.items) ≡ map (λ p. p.now) paths.now) }
+    ensures read { IfOk result (λ v. HandsOver (F.handed files.old) (F.handed files.new) (map file_of v.items)) }
+    ensures err { IfErr result (IsUnread (StandsNext (map (λ p. p.now) paths.now))
+        (reads (F.handed files.old) (F.failures files.old)) (reads (F.handed files.new) (F.failures files.new))) }
 {
-    let mut tables = Vec::new(alloc);
-    for assignment in assignments {
-        let file = read_file(alloc, files, assignment.path)?;
-        let name = assignment.name;
-        tables.push(TableFile { name, file })?;
+    let mut list = Vec::with_capacity(alloc, paths.len())?;
+    for path in paths {
+        let file = read_file(alloc, files, path)?;
+        list.push(file)?;
     }
-    Ok(tables)
+    Ok(list)
 }

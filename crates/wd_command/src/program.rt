@@ -1,20 +1,23 @@
 //! The program over its words, files and streams.
 
-ghost use Rattle.std.specs.Prelude.{◌≡◌, ◌≢◌, ◌-◌, ◌^◌, ◌<◌, List, map, OnOk, IfOk, IfErr};
-ghost use Rattle.std.specs.Io.KnownBytes.{Keeps};
+ghost use Rattle.std.specs.Prelude.{◌≡◌, ◌≢◌, ◌+◌, ◌-◌, ◌^◌, ◌<◌, ◌≤◌, List, length, map, OnOk, IfOk, IfErr};
 ghost use Rattle.wd_run.specs.Runs.{data_of};
-ghost use Rattle.wd_command.specs.Commands.{IsOutput, IsAnswerText, data_in};
-ghost use Rattle.wd_command.specs.Failures.{HasReason, IsUnanswered};
-ghost use Rattle.wd_command.specs.Files.{File, HandsOver};
-ghost use Rattle.wd_command.specs.Inputs.{inputs_of, table_of};
-ghost use Rattle.wd_command.specs.Statuses.{Fails, IsEnding, Succeeds};
+ghost use Rattle.wd_command.specs.Commands.{AnswersRun, AnswersVerify, HasAnswer, data_in, text_at};
+ghost use Rattle.wd_command.specs.Failures.{FailsRun, FailsVerify, HasReason, IsUnanswered};
+ghost use Rattle.wd_command.specs.Files.{reads};
+ghost use Rattle.wd_command.specs.Inputs.{file_of, files_of, name_of, task_of};
+ghost use Rattle.wd_command.specs.Outputs.{Makes};
+ghost use Rattle.wd_command.specs.Statuses.{Fails, IsEnding, Succeeds, WritesWhole, world};
+ghost use Rattle.wd_command.specs.Words.{paths_of};
 
 use crate::failure::{Failure, report};
 use crate::files::Files;
-use crate::inputs::{Inputs, TableFile, read_inputs};
+use crate::inputs::{InputFile, Inputs, Task, read_inputs};
 use crate::streams::write_and_flush;
+use crate::words::Assignment;
 use std::alloc::{AllocError, Global};
 use std::io::Write;
+use wd_accept::verify;
 use wd_plan::Outcome;
 use wd_run::run;
 use wd_tables::answer_text;
@@ -25,6 +28,13 @@ wdcheck verify SCHEMA QUERY CERT
 wdcheck refute SCHEMA QUERY WITNESS
 wdcheck run SCHEMA QUERY [NAME=PATH]...
 ";
+
+// What is printed on standard output, and the exit status.
+#[derive(Drop)]
+struct Output {
+    text: Vec<u8>,
+    status: u8,
+}
 
 /// Runs the program on the words after its own name, and gives its exit status. The words are judged
 /// before any file is read, the files are read in the order of the words, up to one that fails,
@@ -37,86 +47,131 @@ pub fn command<F: Files, O: Write, E: Write>(
     err: &mut E,
 ) -> u8
     requires { F.failures files.old < 2 ^ 64 - 1 }
-    ensures success { result ≡ 0 → Succeeds (map (λ w. w.now) words.now) (F.handed files.old) (F.handed files.new)
-        (O.contents out.old) (O.contents out.new) }
-    ensures silent { result ≡ 0 → Keeps (E.contents err.old) (E.contents err.new) }
-    ensures failure { result ≢ 0 → Fails (map (λ w. w.now) words.now) (F.handed files.old) (F.handed files.new)
-        (F.failures files.old) (F.failures files.new) (O.contents out.old) (O.contents out.new)
-        (E.contents err.old) (E.contents err.new) result }
+    ensures success { result < 3 → Succeeds (map (λ w. w.now) words.now)
+        (world (F.handed files.old) (F.failures files.old) (O.contents out.old) (E.contents err.old))
+        (world (F.handed files.new) (F.failures files.new) (O.contents out.new) (E.contents err.new)) result }
+    ensures failure { 3 ≤ result → Fails (map (λ w. w.now) words.now)
+        (world (F.handed files.old) (F.failures files.old) (O.contents out.old) (E.contents err.old))
+        (world (F.handed files.new) (F.failures files.new) (O.contents out.new) (E.contents err.new)) result }
 {
     match write_output(alloc, words, files, out) {
-        Ok(()) => 0,
+        Ok(status) => status,
         Err(failure) => report(&failure, err),
     }
 }
 
-// Writes the output for the words.
+// Writes the output for the words, and gives its exit status.
 fn write_output<'a, F: Files, O: Write>(
     alloc: Global,
     words: &'a [&'a str],
     files: &mut F,
     out: &mut O,
-) -> Result<(), Failure<'a>>
+) -> Result<u8, Failure<'a>>
     requires { F.failures files.old < 2 ^ 64 - 1 }
-    ensures ok { OnOk result (Succeeds (map (λ w. w.now) words.now) (F.handed files.old) (F.handed files.new)
-        (O.contents out.old) (O.contents out.new)) }
-    ensures err { IfErr result (IsEnding (map (λ w. w.now) words.now) (F.handed files.old) (F.handed files.new)
-        (F.failures files.old) (F.failures files.new) (O.contents out.old) (O.contents out.new)) }
+    ensures small { IfOk result (λ status. status < 3) }
+    ensures ok { IfOk result (WritesWhole (map (λ w. w.now) words.now)
+        (reads (F.handed files.old) (F.failures files.old)) (reads (F.handed files.new) (F.failures files.new)) (O.contents out.old) (O.contents out.new)) }
+    ensures err { IfErr result (IsEnding (map (λ w. w.now) words.now)
+        (reads (F.handed files.old) (F.failures files.old)) (reads (F.handed files.new) (F.failures files.new)) (O.contents out.old) (O.contents out.new)) }
 {
-    let text = output(alloc, words, files)?;
-    match write_and_flush(out, text.as_slice()) {
-        Ok(()) => Ok(()),
+    let output = make_output(alloc, words, files)?;
+    match write_and_flush(out, output.text.as_slice()) {
+        Ok(()) => Ok(output.status),
         Err(_) => Err(Failure::CannotWrite),
     }
 }
 
 // The whole output for the words.
-fn output<'a, F: Files>(
+fn make_output<'a, F: Files>(
     alloc: Global,
     words: &'a [&'a str],
     files: &mut F,
-) -> Result<Vec<u8>, Failure<'a>>
+) -> Result<Output, Failure<'a>>
     requires { F.failures files.old < 2 ^ 64 - 1 }
-    ensures ok { IfOk result (λ text. (handed : List File) × HandsOver (F.handed files.old) (F.handed files.new) handed
-        × IsOutput (map (λ w. w.now) words.now) handed text.items) }
-    ensures err { IfErr result (HasReason (map (λ w. w.now) words.now) (F.handed files.old) (F.handed files.new)
-        (F.failures files.old) (F.failures files.new)) }
+    ensures small { IfOk result (λ output. output.status < 3) }
+    ensures ok { IfOk result (Makes (map (λ w. w.now) words.now)
+        (reads (F.handed files.old) (F.failures files.old)) (reads (F.handed files.new) (F.failures files.new))) }
+    ensures err { IfErr result (HasReason (map (λ w. w.now) words.now)
+        (reads (F.handed files.old) (F.failures files.old)) (reads (F.handed files.new) (F.failures files.new))) }
 {
     if words.is_empty() {
-        return Ok(Vec::from_slice(alloc, USAGE.as_bytes())?);
+        let text = Vec::from_slice(alloc, USAGE.as_bytes())?;
+        return Ok(Output { text, status: 0 });
     }
     let inputs = read_inputs(alloc, files, words)?;
     answer(alloc, &inputs)
 }
 
-// The text of the answer to the query over the data.
-fn answer<'a>(alloc: Global, inputs: &Inputs<'a>) -> Result<Vec<u8>, Failure<'a>>
-    ensures ok { IfOk result (λ text. IsAnswerText (inputs_of inputs.now) text.items) }
-    ensures err { IfErr result (IsUnanswered (inputs_of inputs.now)) }
+// The answer to a task over its files.
+fn answer<'a>(alloc: Global, inputs: &Inputs<'a>) -> Result<Output, Failure<'a>>
+    requires { map (λ f. f.0) (files_of inputs.now) ≡ paths_of (task_of inputs.now.task) }
+    ensures small { IfOk result (λ output. output.status < 3) }
+    ensures ok { IfOk result (λ output. HasAnswer (task_of inputs.now.task) (files_of inputs.now) output.text.items output.status) }
+    ensures err { IfErr result (IsUnanswered (task_of inputs.now.task) (files_of inputs.now)) }
 {
-    let data = data(alloc, inputs.tables.as_slice())?;
-    let schema = inputs.schema.bytes.as_slice();
-    let query = inputs.query.bytes.as_slice();
-    let (names, outcome) = run(alloc, schema, query, data.as_slice())?;
+    match &inputs.task {
+        Task::Verify { .. } => verify_output(alloc, inputs.files.as_slice()),
+        Task::Run { tables, .. } => run_output(alloc, tables.as_slice(), inputs.files.as_slice()),
+    }
+}
+
+// The text of the file with a number.
+fn text_of<'a>(files: &'a [InputFile<'_>], number: usize) -> &'a [u8]
+    requires { number < length files.now }
+    ensures { result.now ≡ text_at (map file_of files.now) number }
+{
+    files[number].bytes.as_slice()
+}
+
+// The answer of `verify` over the files of a schema, a query and a certificate.
+fn verify_output<'a>(alloc: Global, files: &[InputFile<'a>]) -> Result<Output, Failure<'a>>
+    requires { length files.now ≡ 3 }
+    ensures small { IfOk result (λ output. output.status < 3) }
+    ensures ok { IfOk result (λ output. AnswersVerify (map file_of files.now) output.text.items output.status) }
+    ensures err { IfErr result (FailsVerify (map file_of files.now)) }
+{
+    verify(alloc, text_of(files, 0), text_of(files, 1), text_of(files, 2))?;
+    let text = Vec::from_slice(alloc, b"ACCEPTED\n")?;
+    Ok(Output { text, status: 0 })
+}
+
+// The answer of `run` over the files of a schema, a query and these tables.
+fn run_output<'a>(
+    alloc: Global,
+    tables: &[Assignment<'a>],
+    files: &[InputFile<'a>],
+) -> Result<Output, Failure<'a>>
+    requires { 2 ≤ length files.now }
+    ensures small { IfOk result (λ output. output.status < 3) }
+    ensures ok { IfOk result (λ output. AnswersRun (map name_of tables.now) (map file_of files.now) output.text.items output.status) }
+    ensures err { IfErr result (FailsRun (map name_of tables.now) (map file_of files.now)) }
+{
+    let data = data(alloc, tables, &files[2..])?;
+    let (names, outcome) = run(alloc, text_of(files, 0), text_of(files, 1), data.as_slice())?;
     match outcome {
         Outcome::Rows(rows) => {
             let text = answer_text(alloc, names.as_slice(), rows.as_slice())?;
-            Ok(text)
+            Ok(Output { text, status: 0 })
         }
         Outcome::Fault(fault) => Err(Failure::Fault(fault)),
     }
 }
 
-// The tables' names with their data.
+// The tables' names with the texts of their files.
 fn data<'a>(
     alloc: Global,
-    tables: &'a [TableFile<'a>],
+    tables: &'a [Assignment<'a>],
+    files: &'a [InputFile<'a>],
 ) -> Result<Vec<(&'a str, &'a [u8])>, AllocError>
-    ensures { IfOk result (λ v. data_of v.items ≡ data_in (map table_of tables.now)) }
+    ensures { IfOk result (λ v. data_of v.items ≡ data_in (map name_of tables.now) (map file_of files.now)) }
 {
     let mut data = Vec::with_capacity(alloc, tables.len())?;
+    let mut later = files.iter();
     for table in tables {
-        data.push((table.name, table.file.bytes.as_slice()))?;
+        match later.next() {
+            Some(file) => data.push((table.name, file.bytes.as_slice()))?,
+            None => return Ok(data),
+        }
     }
     Ok(data)
 }

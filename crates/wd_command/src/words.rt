@@ -1,36 +1,44 @@
 //! What the words of the command line ask for.
 
-ghost use Rattle.std.specs.Prelude.{◌≡◌, List, map, codes, Some, IfOk, IfErr, IfSome, IfNone};
+ghost use Rattle.std.specs.Prelude.{◌≡◌, ℕ, List, map, codes, option_map, false, IfOk, IfErr, IfSome, IfNone};
 ghost use Rattle.clap.specs.Values.{kind_of};
-ghost use Rattle.clap.specs.Words.{Row, app_of, subcommand_rows_of};
+ghost use Rattle.clap.specs.Words.{app_of, found_of, rows_of, subcommand_rows_of};
+ghost use Rattle.clap.specs.declared.builder.command.Command.TheViews.{out-Command as fields_of};
 ghost use Rattle.clap.specs.declared.error.kind.ErrorKind.TheVariants as kind;
-ghost use Rattle.wd_command.specs.CommandLine.{AreInRows, command_line as command_line_app};
+ghost use Rattle.wd_command.specs.CommandLine as spec;
+ghost use Rattle.wd_command.specs.CommandLine.{AreCommandLine, AreWordsOf, asked_by, asked_in, tables_in, Verify, Run};
 ghost use Rattle.wd_command.specs.Failures.{IsUncut};
-ghost use Rattle.wd_command.specs.Words.{AreCut, AreRunWords, AreWordsOf, HasNoEquals, word_of};
+ghost use Rattle.wd_command.specs.Words.{AreCut, HasNoEquals, word_of};
 
 use crate::failure::Failure;
 use clap::error::ErrorKind;
 use clap::{Arg, ArgMatches, Command, Error};
 use std::alloc::{AllocError, Global};
 
-/// The words of `run`: the paths of the schema and the query, and a word NAME=PATH for each table
-/// with data.
+/// What the words of the command line ask for, by paths; a table has a word NAME=PATH.
 #[derive(Drop)]
-pub struct RunWords<'a> {
-    pub schema: &'a str,
-    pub query: &'a str,
-    pub tables: Vec<&'a str>,
+pub enum Request<'a> {
+    Verify {
+        schema: &'a str,
+        query: &'a str,
+        certificate: &'a str,
+    },
+    Run {
+        schema: &'a str,
+        query: &'a str,
+        tables: Vec<&'a str>,
+    },
 }
 
 /// Reads the words after the program's own name.
-pub fn run_words<'a>(alloc: Global, words: &'a [&'a str]) -> Result<RunWords<'a>, Error>
+pub fn read_words<'a>(alloc: Global, words: &'a [&'a str]) -> Result<Request<'a>, Error>
     ensures ok { IfOk result (AreWordsOf (map (λ w. w.now) words.now)) }
-    ensures err { IfErr result (λ e. AreRunWords (map (λ w. w.now) words.now) → kind_of e ≡ kind.OutOfMemory) }
+    ensures err { IfErr result (λ e. AreCommandLine (map (λ w. w.now) words.now) → kind_of e ≡ kind.OutOfMemory) }
 {
     let mut command = command_line(alloc)?;
     let matches = command.try_get_matches_from_mut(words)?;
     match found(alloc, &matches)? {
-        Some(given) => Ok(given),
+        Some(request) => Ok(request),
         None => {
             let error = command.error(ErrorKind::MissingSubcommand, "no command was given")?;
             Err(error)
@@ -40,42 +48,105 @@ pub fn run_words<'a>(alloc: Global, words: &'a [&'a str]) -> Result<RunWords<'a>
 
 // The command line: one level of subcommands, each with positional words.
 fn command_line<'a>(alloc: Global) -> Result<Command<'a>, AllocError>
-    ensures { IfOk result (λ command. app_of command ≡ command_line_app) }
+    ensures { IfOk result (λ command. app_of command ≡ spec.command_line) }
+{
+    let command = Command::new(alloc, "wdcheck")
+        .no_binary_name(true)
+        .subcommand_required(true)
+        .subcommand(file_command(alloc, "verify", "CERT")?)?
+        .subcommand(run_command(alloc)?)?;
+    Ok(command)
+}
+
+// The words `NAME SCHEMA QUERY`.
+fn paths_command<'a>(alloc: Global, name: &'a str) -> Result<Command<'a>, AllocError>
+    ensures app { IfOk result (λ command. app_of command ≡ spec.paths_command name.entry.now) }
+    ensures local { IfOk result (λ command. (fields_of command).has_globals ≡ false) }
 {
     let schema = Arg::new(alloc, "schema")
         .required(true)
         .value_name("SCHEMA");
     let query = Arg::new(alloc, "query").required(true).value_name("QUERY");
+    Command::new(alloc, name).arg(schema)?.arg(query)
+}
+
+// The words `NAME SCHEMA QUERY` and one more path.
+fn file_command<'a>(
+    alloc: Global,
+    name: &'a str,
+    value_name: &'a str,
+) -> Result<Command<'a>, AllocError>
+    ensures app { IfOk result (λ command. app_of command ≡ spec.file_command name.entry.now) }
+    ensures local { IfOk result (λ command. (fields_of command).has_globals ≡ false) }
+{
+    let file = Arg::new(alloc, "file")
+        .required(true)
+        .value_name(value_name);
+    paths_command(alloc, name)?.arg(file)
+}
+
+// The words `run SCHEMA QUERY [NAME=PATH]...`.
+fn run_command<'a>(alloc: Global) -> Result<Command<'a>, AllocError>
+    ensures app { IfOk result (λ command. app_of command ≡ spec.tables_command (codes "run")) }
+    ensures local { IfOk result (λ command. (fields_of command).has_globals ≡ false) }
+{
     let tables = Arg::new(alloc, "tables")
         .num_args(0..)
         .value_name("NAME=PATH");
-    let run = Command::new(alloc, "run")
-        .arg(schema)?
-        .arg(query)?
-        .arg(tables)?;
-    let command = Command::new(alloc, "wdcheck")
-        .no_binary_name(true)
-        .subcommand_required(true)
-        .subcommand(run)?;
-    Ok(command)
+    paths_command(alloc, "run")?.arg(tables)
 }
 
-// What a parse has found for `run`.
-fn found<'a>(alloc: Global, matches: &ArgMatches<'a>) -> Result<Option<RunWords<'a>>, AllocError>
-    ensures { IfOk result (λ given. (rows : List Row) → subcommand_rows_of matches.now ≡ Some (codes "run", rows) → AreInRows rows given) }
+// What a parse has found.
+fn found<'a>(alloc: Global, matches: &ArgMatches<'a>) -> Result<Option<Request<'a>>, AllocError>
+    ensures { IfOk result (λ request. option_map asked_by request ≡ asked_in (subcommand_rows_of matches.now)) }
 {
-    let Some(run) = matches.subcommand_matches("run") else {
+    if let Some(given) = matches.subcommand_matches("verify") {
+        return Ok(verify_request(given));
+    }
+    if let Some(given) = matches.subcommand_matches("run") {
+        return run_request(alloc, given);
+    }
+    Ok(None)
+}
+
+// The paths of the schema and the query.
+fn two_paths<'a>(given: &ArgMatches<'a>) -> Option<(&'a str, &'a str)>
+    ensures { option_map {U = List ℕ × List ℕ} (λ paths. (paths.0.now, paths.1.now)) result ≡ spec.two_paths (rows_of (found_of given.now)) }
+{
+    Some((given.get_str("schema")?, given.get_str("query")?))
+}
+
+// These, and the path of one more file.
+fn three_paths<'a>(given: &ArgMatches<'a>) -> Option<(&'a str, &'a str, &'a str)>
+    ensures { option_map {U = List ℕ × List ℕ × List ℕ} (λ paths. (paths.0.now, paths.1.now, paths.2.now)) result
+        ≡ spec.three_paths (rows_of (found_of given.now)) }
+{
+    let file = given.get_str("file")?;
+    let (schema, query) = two_paths(given)?;
+    Some((schema, query, file))
+}
+
+fn verify_request<'a>(given: &ArgMatches<'a>) -> Option<Request<'a>>
+    ensures { option_map asked_by result ≡ option_map (λ paths. Verify paths.0 paths.1 paths.2) (spec.three_paths (rows_of (found_of given.now))) }
+{
+    let (schema, query, certificate) = three_paths(given)?;
+    Some(Request::Verify {
+        schema,
+        query,
+        certificate,
+    })
+}
+
+fn run_request<'a>(alloc: Global, given: &ArgMatches<'a>) -> Result<Option<Request<'a>>, AllocError>
+    ensures { IfOk result (λ request. option_map asked_by request ≡ option_map (λ paths. Run paths.0 paths.1 (tables_in (rows_of (found_of given.now))))
+        (spec.two_paths (rows_of (found_of given.now)))) }
+{
+    let Some((schema, query)) = two_paths(given) else {
         return Ok(None);
     };
-    let Some(schema) = run.get_str("schema") else {
-        return Ok(None);
-    };
-    let Some(query) = run.get_str("query") else {
-        return Ok(None);
-    };
-    let words = run.get_strs("tables").unwrap_or(&[]);
+    let words = given.get_strs("tables").unwrap_or(&[]);
     let tables = Vec::from_slice(alloc, words)?;
-    Ok(Some(RunWords {
+    Ok(Some(Request::Run {
         schema,
         query,
         tables,
