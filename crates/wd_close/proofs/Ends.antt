@@ -1,5 +1,5 @@
 -- The first state, and what the last one is.
-use Rattle.std.proofs.Common.{◌≡◌, ℕ, zero, suc, ◌+◌, ◌<◌, ◌≤◌, Bool, true, cond, ◌&&◌, List, [], ◌∷◌, length, refl, sym, ◌∙◌, ap, arith, subst, eq-eqb, ◌⊎◌, inl, inr, ⊎_elim, Option, Some, None, nat_eq}
+use Rattle.std.proofs.Common.{◌≡◌, ℕ, zero, suc, ◌+◌, ◌<◌, ◌≤◌, Bool, true, cond, ◌&&◌, List, [], ◌∷◌, length, refl, sym, ◌∙◌, ap, arith, subst, eq-eqb, ◌⊎◌, inl, inr, ⊎_elim, Option, Some, None, nat_eq, get_or}
 use Rattle.std.specs.List.{list_all, AllByRecursion, range_with_len}
 use Rattle.std.proofs.lemmas.Bool.{cases_eq, and_parts, false≢true}
 use Rattle.std.proofs.lemmas.List.{length-map, take_all}
@@ -8,14 +8,14 @@ use Rattle.wd_facts.specs.declared.facts.Member.TheVariants.{Left, Right}
 use Rattle.wd_facts.specs.Facts.{Fact, FactList}
 use Rattle.wd_sets.specs.Sets.{has, stands_in}
 use Rattle.wd_close.specs.Closure.{all_members, columns_between, is_named, side_facts}
-use Rattle.wd_close.specs.Reached.{all_added, fired}
+use Rattle.wd_close.specs.Reached.{all_added, fired, is_done}
 use Rattle.wd_close.proofs.Gives.{Gives, itself_given}
-use Rattle.wd_close.proofs.Lists.{all_added_from, all_added_has, all_at, all_from, between_from, different, front_within, lacking, lacking_nil, none_lacking}
+use Rattle.wd_close.proofs.Lists.{Within, all_added_from, all_added_has, all_at, all_from, between_from, different, front_within, lacking, lacking_nil, none_lacking}
 use Rattle.wd_close.proofs.Model.{IsClosed, closed_has}
 use Rattle.wd_close.proofs.Names.{HasSplit, IsNamed, left_at, right_at, right_named, sides_named}
 use Rattle.wd_close.proofs.Queue.{Good, good_all}
 use Rattle.wd_close.proofs.Steps.{Sides, State, fired_good, fired_has, front_fired, occurs, sizes, sizes_at}
-use Rattle.wd_close.proofs.Step.{done_gives, done_is}
+use Rattle.wd_close.proofs.Step.{done_gives, done_is, is_done-lt, left_reached}
 
 abbrev pub started : List Fact → List Member → List Member
 started list from = fired list (sizes list) (all_added [] from) (range_with_len 0 (length list))
@@ -39,19 +39,32 @@ occurs_range a (suc n) i h k = by (λ (ne : i ≡ a → ⊥). occurs_range (a + 
 sizes_long : (list : List Fact) → length (sizes list) ≡ length list
 sizes_long list = length-map list (λ (fact : Fact). length (different fact.from))
 
+first_good : (facts : FactList) (from : List Member) → list_all (is_named facts) from ≡ true → Good facts from (all_added [] from)
+first_good facts from from_named = good_all facts from [] from (good_nil facts from) (λ x e. all_at (is_named facts) from x from_named e) (itself_given facts from)
+
+first_counts : (list : List Fact) (i : ℕ) → i < length list → get_or (sizes list) i 0 ≡ lacking (different (left_at list i)) []
+first_counts list i h = sizes_at list i h ∙ sym (lacking_nil (different (left_at list i)))
+
+-- the facts whose counters are at 0 have their left sides reached
+pub first_left : (facts : FactList) (from : List Member) → list_all (is_named facts) from ≡ true → (i : ℕ) → is_done (sizes facts.list) i ≡ true → (i < length facts.list) × Within (left_at facts.list i) (all_added [] from)
+first_left facts from from_named i e = (
+  omega (arith, is_done-lt (sizes facts.list) i e, sizes_long facts.list),
+  left_reached facts from (all_added [] from) [] (sizes facts.list) (first_good facts from from_named) (λ x f. absurd (false≢true f)) (sizes_long facts.list) (first_counts facts.list) i e,
+)
+
 pub first_state : (facts : FactList) (from : List Member) → AllByRecursion (IsNamed facts) facts.list → list_all (is_named facts) from ≡ true → State facts from 0 (started facts.list from) (sizes facts.list)
 first_state facts from names from_named = record {
-  good = fired_good facts.list (sizes facts.list) facts from (all_added [] from) (range_with_len 0 (length facts.list)) good0 (λ i x e f. all_at (is_named facts) (right_at facts.list i) x (right_named facts facts.list i names) f) (done_gives facts from (all_added [] from) [] (sizes facts.list) good0 (λ x e. absurd (false≢true e)) (sizes_long facts.list) (λ i h. sizes_at facts.list i h ∙ sym (lacking_nil (different (left_at facts.list i)))));
+  good = fired_good facts.list (sizes facts.list) facts from (all_added [] from) (range_with_len 0 (length facts.list)) good0 (λ i x e f. all_at (is_named facts) (right_at facts.list i) x (right_named facts facts.list i names) f) (done_gives facts from (all_added [] from) [] (sizes facts.list) good0 (λ x e. absurd (false≢true e)) (sizes_long facts.list) (first_counts facts.list));
   start = λ x e. front_within (all_added [] from) (started facts.list from) (front_fired facts.list (sizes facts.list) (all_added [] from) (range_with_len 0 (length facts.list))) x (all_added_has [] from x e);
   reached = omega arith;
   sides = record { row = λ e. absurd (false≢true e); left = λ s e f. absurd (false≢true f); right = λ s e f. absurd (false≢true f); both = λ s e f. absurd (false≢true f) };
   long = sizes_long facts.list;
-  counts = λ i h. sizes_at facts.list i h ∙ sym (lacking_nil (different (left_at facts.list i)));
+  counts = first_counts facts.list;
   fires = λ i h e x f. fired_has facts.list (sizes facts.list) (all_added [] from) (range_with_len 0 (length facts.list)) i x (occurs_range 0 (length facts.list) i (omega arith) (omega (arith, h))) (done_is (sizes facts.list) i (omega (arith, h, sizes_long facts.list)) e) f;
 }
   where
     good0 : Good facts from (all_added [] from)
-    good0 = good_all facts from [] from (good_nil facts from) (λ x e. all_at (is_named facts) from x from_named e) (itself_given facts from)
+    good0 = first_good facts from from_named
 
 -- ---- the last state
 

@@ -11,5 +11,6 @@ pub mod Step
 pub mod Ends
 pub mod Watching
 pub mod Once
+pub mod Derivations
 pub mod Loop
 pub mod Worked

@@ -9,13 +9,14 @@ use Rattle.wd_facts.specs.declared.facts.Member.TheVariants.{Row}
 use Rattle.wd_facts.specs.Facts.{Fact, FactList, columns_named, fact_of}
 use Rattle.wd_sets.specs.Sets.{place, stands_in}
 use Rattle.wd_close.specs.Closure.{IsClosure, all_members, is_named, steps_of}
-use Rattle.wd_close.specs.Reached.{all_added, brought, fallen, fired, watching}
+use Rattle.wd_close.specs.Reached.{all_added, brought, fallen, fired, used, watching}
 use Rattle.wd_close.proofs.Counts.{in_and_lacking, number_different, number_in, number_is}
 use Rattle.wd_close.proofs.Lists.{all_apart, all_at, different, lacking, lacking_falls, lacking_nil}
 use Rattle.wd_close.proofs.Names.{HasSplit, IsNamed, left_at, named_in}
 use Rattle.wd_close.proofs.Steps.{State, occurs, sizes}
-use Rattle.wd_close.proofs.Step.{fresh, now_is, stands_get, step}
+use Rattle.wd_close.proofs.Step.{done_left, fresh, now_is, stands_get, step}
 use Rattle.wd_close.proofs.Ends.{complete, first_state, started}
+use Rattle.wd_close.proofs.Derivations.{IsDerived, brought_derived, each}
 use Rattle.wd_close.proofs.Watching.{apart_left, each_length, each_long, is_watching, place_lt, put_all, put_each}
 
 pub written : (new items : List ℕ) (len : ℕ) → length new ≡ length items → len ≡ length items → take len (new ++ drop (length new) items) ≡ new
@@ -36,6 +37,16 @@ module _ (facts : FactList) (from : List Member) (within : HasSplit facts) (name
   pub next_state : (cs' : List ℕ) (q' : List Member) → cs' ≡ fallen cs (watching W q k) → q' ≡ fired facts.list cs' (brought facts q (get_or q k Row)) (watching W q k) → State facts from (k + 1) q' cs'
   next_state cs' q' e f =
       subst (λ r. State facts from (k + 1) r cs') (sym (f ∙ ap (λ c. fired facts.list c (brought facts q (get_or q k Row)) (watching W q k)) e)) (subst (State facts from (k + 1) (fired facts.list (fallen cs (watching W q k)) (brought facts q (get_or q k Row)) (watching W q k))) (sym e) (step facts from within names k q cs (watching W q k) st lt once_in))
+
+  pub next_derived : (cs' : List ℕ) (q' : List Member) (uses uses' : List ℕ) → cs' ≡ fallen cs (watching W q k) → q' ≡ fired facts.list cs' (brought facts q (get_or q k Row)) (watching W q k) → uses' ≡ used facts.list cs' (brought facts q (get_or q k Row)) uses (watching W q k) → IsDerived facts from q uses → IsDerived facts from q' uses'
+  next_derived cs' q' uses uses' e f g d =
+      let w = watching W q k in
+      let q1 = brought facts q (get_or q k Row) in
+      let all : IsDerived facts from (fired facts.list (fallen cs w) q1 w) (used facts.list (fallen cs w) q1 uses w) =
+      each facts from (fallen cs w) q1 uses w (brought_derived facts from q uses (get_or q k Row) d (stands_get q k lt)) (done_left facts from within names k q cs w st lt once_in) in
+      let q_is : q' ≡ fired facts.list (fallen cs w) q1 w = f ∙ ap (λ c. fired facts.list c q1 w) e in
+      let uses_is : uses' ≡ used facts.list (fallen cs w) q1 uses w = g ∙ ap (λ c. used facts.list c q1 uses w) e in
+      subst (λ r. IsDerived facts from r uses') (sym q_is) (subst (IsDerived facts from (fired facts.list (fallen cs w) q1 w)) (sym uses_is) all)
 
 -- ---- the number of steps
 

@@ -46,7 +46,7 @@ holds_at n (f ∷ fs) (suc i) a p q k l s = holds_at n fs i a.1 p q k l s
 pub done_is : (cs : List ℕ) (i : ℕ) → i < length cs → get_or cs i 0 ≡ 0 → is_done cs i ≡ true
 done_is cs i h e = λ j. lt-ltb i (length cs) h j && eq-eqb (get_or cs i 0) 0 e j
 
-is_done-lt : (cs : List ℕ) (i : ℕ) → is_done cs i ≡ true → i < length cs
+pub is_done-lt : (cs : List ℕ) (i : ℕ) → is_done cs i ≡ true → i < length cs
 is_done-lt cs i e = ltb-true i (length cs) (and_parts (nat_lt i (length cs)) (nat_eq (get_or cs i 0) 0) e).0
 
 is_done-zero : (cs : List ℕ) (i : ℕ) → is_done cs i ≡ true → get_or cs i 0 ≡ 0
@@ -54,7 +54,7 @@ is_done-zero cs i e = eqb-true (get_or cs i 0) 0 (and_parts (nat_lt i (length cs
 
 -- facts whose counters are at 0 give only what follows
 module _ (facts : FactList) (from q P : List Member) (cs : List ℕ) (good : Good facts from q) (within : Within P q) (long : length cs ≡ length facts.list) (counts : (i : ℕ) → i < length facts.list → get_or cs i 0 ≡ lacking (different (left_at facts.list i)) P) where
-  left_reached : (i : ℕ) → is_done cs i ≡ true → Within (left_at facts.list i) q
+  pub left_reached : (i : ℕ) → is_done cs i ≡ true → Within (left_at facts.list i) q
   left_reached i e x f =
       let h : i < length facts.list = omega (arith, is_done-lt cs i e, long) in
       within x (lacking_none (different (left_at facts.list i)) P (sym (counts i h) ∙ is_done-zero cs i e) x (all_added_has [] (left_at facts.list i) x f))
@@ -178,6 +178,10 @@ module _ (facts : FactList) (from : List Member) (within : HasSplit facts) (name
       by : (occurs i w ≡ 0) ⊎ (occurs i w ≡ 0 → ⊥) → stands_in q' x ≡ true
       by (inl z) = front_within q q' front x (st.fires i h (omega (arith, z, e, fallen_at cs w i (omega (arith, h, st.long)))) x f)
       by (inr z) = fired_has facts.list cs' q1 w i x (omega (arith, z)) (done_is cs' i (omega (arith, h, long')) e) f
+
+  -- the facts whose counters are at 0 have their left sides reached
+  pub done_left : (i : ℕ) → is_done cs' i ≡ true → (i < length facts.list) × Within (left_at facts.list i) q1
+  done_left i e = (omega (arith, is_done-lt cs' i e, long'), λ x f. front_within q q1 front1 x (left_reached facts from q P cs' st.good in_q long' counts' i e x f))
 
   pub step : State facts from (k + 1) q' cs'
   step = record {

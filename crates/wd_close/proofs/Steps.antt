@@ -56,7 +56,7 @@ fallen_at cs (j ∷ is) i h = omega (arith, fallen_at (set cs j (get_or cs j 0 -
 -- ---- facts that fire
 
 module _ (list : List Fact) (cs : List ℕ) where
-  one_cases : (P : List Member → Type 0) (q : List Member) (i : ℕ) → P q → (is_done cs i ≡ true → P (all_added q (right_at list i))) → P (fired_one list cs q i)
+  pub one_cases : (P : List Member → Type 0) (q : List Member) (i : ℕ) → P q → (is_done cs i ≡ true → P (all_added q (right_at list i))) → P (fired_one list cs q i)
   one_cases P q i p f = by (bool_cases (is_done cs i))
     where
       by : (is_done cs i ≡ true) ⊎ (is_done cs i ≡ false) → P (fired_one list cs q i)
@@ -66,7 +66,7 @@ module _ (list : List Fact) (cs : List ℕ) where
   one_has : (q : List Member) (i : ℕ) (x : Member) → is_done cs i ≡ true → stands_in (right_at list i) x ≡ true → stands_in (fired_one list cs q i) x ≡ true
   one_has q i x e f = subst (λ r. stands_in r x ≡ true) (sym (ap (λ (b : Bool). if b then with_fact q (slice_get list i) else q) e ∙ with_fact_is q list i)) (all_added_has q (right_at list i) x f)
 
-  front_one : (q : List Member) (i : ℕ) → Front q (fired_one list cs q i)
+  pub front_one : (q : List Member) (i : ℕ) → Front q (fired_one list cs q i)
   front_one q i = one_cases (Front q) q i (front_self q) (λ e. front_all q (right_at list i))
 
   pub front_fired : (q : List Member) (is : List ℕ) → Front q (fired list cs q is)

@@ -1,9 +1,10 @@
 -- What columns give by facts: what they give in each row list in which the facts hold (SQL, functional dependencies).
-use Rattle.std.specs.Prelude.{◌≡◌, ℕ, ◌+◌, ◌-◌, ◌↔◌, Bool, true, ◌&&◌, List, [], ◌∷◌, count_by, sum_by, nat_lt, nat_le, Option, Some, None, is_some}
+use Rattle.std.specs.Prelude.{◌≡◌, ℕ, ◌+◌, ◌-◌, ◌↔◌, Bool, true, ◌&&◌, List, [], ◌∷◌, count_by, sum_by, nat_lt, nat_le, slice_get, Option, Some, None, is_some}
 use Rattle.std.specs.List.{AllByRecursion, list_all, range_with_len}
 use Rattle.wd_facts.specs.declared.facts.Member.{Member}
 use Rattle.wd_facts.specs.declared.facts.Member.TheVariants.{Column, Left, Right, Row}
 use Rattle.wd_facts.specs.Facts.{Fact, FactList, Paired, Holds, columns_named, key_fact}
+use Rattle.wd_sets.specs.Reaches.{also, reaches, reaches_each}
 use Rattle.wd_sets.specs.Sets.{stands_in}
 
 -- ---- names
@@ -46,6 +47,15 @@ Follows facts columns m =
 -- a set has just what columns give
 abbrev pub IsClosure : FactList → List ℕ → (Member → Bool) → Type 0
 IsClosure facts columns has = (m : Member) → (has m ≡ true) ↔ ((is_named facts m ≡ true) × Follows facts columns m)
+
+-- ---- derivations
+
+-- facts, by their numbers, show that members give others: they are used one after another, each where its left side is
+-- reached with what is there, beside which its right side then is; with what is there in the end each of the others is reached
+abbrev pub Derives : FactList → List ℕ → (Member → Bool) → (Member → Bool) → Type 0
+Derives facts [] has others = (m : Member) → others m ≡ true → reaches facts has m ≡ true
+Derives facts (n ∷ uses) has others =
+    (fact : Fact) × (slice_get facts.list n ≡ Some fact) × (reaches_each facts has fact.from ≡ true) × Derives facts uses (also has fact.to) others
 
 -- ---- steps
 

@@ -64,6 +64,14 @@ abbrev pub fired : List Fact → List ℕ → List Member → List ℕ → List 
 fired list counters q [] = q
 fired list counters q (i ∷ is) = fired list counters (fired_one list counters q i) is
 
+-- the uses of facts, with this one behind them where it reaches what was not reached yet
+abbrev pub used_one : List Fact → List ℕ → List Member → List ℕ → ℕ → List ℕ
+used_one list counters q uses i = if nat_lt (length q) (length (fired_one list counters q i)) then uses ++ i ∷ [] else uses
+
+abbrev pub used : List Fact → List ℕ → List Member → List ℕ → List ℕ → List ℕ
+used list counters q uses [] = uses
+used list counters q uses (i ∷ is) = used list counters (fired_one list counters q i) (used_one list counters q uses i) is
+
 -- ---- the facts that stand with each member, at its place
 
 abbrev pub is_number : Option ℕ → ℕ → Bool

@@ -63,38 +63,64 @@ fn fire_one(
     Ok(())
 }
 
+/// The same, and notes the fact where that reaches what was not reached yet.
+fn use_one(
+    list: &[Given],
+    counters: &[usize],
+    set: &mut Set,
+    queue: &mut Vec<Member>,
+    uses: &mut Vec<u64>,
+    fact: usize,
+) -> Result<(), OutOfMemory>
+    requires mirrors { Mirrors set.old queue.old.items }
+    ensures mirrors { IfOk result (λ _. Mirrors set.new queue.new.items) }
+    ensures queue { IfOk result (λ _. queue.new.items ≡ spec.fired_one (map fact_of list.now) counters.now queue.old.items fact) }
+    ensures uses { IfOk result (λ _. uses.new.items ≡ spec.used_one (map fact_of list.now) counters.now queue.old.items uses.old.items fact) }
+{
+    let before = queue.len();
+    fire_one(list, counters, set, queue, fact)?;
+    if before < queue.len() {
+        uses.push(fact as u64)?;
+    }
+    Ok(())
+}
+
 /// Those of these facts whose counters are at 0 give their right sides.
 pub(crate) fn fire(
     list: &[Given],
     counters: &[usize],
     set: &mut Set,
     queue: &mut Vec<Member>,
+    uses: &mut Vec<u64>,
     watchers: &[usize],
 ) -> Result<(), OutOfMemory>
     requires mirrors { Mirrors set.old queue.old.items }
     ensures mirrors { IfOk result (λ _. Mirrors set.new queue.new.items) }
     ensures queue { IfOk result (λ _. queue.new.items ≡ spec.fired (map fact_of list.now) counters.now queue.old.items watchers.now) }
+    ensures uses { IfOk result (λ _. uses.new.items ≡ spec.used (map fact_of list.now) counters.now queue.old.items uses.old.items watchers.now) }
 {
     for fact in watchers {
-        fire_one(list, counters, set, queue, *fact)?;
+        use_one(list, counters, set, queue, uses, *fact)?;
     }
     Ok(())
 }
 
 /// The same of each fact.
-#[tactic(auto, using(crate::proofs::Ranges::fired_more, crate::proofs::Ranges::fired_none))]
+#[tactic(auto, using(crate::proofs::Ranges::fired_more, crate::proofs::Ranges::fired_none, crate::proofs::Ranges::used_more, crate::proofs::Ranges::used_none))]
 pub(crate) fn fire_each(
     list: &[Given],
     counters: &[usize],
     set: &mut Set,
     queue: &mut Vec<Member>,
+    uses: &mut Vec<u64>,
 ) -> Result<(), OutOfMemory>
     requires mirrors { Mirrors set.old queue.old.items }
     ensures mirrors { IfOk result (λ _. Mirrors set.new queue.new.items) }
     ensures queue { IfOk result (λ _. queue.new.items ≡ spec.fired (map fact_of list.now) counters.now queue.old.items (range_with_len 0 (length list.now))) }
+    ensures uses { IfOk result (λ _. uses.new.items ≡ spec.used (map fact_of list.now) counters.now queue.old.items uses.old.items (range_with_len 0 (length list.now))) }
 {
     for fact in 0..list.len() {
-        fire_one(list, counters, set, queue, fact)?;
+        use_one(list, counters, set, queue, uses, fact)?;
     }
     Ok(())
 }

@@ -7,4 +7,4 @@ pub mod laws;
 mod reached;
 mod watchers;
 
-pub use closing::{closure, closure_counted};
+pub use closing::{Derived, closure, closure_counted, closure_derived};

@@ -14,7 +14,8 @@ use Rattle.wd_facts.specs.Laws.{AreKept, ArePlain}
 use Rattle.wd_facts.proofs.Nodes.{unpaired_hold}
 use Rattle.wd_facts.proofs.Sides.{HasSides}
 use Rattle.wd_rules.specs.Rules.{claims_refusal, entry_refusal, is_target, keep_refusal, kept_fact, kept_facts, kept_refusal, member_of, refuse_unless, rules_refusal}
-use Rattle.wd_rules.specs.Traces.{Traced, each_traced, reaches_each}
+use Rattle.wd_sets.specs.Reaches.{reaches_each}
+use Rattle.wd_rules.specs.Traces.{Traced, each_traced}
 use Rattle.wd_rules.proofs.Refused.{each_passed, first_passed, later_passed, passed}
 use Rattle.wd_rules.proofs.Traces.{IsTrue, each_same, each_true, from_is}
 

@@ -1,6 +1,6 @@
 -- The rules of an entry that is not refused settle a Window's calls and a Limit in the rows that the node reads.
 use Rattle.std.proofs.Common.{◌≡◌, ℕ, zero, suc, ◌<◌, ◌≤◌, Bool, true, false, not, ◌&&◌, ◌||◌, List, [], ◌∷◌, ◌++◌, length, refl, sym, ◌∙◌, ap, subst, arith, nat_lt, nat_eq, Option, Some, None, is_some, ◌⊎◌, inl, inr, slice_get}
-use Rattle.std.specs.List.{AllByRecursion, list_any, list_all}
+use Rattle.std.specs.List.{AllByRecursion, list_all}
 use Rattle.std.proofs.lemmas.Bool.{and_parts, or_cases, false≢true, eqb-true, ltb-true, ltb-false}
 use Rattle.wd_value.specs.declared.value.Value.TheVariants.{Null}
 use Rattle.wd_value.specs.Rows.{Row as RowValues, column_of, columns_of, row_at}
@@ -31,7 +31,8 @@ use Rattle.wd_facts.proofs.Sides.{HasSides}
 use Rattle.wd_facts.proofs.Windows.{input_column, inputs_shown, shown_long, shown_rows}
 use Rattle.wd_sets.specs.Sets.{is_in}
 use Rattle.wd_rules.specs.Rules.{call_refusal, calls_refusal, exchange_class, exchange_only, has_one_exchange, is_exchange, is_whole_or_ties, limit_refusal, refuse_unless, refuse_unless_shown, shows, shows_column, shows_value, taken_column, window_refusal}
-use Rattle.wd_rules.specs.Traces.{Traced, reaches_each}
+use Rattle.wd_sets.specs.Reaches.{reaches_each}
+use Rattle.wd_rules.specs.Traces.{Traced}
 use Rattle.wd_rules.proofs.Kept.{at_number}
 use Rattle.wd_rules.proofs.Refused.{first_passed, later_passed, passed, shown_there}
 use Rattle.wd_rules.proofs.Traces.{IsTrue, among_same, each_same}

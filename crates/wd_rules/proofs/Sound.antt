@@ -1,5 +1,5 @@
 -- What a valid certificate keeps holds, and its rules settle the plan: by induction on the plan.
-use Rattle.std.proofs.Common.{◌≡◌, ℕ, ◌+◌, true, ◌&&◌, List, [], ◌∷◌, ◌++◌, length, take, drop, refl, ◌∙◌, ap, subst, nat_eq, None, Result, Ok, Err}
+use Rattle.std.proofs.Common.{◌≡◌, ℕ, ◌+◌, true, ◌&&◌, List, [], ◌∷◌, ◌++◌, length, take, drop, refl, ◌∙◌, ap, subst, None, Result, Ok, Err}
 use Rattle.std.specs.List.{AllByRecursion}
 use Rattle.std.proofs.lemmas.Bool.{and_parts}
 use Rattle.wd_value.specs.Rows.{Row as RowValues, Instance}
@@ -17,7 +17,6 @@ use Rattle.wd_plan.proofs.Ranges.{IsSound, calls_sound, kinds_below, names_class
 use Rattle.wd_laws.proofs.TheLaws.{plan_has_one}
 use Rattle.wd_certificate.specs.Certificates.{NodeRecord}
 use Rattle.wd_certificate.specs.declared.error.CertError.{CertError}
-use Rattle.wd_certificate.specs.declared.error.CertError.TheVariants.{Count, Shape}
 use Rattle.wd_facts.specs.declared.facts.Member.TheVariants as member
 use Rattle.wd_facts.specs.Facts.{Fact, FactList, Holds, Paired, PairsRows, beside, unpaired}
 use Rattle.wd_facts.specs.Given.{calls_facts}
@@ -30,7 +29,7 @@ use Rattle.wd_facts.proofs.Pairs.{sides}
 use Rattle.wd_facts.proofs.Sides.{AreSides, HasSides}
 use Rattle.wd_facts.proofs.Windows.{IsWell, calls_hold, shown_carries, shown_rows}
 use Rattle.wd_rules.specs.Laws.{FactsHold, GivenHoldAt, KeptHold, NeverBoth, ValidHasOne, ValidShows}
-use Rattle.wd_rules.specs.Rules.{claims_refusal, entry_refusal, keep_refusal, kept_facts, or_else, refuse_unless, rules_refusal}
+use Rattle.wd_rules.specs.Rules.{claims_refusal, entry_refusal, keep_refusal, kept_facts, or_else, rules_refusal}
 use Rattle.wd_rules.specs.Traces.{Traced, each_traced}
 use Rattle.wd_rules.specs.Validity.{form_refusal, given_at, kept_below, kept_right, nodes_refusal, top_at, top_number, top_refusal}
 use Rattle.wd_rules.proofs.Kept.{keeps}

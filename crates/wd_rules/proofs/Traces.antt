@@ -11,7 +11,8 @@ use Rattle.wd_facts.specs.Facts.{Fact, FactList, Paired, Same, Holds, columns_na
 use Rattle.wd_facts.proofs.Sides.{HasSides}
 use Rattle.wd_sets.specs.Sets.{is_in, same_member, stands_in}
 use Rattle.wd_rules.specs.Rules.{trace_or}
-use Rattle.wd_rules.specs.Traces.{Traced, also, and_then, by_side, each_traced, has_row, reaches, reaches_each, traced, with_use, with_uses}
+use Rattle.wd_sets.specs.Reaches.{also, by_side, has_row, reaches, reaches_each}
+use Rattle.wd_rules.specs.Traces.{Traced, and_then, each_traced, traced, with_use, with_uses}
 use Rattle.wd_rules.proofs.Refused.{ok_parts}
 
 pub same_member-is : (a b : Member) → same_member a b ≡ true → a ≡ b

@@ -24,7 +24,8 @@ use Rattle.wd_facts.specs.declared.facts.Member.TheVariants as member
 use Rattle.wd_facts.specs.Facts.{Fact, FactList, columns_named}
 use Rattle.wd_facts.specs.Given.{all_columns}
 use Rattle.wd_sets.specs.Sets.{is_in}
-use Rattle.wd_rules.specs.Traces.{Traced, each_traced, reaches_each}
+use Rattle.wd_sets.specs.Reaches.{reaches_each}
+use Rattle.wd_rules.specs.Traces.{Traced, each_traced}
 
 -- ---- refusals in turn
 

@@ -1,45 +1,19 @@
 -- Traces: what a list of columns reaches by the given facts that are used, one after another.
-use Rattle.std.specs.Prelude.{ℕ, Bool, true, false, ◌&&◌, ◌||◌, List, [], ◌∷◌, nat_lt, nat_le, slice_get, Option, Some, None, Result, Ok, Err, if◌then◌else◌}
+use Rattle.std.specs.Prelude.{ℕ, Bool, List, [], ◌∷◌, nat_lt, slice_get, Option, Some, None, Result, Ok, Err, if◌then◌else◌}
 use Rattle.std.specs.List.{list_all}
 use Rattle.wd_certificate.specs.Certificates.{TraceRecord}
 use Rattle.wd_certificate.specs.declared.error.CertError.{CertError}
 use Rattle.wd_certificate.specs.declared.error.CertError.TheVariants.{UnreachedUse, OutOfRange}
 use Rattle.wd_facts.specs.declared.facts.Member.{Member}
-use Rattle.wd_facts.specs.declared.facts.Member.TheVariants.{Column, Left, Right, Row}
 use Rattle.wd_facts.specs.Facts.{Fact, FactList, columns_named}
+use Rattle.wd_sets.specs.Reaches.{also, reaches_each}
 use Rattle.wd_sets.specs.Sets.{stands_in}
-
--- ---- what members reach
-
--- both sides bring the row
-abbrev pub has_row : Option ℕ → (Member → Bool) → Bool
-has_row None has = has Row
-has_row (Some split) has = has Row || (has Left && has Right)
-
--- a side brings all of its columns
-abbrev pub by_side : Option ℕ → ℕ → (Member → Bool) → ℕ → Bool
-by_side None columns has c = false
-by_side (Some split) columns has c = (has Left && nat_lt c split) || (has Right && (nat_le split c && nat_lt c columns))
-
--- what is reached with these members; the row brings every column and both sides
-abbrev pub reaches : FactList → (Member → Bool) → Member → Bool
-reaches facts has (Column c) = has (Column c) || (by_side facts.split facts.columns has c || has_row facts.split has)
-reaches facts has Left = has Left || has_row facts.split has
-reaches facts has Right = has Right || has_row facts.split has
-reaches facts has Row = has_row facts.split has
-
-abbrev pub reaches_each : FactList → (Member → Bool) → List Member → Bool
-reaches_each facts has members = list_all (reaches facts has) members
 
 -- ---- a trace, at the node with a number
 
 abbrev pub and_then : {X Y : Type 0} → Result X CertError → (X → Result Y CertError) → Result Y CertError
 and_then (Ok x) f = f x
 and_then (Err refusal) f = Err refusal
-
--- members beside others
-abbrev pub also : (Member → Bool) → List Member → Member → Bool
-also has members m = has m || stands_in members m
 
 -- a use names a given fact whose left side is reached; its right side is then reached too
 abbrev pub with_use : ℕ → FactList → (Member → Bool) → Option Fact → Result (Member → Bool) CertError

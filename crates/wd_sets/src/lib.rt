@@ -3,4 +3,4 @@
 
 mod set;
 
-pub use set::{place, Set};
+pub use set::{Set, place};

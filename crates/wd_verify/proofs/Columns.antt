@@ -6,7 +6,7 @@ use Rattle.wd_facts.specs.declared.facts.Member.{Member}
 use Rattle.wd_facts.specs.declared.facts.Member.TheVariants.{Column}
 use Rattle.wd_facts.specs.Facts.{columns_named}
 use Rattle.wd_sets.specs.Sets.{is_in, stands_in}
-use Rattle.wd_rules.specs.Traces.{also}
+use Rattle.wd_sets.specs.Reaches.{also}
 
 -- a column stands in members where it is among their columns
 named : (columns : List ℕ) (c : ℕ) → stands_in (columns_named columns) (Column c) ≡ is_in columns c

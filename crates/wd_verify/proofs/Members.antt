@@ -6,7 +6,8 @@ use Rattle.wd_certificate.specs.declared.error.CertError.TheVariants.{OutOfRange
 use Rattle.wd_facts.specs.declared.facts.Member.{Member}
 use Rattle.wd_facts.specs.Facts.{Fact, FactList, columns_named}
 use Rattle.wd_sets.specs.Sets.{stands_in}
-use Rattle.wd_rules.specs.Traces.{also, reaches_each, traced, with_use, with_uses}
+use Rattle.wd_sets.specs.Reaches.{also, reaches_each}
+use Rattle.wd_rules.specs.Traces.{traced, with_use, with_uses}
 
 -- one more of some members, before others
 pub one_more : (same has rest : Bool) → ((same || has) || rest) ≡ (has || (same || rest))

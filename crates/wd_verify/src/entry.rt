@@ -12,12 +12,12 @@ ghost use Rattle.wd_facts.specs.Laws.{AreOfChildren, ArePlain};
 ghost use Rattle.wd_rules.specs.Rules as rules;
 ghost use Rattle.wd_verify.specs.Shown.{shown_by};
 
-use crate::evidence::{follow_each, Evidence};
+use crate::evidence::{Evidence, follow_each};
 use crate::kept::{check_keep, members_of, targets_of};
 use crate::rules::{check_limit, check_window};
 use std::alloc::Global;
 use wd_certificate::{CertError, Kept, Node, Trace};
-use wd_facts::{given, Given, Member};
+use wd_facts::{Given, Member, given};
 use wd_plan::Plan;
 use wd_schema::Schema;
 use wd_value::OutOfMemory;

@@ -50,11 +50,7 @@ impl Evidence {
 pub(crate) fn refuse_unless(holds: bool, refusal: CertError) -> Result<(), CertError>
     ensures { refusal_of result ≡ rules.refuse_unless holds refusal }
 {
-    if holds {
-        Ok(())
-    } else {
-        Err(refusal)
-    }
+    if holds { Ok(()) } else { Err(refusal) }
 }
 
 /// The same columns, which are among so many.

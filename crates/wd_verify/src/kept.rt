@@ -4,9 +4,9 @@ ghost use Rattle.std.specs.Prelude.{◌≡◌, true, map, nat_lt, slice_get, IfO
 ghost use Rattle.std.specs.List.{list_all};
 ghost use Rattle.wd_certificate.specs.Certificates.{kept_of};
 ghost use Rattle.wd_facts.specs.Facts.{columns_named, facts_of, is_column};
+ghost use Rattle.wd_sets.specs.Reaches.{reaches_each};
 ghost use Rattle.wd_sets.specs.Sets.{has};
 ghost use Rattle.wd_rules.specs.Rules as rules;
-ghost use Rattle.wd_rules.specs.Traces as traces;
 ghost use Rattle.wd_verify.specs.Shown.{refusal_of, shown_by, traced_of};
 
 use crate::evidence::{Evidence, Followed};
@@ -64,7 +64,7 @@ fn member_of(columns: u16, target: Target) -> Member
 /// Whether each of the targets is reached with the members of the set.
 fn reaches_targets(facts: &Facts, set: &Set, columns: u16, targets: &[Target]) -> bool
     requires { list_all (rules.is_target columns) targets.now ≡ true }
-    ensures { result ≡ traces.reaches_each (facts_of facts.now) (has set.now) (map rules.member_of targets.now) }
+    ensures { result ≡ reaches_each (facts_of facts.now) (has set.now) (map rules.member_of targets.now) }
 {
     for target in targets {
         if !reaches(facts, set, member_of(columns, *target)) {
@@ -103,11 +103,7 @@ fn check_claim(evidence: &Evidence, columns: u16, kept: &Kept) -> Result<(), Cer
 }
 
 /// The facts that an entry keeps, in their order.
-pub(crate) fn check_keep(
-    evidence: &Evidence,
-    columns: u16,
-    keep: &[Kept],
-) -> Result<(), CertError>
+pub(crate) fn check_keep(evidence: &Evidence, columns: u16, keep: &[Kept]) -> Result<(), CertError>
     ensures { refusal_of result ≡ rules.keep_refusal evidence.now.node (facts_of evidence.now.facts) columns (shown_by evidence.now) (map kept_of keep.now) }
 {
     for kept in keep {

@@ -160,7 +160,14 @@ pub(crate) fn check_nodes(
         Plan::Join { left, right, .. } => {
             let left = check_nodes(alloc, left, schema, nodes, first)?;
             let right = check_nodes(alloc, right, schema, nodes, left.next)?;
-            check_top(alloc, plan, schema, nodes, right.next, &[&left.kept, &right.kept])
+            check_top(
+                alloc,
+                plan,
+                schema,
+                nodes,
+                right.next,
+                &[&left.kept, &right.kept],
+            )
         }
         Plan::Filter { input, .. }
         | Plan::Map { input, .. }

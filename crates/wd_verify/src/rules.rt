@@ -9,12 +9,12 @@ ghost use Rattle.wd_plan.specs.Sorting.{class_columns};
 ghost use Rattle.wd_facts.specs.declared.facts.Member.{Member as AMember};
 ghost use Rattle.wd_facts.specs.Facts.{columns_named, facts_of};
 ghost use Rattle.wd_facts.specs.Given.{all_columns};
+ghost use Rattle.wd_sets.specs.Reaches as reaching;
 ghost use Rattle.wd_sets.specs.Sets.{has, has_column, is_in};
 ghost use Rattle.wd_rules.specs.Rules as spec;
-ghost use Rattle.wd_rules.specs.Traces as traces;
 ghost use Rattle.wd_verify.specs.Shown.{refusal_of, shown_by, traced_of};
 
-use crate::evidence::{refuse_unless, Evidence, Followed};
+use crate::evidence::{Evidence, Followed, refuse_unless};
 use crate::trace::{reaches, reaches_each};
 use std::alloc::Global;
 use wd_certificate::{CertError, Rule};
@@ -26,7 +26,7 @@ use wd_value::{OutOfMemory, SortColumn};
 /// Puts columns in.
 #[tactic(auto, using(crate::proofs::Members::one_more))]
 fn insert_columns(set: &mut Set, columns: &[u16]) -> Result<(), OutOfMemory>
-    ensures { IfOk result (λ _. (m : AMember) → has set.new m ≡ traces.also (has set.old) (columns_named columns.now) m) }
+    ensures { IfOk result (λ _. (m : AMember) → has set.new m ≡ reaching.also (has set.old) (columns_named columns.now) m) }
 {
     for column in columns {
         set.insert(Member::Column(*column))?;
@@ -37,7 +37,7 @@ fn insert_columns(set: &mut Set, columns: &[u16]) -> Result<(), OutOfMemory>
 /// Puts the columns of sort keys in.
 #[tactic(auto, using(crate::proofs::Members::one_more))]
 fn insert_keys(set: &mut Set, keys: &[SortColumn]) -> Result<(), OutOfMemory>
-    ensures { IfOk result (λ _. (m : AMember) → has set.new m ≡ traces.also (has set.old) (columns_named (key_columns keys.now)) m) }
+    ensures { IfOk result (λ _. (m : AMember) → has set.new m ≡ reaching.also (has set.old) (columns_named (key_columns keys.now)) m) }
 {
     for key in keys {
         set.insert(Member::Column(key.column))?;
@@ -82,7 +82,7 @@ fn starts_among(among: &Set, from: &[u16]) -> bool
 /// Whether the first so many columns are reached with the members of the set.
 #[tactic(auto, using(crate::proofs::Columns::columns_next, crate::proofs::Columns::columns_end))]
 fn reaches_all(facts: &Facts, set: &Set, columns: u16) -> bool
-    ensures { result ≡ traces.reaches_each (facts_of facts.now) (has set.now) (columns_named (all_columns columns)) }
+    ensures { result ≡ reaching.reaches_each (facts_of facts.now) (has set.now) (columns_named (all_columns columns)) }
 {
     for column in 0..columns {
         if !reaches(facts, set, Member::Column(column)) {

@@ -5,6 +5,7 @@ ghost use Rattle.std.specs.List.{list_all};
 ghost use Rattle.wd_certificate.specs.Certificates.{trace_of};
 ghost use Rattle.wd_facts.specs.declared.facts.Member.{Member as AMember};
 ghost use Rattle.wd_facts.specs.Facts.{columns_named, fact_of, facts_of};
+ghost use Rattle.wd_sets.specs.Reaches as reaching;
 ghost use Rattle.wd_sets.specs.Sets.{has, stands_in};
 ghost use Rattle.wd_rules.specs.Traces as spec;
 
@@ -16,7 +17,7 @@ use wd_value::OutOfMemory;
 
 /// Whether the row is reached with these members.
 fn has_row(split: Option<u16>, set: &Set) -> bool
-    ensures { result ≡ spec.has_row split (has set.now) }
+    ensures { result ≡ reaching.has_row split (has set.now) }
 {
     match split {
         None => set.contains(Member::Row),
@@ -28,7 +29,7 @@ fn has_row(split: Option<u16>, set: &Set) -> bool
 
 /// Whether a column is reached by its side of a Join.
 fn by_side(split: Option<u16>, columns: u16, set: &Set, column: u16) -> bool
-    ensures { result ≡ spec.by_side split columns (has set.now) column }
+    ensures { result ≡ reaching.by_side split columns (has set.now) column }
 {
     match split {
         None => false,
@@ -41,7 +42,7 @@ fn by_side(split: Option<u16>, columns: u16, set: &Set, column: u16) -> bool
 
 /// Whether a member is reached with these.
 pub(crate) fn reaches(facts: &Facts, set: &Set, member: Member) -> bool
-    ensures { result ≡ spec.reaches (facts_of facts.now) (has set.now) member }
+    ensures { result ≡ reaching.reaches (facts_of facts.now) (has set.now) member }
 {
     match member {
         Member::Column(column) => {
@@ -56,7 +57,7 @@ pub(crate) fn reaches(facts: &Facts, set: &Set, member: Member) -> bool
 
 /// Whether each of the members is reached with those of the set.
 pub(crate) fn reaches_each(facts: &Facts, set: &Set, members: &[Member]) -> bool
-    ensures { result ≡ spec.reaches_each (facts_of facts.now) (has set.now) members.now }
+    ensures { result ≡ reaching.reaches_each (facts_of facts.now) (has set.now) members.now }
 {
     for member in members {
         if !reaches(facts, set, *member) {
@@ -69,7 +70,7 @@ pub(crate) fn reaches_each(facts: &Facts, set: &Set, members: &[Member]) -> bool
 /// Puts members in.
 #[tactic(auto, using(crate::proofs::Members::one_more))]
 fn insert_each(set: &mut Set, members: &[Member]) -> Result<(), OutOfMemory>
-    ensures { IfOk result (λ _. (m : AMember) → has set.new m ≡ spec.also (has set.old) members.now m) }
+    ensures { IfOk result (λ _. (m : AMember) → has set.new m ≡ reaching.also (has set.old) members.now m) }
 {
     for member in members {
         set.insert(*member)?;

@@ -33,12 +33,7 @@ fn check_form(plan: &Plan, nodes: &[Node]) -> Result<(), CertError>
 }
 
 /// The checks of a certificate, in their order.
-fn check(
-    alloc: Global,
-    plan: &Plan,
-    schema: &Schema,
-    nodes: &[Node],
-) -> Result<(), CertError>
+fn check(alloc: Global, plan: &Plan, schema: &Schema, nodes: &[Node]) -> Result<(), CertError>
     requires { fits (schema_of schema.now) (plan_of plan.now) ≡ true }
     ensures passed { IfOk result (λ _. first_refusal (schema_of schema.now) (plan_of plan.now) (map node_of nodes.now) ≡ None) }
     ensures refused { IfErr result (λ e. e ≢ CertError.OutOfMemory → first_refusal (schema_of schema.now) (plan_of plan.now) (map node_of nodes.now) ≡ Some e) }

@@ -14,14 +14,14 @@ use Rattle.wd_verify.proofs.nodes.+check_nodes.Goals as goal
 -- past the sides' entries
 by_top : (t : ℕ) (c : goal.After-drop-left-in-Join t) → nodes_refusal (schema_of c.args.schema.now) (plan_of c.args.plan.now) c.args.first (map node_of c.args.nodes.now)
     ≡ entry_refusal c.in_ok-right-in-Join.right.next
-        (given (schema_of c.args.schema.now) (plan_of c.args.plan.now) (map fact_of c.deref-in-Join-2.result.now) (map fact_of c.deref-in-Join-3.result.now))
-        (plan_of c.args.plan.now) (entry_at (map node_of c.args.nodes.now) c.in_ok-right-in-Join.right.next)
+    (given (schema_of c.args.schema.now) (plan_of c.args.plan.now) (map fact_of c.deref-in-Join-2.result.now) (map fact_of c.deref-in-Join-3.result.now))
+    (plan_of c.args.plan.now) (entry_at (map node_of c.args.nodes.now) c.in_ok-right-in-Join.right.next)
 by_top t c =
     let is = ap plan_of c.in-Join.is ∙ (λ i. Join (option_map expression_of c.in-Join.condition) (plan_of (sym c.deref.ensures i)) (plan_of (sym c.deref-in-Join.ensures i))) in
     join_refusal (schema_of c.args.schema.now) (plan_of c.args.plan.now) _ _ _ c.args.first c.in_ok-left-in-Join.left.next c.in_ok-right-in-Join.right.next (map node_of c.args.nodes.now) _ _ is
-        c.in_ok-left-in-Join.ensures.next c.in_ok-right-in-Join.ensures.next
-        (ap (map fact_of) c.deref-in-Join-2.ensures.value ∙ c.in_ok-left-in-Join.ensures.kept) (ap (map fact_of) c.deref-in-Join-3.ensures.value ∙ c.in_ok-right-in-Join.ensures.kept)
-        c.in_ok-left-in-Join.ensures.passed c.in_ok-right-in-Join.ensures.passed
+    c.in_ok-left-in-Join.ensures.next c.in_ok-right-in-Join.ensures.next
+    (ap (map fact_of) c.deref-in-Join-2.ensures.value ∙ c.in_ok-left-in-Join.ensures.kept) (ap (map fact_of) c.deref-in-Join-3.ensures.value ∙ c.in_ok-right-in-Join.ensures.kept)
+    c.in_ok-left-in-Join.ensures.passed c.in_ok-right-in-Join.ensures.passed
 
 pub returns-in_ok-right-in-Join-clause-passed : goal.returns-in_ok-right-in-Join-clause-passed
 returns-in_ok-right-in-Join-clause-passed t c = subst (λ refusal. IfOk c.check_top-in-Join.result (λ checked. refusal ≡ None)) (sym (by_top t c)) c.check_top-in-Join.ensures.passed

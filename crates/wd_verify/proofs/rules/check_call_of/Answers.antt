@@ -13,4 +13,4 @@ returns c =
     let is = subst (λ n. set ≡ slice_index_or c.args.sets.now n set) c.from.ensures c.index-sets-from.is in
     c.check_call.ensures
     ∙ ap (λ among. call_refusal c.args.evidence.now.node (facts_of c.args.evidence.now.facts) c.args.columns (shown_by c.args.evidence.now) among c.args.call.now c.args.rule)
-        (class_there has_column (window_of c.args.window.now) c.args.sets.now c.args.call.now.class set c.requires.class c.requires.sets is)
+    (class_there has_column (window_of c.args.window.now) c.args.sets.now c.args.call.now.class set c.requires.class c.requires.sets is)

@@ -3,7 +3,7 @@ use Rattle.wd_value.specs.Keys.{key_columns}
 use Rattle.wd_facts.specs.declared.facts.Member.{Member}
 use Rattle.wd_facts.specs.Facts.{columns_named}
 use Rattle.wd_sets.specs.Sets.{has}
-use Rattle.wd_rules.specs.Traces.{also}
+use Rattle.wd_sets.specs.Reaches.{also}
 use Rattle.wd_verify.proofs.rules.insert_keys.Given as goal
 
 abbrev pub invariant-loop-key : goal.invariant-loop-key

@@ -2,7 +2,7 @@ use Rattle.std.proofs.Common.{◌≡◌}
 use Rattle.wd_facts.specs.Facts.{columns_named, facts_of}
 use Rattle.wd_facts.specs.Given.{all_columns}
 use Rattle.wd_sets.specs.Sets.{has}
-use Rattle.wd_rules.specs.Traces.{reaches_each}
+use Rattle.wd_sets.specs.Reaches.{reaches_each}
 use Rattle.wd_verify.proofs.Columns.{columns_from}
 use Rattle.wd_verify.proofs.rules.reaches_all.Given as goal
 

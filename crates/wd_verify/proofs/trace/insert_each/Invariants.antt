@@ -1,7 +1,7 @@
 use Rattle.std.proofs.Common.{◌≡◌, drop}
 use Rattle.wd_facts.specs.declared.facts.Member.{Member}
 use Rattle.wd_sets.specs.Sets.{has}
-use Rattle.wd_rules.specs.Traces.{also}
+use Rattle.wd_sets.specs.Reaches.{also}
 use Rattle.wd_verify.proofs.trace.insert_each.Given as goal
 
 abbrev pub invariant-loop-member : goal.invariant-loop-member

@@ -3,7 +3,7 @@ use Rattle.std.specs.List.{list_all}
 use Rattle.wd_facts.specs.declared.facts.Member.{Member}
 use Rattle.wd_facts.specs.Facts.{columns_named}
 use Rattle.wd_sets.specs.Sets.{has, stands_in}
-use Rattle.wd_rules.specs.Traces.{also}
+use Rattle.wd_sets.specs.Reaches.{also}
 use Rattle.wd_verify.proofs.trace.start.Given as goal
 
 abbrev pub invariant-loop-column : goal.invariant-loop-column
