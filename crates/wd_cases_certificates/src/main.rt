@@ -1,14 +1,21 @@
-//! Cases of certificates: their texts, and their refusals.
+//! Cases of certificates: their texts, their verdicts, the facts given at nodes, and refusals.
 #![tactic(auto)]
 
 mod case;
+mod facts;
+mod notation;
+mod plain;
 mod refusal;
+mod sets;
+mod shown;
 mod text;
+mod verdict;
 
 use case::Certificates;
 use std::io;
 use wd_cases::{Comments, answer_lines};
 
 fn main(rt: HostRuntime) -> io::Result<()> {
-    answer_lines(&rt, &mut Certificates, Comments::Printed)
+    let mut cases = Certificates::new(rt.alloc());
+    answer_lines(&rt, &mut cases, Comments::Printed)
 }

@@ -1,4 +1,4 @@
-//! The refusals of certificates by their numbers, places and messages, and the laws of the crate.
+//! The refusals of certificates by their numbers, places and messages, and the laws of the crates.
 use std::alloc::Global;
 use wd_cases::Failure;
 use wd_certificate::CertError;
@@ -31,10 +31,18 @@ pub fn refusal(alloc: Global, text: &str) -> Result<String, Failure> {
     failure_of(&error).explained(alloc, &error)
 }
 
-/// `laws`: the laws of the crate are functions, which return.
+/// `laws`: the laws of the crates are functions, which return.
 pub fn laws(alloc: Global) -> Result<String, Failure> {
     wd_certificate::laws::spells_one();
     wd_certificate::laws::is_read_back();
     wd_certificate::laws::example_text();
+    wd_facts::laws::known_holds();
+    wd_facts::laws::given_facts_hold();
+    wd_rules::laws::valid_shows();
+    wd_rules::laws::valid_has_one();
+    wd_rules::laws::never_both();
+    wd_rules::laws::certificates_come_out();
+    wd_accept::laws::accepted_has_one();
+    wd_accept::laws::not_both();
     Ok(String::from_str(alloc, "hold")?)
 }

@@ -1,0 +1,111 @@
+//! Whether certificates are accepted.
+
+ghost use Rattle.std.specs.Prelude.{◌≡◌, true, IfOk};
+ghost use Rattle.wd_plan.specs.Fits.{fits};
+ghost use Rattle.wd_plan.specs.Plans.{plan_of};
+ghost use Rattle.wd_schema.specs.Schemas.{schema_of};
+
+use crate::case::Certificates;
+use crate::notation::certificate_of;
+use crate::refusal::failure_of;
+use crate::shown::push_nodes;
+use std::alloc::Global;
+use wd_accept::{VerifyError, VerifyOrigin, verify};
+use wd_cases::{Failure, unescaped};
+use wd_certificate::Certificate;
+use wd_query::{PlannedQuery, TextError, read_texts};
+use wd_verify::verify_plan;
+
+/// The plan of the query.
+pub fn planned(alloc: Global, given: &Certificates) -> Result<PlannedQuery, Failure>
+    ensures { IfOk result (λ p. fits (schema_of p.schema) (plan_of p.resolved.plan) ≡ true) }
+{
+    match read_texts(alloc, &given.schema.bytes, &given.query) {
+        Ok(planned) => Ok(planned),
+        Err(error) => Err(refused_text(&error)),
+    }
+}
+
+fn refused_text(error: &TextError) -> Failure {
+    Failure::refused(error.number(), error.place())
+}
+
+/// The nodes of the query's plan.
+pub fn nodes(alloc: Global, given: &Certificates) -> Result<String, Failure> {
+    let planned = planned(alloc, given)?;
+    let mut out = String::new(alloc);
+    push_nodes(&mut out, &planned.resolved.plan)?;
+    Ok(out)
+}
+
+/// `verify TEXT`: whether a certificate's text is accepted for the texts of the schema and the query.
+pub fn verify_text(alloc: Global, given: &Certificates, text: &str) -> Result<String, Failure> {
+    let text = unescaped(alloc, text)?;
+    match verify(alloc, &given.schema.bytes, &given.query, &text) {
+        Ok(_) => Ok(String::from_str(alloc, "accepted")?),
+        Err(error) => refused(alloc, &error),
+    }
+}
+
+fn refused(alloc: Global, error: &VerifyError) -> Result<String, Failure> {
+    let shown = failure_in(error).shown(alloc)?;
+    let origin = origin_of(error);
+    Ok(format!(in alloc; "{origin}: {shown}")?)
+}
+
+fn failure_in(error: &VerifyError) -> Failure {
+    Failure::refused(error.number(), error.place())
+}
+
+fn origin_of(error: &VerifyError) -> &'static str {
+    match error.origin() {
+        VerifyOrigin::Schema => "schema",
+        VerifyOrigin::Query => "query",
+        VerifyOrigin::Certificate => "certificate",
+    }
+}
+
+/// `why TEXT`: the refusal of a certificate's text with its message.
+pub fn why(alloc: Global, given: &Certificates, text: &str) -> Result<String, Failure> {
+    let text = unescaped(alloc, text)?;
+    match verify(alloc, &given.schema.bytes, &given.query, &text) {
+        Ok(accepted) => Ok(format!(in alloc; "{accepted:?}")?),
+        Err(error) => failure_in(&error).explained(alloc, &error),
+    }
+}
+
+/// `verdict ENTRIES`: whether a certificate is accepted for the query's plan, and, where it differs, also as a text.
+pub fn verdict(alloc: Global, given: &Certificates, text: &str) -> Result<String, Failure> {
+    let certificate = certificate_of(alloc, text)?;
+    let of_plan = verdict_of_plan(alloc, given, &certificate)?;
+    let of_text = verdict_of_text(alloc, given, &certificate)?;
+    if of_plan.as_str() == of_text.as_str() {
+        Ok(of_plan)
+    } else {
+        Ok(format!(in alloc; "{of_plan}, as a text {of_text}")?)
+    }
+}
+
+fn verdict_of_plan(
+    alloc: Global,
+    given: &Certificates,
+    certificate: &Certificate,
+) -> Result<String, Failure> {
+    let planned = planned(alloc, given)?;
+    match verify_plan(alloc, &planned.resolved.plan, &planned.schema, certificate) {
+        Ok(()) => Ok(String::from_str(alloc, "accepted")?),
+        Err(error) => Ok(failure_of(&error).shown(alloc)?),
+    }
+}
+
+fn verdict_of_text(
+    alloc: Global,
+    given: &Certificates,
+    certificate: &Certificate,
+) -> Result<String, Failure> {
+    let text = certificate.to_json(alloc)?;
+    match verify(alloc, &given.schema.bytes, &given.query, &text) {
+        Ok(_) => Ok(String::from_str(alloc, "accepted")?),
+        Err(error) => Ok(failure_in(&error).shown(alloc)?),
+    }
+}
