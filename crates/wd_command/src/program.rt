@@ -130,7 +130,12 @@ fn verify_output<'a>(alloc: Global, files: &[InputFile<'a>]) -> Result<Output, F
     ensures ok { IfOk result (λ output. AnswersVerify (map file_of files.now) output.text.items output.status) }
     ensures err { IfErr result (FailsVerify (map file_of files.now)) }
 {
-    verify(alloc, text_of(files, 0), text_of(files, 1), text_of(files, 2))?;
+    verify(
+        alloc,
+        text_of(files, 0),
+        text_of(files, 1),
+        text_of(files, 2),
+    )?;
     let text = Vec::from_slice(alloc, b"ACCEPTED\n")?;
     Ok(Output { text, status: 0 })
 }

@@ -8,5 +8,5 @@ pub returns-in-Verify-clause-ok : goal.returns-in-Verify-clause-ok
 returns-in-Verify-clause-ok c =
     IfOk-weaker c.verify_output.result _ _
     (λ output answered. subst (λ task. HasAnswer (task_of task) (files_of c.args.inputs.now) output.text.items output.status) (sym c.in-Verify.is)
-        (subst (λ files. AnswersVerify (map file_of files) output.text.items output.status) c.as_slice.ensures.value answered))
+    (subst (λ files. AnswersVerify (map file_of files) output.text.items output.status) c.as_slice.ensures.value answered))
     c.verify_output.ensures.ok
