@@ -7,8 +7,9 @@
 First come the certificates of tests/cases, of which the slowest is named: the aim is 10 ms for each. Then come large lawful
 ones, for which the aim is a second: four tables of 256 columns, each with 64 keys, are joined to rows of 1,024 columns; 24
 selects stand over one another above them, and a limit by sort keys on top; each of the 31 nodes below the limit keeps 64 facts.
-In the larger one each trace uses all facts of its node, and what it keeps names all columns. Prints the least seconds and the
-most memory of three runs.
+In the larger one each trace uses all facts of its node, and what it keeps names all columns. Last comes a certificate that says
+nothing, for a table with 64 nullable keys of 150 columns each under 30 selects with 200 conjuncts each, of which one in the
+middle rules NULLs out: there the given facts take the time. Prints the least seconds and the most memory of three runs.
 PROGRAM is the built program (default: crates/wdcheck/out/wdcheck, which ./wdcheck builds). With --write the texts of the large
 ones are written to a folder in place of that.
 """
@@ -22,6 +23,7 @@ import time
 
 TOP = os.path.dirname(os.path.dirname(os.path.abspath(__file__)))
 TABLES, COLUMNS, KEYS, SELECTS = "abcd", 256, 64, 24
+KEY_COLUMNS, FILTERS, CONJUNCTS = 150, 30, 200
 TURNS = 3
 
 
@@ -114,11 +116,38 @@ def certificate_text(whole):
     return json.dumps({"nodes": nodes + [limit], "version": 1}, separators=(",", ":"))
 
 
+def nullable_keys_text():
+    """A table with keys of many columns, which may be NULL."""
+    columns = ["c%d BIGINT" % n for n in range(COLUMNS)]
+    for key in range(KEYS):
+        columns.append("UNIQUE (%s)" % ",".join("c%d" % ((key + n) % KEY_COLUMNS) for n in range(KEY_COLUMNS)))
+    return "CREATE TABLE t (%s);\n" % ", ".join(columns)
+
+
+def filters_text():
+    """Selects over one another, each with a condition; the one in the middle leaves no NULL in the keys."""
+    text = "SELECT * FROM t"
+    for n in range(FILTERS):
+        conjuncts = ["1=1"] * CONJUNCTS
+        if n == FILTERS // 2:
+            conjuncts = ["c%d=c%d" % (column, column + 1) for column in range(0, KEY_COLUMNS, 2)]
+        text += " WHERE " + " AND ".join(conjuncts)
+        if n < FILTERS - 1:
+            text = "SELECT * FROM (%s) AS s" % text
+    return text + "\n"
+
+
+def bare_text(nodes):
+    """A certificate that says nothing of so many nodes."""
+    return json.dumps({"nodes": [{"calls": [], "keep": [], "limit": None, "traces": []}] * nodes, "version": 1})
+
+
 def large_texts():
     """The large ones: a title, and the texts of schema, query and certificate."""
     schema = ";\n".join(table_text(name) for name in TABLES) + ";\n"
     for title, whole in (("64 kept facts a node", False), ("each use and each column", True)):
         yield title, schema, query_text() + "\n", certificate_text(whole)
+    yield "nullable keys", nullable_keys_text(), filters_text(), bare_text(1 + 2 * FILTERS)
 
 
 def measure_cases(program, folder):
