@@ -4,7 +4,7 @@
     python3 tests/stored_answers.py PROGRAM
 
 Each folder of examples/ has schema.sql, query.sql, a CSV file for
-each table and answer.csv. tests/frames has one schema and one table and many queries, each beside its answer: each
+each table and answer.csv; where there is certificate.json too, the program must accept it. tests/frames has one schema and one table and many queries, each beside its answer: each
 function of a window in each mode of frame with each exclusion; those answers are PostgreSQL 15's. A query must end
 with status 0, print exactly the stored answer and nothing on standard error. A missing answer is a failure, and so is
 a folder without queries. The last line is 'N passed, M failed'.
@@ -45,6 +45,15 @@ def complaint(program, schema, query, tables, answer):
     return None if ran.stdout == wanted else f"{ran.stdout[:300]!r} is not the stored answer {wanted[:300]!r}"
 
 
+def refused(program, certificate):
+    """What is wrong where the program does not accept a certificate, or None."""
+    folder = os.path.dirname(certificate)
+    words = [program, "verify", f"{folder}/schema.sql", f"{folder}/query.sql", certificate]
+    ran = subprocess.run(words, stdin=subprocess.DEVNULL, capture_output=True, timeout=300)
+    is_accepted = (ran.returncode, ran.stdout, ran.stderr) == (0, b"ACCEPTED\n", b"")
+    return None if is_accepted else f"status {ran.returncode}, {ran.stdout[:300]!r}, standard error {ran.stderr[:300]!r}"
+
+
 def main():
     program, passed, failed = os.path.abspath(sys.argv[1]), 0, 0
     for cases in (list(examples()), list(frames())):
@@ -54,6 +63,13 @@ def main():
             passed, failed = passed + (not wrong), failed + bool(wrong)
             if wrong:
                 print(f"FAIL {os.path.relpath(query, TOP)}: {wrong}")
+    certificates = sorted(glob.glob(f"{TOP}/examples/*/certificate.json"))
+    failed += not certificates
+    for certificate in certificates:
+        wrong = refused(program, certificate)
+        passed, failed = passed + (not wrong), failed + bool(wrong)
+        if wrong:
+            print(f"FAIL {os.path.relpath(certificate, TOP)}: {wrong}")
     print(f"{passed} passed, {failed} failed")
     return 1 if failed else 0
 

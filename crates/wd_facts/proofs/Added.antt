@@ -1,5 +1,6 @@
 -- Lists that grow at their end, and what is left of them.
-use Rattle.std.proofs.Common.{◌≡◌, ℕ, zero, suc, ◌+◌, List, [], ◌∷◌, ◌++◌, Option, Some, None, option_map, map, add-one, refl, sym, ◌∙◌, ap, arith}
+use Rattle.std.proofs.Common.{◌≡◌, ℕ, zero, suc, ◌+◌, ◌<◌, Bool, false, List, [], ◌∷◌, ◌++◌, length, get_or, Option, Some, None, option_map, map, add-one, refl, sym, ◌∙◌, ap, arith, subst, ◌⊎◌, inl, inr}
+use Rattle.std.proofs.lemmas.Bool.{cases_eq}
 use Rattle.std.specs.List.{range_with_len}
 use Rattle.std.proofs.lemmas.List.{append_assoc}
 use Rattle.wd_plan.specs.declared.window.Call.{Call}
@@ -8,6 +9,7 @@ use Rattle.wd_plan.specs.Outcomes.{class_at}
 use Rattle.wd_plan.specs.Plans.{WindowRule}
 use Rattle.wd_facts.specs.Facts.{Fact}
 use Rattle.wd_facts.specs.Given.{both_copied, call_facts, calls_facts, copied_keys, copies, copy_from, if_copied, output_facts, outputs_facts}
+use Rattle.wd_facts.specs.Known.{IsKnown}
 
 pub range_more : (a n j : ℕ) → a + n ≡ j → range_with_len a (suc n) ≡ range_with_len a n ++ (j ∷ [])
 range_more a zero j e = ap (λ x. x ∷ []) (omega arith)
@@ -49,3 +51,25 @@ calls_next rule front w call calls = append_assoc front (call_facts (class_at ru
 
 pub outputs_next : (m j : ℕ) (front : List Fact) (e : Expression) (es : List Expression) → (front ++ output_facts m j e) ++ outputs_facts m (j + 1) es ≡ front ++ outputs_facts m j (e ∷ es)
 outputs_next m j front e es = append_assoc front (output_facts m j e) (outputs_facts m (j + 1) es)
+
+-- ---- what is known of the first columns
+
+last_known : (known : List Bool) (b : Bool) → get_or (known ++ b ∷ []) (length known) false ≡ b
+last_known [] b = refl
+last_known (x ∷ known) b = last_known known b
+
+known_before : (known : List Bool) (b : Bool) (c : ℕ) → c < length known → get_or (known ++ b ∷ []) c false ≡ get_or known c false
+known_before [] b c below = absurd (omega (arith, below))
+known_before (x ∷ known) b zero below = refl
+known_before (x ∷ known) b (suc c) below = known_before known b c (omega (arith, below))
+
+long : (known : List Bool) (b : Bool) → length (known ++ b ∷ []) ≡ suc (length known)
+long [] b = refl
+long (x ∷ known) b = ap suc (long known b)
+
+pub known_next : (test : ℕ → Bool) (known : List Bool) (b : Bool) → IsKnown test known → b ≡ test (length known) → IsKnown test (known ++ b ∷ [])
+known_next test known b h e c below = by (cases_eq c (length known))
+  where
+    by : (c ≡ length known) ⊎ (c ≡ length known → ⊥) → get_or (known ++ b ∷ []) c false ≡ test c
+    by (inl is) = subst (λ n. get_or (known ++ b ∷ []) n false ≡ test n) (sym is) (last_known known b ∙ e)
+    by (inr apart) = let shorter : c < length known = omega (arith, below, long known b, apart) in known_before known b c shorter ∙ h c shorter

@@ -1,3 +1,4 @@
 pub mod Facts
 pub mod Given
 pub mod Laws
+pub mod Known

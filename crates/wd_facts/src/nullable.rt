@@ -8,8 +8,9 @@ ghost use Rattle.wd_plan.specs.Fits.{fits};
 ghost use Rattle.wd_plan.specs.Plans.{plan_of};
 ghost use Rattle.wd_facts.specs.Facts.{fact_of};
 ghost use Rattle.wd_facts.specs.Given as spec;
+ghost use Rattle.wd_facts.specs.Known.{IsKnown};
 
-use crate::columns::is_not_null;
+use crate::columns::{is_not_null, width};
 use crate::facts::{Given, Member};
 use crate::maps::copy_of;
 use crate::members::add_key;
@@ -136,13 +137,39 @@ pub(crate) fn moved_keys(
     Ok(moved)
 }
 
-/// Whether all columns of a key are known not null in a node's rows.
-fn is_full_key(plan: &Plan, schema: &Schema, key: &[u16]) -> bool
+/// Which of a node's columns are known not null, by their numbers.
+#[tactic(auto, using(wd_plan::proofs::Ranges::narrow, crate::proofs::Added::known_next))]
+fn known_columns(alloc: Global, plan: &Plan, schema: &Schema) -> Result<Vec<bool>, OutOfMemory>
     requires { fits (schema_of schema.now) (plan_of plan.now) ≡ true }
+    ensures { IfOk result (λ v. IsKnown (spec.is_not_null (schema_of schema.now) (plan_of plan.now)) v.items) }
+{
+    let mut known = Vec::with_capacity(alloc, plan.width() as usize)?;
+    for column in 0..width(plan) {
+        known.push(is_not_null(plan, schema, column))?;
+    }
+    Ok(known)
+}
+
+/// Whether a column is known not null, where so much is known of the first columns.
+fn is_known(known: &[bool], plan: &Plan, schema: &Schema, column: u16) -> bool
+    requires fits { fits (schema_of schema.now) (plan_of plan.now) ≡ true }
+    requires known { IsKnown (spec.is_not_null (schema_of schema.now) (plan_of plan.now)) known.now }
+    ensures { result ≡ spec.is_not_null (schema_of schema.now) (plan_of plan.now) column }
+{
+    match known.get(usize::from(column)) {
+        Some(is) => *is,
+        None => is_not_null(plan, schema, column),
+    }
+}
+
+/// Whether all columns of a key are known not null in a node's rows.
+fn is_full_key(known: &[bool], plan: &Plan, schema: &Schema, key: &[u16]) -> bool
+    requires fits { fits (schema_of schema.now) (plan_of plan.now) ≡ true }
+    requires known { IsKnown (spec.is_not_null (schema_of schema.now) (plan_of plan.now)) known.now }
     ensures { result ≡ list_all (spec.is_not_null (schema_of schema.now) (plan_of plan.now)) key.now }
 {
     for column in key {
-        if !is_not_null(plan, schema, *column) {
+        if !is_known(known, plan, schema, *column) {
             return false;
         }
     }
@@ -161,8 +188,12 @@ pub(crate) fn add_full_keys(
     requires { fits (schema_of schema.now) (plan_of plan.now) ≡ true }
     ensures { IfOk result (λ _. map fact_of list.new.items ≡ map fact_of list.old.items ++ spec.keys_facts row (spec.full_keys (spec.is_not_null (schema_of schema.now) (plan_of plan.now)) (map (λ k. k.items) keys.now))) }
 {
+    if keys.is_empty() {
+        return Ok(());
+    }
+    let known = known_columns(alloc, plan, schema)?;
     for key in keys {
-        if is_full_key(plan, schema, key) {
+        if is_full_key(&known, plan, schema, key) {
             add_key(alloc, row, key, list)?;
         }
     }
