@@ -1,0 +1,13 @@
+pub mod Named
+pub mod Traces
+pub mod Keeps
+pub mod New
+pub mod Missing
+pub mod RulesPass
+pub mod Outputs
+pub mod Claims
+pub mod Entries
+pub mod Postorder
+pub mod Said
+pub mod Founds
+pub mod Tops

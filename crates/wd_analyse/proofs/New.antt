@@ -1,0 +1,27 @@
+-- The columns that are new among those from a number on.
+use Rattle.std.proofs.Common.{◌≡◌, ℕ, ◌+◌, ◌-◌, ◌<◌, ◌≤◌, Bool, true, false, List, [], ◌∷◌, ◌++◌, filter, append_assoc, refl, sym, ap, ◌∙◌}
+use Rattle.std.specs.List.{range_with_len}
+use Rattle.wd_facts.specs.declared.facts.Member.{Member}
+use Rattle.wd_facts.specs.declared.facts.Member.TheVariants.{Column}
+use Rattle.wd_facts.specs.Facts.{columns_named}
+use Rattle.wd_close.proofs.Ranges.{range_more, range_none}
+use Rattle.wd_analyse.specs.Evidence.{Closing}
+use Rattle.wd_analyse.specs.Kept.{is_new, new_one}
+
+abbrev pub new_from : Closing → ℕ → ℕ → List Member
+new_from c a b = columns_named (filter (is_new c) (range_with_len a (b - a)))
+
+one_more : (c : Closing) (a : ℕ) (xs : List ℕ) → columns_named (new_one c a) ++ columns_named (filter (is_new c) xs) ≡ columns_named (filter (is_new c) (a ∷ xs))
+one_more c a xs = by (is_new c a) refl
+  where
+    by : (b : Bool) → is_new c a ≡ b → columns_named (new_one c a) ++ columns_named (filter (is_new c) xs) ≡ columns_named (filter (is_new c) (a ∷ xs))
+    by true e = rw e refl
+    by false e = rw e refl
+
+pub new_step : (front : List Member) (c : Closing) (a b : ℕ) → a < b → (front ++ columns_named (new_one c a)) ++ new_from c (a + 1) b ≡ front ++ new_from c a b
+new_step front c a b h =
+    append_assoc front (columns_named (new_one c a)) (new_from c (a + 1) b)
+    ∙ ap (λ l. front ++ l) (one_more c a (range_with_len (a + 1) (b - (a + 1))) ∙ ap (λ r. columns_named (filter (is_new c) r)) (sym (range_more a b h)))
+
+pub new_none : (c : Closing) (a b : ℕ) → b ≤ a → new_from c a b ≡ []
+new_none c a b h = ap (λ r. columns_named (filter (is_new c) r)) (range_none a b h)

@@ -1,0 +1,27 @@
+-- What columns give at a node, and the facts that show it.
+use Rattle.std.specs.Prelude.{◌≡◌, ℕ, Bool, true, List, nat_lt}
+use Rattle.std.specs.List.{list_all}
+use Rattle.wd_certificate.specs.Certificates.{TraceRecord}
+use Rattle.wd_facts.specs.declared.facts.Member.{Member}
+use Rattle.wd_facts.specs.Facts.{FactList, columns_named}
+use Rattle.wd_sets.specs.Sets.{has, stands_in}
+use Rattle.wd_close.specs.Closure.{Derives, IsClosure}
+use Rattle.wd_analyse.specs.declared.closed.Closed.{Closed}
+
+-- columns, what they give, and the uses of facts that show it
+pub record Closing : Type 0 where
+  pub from : List ℕ
+  pub has : Member → Bool
+  pub uses : List ℕ
+
+abbrev pub closing_of : Closed → Closing
+closing_of closed = record { from = closed.from.items; has = has closed.set; uses = closed.uses.items }
+
+pub record IsClosing (facts : FactList) (c : Closing) : Type 0 where
+  pub below : list_all (λ c. nat_lt c facts.columns) c.from ≡ true
+  pub members : IsClosure facts c.from c.has
+  pub derived : Derives facts c.uses (stands_in (columns_named c.from)) c.has
+
+-- the trace that shows it
+abbrev pub trace_by : Closing → TraceRecord
+trace_by c = record { from = c.from; uses = c.uses }

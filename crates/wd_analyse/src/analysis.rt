@@ -1,0 +1,45 @@
+//! What the analysis of a plan answers.
+
+use crate::decided::Lack;
+use wd_certificate::Certificate;
+
+/// Why a call or a limit is open.
+#[derive(Clone, Copy, PartialEq, Eq, Debug)]
+pub struct Reason {
+    /// The node's number in postorder.
+    pub node: u64,
+    /// The call's number in its Window; none at a Limit.
+    pub call: Option<u32>,
+    pub lack: Lack,
+}
+
+/// The rules of calls and of limits.
+#[derive(Clone, Copy, PartialEq, Eq, Debug)]
+pub enum RuleName {
+    Peers,
+    Unique,
+    Values,
+    Exchange,
+    Whole,
+    Ties,
+    Keys,
+}
+
+/// The rule that justifies a call or a limit.
+#[derive(Clone, Copy, PartialEq, Eq, Debug)]
+pub struct Mark {
+    /// The node's number in postorder.
+    pub node: u64,
+    /// The call's number in its Window; none at a Limit.
+    pub call: Option<u32>,
+    pub rule: RuleName,
+}
+
+/// What is found of a plan.
+#[derive(Debug, Drop)]
+pub enum Analysis {
+    /// Each call and each limit is justified.
+    Certified(Certificate),
+    /// Why some are not, and the rules of the others, each list in postorder.
+    Open(Vec<Reason>, Vec<Mark>),
+}

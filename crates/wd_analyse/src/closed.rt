@@ -1,0 +1,71 @@
+//! What columns give at a node, and the facts that show it.
+
+ghost use Rattle.std.specs.Prelude.{◌≡◌, ◌++◌, true, map, nat_lt, IfOk};
+ghost use Rattle.std.specs.List.{list_all};
+ghost use Rattle.wd_certificate.specs.Certificates.{trace_of};
+ghost use Rattle.wd_facts.specs.Facts.{facts_of};
+ghost use Rattle.wd_close.specs.Closure.{are_named, is_split_within};
+ghost use Rattle.wd_analyse.specs.Evidence.{IsClosing, closing_of, trace_by};
+
+use std::alloc::Global;
+use wd_certificate::Trace;
+use wd_close::{Derived, closure_derived};
+use wd_facts::Facts;
+use wd_sets::Set;
+use wd_value::OutOfMemory;
+
+/// Columns, what they give, and the facts that show it, in the order in which they are used.
+#[derive(Drop)]
+pub(crate) struct Closed {
+    pub(crate) from: Vec<u16>,
+    pub(crate) set: Set,
+    pub(crate) uses: Vec<u64>,
+}
+
+/// What columns give at a node.
+pub(crate) fn close(alloc: Global, facts: &Facts, from: &[u16]) -> Result<Closed, OutOfMemory>
+    requires split { is_split_within facts.now.split facts.now.columns ≡ true }
+    requires facts { are_named (facts_of facts.now) ≡ true }
+    requires columns { list_all (λ c. nat_lt c facts.now.columns) from.now ≡ true }
+    ensures from { IfOk result (λ c. c.from.items ≡ from.now) }
+    ensures closing { IfOk result (λ c. IsClosing (facts_of facts.now) (closing_of c)) }
+{
+    let Derived { set, uses } = closure_derived(alloc, facts, from)?;
+    let from = Vec::from_slice(alloc, from)?;
+    Ok(Closed { from, set, uses })
+}
+
+/// The columns as the numbers of a trace.
+fn numbers(alloc: Global, columns: &[u16]) -> Result<Vec<u64>, OutOfMemory>
+    ensures { IfOk result (λ v. v.items ≡ columns.now) }
+{
+    let mut list = Vec::with_capacity(alloc, columns.len())?;
+    for column in columns {
+        list.push(u64::from(*column))?;
+    }
+    Ok(list)
+}
+
+/// The trace that shows what columns give.
+fn trace(alloc: Global, closed: &Closed) -> Result<Trace, OutOfMemory>
+    ensures { IfOk result (λ t. trace_of t ≡ trace_by (closing_of closed.now)) }
+{
+    let from = numbers(alloc, &closed.from)?;
+    let uses = Vec::from_slice(alloc, &closed.uses)?;
+    Ok(Trace { from, uses })
+}
+
+/// Appends the traces that show what columns give.
+pub(crate) fn add_traces(
+    alloc: Global,
+    all: &[Closed],
+    traces: &mut Vec<Trace>,
+) -> Result<(), OutOfMemory>
+    ensures { IfOk result (λ _. map trace_of traces.new.items ≡ map trace_of traces.old.items ++ map trace_by (map closing_of all.now)) }
+{
+    for closed in all {
+        let one = trace(alloc, closed)?;
+        traces.push(one)?;
+    }
+    Ok(())
+}

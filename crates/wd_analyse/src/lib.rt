@@ -1,0 +1,14 @@
+//! Which rules justify a plan's calls and limits, and the certificate that says so.
+#![tactic(auto)]
+
+mod analysis;
+mod closed;
+mod decided;
+mod entry;
+mod kept;
+mod nodes;
+mod search;
+
+pub use analysis::{Analysis, Mark, Reason, RuleName};
+pub use decided::Lack;
+pub use nodes::analyse;
