@@ -1,5 +1,5 @@
 -- Claims, one more.
-use Rattle.std.proofs.Common.{ℕ, ◌<◌, ◌≤◌, List, [], ◌∷◌, ◌++◌, length, arith}
+use Rattle.std.proofs.Common.{ℕ, ◌<◌, List, [], ◌∷◌, ◌++◌, length, arith}
 use Rattle.std.proofs.lemmas.List.{length_push}
 use Rattle.wd_facts.specs.Facts.{FactList}
 use Rattle.wd_facts.proofs.Lists.{all_append}

@@ -1,28 +1,27 @@
 -- An entry that is made of what columns give is not refused where its rules are not.
-use Rattle.std.proofs.Common.{◌≡◌, ℕ, zero, suc, ◌+◌, ◌<◌, Bool, true, false, not, ◌&&◌, List, [], ◌∷◌, ◌++◌, map, length, slice_get, refl, sym, ◌∙◌, ap, arith, subst, Option, Some, None, nat_eq}
-use Rattle.std.specs.List.{AllByRecursion, list_all}
-use Rattle.std.proofs.lemmas.Bool.{and_parts, false≢true}
+use Rattle.std.proofs.Common.{◌≡◌, ℕ, zero, suc, ◌+◌, true, ◌&&◌, List, [], ◌∷◌, ◌++◌, map, length, slice_get, refl, sym, ◌∙◌, ap, arith, subst, Option, Some, None}
+use Rattle.std.specs.List.{AllByRecursion}
+use Rattle.std.proofs.lemmas.Bool.{false≢true}
 use Rattle.wd_plan.specs.Fits.{width}
 use Rattle.wd_plan.specs.Plans.{LimitRule, PlanTree, WindowRule, Limit, Window}
 use Rattle.wd_plan.specs.Sorting.{class_columns, limit_class, order_columns}
 use Rattle.wd_plan.specs.declared.window.Call.{Call}
 use Rattle.wd_certificate.specs.declared.certificate.Rule.{Rule}
 use Rattle.wd_certificate.specs.declared.error.CertError.TheVariants.{UnjustifiedLimit}
-use Rattle.wd_facts.specs.Facts.{Fact, FactList, columns_named}
+use Rattle.wd_facts.specs.Facts.{FactList, columns_named}
 use Rattle.wd_facts.specs.Given.{all_columns}
-use Rattle.wd_facts.specs.Laws.{ArePlain}
 use Rattle.wd_facts.proofs.Lists.{all_append}
 use Rattle.wd_sets.specs.Sets.{is_in}
-use Rattle.wd_rules.specs.Rules.{claims_refusal, entry_refusal, is_whole_or_ties, kept_facts, limit_refusal, or_else, refuse_unless, refuse_unless_shown, rules_refusal, shows}
+use Rattle.wd_rules.specs.Rules.{claims_refusal, entry_refusal, is_whole_or_ties, kept_facts, or_else, refuse_unless, refuse_unless_shown, rules_refusal, shows}
 use Rattle.wd_rules.specs.Traces.{Traced}
-use Rattle.wd_analyse.specs.Decisions.{all_by, decide_of, decided_calls, is_by, missing_of, next_exchange, rules_in}
+use Rattle.wd_analyse.specs.Decisions.{all_by, decide_of, decided_calls, missing_of, next_exchange, rules_in}
 use Rattle.wd_analyse.specs.declared.decided.Decided.{Decided}
 use Rattle.wd_analyse.specs.declared.decided.Decided.TheVariants.{By, Open}
 use Rattle.wd_analyse.specs.Entry.{entry_by}
 use Rattle.wd_analyse.specs.Evidence.{Closing, IsClosing, trace_by}
-use Rattle.wd_analyse.specs.Kept.{keep_by, kept_fact}
+use Rattle.wd_analyse.specs.Kept.{kept_fact}
 use Rattle.wd_analyse.specs.Sources.{IsClaim}
-use Rattle.wd_analyse.proofs.Keeps.{claims_plain, keep_passes, kept_are}
+use Rattle.wd_analyse.proofs.Keeps.{keep_passes, kept_are}
 use Rattle.wd_analyse.proofs.RulesPass.{all_among, none_missing, window_passes}
 use Rattle.wd_analyse.proofs.Traces.{are_traced, each_reached, shown}
 

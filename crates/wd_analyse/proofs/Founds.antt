@@ -1,5 +1,5 @@
 -- What is found at a node, by its kind.
-use Rattle.std.proofs.Common.{◌≡◌, ℕ, suc, ◌+◌, ◌<◌, ◌≤◌, Bool, true, false, not, ◌&&◌, ◌||◌, List, [], ◌∷◌, ◌++◌, length, map, refl, sym, ◌∙◌, ap, arith, subst, eq-eqb, nat_lt, Option, Some, None, is_some}
+use Rattle.std.proofs.Common.{◌≡◌, ℕ, ◌+◌, ◌<◌, ◌≤◌, true, not, ◌&&◌, ◌||◌, List, [], ◌∷◌, ◌++◌, length, map, refl, sym, ◌∙◌, ap, arith, subst, eq-eqb, nat_lt, Some, None, is_some}
 use Rattle.std.specs.List.{list_all}
 use Rattle.std.proofs.lemmas.Bool.{and_parts, false≢true, lt-ltb}
 use Rattle.wd_schema.specs.Tables.{TableRule}
@@ -7,7 +7,7 @@ use Rattle.wd_value.specs.declared.order.SortColumn.{SortColumn}
 use Rattle.wd_value.specs.Keys.{key_columns}
 use Rattle.wd_plan.specs.Fits.{AreBelow, Kinds, fits, has_class, has_columns, has_keys, is_call, is_limit, is_narrow, is_window, kinds_of, width}
 use Rattle.wd_plan.specs.Plans.{ClassRule, LimitRule, PlanTree, WindowRule, Scan, Join, Filter, Map, Window, Distinct, Limit}
-use Rattle.wd_plan.specs.Sorting.{class_columns, limit_class, order_columns}
+use Rattle.wd_plan.specs.Sorting.{class_columns, order_columns}
 use Rattle.wd_plan.proofs.Ranges.{kinds_below, narrow}
 use Rattle.wd_certificate.specs.Certificates.{NodeRecord}
 use Rattle.wd_facts.specs.Facts.{FactList}

@@ -1,16 +1,14 @@
 -- What a node keeps, by the traces that show it, is not refused.
-use Rattle.std.proofs.Common.{◌≡◌, ℕ, zero, suc, ◌+◌, ◌<◌, ◌≤◌, Bool, true, false, cond, not, ◌&&◌, List, [], ◌∷◌, ◌++◌, map, filter, drop, length, slice_get, refl, sym, ◌∙◌, ap, arith, subst, Option, Some, None, nat_lt}
+use Rattle.std.proofs.Common.{◌≡◌, ℕ, zero, suc, ◌+◌, ◌≤◌, Bool, true, false, cond, not, ◌&&◌, List, [], ◌∷◌, ◌++◌, map, filter, drop, slice_get, refl, sym, ◌∙◌, ap, arith, subst, Some, None, nat_lt}
 use Rattle.std.specs.List.{AllByRecursion, list_all, range_with_len}
 use Rattle.std.proofs.lemmas.Bool.{and_parts, false≢true, lt-ltb}
 use Rattle.wd_plan.specs.Fits.{AreBelow}
-use Rattle.wd_certificate.specs.Certificates.{KeptRecord, TraceRecord}
-use Rattle.wd_certificate.specs.declared.certificate.Target.{Target}
-use Rattle.wd_certificate.specs.declared.certificate.Target.TheVariants as target
+use Rattle.wd_certificate.specs.Certificates.{TraceRecord}
 use Rattle.wd_certificate.specs.declared.error.CertError.{CertError}
 use Rattle.wd_certificate.specs.declared.error.CertError.TheVariants.{OutOfRange, UnreachedClaim}
 use Rattle.wd_facts.specs.declared.facts.Member.{Member}
 use Rattle.wd_facts.specs.declared.facts.Member.TheVariants as member
-use Rattle.wd_facts.specs.Facts.{Fact, FactList, columns_named, is_column, is_plain, is_plain_fact}
+use Rattle.wd_facts.specs.Facts.{FactList, columns_named, is_column, is_plain, is_plain_fact}
 use Rattle.wd_facts.specs.Given.{all_columns}
 use Rattle.wd_facts.specs.Laws.{ArePlain}
 use Rattle.wd_sets.specs.Reaches.{reaches_each}
@@ -18,7 +16,7 @@ use Rattle.wd_sets.specs.Sets.{is_in}
 use Rattle.wd_rules.specs.Rules.{is_target, keep_refusal, kept_refusal, member_of, or_else, refuse_unless, trace_or}
 use Rattle.wd_rules.specs.Rules as rules
 use Rattle.wd_rules.specs.Traces.{Traced}
-use Rattle.wd_analyse.specs.Evidence.{Closing, IsClosing, trace_by}
+use Rattle.wd_analyse.specs.Evidence.{Closing, trace_by}
 use Rattle.wd_analyse.specs.Kept.{is_new, keep_by, kept_fact, kept_members, target_of}
 use Rattle.wd_analyse.specs.Sources.{IsClaim}
 use Rattle.wd_analyse.proofs.Traces.{each_reached, shown}

@@ -1,21 +1,19 @@
 -- The given facts of a node name columns on their left sides, and on their right sides what they may, where what its children
 -- keep names columns and the row alone.
-use Rattle.std.proofs.Common.{◌≡◌, ℕ, zero, suc, ◌+◌, ◌<◌, ◌≤◌, Bool, true, false, ◌&&◌, List, [], ◌∷◌, ◌++◌, map, filter, length, refl, sym, ap, subst, arith, nat_lt, slice_get, is_some, Option, Some, None}
+use Rattle.std.proofs.Common.{◌≡◌, ℕ, zero, suc, ◌+◌, ◌<◌, ◌≤◌, Bool, true, false, ◌&&◌, List, [], ◌∷◌, ◌++◌, map, filter, length, refl, sym, subst, arith, nat_lt, slice_get, is_some, Option, Some, None}
 use Rattle.std.specs.List.{AllByRecursion, list_all, range_with_len}
 use Rattle.std.proofs.lemmas.Bool.{and_parts, false≢true, le-leb, lt-ltb, ltb-true}
 use Rattle.wd_schema.specs.Tables.{KeyRule, TableRule}
 use Rattle.wd_plan.specs.declared.expression.ComparisonOp.{ComparisonOp}
 use Rattle.wd_plan.specs.declared.expression.ComparisonOp.TheVariants as op
-use Rattle.wd_plan.specs.declared.function.FrameFunction.{FrameFunction}
 use Rattle.wd_plan.specs.declared.function.FrameFunction.TheVariants.{ValueAt, Aggregate}
 use Rattle.wd_plan.specs.declared.function.Function.{Function}
 use Rattle.wd_plan.specs.declared.function.Function.TheVariants.{Ranking as Ranked, Shift as Shifted, OfFrame}
-use Rattle.wd_plan.specs.declared.function.Ranking.{Ranking}
 use Rattle.wd_plan.specs.declared.function.Ranking.TheVariants.{RowNumber, Rank, DenseRank, Ntile}
 use Rattle.wd_plan.specs.declared.window.Call.{Call}
 use Rattle.wd_plan.specs.declared.window.Frame.{Frame}
 use Rattle.wd_plan.specs.Expressions.{Expression, Column, Literal, Negate, Arithmetic, Compare, Not, And, Or, IsNull, IsNotNull, Case}
-use Rattle.wd_plan.specs.Fits.{AreBelow, are_outputs, fits, has_table, is_condition, is_join, is_kind, is_limit, is_narrow, is_typed, is_window, kind_of, kinds_of, may_join, width}
+use Rattle.wd_plan.specs.Fits.{AreBelow, are_outputs, fits, has_table, is_condition, is_join, is_kind, is_narrow, is_typed, is_window, kind_of, kinds_of, may_join, width}
 use Rattle.wd_plan.specs.declared.expression.ValueKind.TheVariants.{Truth}
 use Rattle.wd_plan.specs.Outcomes.{class_at}
 use Rattle.wd_plan.specs.Plans.{ClassRule, PlanTree, WindowRule, Scan, Join, Filter, Map, Window, Distinct, Limit}
@@ -23,7 +21,7 @@ use Rattle.wd_plan.specs.Sorting.{class_columns, order_columns}
 use Rattle.wd_plan.proofs.Ranges.{IsSound, calls_sound, has_the_table, kinds_below, table_columns}
 use Rattle.wd_facts.specs.declared.facts.Member.{Member}
 use Rattle.wd_facts.specs.declared.facts.Member.TheVariants as member
-use Rattle.wd_facts.specs.Facts.{Fact, FactList, columns_named, is_column, is_plain, is_plain_fact, key_fact, moved, moved_facts}
+use Rattle.wd_facts.specs.Facts.{Fact, FactList, columns_named, is_column, is_plain, key_fact, moved, moved_facts}
 use Rattle.wd_facts.specs.Given.{Side, Plain, Fixed, Other, all_columns, call_facts, calls_facts, comparison_facts, conjunct_facts, conjuncts, conjuncts_of, copy_facts, equality_facts, facts_of_conjuncts, full_keys, given, goes_by_key, gives_row, is_not_null, keys_facts, names_columns, null_facts, nullable_keys, output_facts, outputs_facts, over_frame, row_keys, side_of, table_rule, used, value_fact, rank_fact}
 use Rattle.wd_facts.specs.Laws.{AreOfChildren, ArePlain}
 use Rattle.wd_facts.proofs.Embeds.{same_facts}

@@ -1,17 +1,16 @@
 -- The entries of a plan: its inputs' and, behind them, its own.
-use Rattle.std.proofs.Common.{◌≡◌, ℕ, zero, suc, ◌+◌, ◌<◌, ◌≤◌, Bool, true, false, ◌&&◌, List, [], ◌∷◌, ◌++◌, length, slice_index_or, refl, sym, ◌∙◌, ap, arith, subst, append_assoc, Option, None}
+use Rattle.std.proofs.Common.{◌≡◌, ℕ, zero, suc, ◌+◌, ◌<◌, ◌≤◌, Bool, true, false, ◌&&◌, List, [], ◌∷◌, ◌++◌, length, refl, sym, ◌∙◌, ap, arith, subst, append_assoc, Option, None}
 use Rattle.std.proofs.lemmas.Bool.{false≢true}
-use Rattle.std.proofs.lemmas.List.{length-append, length_push}
+use Rattle.std.proofs.lemmas.List.{length_push}
 use Rattle.wd_schema.specs.Tables.{TableRule}
 use Rattle.wd_plan.specs.Expressions.{Expression}
 use Rattle.wd_plan.specs.Plans.{PlanTree, Scan, Join, Filter, Map, Window, Distinct, Limit, node_count}
 use Rattle.wd_certificate.specs.Certificates.{NodeRecord}
 use Rattle.wd_facts.specs.Facts.{Fact}
 use Rattle.wd_facts.specs.Given.{given}
-use Rattle.wd_facts.specs.Laws.{ArePlain}
 use Rattle.wd_rules.specs.Rules.{entry_refusal, kept_facts, or_else}
-use Rattle.wd_rules.specs.Validity.{all_entries, entry_at, has_its_calls, has_its_limit, kept_below, kept_right, no_entry, nodes_refusal, top_at, top_number, top_refusal}
-use Rattle.wd_analyse.specs.Entry.{AreEntries, IsAnalysed, IsEntry, IsTop}
+use Rattle.wd_rules.specs.Validity.{all_entries, entry_at, has_its_calls, has_its_limit, kept_below, kept_right, nodes_refusal, top_at, top_number, top_refusal}
+use Rattle.wd_analyse.specs.Entry.{AreEntries, IsAnalysed, IsTop}
 use Rattle.wd_analyse.specs.declared.analysis.Reason.{Reason}
 
 -- ---- entries with more behind them

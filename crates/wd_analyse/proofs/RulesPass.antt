@@ -1,5 +1,5 @@
 -- Rules that are decided for calls are not refused.
-use Rattle.std.proofs.Common.{◌≡◌, ℕ, zero, suc, ◌+◌, Bool, true, false, cond, not, ◌&&◌, ◌||◌, List, [], ◌∷◌, map, slice_get, slice_index_or, refl, sym, ◌∙◌, ap, subst, Option, Some, None, is_some, nat_eq, nat_lt, if◌then◌else◌, eq-eqb}
+use Rattle.std.proofs.Common.{◌≡◌, ℕ, zero, suc, ◌+◌, Bool, true, false, cond, not, ◌&&◌, ◌||◌, List, [], ◌∷◌, map, slice_get, slice_index_or, refl, sym, ◌∙◌, ap, subst, Option, Some, None, is_some, nat_eq, eq-eqb}
 use Rattle.std.specs.List.{AllByRecursion, list_all}
 use Rattle.std.proofs.lemmas.Bool.{and_parts, false≢true, eqb-true}
 use Rattle.wd_plan.specs.declared.window.Call.{Call}
@@ -16,11 +16,10 @@ use Rattle.wd_facts.specs.declared.facts.Member.{Member}
 use Rattle.wd_facts.specs.declared.facts.Member.TheVariants as member
 use Rattle.wd_facts.specs.Facts.{FactList, columns_named}
 use Rattle.wd_facts.specs.Given.{all_columns}
-use Rattle.wd_sets.specs.Reaches.{reaches_each}
 use Rattle.wd_sets.specs.Sets.{is_in}
 use Rattle.wd_rules.specs.Rules.{call_refusal, calls_refusal, exchange_class, exchange_only, has_one_exchange, is_exchange, or_else, refuse_unless, refuse_unless_shown, shows, shows_column, shows_value, taken_column, window_refusal}
 use Rattle.wd_rules.specs.Traces.{Traced}
-use Rattle.wd_analyse.specs.Decisions.{all_by, by_exchange, decide, decide_of, decided_calls, gives_all, gives_value, has_taken, is_by, lack_of, missing_of, next_exchange, rules_in, takes_exchange, with_rule}
+use Rattle.wd_analyse.specs.Decisions.{all_by, by_exchange, decide, decide_of, decided_calls, gives_all, gives_value, has_taken, is_by, lack_of, missing_of, next_exchange, rules_in, with_rule}
 use Rattle.wd_analyse.specs.declared.decided.Decided.{Decided}
 use Rattle.wd_analyse.specs.declared.decided.Decided.TheVariants.{By, Open}
 use Rattle.wd_analyse.specs.declared.decided.Lack.TheVariants as lack

@@ -1,6 +1,6 @@
 -- What is said of calls, one after another, and where nothing lacks.
-use Rattle.std.proofs.Common.{◌≡◌, ℕ, ◌+◌, true, ◌&&◌, List, [], ◌∷◌, ◌++◌, refl, sym, ap, append_assoc}
-use Rattle.wd_analyse.specs.Decisions.{all_by, is_by}
+use Rattle.std.proofs.Common.{◌≡◌, ℕ, ◌+◌, true, List, [], ◌∷◌, ◌++◌, refl, append_assoc}
+use Rattle.wd_analyse.specs.Decisions.{all_by}
 use Rattle.wd_analyse.specs.Findings.{mark_of, marks_of, reason_of, reasons_of}
 use Rattle.wd_analyse.specs.declared.analysis.Mark.{Mark}
 use Rattle.wd_analyse.specs.declared.analysis.Reason.{Reason}

@@ -153,7 +153,7 @@ fn say_calls(decided: &[Decided], node: u64, findings: &mut Findings) -> Result<
 
 /// The entry of a node with so many columns.
 #[tactic(auto, using(crate::proofs::Entries::traces_joined))]
-fn entry(
+fn make_entry(
     alloc: Global,
     claims: &[Closed],
     others: &[Closed],
@@ -179,7 +179,7 @@ fn entry(
 fn bare_entry(alloc: Global, here: &Here, width: u16) -> Result<Node, OutOfMemory>
     ensures { IfOk result (λ n. node_of n ≡ entry_by width (map closing_of here.now.claims.items) [] [] None) }
 {
-    entry(alloc, &here.claims, &[], width, Vec::new(alloc), None)
+    make_entry(alloc, &here.claims, &[], width, Vec::new(alloc), None)
 }
 
 /// The entry of a Window, and what is said of its calls.
@@ -204,7 +204,7 @@ fn window_entry(
     let decided = decide_calls(alloc, &classes, first, width(input), window)?;
     say_calls(&decided, here.node, findings)?;
     let rules = rules_of(alloc, &decided)?;
-    entry(alloc, &here.claims, &classes, width(plan), rules, None)
+    make_entry(alloc, &here.claims, &classes, width(plan), rules, None)
 }
 
 /// Whether a limit keeps all rows, or all that tie from the first on.
@@ -258,7 +258,7 @@ fn keys_entry(
             let number = here.claims.len() as u64;
             let mut others = Vec::new(alloc);
             others.push(closed)?;
-            entry(
+            make_entry(
                 alloc,
                 &here.claims,
                 &others,

@@ -13,6 +13,7 @@ use Rattle.wd_plan.specs.Expressions.{is_null}
 use Rattle.wd_plan.specs.Facts.{IsNullableKey}
 use Rattle.wd_plan.proofs.Parts.{all_filter}
 use Rattle.wd_facts.specs.declared.facts.Member.TheVariants as member
+use Rattle.wd_facts.specs.Laws.{DependenciesAreFacts}
 use Rattle.wd_facts.specs.Facts.{Paired, Same, Holds, columns_named, key_fact, unpaired}
 use Rattle.wd_facts.specs.Given.{full_keys, gives_row, is_not_null_column, keys_facts, names_columns, null_keys, row_keys}
 
@@ -43,6 +44,16 @@ named_same n p q (c ∷ X) e =
     let head : column_of (row_at n.rows p) c ≡ column_of (row_at n.rows q) c = cc in
     let tail : columns_of X (row_at n.rows p) ≡ columns_of X (row_at n.rows q) = cc in
     (head, named_same n p q X tail)
+
+pub same_named : (n : Paired) (p q : ℕ) (X : List ℕ) → AllByRecursion (Same n p q) (columns_named X) → columns_of X (row_at n.rows p) ≡ columns_of X (row_at n.rows q)
+same_named n p q [] a = refl
+same_named n p q (c ∷ X) a = λ i. a.0 i ∷ same_named n p q X a.1 i
+
+pub dependencies_are_facts : DependenciesAreFacts
+dependencies_are_facts rows X = (
+  λ c. (λ h p q k l a. (h p q k l (same_named (unpaired rows) p q X a), tt), λ h p q k l e. (h p q k l (named_same (unpaired rows) p q X e)).0),
+  (λ h p q k l a. (h p q k l (same_named (unpaired rows) p q X a), tt), λ h p q k l e. (h p q k l (named_same (unpaired rows) p q X e)).0),
+)
 
 -- columns that are not null
 pub no_nulls : (row : RowValues) (not_null : ℕ → Bool) → ((c : ℕ) → not_null c ≡ true → is_null (column_of row c) ≡ false) → (X : List ℕ) → list_all not_null X ≡ true → list_any is_null (columns_of X row) ≡ false

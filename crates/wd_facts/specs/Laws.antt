@@ -1,15 +1,16 @@
 -- What holds in the rows of each node of a plan that fits, over an instance that meets the schema.
-use Rattle.std.specs.Prelude.{◌≡◌, ℕ, true, List, drop, ⊤}
+use Rattle.std.specs.Prelude.{◌≡◌, ℕ, ◌↔◌, true, List, [], ◌∷◌, drop, ⊤}
 use Rattle.std.specs.List.{AllByRecursion}
 use Rattle.wd_value.specs.Rows.{Row, Instance}
 use Rattle.wd_schema.specs.Meets.{Meets}
 use Rattle.wd_schema.specs.Tables.{TableRule}
 use Rattle.wd_plan.specs.Choices.{AreLawful, AtRows}
-use Rattle.wd_plan.specs.Facts.{HasWidth, IsNotNullIn, IsNullableKey}
+use Rattle.wd_plan.specs.Facts.{Determines, DeterminesRow, HasWidth, IsNotNullIn, IsNullableKey}
 use Rattle.wd_plan.specs.Fits.{AreBelow, fits, width}
 use Rattle.wd_plan.specs.Outcomes.{outcome}
 use Rattle.wd_plan.specs.Plans.{PlanTree, Scan, Join, Filter, Map, Window, Distinct, Limit, ordering_count}
-use Rattle.wd_facts.specs.Facts.{Fact, Holds, Paired, PairsRows, beside, is_plain_fact, unpaired}
+use Rattle.wd_facts.specs.declared.facts.Member.TheVariants as member
+use Rattle.wd_facts.specs.Facts.{Fact, Holds, Paired, PairsRows, beside, columns_named, is_plain_fact, key_fact, unpaired}
 use Rattle.wd_facts.specs.Given.{given, is_not_null, nullable_keys}
 
 -- facts of rows with so many columns
@@ -82,3 +83,9 @@ AreOfChildren (Map outputs input) kept more = ArePlain (width input) kept
 AreOfChildren (Window w input) kept more = ArePlain (width input) kept
 AreOfChildren (Distinct input) kept more = ArePlain (width input) kept
 AreOfChildren (Limit limit input) kept more = ArePlain (width input) kept
+
+-- the dependencies that plans speak of are facts of rows that pair nothing: columns give a column, columns give the row
+abbrev pub DependenciesAreFacts : Type 0
+DependenciesAreFacts = (rows : List Row) (X : List ℕ)
+    → ((c : ℕ) → Determines rows X c ↔ Holds (unpaired rows) (record { from = columns_named X; to = member.Column c ∷ [] }))
+    × (DeterminesRow rows X ↔ Holds (unpaired rows) (key_fact member.Row X))

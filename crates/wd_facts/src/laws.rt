@@ -1,6 +1,6 @@
 //! Laws over the definitions alone.
 
-ghost use Rattle.wd_facts.specs.Laws.{GivenFactsHold, KnownHolds};
+ghost use Rattle.wd_facts.specs.Laws.{DependenciesAreFacts, GivenFactsHold, KnownHolds};
 
 /// What a plan that fits and its schema say of a node's rows is true of them: their width, columns
 /// that are not null, nullable keys.
@@ -11,4 +11,10 @@ pub fn known_holds()
 /// The given facts of a node hold where the facts that its children keep do.
 pub fn given_facts_hold()
     ensures { GivenFactsHold }
+{}
+
+/// The dependencies that plans speak of are facts: that columns give a column, and that they give
+/// the row.
+pub fn dependencies_are_facts()
+    ensures { DependenciesAreFacts }
 {}

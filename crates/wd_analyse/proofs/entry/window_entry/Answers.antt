@@ -1,4 +1,4 @@
-use Rattle.std.proofs.Common.{rules, ◌≡◌, ◌<◌, ◌++◌, true, List, [], length, map, nat_lt, None, refl, sym, subst, ap, ◌∙◌, arith}
+use Rattle.std.proofs.Common.{rules, ◌≡◌, ◌++◌, true, List, length, map, nat_lt, None, sym, subst, ap, ◌∙◌, arith}
 use Rattle.std.specs.List.{list_all}
 use Rattle.std.proofs.lemmas.List.{length-map}
 use Rattle.std.proofs.lemmas.Result.{IfOk-weaker}
@@ -40,8 +40,8 @@ returns c =
     c.in_ok-decided.ensures ∙ (λ i. decided_calls (map closing_of (c.deref-2.ensures.value i)) (first i) (c.width-2.ensures i) None w.calls) in
     let said = c.in_ok-say_calls.ensures.reasons ∙ ap (λ ds. c.args.findings.now.reasons.items ++ reasons_of c.args.here.now.node 0 ds) (c.deref-3.ensures.value ∙ decided) in
     let rules_are : c.in_ok-rules.rules.items ≡ rules_in (decided_calls classes (length claims) columns None w.calls) = c.in_ok-rules.ensures ∙ ap rules_in (c.deref-4.ensures.value ∙ decided) in
-    IfOk-weaker c.entry.result _ _
+    IfOk-weaker c.make_entry.result _ _
     (λ n is. window_found facts c.args.here.now.node claims (node_of n) _ _ w (plan_of c.args.input.now) classes (plan_of c.args.plan.now) c.requires.is c.requires.claims c.in_ok-classes.ensures.closings
     (c.in_ok-classes.ensures.starts ∙ ap (λ cs. map class_columns (map class_of cs)) c.deref.ensures.value) said
     (is ∙ (λ i. entry_by (c.width-3.ensures i) (map closing_of (c.deref-5.ensures.value i)) (map closing_of (c.deref-6.ensures.value i)) (rules_are i) None)))
-    c.entry.ensures
+    c.make_entry.ensures

@@ -1,10 +1,10 @@
-use Rattle.std.proofs.Common.{◌≡◌, true, ⊎_elim, List, [], map, option_map, refl, sym, ap, ◌∙◌}
+use Rattle.std.proofs.Common.{◌≡◌, true, ⊎_elim, map, option_map, refl, sym, ap, ◌∙◌}
 use Rattle.std.proofs.lemmas.Result.{IfOk-weaker}
 use Rattle.wd_schema.specs.Schemas.{schema_of}
 use Rattle.wd_facts.specs.Facts.{fact_of}
 use Rattle.wd_plan.specs.Expressions.{expression_of}
 use Rattle.wd_plan.specs.Plans.{Join, plan_of}
-use Rattle.wd_analyse.proofs.Postorder.{both_found, child, is_over_one, one_found, scan_found}
+use Rattle.wd_analyse.proofs.Postorder.{both_found, child, is_over_one, one_found}
 use Rattle.wd_analyse.proofs.nodes.+analyse_nodes.Goals as goal
 
 pub returns-in_ok-right-in-Join : goal.returns-in_ok-right-in-Join
