@@ -1,0 +1,46 @@
+-- What is found of a query's plan, the verdict on the query, and why there is none.
+use Rattle.std.specs.Prelude.{◌≡◌, ℕ, true, List, Option, None, ⊤}
+use Rattle.wd_schema.specs.Schemas.{schema_of}
+use Rattle.wd_plan.specs.Fits.{fits}
+use Rattle.wd_plan.specs.Plans.{plan_of}
+use Rattle.wd_analyse.specs.Analysis.{IsAnswer}
+use Rattle.wd_analyse.specs.declared.analysis.Analysis.{Analysis}
+use Rattle.wd_analyse.specs.declared.analysis.Analysis.TheVariants.{Certified, Open}
+use Rattle.wd_query.specs.Causes.{HasTextCause, text_number, text_place}
+use Rattle.wd_query.specs.Readings.{ForReading, IsRead}
+use Rattle.wd_decide.specs.declared.error.DecideError.{DecideError}
+use Rattle.wd_decide.specs.declared.error.DecideError.TheVariants.{Texts, OutOfMemory}
+use Rattle.wd_decide.specs.declared.verdict.Examined.{Examined}
+use Rattle.wd_decide.specs.declared.verdict.Verdict.{Verdict}
+use Rattle.wd_decide.specs.declared.verdict.Verdict.TheVariants.{Deterministic, Unknown}
+
+-- the plan reads the two texts and fits the schema, and this is the analysis of it
+pub record IsExamined (schema query : List ℕ) (examined : Examined) : Type 0 where
+  pub read : IsRead schema query examined.planned
+  pub fits : fits (schema_of examined.planned.schema) (plan_of examined.planned.resolved.plan) ≡ true
+  pub analysed : IsAnswer (schema_of examined.planned.schema) (plan_of examined.planned.resolved.plan) examined.analysis
+
+-- the verdict that an analysis gives: its certificate, or its reasons
+abbrev pub IsVerdictOf : Analysis → Verdict → Type 0
+IsVerdictOf (Certified certificate) (Deterministic reported) = certificate ≡ reported
+IsVerdictOf (Certified certificate) (Unknown reasons) = ⊥
+IsVerdictOf (Open found marks) (Deterministic reported) = ⊥
+IsVerdictOf (Open found marks) (Unknown reasons) = found ≡ reasons
+
+-- it is that of the analysis of the plan that reads the two texts
+abbrev pub IsVerdict : List ℕ → List ℕ → Verdict → Type 0
+IsVerdict schema query verdict = ForReading schema query (λ tables plan. (analysis : Analysis) × IsAnswer tables plan analysis × IsVerdictOf analysis verdict)
+
+-- ---- why there is none
+
+abbrev pub HasCause : List ℕ → List ℕ → DecideError → Type 0
+HasCause schema query (Texts error) = HasTextCause schema query error
+HasCause schema query OutOfMemory = ⊤
+
+abbrev pub decide_number : DecideError → Option ℕ
+decide_number (Texts error) = text_number error
+decide_number OutOfMemory = None
+
+abbrev pub decide_place : DecideError → Option ℕ
+decide_place (Texts error) = text_place error
+decide_place OutOfMemory = None
