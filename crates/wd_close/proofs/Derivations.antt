@@ -1,17 +1,16 @@
 -- The facts that the closure notes show what it reaches.
-use Rattle.std.proofs.Common.{◌≡◌, ℕ, zero, suc, ◌<◌, ◌≤◌, Bool, true, false, ◌&&◌, ◌||◌, List, [], ◌∷◌, ◌++◌, length, map, slice_get, refl, sym, ◌∙◌, ap, arith, subst, ⊎_elim, Option, Some, None, nat_lt, nat_le, if◌then◌else◌}
-use Rattle.std.specs.List.{list_all, range_with_len}
+use Rattle.std.proofs.Common.{◌≡◌, ℕ, zero, suc, ◌<◌, ◌≤◌, Bool, true, false, ◌&&◌, ◌||◌, List, [], ◌∷◌, ◌++◌, length, slice_get, refl, sym, ◌∙◌, ap, arith, subst, ⊎_elim, Option, Some, None, nat_lt, nat_le, if◌then◌else◌}
+use Rattle.std.specs.List.{list_all}
 use Rattle.std.proofs.lemmas.Bool.{and_parts, or_cases, false≢true, ltb-true, ltb-false, lt-ltb, le-leb}
-use Rattle.std.proofs.lemmas.List.{append-nil, length-append, length-map}
-use Rattle.wd_facts.specs.declared.facts.Given.{Given}
+use Rattle.std.proofs.lemmas.List.{append-nil, length-append}
 use Rattle.wd_facts.specs.declared.facts.Member.{Member}
 use Rattle.wd_facts.specs.declared.facts.Member.TheVariants.{Column, Left, Right, Row}
-use Rattle.wd_facts.specs.Facts.{Fact, FactList, fact_of}
+use Rattle.wd_facts.specs.Facts.{Fact, FactList}
 use Rattle.wd_sets.specs.Reaches.{also, by_side, has_row, reaches, reaches_each}
 use Rattle.wd_sets.specs.Sets.{stands_in}
 use Rattle.wd_close.specs.Closure.{Derives, columns_between, is_named}
 use Rattle.wd_close.specs.Reached.{added, all_added, brought, fired, fired_one, is_done, row_if, used, used_one, with_left, with_right, with_sides}
-use Rattle.wd_close.proofs.Ends.{first_left, started}
+use Rattle.wd_close.proofs.Ends.{first_left, ready_first}
 use Rattle.wd_close.proofs.Lists.{Front, Within, added_from, all_added_from, all_from, between_from, front_all, front_within, or_left, or_right}
 use Rattle.wd_close.proofs.Names.{left_at, right_at}
 use Rattle.wd_close.proofs.Queue.{if_row}
@@ -234,12 +233,10 @@ module _ (facts : FactList) (from : List Member) where
   pub derives : (q : List Member) (uses : List ℕ) (has : Member → Bool) → IsDerived facts from q uses → ((m : Member) → has m ≡ stands_in q m) → Derives facts uses (stands_in from) has
   derives q uses has d h = shown facts (stands_in from) has uses d.used_well (λ m e. d.reached m (sym (h m) ∙ e))
 
-  pub start_derived : list_all (is_named facts) from ≡ true → (gs : List Given) (cs cs2 : List ℕ) (q0 q1 q2 : List Member) (u0 u2 : List ℕ) → map fact_of gs ≡ facts.list → cs ≡ sizes facts.list → cs2 ≡ cs → q0 ≡ [] → q1 ≡ all_added q0 from → q2 ≡ fired (map fact_of gs) cs2 q1 (range_with_len 0 (length gs)) → u0 ≡ [] → u2 ≡ used (map fact_of gs) cs2 q1 u0 (range_with_len 0 (length gs)) → IsDerived facts from q2 u2
-  start_derived from_named gs cs cs2 q0 q1 q2 u0 u2 is e_cs e_cs2 e_q0 e_q1 e_q2 e_u0 e_u2 =
+  pub start_derived : list_all (is_named facts) from ≡ true → (list : List Fact) (cs2 ready : List ℕ) (q0 q1 q2 : List Member) (u0 u2 : List ℕ) → list ≡ facts.list → cs2 ≡ sizes facts.list → ready ≡ ready_first facts.list → q0 ≡ [] → q1 ≡ all_added q0 from → q2 ≡ fired list cs2 q1 ready → u0 ≡ [] → u2 ≡ used list cs2 q1 u0 ready → IsDerived facts from q2 u2
+  start_derived from_named list cs2 ready q0 q1 q2 u0 u2 is e_cs2 e_ready e_q0 e_q1 e_q2 e_u0 e_u2 =
       let q1_is : q1 ≡ all_added [] from = e_q1 ∙ ap (λ q. all_added q from) e_q0 in
-      let long : length gs ≡ length facts.list = sym (length-map gs fact_of) ∙ ap length is in
-      let cs2_is : cs2 ≡ sizes facts.list = e_cs2 ∙ e_cs in
-      let q2_is : q2 ≡ started facts.list from = e_q2 ∙ (λ i. fired (is i) (cs2_is i) (q1_is i) (range_with_len 0 (long i))) in
-      let u2_is : u2 ≡ used facts.list (sizes facts.list) (all_added [] from) [] (range_with_len 0 (length facts.list)) = e_u2 ∙ (λ i. used (is i) (cs2_is i) (q1_is i) (e_u0 i) (range_with_len 0 (long i))) in
-      let all = each (sizes facts.list) (all_added [] from) [] (range_with_len 0 (length facts.list)) start (first_left facts from from_named) in
-      subst (λ q. IsDerived facts from q u2) (sym q2_is) (subst (IsDerived facts from (started facts.list from)) (sym u2_is) all)
+      let q2_is : q2 ≡ fired facts.list (sizes facts.list) (all_added [] from) (ready_first facts.list) = e_q2 ∙ (λ i. fired (is i) (e_cs2 i) (q1_is i) (e_ready i)) in
+      let u2_is : u2 ≡ used facts.list (sizes facts.list) (all_added [] from) [] (ready_first facts.list) = e_u2 ∙ (λ i. used (is i) (e_cs2 i) (q1_is i) (e_u0 i) (e_ready i)) in
+      let all = each (sizes facts.list) (all_added [] from) [] (ready_first facts.list) start (first_left facts from from_named) in
+      subst (λ q. IsDerived facts from q u2) (sym q2_is) (subst (IsDerived facts from (fired facts.list (sizes facts.list) (all_added [] from) (ready_first facts.list))) (sym u2_is) all)

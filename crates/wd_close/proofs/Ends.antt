@@ -1,5 +1,5 @@
 -- The first state, and what the last one is.
-use Rattle.std.proofs.Common.{◌≡◌, ℕ, zero, suc, ◌+◌, ◌<◌, ◌≤◌, Bool, true, cond, ◌&&◌, List, [], ◌∷◌, length, refl, sym, ◌∙◌, ap, arith, subst, eq-eqb, ◌⊎◌, inl, inr, ⊎_elim, Option, Some, None, nat_eq, get_or}
+use Rattle.std.proofs.Common.{◌≡◌, ℕ, zero, suc, ◌+◌, ◌<◌, ◌≤◌, Bool, true, cond, ◌&&◌, List, [], ◌∷◌, length, refl, sym, ◌∙◌, ap, arith, subst, eq-eqb, ◌⊎◌, inl, inr, ⊎_elim, Option, Some, None, nat_eq, get_or, filter}
 use Rattle.std.specs.List.{list_all, AllByRecursion, range_with_len}
 use Rattle.std.proofs.lemmas.Bool.{cases_eq, and_parts, false≢true}
 use Rattle.std.proofs.lemmas.List.{length-map, take_all}
@@ -20,6 +20,10 @@ use Rattle.wd_close.proofs.Step.{done_gives, done_is, is_done-lt, left_reached}
 abbrev pub started : List Fact → List Member → List Member
 started list from = fired list (sizes list) (all_added [] from) (range_with_len 0 (length list))
 
+-- the facts whose left sides are empty
+abbrev pub ready_first : List Fact → List ℕ
+ready_first list = filter (is_done (sizes list)) (range_with_len 0 (length list))
+
 good_nil : (facts : FactList) (from : List Member) → Good facts from []
 good_nil facts from = record {
   apart = tt;
@@ -36,8 +40,12 @@ occurs_range a (suc n) i h k = by (λ (ne : i ≡ a → ⊥). occurs_range (a + 
     by later (inl e) = let u : ◌≡◌ {A = ℕ} (cond (nat_eq i a) 1 0) 1 = ap (λ (b : Bool). cond b 1 0) (eq-eqb i a e) in omega (arith, u)
     by later (inr e) = omega (arith, later e)
 
-sizes_long : (list : List Fact) → length (sizes list) ≡ length list
+pub sizes_long : (list : List Fact) → length (sizes list) ≡ length list
 sizes_long list = length-map list (λ (fact : Fact). length (different fact.from))
+
+-- the counters of facts, and which of them are at 0
+pub ready_is : (list : List Fact) (cs ready : List ℕ) → cs ≡ sizes list → ready ≡ filter (is_done cs) (range_with_len 0 (length cs)) → ready ≡ ready_first list
+ready_is list cs ready e f = f ∙ ap (λ (c : List ℕ). filter (is_done c) (range_with_len 0 (length c))) e ∙ ap (λ n. filter (is_done (sizes list)) (range_with_len 0 n)) (sizes_long list)
 
 first_good : (facts : FactList) (from : List Member) → list_all (is_named facts) from ≡ true → Good facts from (all_added [] from)
 first_good facts from from_named = good_all facts from [] from (good_nil facts from) (λ x e. all_at (is_named facts) from x from_named e) (itself_given facts from)

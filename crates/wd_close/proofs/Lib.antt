@@ -11,6 +11,7 @@ pub mod Step
 pub mod Ends
 pub mod Watching
 pub mod Once
+pub mod Ready
 pub mod Derivations
 pub mod Loop
 pub mod Worked

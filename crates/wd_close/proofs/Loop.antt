@@ -1,12 +1,11 @@
 -- The loop of the closure: its states, and the number of its steps.
-use Rattle.std.proofs.Common.{◌≡◌, ℕ, ◌+◌, ◌<◌, ◌≤◌, Bool, true, false, cond, ◌&&◌, List, [], ◌∷◌, ◌++◌, take, drop, map, length, get_or, replicate, refl, sym, ◌∙◌, ap, arith, subst}
+use Rattle.std.proofs.Common.{◌≡◌, ℕ, ◌+◌, ◌<◌, ◌≤◌, Bool, true, false, cond, ◌&&◌, List, [], ◌∷◌, ◌++◌, take, drop, length, get_or, replicate, refl, sym, ◌∙◌, ap, arith, subst}
 use Rattle.std.specs.List.{list_all, AllByRecursion, range_with_len, count_by, sum_by}
-use Rattle.std.proofs.lemmas.List.{append-nil, drop_all, get_or-replicate, length-map, length-replicate, take_all}
+use Rattle.std.proofs.lemmas.List.{append-nil, drop_all, get_or-replicate, length-replicate, take_all}
 use Rattle.std.proofs.lemmas.List.Recursion.{is_sum_by}
-use Rattle.wd_facts.specs.declared.facts.Given.{Given}
 use Rattle.wd_facts.specs.declared.facts.Member.{Member}
 use Rattle.wd_facts.specs.declared.facts.Member.TheVariants.{Row}
-use Rattle.wd_facts.specs.Facts.{Fact, FactList, columns_named, fact_of}
+use Rattle.wd_facts.specs.Facts.{Fact, FactList, columns_named}
 use Rattle.wd_sets.specs.Sets.{place, stands_in}
 use Rattle.wd_close.specs.Closure.{IsClosure, all_members, is_named, steps_of}
 use Rattle.wd_close.specs.Reached.{all_added, brought, fallen, fired, used, watching}
@@ -15,19 +14,18 @@ use Rattle.wd_close.proofs.Lists.{all_apart, all_at, different, lacking, lacking
 use Rattle.wd_close.proofs.Names.{HasSplit, IsNamed, left_at, named_in}
 use Rattle.wd_close.proofs.Steps.{State, occurs, sizes}
 use Rattle.wd_close.proofs.Step.{done_left, fresh, now_is, stands_get, step}
-use Rattle.wd_close.proofs.Ends.{complete, first_state, started}
+use Rattle.wd_close.proofs.Ends.{complete, first_state, ready_first, started}
+use Rattle.wd_close.proofs.Ready.{fired_done}
 use Rattle.wd_close.proofs.Derivations.{IsDerived, brought_derived, each}
 use Rattle.wd_close.proofs.Watching.{apart_left, each_length, each_long, is_watching, place_lt, put_all, put_each}
 
 pub written : (new items : List ℕ) (len : ℕ) → length new ≡ length items → len ≡ length items → take len (new ++ drop (length new) items) ≡ new
 written new items len e f = ap (λ d. take len (new ++ d)) (drop_all (length new) items (omega (arith, e))) ∙ ap (take len) (append-nil new) ∙ take_all len new (omega (arith, e, f))
 
-pub start_state : (facts : FactList) (from : List Member) → AllByRecursion (IsNamed facts) facts.list → list_all (is_named facts) from ≡ true → (gs : List Given) (cs cs2 : List ℕ) (q0 q1 q2 : List Member) → map fact_of gs ≡ facts.list → cs ≡ sizes facts.list → cs2 ≡ cs → q0 ≡ [] → q1 ≡ all_added q0 from → q2 ≡ fired (map fact_of gs) cs2 q1 (range_with_len 0 (length gs)) → State facts from 0 q2 cs
-start_state facts from names from_named gs cs cs2 q0 q1 q2 is e_cs e_cs2 e_q0 e_q1 e_q2 =
+pub start_state : (facts : FactList) (from : List Member) → AllByRecursion (IsNamed facts) facts.list → list_all (is_named facts) from ≡ true → (list : List Fact) (cs cs2 ready : List ℕ) (q0 q1 q2 : List Member) → list ≡ facts.list → cs ≡ sizes facts.list → cs2 ≡ sizes facts.list → ready ≡ ready_first facts.list → q0 ≡ [] → q1 ≡ all_added q0 from → q2 ≡ fired list cs2 q1 ready → State facts from 0 q2 cs
+start_state facts from names from_named list cs cs2 ready q0 q1 q2 is e_cs e_cs2 e_ready e_q0 e_q1 e_q2 =
     let q1_is : q1 ≡ all_added [] from = e_q1 ∙ ap (λ q. all_added q from) e_q0 in
-    let long : length gs ≡ length facts.list = sym (length-map gs fact_of) ∙ ap length is in
-    let cs2_is : cs2 ≡ sizes facts.list = e_cs2 ∙ e_cs in
-    let q2_is : q2 ≡ started facts.list from = e_q2 ∙ (λ i. fired (is i) (cs2_is i) (q1_is i) (range_with_len 0 (long i))) in
+    let q2_is : q2 ≡ started facts.list from = e_q2 ∙ (λ i. fired (is i) (e_cs2 i) (q1_is i) (e_ready i)) ∙ fired_done facts.list (sizes facts.list) (all_added [] from) (range_with_len 0 (length facts.list)) in
     subst (λ q. State facts from 0 q cs) (sym q2_is) (subst (State facts from 0 (started facts.list from)) (sym e_cs) (first_state facts from names from_named))
 
 module _ (facts : FactList) (from : List Member) (within : HasSplit facts) (names : AllByRecursion (IsNamed facts) facts.list) (k : ℕ) (q : List Member) (cs : List ℕ) (st : State facts from k q cs) (lt : k < length q) (W : List (List ℕ)) (is : W ≡ put_all (replicate (facts.columns + 3) []) 0 facts.list) where

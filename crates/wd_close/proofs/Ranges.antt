@@ -1,11 +1,11 @@
 -- Ranges, a step on and at the end.
-use Rattle.std.proofs.Common.{◌≡◌, ℕ, suc, ◌+◌, ◌-◌, ◌<◌, ◌≤◌, List, [], ◌∷◌, ap, arith}
+use Rattle.std.proofs.Common.{◌≡◌, ℕ, suc, ◌+◌, ◌-◌, ◌<◌, ◌≤◌, List, [], ◌∷◌, ap, arith, Bool, true, false, cond, filter, ◌∙◌, ◌++◌, refl, sym}
 use Rattle.std.specs.List.{range_with_len}
 use Rattle.wd_facts.specs.declared.facts.Member.{Member}
 use Rattle.wd_facts.specs.declared.facts.Member.TheVariants.{Column}
-use Rattle.wd_facts.specs.Facts.{Fact, columns_named}
+use Rattle.wd_facts.specs.Facts.{columns_named}
 use Rattle.wd_close.specs.Closure.{columns_between}
-use Rattle.wd_close.specs.Reached.{added, all_added, fired, fired_one, used, used_one}
+use Rattle.wd_close.specs.Reached.{added, all_added}
 
 pub range_more : (a b : ℕ) → a < b → range_with_len a (b - a) ≡ a ∷ range_with_len (a + 1) (b - (a + 1))
 range_more a b h = let e : b - a ≡ suc (b - (a + 1)) = omega (arith, h) in ap (range_with_len a) e
@@ -19,14 +19,21 @@ columns_more q a b h = ap (λ r. all_added q (columns_named r)) (range_more a b 
 pub columns_none : (q : List Member) (a b : ℕ) → b ≤ a → all_added q (columns_between a b) ≡ q
 columns_none q a b h = ap (λ r. all_added q (columns_named r)) (range_none a b h)
 
-pub fired_more : (list : List Fact) (counters : List ℕ) (q : List Member) (a b : ℕ) → a < b → fired list counters q (range_with_len a (b - a)) ≡ fired list counters (fired_one list counters q a) (range_with_len (a + 1) (b - (a + 1)))
-fired_more list counters q a b h = ap (fired list counters q) (range_more a b h)
+-- a list with those of a range that pass behind it: one more passes
+pub next_kept : (test : ℕ → Bool) (a b : ℕ) (old new all : List ℕ) → a < b → test a ≡ true → new ≡ old ++ a ∷ [] → old ++ filter test (range_with_len a (b - a)) ≡ all → new ++ filter test (range_with_len (a + 1) (b - (a + 1))) ≡ all
+next_kept test a b old new all h e is before =
+    let rest = filter test (range_with_len (a + 1) (b - (a + 1))) in
+    ap (λ l. l ++ rest) is ∙ pushed old rest ∙ ap (λ l. old ++ l) (sym (ap (filter test) (range_more a b h) ∙ ap (λ t. cond t (a ∷ rest) rest) e)) ∙ before
+  where
+    pushed : (l rest : List ℕ) → (l ++ a ∷ []) ++ rest ≡ l ++ a ∷ rest
+    pushed [] rest = refl
+    pushed (x ∷ l) rest = ap (λ r. x ∷ r) (pushed l rest)
 
-pub fired_none : (list : List Fact) (counters : List ℕ) (q : List Member) (a b : ℕ) → b ≤ a → fired list counters q (range_with_len a (b - a)) ≡ q
-fired_none list counters q a b h = ap (fired list counters q) (range_none a b h)
+-- one does not
+pub next_left : (test : ℕ → Bool) (a b : ℕ) (old all : List ℕ) → a < b → test a ≡ false → old ++ filter test (range_with_len a (b - a)) ≡ all → old ++ filter test (range_with_len (a + 1) (b - (a + 1))) ≡ all
+next_left test a b old all h e before =
+    let rest = filter test (range_with_len (a + 1) (b - (a + 1))) in
+    ap (λ l. old ++ l) (sym (ap (filter test) (range_more a b h) ∙ ap (λ t. cond t (a ∷ rest) rest) e)) ∙ before
 
-pub used_more : (list : List Fact) (counters : List ℕ) (q : List Member) (uses : List ℕ) (a b : ℕ) → a < b → used list counters q uses (range_with_len a (b - a)) ≡ used list counters (fired_one list counters q a) (used_one list counters q uses a) (range_with_len (a + 1) (b - (a + 1)))
-used_more list counters q uses a b h = ap (used list counters q uses) (range_more a b h)
-
-pub used_none : (list : List Fact) (counters : List ℕ) (q : List Member) (uses : List ℕ) (a b : ℕ) → b ≤ a → used list counters q uses (range_with_len a (b - a)) ≡ uses
-used_none list counters q uses a b h = ap (used list counters q uses) (range_none a b h)
+pub filter_none : (test : ℕ → Bool) (a b : ℕ) → b ≤ a → filter test (range_with_len a (b - a)) ≡ []
+filter_none test a b h = ap (filter test) (range_none a b h)

@@ -1,11 +1,12 @@
 -- The queue of reached members, and the counters of the facts.
-use Rattle.std.specs.Prelude.{◌≡◌, ℕ, ◌+◌, ◌-◌, Bool, false, ◌&&◌, List, [], ◌∷◌, ◌++◌, length, get_or, set, slice_get, nat_eq, nat_lt, Option, Some, None, if◌then◌else◌}
+use Rattle.std.specs.Prelude.{◌≡◌, ℕ, ◌+◌, ◌-◌, Bool, true, false, ◌&&◌, List, filter, [], ◌∷◌, ◌++◌, length, get_or, set, replicate, slice_get, nat_eq, nat_lt, Option, Some, None, if◌then◌else◌}
+use Rattle.std.specs.List.{range_with_len}
 use Rattle.wd_facts.specs.declared.facts.Member.{Member}
 use Rattle.wd_facts.specs.declared.facts.Member.TheVariants.{Column, Left, Right, Row}
 use Rattle.wd_facts.specs.Facts.{Fact, FactList}
 use Rattle.wd_sets.specs.declared.set.Set.{Set}
 use Rattle.wd_sets.specs.Sets.{has, place, stands_in}
-use Rattle.wd_close.specs.Closure.{columns_between}
+use Rattle.wd_close.specs.Closure.{are_named, columns_between, is_split_within}
 
 -- a set of just the members of a list
 abbrev pub Mirrors : Set → List Member → Type 0
@@ -111,3 +112,13 @@ counted watchers i (fact ∷ facts) = count_new watchers i fact.from ∷ counted
 -- the facts that stand with the member at a place of the queue
 abbrev pub watching : List (List ℕ) → List Member → ℕ → List ℕ
 watching watchers q k = get_or watchers (place (get_or q k Row)) []
+
+-- ---- facts made ready
+
+-- of facts that name what they may: which stand with each member, how many members each waits for, and which wait for none
+pub record AreReady (facts : FactList) (watchers : List (List ℕ)) (counters ready : List ℕ) : Type 0 where
+  pub split : is_split_within facts.split facts.columns ≡ true
+  pub named : are_named facts ≡ true
+  pub stand : watchers ≡ watched (replicate (facts.columns + 3) []) 0 facts.list
+  pub wait : counters ≡ counted (replicate (facts.columns + 3) []) 0 facts.list
+  pub done : ready ≡ filter (is_done counters) (range_with_len 0 (length counters))

@@ -1,89 +1,25 @@
 //! The closure of columns under facts, in time linear in their sizes.
 
-ghost use Rattle.std.specs.Prelude.{◌≡◌, ◌<◌, ◌^◌, true, map, length, get_or, nat_lt, vec_items, IfOk};
+ghost use Rattle.std.specs.Prelude.{◌≡◌, true, nat_lt, IfOk};
 ghost use Rattle.std.specs.List.{list_all};
-ghost use Rattle.wd_facts.specs.declared.facts.Member.TheVariants as member;
-ghost use Rattle.wd_facts.specs.Facts.{columns_named, fact_of, facts_of};
+ghost use Rattle.wd_facts.specs.Facts.{columns_named, facts_of};
 ghost use Rattle.wd_sets.specs.Sets.{has, stands_in};
 ghost use Rattle.wd_close.specs.Closure.{Derives, IsClosure, are_named, is_split_within, steps_of};
-ghost use Rattle.wd_close.specs.Reached.{Mirrors};
-ghost use Rattle.wd_close.specs.Reached as spec;
 
-use crate::counters::{fall, fire, fire_each};
-use crate::reached::{add_named, bring};
-use crate::watchers::{empties, watch_all, watchers_of};
+use crate::prepared::{Closing, Prepared};
 use std::alloc::Global;
-use wd_facts::{Facts, Member};
+use wd_facts::Facts;
 use wd_sets::Set;
 use wd_value::OutOfMemory;
 
-/// What columns give, the facts that show it, and how many steps it took.
+/// What columns give, and the facts that show it.
 #[derive(Drop)]
-struct Closing {
-    set: Set,
-    uses: Vec<u64>,
-    steps: u128,
-}
-
-/// Takes a member from the queue; how many counters fell.
-fn take_one(
-    facts: &Facts,
-    watchers: &[Vec<usize>],
-    counters: &mut [usize],
-    set: &mut Set,
-    queue: &mut Vec<Member>,
-    uses: &mut Vec<u64>,
-    at: usize,
-) -> Result<usize, OutOfMemory>
-    requires mirrors { Mirrors set.old queue.old.items }
-    requires within { at < length queue.old.items }
-    ensures mirrors { IfOk result (λ _. Mirrors set.new queue.new.items) }
-    ensures counters { IfOk result (λ _. counters.new ≡ spec.fallen counters.old (spec.watching (map vec_items watchers.now) queue.old.items at)) }
-    ensures queue { IfOk result (λ _. queue.new.items ≡ spec.fired (map fact_of facts.now.list.items) counters.new (spec.brought (facts_of facts.now) queue.old.items (get_or queue.old.items at member.Row)) (spec.watching (map vec_items watchers.now) queue.old.items at)) }
-    ensures uses { IfOk result (λ _. uses.new.items ≡ spec.used (map fact_of facts.now.list.items) counters.new (spec.brought (facts_of facts.now) queue.old.items (get_or queue.old.items at member.Row)) uses.old.items (spec.watching (map vec_items watchers.now) queue.old.items at)) }
-    ensures small { IfOk result (λ n. n < 2 ^ 64) }
-    ensures fell { IfOk result (λ n. n ≡ length (spec.watching (map vec_items watchers.now) queue.old.items at)) }
-{
-    let member = queue[at];
-    let fell = watchers_of(watchers, member);
-    fall(counters, fell);
-    bring(facts, set, queue, member)?;
-    fire(&facts.list, counters, set, queue, uses, fell)?;
-    Ok(fell.len())
-}
-
-/// Closes the columns under the facts.
-fn close(alloc: Global, facts: &Facts, columns: &[u16]) -> Result<Closing, OutOfMemory>
-    requires split { is_split_within facts.now.split facts.now.columns ≡ true }
-    requires facts { are_named (facts_of facts.now) ≡ true }
-    requires columns { list_all (λ c. nat_lt c facts.now.columns) columns.now ≡ true }
-    ensures members { IfOk result (λ r. IsClosure (facts_of facts.now) columns.now (has r.set)) }
-    ensures uses { IfOk result (λ r. Derives (facts_of facts.now) r.uses.items (stands_in (columns_named columns.now)) (has r.set)) }
-    ensures steps { IfOk result (λ r. r.steps ≡ steps_of (facts_of facts.now) (has r.set)) }
-{
-    let mut watchers = empties(alloc, facts.columns as usize + 3)?;
-    let mut counters = watch_all(alloc, &facts.list, &mut watchers)?;
-    let mut set = Set::new(alloc);
-    let mut queue = Vec::new(alloc);
-    let mut uses = Vec::new(alloc);
-    add_named(&mut set, &mut queue, columns)?;
-    fire_each(&facts.list, &counters, &mut set, &mut queue, &mut uses)?;
-    let mut steps = 0u128;
-    let mut at = 0usize;
-    while at < queue.len() {
-        let fell = take_one(
-            facts,
-            &watchers,
-            &mut counters,
-            &mut set,
-            &mut queue,
-            &mut uses,
-            at,
-        )?;
-        steps += 1 + fell as u128;
-        at += 1;
-    }
-    Ok(Closing { set, uses, steps })
+pub struct Derived {
+    /// What the columns give.
+    pub set: Set,
+    /// The numbers of the facts, in the order in which they are used: each one's left side is
+    /// reached by then, and its right side thereby.
+    pub uses: Vec<u64>,
 }
 
 /// What columns give by facts, as `closure` says, and in how many steps. A step is one fall of the
@@ -103,18 +39,9 @@ pub fn closure_counted(
     ensures members { IfOk result (λ r. IsClosure (facts_of facts.now) columns.now (has r.0)) }
     ensures steps { IfOk result (λ r. r.1 ≡ steps_of (facts_of facts.now) (has r.0)) }
 {
-    let Closing { set, steps, .. } = close(alloc, facts, columns)?;
+    let prepared = Prepared::new(alloc, facts)?;
+    let Closing { set, steps, .. } = prepared.close(alloc, columns)?;
     Ok((set, steps))
-}
-
-/// What columns give, and the facts that show it.
-#[derive(Drop)]
-pub struct Derived {
-    /// What the columns give.
-    pub set: Set,
-    /// The numbers of the facts, in the order in which they are used: each one's left side is
-    /// reached by then, and its right side thereby.
-    pub uses: Vec<u64>,
 }
 
 /// What columns give by facts, as `closure` says, and the facts that show it. None is named that
@@ -133,8 +60,9 @@ pub fn closure_derived(
     ensures members { IfOk result (λ r. IsClosure (facts_of facts.now) columns.now (has r.set)) }
     ensures uses { IfOk result (λ r. Derives (facts_of facts.now) r.uses.items (stands_in (columns_named columns.now)) (has r.set)) }
 {
-    let Closing { set, uses, .. } = close(alloc, facts, columns)?;
-    Ok(Derived { set, uses })
+    let prepared = Prepared::new(alloc, facts)?;
+    let derived = prepared.derive(alloc, columns)?;
+    Ok(derived)
 }
 
 /// What columns give by facts: each column, each side of a Join and the row that they give in all
@@ -150,6 +78,7 @@ pub fn closure(alloc: Global, facts: &Facts, columns: &[u16]) -> Result<Set, Out
     requires columns { list_all (λ c. nat_lt c facts.now.columns) columns.now ≡ true }
     ensures { IfOk result (λ set. IsClosure (facts_of facts.now) columns.now (has set)) }
 {
-    let closing = close(alloc, facts, columns)?;
+    let prepared = Prepared::new(alloc, facts)?;
+    let closing = prepared.close(alloc, columns)?;
     Ok(closing.set)
 }

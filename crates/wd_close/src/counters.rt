@@ -1,12 +1,13 @@
 //! For each fact, how many members of its left side are not reached yet.
 
-ghost use Rattle.std.specs.Prelude.{◌≡◌, map, length, IfOk, option_map};
+ghost use Rattle.std.specs.Prelude.{◌≡◌, filter, map, length, IfOk, option_map};
 ghost use Rattle.std.specs.List.{range_with_len};
 ghost use Rattle.wd_facts.specs.Facts.{fact_of};
 ghost use Rattle.wd_close.specs.Reached.{Mirrors};
 ghost use Rattle.wd_close.specs.Reached as spec;
 
 use crate::reached::add_all;
+use std::alloc::Global;
 use wd_facts::{Given, Member};
 use wd_sets::Set;
 use wd_value::OutOfMemory;
@@ -105,22 +106,16 @@ pub(crate) fn fire(
     Ok(())
 }
 
-/// The same of each fact.
-#[tactic(auto, using(crate::proofs::Ranges::fired_more, crate::proofs::Ranges::fired_none, crate::proofs::Ranges::used_more, crate::proofs::Ranges::used_none))]
-pub(crate) fn fire_each(
-    list: &[Given],
-    counters: &[usize],
-    set: &mut Set,
-    queue: &mut Vec<Member>,
-    uses: &mut Vec<u64>,
-) -> Result<(), OutOfMemory>
-    requires mirrors { Mirrors set.old queue.old.items }
-    ensures mirrors { IfOk result (λ _. Mirrors set.new queue.new.items) }
-    ensures queue { IfOk result (λ _. queue.new.items ≡ spec.fired (map fact_of list.now) counters.now queue.old.items (range_with_len 0 (length list.now))) }
-    ensures uses { IfOk result (λ _. uses.new.items ≡ spec.used (map fact_of list.now) counters.now queue.old.items uses.old.items (range_with_len 0 (length list.now))) }
+/// The facts whose counters are at 0.
+#[tactic(auto, using(crate::proofs::Ranges::filter_none))]
+pub(crate) fn done_facts(alloc: Global, counters: &[usize]) -> Result<Vec<usize>, OutOfMemory>
+    ensures { IfOk result (λ v. v.items ≡ filter (spec.is_done counters.now) (range_with_len 0 (length counters.now))) }
 {
-    for fact in 0..list.len() {
-        use_one(list, counters, set, queue, uses, fact)?;
+    let mut done = Vec::new(alloc);
+    for fact in 0..counters.len() {
+        if is_done(counters, fact) {
+            done.push(fact)?;
+        }
     }
-    Ok(())
+    Ok(done)
 }
