@@ -3,17 +3,20 @@
 
     python3 tests/stored_answers.py PROGRAM
 
-Each folder of examples/ has schema.sql, query.sql, a CSV file for
-each table and answer.csv; where there is certificate.json too, the program must accept it. tests/frames has one schema and one table and many queries, each beside its answer: each
-function of a window in each mode of frame with each exclusion; those answers are PostgreSQL 15's. A query must end
-with status 0, print exactly the stored answer and nothing on standard error. A missing answer is a failure, and so is
-a folder without queries. The last line is 'N passed, M failed'.
+Each folder of examples/ has schema.sql, query.sql, a CSV file for each table and answer.csv, which `run` prints, and
+check.txt: what `check` prints, but for the certificate, which may use other facts and which `verify` must accept. Where
+there is explain.txt too, `explain` prints it, and where there is certificate.json, `verify` accepts it. tests/frames has
+one schema and one table and many queries, each beside its answer: each function of a window in each mode of frame with
+each exclusion; those answers are PostgreSQL 15's. Each run must end with the status of its answer, print exactly what is
+stored and nothing on standard error. A missing answer is a failure, and so is a folder without queries. The last line is
+'N passed, M failed'.
 """
 
 import glob
 import os
 import subprocess
 import sys
+import tempfile
 
 TOP = os.path.dirname(os.path.dirname(os.path.abspath(__file__)))
 
@@ -32,44 +35,78 @@ def frames():
         yield f"{folder}/schema.sql", query, [f"{folder}/t.csv"], query.removesuffix(".sql") + ".csv"
 
 
-def complaint(program, schema, query, tables, answer):
-    """What is wrong with the program's answer, or None."""
-    if not os.path.isfile(answer):
-        return f"there is no {os.path.basename(answer)}"
-    words = [f"{os.path.basename(table).removesuffix('.csv')}={table}" for table in tables]
-    ran = subprocess.run([program, "run", schema, query, *words], stdin=subprocess.DEVNULL, capture_output=True, timeout=300)
-    with open(answer, "rb") as file:
-        wanted = file.read()
-    if (ran.returncode, ran.stderr) != (0, b""):
+STATUSES = {"DETERMINISTIC": 0, "UNKNOWN": 2}
+
+
+def complaint(words, status, wanted):
+    """What is wrong with what the program prints for these words, or None."""
+    ran = subprocess.run(words, stdin=subprocess.DEVNULL, capture_output=True, timeout=300)
+    if (ran.returncode, ran.stderr) != (status, b""):
         return f"status {ran.returncode}, standard error {ran.stderr[:300]!r}"
     return None if ran.stdout == wanted else f"{ran.stdout[:300]!r} is not the stored answer {wanted[:300]!r}"
 
 
-def refused(program, certificate):
-    """What is wrong where the program does not accept a certificate, or None."""
-    folder = os.path.dirname(certificate)
-    words = [program, "verify", f"{folder}/schema.sql", f"{folder}/query.sql", certificate]
-    ran = subprocess.run(words, stdin=subprocess.DEVNULL, capture_output=True, timeout=300)
-    is_accepted = (ran.returncode, ran.stdout, ran.stderr) == (0, b"ACCEPTED\n", b"")
-    return None if is_accepted else f"status {ran.returncode}, {ran.stdout[:300]!r}, standard error {ran.stderr[:300]!r}"
+def stored(file):
+    with open(file, "rb") as text:
+        return text.read()
+
+
+def wrong_answer(program, schema, query, tables, answer):
+    """What is wrong with the answer of `run`, or None."""
+    if not os.path.isfile(answer):
+        return f"there is no {os.path.basename(answer)}"
+    words = [f"{os.path.basename(table).removesuffix('.csv')}={table}" for table in tables]
+    return complaint([program, "run", schema, query, *words], 0, stored(answer))
+
+
+def wrong_verdict(program, folder):
+    """What is wrong with what `check` says of an example, or None."""
+    texts = [f"{folder}/schema.sql", f"{folder}/query.sql"]
+    wanted = stored(f"{folder}/check.txt")
+    if wanted != b"DETERMINISTIC\n":
+        return complaint([program, "check", *texts], STATUSES["UNKNOWN"], wanted)
+    ran = subprocess.run([program, "check", *texts], stdin=subprocess.DEVNULL, capture_output=True, timeout=300)
+    lines = ran.stdout.split(b"\n")
+    if (ran.returncode, ran.stderr, len(lines), lines[0], lines[-1]) != (0, b"", 3, b"DETERMINISTIC", b""):
+        return f"status {ran.returncode}, {ran.stdout[:300]!r}, standard error {ran.stderr[:300]!r}"
+    with tempfile.NamedTemporaryFile() as certificate:
+        certificate.write(lines[1])
+        certificate.flush()
+        return wrong_certificate(program, folder, certificate.name)
+
+
+def wrong_explanation(program, folder):
+    """What is wrong with what `explain` says of an example, or None."""
+    wanted = stored(f"{folder}/explain.txt")
+    word = wanted.decode().splitlines()[-1]
+    return complaint([program, "explain", f"{folder}/schema.sql", f"{folder}/query.sql"], STATUSES[word], wanted)
+
+
+def wrong_certificate(program, folder, certificate):
+    """What is wrong where the program does not accept a certificate for an example, or None."""
+    return complaint([program, "verify", f"{folder}/schema.sql", f"{folder}/query.sql", certificate], 0, b"ACCEPTED\n")
+
+
+def trials(program):
+    """Each file that is tried, with what is wrong with it."""
+    for schema, query, tables, answer in [*examples(), *frames()]:
+        yield query, wrong_answer(program, schema, query, tables, answer)
+    for folder in sorted(glob.glob(f"{TOP}/examples/*")):
+        yield f"{folder}/check.txt", wrong_verdict(program, folder)
+        if os.path.exists(f"{folder}/explain.txt"):
+            yield f"{folder}/explain.txt", wrong_explanation(program, folder)
+        if os.path.exists(f"{folder}/certificate.json"):
+            yield f"{folder}/certificate.json", wrong_certificate(program, folder, f"{folder}/certificate.json")
 
 
 def main():
     program, passed, failed = os.path.abspath(sys.argv[1]), 0, 0
-    for cases in (list(examples()), list(frames())):
-        failed += not cases
-        for schema, query, tables, answer in cases:
-            wrong = complaint(program, schema, query, tables, answer)
-            passed, failed = passed + (not wrong), failed + bool(wrong)
-            if wrong:
-                print(f"FAIL {os.path.relpath(query, TOP)}: {wrong}")
-    certificates = sorted(glob.glob(f"{TOP}/examples/*/certificate.json"))
-    failed += not certificates
-    for certificate in certificates:
-        wrong = refused(program, certificate)
+    failed += not list(examples())
+    failed += not list(frames())
+    for file, wrong in trials(program):
         passed, failed = passed + (not wrong), failed + bool(wrong)
         if wrong:
-            print(f"FAIL {os.path.relpath(certificate, TOP)}: {wrong}")
+            print(f"FAIL {os.path.relpath(file, TOP)}: {wrong}")
     print(f"{passed} passed, {failed} failed")
     return 1 if failed else 0
 

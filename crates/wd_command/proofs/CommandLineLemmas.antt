@@ -1,5 +1,5 @@
 -- What `clap` makes of words of which none begins with a hyphen: the first word, which names a command, and the words of a command one by one.
-use Rattle.std.proofs.Common.{arith, ◌≡◌, ◌∙◌, ◌==◌, ◌⊎◌, ℕ, Bool, true, false, suc, List, [], ◌∷◌, map, Option, Some, None, inl, inr, codes, refl, sym, ap, ap₂, ne_eqb}
+use Rattle.std.proofs.Common.{arith, ◌≡◌, ◌∙◌, ◌==◌, ◌++◌, ◌⊎◌, ℕ, Bool, true, false, suc, List, [], ◌∷◌, map, Option, Some, None, inl, inr, codes, refl, sym, ap, ap₂, ne_eqb}
 use Rattle.std.specs.Prelude.{find, fold, is_some}
 use Rattle.std.specs.List.{All}
 use Rattle.std.specs.Option.{option_map, option_map_or}
@@ -13,7 +13,7 @@ use Rattle.clap.specs.Faults.{check_fault, defaults_fault, entered_fault, fault_
 use Rattle.clap.proofs.FaultLemmas.{stopped_fault}
 use Rattle.clap.proofs.WalkLemmas.{walk_stopped}
 use Rattle.clap.proofs.OnLiterals.{clap_on_literals}
-use Rattle.wd_command.specs.CommandLine.{command_line, program}
+use Rattle.wd_command.specs.CommandLine.{command_line, commands, program}
 use Rattle.wd_command.specs.Words.{IsPlain}
 
 -- ---- plain words
@@ -99,17 +99,21 @@ rest_fault s w words = or_else (walk_fault s [] w words) (end_fault s (fold (wal
 abbrev pub level : Shape → List Text → Kinds
 level s words = level_fault s [] nothing_held words false []
 
-pub level_start : (s : Shape) (words : List Text) → level s words ≡ rest_fault s start words
-level_start s words = refl
-
 pub none_left : (s : Shape) (w : Walk) → rest_fault s w [] ≡ end_fault s w.held
 unfolding walk_fault
 none_left s w = refl
 
-pub fault_next : (s : Shape) (before after : Walk) (word : Text) (words : List Text) → Takes s before word after → rest_fault s before (word ∷ words) ≡ rest_fault s after words
+-- a word that the command takes leaves what f makes of the words to those after it
+abbrev pub Follows : {X : Type 0} → Shape → (Walk → List Text → X) → Type 0
+Follows s f = (before after : Walk) (word : Text) (words : List Text) → Takes s before word after → f before (word ∷ words) ≡ f after words
+
+pub fault_follows : (s : Shape) → Follows s (rest_fault s)
 unfolding walk_fault
-fault_next s before after word words takes =
+fault_follows s before after word words takes =
     ap₂ (λ (kinds : Kinds) (w : Walk). or_else (or_else kinds (walk_fault s [] w words)) (end_fault s (fold (walked s.rules []) w words).held)) takes.turn takes.step
+
+pub walk_follows : (s : Shape) → Follows s (fold (walked s.rules []))
+walk_follows s before after word words takes = ap (λ w. fold (walked s.rules []) w words) takes.step
 
 or_else_first : (a b : Kinds) → or_else a b ≡ [] → a ≡ []
 or_else_first [] b none = refl
@@ -149,7 +153,7 @@ named (name ∷ names) word = go (bytes_eq name word) refl (named names word)
 
 -- the names of the commands, and of `help`
 abbrev pub all_names : List Text
-all_names = codes "verify" ∷ codes "run" ∷ codes "help" ∷ []
+all_names = map (λ command. command.top.name) commands ++ codes "help" ∷ []
 
 -- where the words have no fault, the first one has none
 first_turn : (word : Text) (words : List Text) → fault_of command_line (word ∷ words) ≡ [] → turn_fault app.top (names_of app) start word ≡ []

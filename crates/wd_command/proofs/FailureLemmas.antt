@@ -1,20 +1,19 @@
 -- Failures: what is handed up by `?`, statuses, and reasons from those of the parts.
 use Rattle.std.proofs.Common.{◌≡◌, ◌≢◌, ◌++◌, ℕ, List, [], Option, Result, Ok, Err, IfErr, IsErrAnd, Any, drop, map, subst, sym}
 use Rattle.std.proofs.KnownBytes.{Keeps-refl}
+use Rattle.std.specs.Prelude.{⊤}
 use Rattle.clap.specs.Values.{kind_of}
 use Rattle.clap.specs.declared.error.Error.{Error}
 use Rattle.clap.specs.declared.error.kind.ErrorKind.TheVariants as kind
 use Rattle.wd_command.proofs.FilesLemmas.{HandsOver-trans}
 use Rattle.wd_run.specs.Causes as runs
-use Rattle.wd_run.specs.declared.error.RunError.{RunError}
-use Rattle.wd_accept.specs.Acceptance as acceptance
-use Rattle.wd_accept.specs.declared.error.VerifyError.{VerifyError}
 use Rattle.wd_command.specs.Commands.{data_in, text_at}
-use Rattle.wd_command.specs.Failures.{AskNext, FailsRun, FailsVerify, HasReason, IsFaultOfWords, IsTableWord, IsUnanswered, IsRunRefusal, IsUncut, IsUnread, IsVerifyRefusal}
+use Rattle.wd_command.specs.Failures.{AskNext, FailsRun, HasReason, IsDecideRefusal, IsFaultOfWords, IsRefusalBy, IsTableWord, IsUnanswered, IsRunRefusal, IsUncut, IsUnread, IsVerifyRefusal, Says}
 use Rattle.wd_command.specs.Files.{File, HandsOver, Reads, ReadsNothing, reads}
 use Rattle.wd_command.specs.Statuses.{IsEnding}
-use Rattle.wd_command.specs.Words.{AreTaskWords, AskFor, HasNoEquals, Task, Verify, Run, paths_of}
+use Rattle.wd_command.specs.Words.{AreTaskWords, AskFor, HasNoEquals, Task, Check, Explain, Verify, Run, paths_of}
 use Rattle.wd_command.specs.declared.failure.Failure.{Failure}
+use Rattle.wd_command.specs.declared.failure.Input.{Input}
 use Rattle.wd_command.specs.declared.failure.Failure.TheVariants.{CommandLine, NotText, Unassigned, Refused, Fault, CannotRead, CannotWrite, OutOfMemory}
 
 -- `?` hands the failure up as it is
@@ -45,30 +44,69 @@ IsUnread-behind before middle after first Known Wanted failures failures_after h
 IsUnread-behind before middle after first Known Wanted failures failures_after handed step (Unassigned word) h = absurd h
 IsUnread-behind before middle after first Known Wanted failures failures_after handed step CannotWrite h = absurd h
 
--- what holds of three values holds of the same ones
+-- what holds of two values holds of the same ones, and so of three
+pub of_two : {A B : Type 0} (P : A → B → Type 0) (a x : A) (b y : B) → a ≡ x → b ≡ y → P a b → P x y
+of_two P a x b y s q h = subst (P x) q (subst (λ v. P v b) s h)
+
 pub of_three : {A B C : Type 0} (P : A → B → C → Type 0) (a x : A) (b y : B) (c z : C) → a ≡ x → b ≡ y → c ≡ z → P a b c → P x y z
-of_three P a x b y c z s q t h = subst (P x y) t (subst (λ v. P x v c) q (subst (λ v. P v b c) s h))
+of_three P a x b y c z s q t h = subst (P x y) t (of_two (λ v w. P v w c) a x b y s q h)
 
--- a refusal with a cause in the files
-pub FailsVerify-from_refusal : (files : List File) (error : VerifyError) → acceptance.HasCause (text_at files 0) (text_at files 1) (text_at files 2) error → (failure : Failure) → IsVerifyRefusal error failure → FailsVerify files failure
-FailsVerify-from_refusal files error cause (Refused refusal) gives = (error, cause, gives)
-FailsVerify-from_refusal files error cause OutOfMemory gives = tt
-FailsVerify-from_refusal files error cause (CommandLine fault) gives = absurd gives
-FailsVerify-from_refusal files error cause NotText gives = absurd gives
-FailsVerify-from_refusal files error cause (Unassigned word) gives = absurd gives
-FailsVerify-from_refusal files error cause (Fault fault) gives = absurd gives
-FailsVerify-from_refusal files error cause (CannotRead path) gives = absurd gives
-FailsVerify-from_refusal files error cause CannotWrite gives = absurd gives
+-- a refusal for a cause in the files
+pub IsRefusalBy-from_cause : {E : Type 0} (HasCause : E → Type 0) (says : E → Input) (number place : E → Option ℕ) (error : E) → HasCause error
+    → (failure : Failure) → Says (says error) (number error) (place error) failure → IsRefusalBy HasCause (λ e. Says (says e) (number e) (place e)) failure
+IsRefusalBy-from_cause HasCause says number place error cause (Refused refusal) gives = (error, cause, gives)
+IsRefusalBy-from_cause HasCause says number place error cause OutOfMemory gives = tt
+IsRefusalBy-from_cause HasCause says number place error cause (CommandLine fault) gives = absurd gives
+IsRefusalBy-from_cause HasCause says number place error cause NotText gives = absurd gives
+IsRefusalBy-from_cause HasCause says number place error cause (Unassigned word) gives = absurd gives
+IsRefusalBy-from_cause HasCause says number place error cause (Fault fault) gives = absurd gives
+IsRefusalBy-from_cause HasCause says number place error cause (CannotRead path) gives = absurd gives
+IsRefusalBy-from_cause HasCause says number place error cause CannotWrite gives = absurd gives
 
-pub FailsRun-from_refusal : (tables : List (List ℕ × List ℕ)) (files : List File) (error : RunError) → runs.HasCause (text_at files 0) (text_at files 1) (data_in tables (drop 2 files)) error → (failure : Failure) → IsRunRefusal error failure → FailsRun tables files failure
-FailsRun-from_refusal tables files error cause (Refused refusal) gives = (error, cause, gives)
-FailsRun-from_refusal tables files error cause OutOfMemory gives = tt
-FailsRun-from_refusal tables files error cause (CommandLine fault) gives = absurd gives
-FailsRun-from_refusal tables files error cause NotText gives = absurd gives
-FailsRun-from_refusal tables files error cause (Unassigned word) gives = absurd gives
-FailsRun-from_refusal tables files error cause (Fault fault) gives = absurd gives
-FailsRun-from_refusal tables files error cause (CannotRead path) gives = absurd gives
-FailsRun-from_refusal tables files error cause CannotWrite gives = absurd gives
+-- and so of a run
+pub FailsRun-from_refusal : (tables : List (List ℕ × List ℕ)) (files : List File) (failure : Failure)
+    → IsRefusalBy (runs.HasCause (text_at files 0) (text_at files 1) (data_in tables (drop 2 files))) IsRunRefusal failure → FailsRun tables files failure
+FailsRun-from_refusal tables files (Refused refusal) h = h
+FailsRun-from_refusal tables files OutOfMemory h = tt
+FailsRun-from_refusal tables files (CommandLine fault) h = absurd h
+FailsRun-from_refusal tables files NotText h = absurd h
+FailsRun-from_refusal tables files (Unassigned word) h = absurd h
+FailsRun-from_refusal tables files (Fault fault) h = absurd h
+FailsRun-from_refusal tables files (CannotRead path) h = absurd h
+FailsRun-from_refusal tables files CannotWrite h = absurd h
+
+-- what failures come of files that were read
+abbrev IsOfFiles : Failure → Type 0
+IsOfFiles (Refused refusal) = ⊤
+IsOfFiles (Fault fault) = ⊤
+IsOfFiles OutOfMemory = ⊤
+IsOfFiles failure = ⊥
+
+refusal_of_files : {E : Type 0} (HasCause : E → Type 0) (IsRefusal : E → Failure → Type 0) (failure : Failure) → IsRefusalBy HasCause IsRefusal failure → IsOfFiles failure
+refusal_of_files HasCause IsRefusal (Refused refusal) h = tt
+refusal_of_files HasCause IsRefusal OutOfMemory h = tt
+refusal_of_files HasCause IsRefusal (CommandLine fault) h = absurd h
+refusal_of_files HasCause IsRefusal NotText h = absurd h
+refusal_of_files HasCause IsRefusal (Unassigned word) h = absurd h
+refusal_of_files HasCause IsRefusal (Fault fault) h = absurd h
+refusal_of_files HasCause IsRefusal (CannotRead path) h = absurd h
+refusal_of_files HasCause IsRefusal CannotWrite h = absurd h
+
+run_of_files : (tables : List (List ℕ × List ℕ)) (files : List File) (failure : Failure) → FailsRun tables files failure → IsOfFiles failure
+run_of_files tables files (Refused refusal) h = tt
+run_of_files tables files (Fault fault) h = tt
+run_of_files tables files OutOfMemory h = tt
+run_of_files tables files (CommandLine fault) h = absurd h
+run_of_files tables files NotText h = absurd h
+run_of_files tables files (Unassigned word) h = absurd h
+run_of_files tables files (CannotRead path) h = absurd h
+run_of_files tables files CannotWrite h = absurd h
+
+of_files : (task : Task) (files : List File) (failure : Failure) → IsUnanswered task files failure → IsOfFiles failure
+of_files (Check s q) files failure h = refusal_of_files _ IsDecideRefusal failure h
+of_files (Explain s q) files failure h = refusal_of_files _ IsDecideRefusal failure h
+of_files (Verify s q c) files failure h = refusal_of_files _ IsVerifyRefusal failure h
+of_files (Run s q tables) files failure h = run_of_files tables files failure h
 
 module _ (words : List (List ℕ)) (before after : Reads) where
   -- the files were read, and the task has no answer over them
@@ -77,16 +115,11 @@ module _ (words : List (List ℕ)) (before after : Reads) where
   HasReason-from_files task files asked named read (Refused refusal) h = record { task = task; files = files; asked = asked; named = named; read = read; unanswered = h }
   HasReason-from_files task files asked named read (Fault fault) h = record { task = task; files = files; asked = asked; named = named; read = read; unanswered = h }
   HasReason-from_files task files asked named read OutOfMemory h = tt
-  HasReason-from_files (Verify s q c) files asked named read (CommandLine error) h = absurd h
-  HasReason-from_files (Run s q tables) files asked named read (CommandLine error) h = absurd h
-  HasReason-from_files (Verify s q c) files asked named read NotText h = absurd h
-  HasReason-from_files (Run s q tables) files asked named read NotText h = absurd h
-  HasReason-from_files (Verify s q c) files asked named read (Unassigned word) h = absurd h
-  HasReason-from_files (Run s q tables) files asked named read (Unassigned word) h = absurd h
-  HasReason-from_files (Verify s q c) files asked named read (CannotRead path) h = absurd h
-  HasReason-from_files (Run s q tables) files asked named read (CannotRead path) h = absurd h
-  HasReason-from_files (Verify s q c) files asked named read CannotWrite h = absurd h
-  HasReason-from_files (Run s q tables) files asked named read CannotWrite h = absurd h
+  HasReason-from_files task files asked named read (CommandLine error) h = absurd (of_files task files (CommandLine error) h)
+  HasReason-from_files task files asked named read NotText h = absurd (of_files task files NotText h)
+  HasReason-from_files task files asked named read (Unassigned word) h = absurd (of_files task files (Unassigned word) h)
+  HasReason-from_files task files asked named read (CannotRead path) h = absurd (of_files task files (CannotRead path) h)
+  HasReason-from_files task files asked named read CannotWrite h = absurd (of_files task files CannotWrite h)
 
   -- `clap` refused the words
   pub HasReason-from_words : ReadsNothing before after → (error : Error) → words ≢ [] → (AreTaskWords words → kind_of error ≡ kind.OutOfMemory)

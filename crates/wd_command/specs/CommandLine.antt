@@ -1,5 +1,5 @@
 -- The command line: what its words ask for, and its shape in the words of `clap`.
-use Rattle.std.specs.Prelude.{◌≡◌, ℕ, List, [], ◌∷◌, map, codes, if◌then◌else◌, All, Option, Some, None, option_and_then, option_map, true, unwrap_or}
+use Rattle.std.specs.Prelude.{◌≡◌, ℕ, List, [], ◌∷◌, map, codes, if◌then◌else◌, All, Option, Some, None, option_and_then, option_map, fold, true, unwrap_or}
 use Rattle.std.specs.Str.{bytes_eq}
 use Rattle.clap.specs.Words.{App, Row, Rule, all_of, first_of, new_app, new_rule, with_rule, with_subcommand}
 use Rattle.clap.specs.Simple.{on_top}
@@ -12,21 +12,29 @@ use Rattle.wd_command.specs.declared.words.Request.TheVariants as request
 
 -- what a command line asks for: the paths, and at `run` the words NAME=PATH
 pub data Asked : Type 0 where
+  Check : (schema query : List ℕ) → Asked
+  Explain : (schema query : List ℕ) → Asked
   Verify : (schema query certificate : List ℕ) → Asked
   Run : (schema query : List ℕ) (tables : List (List ℕ)) → Asked
 
 -- its words
 abbrev pub line_of : Asked → List (List ℕ)
+line_of (Check schema query) = codes "check" ∷ schema ∷ query ∷ []
+line_of (Explain schema query) = codes "explain" ∷ schema ∷ query ∷ []
 line_of (Verify schema query certificate) = codes "verify" ∷ schema ∷ query ∷ certificate ∷ []
 line_of (Run schema query tables) = codes "run" ∷ schema ∷ query ∷ tables
 
 -- the words NAME=PATH
 abbrev pub table_words : Asked → List (List ℕ)
+table_words (Check schema query) = []
+table_words (Explain schema query) = []
 table_words (Verify schema query certificate) = []
 table_words (Run schema query tables) = tables
 
 -- what a request of the code asks for
 abbrev pub asked_by : Request → Asked
+asked_by (request.Check schema query) = Check schema.now query.now
+asked_by (request.Explain schema query) = Explain schema.now query.now
 asked_by (request.Verify schema query certificate) = Verify schema.now query.now certificate.now
 asked_by (request.Run schema query tables) = Run schema.now query.now (map (λ w. w.now) tables.items)
 
@@ -67,8 +75,11 @@ abbrev pub program : App
 program = on_top (λ top. record top { no_binary_name = true; subcommand_required = true }) (new_app (codes "wdcheck"))
 
 -- the program's commands
+abbrev pub commands : List App
+commands = paths_command (codes "check") ∷ paths_command (codes "explain") ∷ file_command (codes "verify") ∷ tables_command (codes "run") ∷ []
+
 abbrev pub command_line : App
-command_line = with_subcommand (with_subcommand program (file_command (codes "verify")).top) (tables_command (codes "run")).top
+command_line = fold (λ above command. with_subcommand above command.top) program commands
 
 -- ---- what a parse has found
 
@@ -86,9 +97,11 @@ tables_in rows = unwrap_or (all_of (codes "tables") rows) []
 
 -- what is asked for by a command's name and what stands after it
 abbrev pub asked_after : List ℕ → List Row → Option Asked
-asked_after name rows = if bytes_eq name (codes "verify") then option_map (λ paths. Verify paths.0 paths.1 paths.2) (three_paths rows)
+asked_after name rows = if bytes_eq name (codes "check") then option_map (λ paths. Check paths.0 paths.1) (two_paths rows)
+    else (if bytes_eq name (codes "explain") then option_map (λ paths. Explain paths.0 paths.1) (two_paths rows)
+    else (if bytes_eq name (codes "verify") then option_map (λ paths. Verify paths.0 paths.1 paths.2) (three_paths rows)
     else (if bytes_eq name (codes "run") then option_map (λ paths. Run paths.0 paths.1 (tables_in rows)) (two_paths rows)
-    else None)
+    else None)))
 
 -- what is asked for by the command that a parse has met
 abbrev pub asked_in : Option (List ℕ × List Row) → Option Asked

@@ -5,12 +5,14 @@ use Rattle.wd_value.specs.declared.value.Fault.{Fault}
 use Rattle.wd_tables.specs.Answers.{answer_text}
 use Rattle.wd_run.specs.Runs.{IsAnswer}
 use Rattle.wd_accept.specs.Acceptance.{IsAccepted}
+use Rattle.wd_decide.specs.Verdicts.{IsExamined, IsVerdict}
+use Rattle.wd_decide.specs.declared.verdict.Examined.{Examined}
+use Rattle.wd_decide.specs.declared.verdict.Verdict.{Verdict}
+use Rattle.wd_report.specs.Plans.{Explains}
+use Rattle.wd_report.specs.Verdicts.{verdict_status, verdict_text}
+use Rattle.wd_report.specs.Words.{line}
 use Rattle.wd_command.specs.Files.{File}
-use Rattle.wd_command.specs.Words.{AskFor, Task, Verify, Run, paths_of}
-
--- a line of text: its characters and a line feed
-abbrev pub line : List ℕ → List ℕ
-line text = text ++ 10 ∷ []
+use Rattle.wd_command.specs.Words.{AskFor, Task, Check, Explain, Verify, Run, paths_of}
 
 -- the forms of the command line, one a line
 abbrev pub usage_text : List ℕ
@@ -42,7 +44,15 @@ pub record HasFault (schema query : List ℕ) (given : List (List ℕ × List �
   pub names : List (List ℕ)
   pub answer : IsAnswer schema query given names (Err fault)
 
--- what `verify` prints for the files of a schema, a query and a certificate, and its exit status
+-- what `check` prints for the files of a schema and a query, and its exit status
+abbrev pub AnswersCheck : List File → List ℕ → ℕ → Type 0
+AnswersCheck files text status = (verdict : Verdict) × IsVerdict (text_at files 0) (text_at files 1) verdict × (text ≡ verdict_text verdict) × (status ≡ verdict_status verdict)
+
+-- what `explain` prints for them
+abbrev pub AnswersExplain : List File → List ℕ → ℕ → Type 0
+AnswersExplain files text status = (examined : Examined) × IsExamined (text_at files 0) (text_at files 1) examined × Explains examined text status
+
+-- what `verify` prints for the files of a schema, a query and a certificate
 abbrev pub AnswersVerify : List File → List ℕ → ℕ → Type 0
 AnswersVerify files text status = IsAccepted (text_at files 0) (text_at files 1) (text_at files 2) × (text ≡ line (codes "ACCEPTED")) × (status ≡ 0)
 
@@ -52,6 +62,8 @@ AnswersRun tables files text status = IsAnswerText (text_at files 0) (text_at fi
 
 -- what is printed for a task over its files
 abbrev pub HasAnswer : Task → List File → List ℕ → ℕ → Type 0
+HasAnswer (Check schema query) files text status = AnswersCheck files text status
+HasAnswer (Explain schema query) files text status = AnswersExplain files text status
 HasAnswer (Verify schema query certificate) files text status = AnswersVerify files text status
 HasAnswer (Run schema query tables) files text status = AnswersRun tables files text status
 

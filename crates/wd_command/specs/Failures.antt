@@ -14,10 +14,14 @@ use Rattle.wd_run.specs.declared.error.RunError.TheVariants as run
 use Rattle.wd_accept.specs.Acceptance as acceptance
 use Rattle.wd_accept.specs.declared.error.VerifyError.{VerifyError}
 use Rattle.wd_accept.specs.declared.error.VerifyError.TheVariants as verify
-use Rattle.wd_command.specs.Commands.{HasFault, data_in, line, text_at}
+use Rattle.wd_decide.specs.Verdicts as verdicts
+use Rattle.wd_decide.specs.declared.error.DecideError.{DecideError}
+use Rattle.wd_decide.specs.declared.error.DecideError.TheVariants as decide
+use Rattle.wd_report.specs.Words.{line}
+use Rattle.wd_command.specs.Commands.{HasFault, data_in, text_at}
 use Rattle.wd_command.specs.Files.{File, HandsOver, Reads, ReadsNothing, StandsNext, StopsAt}
 use Rattle.wd_command.specs.Streams.{AppendsPart}
-use Rattle.wd_command.specs.Words.{AreOtherWords, AskFor, HasNoEquals, IsPlain, Task, Verify, Run, paths_of}
+use Rattle.wd_command.specs.Words.{AreOtherWords, AskFor, HasNoEquals, IsPlain, Task, Check, Explain, Verify, Run, paths_of}
 use Rattle.wd_command.specs.declared.failure.Failure.{Failure}
 use Rattle.wd_command.specs.declared.failure.Failure.TheVariants.{CommandLine, NotText, Unassigned, Refused, Fault, CannotRead, CannotWrite, OutOfMemory}
 use Rattle.wd_command.specs.declared.failure.Input.{Input}
@@ -97,7 +101,15 @@ abbrev pub verify_input : VerifyError → Input
 verify_input (verify.Texts error) = text_input error
 verify_input (verify.Certificate error) = input.Certificate
 
--- the failure is that of a refusal of a run
+abbrev pub decide_input : DecideError → Input
+decide_input (decide.Texts error) = text_input error
+decide_input decide.OutOfMemory = input.Run
+
+-- the failure is that of a refusal of a schema and a query
+abbrev pub IsDecideRefusal : DecideError → Failure → Type 0
+IsDecideRefusal error failure = Says (decide_input error) (verdicts.decide_number error) (verdicts.decide_place error) failure
+
+-- or of a run
 abbrev pub IsRunRefusal : RunError → Failure → Type 0
 IsRunRefusal error failure = Says (run_input error) (runs.run_number error) (runs.run_place error) failure
 
@@ -131,21 +143,29 @@ IsUnread IsNext before after (CannotRead path) = StopsAt IsNext before after pat
 IsUnread IsNext before after OutOfMemory = ⊤
 IsUnread IsNext before after failure = ⊥
 
--- `verify` over the files of a schema, a query and a certificate is refused, for a cause that stands there, or memory is wanting
-abbrev pub FailsVerify : List File → Failure → Type 0
-FailsVerify files (Refused refusal) = (error : VerifyError) × acceptance.HasCause (text_at files 0) (text_at files 1) (text_at files 2) error × IsVerifyRefusal error (Refused refusal)
-FailsVerify files OutOfMemory = ⊤
-FailsVerify files failure = ⊥
+-- there is a refusal, for a cause that stands in the files, or memory is wanting
+abbrev pub IsRefusalBy : {E : Type 0} → (E → Type 0) → (E → Failure → Type 0) → Failure → Type 0
+IsRefusalBy {E = E} HasCause IsRefusal (Refused refusal) = (error : E) × HasCause error × IsRefusal error (Refused refusal)
+IsRefusalBy HasCause IsRefusal OutOfMemory = ⊤
+IsRefusalBy HasCause IsRefusal failure = ⊥
 
--- `run` over the files of a schema, a query and these tables is refused, for a cause that stands there, its query faults, or memory is wanting
+-- `check` and `explain` over the files of a schema and a query are refused
+abbrev pub FailsDecide : List File → Failure → Type 0
+FailsDecide files failure = IsRefusalBy (verdicts.HasCause (text_at files 0) (text_at files 1)) IsDecideRefusal failure
+
+-- `verify` over the files of a schema, a query and a certificate is refused
+abbrev pub FailsVerify : List File → Failure → Type 0
+FailsVerify files failure = IsRefusalBy (acceptance.HasCause (text_at files 0) (text_at files 1) (text_at files 2)) IsVerifyRefusal failure
+
+-- `run` over the files of a schema, a query and these tables is refused, or its query faults
 abbrev pub FailsRun : List (List ℕ × List ℕ) → List File → Failure → Type 0
-FailsRun tables files (Refused refusal) = (error : RunError) × runs.HasCause (text_at files 0) (text_at files 1) (data_in tables (drop 2 files)) error × IsRunRefusal error (Refused refusal)
 FailsRun tables files (Fault fault) = HasFault (text_at files 0) (text_at files 1) (data_in tables (drop 2 files)) fault
-FailsRun tables files OutOfMemory = ⊤
-FailsRun tables files failure = ⊥
+FailsRun tables files failure = IsRefusalBy (runs.HasCause (text_at files 0) (text_at files 1) (data_in tables (drop 2 files))) IsRunRefusal failure
 
 -- a task over its files has no answer
 abbrev pub IsUnanswered : Task → List File → Failure → Type 0
+IsUnanswered (Check schema query) files failure = FailsDecide files failure
+IsUnanswered (Explain schema query) files failure = FailsDecide files failure
 IsUnanswered (Verify schema query certificate) files failure = FailsVerify files failure
 IsUnanswered (Run schema query tables) files failure = FailsRun tables files failure
 

@@ -2,7 +2,7 @@
 use Rattle.std.specs.Prelude.{ℕ, List}
 use Rattle.wd_command.specs.Commands.{IsOutput}
 use Rattle.wd_command.specs.Files.{File, HandsOver, Reads}
-use Rattle.wd_command.specs.declared.program.Output.{Output}
+use Rattle.wd_report.specs.declared.verdict.Output.{Output}
 
 -- the whole output for the words, over the files that were handed over
 pub record Makes (words : List (List ℕ)) (before after : Reads) (output : Output) : Type 0 where

@@ -24,21 +24,29 @@ pub record AreCut (words : List (List ℕ)) (assignments : List Assignment) : Ty
 
 -- what is asked of the program: a command, and the paths that it names; at `run` the tables' names with theirs
 pub data Task : Type 0 where
+  Check : (schema query : List ℕ) → Task
+  Explain : (schema query : List ℕ) → Task
   Verify : (schema query certificate : List ℕ) → Task
   Run : (schema query : List ℕ) (tables : List (List ℕ × List ℕ)) → Task
 
 -- its words
 abbrev pub words_of : Task → List (List ℕ)
+words_of (Check schema query) = codes "check" ∷ schema ∷ query ∷ []
+words_of (Explain schema query) = codes "explain" ∷ schema ∷ query ∷ []
 words_of (Verify schema query certificate) = codes "verify" ∷ schema ∷ query ∷ certificate ∷ []
 words_of (Run schema query tables) = codes "run" ∷ schema ∷ query ∷ map (λ t. word_of t.0 t.1) tables
 
 -- the paths that it names, in the order of its words
 abbrev pub paths_of : Task → List (List ℕ)
+paths_of (Check schema query) = schema ∷ query ∷ []
+paths_of (Explain schema query) = schema ∷ query ∷ []
 paths_of (Verify schema query certificate) = schema ∷ query ∷ certificate ∷ []
 paths_of (Run schema query tables) = schema ∷ query ∷ map (λ t. t.1) tables
 
 -- each word NAME=PATH is cut at its first `=`
 abbrev pub IsCut : Task → Type 0
+IsCut (Check schema query) = ⊤
+IsCut (Explain schema query) = ⊤
 IsCut (Verify schema query certificate) = ⊤
 IsCut (Run schema query tables) = All (λ t. HasNoEquals t.0) tables
 

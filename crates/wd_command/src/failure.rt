@@ -3,7 +3,7 @@
 ghost use Rattle.std.specs.Prelude.{◌≡◌, ◌++◌, IfSome, OnOk};
 ghost use Rattle.std.specs.Io.KnownBytes.{Appends};
 ghost use Rattle.wd_command.specs.Failures as spec;
-ghost use Rattle.wd_command.specs.Failures.{IsFaultOfWords, IsRunRefusal, IsVerifyRefusal, Says, Shows, line_of, refusal_line, status_of, where_of};
+ghost use Rattle.wd_command.specs.Failures.{IsDecideRefusal, IsFaultOfWords, IsRunRefusal, IsVerifyRefusal, Says, Shows, line_of, refusal_line, status_of, where_of};
 ghost use Rattle.wd_command.specs.Streams.{AppendsPart};
 ghost use Rattle.wd_command.specs.declared.failure.Failure.TheVariants as failed;
 
@@ -13,6 +13,7 @@ use std::alloc::{AllocError, AllocFailed};
 use std::io;
 use std::io::Write;
 use wd_accept::{VerifyError, VerifyOrigin};
+use wd_decide::DecideError;
 use wd_query::TextError;
 use wd_run::RunError;
 use wd_value::{Fault, OutOfMemory, Text};
@@ -114,6 +115,14 @@ impl From<RunError> for Failure<'_> {
     }
 }
 
+impl From<DecideError> for Failure<'_> {
+    ghost from_gives = { λ e failure. IsDecideRefusal e failure };
+
+    fn from(error: DecideError) -> Self {
+        refused(decide_input(&error), error.number(), error.place())
+    }
+}
+
 impl From<VerifyError> for Failure<'_> {
     ghost from_gives = { λ e failure. IsVerifyRefusal e failure };
 
@@ -146,6 +155,17 @@ fn run_input(error: RunError) -> Input
         RunError::Given { name } => Input::Data(name),
         RunError::Data { name, .. } => Input::Data(name),
         RunError::Evaluation(_) | RunError::OutOfMemory => Input::Run,
+    }
+}
+
+// The input that a refusal of a schema and a query is about.
+fn decide_input(error: &DecideError) -> Input
+    ensures { result ≡ spec.decide_input error.now }
+{
+    match error {
+        DecideError::Texts(TextError::Schema(_)) => Input::Schema,
+        DecideError::Texts(TextError::Query(_)) => Input::Query,
+        DecideError::OutOfMemory => Input::Run,
     }
 }
 

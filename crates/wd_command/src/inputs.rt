@@ -16,6 +16,14 @@ use std::alloc::{AllocError, Global};
 /// What is asked of the program: a command, and the paths that it names.
 #[derive(Drop)]
 pub enum Task<'a> {
+    Check {
+        schema: &'a str,
+        query: &'a str,
+    },
+    Explain {
+        schema: &'a str,
+        query: &'a str,
+    },
     Verify {
         schema: &'a str,
         query: &'a str,
@@ -70,6 +78,8 @@ fn task_of<'a>(alloc: Global, request: Request<'a>) -> Result<Task<'a>, Failure<
     ensures err { IfErr result (IsUncut (table_words (asked_by request.entry))) }
 {
     match request {
+        Request::Check { schema, query } => Ok(Task::Check { schema, query }),
+        Request::Explain { schema, query } => Ok(Task::Explain { schema, query }),
         Request::Verify {
             schema,
             query,
@@ -99,6 +109,10 @@ fn paths_named<'a>(alloc: Global, task: &Task<'a>) -> Result<Vec<&'a str>, Alloc
     ensures { IfOk result (λ v. map (λ p. p.now) v.items ≡ paths_of (spec.task_of task.now)) }
 {
     match task {
+        Task::Check { schema, query } | Task::Explain { schema, query } => {
+            let list = Vec::from_slice(alloc, &[*schema, *query])?;
+            Ok(list)
+        }
         Task::Verify {
             schema,
             query,

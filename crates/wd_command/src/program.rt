@@ -2,8 +2,8 @@
 
 ghost use Rattle.std.specs.Prelude.{◌≡◌, ◌≢◌, ◌+◌, ◌-◌, ◌^◌, ◌<◌, ◌≤◌, List, length, map, OnOk, IfOk, IfErr};
 ghost use Rattle.wd_run.specs.Runs.{data_of};
-ghost use Rattle.wd_command.specs.Commands.{AnswersRun, AnswersVerify, HasAnswer, data_in, text_at};
-ghost use Rattle.wd_command.specs.Failures.{FailsRun, FailsVerify, HasReason, IsUnanswered};
+ghost use Rattle.wd_command.specs.Commands.{AnswersCheck, AnswersExplain, AnswersRun, AnswersVerify, HasAnswer, data_in, text_at};
+ghost use Rattle.wd_command.specs.Failures.{FailsDecide, FailsRun, FailsVerify, HasReason, IsUnanswered};
 ghost use Rattle.wd_command.specs.Files.{reads};
 ghost use Rattle.wd_command.specs.Inputs.{file_of, files_of, name_of, task_of};
 ghost use Rattle.wd_command.specs.Outputs.{Makes};
@@ -18,7 +18,9 @@ use crate::words::Assignment;
 use std::alloc::{AllocError, Global};
 use std::io::Write;
 use wd_accept::verify;
+use wd_decide::{decide, examine};
 use wd_plan::Outcome;
+use wd_report::{Output, explain};
 use wd_run::run;
 use wd_tables::answer_text;
 
@@ -28,13 +30,6 @@ wdcheck verify SCHEMA QUERY CERT
 wdcheck refute SCHEMA QUERY WITNESS
 wdcheck run SCHEMA QUERY [NAME=PATH]...
 ";
-
-// What is printed on standard output, and the exit status.
-#[derive(Drop)]
-struct Output {
-    text: Vec<u8>,
-    status: u8,
-}
 
 /// Runs the program on the words after its own name, and gives its exit status. The words are judged
 /// before any file is read, the files are read in the order of the words, up to one that fails,
@@ -109,9 +104,12 @@ fn answer<'a>(alloc: Global, inputs: &Inputs<'a>) -> Result<Output, Failure<'a>>
     ensures ok { IfOk result (λ output. HasAnswer (task_of inputs.now.task) (files_of inputs.now) output.text.items output.status) }
     ensures err { IfErr result (IsUnanswered (task_of inputs.now.task) (files_of inputs.now)) }
 {
+    let files = inputs.files.as_slice();
     match &inputs.task {
-        Task::Verify { .. } => verify_output(alloc, inputs.files.as_slice()),
-        Task::Run { tables, .. } => run_output(alloc, tables.as_slice(), inputs.files.as_slice()),
+        Task::Check { .. } => check_output(alloc, files),
+        Task::Explain { .. } => explain_output(alloc, files),
+        Task::Verify { .. } => verify_output(alloc, files),
+        Task::Run { tables, .. } => run_output(alloc, tables.as_slice(), files),
     }
 }
 
@@ -121,6 +119,30 @@ fn text_of<'a>(files: &'a [InputFile<'_>], number: usize) -> &'a [u8]
     ensures { result.now ≡ text_at (map file_of files.now) number }
 {
     files[number].bytes.as_slice()
+}
+
+// The answer of `check` over the files of a schema and a query.
+fn check_output<'a>(alloc: Global, files: &[InputFile<'a>]) -> Result<Output, Failure<'a>>
+    requires { length files.now ≡ 2 }
+    ensures small { IfOk result (λ output. output.status < 3) }
+    ensures ok { IfOk result (λ output. AnswersCheck (map file_of files.now) output.text.items output.status) }
+    ensures err { IfErr result (FailsDecide (map file_of files.now)) }
+{
+    let verdict = decide(alloc, text_of(files, 0), text_of(files, 1))?;
+    let output = wd_report::report(alloc, &verdict)?;
+    Ok(output)
+}
+
+// The answer of `explain` over the files of a schema and a query.
+fn explain_output<'a>(alloc: Global, files: &[InputFile<'a>]) -> Result<Output, Failure<'a>>
+    requires { length files.now ≡ 2 }
+    ensures small { IfOk result (λ output. output.status < 3) }
+    ensures ok { IfOk result (λ output. AnswersExplain (map file_of files.now) output.text.items output.status) }
+    ensures err { IfErr result (FailsDecide (map file_of files.now)) }
+{
+    let examined = examine(alloc, text_of(files, 0), text_of(files, 1))?;
+    let output = explain(alloc, examined)?;
+    Ok(output)
 }
 
 // The answer of `verify` over the files of a schema, a query and a certificate.

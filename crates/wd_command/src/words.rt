@@ -6,7 +6,7 @@ ghost use Rattle.clap.specs.Words.{app_of, found_of, rows_of, subcommand_rows_of
 ghost use Rattle.clap.specs.declared.builder.command.Command.TheViews.{out-Command as fields_of};
 ghost use Rattle.clap.specs.declared.error.kind.ErrorKind.TheVariants as kind;
 ghost use Rattle.wd_command.specs.CommandLine as spec;
-ghost use Rattle.wd_command.specs.CommandLine.{AreCommandLine, AreWordsOf, asked_by, asked_in, tables_in, Verify, Run};
+ghost use Rattle.wd_command.specs.CommandLine.{AreCommandLine, AreWordsOf, asked_after, asked_by, asked_in};
 ghost use Rattle.wd_command.specs.Failures.{IsUncut};
 ghost use Rattle.wd_command.specs.Words.{AreCut, HasNoEquals, word_of};
 
@@ -18,6 +18,14 @@ use std::alloc::{AllocError, Global};
 /// What the words of the command line ask for, by paths; a table has a word NAME=PATH.
 #[derive(Drop)]
 pub enum Request<'a> {
+    Check {
+        schema: &'a str,
+        query: &'a str,
+    },
+    Explain {
+        schema: &'a str,
+        query: &'a str,
+    },
     Verify {
         schema: &'a str,
         query: &'a str,
@@ -50,12 +58,21 @@ pub fn read_words<'a>(alloc: Global, words: &'a [&'a str]) -> Result<Request<'a>
 fn command_line<'a>(alloc: Global) -> Result<Command<'a>, AllocError>
     ensures { IfOk result (λ command. app_of command ≡ spec.command_line) }
 {
-    let command = Command::new(alloc, "wdcheck")
-        .no_binary_name(true)
-        .subcommand_required(true)
+    let command = program(alloc)
+        .subcommand(paths_command(alloc, "check")?)?
+        .subcommand(paths_command(alloc, "explain")?)?
         .subcommand(file_command(alloc, "verify", "CERT")?)?
         .subcommand(run_command(alloc)?)?;
     Ok(command)
+}
+
+// The program's name, after which a command is wanted.
+fn program<'a>(alloc: Global) -> Command<'a>
+    ensures { app_of result ≡ spec.program }
+{
+    Command::new(alloc, "wdcheck")
+        .no_binary_name(true)
+        .subcommand_required(true)
 }
 
 // The words `NAME SCHEMA QUERY`.
@@ -100,6 +117,12 @@ fn run_command<'a>(alloc: Global) -> Result<Command<'a>, AllocError>
 fn found<'a>(alloc: Global, matches: &ArgMatches<'a>) -> Result<Option<Request<'a>>, AllocError>
     ensures { IfOk result (λ request. option_map asked_by request ≡ asked_in (subcommand_rows_of matches.now)) }
 {
+    if let Some(given) = matches.subcommand_matches("check") {
+        return Ok(check_request(given));
+    }
+    if let Some(given) = matches.subcommand_matches("explain") {
+        return Ok(explain_request(given));
+    }
     if let Some(given) = matches.subcommand_matches("verify") {
         return Ok(verify_request(given));
     }
@@ -126,8 +149,22 @@ fn three_paths<'a>(given: &ArgMatches<'a>) -> Option<(&'a str, &'a str, &'a str)
     Some((schema, query, file))
 }
 
+fn check_request<'a>(given: &ArgMatches<'a>) -> Option<Request<'a>>
+    ensures { option_map asked_by result ≡ asked_after (codes "check") (rows_of (found_of given.now)) }
+{
+    let (schema, query) = two_paths(given)?;
+    Some(Request::Check { schema, query })
+}
+
+fn explain_request<'a>(given: &ArgMatches<'a>) -> Option<Request<'a>>
+    ensures { option_map asked_by result ≡ asked_after (codes "explain") (rows_of (found_of given.now)) }
+{
+    let (schema, query) = two_paths(given)?;
+    Some(Request::Explain { schema, query })
+}
+
 fn verify_request<'a>(given: &ArgMatches<'a>) -> Option<Request<'a>>
-    ensures { option_map asked_by result ≡ option_map (λ paths. Verify paths.0 paths.1 paths.2) (spec.three_paths (rows_of (found_of given.now))) }
+    ensures { option_map asked_by result ≡ asked_after (codes "verify") (rows_of (found_of given.now)) }
 {
     let (schema, query, certificate) = three_paths(given)?;
     Some(Request::Verify {
@@ -138,8 +175,7 @@ fn verify_request<'a>(given: &ArgMatches<'a>) -> Option<Request<'a>>
 }
 
 fn run_request<'a>(alloc: Global, given: &ArgMatches<'a>) -> Result<Option<Request<'a>>, AllocError>
-    ensures { IfOk result (λ request. option_map asked_by request ≡ option_map (λ paths. Run paths.0 paths.1 (tables_in (rows_of (found_of given.now))))
-        (spec.two_paths (rows_of (found_of given.now)))) }
+    ensures { IfOk result (λ request. option_map asked_by request ≡ asked_after (codes "run") (rows_of (found_of given.now))) }
 {
     let Some((schema, query)) = two_paths(given) else {
         return Ok(None);

@@ -13,6 +13,7 @@ use std::process::ExitCode;
 use std::rt::Env;
 pub use wd_command::command;
 use wd_command::{Failure, MachineFiles, report};
+pub use wd_decide::{DecideError, Verdict, decide};
 pub use wd_run::{RunError, run};
 
 fn main(rt: HostRuntime) -> ExitCode {

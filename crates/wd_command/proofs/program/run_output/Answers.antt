@@ -1,10 +1,11 @@
 use Rattle.std.proofs.Common.{arith, ◌≡◌, ◌∙◌, ◌-◌, ap, drop, length, map, sym}
 use Rattle.std.proofs.lemmas.List.{drop-map, length-drop, take_all}
-use Rattle.wd_run.specs.Causes.{HasCause}
+use Rattle.wd_run.specs.Causes.{HasCause, run_number, run_place}
 use Rattle.wd_run.specs.Runs.{data_of}
 use Rattle.wd_command.specs.Commands.{data_in, text_at}
+use Rattle.wd_command.specs.Failures.{run_input}
 use Rattle.wd_command.specs.Inputs.{file_of, name_of}
-use Rattle.wd_command.proofs.FailureLemmas.{FailsRun-from_refusal, IfErr-from_known, of_three}
+use Rattle.wd_command.proofs.FailureLemmas.{FailsRun-from_refusal, IfErr-from_known, IsRefusalBy-from_cause, of_three}
 use Rattle.wd_command.proofs.program.run_output.Goals as goal
 
 pub returns-in_err-names-clause-err : goal.returns-in_err-names-clause-err
@@ -16,5 +17,6 @@ returns-in_err-names-clause-err c =
     ∙ ap (λ rest. data_in tables (map file_of rest)) (take_all (length c.args.files.now - 2) (drop 2 c.args.files.now) (let long = length-drop 2 c.args.files.now in omega arith))
     ∙ ap (data_in tables) (sym (drop-map file_of 2 c.args.files.now)) in
     IfErr-from_known c.from_residual-in_err-names.result _ _ c.from_residual-in_err-names.ensures.1
-    (FailsRun-from_refusal tables files c.in_err-names.field-0.0
-    (of_three (λ s q t. HasCause s q t c.in_err-names.field-0.0) _ (text_at files 0) _ (text_at files 1) _ (data_in tables (drop 2 files)) c.text_of.ensures c.text_of-2.ensures given c.in_err-names.ensures.refused))
+    (λ failure gives. FailsRun-from_refusal tables files failure
+    (IsRefusalBy-from_cause (HasCause (text_at files 0) (text_at files 1) (data_in tables (drop 2 files))) run_input run_number run_place c.in_err-names.field-0.0
+    (of_three (λ s q t. HasCause s q t c.in_err-names.field-0.0) _ (text_at files 0) _ (text_at files 1) _ (data_in tables (drop 2 files)) c.text_of.ensures c.text_of-2.ensures given c.in_err-names.ensures.refused) failure gives))

@@ -3,13 +3,14 @@ use Rattle.std.proofs.Math.ListN.{length-map}
 use Rattle.std.specs.List.{All}
 use Rattle.std.specs.Option.{option_map, unwrap_or}
 use Rattle.clap.specs.Kinds.{HasKind, IsAmong, Kinds}
-use Rattle.clap.specs.Words.{App, Text, fault_of, is_simple, is_simple_and_free, kind_of, subcommand_of}
+use Rattle.clap.specs.Words.{App, HasMatchesOf, Text, fault_of, is_simple, is_simple_and_free, kind_of, subcommand_of, subcommand_rows_of}
+use Rattle.clap.specs.declared.parser.matches.ArgMatches.{ArgMatches}
 use Rattle.clap.specs.declared.error.Error.{Error}
 use Rattle.clap.specs.declared.error.kind.ErrorKind.TheVariants as kind
 use Rattle.clap.proofs.OnLiterals.{clap_on_literals}
 use Rattle.wd_command.specs.CommandLine.{AreCommandLine, Asked, asked_by, asked_in, command_line, line_of}
 use Rattle.wd_command.specs.Words.{IsPlain}
-use Rattle.wd_command.proofs.LineLemmas.{line_found, line_passes}
+use Rattle.wd_command.proofs.LineLemmas.{IsLine, line_found, line_passes}
 use Rattle.wd_command.proofs.words.read_words.Goals as goal
 
 simple : is_simple command_line ≡ true
@@ -20,16 +21,23 @@ free : is_simple_and_free command_line ≡ true
 unfolding clap_on_literals
 free = refl
 
+-- a parse of words without a hyphen at the head of one finds what a line asks for
+module _ (a : App) (words : List Text) (matches : ArgMatches) (same : a ≡ command_line) (passes : is_simple_and_free a ≡ true → fault_of a words ≡ [])
+    (finds : HasMatchesOf a words matches) (plain : All IsPlain words) where
+  line : IsLine words
+  line = line_found words plain (subst (λ (b : App). fault_of b words ≡ []) same (passes (ap is_simple_and_free same ∙ free)))
+
+  line_asked : asked_in (subcommand_rows_of matches) ≡ Some line.asked
+  line_asked = ap asked_in ((finds (ap is_simple same ∙ simple)).1 ∙ ap (λ (b : App). subcommand_of b words) same) ∙ line.found
+
 pub returns-in-Some-clause-ok : goal.returns-in-Some-clause-ok
 returns-in-Some-clause-ok c plain =
     let words : List Text = map (λ w. w.now) c.args.words.now in
-    let same = c.in_ok-command.ensures in
     let parse = c.in_ok-matches.ensures in
-    let none : fault_of command_line words ≡ [] = subst (λ (a : App). fault_of a words ≡ []) same (parse.kinds (ap is_simple_and_free same ∙ free)) in
-    let line = line_found words plain none in
-    let met = (parse.ok.2 (ap is_simple same ∙ simple)).1 ∙ ap (λ (a : App). subcommand_of a words) same in
-    let found : Some (asked_by c.in-Some.request) ≡ Some line.asked = sym (ap (option_map asked_by) c.in-Some.is) ∙ (c.in_ok-request.ensures ∙ (ap asked_in met ∙ line.found)) in
-    line.line ∙ ap (λ (o : Option Asked). line_of (unwrap_or o line.asked)) (sym found)
+    let the_line = line _ words c.in_ok-matches.matches c.in_ok-command.ensures parse.kinds parse.ok.2 plain in
+    let found : Some (asked_by c.in-Some.request) ≡ Some the_line.asked = sym (ap (option_map asked_by) c.in-Some.is)
+    ∙ (c.in_ok-request.ensures ∙ line_asked _ words c.in_ok-matches.matches c.in_ok-command.ensures parse.kinds parse.ok.2 plain) in
+    the_line.line ∙ ap (λ (o : Option Asked). line_of (unwrap_or o the_line.asked)) (sym found)
 
 -- where no kind of fault comes, only memory can fail
 by_memory : (e : Error) (kinds : Kinds) → kinds ≡ [] → HasKind kinds e → kind_of e ≡ kind.OutOfMemory
@@ -62,9 +70,6 @@ none_some x same = cc
 pub returns-clause-err : goal.returns-clause-err
 returns-clause-err c = λ form.
     let words : List Text = map (λ w. w.now) c.args.words.now in
-    let same = c.in_ok-command.ensures in
     let parse = c.in_ok-matches.ensures in
-    let none : fault_of command_line words ≡ [] = subst (λ (a : App). fault_of a words ≡ []) same (parse.kinds (ap is_simple_and_free same ∙ free)) in
-    let line = line_found words form.plain none in
-    let met = (parse.ok.2 (ap is_simple same ∙ simple)).1 ∙ ap (λ (a : App). subcommand_of a words) same in
-    absurd (none_some line.asked (sym (ap (option_map asked_by) c.in-None.is) ∙ (c.in_ok-request.ensures ∙ (ap asked_in met ∙ line.found))))
+    absurd (none_some _ (sym (ap (option_map asked_by) c.in-None.is)
+    ∙ (c.in_ok-request.ensures ∙ line_asked _ words c.in_ok-matches.matches c.in_ok-command.ensures parse.kinds parse.ok.2 form.plain)))

@@ -1,0 +1,4 @@
+pub mod Words
+pub mod Verdicts
+pub mod Plans
+pub mod Marks

@@ -1,0 +1,117 @@
+//! What is printed of a verdict.
+
+ghost use Rattle.std.specs.Prelude.{◌≡◌, ◌++◌, codes, flat_map, IfOk};
+ghost use Rattle.std.specs.String.{string_bytes};
+ghost use Rattle.wd_certificate.specs.Certificates.{nodes_of};
+ghost use Rattle.wd_certificate.specs.Json.{certificate_text};
+ghost use Rattle.wd_report.specs.Verdicts as spec;
+ghost use Rattle.wd_report.specs.Words.{lack_words, line, place_words, verdict_word};
+
+use std::alloc::Global;
+use std::fmt::Write;
+use wd_analyse::{Lack, Reason};
+use wd_certificate::Certificate;
+use wd_decide::Verdict;
+use wd_value::OutOfMemory;
+
+/// What is printed on standard output, and the exit status.
+#[derive(Drop)]
+pub struct Output {
+    pub text: Vec<u8>,
+    pub status: u8,
+}
+
+/// The verdict's word on a line, then the certificate on a line or the reasons, one a line; status 0 for `DETERMINISTIC`, 2 for
+/// `UNKNOWN`.
+pub fn report(alloc: Global, verdict: &Verdict) -> Result<Output, OutOfMemory>
+    ensures text { IfOk result (λ r. r.text.items ≡ spec.verdict_text verdict.now) }
+    ensures status { IfOk result (λ r. r.status ≡ spec.verdict_status verdict.now) }
+{
+    let status = verdict_status(verdict);
+    let text = match verdict {
+        Verdict::Deterministic(certificate) => certified(alloc, certificate)?,
+        Verdict::Unknown(reasons) => unknown(alloc, reasons)?,
+    };
+    Ok(Output { text, status })
+}
+
+/// The exit status for a verdict.
+pub(crate) fn verdict_status(verdict: &Verdict) -> u8
+    ensures { result ≡ spec.verdict_status verdict.now }
+{
+    match verdict {
+        Verdict::Deterministic(_) => 0,
+        Verdict::Unknown(_) => 2,
+    }
+}
+
+/// A verdict's word.
+pub(crate) fn verdict_word(verdict: &Verdict) -> &'static str
+    ensures { result.now ≡ verdict_word verdict.now }
+{
+    match verdict {
+        Verdict::Deterministic(_) => "DETERMINISTIC",
+        Verdict::Unknown(_) => "UNKNOWN",
+    }
+}
+
+/// What is printed of a verdict with this certificate.
+fn certified(alloc: Global, certificate: &Certificate) -> Result<Vec<u8>, OutOfMemory>
+    ensures { IfOk result (λ t. t.items ≡ line (codes "DETERMINISTIC") ++ line (certificate_text (nodes_of certificate.now))) }
+{
+    let certificate = certificate.to_json(alloc)?;
+    let mut text = Vec::from_slice(alloc, b"DETERMINISTIC\n")?;
+    text.extend_from_slice(&certificate)?;
+    text.push(b'\n')?;
+    Ok(text)
+}
+
+/// What is printed of a verdict with these reasons.
+fn unknown(alloc: Global, reasons: &[Reason]) -> Result<Vec<u8>, OutOfMemory>
+    ensures { IfOk result (λ t. t.items ≡ line (codes "UNKNOWN") ++ flat_map spec.reason_line reasons.now) }
+{
+    let mut text = String::from_str(alloc, "UNKNOWN\n")?;
+    add_reasons(&mut text, reasons)?;
+    Ok(text.into_bytes())
+}
+
+/// Adds a line for each reason.
+fn add_reasons(text: &mut String, reasons: &[Reason]) -> Result<(), OutOfMemory>
+    ensures { IfOk result (λ _. string_bytes text.new ≡ string_bytes text.old ++ flat_map spec.reason_line reasons.now) }
+{
+    for reason in reasons {
+        add_reason(text, reason)?;
+    }
+    Ok(())
+}
+
+/// Adds a reason's line.
+fn add_reason(text: &mut String, reason: &Reason) -> Result<(), OutOfMemory>
+    ensures { IfOk result (λ _. string_bytes text.new ≡ string_bytes text.old ++ spec.reason_line reason.now) }
+{
+    add_place(text, reason.node, reason.call)?;
+    text.push_str(": ")?;
+    add_lack(text, reason.lack)?;
+    Ok(text.push('\n')?)
+}
+
+/// Adds the words of a call of a node, or of its limit.
+fn add_place(text: &mut String, node: u64, call: Option<u32>) -> Result<(), OutOfMemory>
+    ensures { IfOk result (λ _. string_bytes text.new ≡ string_bytes text.old ++ place_words node call) }
+{
+    match call {
+        Some(call) => Ok(write!(text, "node {node} call {call}")?),
+        None => Ok(write!(text, "node {node} limit")?),
+    }
+}
+
+/// Adds what a call or a limit lacks.
+fn add_lack(text: &mut String, lack: Lack) -> Result<(), OutOfMemory>
+    ensures { IfOk result (λ _. string_bytes text.new ≡ string_bytes text.old ++ lack_words lack) }
+{
+    match lack {
+        Lack::SecondClass => Ok(text.push_str("second exchange class")?),
+        Lack::Column(column) => Ok(write!(text, "keys do not give column {column}")?),
+        Lack::Row => Ok(text.push_str("keys do not give the row")?),
+    }
+}

@@ -1,0 +1,5 @@
+-- The latest orders; the id parts orders of one day.
+SELECT day, customer, cents
+FROM orders
+ORDER BY day DESC, id
+FETCH FIRST 5 ROWS ONLY
