@@ -20,7 +20,7 @@ use Rattle.wd_analyse.specs.declared.decided.Decided.TheVariants.{By, Open}
 use Rattle.wd_analyse.specs.Entry.{entry_by}
 use Rattle.wd_analyse.specs.Evidence.{Closing, IsClosing, trace_by}
 use Rattle.wd_analyse.specs.Kept.{kept_fact}
-use Rattle.wd_analyse.specs.Sources.{IsClaim}
+use Rattle.wd_analyse.proofs.Valid.{IsClaim}
 use Rattle.wd_analyse.proofs.Keeps.{keep_passes, kept_are}
 use Rattle.wd_analyse.proofs.RulesPass.{all_among, none_missing, window_passes}
 use Rattle.wd_analyse.proofs.Traces.{are_traced, each_reached, shown}

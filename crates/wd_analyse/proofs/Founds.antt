@@ -19,8 +19,10 @@ use Rattle.wd_rules.specs.Validity.{has_its_calls, has_its_limit}
 use Rattle.wd_analyse.specs.Decisions.{decided_calls, missing_of, rules_in}
 use Rattle.wd_analyse.specs.Entry.{entry_by}
 use Rattle.wd_analyse.specs.Evidence.{Closing, IsClosing}
-use Rattle.wd_analyse.specs.Findings.{AreClosings, IsFound, is_without_rules, reasons_of, starts}
-use Rattle.wd_analyse.specs.Sources.{AreClaims}
+use Rattle.wd_analyse.specs.Findings.{reasons_of}
+use Rattle.wd_analyse.specs.Steps.{is_without_rules}
+use Rattle.wd_analyse.specs.Sources.{AreClosings, starts}
+use Rattle.wd_analyse.proofs.Valid.{AreClaims, IsFound}
 use Rattle.wd_analyse.specs.declared.analysis.Reason.{Reason}
 use Rattle.wd_analyse.proofs.Entries.{entry_keeps, entry_passes, keys_entry, rules_long, whole_entry, window_entry}
 use Rattle.wd_analyse.proofs.Said.{none_before, none_behind, none_lacks}

@@ -18,7 +18,7 @@ use Rattle.wd_rules.specs.Rules as rules
 use Rattle.wd_rules.specs.Traces.{Traced}
 use Rattle.wd_analyse.specs.Evidence.{Closing, trace_by}
 use Rattle.wd_analyse.specs.Kept.{is_new, keep_by, kept_fact, kept_members, target_of}
-use Rattle.wd_analyse.specs.Sources.{IsClaim}
+use Rattle.wd_analyse.proofs.Valid.{IsClaim}
 use Rattle.wd_analyse.proofs.Traces.{each_reached, shown}
 
 -- ---- columns that are kept

@@ -1,3 +1,4 @@
+pub mod Valid
 pub mod Named
 pub mod Traces
 pub mod Keeps
@@ -6,8 +7,14 @@ pub mod Missing
 pub mod RulesPass
 pub mod Outputs
 pub mod Claims
+pub mod Searches
 pub mod Entries
 pub mod Postorder
 pub mod Said
 pub mod Founds
 pub mod Tops
+pub mod Says
+pub mod Sound
+pub mod Composed
+pub mod Answered
+pub mod Unique

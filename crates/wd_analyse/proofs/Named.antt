@@ -50,7 +50,7 @@ below_range : (n a k : ℕ) → a + k ≤ n → AreBelow n (range_with_len a k)
 below_range n a zero h = refl
 below_range n a (suc k) h = λ i. lt-ltb a n (omega arith) i && below_range n (a + 1) k (omega arith) i
 
-below_shifted : (by w n : ℕ) → by + w ≤ n → (X : List ℕ) → AreBelow w X → AreBelow n (map (λ c. by + c) X)
+pub below_shifted : (by w n : ℕ) → by + w ≤ n → (X : List ℕ) → AreBelow w X → AreBelow n (map (λ c. by + c) X)
 below_shifted by w n h [] e = refl
 below_shifted by w n h (c ∷ X) e =
     let p = and_parts (nat_lt c w) (list_all (λ c. nat_lt c w) X) e in

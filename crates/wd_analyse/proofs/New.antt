@@ -1,5 +1,5 @@
 -- The columns that are new among those from a number on.
-use Rattle.std.proofs.Common.{◌≡◌, ℕ, ◌+◌, ◌-◌, ◌<◌, ◌≤◌, Bool, true, false, List, [], ◌∷◌, ◌++◌, filter, append_assoc, refl, sym, ap, ◌∙◌}
+use Rattle.std.proofs.Common.{◌≡◌, ◌||◌, ℕ, ◌+◌, ◌-◌, ◌<◌, ◌≤◌, Bool, true, false, List, [], ◌∷◌, ◌++◌, filter, append_assoc, refl, sym, ap, ◌∙◌}
 use Rattle.std.specs.List.{range_with_len}
 use Rattle.wd_facts.specs.declared.facts.Member.{Member}
 use Rattle.wd_facts.specs.Facts.{columns_named}
@@ -24,3 +24,13 @@ new_step front c a b h =
 
 pub new_none : (c : Closing) (a b : ℕ) → b ≤ a → new_from c a b ≡ []
 new_none c a b h = ap (λ r. columns_named (filter (is_new c) r)) (range_none a b h)
+
+-- a column that is in one place or the other, when one more goes over
+pub in_or_left : (here now left : Bool) → ((now || here) || left) ≡ (here || (now || left))
+in_or_left true true left = refl
+in_or_left true false left = refl
+in_or_left false now left = ap (λ b. b || left) (or_false now)
+  where
+    or_false : (b : Bool) → (b || false) ≡ b
+    or_false true = refl
+    or_false false = refl

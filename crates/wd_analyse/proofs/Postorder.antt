@@ -10,7 +10,7 @@ use Rattle.wd_facts.specs.Facts.{Fact}
 use Rattle.wd_facts.specs.Given.{given}
 use Rattle.wd_rules.specs.Rules.{entry_refusal, kept_facts, or_else}
 use Rattle.wd_rules.specs.Validity.{all_entries, entry_at, has_its_calls, has_its_limit, kept_below, kept_right, nodes_refusal, top_at, top_number, top_refusal}
-use Rattle.wd_analyse.specs.Entry.{AreEntries, IsAnalysed, IsTop}
+use Rattle.wd_analyse.proofs.Valid.{AreEntries, IsAnalysed, IsTop}
 use Rattle.wd_analyse.specs.declared.analysis.Reason.{Reason}
 
 -- ---- entries with more behind them

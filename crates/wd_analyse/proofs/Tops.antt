@@ -11,11 +11,10 @@ use Rattle.wd_facts.specs.Given.{given}
 use Rattle.wd_facts.specs.Laws.{AreOfChildren, ArePlain}
 use Rattle.wd_rules.specs.Rules.{entry_refusal, or_else, refuse_unless}
 use Rattle.wd_rules.specs.Validity.{IsValidCertificate}
-use Rattle.wd_analyse.specs.Entry.{IsAnalysed, IsTop}
 use Rattle.wd_analyse.specs.Evidence.{Closing}
-use Rattle.wd_analyse.specs.Findings.{IsFound}
 use Rattle.wd_analyse.specs.Kept.{kept_fact}
-use Rattle.wd_analyse.specs.Sources.{Admits, AreClaims}
+use Rattle.wd_analyse.specs.Steps.{Admits}
+use Rattle.wd_analyse.proofs.Valid.{AreClaims, IsAnalysed, IsFound, IsTop}
 use Rattle.wd_analyse.specs.declared.analysis.Reason.{Reason}
 use Rattle.wd_analyse.proofs.Entries.{map_append}
 use Rattle.wd_analyse.proofs.Keeps.{claims_plain}

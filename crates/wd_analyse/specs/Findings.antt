@@ -1,22 +1,28 @@
--- The reasons and the marks of a node's calls, and what is found at a node.
-use Rattle.std.specs.Prelude.{◌≡◌, ℕ, ◌+◌, Bool, true, false, List, [], ◌∷◌, ◌++◌, map, None, Some}
-use Rattle.std.specs.List.{AllByRecursion}
+-- What is found at the nodes of a plan.
+use Rattle.std.specs.Prelude.{◌≡◌, ℕ, ◌+◌, Bool, true, false, List, [], ◌∷◌, ◌++◌, flat_map, length, map, Option, None, Some, is_some, if◌then◌else◌}
+use Rattle.wd_value.specs.Keys.{key_columns}
+use Rattle.wd_schema.specs.Tables.{TableRule}
 use Rattle.wd_plan.specs.Fits.{width}
-use Rattle.wd_plan.specs.Plans.{PlanTree, Scan, Join, Filter, Map, Window, Distinct, Limit}
+use Rattle.wd_plan.specs.Plans.{LimitRule, PlanTree, WindowRule, Scan, Join, Filter, Map, Window, Distinct, Limit}
+use Rattle.wd_plan.specs.Sorting.{class_columns}
 use Rattle.wd_certificate.specs.Certificates.{NodeRecord}
 use Rattle.wd_certificate.specs.declared.certificate.Rule.{Rule}
 use Rattle.wd_certificate.specs.declared.certificate.Rule.TheVariants as rule
-use Rattle.wd_facts.specs.Facts.{FactList}
-use Rattle.wd_rules.specs.Rules.{entry_refusal, kept_facts}
-use Rattle.wd_rules.specs.Validity.{has_its_calls, has_its_limit}
+use Rattle.wd_facts.specs.Facts.{Fact, FactList}
+use Rattle.wd_facts.specs.Given.{all_columns, given}
+use Rattle.wd_rules.specs.Rules.{is_whole_or_ties}
 use Rattle.wd_analyse.specs.declared.analysis.Mark.{Mark}
 use Rattle.wd_analyse.specs.declared.analysis.Reason.{Reason}
 use Rattle.wd_analyse.specs.declared.analysis.RuleName.{RuleName}
 use Rattle.wd_analyse.specs.declared.analysis.RuleName.TheVariants as name
 use Rattle.wd_analyse.specs.declared.decided.Decided.{Decided}
 use Rattle.wd_analyse.specs.declared.decided.Decided.TheVariants.{By, Open}
+use Rattle.wd_analyse.specs.declared.decided.Lack.TheVariants as lack
+use Rattle.wd_analyse.specs.Decisions.{decided_calls, missing_of, rules_in}
+use Rattle.wd_analyse.specs.Entry.{entry_by}
 use Rattle.wd_analyse.specs.Evidence.{Closing, IsClosing}
 use Rattle.wd_analyse.specs.Kept.{kept_fact}
+use Rattle.wd_analyse.specs.Sources.{AreClosings, Keeps, sources, starts}
 
 abbrev pub name_of : Rule → RuleName
 name_of rule.Peers = name.Peers
@@ -42,24 +48,135 @@ abbrev pub marks_of : ℕ → ℕ → List Decided → List Mark
 marks_of node call [] = []
 marks_of node call (d ∷ ds) = mark_of node call d ++ marks_of node (call + 1) ds
 
-abbrev pub AreClosings : FactList → List Closing → Type 0
-AreClosings facts cs = AllByRecursion (IsClosing facts) cs
+-- of the limit of the node with a number
+abbrev pub limit_reason : ℕ → ℕ → Reason
+limit_reason node column = record { node = node; call = None; lack = lack.Column column }
 
-abbrev pub starts : List Closing → List (List ℕ)
-starts cs = map (λ (c : Closing). c.from) cs
+abbrev pub limit_mark : ℕ → RuleName → Mark
+limit_mark node rule = record { node = node; call = None; rule = rule }
 
--- neither a Window nor a Limit
-abbrev pub is_without_rules : PlanTree → Bool
-is_without_rules (Scan table columns) = true
-is_without_rules (Join condition left right) = true
-is_without_rules (Filter condition input) = true
-is_without_rules (Map outputs input) = true
-is_without_rules (Window w input) = false
-is_without_rules (Distinct input) = true
-is_without_rules (Limit limit input) = false
+-- ---- what is found at a node
 
--- the entry that is found for a plan's top node, which keeps these claims; with no reasons after it there were none, and it is
--- not refused
-pub record IsFound (facts : FactList) (plan : PlanTree) (node : ℕ) (claims : List Closing) (entry : NodeRecord) (before after : List Reason) : Type 0 where
-  pub keeps : kept_facts entry ≡ map (kept_fact (width plan)) claims
-  pub settled : after ≡ [] → (before ≡ []) × (entry_refusal node facts plan entry ≡ None) × (has_its_limit plan entry ≡ true) × (has_its_calls plan entry ≡ true)
+-- what it keeps, its entry, and the reasons and marks of its calls or its limit
+pub record Finding : Type 0 where
+  pub claims : List Closing
+  pub entry : NodeRecord
+  pub reasons : List Reason
+  pub marks : List Mark
+
+-- at a node with so many columns, that has neither calls nor a limit
+pub record IsBare (width : ℕ) (f : Finding) : Type 0 where
+  pub entry : f.entry ≡ entry_by width f.claims [] [] None
+  pub reasons : f.reasons ≡ []
+  pub marks : f.marks ≡ []
+
+-- what is decided of a Window's calls, by what a node keeps and what its classes' columns give
+abbrev pub decided_at : WindowRule → PlanTree → List Closing → List Closing → List Decided
+decided_at w input claims classes = decided_calls classes (length claims) (width input) None w.calls
+
+pub record IsOfWindow (facts : FactList) (w : WindowRule) (input : PlanTree) (node : ℕ) (f : Finding) : Type 0 where
+  pub classes : List Closing
+  pub closings : AreClosings facts classes
+  pub columns : starts classes ≡ map class_columns w.classes
+  pub entry : f.entry ≡ entry_by (width (Window w input)) f.claims classes (rules_in (decided_at w input f.claims classes)) None
+  pub reasons : f.reasons ≡ reasons_of node 0 (decided_at w input f.claims classes)
+  pub marks : f.marks ≡ marks_of node 0 (decided_at w input f.claims classes)
+
+-- a limit without a count keeps all rows
+abbrev pub whole_or_ties : LimitRule → RuleName
+whole_or_ties limit = if is_some limit.count then name.Ties else name.Whole
+
+pub record IsOfWhole (limit : LimitRule) (input : PlanTree) (node : ℕ) (f : Finding) : Type 0 where
+  pub entry : f.entry ≡ entry_by (width (Limit limit input)) f.claims [] [] None
+  pub reasons : f.reasons ≡ []
+  pub marks : f.marks ≡ limit_mark node (whole_or_ties limit) ∷ []
+
+-- by the least column that the sort keys do not give, if there is one
+abbrev pub entry_by_keys : ℕ → List Closing → Closing → Option ℕ → NodeRecord
+entry_by_keys width claims keys None = entry_by width claims (keys ∷ []) [] (Some (length claims))
+entry_by_keys width claims keys (Some column) = entry_by width claims [] [] None
+
+abbrev pub reasons_by_keys : ℕ → Option ℕ → List Reason
+reasons_by_keys node None = []
+reasons_by_keys node (Some column) = limit_reason node column ∷ []
+
+abbrev pub marks_by_keys : ℕ → Option ℕ → List Mark
+marks_by_keys node None = limit_mark node name.Keys ∷ []
+marks_by_keys node (Some column) = []
+
+-- the least of the first so many columns that others do not give
+abbrev pub lacking : ℕ → Closing → Option ℕ
+lacking columns c = missing_of c.has (all_columns columns)
+
+pub record IsOfKeys (facts : FactList) (limit : LimitRule) (input : PlanTree) (node : ℕ) (f : Finding) : Type 0 where
+  pub keys : Closing
+  pub closing : IsClosing facts keys
+  pub columns : keys.from ≡ key_columns limit.keys
+  pub entry : f.entry ≡ entry_by_keys (width (Limit limit input)) f.claims keys (lacking (width input) keys)
+  pub reasons : f.reasons ≡ reasons_by_keys node (lacking (width input) keys)
+  pub marks : f.marks ≡ marks_by_keys node (lacking (width input) keys)
+
+-- whether it keeps all rows, or all that tie
+abbrev pub IsOfLimit : Bool → FactList → LimitRule → PlanTree → ℕ → Finding → Type 0
+IsOfLimit true facts limit input node f = IsOfWhole limit input node f
+IsOfLimit false facts limit input node f = IsOfKeys facts limit input node f
+
+-- the entry, the reasons and the marks of a plan's top node, which has this number and these given facts, by what it keeps
+abbrev pub IsSaid : FactList → PlanTree → ℕ → Finding → Type 0
+IsSaid facts (Scan table columns) node f = IsBare (width (Scan table columns)) f
+IsSaid facts (Join condition left right) node f = IsBare (width (Join condition left right)) f
+IsSaid facts (Filter condition input) node f = IsBare (width (Filter condition input)) f
+IsSaid facts (Map outputs input) node f = IsBare (width (Map outputs input)) f
+IsSaid facts (Window w input) node f = IsOfWindow facts w input node f
+IsSaid facts (Distinct input) node f = IsBare (width (Distinct input)) f
+IsSaid facts (Limit limit input) node f = IsOfLimit (is_whole_or_ties limit) facts limit input node f
+
+-- what is found at a plan's top node, whose children keep these
+pub record IsFinding (tables : List TableRule) (plan : PlanTree) (kept more : List Fact) (node : ℕ) (f : Finding) : Type 0 where
+  pub keeps : Keeps (given tables plan kept more) (width plan) (sources plan (given tables plan kept more).list kept more) f.claims
+  pub said : IsSaid (given tables plan kept more) plan node f
+
+-- ---- what is found at the nodes of a plan
+
+-- the facts that a plan's top node keeps
+abbrev pub facts_kept : PlanTree → Finding → List Fact
+facts_kept plan f = map (kept_fact (width plan)) f.claims
+
+-- of a plan over an input, whose findings come before
+pub record OverOne (tables : List TableRule) (plan input : PlanTree) (first : ℕ) (Below : List Finding → Finding → Type 0) (before : List Finding) (top : Finding) : Type 0 where
+  pub deeper : List Finding
+  pub child : Finding
+  pub below : Below deeper child
+  pub are : before ≡ deeper ++ child ∷ []
+  pub finding : IsFinding tables plan (facts_kept input child) [] (first + length before) top
+
+-- of a Join: the findings of the left side, then those of the right one
+pub record OverTwo (tables : List TableRule) (plan left right : PlanTree) (first : ℕ) (OfLeft : List Finding → Finding → Type 0) (OfRight : ℕ → List Finding → Finding → Type 0) (before : List Finding) (top : Finding) : Type 0 where
+  pub deeper : List Finding
+  pub child : Finding
+  pub beside : List Finding
+  pub other : Finding
+  pub on_left : OfLeft deeper child
+  pub on_right : OfRight (first + length (deeper ++ child ∷ [])) beside other
+  pub are : before ≡ (deeper ++ child ∷ []) ++ (beside ++ other ∷ [])
+  pub finding : IsFinding tables plan (facts_kept left child) (facts_kept right other) (first + length before) top
+
+-- what is found at a plan's nodes in postorder, where the first has this number
+abbrev pub AreFindings : List TableRule → PlanTree → ℕ → List Finding → Finding → Type 0
+AreFindings tables (Scan table columns) first before top = (before ≡ []) × IsFinding tables (Scan table columns) [] [] first top
+AreFindings tables (Join condition left right) first before top =
+    OverTwo tables (Join condition left right) left right first (AreFindings tables left first) (λ n. AreFindings tables right n) before top
+AreFindings tables (Filter condition input) first before top = OverOne tables (Filter condition input) input first (AreFindings tables input first) before top
+AreFindings tables (Map outputs input) first before top = OverOne tables (Map outputs input) input first (AreFindings tables input first) before top
+AreFindings tables (Window w input) first before top = OverOne tables (Window w input) input first (AreFindings tables input first) before top
+AreFindings tables (Distinct input) first before top = OverOne tables (Distinct input) input first (AreFindings tables input first) before top
+AreFindings tables (Limit limit input) first before top = OverOne tables (Limit limit input) input first (AreFindings tables input first) before top
+
+abbrev pub entries_in : List Finding → List NodeRecord
+entries_in fs = map (λ (f : Finding). f.entry) fs
+
+abbrev pub reasons_in : List Finding → List Reason
+reasons_in fs = flat_map (λ (f : Finding). f.reasons) fs
+
+abbrev pub marks_in : List Finding → List Mark
+marks_in fs = flat_map (λ (f : Finding). f.marks) fs

@@ -1,7 +1,9 @@
 pub mod Evidence
-pub mod Sources
 pub mod Kept
+pub mod Sources
 pub mod Decisions
 pub mod Entry
 pub mod Findings
+pub mod Steps
 pub mod Analysis
+pub mod Alike

@@ -1,15 +1,16 @@
 -- The columns that are tried at a node: what they give may be kept.
-use Rattle.std.specs.Prelude.{◌≡◌, ℕ, ◌-◌, ◌≤◌, Bool, true, ◌&&◌, List, [], ◌∷◌, length, nat_lt, Option, Some, if◌then◌else◌}
+use Rattle.std.specs.Prelude.{◌≡◌, ℕ, ◌+◌, ◌-◌, ◌<◌, ◌≤◌, Bool, ◌&&◌, List, [], ◌∷◌, ◌++◌, filter, flat_map, length, map, nat_lt, Option, Some, if◌then◌else◌}
 use Rattle.std.specs.List.{AllByRecursion, list_all, list_any}
 use Rattle.wd_plan.specs.Expressions.{Expression}
-use Rattle.wd_plan.specs.Fits.{AreBelow}
+use Rattle.wd_plan.specs.Fits.{width}
+use Rattle.wd_plan.specs.Plans.{PlanTree, Scan, Join, Filter, Map, Window, Distinct, Limit}
 use Rattle.wd_facts.specs.declared.facts.Member.{Member}
 use Rattle.wd_facts.specs.declared.facts.Member.TheVariants.{Column, Left, Right, Row}
-use Rattle.wd_facts.specs.Facts.{FactList}
-use Rattle.wd_facts.specs.Given.{both_copied, copy_from}
+use Rattle.wd_facts.specs.Facts.{Fact, FactList}
+use Rattle.wd_facts.specs.Given.{both_copied, copy_from, if_copied}
 use Rattle.wd_sets.specs.Sets.{is_in}
-use Rattle.wd_close.specs.Closure.{are_named, is_split_within}
 use Rattle.wd_analyse.specs.Evidence.{Closing, IsClosing}
+use Rattle.wd_analyse.specs.Kept.{kept_members}
 
 -- the columns among members
 abbrev pub columns_in : List Member → List ℕ
@@ -35,20 +36,69 @@ same_columns X Y = list_all (is_in Y) X && list_all (is_in X) Y
 abbrev pub is_tried : List (List ℕ) → List ℕ → Bool
 is_tried tried X = list_any (same_columns X) tried
 
+-- ---- in order
+
+-- the left sides of facts by the node's own columns
+abbrev pub left_sides : List Expression → ℕ → List Fact → List (List ℕ)
+left_sides outputs width [] = []
+left_sides outputs width (fact ∷ facts) = if_copied (outputs_of outputs width (columns_in fact.from)) (left_sides outputs width facts)
+
+-- columns with each left side of facts whose columns are renumbered
+abbrev pub unions_with : List ℕ → ℕ → List Fact → List (List ℕ)
+unions_with X by facts = map (λ (fact : Fact). X ++ map (λ c. by + c) (columns_in fact.from)) facts
+
+-- each left side of the left child's facts with each of the right child's
+abbrev pub unions : List Fact → ℕ → List Fact → List (List ℕ)
+unions kept by more = flat_map (λ (fact : Fact). unions_with (columns_in fact.from) by more) kept
+
+abbrev pub unions_at : PlanTree → List Fact → List Fact → List (List ℕ)
+unions_at (Scan table columns) kept more = []
+unions_at (Join condition left right) kept more = unions kept (width left) more
+unions_at (Filter condition input) kept more = []
+unions_at (Map outputs input) kept more = []
+unions_at (Window w input) kept more = []
+unions_at (Distinct input) kept more = []
+unions_at (Limit limit input) kept more = []
+
+-- the outputs of a Map; none at another node
+abbrev pub outputs_in : PlanTree → List Expression
+outputs_in (Scan table columns) = []
+outputs_in (Join condition left right) = []
+outputs_in (Filter condition input) = []
+outputs_in (Map outputs input) = outputs
+outputs_in (Window w input) = []
+outputs_in (Distinct input) = []
+outputs_in (Limit limit input) = []
+
+-- what is tried at a plan's top node with these given facts, whose children keep these: the left sides, nothing, and at a Join
+-- the unions
+abbrev pub sources : PlanTree → List Fact → List Fact → List Fact → List (List ℕ)
+sources plan facts kept more = left_sides (outputs_in plan) (width plan) facts ++ ([] ∷ unions_at plan kept more)
+
+-- those that were not tried before, each once
+abbrev pub distinct : List (List ℕ) → List (List ℕ) → List (List ℕ)
+distinct tried [] = []
+distinct tried (X ∷ Xs) = if is_tried tried X then distinct tried Xs else (X ∷ distinct (tried ++ X ∷ []) Xs)
+
 -- ---- claims
 
--- facts that can be closed, of a node with so many columns
-pub record Admits (facts : FactList) (width : ℕ) : Type 0 where
-  pub split : is_split_within facts.split facts.columns ≡ true
-  pub named : are_named facts ≡ true
-  pub wide : width ≤ facts.columns
+abbrev pub AreClosings : FactList → List Closing → Type 0
+AreClosings facts cs = AllByRecursion (IsClosing facts) cs
 
--- what columns of a node give
-pub record IsClaim (facts : FactList) (width : ℕ) (c : Closing) : Type 0 where
-  pub closing : IsClosing facts c
-  pub low : AreBelow width c.from
+abbrev pub starts : List Closing → List (List ℕ)
+starts cs = map (λ (c : Closing). c.from) cs
 
--- at most 64 of them
-pub record AreClaims (facts : FactList) (width : ℕ) (cs : List Closing) : Type 0 where
-  pub few : length cs ≤ 64
-  pub claims : AllByRecursion (IsClaim facts width) cs
+-- columns give something that a node with so many columns keeps
+abbrev pub gives_some : ℕ → Closing → Bool
+gives_some width c = nat_lt 0 (length (kept_members width c))
+
+-- what a node with so many columns keeps: of its sources, each once and in order, a front is tried, and those are kept that give
+-- something; at most 64, and where there are fewer all sources are tried
+pub record Keeps (facts : FactList) (width : ℕ) (sources : List (List ℕ)) (claims : List Closing) : Type 0 where
+  pub tried : List Closing
+  pub untried : List (List ℕ)
+  pub closings : AreClosings facts tried
+  pub order : starts tried ++ untried ≡ distinct [] sources
+  pub kept : claims ≡ filter (gives_some width) tried
+  pub few : length claims ≤ 64
+  pub all : length claims < 64 → untried ≡ []

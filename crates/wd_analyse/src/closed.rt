@@ -3,14 +3,11 @@
 ghost use Rattle.std.specs.Prelude.{◌≡◌, ◌++◌, true, map, nat_lt, IfOk};
 ghost use Rattle.std.specs.List.{list_all};
 ghost use Rattle.wd_certificate.specs.Certificates.{trace_of};
-ghost use Rattle.wd_facts.specs.Facts.{facts_of};
-ghost use Rattle.wd_close.specs.Closure.{are_named, is_split_within};
 ghost use Rattle.wd_analyse.specs.Evidence.{IsClosing, closing_of, trace_by};
 
 use std::alloc::Global;
 use wd_certificate::Trace;
-use wd_close::{Derived, closure_derived};
-use wd_facts::Facts;
+use wd_close::{Derived, Prepared};
 use wd_sets::Set;
 use wd_value::OutOfMemory;
 
@@ -23,14 +20,16 @@ pub(crate) struct Closed {
 }
 
 /// What columns give at a node.
-pub(crate) fn close(alloc: Global, facts: &Facts, from: &[u16]) -> Result<Closed, OutOfMemory>
-    requires split { is_split_within facts.now.split facts.now.columns ≡ true }
-    requires facts { are_named (facts_of facts.now) ≡ true }
-    requires columns { list_all (λ c. nat_lt c facts.now.columns) from.now ≡ true }
+pub(crate) fn close(
+    alloc: Global,
+    facts: &Prepared<'_>,
+    from: &[u16],
+) -> Result<Closed, OutOfMemory>
+    requires { list_all (λ c. nat_lt c facts.now.columns) from.now ≡ true }
     ensures from { IfOk result (λ c. c.from.items ≡ from.now) }
-    ensures closing { IfOk result (λ c. IsClosing (facts_of facts.now) (closing_of c)) }
+    ensures closing { IfOk result (λ c. IsClosing facts.now (closing_of c)) }
 {
-    let Derived { set, uses } = closure_derived(alloc, facts, from)?;
+    let Derived { set, uses } = facts.derive(alloc, from)?;
     let from = Vec::from_slice(alloc, from)?;
     Ok(Closed { from, set, uses })
 }

@@ -1,9 +1,8 @@
 //! The entry of a node in a certificate.
 
-ghost use Rattle.std.specs.Prelude.{◌≡◌, ◌++◌, ◌<◌, true, [], ◌∷◌, length, map, nat_lt, None, Some, IfOk};
+ghost use Rattle.std.specs.Prelude.{◌≡◌, ◌++◌, ◌<◌, ◌≤◌, true, [], ◌∷◌, length, map, nat_lt, None, Some, IfOk};
 ghost use Rattle.std.specs.List.{list_all};
 ghost use Rattle.wd_certificate.specs.Certificates.{node_of};
-ghost use Rattle.wd_facts.specs.Facts.{facts_of};
 ghost use Rattle.wd_plan.specs.Fits as fitting;
 ghost use Rattle.wd_plan.specs.Plans.{class_of, limit_of, plan_of, window_of};
 ghost use Rattle.wd_plan.specs.Plans as plans;
@@ -11,30 +10,29 @@ ghost use Rattle.wd_plan.specs.Sorting as sorting;
 ghost use Rattle.wd_rules.specs.Rules as rules;
 ghost use Rattle.wd_schema.specs.Schemas.{schema_of};
 ghost use Rattle.wd_value.specs.Keys.{key_columns as columns_of_keys};
-ghost use Rattle.wd_analyse.specs.declared.decided.Lack.TheVariants as lack;
 ghost use Rattle.wd_analyse.specs.Entry.{entry_by};
 ghost use Rattle.wd_analyse.specs.Evidence.{IsClosing, closing_of};
-ghost use Rattle.wd_analyse.specs.Findings.{AreClosings, IsFound, starts};
 ghost use Rattle.wd_analyse.specs.Findings as spec;
-ghost use Rattle.wd_analyse.specs.Sources.{Admits, AreClaims};
+ghost use Rattle.wd_analyse.specs.Sources.{AreClosings, starts};
+ghost use Rattle.wd_analyse.specs.Steps.{Admits, Says, is_without_rules, told_of};
 
 use crate::analysis::{Mark, Reason, RuleName};
 use crate::closed::{Closed, add_traces, close};
 use crate::decided::{Decided, Lack, decide_calls, missing, rules_of};
 use crate::kept::keep;
-use crate::search::width;
+use crate::sources::width;
 use std::alloc::Global;
 use wd_certificate::{Node, Rule};
-use wd_facts::Facts;
+use wd_close::Prepared;
 use wd_plan::{Class, Limit, Plan, Window};
 use wd_schema::Schema;
 use wd_value::{OutOfMemory, SortColumn};
 
 /// What is known at a node: its number, its given facts, and what it keeps.
 #[derive(Drop)]
-pub(crate) struct Here {
+pub(crate) struct Here<'a> {
     pub(crate) node: u64,
-    pub(crate) facts: Facts,
+    pub(crate) facts: Prepared<'a>,
     pub(crate) claims: Vec<Closed>,
 }
 
@@ -70,14 +68,14 @@ fn key_columns(alloc: Global, keys: &[SortColumn]) -> Result<Vec<u16>, OutOfMemo
 /// What the columns of a class give.
 fn close_class(
     alloc: Global,
-    facts: &Facts,
+    facts: &Prepared<'_>,
     width: u16,
     class: &Class,
 ) -> Result<Closed, OutOfMemory>
-    requires admits { Admits (facts_of facts.now) width }
+    requires admits { Admits facts.now width }
     requires within { list_all (λ c. nat_lt c facts.now.columns) (sorting.class_columns (class_of class.now)) ≡ true }
     ensures from { IfOk result (λ c. c.from.items ≡ sorting.class_columns (class_of class.now)) }
-    ensures closing { IfOk result (λ c. IsClosing (facts_of facts.now) (closing_of c)) }
+    ensures closing { IfOk result (λ c. IsClosing facts.now (closing_of c)) }
 {
     let columns = class_columns(alloc, class)?;
     close(alloc, facts, &columns)
@@ -87,13 +85,13 @@ fn close_class(
 #[tactic(auto, using(crate::proofs::Claims::closings_more))]
 fn close_classes(
     alloc: Global,
-    facts: &Facts,
+    facts: &Prepared<'_>,
     width: u16,
     classes: &[Class],
 ) -> Result<Vec<Closed>, OutOfMemory>
-    requires admits { Admits (facts_of facts.now) width }
+    requires admits { Admits facts.now width }
     requires within { list_all (λ class. list_all (λ c. nat_lt c facts.now.columns) (sorting.class_columns class)) (map class_of classes.now) ≡ true }
-    ensures closings { IfOk result (λ v. AreClosings (facts_of facts.now) (map closing_of v.items)) }
+    ensures closings { IfOk result (λ v. AreClosings facts.now (map closing_of v.items)) }
     ensures starts { IfOk result (λ v. starts (map closing_of v.items) ≡ map sorting.class_columns (map class_of classes.now)) }
 {
     let mut list = Vec::with_capacity(alloc, classes.len())?;
@@ -176,7 +174,7 @@ fn make_entry(
 }
 
 /// The entry of a node whose calls and limit, if it has any, no trace shows.
-fn bare_entry(alloc: Global, here: &Here, width: u16) -> Result<Node, OutOfMemory>
+fn bare_entry(alloc: Global, here: &Here<'_>, width: u16) -> Result<Node, OutOfMemory>
     ensures { IfOk result (λ n. node_of n ≡ entry_by width (map closing_of here.now.claims.items) [] [] None) }
 {
     make_entry(alloc, &here.claims, &[], width, Vec::new(alloc), None)
@@ -186,7 +184,7 @@ fn bare_entry(alloc: Global, here: &Here, width: u16) -> Result<Node, OutOfMemor
 #[tactic(auto, using(wd_plan::proofs::Ranges::narrow))]
 fn window_entry(
     alloc: Global,
-    here: &Here,
+    here: &Here<'_>,
     plan: &Plan,
     input: &Plan,
     schema: &Schema,
@@ -195,9 +193,9 @@ fn window_entry(
 ) -> Result<Node, OutOfMemory>
     requires is { plan_of plan.now ≡ plans.Window (window_of window.now) (plan_of input.now) }
     requires fits { fitting.fits (schema_of schema.now) (plan_of plan.now) ≡ true }
-    requires admits { Admits (facts_of here.now.facts) (fitting.width (plan_of plan.now)) }
-    requires claims { AreClaims (facts_of here.now.facts) (fitting.width (plan_of plan.now)) (map closing_of here.now.claims.items) }
-    ensures { IfOk result (λ n. IsFound (facts_of here.now.facts) (plan_of plan.now) here.now.node (map closing_of here.now.claims.items) (node_of n) findings.old.reasons.items findings.new.reasons.items) }
+    requires admits { Admits here.now.facts (fitting.width (plan_of plan.now)) }
+    requires few { length here.now.claims.items ≤ 64 }
+    ensures { IfOk result (λ n. Says here.now.facts (plan_of plan.now) here.now.node (map closing_of here.now.claims.items) (node_of n) (told_of findings.old) (told_of findings.new)) }
 {
     let classes = close_classes(alloc, &here.facts, width(plan), &window.classes)?;
     let first = here.claims.len() as u64;
@@ -214,19 +212,48 @@ fn is_whole_or_ties(limit: &Limit) -> bool
     limit.offset == 0 && (limit.count.is_none() || limit.ties)
 }
 
+/// Which of the two it keeps: without a count all rows.
+fn whole_or_ties(limit: &Limit) -> RuleName
+    ensures { result ≡ spec.whole_or_ties (limit_of limit.now) }
+{
+    if limit.count.is_none() {
+        RuleName::Whole
+    } else {
+        RuleName::Ties
+    }
+}
+
 /// Says which rule a limit has.
 fn say_limit(node: u64, rule: RuleName, findings: &mut Findings) -> Result<(), OutOfMemory>
     ensures reasons { IfOk result (λ _. findings.new.reasons.items ≡ findings.old.reasons.items) }
-    ensures marks { IfOk result (λ _. findings.new.marks.items ≡ findings.old.marks.items ++ (record { node = node; call = None; rule = rule } ∷ [])) }
+    ensures marks { IfOk result (λ _. findings.new.marks.items ≡ findings.old.marks.items ++ spec.limit_mark node rule ∷ []) }
 {
     let call = None;
     findings.marks.push(Mark { node, call, rule })?;
     Ok(())
 }
 
+/// The entry of a Limit with so many columns whose sort keys give each of them.
+#[tactic(auto, using(crate::proofs::Says::number))]
+fn shown_entry(
+    alloc: Global,
+    here: &Here<'_>,
+    columns: u16,
+    keys: Closed,
+) -> Result<Node, OutOfMemory>
+    requires { length here.now.claims.items ≤ 64 }
+    ensures { IfOk result (λ n. node_of n ≡ entry_by columns (map closing_of here.now.claims.items) (closing_of keys ∷ []) [] (Some (length (map closing_of here.now.claims.items)))) }
+{
+    let number = here.claims.len() as u64;
+    let mut others = Vec::new(alloc);
+    others.push(keys)?;
+    let calls = Vec::new(alloc);
+    make_entry(alloc, &here.claims, &others, columns, calls, Some(number))
+}
+
 /// Says that a limit lacks a column.
 fn say_lack(node: u64, column: u16, findings: &mut Findings) -> Result<(), OutOfMemory>
-    ensures reasons { IfOk result (λ _. findings.new.reasons.items ≡ findings.old.reasons.items ++ (record { node = node; call = None; lack = lack.Column column } ∷ [])) }
+    ensures reasons { IfOk result (λ _. findings.new.reasons.items ≡ findings.old.reasons.items ++ spec.limit_reason node column ∷ []) }
     ensures marks { IfOk result (λ _. findings.new.marks.items ≡ findings.old.marks.items) }
 {
     let call = None;
@@ -235,41 +262,28 @@ fn say_lack(node: u64, column: u16, findings: &mut Findings) -> Result<(), OutOf
     Ok(())
 }
 
-/// The entry of a Limit whose sort keys' columns give these, if they give every column.
-#[tactic(auto, using(wd_plan::proofs::Ranges::narrow))]
+/// The entry of a Limit with so many columns whose sort keys give these, and what is said of it.
+#[tactic(auto, using(crate::proofs::Says::number))]
 fn keys_entry(
     alloc: Global,
-    here: &Here,
-    plan: &Plan,
-    input: &Plan,
-    schema: &Schema,
-    closed: Closed,
+    here: &Here<'_>,
+    columns: u16,
+    keys: Closed,
     findings: &mut Findings,
 ) -> Result<Node, OutOfMemory>
-    requires is { (limit : plans.LimitRule) × (plan_of plan.now ≡ plans.Limit limit (plan_of input.now)) × (closed.from.items ≡ columns_of_keys limit.keys) }
-    requires fits { fitting.fits (schema_of schema.now) (plan_of plan.now) ≡ true }
-    requires closing { IsClosing (facts_of here.now.facts) (closing_of closed) }
-    requires claims { AreClaims (facts_of here.now.facts) (fitting.width (plan_of plan.now)) (map closing_of here.now.claims.items) }
-    ensures { IfOk result (λ n. IsFound (facts_of here.now.facts) (plan_of plan.now) here.now.node (map closing_of here.now.claims.items) (node_of n) findings.old.reasons.items findings.new.reasons.items) }
+    requires { length here.now.claims.items ≤ 64 }
+    ensures entry { IfOk result (λ n. node_of n ≡ spec.entry_by_keys columns (map closing_of here.now.claims.items) (closing_of keys) (spec.lacking columns (closing_of keys))) }
+    ensures reasons { IfOk result (λ _. findings.new.reasons.items ≡ findings.old.reasons.items ++ spec.reasons_by_keys here.now.node (spec.lacking columns (closing_of keys))) }
+    ensures marks { IfOk result (λ _. findings.new.marks.items ≡ findings.old.marks.items ++ spec.marks_by_keys here.now.node (spec.lacking columns (closing_of keys))) }
 {
-    match missing(&closed, width(input)) {
+    match missing(&keys, columns) {
         None => {
             say_limit(here.node, RuleName::Keys, findings)?;
-            let number = here.claims.len() as u64;
-            let mut others = Vec::new(alloc);
-            others.push(closed)?;
-            make_entry(
-                alloc,
-                &here.claims,
-                &others,
-                width(plan),
-                Vec::new(alloc),
-                Some(number),
-            )
+            shown_entry(alloc, here, columns, keys)
         }
         Some(column) => {
             say_lack(here.node, column, findings)?;
-            bare_entry(alloc, here, width(plan))
+            bare_entry(alloc, here, columns)
         }
     }
 }
@@ -278,7 +292,7 @@ fn keys_entry(
 #[tactic(auto, using(wd_plan::proofs::Ranges::narrow))]
 fn limit_entry(
     alloc: Global,
-    here: &Here,
+    here: &Here<'_>,
     plan: &Plan,
     input: &Plan,
     schema: &Schema,
@@ -287,38 +301,32 @@ fn limit_entry(
 ) -> Result<Node, OutOfMemory>
     requires is { plan_of plan.now ≡ plans.Limit (limit_of limit.now) (plan_of input.now) }
     requires fits { fitting.fits (schema_of schema.now) (plan_of plan.now) ≡ true }
-    requires admits { Admits (facts_of here.now.facts) (fitting.width (plan_of plan.now)) }
-    requires claims { AreClaims (facts_of here.now.facts) (fitting.width (plan_of plan.now)) (map closing_of here.now.claims.items) }
-    ensures { IfOk result (λ n. IsFound (facts_of here.now.facts) (plan_of plan.now) here.now.node (map closing_of here.now.claims.items) (node_of n) findings.old.reasons.items findings.new.reasons.items) }
+    requires admits { Admits here.now.facts (fitting.width (plan_of plan.now)) }
+    requires few { length here.now.claims.items ≤ 64 }
+    ensures { IfOk result (λ n. Says here.now.facts (plan_of plan.now) here.now.node (map closing_of here.now.claims.items) (node_of n) (told_of findings.old) (told_of findings.new)) }
 {
     if is_whole_or_ties(limit) {
-        let rule = if limit.count.is_none() {
-            RuleName::Whole
-        } else {
-            RuleName::Ties
-        };
-        say_limit(here.node, rule, findings)?;
+        say_limit(here.node, whole_or_ties(limit), findings)?;
         bare_entry(alloc, here, width(plan))
     } else {
         let columns = key_columns(alloc, &limit.keys)?;
         let closed = close(alloc, &here.facts, &columns)?;
-        keys_entry(alloc, here, plan, input, schema, closed, findings)
+        keys_entry(alloc, here, width(input), closed, findings)
     }
 }
 
 /// The entry of a node that has neither calls nor a limit.
-#[tactic(auto, using(wd_plan::proofs::Ranges::narrow, crate::proofs::Founds::plain_found))]
+#[tactic(auto, using(wd_plan::proofs::Ranges::narrow))]
 fn plain_entry(
     alloc: Global,
-    here: &Here,
+    here: &Here<'_>,
     plan: &Plan,
     schema: &Schema,
     findings: &mut Findings,
 ) -> Result<Node, OutOfMemory>
-    requires is { spec.is_without_rules (plan_of plan.now) ≡ true }
+    requires is { is_without_rules (plan_of plan.now) ≡ true }
     requires fits { fitting.fits (schema_of schema.now) (plan_of plan.now) ≡ true }
-    requires claims { AreClaims (facts_of here.now.facts) (fitting.width (plan_of plan.now)) (map closing_of here.now.claims.items) }
-    ensures { IfOk result (λ n. IsFound (facts_of here.now.facts) (plan_of plan.now) here.now.node (map closing_of here.now.claims.items) (node_of n) findings.old.reasons.items findings.new.reasons.items) }
+    ensures { IfOk result (λ n. Says here.now.facts (plan_of plan.now) here.now.node (map closing_of here.now.claims.items) (node_of n) (told_of findings.old) (told_of findings.new)) }
 {
     bare_entry(alloc, here, width(plan))
 }
@@ -326,15 +334,15 @@ fn plain_entry(
 /// The entry of a plan's top node, and what is said of it.
 pub(crate) fn found_entry(
     alloc: Global,
-    here: &Here,
+    here: &Here<'_>,
     plan: &Plan,
     schema: &Schema,
     findings: &mut Findings,
 ) -> Result<Node, OutOfMemory>
     requires fits { fitting.fits (schema_of schema.now) (plan_of plan.now) ≡ true }
-    requires admits { Admits (facts_of here.now.facts) (fitting.width (plan_of plan.now)) }
-    requires claims { AreClaims (facts_of here.now.facts) (fitting.width (plan_of plan.now)) (map closing_of here.now.claims.items) }
-    ensures { IfOk result (λ n. IsFound (facts_of here.now.facts) (plan_of plan.now) here.now.node (map closing_of here.now.claims.items) (node_of n) findings.old.reasons.items findings.new.reasons.items) }
+    requires admits { Admits here.now.facts (fitting.width (plan_of plan.now)) }
+    requires few { length here.now.claims.items ≤ 64 }
+    ensures { IfOk result (λ n. Says here.now.facts (plan_of plan.now) here.now.node (map closing_of here.now.claims.items) (node_of n) (told_of findings.old) (told_of findings.new)) }
 {
     match plan {
         Plan::Window { input, window } => {

@@ -1,10 +1,10 @@
 //! What a node keeps of what columns give.
 
-ghost use Rattle.std.specs.Prelude.{◌≡◌, ◌++◌, map, filter, IfOk};
+ghost use Rattle.std.specs.Prelude.{◌≡◌, ℕ, ◌++◌, map, filter, IfOk};
 ghost use Rattle.wd_certificate.specs.Certificates.{kept_of};
 ghost use Rattle.wd_facts.specs.Facts.{columns_named, fact_of};
 ghost use Rattle.wd_facts.specs.Given.{all_columns};
-ghost use Rattle.wd_sets.specs.Sets.{is_in};
+ghost use Rattle.wd_sets.specs.Sets.{has_column, is_in};
 ghost use Rattle.wd_analyse.specs.Evidence.{closing_of};
 ghost use Rattle.wd_analyse.specs.Kept as spec;
 
@@ -12,6 +12,7 @@ use crate::closed::Closed;
 use std::alloc::Global;
 use wd_certificate::{Kept, Target};
 use wd_facts::{Given, Member};
+use wd_sets::Set;
 use wd_value::OutOfMemory;
 
 /// Whether a column is among some.
@@ -26,18 +27,37 @@ pub(crate) fn is_among(columns: &[u16], column: u16) -> bool
     false
 }
 
-/// Whether a column is given, and stands outside those that give it.
-fn is_new(closed: &Closed, column: u16) -> bool
+/// Some columns as a set.
+#[tactic(auto, using(crate::proofs::New::in_or_left))]
+fn column_set(alloc: Global, columns: &[u16]) -> Result<Set, OutOfMemory>
+    ensures { IfOk result (λ set. (c : ℕ) → has_column set c ≡ is_in columns.now c) }
+{
+    let mut set = Set::new(alloc);
+    for column in columns {
+        set.insert(Member::Column(*column))?;
+    }
+    Ok(set)
+}
+
+/// Whether a column is given, and stands outside those that give it, which are in a set of their own.
+fn is_new(closed: &Closed, from: &Set, column: u16) -> bool
+    requires { has_column from.now column ≡ is_in closed.now.from.items column }
     ensures { result ≡ spec.is_new (closing_of closed.now) column }
 {
-    closed.set.contains(Member::Column(column)) && !is_among(&closed.from, column)
+    closed.set.contains(Member::Column(column)) && !from.contains(Member::Column(column))
 }
 
 /// Appends the column if it is new.
-fn add_new(closed: &Closed, column: u16, list: &mut Vec<Member>) -> Result<(), OutOfMemory>
+fn add_new(
+    closed: &Closed,
+    from: &Set,
+    column: u16,
+    list: &mut Vec<Member>,
+) -> Result<(), OutOfMemory>
+    requires { has_column from.now column ≡ is_in closed.now.from.items column }
     ensures { IfOk result (λ _. list.new.items ≡ list.old.items ++ columns_named (spec.new_one (closing_of closed.now) column)) }
 {
-    if is_new(closed, column) {
+    if is_new(closed, from, column) {
         list.push(Member::Column(column))?;
     }
     Ok(())
@@ -48,9 +68,10 @@ fn add_new(closed: &Closed, column: u16, list: &mut Vec<Member>) -> Result<(), O
 fn new_columns(alloc: Global, closed: &Closed, width: u16) -> Result<Vec<Member>, OutOfMemory>
     ensures { IfOk result (λ v. v.items ≡ columns_named (filter (spec.is_new (closing_of closed.now)) (all_columns width))) }
 {
+    let from = column_set(alloc, &closed.from)?;
     let mut list = Vec::new(alloc);
     for column in 0..width {
-        add_new(closed, column, &mut list)?;
+        add_new(closed, &from, column, &mut list)?;
     }
     Ok(list)
 }

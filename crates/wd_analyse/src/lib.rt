@@ -6,8 +6,10 @@ mod closed;
 mod decided;
 mod entry;
 mod kept;
+pub mod laws;
 mod nodes;
 mod search;
+mod sources;
 
 pub use analysis::{Analysis, Mark, Reason, RuleName};
 pub use decided::Lack;

@@ -1,21 +1,22 @@
 //! The nodes of a plan in postorder.
 
 ghost use Rattle.std.specs.Prelude.{◌≡◌, true, map, IfOk};
-ghost use Rattle.wd_certificate.specs.Certificates.{node_of};
 ghost use Rattle.wd_facts.specs.Facts.{fact_of, kept_by};
 ghost use Rattle.wd_facts.specs.Laws.{AreOfChildren};
 ghost use Rattle.wd_plan.specs.Fits.{fits};
 ghost use Rattle.wd_plan.specs.Plans.{plan_of};
 ghost use Rattle.wd_schema.specs.Schemas.{schema_of};
 ghost use Rattle.wd_analyse.specs.Analysis.{IsAnswer};
-ghost use Rattle.wd_analyse.specs.Entry.{IsAnalysed, IsTop};
+ghost use Rattle.wd_analyse.specs.Steps.{Finds, FindsTop};
 
 use crate::analysis::Analysis;
 use crate::entry::{Findings, Here, found_entry};
 use crate::kept::kept_facts;
-use crate::search::{claims_of, width};
+use crate::search::claims_of;
+use crate::sources::{sources_of, width};
 use std::alloc::Global;
 use wd_certificate::{Certificate, Node};
+use wd_close::Prepared;
 use wd_facts::{Given, given};
 use wd_plan::Plan;
 use wd_schema::Schema;
@@ -39,14 +40,16 @@ fn analyse_top(
 ) -> Result<Vec<Given>, OutOfMemory>
     requires fits { fits (schema_of schema.now) (plan_of plan.now) ≡ true }
     requires kept { AreOfChildren (plan_of plan.now) (kept_by kept.now 0) (kept_by kept.now 1) }
-    ensures { IfOk result (λ v. IsTop (schema_of schema.now) (plan_of plan.now) (kept_by kept.now 0) (kept_by kept.now 1) (map node_of found.old.nodes.items) (map node_of found.new.nodes.items) found.old.findings.reasons.items found.new.findings.reasons.items (map fact_of v.items)) }
+    ensures { IfOk result (λ v. FindsTop (schema_of schema.now) (plan_of plan.now) (kept_by kept.now 0) (kept_by kept.now 1) found.old found.new (map fact_of v.items)) }
 {
     let facts = given(alloc, plan, schema, kept)?;
-    let claims = claims_of(alloc, &facts, plan, schema, kept)?;
+    let sources = sources_of(alloc, &facts, plan, schema, kept)?;
+    let prepared = Prepared::new(alloc, &facts)?;
+    let claims = claims_of(alloc, &prepared, width(plan), &sources)?;
     let node = found.nodes.len() as u64;
     let here = Here {
         node,
-        facts,
+        facts: prepared,
         claims,
     };
     let entry = found_entry(alloc, &here, plan, schema, &mut found.findings)?;
@@ -62,7 +65,7 @@ fn analyse_nodes(
     found: &mut Found,
 ) -> Result<Vec<Given>, OutOfMemory>
     requires { fits (schema_of schema.now) (plan_of plan.now) ≡ true }
-    ensures { IfOk result (λ v. IsAnalysed (schema_of schema.now) (plan_of plan.now) (map node_of found.old.nodes.items) (map node_of found.new.nodes.items) found.old.findings.reasons.items found.new.findings.reasons.items (map fact_of v.items)) }
+    ensures { IfOk result (λ v. Finds (schema_of schema.now) (plan_of plan.now) found.old found.new (map fact_of v.items)) }
 {
     match plan {
         Plan::Scan { .. } => analyse_top(alloc, plan, schema, &[], found),

@@ -1,5 +1,5 @@
 use Rattle.wd_facts.proofs.KeyRanges.{wider}
 use Rattle.wd_analyse.proofs.search.add_claim.Goals as goal
 
-pub close-requires-clause-columns : goal.close-requires-clause-columns
-close-requires-clause-columns c = wider c.args.width c.args.facts.now.columns c.requires.admits.wide c.args.from.now c.requires.low
+pub close-requires : goal.close-requires
+close-requires c = wider c.args.width c.args.facts.now.columns c.requires.admits.wide c.args.from.now c.requires.low

@@ -1,0 +1,95 @@
+-- What the parts of the analysis add to what is found so far.
+use Rattle.std.specs.Prelude.{◌≡◌, ℕ, ◌≤◌, Bool, true, false, List, [], ◌∷◌, ◌++◌, filter, length, map}
+use Rattle.wd_schema.specs.Tables.{TableRule}
+use Rattle.wd_plan.specs.Fits.{width}
+use Rattle.wd_plan.specs.Plans.{PlanTree, Scan, Join, Filter, Map, Window, Distinct, Limit}
+use Rattle.wd_certificate.specs.Certificates.{NodeRecord, node_of}
+use Rattle.wd_facts.specs.Facts.{Fact, FactList}
+use Rattle.wd_facts.specs.Laws.{ArePlain}
+use Rattle.wd_analyse.specs.declared.analysis.Mark.{Mark}
+use Rattle.wd_analyse.specs.declared.analysis.Reason.{Reason}
+use Rattle.wd_analyse.specs.declared.entry.Findings.{Findings}
+use Rattle.wd_analyse.specs.declared.nodes.Found.{Found}
+use Rattle.wd_close.specs.Closure.{are_named, is_split_within}
+use Rattle.wd_analyse.specs.Evidence.{Closing, IsClosing}
+use Rattle.wd_analyse.specs.Findings.{AreFindings, Finding, IsFinding, IsSaid, entries_in, facts_kept, marks_in, reasons_in}
+use Rattle.wd_analyse.specs.Sources.{Keeps, gives_some, starts}
+
+-- ---- the search for what a node keeps
+
+-- facts that can be closed, of a node with so many columns
+pub record Admits (facts : FactList) (width : ℕ) : Type 0 where
+  pub split : is_split_within facts.split facts.columns ≡ true
+  pub named : are_named facts ≡ true
+  pub wide : width ≤ facts.columns
+
+-- what columns give is added to the claims, if it is anything
+pub record Adds (facts : FactList) (width : ℕ) (X : List ℕ) (old new : List Closing) : Type 0 where
+  pub closing : Closing
+  pub is : IsClosing facts closing
+  pub from : closing.from ≡ X
+  pub more : new ≡ old ++ filter (gives_some width) (closing ∷ [])
+
+-- what was tried and is kept of the sources so far
+pub record IsSearch (facts : FactList) (width : ℕ) (sources tried : List (List ℕ)) (claims : List Closing) : Type 0 where
+  pub keeps : Keeps facts width sources claims
+  pub same : starts keeps.tried ≡ tried
+
+-- one source more is tried
+abbrev pub Tries : FactList → ℕ → List ℕ → List (List ℕ) → List Closing → List (List ℕ) → List Closing → Type 0
+Tries facts width X tried claims new_tried new_claims = (before : List (List ℕ)) → IsSearch facts width before tried claims → IsSearch facts width (before ++ X ∷ []) new_tried new_claims
+
+-- ---- what is said at a node
+
+-- neither a Window nor a Limit
+abbrev pub is_without_rules : PlanTree → Bool
+is_without_rules (Scan table columns) = true
+is_without_rules (Join condition left right) = true
+is_without_rules (Filter condition input) = true
+is_without_rules (Map outputs input) = true
+is_without_rules (Window w input) = false
+is_without_rules (Distinct input) = true
+is_without_rules (Limit limit input) = false
+
+-- the reasons and marks so far
+pub record Told : Type 0 where
+  pub reasons : List Reason
+  pub marks : List Mark
+
+abbrev pub told_of : Findings → Told
+told_of findings = record { reasons = findings.reasons.items; marks = findings.marks.items }
+
+abbrev pub entries_of : Found → List NodeRecord
+entries_of found = map node_of found.nodes.items
+
+-- a node's entry, and its reasons and marks behind those so far
+pub record Says (facts : FactList) (plan : PlanTree) (node : ℕ) (claims : List Closing) (entry : NodeRecord) (old new : Told) : Type 0 where
+  pub finding : Finding
+  pub said : IsSaid facts plan node finding
+  pub claims_are : finding.claims ≡ claims
+  pub entry_is : finding.entry ≡ entry
+  pub reasons : new.reasons ≡ old.reasons ++ finding.reasons
+  pub marks : new.marks ≡ old.marks ++ finding.marks
+
+-- ---- what is found
+
+-- what is found at a plan's top node, whose children keep these, behind what was found; it keeps these facts
+pub record FindsTop (tables : List TableRule) (plan : PlanTree) (kept more : List Fact) (old new : Found) (facts : List Fact) : Type 0 where
+  pub finding : Finding
+  pub is : IsFinding tables plan kept more (length (entries_of old)) finding
+  pub entries : entries_of new ≡ entries_of old ++ finding.entry ∷ []
+  pub reasons : new.findings.reasons.items ≡ old.findings.reasons.items ++ finding.reasons
+  pub marks : new.findings.marks.items ≡ old.findings.marks.items ++ finding.marks
+  pub keeps : facts ≡ facts_kept plan finding
+  pub plain : ArePlain (width plan) facts
+
+-- what is found at a plan's nodes, behind what was found; its top node keeps these facts
+pub record Finds (tables : List TableRule) (plan : PlanTree) (old new : Found) (facts : List Fact) : Type 0 where
+  pub before : List Finding
+  pub top : Finding
+  pub are : AreFindings tables plan (length (entries_of old)) before top
+  pub entries : entries_of new ≡ entries_of old ++ entries_in (before ++ top ∷ [])
+  pub reasons : new.findings.reasons.items ≡ old.findings.reasons.items ++ reasons_in (before ++ top ∷ [])
+  pub marks : new.findings.marks.items ≡ old.findings.marks.items ++ marks_in (before ++ top ∷ [])
+  pub keeps : facts ≡ facts_kept plan top
+  pub plain : ArePlain (width plan) facts
