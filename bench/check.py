@@ -8,9 +8,9 @@ First come the queries of tests/cases and one of about 1 KB, of which the slowes
 program's start to its end. Then come the largest lawful plans, for which the aim is a second: four tables of 256 columns,
 joined to rows of 1,024 columns, under 31 selects over one another. In the first each table has 64 keys, so that each node keeps
 64 facts; in the second no table has a key, so that each column of each node is tried and nothing is kept; in the third each
-select numbers the rows by a window, over tables with keys. Prints the least seconds and the most memory of three runs. PROGRAM is the built program (default:
-crates/wdcheck/out/wdcheck, which ./wdcheck builds). With --write the texts of the large ones are written to a folder in place
-of that.
+select numbers the rows by the tables' keys. Prints the least seconds and the most memory of three runs. PROGRAM is the built
+program (default: crates/wdcheck/out/wdcheck, which ./wdcheck builds). With --write the texts of the large ones are written to a
+folder in place of that.
 """
 
 import json
@@ -90,7 +90,7 @@ def large_texts():
     """The large ones: a title, and the texts of schema and query."""
     yield "64 kept facts a node", schema_text(verify.COLUMNS, verify.KEYS), query_text("")
     yield "no keys", schema_text(verify.COLUMNS, 0), query_text("")
-    yield "a window a select", schema_text(verify.COLUMNS - 8, verify.KEYS), query_text(", ROW_NUMBER() OVER (ORDER BY a0, b0, c0, d0) AS n%d")
+    yield "a window a select", schema_text(verify.COLUMNS - 8, 1), query_text(", ROW_NUMBER() OVER (ORDER BY a0, b0, c0, d0) AS n%d")
 
 
 def main():
