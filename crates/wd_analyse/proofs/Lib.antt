@@ -7,6 +7,7 @@ pub mod Missing
 pub mod RulesPass
 pub mod Outputs
 pub mod Claims
+pub mod Rising
 pub mod Searches
 pub mod Entries
 pub mod Postorder

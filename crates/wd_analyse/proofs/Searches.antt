@@ -1,12 +1,14 @@
 -- What was tried and is kept, with one source more.
-use Rattle.std.proofs.Common.{◌≡◌, ℕ, ◌<◌, ◌≤◌, Bool, true, false, cond, List, [], ◌∷◌, ◌++◌, append_assoc, filter, length, refl, sym, ◌∙◌, ap, arith}
+use Rattle.std.proofs.Common.{◌≡◌, ℕ, ◌<◌, ◌≤◌, Bool, true, false, cond, not, List, [], ◌∷◌, ◌++◌, append_assoc, filter, length, refl, sym, ◌∙◌, ap, arith, subst}
+use Rattle.std.proofs.lemmas.Bool.{false≢true}
 use Rattle.std.proofs.lemmas.List.{append-nil, length-append, map-append}
 use Rattle.std.proofs.lemmas.List.Elements.{filter-append}
 use Rattle.wd_facts.specs.Facts.{FactList}
 use Rattle.wd_facts.proofs.Lists.{all_append}
 use Rattle.wd_analyse.specs.Evidence.{Closing, IsClosing}
 use Rattle.wd_analyse.specs.Sources.{distinct, gives_some, is_tried, starts}
-use Rattle.wd_analyse.specs.Steps.{Adds, IsSearch}
+use Rattle.wd_analyse.specs.Steps.{Adds, HasTried, IsNextTried, IsSearch}
+use Rattle.wd_analyse.specs.declared.tried.Tried.{Tried}
 
 filter_one : {X : Type 0} (t : X → Bool) (x : X) → length (filter t (x ∷ [])) ≤ 1
 filter_one t x = by (t x) refl
@@ -29,10 +31,18 @@ distinct_append tried (X ∷ A) B = by (is_tried tried X) refl (distinct_append 
 one_more : (before : List (List ℕ)) (X : List ℕ) → distinct [] (before ++ X ∷ []) ≡ distinct [] before ++ distinct (distinct [] before) (X ∷ [])
 one_more before X = distinct_append [] before (X ∷ [])
 
-module _ (facts : FactList) (width : ℕ) (before tried : List (List ℕ)) (claims : List Closing) (s : IsSearch facts width before tried claims) (X : List ℕ) where
+old_by : (b : Bool) → false ≡ not b → b ≡ true
+old_by true e = refl
+old_by false e = absurd (false≢true e)
+
+new_by : (b : Bool) → true ≡ not b → b ≡ false
+new_by true e = absurd (false≢true (sym e))
+new_by false e = refl
+
+module _ (facts : FactList) (width : ℕ) (before : List (List ℕ)) (tried : Tried) (claims : List Closing) (s : IsSearch facts width before tried claims) (X : List ℕ) where
   -- where fewer than 64 are kept, all sources were tried
-  all_tried : length claims < 64 → distinct [] before ≡ tried
-  all_tried h = sym s.keeps.order ∙ ap (λ u. starts s.keeps.tried ++ u) (s.keeps.all h) ∙ append-nil (starts s.keeps.tried) ∙ s.same
+  all_tried : length claims < 64 → distinct [] before ≡ starts s.keeps.tried
+  all_tried h = sym s.keeps.order ∙ ap (λ u. starts s.keeps.tried ++ u) (s.keeps.all h) ∙ append-nil (starts s.keeps.tried)
 
   pub when_full : 64 ≤ length claims → IsSearch facts width (before ++ X ∷ []) tried claims
   when_full h = record {
@@ -45,47 +55,47 @@ module _ (facts : FactList) (width : ℕ) (before tried : List (List ℕ)) (clai
       few = s.keeps.few;
       all = λ l. absurd (omega (arith, l, h));
     };
-    same = s.same;
+    has = s.has;
   }
 
-  none_more : length claims < 64 → is_tried tried X ≡ true → distinct (distinct [] before) (X ∷ []) ≡ []
-  none_more h e = ap (λ t. distinct t (X ∷ [])) (all_tried h) ∙ ap (λ b. cond b [] (X ∷ [])) e
+  next_tried : length claims < 64 → (b : Bool) → is_tried (starts s.keeps.tried) X ≡ b → distinct (distinct [] before) (X ∷ []) ≡ cond b [] (X ∷ [])
+  next_tried h b e = ap (λ t. distinct t (X ∷ [])) (all_tried h) ∙ ap (λ b. cond b [] (X ∷ [])) e
 
-  pub when_tried : length claims < 64 → is_tried tried X ≡ true → IsSearch facts width (before ++ X ∷ []) tried claims
-  when_tried h e = record {
+  pub when_tried : (new : Tried) → length claims < 64 → IsNextTried (starts s.keeps.tried) X false new → IsSearch facts width (before ++ X ∷ []) new claims
+  when_tried new h n = record {
     keeps = record {
       tried = s.keeps.tried;
       untried = s.keeps.untried;
       closings = s.keeps.closings;
-      order = s.keeps.order ∙ sym (append-nil (distinct [] before)) ∙ ap (λ l. distinct [] before ++ l) (sym (none_more h e)) ∙ sym (one_more before X);
+      order = s.keeps.order ∙ sym (append-nil (distinct [] before)) ∙ ap (λ l. distinct [] before ++ l) (sym (next_tried h true (old_by (is_tried (starts s.keeps.tried) X) n.test))) ∙ sym (one_more before X);
       kept = s.keeps.kept;
       few = s.keeps.few;
       all = s.keeps.all;
     };
-    same = s.same;
+    has = n.has;
   }
 
-  pub when_new : (new : List Closing) → length claims < 64 → is_tried tried X ≡ false → Adds facts width X claims new → IsSearch facts width (before ++ X ∷ []) (tried ++ X ∷ []) new
-  when_new new h e a =
+  pub when_new : (new : Tried) (more : List Closing) → length claims < 64 → IsNextTried (starts s.keeps.tried) X true new → Adds facts width X claims more → IsSearch facts width (before ++ X ∷ []) new more
+  when_new new more h n a =
       let c = a.closing in
-      let begun : starts (s.keeps.tried ++ c ∷ []) ≡ tried ++ X ∷ [] = map-append (λ (c : Closing). c.from) s.keeps.tried (c ∷ []) ∙ (λ i. s.same i ++ a.from i ∷ []) in
-      let more : distinct (distinct [] before) (X ∷ []) ≡ X ∷ [] = ap (λ t. distinct t (X ∷ [])) (all_tried h) ∙ ap (λ b. cond b [] (X ∷ [])) e in
+      let begun : starts (s.keeps.tried ++ c ∷ []) ≡ starts s.keeps.tried ++ X ∷ [] = map-append (λ (c : Closing). c.from) s.keeps.tried (c ∷ []) ∙ (λ i. starts s.keeps.tried ++ a.from i ∷ []) in
+      let next : distinct (distinct [] before) (X ∷ []) ≡ X ∷ [] = next_tried h false (new_by (is_tried (starts s.keeps.tried) X) n.test) in
       record {
         keeps = record {
           tried = s.keeps.tried ++ c ∷ [];
           untried = [];
           closings = all_append (IsClosing facts) s.keeps.tried (c ∷ []) s.keeps.closings (a.is, tt);
-          order = append-nil (starts (s.keeps.tried ++ c ∷ [])) ∙ begun ∙ (λ i. sym (all_tried h) i ++ sym more i) ∙ sym (one_more before X);
+          order = append-nil (starts (s.keeps.tried ++ c ∷ [])) ∙ begun ∙ (λ i. sym (all_tried h) i ++ sym next i) ∙ sym (one_more before X);
           kept = a.more ∙ ap (λ l. l ++ filter (gives_some width) (c ∷ [])) s.keeps.kept ∙ sym (filter-append (gives_some width) s.keeps.tried (c ∷ []));
           few = omega (arith, h, filter_one (gives_some width) c, ap length a.more, length-append claims (filter (gives_some width) (c ∷ [])));
           all = λ l. refl;
         };
-        same = begun;
+        has = subst (λ Xs. HasTried Xs new) (sym begun) n.has;
       }
 
 -- nothing is tried of no sources
-pub at_first : (facts : FactList) (width : ℕ) → IsSearch facts width [] [] []
-at_first facts width = record {
+pub at_first : (facts : FactList) (width : ℕ) (tried : Tried) → HasTried [] tried → IsSearch facts width [] tried []
+at_first facts width tried h = record {
   keeps = record { tried = []; untried = []; closings = tt; order = refl; kept = refl; few = omega arith; all = λ l. refl };
-  same = refl;
+  has = h;
 }

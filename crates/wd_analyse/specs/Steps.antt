@@ -1,5 +1,6 @@
 -- What the parts of the analysis add to what is found so far.
-use Rattle.std.specs.Prelude.{◌≡◌, ℕ, ◌≤◌, Bool, true, false, List, [], ◌∷◌, ◌++◌, filter, length, map}
+use Rattle.std.specs.Prelude.{◌≡◌, ℕ, ◌≤◌, Bool, true, false, not, ◌&&◌, List, [], ◌∷◌, ◌++◌, filter, length, map, nat_lt, vec_items, if◌then◌else◌}
+use Rattle.std.specs.List.{list_all}
 use Rattle.wd_schema.specs.Tables.{TableRule}
 use Rattle.wd_plan.specs.Fits.{width}
 use Rattle.wd_plan.specs.Plans.{PlanTree, Scan, Join, Filter, Map, Window, Distinct, Limit}
@@ -13,7 +14,8 @@ use Rattle.wd_analyse.specs.declared.nodes.Found.{Found}
 use Rattle.wd_close.specs.Closure.{are_named, is_split_within}
 use Rattle.wd_analyse.specs.Evidence.{Closing, IsClosing}
 use Rattle.wd_analyse.specs.Findings.{AreFindings, Finding, IsFinding, IsSaid, entries_in, facts_kept, marks_in, reasons_in}
-use Rattle.wd_analyse.specs.Sources.{Keeps, gives_some, starts}
+use Rattle.wd_analyse.specs.declared.tried.Tried.{Tried}
+use Rattle.wd_analyse.specs.Sources.{Keeps, gives_some, is_tried, starts}
 
 -- ---- the search for what a node keeps
 
@@ -30,13 +32,31 @@ pub record Adds (facts : FactList) (width : ℕ) (X : List ℕ) (old new : List 
   pub from : closing.from ≡ X
   pub more : new ≡ old ++ filter (gives_some width) (closing ∷ [])
 
+-- each number is below those behind it
+abbrev pub rises : List ℕ → Bool
+rises [] = true
+rises (c ∷ X) = list_all (nat_lt c) X && rises X
+
+abbrev pub lists_in : Tried → List (List ℕ)
+lists_in tried = map vec_items tried.lists.keys
+
+-- by what stands there, of any columns, these were tried
+pub record HasTried (Xs : List (List ℕ)) (tried : Tried) : Type 0 where
+  pub rising : list_all rises (lists_in tried) ≡ true
+  pub same : (X : List ℕ) → is_tried (lists_in tried) X ≡ is_tried Xs X
+
+-- columns are tried behind others, where they are fresh
+pub record IsNextTried (Xs : List (List ℕ)) (X : List ℕ) (fresh : Bool) (new : Tried) : Type 0 where
+  pub test : fresh ≡ not (is_tried Xs X)
+  pub has : HasTried (if fresh then Xs ++ X ∷ [] else Xs) new
+
 -- what was tried and is kept of the sources so far
-pub record IsSearch (facts : FactList) (width : ℕ) (sources tried : List (List ℕ)) (claims : List Closing) : Type 0 where
+pub record IsSearch (facts : FactList) (width : ℕ) (sources : List (List ℕ)) (tried : Tried) (claims : List Closing) : Type 0 where
   pub keeps : Keeps facts width sources claims
-  pub same : starts keeps.tried ≡ tried
+  pub has : HasTried (starts keeps.tried) tried
 
 -- one source more is tried
-abbrev pub Tries : FactList → ℕ → List ℕ → List (List ℕ) → List Closing → List (List ℕ) → List Closing → Type 0
+abbrev pub Tries : FactList → ℕ → List ℕ → Tried → List Closing → Tried → List Closing → Type 0
 Tries facts width X tried claims new_tried new_claims = (before : List (List ℕ)) → IsSearch facts width before tried claims → IsSearch facts width (before ++ X ∷ []) new_tried new_claims
 
 -- ---- what is said at a node

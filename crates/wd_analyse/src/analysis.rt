@@ -1,7 +1,10 @@
 //! What the analysis of a plan answers.
 
+ghost use Rattle.std.specs.Prelude.{◌≡◌};
+ghost use Rattle.wd_analyse.specs.Findings.{name_of};
+
 use crate::decided::Lack;
-use wd_certificate::Certificate;
+use wd_certificate::{Certificate, Rule};
 
 /// Why a call or a limit is open.
 #[derive(Clone, Copy, PartialEq, Eq, Debug)]
@@ -23,6 +26,20 @@ pub enum RuleName {
     Whole,
     Ties,
     Keys,
+}
+
+impl RuleName {
+    /// The name of a call's rule.
+    pub fn of(rule: Rule) -> RuleName
+        ensures { result ≡ name_of rule }
+    {
+        match rule {
+            Rule::Peers => RuleName::Peers,
+            Rule::Unique(_) => RuleName::Unique,
+            Rule::Values(_) => RuleName::Values,
+            Rule::Exchange(_) => RuleName::Exchange,
+        }
+    }
 }
 
 /// The rule that justifies a call or a limit.

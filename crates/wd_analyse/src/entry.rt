@@ -102,17 +102,6 @@ fn close_classes(
     Ok(list)
 }
 
-fn rule_name(rule: Rule) -> RuleName
-    ensures { result ≡ spec.name_of rule }
-{
-    match rule {
-        Rule::Peers => RuleName::Peers,
-        Rule::Unique(_) => RuleName::Unique,
-        Rule::Values(_) => RuleName::Values,
-        Rule::Exchange(_) => RuleName::Exchange,
-    }
-}
-
 /// Says what is decided of a call.
 fn say_call(
     decided: Decided,
@@ -126,7 +115,7 @@ fn say_call(
     let call = Some(call);
     match decided {
         Decided::By(rule) => {
-            let rule = rule_name(rule);
+            let rule = RuleName::of(rule);
             findings.marks.push(Mark { node, call, rule })?;
         }
         Decided::Open(lack) => findings.reasons.push(Reason { node, call, lack })?,

@@ -15,18 +15,6 @@ use wd_facts::{Given, Member};
 use wd_sets::Set;
 use wd_value::OutOfMemory;
 
-/// Whether a column is among some.
-pub(crate) fn is_among(columns: &[u16], column: u16) -> bool
-    ensures { result ≡ is_in columns.now column }
-{
-    for other in columns {
-        if column == *other {
-            return true;
-        }
-    }
-    false
-}
-
 /// Some columns as a set.
 #[tactic(auto, using(crate::proofs::New::in_or_left))]
 fn column_set(alloc: Global, columns: &[u16]) -> Result<Set, OutOfMemory>

@@ -10,6 +10,7 @@ pub mod laws;
 mod nodes;
 mod search;
 mod sources;
+mod tried;
 
 pub use analysis::{Analysis, Mark, Reason, RuleName};
 pub use decided::Lack;

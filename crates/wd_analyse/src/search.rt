@@ -1,16 +1,15 @@
 //! What of the columns that are tried at a node is kept.
 
-ghost use Rattle.std.specs.Prelude.{◌≡◌, ◌++◌, [], ◌∷◌, true, map, vec_items, IfOk};
-ghost use Rattle.std.specs.List.{AllByRecursion, list_all};
+ghost use Rattle.std.specs.Prelude.{map, vec_items, IfOk};
+ghost use Rattle.std.specs.List.{AllByRecursion};
 ghost use Rattle.wd_plan.specs.Fits.{AreBelow};
-ghost use Rattle.wd_sets.specs.Sets.{is_in};
 ghost use Rattle.wd_analyse.specs.Evidence.{closing_of};
 ghost use Rattle.wd_analyse.specs.Sources.{Keeps};
-ghost use Rattle.wd_analyse.specs.Sources as spec;
 ghost use Rattle.wd_analyse.specs.Steps.{Adds, Admits, Tries};
 
 use crate::closed::{Closed, close};
-use crate::kept::{is_among, kept_members};
+use crate::kept::kept_members;
+use crate::tried::Tried;
 use std::alloc::Global;
 use wd_close::Prepared;
 use wd_value::OutOfMemory;
@@ -21,38 +20,8 @@ const MOST_KEPT: usize = 64;
 /// What was tried at a node, and what of it is kept.
 #[derive(Drop)]
 struct Search {
-    tried: Vec<Vec<u16>>,
+    tried: Tried,
     claims: Vec<Closed>,
-}
-
-/// Whether each of some columns is among others.
-fn are_among(columns: &[u16], others: &[u16]) -> bool
-    ensures { result ≡ list_all (is_in others.now) columns.now }
-{
-    for column in columns {
-        if !is_among(others, *column) {
-            return false;
-        }
-    }
-    true
-}
-
-fn same_columns(columns: &[u16], others: &[u16]) -> bool
-    ensures { result ≡ spec.same_columns columns.now others.now }
-{
-    are_among(columns, others) && are_among(others, columns)
-}
-
-/// Whether the same columns were tried.
-fn is_tried(tried: &[Vec<u16>], columns: &[u16]) -> bool
-    ensures { result ≡ spec.is_tried (map (λ v. v.items) tried.now) columns.now }
-{
-    for other in tried {
-        if same_columns(columns, other) {
-            return true;
-        }
-    }
-    false
 }
 
 /// Keeps what columns give, if they give anything.
@@ -85,11 +54,9 @@ fn try_columns(
 ) -> Result<(), OutOfMemory>
     requires admits { Admits facts.now width }
     requires low { AreBelow width from.now }
-    ensures { IfOk result (λ _. Tries facts.now width from.now (map vec_items search.old.tried.items) (map closing_of search.old.claims.items) (map vec_items search.new.tried.items) (map closing_of search.new.claims.items)) }
+    ensures { IfOk result (λ _. Tries facts.now width from.now search.old.tried (map closing_of search.old.claims.items) search.new.tried (map closing_of search.new.claims.items)) }
 {
-    if search.claims.len() < MOST_KEPT && !is_tried(&search.tried, from) {
-        let copy = Vec::from_slice(alloc, from)?;
-        search.tried.push(copy)?;
+    if search.claims.len() < MOST_KEPT && search.tried.insert(alloc, from)? {
         add_claim(alloc, facts, width, from, &mut search.claims)?;
     }
     Ok(())
@@ -107,7 +74,7 @@ pub(crate) fn claims_of(
     ensures { IfOk result (λ v. Keeps facts.now width (map vec_items sources.now) (map closing_of v.items)) }
 {
     let mut search = Search {
-        tried: Vec::new(alloc),
+        tried: Tried::new(alloc),
         claims: Vec::new(alloc),
     };
     for source in sources {

@@ -1,5 +1,5 @@
 //! Which call each word of a line asks for.
-use crate::{facts, refusal, sets, text, verdict};
+use crate::{closures, facts, refusal, sets, text, verdict};
 use std::alloc::Global;
 use wd_cases::{Cases, Failure, SchemaText, unescaped};
 
@@ -38,6 +38,7 @@ impl Cases for Certificates {
             "verdict" => verdict::verdict(alloc, self, text),
             "given" => facts::given_at(alloc, self, text),
             "set" => sets::set(alloc, text),
+            "closure" => closures::closed(alloc, text),
             "refusal" => refusal::refusal(alloc, text),
             "laws" => refusal::laws(alloc),
             _ => Err(Failure::NoCase),

@@ -6,7 +6,7 @@
 use std::alloc::Global;
 use wd_cases::{Failure, is_nothing};
 use wd_certificate::{Certificate, Kept, Node, Rule, Target, Trace};
-use wd_facts::{Given, Member};
+use wd_facts::{Facts, Given, Member};
 
 pub fn certificate_of(alloc: Global, text: &str) -> Result<Certificate, Failure> {
     let mut nodes = Vec::new(alloc);
@@ -91,6 +91,35 @@ fn target_of(word: &str) -> Result<Target, Failure> {
         "row" => Ok(Target::Row),
         _ => Ok(Target::Column(word.parse()?)),
     }
+}
+
+/// Columns parted by `,`, or none.
+pub fn columns_of(alloc: Global, text: &str) -> Result<Vec<u16>, Failure> {
+    let mut columns = Vec::new(alloc);
+    for word in text.split(',') {
+        if !is_nothing(word) {
+            columns.push(word.trim().parse::<u16>()?)?;
+        }
+    }
+    Ok(columns)
+}
+
+/// The facts behind the number of columns, which at a Join stands before `/` and the number of those of the left side.
+pub fn facts_over(alloc: Global, text: &str) -> Result<Facts, Failure> {
+    let (columns, list) = text.split_once(' ').unwrap_or((text, ""));
+    let (columns, left) = columns.split_once('/').unwrap_or((columns, ""));
+    let columns = columns.parse()?;
+    let split = if is_nothing(left) {
+        None
+    } else {
+        Some(left.parse()?)
+    };
+    let list = facts_of(alloc, list)?;
+    Ok(Facts {
+        columns,
+        split,
+        list,
+    })
 }
 
 /// Facts parted by `;`.

@@ -38,6 +38,7 @@ pub fn laws(alloc: Global) -> Result<String, Failure> {
     wd_certificate::laws::example_text();
     wd_facts::laws::known_holds();
     wd_facts::laws::given_facts_hold();
+    wd_close::laws::closures_come_out();
     wd_rules::laws::valid_shows();
     wd_rules::laws::valid_has_one();
     wd_rules::laws::never_both();

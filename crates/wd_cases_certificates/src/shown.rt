@@ -57,7 +57,7 @@ fn push_fact(out: &mut String, fact: &Given) -> Result<(), Failure> {
     push_members(out, &fact.to)
 }
 
-fn push_members(out: &mut String, members: &[Member]) -> Result<(), Failure> {
+pub fn push_members(out: &mut String, members: &[Member]) -> Result<(), Failure> {
     for (place, member) in members.iter().enumerate() {
         out.push_str(if place == 0 { "" } else { "," })?;
         push_member(out, *member)?;

@@ -11,7 +11,7 @@ ghost use Rattle.wd_report.specs.Plans as spec;
 use crate::marks::MarkedRules;
 use std::alloc::Global;
 use wd_analyse::{Analysis, RuleName};
-use wd_certificate::{Certificate, Rule};
+use wd_certificate::Certificate;
 use wd_plan::Limit;
 use wd_value::OutOfMemory;
 
@@ -72,7 +72,7 @@ fn certified_call(certificate: &Certificate, node: u64, call: u32) -> Option<Rul
 {
     let entry = certificate.nodes.get(node as usize)?;
     let rule = entry.calls.get(call as usize)?;
-    Some(rule_name(*rule))
+    Some(RuleName::of(*rule))
 }
 
 /// The trace that a certificate has of a node's limit.
@@ -80,18 +80,6 @@ fn certified_limit(certificate: &Certificate, node: u64) -> Option<u64>
     ensures { result ≡ (entry_at (nodes_of certificate.now) node).limit }
 {
     certificate.nodes.get(node as usize)?.limit
-}
-
-/// The name of a call's rule.
-fn rule_name(rule: Rule) -> RuleName
-    ensures { result ≡ name_of rule }
-{
-    match rule {
-        Rule::Peers => RuleName::Peers,
-        Rule::Unique(_) => RuleName::Unique,
-        Rule::Values(_) => RuleName::Values,
-        Rule::Exchange(_) => RuleName::Exchange,
-    }
 }
 
 /// The name of a limit's rule, by its trace.

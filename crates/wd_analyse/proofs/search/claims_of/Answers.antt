@@ -10,7 +10,7 @@ use Rattle.wd_analyse.proofs.search.claims_of.Goals as goal
 
 pub loop-source-init : goal.loop-source-init
 loop-source-init c = record {
-  search = rw (c.new.ensures.items, c.new-2.ensures.items) (at_first c.args.facts.now c.args.width);
+  search = rw c.new-2.ensures.items (at_first c.args.facts.now c.args.width c.new.result c.new.ensures);
   low = c.requires.low;
 }
 
@@ -27,7 +27,7 @@ loop-source-preserved c =
     let split : drop at sources ≡ get_or sources at item ∷ drop (at + 1) sources = drop-cons sources at item c.loop-source-test.true ∙ ap (λ n. get_or sources at item ∷ drop n sources) (sym next) in
     let low : AllByRecursion (AreBelow c.args.width) (map vec_items (get_or sources at item ∷ drop (at + 1) sources)) = subst (λ l. AllByRecursion (AreBelow c.args.width) (map vec_items l)) split c.loop-source.invariant.low in
     record {
-      search = subst (λ l. IsSearch c.args.facts.now c.args.width l (map vec_items c.try_columns.new.search.tried.items) (map closing_of c.try_columns.new.search.claims.items)) (sym grown)
+      search = subst (λ l. IsSearch c.args.facts.now c.args.width l c.try_columns.new.search.tried (map closing_of c.try_columns.new.search.claims.items)) (sym grown)
           (c.in_ok-try_columns.ensures (map vec_items (take at sources)) c.loop-source.invariant.search);
       low = low.1;
     }

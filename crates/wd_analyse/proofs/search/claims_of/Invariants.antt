@@ -7,6 +7,6 @@ use Rattle.wd_analyse.proofs.search.claims_of.Given as goal
 
 abbrev pub invariant-loop-source : goal.invariant-loop-source
 invariant-loop-source l = record {
-  search : IsSearch l.facts l.width (map vec_items (take l.source-index l.sources)) (map vec_items l.search.tried.items) (map closing_of l.search.claims.items);
+  search : IsSearch l.facts l.width (map vec_items (take l.source-index l.sources)) l.search.tried (map closing_of l.search.claims.items);
   low : AllByRecursion (AreBelow l.width) (map vec_items (drop l.source-index l.sources));
 }

@@ -1,0 +1,39 @@
+//! What is found of a query's plan.
+use crate::shown::push_analysis;
+use crate::verdict::failure_of;
+use std::alloc::Global;
+use wd_analyse::{Analysis, analyse};
+use wd_cases::Failure;
+use wd_decide::{Examined, examine};
+use wd_query::read_texts;
+
+fn analysis_of(alloc: Global, schema: &[u8], query: &[u8]) -> Result<Analysis, Failure> {
+    match read_texts(alloc, schema, query) {
+        Ok(planned) => Ok(analyse(alloc, &planned.resolved.plan, &planned.schema)?),
+        Err(error) => Err(Failure::refused(error.number(), error.place())),
+    }
+}
+
+/// `analyse QUERY`: what each node of the plan keeps and the rules of its calls and limit, or why some have none.
+pub fn analysed(alloc: Global, schema: &[u8], query: &[u8]) -> Result<String, Failure> {
+    let analysis = analysis_of(alloc, schema, query)?;
+    let mut out = String::new(alloc);
+    push_analysis(&mut out, &analysis)?;
+    Ok(out)
+}
+
+/// `examine QUERY`: the number of the plan's nodes and of its columns, and the same.
+pub fn examined(alloc: Global, schema: &[u8], query: &[u8]) -> Result<String, Failure> {
+    match examine(alloc, schema, query) {
+        Ok(examined) => shown(alloc, &examined),
+        Err(error) => Err(failure_of(&error)),
+    }
+}
+
+fn shown(alloc: Global, examined: &Examined) -> Result<String, Failure> {
+    let plan = &examined.planned.resolved.plan;
+    let (nodes, columns) = (plan.nodes(), plan.width());
+    let mut out = format!(in alloc; "nodes: {nodes}, columns: {columns}, ")?;
+    push_analysis(&mut out, &examined.analysis)?;
+    Ok(out)
+}
