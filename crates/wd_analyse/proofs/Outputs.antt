@@ -7,8 +7,9 @@ use Rattle.wd_plan.specs.Fits.{AreBelow}
 use Rattle.wd_facts.specs.declared.facts.Member.{Member}
 use Rattle.wd_facts.specs.declared.facts.Member.TheVariants.{Column, Left, Right, Row}
 use Rattle.wd_facts.specs.Facts.{Fact, is_column, is_plain, is_plain_fact}
-use Rattle.wd_facts.specs.Given.{both_copied, copy_from, is_side, side_of}
-use Rattle.wd_analyse.specs.Sources.{columns_in, output_of, outputs_of}
+use Rattle.wd_facts.specs.Given.{both_copied, copy_from, if_copied, is_side, side_of}
+use Rattle.wd_analyse.specs.Sources.{columns_in, left_sides, output_of, outputs_of}
+use Rattle.wd_analyse.specs.Steps.{left_sides_by, output_by, outputs_by}
 
 -- some columns, behind those of the front
 abbrev pub behind : List ℕ → Option (List ℕ) → Option (List ℕ)
@@ -18,11 +19,25 @@ behind_both : (front : List ℕ) (d : ℕ) (rest : Option (List ℕ)) → behind
 behind_both front d None = refl
 behind_both front d (Some Y) = ap Some (append_assoc front (d ∷ []) Y)
 
-pub outputs_next : (outputs : List Expression) (width : ℕ) (front X : List ℕ) (c d : ℕ) → output_of outputs width c ≡ Some d → behind (front ++ (d ∷ [])) (outputs_of outputs width X) ≡ behind front (outputs_of outputs width (c ∷ X))
-outputs_next outputs width front X c d e = behind_both front d (outputs_of outputs width X) ∙ ap (λ o. behind front (both_copied o (outputs_of outputs width X))) (sym e)
+module _ (copy : ℕ → Option ℕ) (width : ℕ) (front X : List ℕ) (c : ℕ) where
+  pub outputs_next : (d : ℕ) → output_by copy width c ≡ Some d → behind (front ++ (d ∷ [])) (outputs_by copy width X) ≡ behind front (outputs_by copy width (c ∷ X))
+  outputs_next d e = behind_both front d (outputs_by copy width X) ∙ ap (λ o. behind front (both_copied o (outputs_by copy width X))) (sym e)
 
-pub outputs_stop : (outputs : List Expression) (width : ℕ) (front X : List ℕ) (c : ℕ) → output_of outputs width c ≡ None → None ≡ behind front (outputs_of outputs width (c ∷ X))
-outputs_stop outputs width front X c e = ap (λ o. behind front (both_copied o (outputs_of outputs width X))) (sym e)
+  pub outputs_stop : output_by copy width c ≡ None → None ≡ behind front (outputs_by copy width (c ∷ X))
+  outputs_stop e = ap (λ o. behind front (both_copied o (outputs_by copy width X))) (sym e)
+
+-- ---- by the copies among a Map's outputs
+
+outputs_same : (outputs : List Expression) (width : ℕ) (X : List ℕ) → outputs_by (copy_from 0 outputs) width X ≡ outputs_of outputs width X
+outputs_same outputs width [] = refl
+outputs_same outputs width (c ∷ X) = ap (both_copied (output_of outputs width c)) (outputs_same outputs width X)
+
+sides_same : (outputs : List Expression) (width : ℕ) (facts : List Fact) → left_sides_by (copy_from 0 outputs) width facts ≡ left_sides outputs width facts
+sides_same outputs width [] = refl
+sides_same outputs width (fact ∷ facts) = λ i. if_copied (outputs_same outputs width (columns_in fact.from) i) (sides_same outputs width facts i)
+
+pub left_sides_same : (copy : ℕ → Option ℕ) (outputs : List Expression) (width : ℕ) (facts : List Fact) → ((c : ℕ) → copy c ≡ copy_from 0 outputs c) → left_sides_by copy width facts ≡ left_sides outputs width facts
+left_sides_same copy outputs width facts e = ap (λ f. left_sides_by f width facts) (λ i c. e c i) ∙ sides_same outputs width facts
 
 -- ---- they are the node's own
 

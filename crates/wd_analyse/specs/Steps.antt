@@ -1,11 +1,13 @@
 -- What the parts of the analysis add to what is found so far.
-use Rattle.std.specs.Prelude.{◌≡◌, ℕ, ◌≤◌, Bool, true, false, not, ◌&&◌, List, [], ◌∷◌, ◌++◌, filter, length, map, nat_lt, vec_items, if◌then◌else◌}
+use Rattle.std.specs.Prelude.{◌≡◌, ℕ, ◌-◌, ◌≤◌, Bool, true, false, not, ◌&&◌, List, [], ◌∷◌, ◌++◌, filter, length, map, nat_eq, nat_lt, vec_items, Option, Some, if◌then◌else◌}
+use Rattle.std.specs.HashMap as maps
 use Rattle.std.specs.List.{list_all}
 use Rattle.wd_schema.specs.Tables.{TableRule}
 use Rattle.wd_plan.specs.Fits.{width}
 use Rattle.wd_plan.specs.Plans.{PlanTree, Scan, Join, Filter, Map, Window, Distinct, Limit}
 use Rattle.wd_certificate.specs.Certificates.{NodeRecord, node_of}
 use Rattle.wd_facts.specs.Facts.{Fact, FactList}
+use Rattle.wd_facts.specs.Given.{both_copied, if_copied}
 use Rattle.wd_facts.specs.Laws.{ArePlain}
 use Rattle.wd_analyse.specs.declared.analysis.Mark.{Mark}
 use Rattle.wd_analyse.specs.declared.analysis.Reason.{Reason}
@@ -14,8 +16,28 @@ use Rattle.wd_analyse.specs.declared.nodes.Found.{Found}
 use Rattle.wd_close.specs.Closure.{are_named, is_split_within}
 use Rattle.wd_analyse.specs.Evidence.{Closing, IsClosing}
 use Rattle.wd_analyse.specs.Findings.{AreFindings, Finding, IsFinding, IsSaid, entries_in, facts_kept, marks_in, reasons_in}
+use Rattle.wd_analyse.specs.declared.copies.Copies.{Copies}
 use Rattle.wd_analyse.specs.declared.tried.Tried.{Tried}
-use Rattle.wd_analyse.specs.Sources.{Keeps, gives_some, is_tried, starts}
+use Rattle.wd_analyse.specs.Sources.{Keeps, columns_in, gives_some, is_tried, starts}
+
+-- ---- the sources of a Map
+
+-- the lowest output that copies a column, as an index has it
+abbrev pub copy_in : Copies → ℕ → Option ℕ
+copy_in copies c = maps.get nat_eq copies.lowest c
+
+-- as `Sources` has them of a Map's outputs, of whatever tells the output that copies a column
+
+abbrev pub output_by : (ℕ → Option ℕ) → ℕ → ℕ → Option ℕ
+output_by copy width c = if nat_lt c width then Some c else copy (c - width)
+
+abbrev pub outputs_by : (ℕ → Option ℕ) → ℕ → List ℕ → Option (List ℕ)
+outputs_by copy width [] = Some []
+outputs_by copy width (c ∷ X) = both_copied (output_by copy width c) (outputs_by copy width X)
+
+abbrev pub left_sides_by : (ℕ → Option ℕ) → ℕ → List Fact → List (List ℕ)
+left_sides_by copy width [] = []
+left_sides_by copy width (fact ∷ facts) = if_copied (outputs_by copy width (columns_in fact.from)) (left_sides_by copy width facts)
 
 -- ---- the search for what a node keeps
 
@@ -40,12 +62,12 @@ rises (c ∷ X) = list_all (nat_lt c) X && rises X
 abbrev pub lists_in : Tried → List (List ℕ)
 lists_in tried = map vec_items tried.lists.keys
 
--- by what stands there, of any columns, these were tried
+-- an index tells of any columns whether they were tried; each list in it rises
 pub record HasTried (Xs : List (List ℕ)) (tried : Tried) : Type 0 where
   pub rising : list_all rises (lists_in tried) ≡ true
   pub same : (X : List ℕ) → is_tried (lists_in tried) X ≡ is_tried Xs X
 
--- columns are tried behind others, where they are fresh
+-- columns are noted behind those that were tried, where they are fresh
 pub record IsNextTried (Xs : List (List ℕ)) (X : List ℕ) (fresh : Bool) (new : Tried) : Type 0 where
   pub test : fresh ≡ not (is_tried Xs X)
   pub has : HasTried (if fresh then Xs ++ X ∷ [] else Xs) new

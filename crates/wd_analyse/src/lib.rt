@@ -3,6 +3,7 @@
 
 mod analysis;
 mod closed;
+mod copies;
 mod decided;
 mod entry;
 mod kept;

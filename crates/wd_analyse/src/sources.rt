@@ -1,16 +1,17 @@
 //! The columns that are tried at a node.
 
-ghost use Rattle.std.specs.Prelude.{◌≡◌, ◌+◌, ◌-◌, ◌++◌, ◌<◌, [], ◌∷◌, true, length, map, nat_lt, option_map, vec_items, IfOk};
+ghost use Rattle.std.specs.Prelude.{◌≡◌, ◌+◌, ◌-◌, ◌++◌, ◌<◌, [], ◌∷◌, true, map, nat_lt, option_map, vec_items, IfOk};
 ghost use Rattle.std.specs.List.{list_all};
 ghost use Rattle.wd_plan.specs.Expressions.{expression_of};
 ghost use Rattle.wd_plan.specs.Fits as fitting;
 ghost use Rattle.wd_plan.specs.Plans.{plan_of};
 ghost use Rattle.wd_schema.specs.Schemas.{schema_of};
 ghost use Rattle.wd_facts.specs.Facts.{fact_of, is_plain_fact, kept_by};
-ghost use Rattle.wd_facts.specs.Given.{copy_from, is_side, side_of};
 ghost use Rattle.wd_facts.specs.Laws.{AreOfChildren};
 ghost use Rattle.wd_analyse.specs.Sources as spec;
+ghost use Rattle.wd_analyse.specs.Steps.{copy_in, left_sides_by, output_by, outputs_by};
 
+use crate::copies::Copies;
 use std::alloc::Global;
 use wd_facts::{Facts, Given, Member};
 use wd_plan::{Expr, Plan};
@@ -30,38 +31,14 @@ fn columns_in(alloc: Global, members: &[Member]) -> Result<Vec<u16>, OutOfMemory
     Ok(list)
 }
 
-/// Whether an expression is this column.
-fn is_column(expression: &Expr, column: u16) -> bool
-    ensures { result ≡ is_side column (side_of (expression_of expression.now)) }
-{
-    match expression {
-        Expr::Column(c) => column == *c,
-        _ => false,
-    }
-}
-
-/// The lowest of the outputs that copies a column.
-fn copy_of(outputs: &[Expr], column: u16) -> Option<u16>
-    requires { length outputs.now < 65536 }
-    ensures { result ≡ copy_from 0 (map expression_of outputs.now) column }
-{
-    for number in 0..outputs.len() {
-        if is_column(&outputs[number], column) {
-            return Some(number as u16);
-        }
-    }
-    None
-}
-
 /// A column as one of the first so many: by itself, or by the lowest output that copies it.
-fn output_of(outputs: &[Expr], width: u16, column: u16) -> Option<u16>
-    requires { length outputs.now < 65536 }
-    ensures { result ≡ spec.output_of (map expression_of outputs.now) width column }
+fn output_of(copies: &Copies, width: u16, column: u16) -> Option<u16>
+    ensures { result ≡ output_by (copy_in copies.now) width column }
 {
     if column < width {
         Some(column)
     } else {
-        copy_of(outputs, column - width)
+        copies.get(column - width)
     }
 }
 
@@ -69,16 +46,15 @@ fn output_of(outputs: &[Expr], width: u16, column: u16) -> Option<u16>
 #[tactic(auto, using(crate::proofs::Outputs::outputs_next, crate::proofs::Outputs::outputs_stop))]
 fn outputs_of(
     alloc: Global,
-    outputs: &[Expr],
+    copies: &Copies,
     width: u16,
     columns: &[u16],
 ) -> Result<Option<Vec<u16>>, OutOfMemory>
-    requires { length outputs.now < 65536 }
-    ensures { IfOk result (λ o. option_map (λ k. k.items) o ≡ spec.outputs_of (map expression_of outputs.now) width columns.now) }
+    ensures { IfOk result (λ o. option_map (λ k. k.items) o ≡ outputs_by (copy_in copies.now) width columns.now) }
 {
     let mut list = Vec::with_capacity(alloc, columns.len())?;
     for column in columns {
-        match output_of(outputs, width, *column) {
+        match output_of(copies, width, *column) {
             Some(number) => list.push(number)?,
             None => return Ok(None),
         }
@@ -89,16 +65,15 @@ fn outputs_of(
 /// Appends the left side of a given fact by the node's own columns, if it has them.
 fn add_left_side(
     alloc: Global,
-    outputs: &[Expr],
+    copies: &Copies,
     width: u16,
     fact: &Given,
     list: &mut Vec<Vec<u16>>,
 ) -> Result<(), OutOfMemory>
-    requires { length outputs.now < 65536 }
-    ensures { IfOk result (λ _. map vec_items list.new.items ≡ map vec_items list.old.items ++ spec.left_sides (map expression_of outputs.now) width (fact_of fact.now ∷ [])) }
+    ensures { IfOk result (λ _. map vec_items list.new.items ≡ map vec_items list.old.items ++ left_sides_by (copy_in copies.now) width (fact_of fact.now ∷ [])) }
 {
     let columns = columns_in(alloc, &fact.from)?;
-    if let Some(from) = outputs_of(alloc, outputs, width, &columns)? {
+    if let Some(from) = outputs_of(alloc, copies, width, &columns)? {
         list.push(from)?;
     }
     Ok(())
@@ -107,16 +82,15 @@ fn add_left_side(
 /// Appends the left side of each given fact.
 fn add_left_sides(
     alloc: Global,
-    outputs: &[Expr],
+    copies: &Copies,
     width: u16,
     facts: &[Given],
     list: &mut Vec<Vec<u16>>,
 ) -> Result<(), OutOfMemory>
-    requires { length outputs.now < 65536 }
-    ensures { IfOk result (λ _. map vec_items list.new.items ≡ map vec_items list.old.items ++ spec.left_sides (map expression_of outputs.now) width (map fact_of facts.now)) }
+    ensures { IfOk result (λ _. map vec_items list.new.items ≡ map vec_items list.old.items ++ left_sides_by (copy_in copies.now) width (map fact_of facts.now)) }
 {
     for fact in facts {
-        add_left_side(alloc, outputs, width, fact, list)?;
+        add_left_side(alloc, copies, width, fact, list)?;
     }
     Ok(())
 }
@@ -249,7 +223,8 @@ pub(crate) fn sources_of(
     ensures { IfOk result (λ v. map vec_items v.items ≡ spec.sources (plan_of plan.now) (map fact_of facts.now.list.items) (kept_by kept.now 0) (kept_by kept.now 1)) }
 {
     let mut list = Vec::new(alloc);
-    add_left_sides(alloc, outputs(plan), width(plan), &facts.list, &mut list)?;
+    let copies = Copies::new(alloc, outputs(plan))?;
+    add_left_sides(alloc, &copies, width(plan), &facts.list, &mut list)?;
     list.push(Vec::new(alloc))?;
     add_unions_at(alloc, plan, schema, kept, &mut list)?;
     Ok(list)

@@ -9,7 +9,7 @@ use indexmap::IndexSet;
 use std::alloc::Global;
 use wd_value::OutOfMemory;
 
-/// The columns that were tried, each time in ascending order, each column once.
+/// An index of the columns that were tried: each list in ascending order, each column once.
 #[derive(Drop)]
 pub(crate) struct Tried {
     lists: IndexSet<Vec<u16>>,
