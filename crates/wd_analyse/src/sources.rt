@@ -1,6 +1,6 @@
 //! The columns that are tried at a node.
 
-ghost use Rattle.std.specs.Prelude.{◌≡◌, ◌+◌, ◌-◌, ◌++◌, ◌<◌, [], ◌∷◌, true, map, nat_lt, option_map, vec_items, IfOk};
+ghost use Rattle.std.specs.Prelude.{◌≡◌, ◌+◌, ◌-◌, ◌++◌, ◌<◌, [], ◌∷◌, true, length, map, nat_lt, option_map, vec_items, IfOk};
 ghost use Rattle.std.specs.List.{list_all};
 ghost use Rattle.wd_plan.specs.Expressions.{expression_of};
 ghost use Rattle.wd_plan.specs.Fits as fitting;
@@ -79,8 +79,8 @@ fn add_left_side(
     Ok(())
 }
 
-/// Appends the left side of each given fact.
-fn add_left_sides(
+/// Appends the left side of each given fact, where these copies tell the node's own columns.
+fn add_left_sides_by(
     alloc: Global,
     copies: &Copies,
     width: u16,
@@ -93,6 +93,21 @@ fn add_left_sides(
         add_left_side(alloc, copies, width, fact, list)?;
     }
     Ok(())
+}
+
+/// Appends the left side of each given fact by the columns of a node with these outputs.
+fn add_left_sides(
+    alloc: Global,
+    outputs: &[Expr],
+    width: u16,
+    facts: &[Given],
+    list: &mut Vec<Vec<u16>>,
+) -> Result<(), OutOfMemory>
+    requires { length outputs.now < 65536 }
+    ensures { IfOk result (λ _. map vec_items list.new.items ≡ map vec_items list.old.items ++ spec.left_sides (map expression_of outputs.now) width (map fact_of facts.now)) }
+{
+    let copies = Copies::new(alloc, outputs)?;
+    add_left_sides_by(alloc, &copies, width, facts, list)
 }
 
 /// One list of columns behind another, whose columns are renumbered.
@@ -223,8 +238,7 @@ pub(crate) fn sources_of(
     ensures { IfOk result (λ v. map vec_items v.items ≡ spec.sources (plan_of plan.now) (map fact_of facts.now.list.items) (kept_by kept.now 0) (kept_by kept.now 1)) }
 {
     let mut list = Vec::new(alloc);
-    let copies = Copies::new(alloc, outputs(plan))?;
-    add_left_sides(alloc, &copies, width(plan), &facts.list, &mut list)?;
+    add_left_sides(alloc, outputs(plan), width(plan), &facts.list, &mut list)?;
     list.push(Vec::new(alloc))?;
     add_unions_at(alloc, plan, schema, kept, &mut list)?;
     Ok(list)

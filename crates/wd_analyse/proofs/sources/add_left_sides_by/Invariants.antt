@@ -1,7 +1,7 @@
 use Rattle.std.proofs.Common.{◌≡◌, ◌++◌, drop, map, vec_items}
 use Rattle.wd_facts.specs.Facts.{fact_of}
 use Rattle.wd_analyse.specs.Steps.{copy_in, left_sides_by}
-use Rattle.wd_analyse.proofs.sources.add_left_sides.Given as goal
+use Rattle.wd_analyse.proofs.sources.add_left_sides_by.Given as goal
 
 abbrev pub invariant-loop-fact : goal.invariant-loop-fact
 invariant-loop-fact l =
