@@ -19,10 +19,10 @@ valid_of tables plan (Open reasons marks) certificate answer is = absurd is
 
 pub sound : NotBoth → ReportedAreSound
 sound not_both schema query certificate (read, reads, found) = record {
-    valid = (read, reads, well);
-    accepted = λ text spells. (read, reads, (nodes_of certificate, spells, well));
-    unrefused = λ text spells refusal numbered cause. not_both schema query text refusal (read, reads, (nodes_of certificate, spells, well)) numbered cause;
-  }
+  valid = (read, reads, well);
+  accepted = λ text spells. (read, reads, (nodes_of certificate, spells, well));
+  unrefused = λ text spells refusal numbered cause. not_both schema query text refusal (read, reads, (nodes_of certificate, spells, well)) numbered cause;
+}
   where
     well : IsValidCertificate reads.tables read.plan (nodes_of certificate)
     well = valid_of reads.tables read.plan found.0 certificate found.1 found.2
