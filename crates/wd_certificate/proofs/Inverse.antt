@@ -1,10 +1,10 @@
 -- A JSON value spells one certificate.
-use Rattle.std.proofs.Common.{◌≡◌, ℕ, List, [], ◌∷◌, map, Option, Some, None, refl, sym, ap, ap₂, ◌∙◌, arith}
+use Rattle.std.proofs.Common.{◌≡◌, ℕ, List, [], ◌∷◌, Option, Some, None, refl, sym, ap, ap₂, ◌∙◌, arith}
 use Rattle.std.specs.Prelude.{codes}
-use Rattle.serde_json.specs.Data.{Data, string}
-use Rattle.serde_json.specs.View.{items_of}
+use Rattle.wd_json.proofs.Inverse.{One, one_list, one_number, one_optional, two_same, string_same, some_same}
 use Rattle.wd_certificate.specs.Certificates.{TraceRecord, KeptRecord, NodeRecord}
-use Rattle.wd_certificate.specs.Json.{number_json, list_json, two_members_json, trace_json, target_json, kept_json, rule_json, rule_word, rule_trace, optional_json, node_json, certificate_json, Spells}
+use Rattle.wd_json.specs.Json.{number_json, list_json, optional_json}
+use Rattle.wd_certificate.specs.Json.{trace_json, target_json, kept_json, rule_json, rule_word, rule_trace, node_json, certificate_json, Spells}
 use Rattle.wd_certificate.specs.Refusals.{HasCause}
 use Rattle.wd_certificate.specs.Laws.{SpellsOne, IsReadBack}
 use Rattle.wd_certificate.specs.declared.certificate.Rule.{Rule}
@@ -13,41 +13,11 @@ use Rattle.wd_certificate.specs.declared.certificate.Target.TheVariants as targe
 use Rattle.wd_certificate.specs.declared.error.CertError.{CertError}
 use Rattle.wd_certificate.specs.declared.error.CertError.TheVariants as error
 
-abbrev One : {A : Type 0} → (A → Data) → Type 0
-One {A} f = (x y : A) → f x ≡ f y → x ≡ y
-
-one_items : {A : Type 0} (f : A → Data) → One f → (xs ys : List A) → items_of (map f xs) ≡ items_of (map f ys) → xs ≡ ys
-one_items f one [] [] e = refl
-one_items f one [] (y ∷ ys) e = absurd (cc)
-one_items f one (x ∷ xs) [] e = absurd (cc)
-one_items f one (x ∷ xs) (y ∷ ys) e =
-    let first : f x ≡ f y = cc in
-    let rest : items_of (map f xs) ≡ items_of (map f ys) = cc in
-    ap₂ (λ a b. a ∷ b) (one x y first) (one_items f one xs ys rest)
-
-one_list : {A : Type 0} (f : A → Data) → One f → One (list_json f)
-one_list f one xs ys e = one_items f one xs ys (let h : items_of (map f xs) ≡ items_of (map f ys) = cc in h)
-
-one_number : One number_json
-one_number m n e = let h : m ≡ n = cc in h
-
 one_target : One target_json
 one_target (target.Column c) (target.Column d) e = let h : c ≡ d = cc in ap (λ x. target.Column x) h
 one_target (target.Column c) target.Row e = absurd (cc)
 one_target target.Row (target.Column d) e = absurd (cc)
 one_target target.Row target.Row e = refl
-
-one_optional : One optional_json
-one_optional None None e = refl
-one_optional None (Some n) e = absurd (cc)
-one_optional (Some m) None e = absurd (cc)
-one_optional (Some m) (Some n) e = let h : m ≡ n = cc in ap (λ x. Some x) h
-
-two_same : (k l : List ℕ) (a b c d : Data) → two_members_json k a l b ≡ two_members_json k c l d → (a ≡ c) × (b ≡ d)
-two_same k l a b c d e = (cc, cc)
-
-string_same : (s t : List ℕ) → string s ≡ string t → s ≡ t
-string_same s t e = cc
 
 abbrev first : List ℕ → ℕ
 first [] = 0
@@ -111,10 +81,6 @@ one_certificate v w a b e =
     let version : v ≡ w = cc in
     let nodes : list_json node_json a ≡ list_json node_json b = cc in
     (version, one_list node_json one_node a b nodes)
-
--- what a list of bytes reads as is one value
-some_same : (d e : Data) → Some d ≡ Some e → d ≡ e
-some_same d e h = cc
 
 pub spells_one : SpellsOne
 spells_one bytes v w a b first second = one_certificate v w a b (some_same _ _ (sym first.1 ∙ second.1))

@@ -1,34 +1,20 @@
 -- A certificate's JSON has no float and nests six deep.
-use Rattle.std.proofs.Common.{◌≡◌, ℕ, ◌≤◌, List, [], ◌∷◌, map, Option, Some, None, false, refl, arith}
-use Rattle.serde_json.specs.Data.{Data, depth, items_depth}
+use Rattle.std.proofs.Common.{◌≡◌, ℕ, ◌≤◌, List, false, refl, arith}
+use Rattle.serde_json.specs.Data.{depth}
 use Rattle.serde_json.specs.Read.{max_depth}
-use Rattle.serde_json.specs.View.{items_of}
-use Rattle.serde_json.specs.Written.{has_float, items_have_float}
+use Rattle.serde_json.specs.Written.{has_float}
+use Rattle.wd_json.proofs.Plain.{no_float, deep, plain_numbers, plain_optional, deep_optional}
 use Rattle.wd_certificate.specs.Certificates.{TraceRecord, KeptRecord, NodeRecord}
-use Rattle.wd_certificate.specs.Json.{number_json, list_json, trace_json, target_json, kept_json, rule_json, optional_json, node_json, certificate_json}
+use Rattle.wd_json.specs.Json.{number_json}
+use Rattle.wd_certificate.specs.Json.{trace_json, target_json, kept_json, rule_json, node_json, certificate_json}
 use Rattle.wd_certificate.specs.declared.certificate.Rule.{Rule}
 use Rattle.wd_certificate.specs.declared.certificate.Rule.TheVariants as rule
 use Rattle.wd_certificate.specs.declared.certificate.Target.{Target}
 use Rattle.wd_certificate.specs.declared.certificate.Target.TheVariants as target
 
-no_float : {A : Type 0} (f : A → Data) → ((x : A) → has_float (f x) ≡ false) → (xs : List A) → items_have_float (items_of (map f xs)) ≡ false
-no_float f each [] = refl
-no_float f each (x ∷ xs) = rw (each x, no_float f each xs)
-
-deep : {A : Type 0} (f : A → Data) (n : ℕ) → ((x : A) → depth (f x) ≤ n) → (xs : List A) → items_depth (items_of (map f xs)) ≤ n
-deep f n each [] = omega arith
-deep f n each (x ∷ xs) = omega (arith, each x, deep f n each xs)
-
-plain_numbers : (ns : List ℕ) → has_float (list_json number_json ns) ≡ false
-plain_numbers ns = no_float number_json (λ n. refl) ns
-
 plain_target : (t : Target) → has_float (target_json t) ≡ false
 plain_target (target.Column c) = refl
 plain_target target.Row = refl
-
-plain_optional : (o : Option ℕ) → has_float (optional_json o) ≡ false
-plain_optional None = refl
-plain_optional (Some n) = refl
 
 plain_rule : (r : Rule) → has_float (rule_json r) ≡ false
 plain_rule rule.Peers = refl
@@ -51,10 +37,6 @@ plain_certificate version nodes = rw (no_float node_json plain_node nodes)
 deep_target : (t : Target) → depth (target_json t) ≤ 0
 deep_target (target.Column c) = omega arith
 deep_target target.Row = omega arith
-
-deep_optional : (o : Option ℕ) → depth (optional_json o) ≤ 0
-deep_optional None = omega arith
-deep_optional (Some n) = omega arith
 
 deep_rule : (r : Rule) → depth (rule_json r) ≤ 1
 deep_rule rule.Peers = omega arith

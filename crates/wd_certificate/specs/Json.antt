@@ -1,31 +1,13 @@
 -- The JSON value and the text of a certificate.
-use Rattle.std.specs.Prelude.{◌≡◌, ℕ, List, map, codes, Option, Some, None, IsUtf8}
-use Rattle.serde_json.specs.Data.{Data, null, number, unsigned, string, array, object, member, no_members}
-use Rattle.serde_json.specs.Read.{read}
-use Rattle.serde_json.specs.View.{items_of}
+use Rattle.std.specs.Prelude.{ℕ, List, codes, Option, Some, None}
+use Rattle.serde_json.specs.Data.{Data, string, object, member, no_members}
 use Rattle.serde_json.specs.Written.{compact_text}
+use Rattle.wd_json.specs.Json.{number_json, list_json, optional_json, two_members_json, IsJsonOf}
 use Rattle.wd_certificate.specs.Certificates.{TraceRecord, KeptRecord, NodeRecord}
 use Rattle.wd_certificate.specs.declared.certificate.Rule.{Rule}
 use Rattle.wd_certificate.specs.declared.certificate.Rule.TheVariants as rule
 use Rattle.wd_certificate.specs.declared.certificate.Target.{Target}
 use Rattle.wd_certificate.specs.declared.certificate.Target.TheVariants as target
-
--- a whole number
-abbrev pub number_json : ℕ → Data
-number_json n = number (unsigned n)
-
--- the list of what each element is
-abbrev pub list_json : {A : Type 0} → (A → Data) → List A → Data
-list_json f xs = array (items_of (map f xs))
-
--- a number, or null for none
-abbrev pub optional_json : Option ℕ → Data
-optional_json None = null
-optional_json (Some n) = number_json n
-
--- an object of exactly two members
-abbrev pub two_members_json : List ℕ → Data → List ℕ → Data → Data
-two_members_json first a second b = object (member first a (member second b no_members))
 
 -- a trace: its columns and its uses
 abbrev pub trace_json : TraceRecord → Data
@@ -73,10 +55,6 @@ certificate_json version nodes = two_members_json (codes "nodes") (list_json nod
 -- the text of a certificate of version 1: JSON without white space, members in alphabetical order of their names
 abbrev pub certificate_text : List NodeRecord → List ℕ
 certificate_text nodes = compact_text (certificate_json 1 nodes)
-
--- the bytes are JSON of this value, in UTF-8
-abbrev pub IsJsonOf : Data → List ℕ → Type 0
-IsJsonOf d bytes = IsUtf8 bytes × (read bytes ≡ Some d)
 
 -- the bytes spell a certificate of this version with these nodes
 abbrev pub Spells : ℕ → List NodeRecord → List ℕ → Type 0

@@ -2,7 +2,8 @@
 use Rattle.std.specs.Prelude.{◌≢◌, ℕ, List, Option, Some, None, ⊤}
 use Rattle.serde_json.specs.Data.{Data}
 use Rattle.wd_certificate.specs.Certificates.{NodeRecord}
-use Rattle.wd_certificate.specs.Json.{certificate_json, IsJsonOf, Spells}
+use Rattle.wd_json.specs.Json.{IsJsonOf}
+use Rattle.wd_certificate.specs.Json.{certificate_json, Spells}
 use Rattle.wd_certificate.specs.declared.error.CertError.{CertError}
 use Rattle.wd_certificate.specs.declared.error.CertError.TheVariants.{NotJson, Shape, Version, Count, UnreachedUse, UnreachedClaim, UnjustifiedCall, SecondExchange, UnjustifiedLimit, OutOfRange, OutOfMemory}
 

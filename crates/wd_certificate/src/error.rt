@@ -4,7 +4,6 @@ ghost use Rattle.std.specs.Prelude.{◌≡◌};
 ghost use Rattle.wd_certificate.specs.Refusals.{number_of, place_of};
 ghost use Rattle.wd_certificate.specs.declared.error.CertError.TheVariants as error;
 
-use crate::misread::Misread;
 use thiserror::Error;
 use wd_value::OutOfMemory;
 

@@ -3,9 +3,7 @@
 
 mod certificate;
 mod error;
-mod json;
 pub mod laws;
-mod misread;
 mod read;
 mod write;
 

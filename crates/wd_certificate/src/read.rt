@@ -4,41 +4,29 @@ ghost use Rattle.std.specs.Prelude.{◌≡◌, ◌≢◌, ℕ, List, Option, map
 ghost use Rattle.serde_json.specs.Data.{Data};
 ghost use Rattle.serde_json.specs.View.{view};
 ghost use Rattle.wd_certificate.specs.Certificates.{TraceRecord, KeptRecord, NodeRecord, trace_of, kept_of, node_of, nodes_of};
-ghost use Rattle.wd_certificate.specs.Json.{number_json, list_json, trace_json, target_json, kept_json, rule_json, rule_word, rule_trace, node_members_json, node_json, certificate_json, IsJsonOf, Spells};
+ghost use Rattle.wd_json.specs.Json.{list_json, IsJsonOf};
+ghost use Rattle.wd_certificate.specs.Json.{trace_json, target_json, kept_json, rule_json, rule_word, rule_trace, node_members_json, node_json, certificate_json, Spells};
 ghost use Rattle.wd_certificate.specs.Refusals.{HasCause};
 ghost use Rattle.wd_certificate.specs.declared.certificate.Target.{Target as SpecTarget};
 ghost use Rattle.wd_certificate.specs.declared.certificate.Rule.{Rule as SpecRule};
-ghost use Rattle.wd_certificate.specs.declared.misread.Misread.TheVariants as misread;
+ghost use Rattle.wd_json.specs.declared.misread.Misread.TheVariants as misread;
 
 use crate::certificate::{Certificate, Kept, Node, Rule, Target, Trace};
 use crate::error::CertError;
-use crate::json::{
-    list, next_member, no_more_members, number, object, optional_number, text, two_members,
-};
-use crate::misread::Misread;
 use serde_json::Value;
 use std::alloc::Global;
-
-fn numbers(alloc: Global, value: &Value) -> Result<Vec<u64>, Misread>
-    ensures ok { IfOk result (λ v. view value.now ≡ list_json number_json v.items) }
-    ensures refused { IfErr result (λ e. e ≡ misread.Shape → (xs : List ℕ) → view value.now ≢ list_json number_json xs) }
-{
-    let values = list(value)?;
-    let mut found = Vec::with_capacity(alloc, values.len())?;
-    for item in values {
-        let read = number(item)?;
-        found.push(read)?;
-    }
-    Ok(found)
-}
+use wd_json::{
+    Misread, list, next_member, no_more_members, number, object, optional_number, read_numbers,
+    text, two_members,
+};
 
 fn trace(alloc: Global, value: &Value) -> Result<Trace, Misread>
     ensures ok { IfOk result (λ t. view value.now ≡ trace_json (trace_of t)) }
     ensures refused { IfErr result (λ e. e ≡ misread.Shape → (t : TraceRecord) → view value.now ≢ trace_json t) }
 {
     let (from, uses) = two_members(value, "from", "uses")?;
-    let from = numbers(alloc, from)?;
-    let uses = numbers(alloc, uses)?;
+    let from = read_numbers(alloc, from)?;
+    let uses = read_numbers(alloc, uses)?;
     Ok(Trace { from, uses })
 }
 

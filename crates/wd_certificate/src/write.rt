@@ -3,22 +3,14 @@
 ghost use Rattle.std.specs.Prelude.{◌≡◌, map, IfOk};
 ghost use Rattle.serde_json.specs.View.{view};
 ghost use Rattle.wd_certificate.specs.Certificates.{trace_of, kept_of, node_of, nodes_of};
-ghost use Rattle.wd_certificate.specs.Json.{number_json, list_json, trace_json, target_json, kept_json, rule_json, optional_json, node_members_json, node_json, certificate_json, certificate_text, Spells};
+ghost use Rattle.wd_json.specs.Json.{number_json, list_json, optional_json};
+ghost use Rattle.wd_certificate.specs.Json.{trace_json, target_json, kept_json, rule_json, node_members_json, node_json, certificate_json, certificate_text, Spells};
 
 use crate::certificate::{Certificate, Kept, Node, Rule, Target, Trace};
 use serde_json::{Map, Value, json, put};
 use std::alloc::Global;
+use wd_json::numbers_value;
 use wd_value::OutOfMemory;
-
-fn numbers_value(alloc: Global, numbers: &[u64]) -> Result<Value, OutOfMemory>
-    ensures { IfOk result (λ v. view v ≡ list_json number_json numbers.now) }
-{
-    let mut list = Vec::with_capacity(alloc, numbers.len())?;
-    for number in numbers {
-        list.push(Value::from(*number))?;
-    }
-    Ok(Value::Array(list))
-}
 
 fn trace_value(alloc: Global, trace: &Trace) -> Result<Value, OutOfMemory>
     ensures { IfOk result (λ v. view v ≡ trace_json (trace_of trace.now)) }

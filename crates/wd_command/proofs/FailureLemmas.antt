@@ -8,10 +8,10 @@ use Rattle.clap.specs.declared.error.kind.ErrorKind.TheVariants as kind
 use Rattle.wd_command.proofs.FilesLemmas.{HandsOver-trans}
 use Rattle.wd_run.specs.Causes as runs
 use Rattle.wd_command.specs.Commands.{data_in, text_at}
-use Rattle.wd_command.specs.Failures.{AskNext, FailsRun, HasReason, IsDecideRefusal, IsFaultOfWords, IsRefusalBy, IsTableWord, IsUnanswered, IsRunRefusal, IsUncut, IsUnread, IsVerifyRefusal, Says}
+use Rattle.wd_command.specs.Failures.{AskNext, FailsRun, HasReason, IsDecideRefusal, IsFaultOfWords, IsRefusalBy, IsTableWord, IsUnanswered, IsRunRefusal, IsUncut, IsUnread, IsVerifyRefusal, IsWitnessRefusal, Says}
 use Rattle.wd_command.specs.Files.{File, HandsOver, Reads, ReadsNothing, reads}
 use Rattle.wd_command.specs.Statuses.{IsEnding}
-use Rattle.wd_command.specs.Words.{AreTaskWords, AskFor, HasNoEquals, Task, Check, Explain, Verify, Run, paths_of}
+use Rattle.wd_command.specs.Words.{AreTaskWords, AskFor, HasNoEquals, Task, Check, Explain, Verify, Refute, Run, paths_of}
 use Rattle.wd_command.specs.declared.failure.Failure.{Failure}
 use Rattle.wd_command.specs.declared.failure.Input.{Input}
 use Rattle.wd_command.specs.declared.failure.Failure.TheVariants.{CommandLine, NotText, Unassigned, Refused, Fault, CannotRead, CannotWrite, OutOfMemory}
@@ -106,6 +106,7 @@ of_files : (task : Task) (files : List File) (failure : Failure) → IsUnanswere
 of_files (Check s q) files failure h = refusal_of_files _ IsDecideRefusal failure h
 of_files (Explain s q) files failure h = refusal_of_files _ IsDecideRefusal failure h
 of_files (Verify s q c) files failure h = refusal_of_files _ IsVerifyRefusal failure h
+of_files (Refute s q w) files failure h = refusal_of_files _ IsWitnessRefusal failure h
 of_files (Run s q tables) files failure h = run_of_files tables files failure h
 
 module _ (words : List (List ℕ)) (before after : Reads) where

@@ -7,7 +7,7 @@ use Rattle.clap.specs.Walk.{Row, Text, rows_after}
 use Rattle.clap.specs.Simple.{Shape, subcommand_of}
 use Rattle.clap.specs.Faults.{fault_of}
 use Rattle.clap.proofs.OnLiterals.{clap_on_literals}
-use Rattle.wd_command.specs.CommandLine.{Asked, Check, Explain, Run, Verify, asked_after, asked_in, command_line, line_of, three_paths, two_paths}
+use Rattle.wd_command.specs.CommandLine.{Asked, Check, Explain, Refute, Run, Verify, asked_after, asked_in, command_line, line_of, three_paths, two_paths}
 use Rattle.wd_command.specs.Words.{IsPlain}
 use Rattle.wd_command.proofs.CommandLineLemmas.{IsCommand, IsName, all_names, command_fault, command_rows, first_word, no_help, plain_first, plain_rest}
 use Rattle.wd_command.proofs.CommandWordsLemmas.{file_passes, file_rows, file_shape, file_words, paths_pass, paths_rows, paths_shape, paths_words, tables_pass, tables_rows, tables_shape, tables_words}
@@ -23,6 +23,10 @@ explain = record { step = refl; turn = refl; is = refl }
 verify : IsCommand (codes "verify") (file_shape (codes "verify"))
 unfolding clap_on_literals
 verify = record { step = refl; turn = refl; is = refl }
+
+refute : IsCommand (codes "refute") (file_shape (codes "refute"))
+unfolding clap_on_literals
+refute = record { step = refl; turn = refl; is = refl }
 
 run : IsCommand (codes "run") (tables_shape (codes "run"))
 unfolding clap_on_literals
@@ -91,8 +95,11 @@ each_line = (
     (
       line_of_file (codes "verify") Verify verify (λ s q f. refl) (λ rows. refl),
       (
-        line_of_run,
-        (line_of_help, tt),
+        line_of_file (codes "refute") Refute refute (λ s q f. refl) (λ rows. refl),
+        (
+          line_of_run,
+          (line_of_help, tt),
+        ),
       ),
     ),
   ),
@@ -122,6 +129,7 @@ pub line_passes : (asked : Asked) → All IsPlain (line_of asked) → length (li
 line_passes (Check s q) plain below = paths_line_passes (codes "check") check s q plain
 line_passes (Explain s q) plain below = paths_line_passes (codes "explain") explain s q plain
 line_passes (Verify s q f) plain below = file_line_passes (codes "verify") verify s q f plain
+line_passes (Refute s q f) plain below = file_line_passes (codes "refute") refute s q f plain
 line_passes (Run s q tables) plain below =
     let name = codes "run" in
     command_fault name (tables_shape name) run (s ∷ q ∷ tables) ∙ tables_pass name s q tables (plain_rest name (s ∷ q ∷ tables) plain) (omega (arith, below))

@@ -15,6 +15,7 @@ pub data Asked : Type 0 where
   Check : (schema query : List ℕ) → Asked
   Explain : (schema query : List ℕ) → Asked
   Verify : (schema query certificate : List ℕ) → Asked
+  Refute : (schema query witness : List ℕ) → Asked
   Run : (schema query : List ℕ) (tables : List (List ℕ)) → Asked
 
 -- its words
@@ -22,6 +23,7 @@ abbrev pub line_of : Asked → List (List ℕ)
 line_of (Check schema query) = codes "check" ∷ schema ∷ query ∷ []
 line_of (Explain schema query) = codes "explain" ∷ schema ∷ query ∷ []
 line_of (Verify schema query certificate) = codes "verify" ∷ schema ∷ query ∷ certificate ∷ []
+line_of (Refute schema query witness) = codes "refute" ∷ schema ∷ query ∷ witness ∷ []
 line_of (Run schema query tables) = codes "run" ∷ schema ∷ query ∷ tables
 
 -- the words NAME=PATH
@@ -29,6 +31,7 @@ abbrev pub table_words : Asked → List (List ℕ)
 table_words (Check schema query) = []
 table_words (Explain schema query) = []
 table_words (Verify schema query certificate) = []
+table_words (Refute schema query witness) = []
 table_words (Run schema query tables) = tables
 
 -- what a request of the code asks for
@@ -36,6 +39,7 @@ abbrev pub asked_by : Request → Asked
 asked_by (request.Check schema query) = Check schema.now query.now
 asked_by (request.Explain schema query) = Explain schema.now query.now
 asked_by (request.Verify schema query certificate) = Verify schema.now query.now certificate.now
+asked_by (request.Refute schema query witness) = Refute schema.now query.now witness.now
 asked_by (request.Run schema query tables) = Run schema.now query.now (map (λ w. w.now) tables.items)
 
 -- the words are those of the request, where none begins with a hyphen; others are read as `clap` reads them
@@ -76,7 +80,8 @@ program = on_top (λ top. record top { no_binary_name = true; subcommand_require
 
 -- the program's commands
 abbrev pub commands : List App
-commands = paths_command (codes "check") ∷ paths_command (codes "explain") ∷ file_command (codes "verify") ∷ tables_command (codes "run") ∷ []
+commands = paths_command (codes "check") ∷ paths_command (codes "explain") ∷ file_command (codes "verify") ∷ file_command (codes "refute")
+    ∷ tables_command (codes "run") ∷ []
 
 abbrev pub command_line : App
 command_line = fold (λ above command. with_subcommand above command.top) program commands
@@ -100,8 +105,9 @@ abbrev pub asked_after : List ℕ → List Row → Option Asked
 asked_after name rows = if bytes_eq name (codes "check") then option_map (λ paths. Check paths.0 paths.1) (two_paths rows)
     else (if bytes_eq name (codes "explain") then option_map (λ paths. Explain paths.0 paths.1) (two_paths rows)
     else (if bytes_eq name (codes "verify") then option_map (λ paths. Verify paths.0 paths.1 paths.2) (three_paths rows)
+    else (if bytes_eq name (codes "refute") then option_map (λ paths. Refute paths.0 paths.1 paths.2) (three_paths rows)
     else (if bytes_eq name (codes "run") then option_map (λ paths. Run paths.0 paths.1 (tables_in rows)) (two_paths rows)
-    else None)))
+    else None))))
 
 -- what is asked for by the command that a parse has met
 abbrev pub asked_in : Option (List ℕ × List Row) → Option Asked

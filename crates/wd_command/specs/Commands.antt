@@ -5,6 +5,7 @@ use Rattle.wd_value.specs.declared.value.Fault.{Fault}
 use Rattle.wd_tables.specs.Answers.{answer_text}
 use Rattle.wd_run.specs.Runs.{IsAnswer}
 use Rattle.wd_accept.specs.Acceptance.{IsAccepted}
+use Rattle.wd_refute.specs.Refutation.{IsRefuted}
 use Rattle.wd_decide.specs.Verdicts.{IsExamined, IsVerdict}
 use Rattle.wd_decide.specs.declared.verdict.Examined.{Examined}
 use Rattle.wd_decide.specs.declared.verdict.Verdict.{Verdict}
@@ -12,7 +13,7 @@ use Rattle.wd_report.specs.Plans.{Explains}
 use Rattle.wd_report.specs.Verdicts.{verdict_status, verdict_text}
 use Rattle.wd_report.specs.Words.{line}
 use Rattle.wd_command.specs.Files.{File}
-use Rattle.wd_command.specs.Words.{AskFor, Task, Check, Explain, Verify, Run, paths_of}
+use Rattle.wd_command.specs.Words.{AskFor, Task, Check, Explain, Verify, Refute, Run, paths_of}
 
 -- the forms of the command line, one a line
 abbrev pub usage_text : List ℕ
@@ -56,6 +57,10 @@ AnswersExplain files text status = (examined : Examined) × IsExamined (text_at 
 abbrev pub AnswersVerify : List File → List ℕ → ℕ → Type 0
 AnswersVerify files text status = IsAccepted (text_at files 0) (text_at files 1) (text_at files 2) × (text ≡ line (codes "ACCEPTED")) × (status ≡ 0)
 
+-- what `refute` prints for the files of a schema, a query and a witness
+abbrev pub AnswersRefute : List File → List ℕ → ℕ → Type 0
+AnswersRefute files text status = IsRefuted (text_at files 0) (text_at files 1) (text_at files 2) × (text ≡ line (codes "REFUTED")) × (status ≡ 1)
+
 -- what `run` prints for the files of a schema, a query and these tables
 abbrev pub AnswersRun : List (List ℕ × List ℕ) → List File → List ℕ → ℕ → Type 0
 AnswersRun tables files text status = IsAnswerText (text_at files 0) (text_at files 1) (data_in tables (drop 2 files)) text × (status ≡ 0)
@@ -65,6 +70,7 @@ abbrev pub HasAnswer : Task → List File → List ℕ → ℕ → Type 0
 HasAnswer (Check schema query) files text status = AnswersCheck files text status
 HasAnswer (Explain schema query) files text status = AnswersExplain files text status
 HasAnswer (Verify schema query certificate) files text status = AnswersVerify files text status
+HasAnswer (Refute schema query witness) files text status = AnswersRefute files text status
 HasAnswer (Run schema query tables) files text status = AnswersRun tables files text status
 
 -- ---- outputs

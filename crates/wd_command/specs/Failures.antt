@@ -14,6 +14,10 @@ use Rattle.wd_run.specs.declared.error.RunError.TheVariants as run
 use Rattle.wd_accept.specs.Acceptance as acceptance
 use Rattle.wd_accept.specs.declared.error.VerifyError.{VerifyError}
 use Rattle.wd_accept.specs.declared.error.VerifyError.TheVariants as verify
+use Rattle.wd_refute.specs.Refutation as refutation
+use Rattle.wd_refute.specs.declared.error.Refusal.TheVariants as witness_refusal
+use Rattle.wd_refute.specs.declared.error.WitnessError.{WitnessError}
+use Rattle.wd_refute.specs.declared.error.WitnessError.TheVariants as refute
 use Rattle.wd_decide.specs.Verdicts as verdicts
 use Rattle.wd_decide.specs.declared.error.DecideError.{DecideError}
 use Rattle.wd_decide.specs.declared.error.DecideError.TheVariants as decide
@@ -21,7 +25,7 @@ use Rattle.wd_report.specs.Words.{line}
 use Rattle.wd_command.specs.Commands.{HasFault, data_in, text_at}
 use Rattle.wd_command.specs.Files.{File, HandsOver, Reads, ReadsNothing, StandsNext, StopsAt}
 use Rattle.wd_command.specs.Streams.{AppendsPart}
-use Rattle.wd_command.specs.Words.{AreOtherWords, AskFor, HasNoEquals, IsPlain, Task, Check, Explain, Verify, Run, paths_of}
+use Rattle.wd_command.specs.Words.{AreOtherWords, AskFor, HasNoEquals, IsPlain, Task, Check, Explain, Verify, Refute, Run, paths_of}
 use Rattle.wd_command.specs.declared.failure.Failure.{Failure}
 use Rattle.wd_command.specs.declared.failure.Failure.TheVariants.{CommandLine, NotText, Unassigned, Refused, Fault, CannotRead, CannotWrite, OutOfMemory}
 use Rattle.wd_command.specs.declared.failure.Input.{Input}
@@ -46,6 +50,7 @@ abbrev pub where_of : Input → List ℕ
 where_of input.Schema = codes "schema"
 where_of input.Query = codes "query"
 where_of input.Certificate = codes "certificate"
+where_of input.Witness = codes "witness"
 where_of (input.Data name) = codes "data " ++ name
 where_of input.Run = codes "run"
 
@@ -86,10 +91,12 @@ Says input number place (Refused refusal) = (refusal.input ≡ input) × (Some r
 Says input number place OutOfMemory = ⊤
 Says input number place failure = ⊥
 
+-- the input that a refusal of a schema and a query is about
 abbrev pub text_input : TextError → Input
 text_input (text.Schema error) = input.Schema
 text_input (text.Query error) = input.Query
 
+-- or a run's refusal
 abbrev pub run_input : RunError → Input
 run_input (run.Texts error) = text_input error
 run_input (run.Given name) = input.Data name
@@ -97,10 +104,18 @@ run_input (run.Data name error) = input.Data name
 run_input (run.Evaluation error) = input.Run
 run_input run.OutOfMemory = input.Run
 
+-- or that of a certificate
 abbrev pub verify_input : VerifyError → Input
 verify_input (verify.Texts error) = text_input error
 verify_input (verify.Certificate error) = input.Certificate
 
+-- or that of a witness; 802 is about the run
+abbrev pub witness_input : WitnessError → Input
+witness_input (refute.Texts error) = text_input error
+witness_input (refute.Witness witness_refusal.TooManyRows) = input.Run
+witness_input (refute.Witness refusal) = input.Witness
+
+-- or a refusal of `check` and `explain`
 abbrev pub decide_input : DecideError → Input
 decide_input (decide.Texts error) = text_input error
 decide_input decide.OutOfMemory = input.Run
@@ -116,6 +131,10 @@ IsRunRefusal error failure = Says (run_input error) (runs.run_number error) (run
 -- or of a certificate
 abbrev pub IsVerifyRefusal : VerifyError → Failure → Type 0
 IsVerifyRefusal error failure = Says (verify_input error) (acceptance.verify_number error) (acceptance.verify_place error) failure
+
+-- or of a witness
+abbrev pub IsWitnessRefusal : WitnessError → Failure → Type 0
+IsWitnessRefusal error failure = Says (witness_input error) (refutation.number_of error) (refutation.place_of error) failure
 
 -- ---- what stands after a failure
 
@@ -157,6 +176,10 @@ FailsDecide files failure = IsRefusalBy (verdicts.HasCause (text_at files 0) (te
 abbrev pub FailsVerify : List File → Failure → Type 0
 FailsVerify files failure = IsRefusalBy (acceptance.HasCause (text_at files 0) (text_at files 1) (text_at files 2)) IsVerifyRefusal failure
 
+-- `refute` over the files of a schema, a query and a witness is refused
+abbrev pub FailsRefute : List File → Failure → Type 0
+FailsRefute files failure = IsRefusalBy (refutation.HasCause (text_at files 0) (text_at files 1) (text_at files 2)) IsWitnessRefusal failure
+
 -- `run` over the files of a schema, a query and these tables is refused, or its query faults
 abbrev pub FailsRun : List (List ℕ × List ℕ) → List File → Failure → Type 0
 FailsRun tables files (Fault fault) = HasFault (text_at files 0) (text_at files 1) (data_in tables (drop 2 files)) fault
@@ -167,6 +190,7 @@ abbrev pub IsUnanswered : Task → List File → Failure → Type 0
 IsUnanswered (Check schema query) files failure = FailsDecide files failure
 IsUnanswered (Explain schema query) files failure = FailsDecide files failure
 IsUnanswered (Verify schema query certificate) files failure = FailsVerify files failure
+IsUnanswered (Refute schema query witness) files failure = FailsRefute files failure
 IsUnanswered (Run schema query tables) files failure = FailsRun tables files failure
 
 -- the files that the words ask for were read, and the failure comes of them

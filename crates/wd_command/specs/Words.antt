@@ -27,6 +27,7 @@ pub data Task : Type 0 where
   Check : (schema query : List ℕ) → Task
   Explain : (schema query : List ℕ) → Task
   Verify : (schema query certificate : List ℕ) → Task
+  Refute : (schema query witness : List ℕ) → Task
   Run : (schema query : List ℕ) (tables : List (List ℕ × List ℕ)) → Task
 
 -- its words
@@ -34,6 +35,7 @@ abbrev pub words_of : Task → List (List ℕ)
 words_of (Check schema query) = codes "check" ∷ schema ∷ query ∷ []
 words_of (Explain schema query) = codes "explain" ∷ schema ∷ query ∷ []
 words_of (Verify schema query certificate) = codes "verify" ∷ schema ∷ query ∷ certificate ∷ []
+words_of (Refute schema query witness) = codes "refute" ∷ schema ∷ query ∷ witness ∷ []
 words_of (Run schema query tables) = codes "run" ∷ schema ∷ query ∷ map (λ t. word_of t.0 t.1) tables
 
 -- the paths that it names, in the order of its words
@@ -41,6 +43,7 @@ abbrev pub paths_of : Task → List (List ℕ)
 paths_of (Check schema query) = schema ∷ query ∷ []
 paths_of (Explain schema query) = schema ∷ query ∷ []
 paths_of (Verify schema query certificate) = schema ∷ query ∷ certificate ∷ []
+paths_of (Refute schema query witness) = schema ∷ query ∷ witness ∷ []
 paths_of (Run schema query tables) = schema ∷ query ∷ map (λ t. t.1) tables
 
 -- each word NAME=PATH is cut at its first `=`
@@ -48,6 +51,7 @@ abbrev pub IsCut : Task → Type 0
 IsCut (Check schema query) = ⊤
 IsCut (Explain schema query) = ⊤
 IsCut (Verify schema query certificate) = ⊤
+IsCut (Refute schema query witness) = ⊤
 IsCut (Run schema query tables) = All (λ t. HasNoEquals t.0) tables
 
 -- the words are those of the task, where none begins with a hyphen; others are read as `clap` reads them

@@ -3,7 +3,7 @@
 ghost use Rattle.std.specs.Prelude.{◌≡◌, ◌++◌, IfSome, OnOk};
 ghost use Rattle.std.specs.Io.KnownBytes.{Appends};
 ghost use Rattle.wd_command.specs.Failures as spec;
-ghost use Rattle.wd_command.specs.Failures.{IsDecideRefusal, IsFaultOfWords, IsRunRefusal, IsVerifyRefusal, Says, Shows, line_of, refusal_line, status_of, where_of};
+ghost use Rattle.wd_command.specs.Failures.{IsDecideRefusal, IsFaultOfWords, IsRunRefusal, IsVerifyRefusal, IsWitnessRefusal, Says, Shows, line_of, refusal_line, status_of, where_of};
 ghost use Rattle.wd_command.specs.Streams.{AppendsPart};
 ghost use Rattle.wd_command.specs.declared.failure.Failure.TheVariants as failed;
 
@@ -15,6 +15,7 @@ use std::io::Write;
 use wd_accept::{VerifyError, VerifyOrigin};
 use wd_decide::DecideError;
 use wd_query::TextError;
+use wd_refute::{WitnessError, WitnessOrigin};
 use wd_run::RunError;
 use wd_value::{Fault, OutOfMemory, Text};
 
@@ -50,6 +51,7 @@ pub enum Input {
     Schema,
     Query,
     Certificate,
+    Witness,
     /// The data that was given, or should have been, under this name.
     Data(Text),
     Run,
@@ -131,6 +133,14 @@ impl From<VerifyError> for Failure<'_> {
     }
 }
 
+impl From<WitnessError> for Failure<'_> {
+    ghost from_gives = { λ e failure. IsWitnessRefusal e failure };
+
+    fn from(error: WitnessError) -> Self {
+        refused(witness_input(&error), error.number(), error.place())
+    }
+}
+
 // A refusal, or out of memory where it has no number.
 fn refused<'a>(input: Input, number: Option<u32>, place: Option<u64>) -> Failure<'a>
     ensures { Says input number place result }
@@ -177,6 +187,18 @@ fn verify_input(error: &VerifyError) -> Input
         VerifyOrigin::Schema => Input::Schema,
         VerifyOrigin::Query => Input::Query,
         VerifyOrigin::Certificate => Input::Certificate,
+    }
+}
+
+// The input that a refusal of a witness is about; 802 is about the run.
+fn witness_input(error: &WitnessError) -> Input
+    ensures { result ≡ spec.witness_input error.now }
+{
+    match error.origin() {
+        WitnessOrigin::Schema => Input::Schema,
+        WitnessOrigin::Query => Input::Query,
+        WitnessOrigin::Witness => Input::Witness,
+        WitnessOrigin::Run => Input::Run,
     }
 }
 
@@ -261,6 +283,7 @@ fn where_text<'a>(input: &'a Input) -> (&'a str, &'a str)
         Input::Schema => ("schema", ""),
         Input::Query => ("query", ""),
         Input::Certificate => ("certificate", ""),
+        Input::Witness => ("witness", ""),
         Input::Data(name) => ("data ", name.as_str()),
         Input::Run => ("run", ""),
     }

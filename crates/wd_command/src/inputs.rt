@@ -29,6 +29,11 @@ pub enum Task<'a> {
         query: &'a str,
         certificate: &'a str,
     },
+    Refute {
+        schema: &'a str,
+        query: &'a str,
+        witness: &'a str,
+    },
     /// The tables' names with their paths.
     Run {
         schema: &'a str,
@@ -89,6 +94,15 @@ fn task_of<'a>(alloc: Global, request: Request<'a>) -> Result<Task<'a>, Failure<
             query,
             certificate,
         }),
+        Request::Refute {
+            schema,
+            query,
+            witness,
+        } => Ok(Task::Refute {
+            schema,
+            query,
+            witness,
+        }),
         Request::Run {
             schema,
             query,
@@ -116,9 +130,14 @@ fn paths_named<'a>(alloc: Global, task: &Task<'a>) -> Result<Vec<&'a str>, Alloc
         Task::Verify {
             schema,
             query,
-            certificate,
+            certificate: file,
+        }
+        | Task::Refute {
+            schema,
+            query,
+            witness: file,
         } => {
-            let list = Vec::from_slice(alloc, &[*schema, *query, *certificate])?;
+            let list = Vec::from_slice(alloc, &[*schema, *query, *file])?;
             Ok(list)
         }
         Task::Run {

@@ -2,8 +2,8 @@
 
 ghost use Rattle.std.specs.Prelude.{◌≡◌, ◌≢◌, ◌+◌, ◌-◌, ◌^◌, ◌<◌, ◌≤◌, List, length, map, OnOk, IfOk, IfErr};
 ghost use Rattle.wd_run.specs.Runs.{data_of};
-ghost use Rattle.wd_command.specs.Commands.{AnswersCheck, AnswersExplain, AnswersRun, AnswersVerify, HasAnswer, data_in, text_at};
-ghost use Rattle.wd_command.specs.Failures.{FailsDecide, FailsRun, FailsVerify, HasReason, IsUnanswered};
+ghost use Rattle.wd_command.specs.Commands.{AnswersCheck, AnswersExplain, AnswersRefute, AnswersRun, AnswersVerify, HasAnswer, data_in, text_at};
+ghost use Rattle.wd_command.specs.Failures.{FailsDecide, FailsRefute, FailsRun, FailsVerify, HasReason, IsUnanswered};
 ghost use Rattle.wd_command.specs.Files.{reads};
 ghost use Rattle.wd_command.specs.Inputs.{file_of, files_of, name_of, task_of};
 ghost use Rattle.wd_command.specs.Outputs.{Makes};
@@ -20,6 +20,7 @@ use std::io::Write;
 use wd_accept::verify;
 use wd_decide::{decide, examine};
 use wd_plan::Outcome;
+use wd_refute::refute;
 use wd_report::{Output, explain};
 use wd_run::run;
 use wd_tables::answer_text;
@@ -109,6 +110,7 @@ fn answer<'a>(alloc: Global, inputs: &Inputs<'a>) -> Result<Output, Failure<'a>>
         Task::Check { .. } => check_output(alloc, files),
         Task::Explain { .. } => explain_output(alloc, files),
         Task::Verify { .. } => verify_output(alloc, files),
+        Task::Refute { .. } => refute_output(alloc, files),
         Task::Run { tables, .. } => run_output(alloc, tables.as_slice(), files),
     }
 }
@@ -152,14 +154,23 @@ fn verify_output<'a>(alloc: Global, files: &[InputFile<'a>]) -> Result<Output, F
     ensures ok { IfOk result (λ output. AnswersVerify (map file_of files.now) output.text.items output.status) }
     ensures err { IfErr result (FailsVerify (map file_of files.now)) }
 {
-    verify(
-        alloc,
-        text_of(files, 0),
-        text_of(files, 1),
-        text_of(files, 2),
-    )?;
+    let certificate = text_of(files, 2);
+    verify(alloc, text_of(files, 0), text_of(files, 1), certificate)?;
     let text = Vec::from_slice(alloc, b"ACCEPTED\n")?;
     Ok(Output { text, status: 0 })
+}
+
+// The answer of `refute` over the files of a schema, a query and a witness.
+fn refute_output<'a>(alloc: Global, files: &[InputFile<'a>]) -> Result<Output, Failure<'a>>
+    requires { length files.now ≡ 3 }
+    ensures small { IfOk result (λ output. output.status < 3) }
+    ensures ok { IfOk result (λ output. AnswersRefute (map file_of files.now) output.text.items output.status) }
+    ensures err { IfErr result (FailsRefute (map file_of files.now)) }
+{
+    let witness = text_of(files, 2);
+    refute(alloc, text_of(files, 0), text_of(files, 1), witness)?;
+    let text = Vec::from_slice(alloc, b"REFUTED\n")?;
+    Ok(Output { text, status: 1 })
 }
 
 // The answer of `run` over the files of a schema, a query and these tables.

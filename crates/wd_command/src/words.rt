@@ -31,6 +31,11 @@ pub enum Request<'a> {
         query: &'a str,
         certificate: &'a str,
     },
+    Refute {
+        schema: &'a str,
+        query: &'a str,
+        witness: &'a str,
+    },
     Run {
         schema: &'a str,
         query: &'a str,
@@ -62,6 +67,7 @@ fn command_line<'a>(alloc: Global) -> Result<Command<'a>, AllocError>
         .subcommand(paths_command(alloc, "check")?)?
         .subcommand(paths_command(alloc, "explain")?)?
         .subcommand(file_command(alloc, "verify", "CERT")?)?
+        .subcommand(file_command(alloc, "refute", "WITNESS")?)?
         .subcommand(run_command(alloc)?)?;
     Ok(command)
 }
@@ -126,6 +132,9 @@ fn found<'a>(alloc: Global, matches: &ArgMatches<'a>) -> Result<Option<Request<'
     if let Some(given) = matches.subcommand_matches("verify") {
         return Ok(verify_request(given));
     }
+    if let Some(given) = matches.subcommand_matches("refute") {
+        return Ok(refute_request(given));
+    }
     if let Some(given) = matches.subcommand_matches("run") {
         return run_request(alloc, given);
     }
@@ -171,6 +180,17 @@ fn verify_request<'a>(given: &ArgMatches<'a>) -> Option<Request<'a>>
         schema,
         query,
         certificate,
+    })
+}
+
+fn refute_request<'a>(given: &ArgMatches<'a>) -> Option<Request<'a>>
+    ensures { option_map asked_by result ≡ asked_after (codes "refute") (rows_of (found_of given.now)) }
+{
+    let (schema, query, witness) = three_paths(given)?;
+    Some(Request::Refute {
+        schema,
+        query,
+        witness,
     })
 }
 

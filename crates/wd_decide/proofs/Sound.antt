@@ -13,7 +13,7 @@ use Rattle.wd_decide.specs.Laws.{ReportedAreSound}
 use Rattle.wd_decide.specs.Verdicts.{IsVerdictOf}
 use Rattle.wd_decide.specs.declared.verdict.Verdict.TheVariants.{Deterministic}
 
-pub valid_of : (tables : List TableRule) (plan : PlanTree) (analysis : Analysis) (certificate : Certificate) → IsAnswer tables plan analysis → IsVerdictOf analysis (Deterministic certificate) → IsValidCertificate tables plan (nodes_of certificate)
+pub valid_of : (tables : List TableRule) (plan : PlanTree) (analysis : Analysis) (certificate : Certificate) → IsAnswer tables plan analysis → IsVerdictOf tables plan analysis (Deterministic certificate) → IsValidCertificate tables plan (nodes_of certificate)
 valid_of tables plan (Certified c) certificate answer is = subst (λ c. IsValidCertificate tables plan (nodes_of c)) is answer.sound
 valid_of tables plan (Open reasons marks) certificate answer is = absurd is
 

@@ -1,23 +1,40 @@
--- What a reported certificate is worth.
+-- What a reported certificate is worth, and a reported witness.
 use Rattle.std.specs.Prelude.{ℕ, List, IsSome}
 use Rattle.wd_certificate.specs.Certificates.{nodes_of}
-use Rattle.wd_certificate.specs.Json.{Spells}
+use Rattle.wd_certificate.specs.Json as certificates
 use Rattle.wd_certificate.specs.Refusals.{number_of}
 use Rattle.wd_certificate.specs.declared.certificate.Certificate.{Certificate}
 use Rattle.wd_certificate.specs.declared.error.CertError.{CertError}
 use Rattle.wd_rules.specs.Validity.{IsValidCertificate}
 use Rattle.wd_query.specs.Readings.{ForReading}
 use Rattle.wd_accept.specs.Acceptance.{IsAccepted, RefusesPlan}
+use Rattle.wd_witness.specs.Json as witnesses
+use Rattle.wd_witness.specs.Witnesses.{witness_of}
+use Rattle.wd_witness.specs.declared.witness.Witness.{Witness}
+use Rattle.wd_refute.specs.Laws.{IsShown}
+use Rattle.wd_refute.specs.Refutation.{IsRefuted, RefusesText, refusal_number}
+use Rattle.wd_refute.specs.declared.error.Refusal.{Refusal}
 use Rattle.wd_decide.specs.Verdicts.{IsVerdict}
-use Rattle.wd_decide.specs.declared.verdict.Verdict.TheVariants.{Deterministic}
+use Rattle.wd_decide.specs.declared.verdict.Verdict.TheVariants.{Deterministic, Depends}
 
 -- a certificate is valid for the plan that reads the texts, and a text that spells it is accepted; nothing there refuses that text
 -- by a number
 pub record IsSound (schema query : List ℕ) (certificate : Certificate) : Type 0 where
   pub valid : ForReading schema query (λ tables plan. IsValidCertificate tables plan (nodes_of certificate))
-  pub accepted : (text : List ℕ) → Spells 1 (nodes_of certificate) text → IsAccepted schema query text
-  pub unrefused : (text : List ℕ) → Spells 1 (nodes_of certificate) text → (refusal : CertError) → IsSome (number_of refusal) → ForReading schema query (RefusesPlan refusal text) → ⊥
+  pub accepted : (text : List ℕ) → certificates.Spells 1 (nodes_of certificate) text → IsAccepted schema query text
+  pub unrefused : (text : List ℕ) → certificates.Spells 1 (nodes_of certificate) text → (refusal : CertError) → IsSome (number_of refusal) → ForReading schema query (RefusesPlan refusal text) → ⊥
 
 -- each certificate that is reported is so
 abbrev pub ReportedAreSound : Type 0
 ReportedAreSound = (schema query : List ℕ) (certificate : Certificate) → IsVerdict schema query (Deterministic certificate) → IsSound schema query certificate
+
+-- a witness is true of the plan that reads the texts, with no step too large, and a text that spells it refutes the query; nothing
+-- there refuses that text by a number
+pub record IsTrueOf (schema query : List ℕ) (witness : Witness) : Type 0 where
+  pub shown : ForReading schema query (λ tables plan. IsShown tables plan (witness_of witness))
+  pub refuted : (text : List ℕ) → witnesses.Spells (witness_of witness) text → IsRefuted schema query text
+  pub unrefused : (text : List ℕ) → witnesses.Spells (witness_of witness) text → (refusal : Refusal) → IsSome (refusal_number refusal) → ForReading schema query (RefusesText refusal text) → ⊥
+
+-- each witness that is reported is so
+abbrev pub ReportedAreTrue : Type 0
+ReportedAreTrue = (schema query : List ℕ) (witness : Witness) → IsVerdict schema query (Depends witness) → IsTrueOf schema query witness

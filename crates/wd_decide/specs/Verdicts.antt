@@ -1,18 +1,22 @@
 -- What is found of a query's plan, the verdict on the query, and why there is none.
-use Rattle.std.specs.Prelude.{◌≡◌, ℕ, true, List, Option, None, ⊤}
+use Rattle.std.specs.Prelude.{◌≡◌, ℕ, true, List, Option, Some, None, ⊤}
 use Rattle.wd_schema.specs.Schemas.{schema_of}
+use Rattle.wd_schema.specs.Tables.{TableRule}
 use Rattle.wd_plan.specs.Fits.{fits}
-use Rattle.wd_plan.specs.Plans.{plan_of}
+use Rattle.wd_plan.specs.Plans.{PlanTree, plan_of}
 use Rattle.wd_analyse.specs.Analysis.{IsAnswer}
 use Rattle.wd_analyse.specs.declared.analysis.Analysis.{Analysis}
 use Rattle.wd_analyse.specs.declared.analysis.Analysis.TheVariants.{Certified, Open}
+use Rattle.wd_analyse.specs.declared.analysis.Reason.{Reason}
 use Rattle.wd_query.specs.Causes.{HasTextCause, text_number, text_place}
 use Rattle.wd_query.specs.Readings.{ForReading, IsRead}
+use Rattle.wd_witness.specs.declared.witness.Witness.{Witness}
+use Rattle.wd_seek.specs.Sought.{IsSought, to_try}
 use Rattle.wd_decide.specs.declared.error.DecideError.{DecideError}
 use Rattle.wd_decide.specs.declared.error.DecideError.TheVariants.{Texts, OutOfMemory}
 use Rattle.wd_decide.specs.declared.verdict.Examined.{Examined}
 use Rattle.wd_decide.specs.declared.verdict.Verdict.{Verdict}
-use Rattle.wd_decide.specs.declared.verdict.Verdict.TheVariants.{Deterministic, Unknown}
+use Rattle.wd_decide.specs.declared.verdict.Verdict.TheVariants.{Deterministic, Depends, Unknown}
 
 -- the plan reads the two texts and fits the schema, and this is the analysis of it
 pub record IsExamined (schema query : List ℕ) (examined : Examined) : Type 0 where
@@ -20,16 +24,22 @@ pub record IsExamined (schema query : List ℕ) (examined : Examined) : Type 0 w
   pub fits : fits (schema_of examined.planned.schema) (plan_of examined.planned.resolved.plan) ≡ true
   pub analysed : IsAnswer (schema_of examined.planned.schema) (plan_of examined.planned.resolved.plan) examined.analysis
 
--- the verdict that an analysis gives: its certificate, or its reasons
-abbrev pub IsVerdictOf : Analysis → Verdict → Type 0
-IsVerdictOf (Certified certificate) (Deterministic reported) = certificate ≡ reported
-IsVerdictOf (Certified certificate) (Unknown reasons) = ⊥
-IsVerdictOf (Open found marks) (Deterministic reported) = ⊥
-IsVerdictOf (Open found marks) (Unknown reasons) = found ≡ reasons
+-- the search for a witness, through the candidates for these reasons, ends so
+abbrev pub EndsWith : List TableRule → PlanTree → List Reason → Option Witness → Type 0
+EndsWith tables plan reasons found = (n : ℕ) × IsSought tables plan (to_try tables plan reasons) 0 found n
+
+-- the verdict that an analysis gives: its certificate; else the witness that is found against the plan, or the reasons where none is
+abbrev pub IsVerdictOf : List TableRule → PlanTree → Analysis → Verdict → Type 0
+IsVerdictOf tables plan (Certified certificate) (Deterministic reported) = certificate ≡ reported
+IsVerdictOf tables plan (Certified certificate) (Depends witness) = ⊥
+IsVerdictOf tables plan (Certified certificate) (Unknown reasons) = ⊥
+IsVerdictOf tables plan (Open found marks) (Deterministic reported) = ⊥
+IsVerdictOf tables plan (Open found marks) (Depends witness) = EndsWith tables plan found.items (Some witness)
+IsVerdictOf tables plan (Open found marks) (Unknown reasons) = (found ≡ reasons) × EndsWith tables plan found.items None
 
 -- it is that of the analysis of the plan that reads the two texts
 abbrev pub IsVerdict : List ℕ → List ℕ → Verdict → Type 0
-IsVerdict schema query verdict = ForReading schema query (λ tables plan. (analysis : Analysis) × IsAnswer tables plan analysis × IsVerdictOf analysis verdict)
+IsVerdict schema query verdict = ForReading schema query (λ tables plan. (analysis : Analysis) × IsAnswer tables plan analysis × IsVerdictOf tables plan analysis verdict)
 
 -- ---- why there is none
 

@@ -2,6 +2,7 @@
 
 ghost use Rattle.std.specs.Prelude.{◌≡◌};
 ghost use Rattle.wd_decide.specs.Verdicts.{decide_number, decide_place};
+ghost use Rattle.wd_decide.specs.declared.error.DecideError.TheVariants as refusal;
 
 use thiserror::Error;
 use wd_query::TextError;
@@ -36,5 +37,13 @@ impl DecideError {
             DecideError::Texts(error) => error.place(),
             DecideError::OutOfMemory => None,
         }
+    }
+}
+
+impl From<OutOfMemory> for DecideError {
+    ghost from_gives = { λ _ r. r ≡ refusal.OutOfMemory };
+
+    fn from(_error: OutOfMemory) -> DecideError {
+        DecideError::OutOfMemory
     }
 }

@@ -1,6 +1,9 @@
 //! The verdict on a query.
 
-ghost use Rattle.std.specs.Prelude.{IfOk, IfErr};
+ghost use Rattle.std.specs.Prelude.{◌≡◌, true, IfOk, IfErr};
+ghost use Rattle.wd_plan.specs.Fits.{fits};
+ghost use Rattle.wd_plan.specs.Plans.{plan_of};
+ghost use Rattle.wd_schema.specs.Schemas.{schema_of};
 ghost use Rattle.wd_decide.specs.Verdicts.{HasCause, IsExamined, IsVerdict, IsVerdictOf};
 
 use crate::error::DecideError;
@@ -8,6 +11,9 @@ use std::alloc::Global;
 use wd_analyse::{Analysis, Reason, analyse};
 use wd_certificate::Certificate;
 use wd_query::{PlannedQuery, read_texts};
+use wd_seek::seek;
+use wd_value::OutOfMemory;
+use wd_witness::Witness;
 
 /// A schema, the plan of a query over its tables, and what is found of the plan.
 #[derive(Drop)]
@@ -18,11 +24,13 @@ pub struct Examined {
 
 /// Whether a query has one answer over each instance that meets the schema, in any row order and under any lawful orderings of
 /// rows that tie.
-#[derive(Debug, Drop)]
+#[derive(Drop)]
 pub enum Verdict {
     /// It has: the certificate says why.
     Deterministic(Certificate),
-    /// For these calls and limits no rule is known that justifies them.
+    /// It has not: the witness shows two answers.
+    Depends(Witness),
+    /// For these calls and limits no rule is known that justifies them, and no candidate shows two answers.
     Unknown(Vec<Reason>),
 }
 
@@ -38,15 +46,14 @@ pub fn examine(alloc: Global, schema: &[u8], query: &[u8]) -> Result<Examined, D
         Ok(planned) => planned,
         Err(error) => return Err(DecideError::Texts(error)),
     };
-    match analyse(alloc, &planned.resolved.plan, &planned.schema) {
-        Ok(analysis) => Ok(Examined { planned, analysis }),
-        Err(_) => Err(DecideError::OutOfMemory),
-    }
+    let analysis = analyse(alloc, &planned.resolved.plan, &planned.schema)?;
+    Ok(Examined { planned, analysis })
 }
 
 /// Whether the query of a text has one answer over the schema of a text. A certificate that is reported is valid for the plan that
-/// reads the texts, and `verify` accepts its text; else there is a reason at least, each being that of a call or a limit for which
-/// no rule is known, in postorder.
+/// reads the texts, and `verify` accepts its text. A witness that is reported is true of that plan: the two outcomes are not one,
+/// and `refute` refuses its text by none of 601 to 604 and 802. Else there is a reason at least, each being that of a call or a
+/// limit for which no rule is known, in postorder, and there is no witness among the candidates that are tried.
 ///
 /// Each refusal comes only where its cause stands, as `examine` says.
 pub fn decide(alloc: Global, schema: &[u8], query: &[u8]) -> Result<Verdict, DecideError>
@@ -54,18 +61,21 @@ pub fn decide(alloc: Global, schema: &[u8], query: &[u8]) -> Result<Verdict, Dec
     ensures refused { IfErr result (HasCause schema.now query.now) }
 {
     let examined = examine(alloc, schema, query)?;
-    Ok(examined.verdict())
+    Ok(examined.verdict(alloc)?)
 }
 
 impl Examined {
-    /// The verdict on the query.
-    pub fn verdict(self) -> Verdict
-        ensures { IsVerdictOf self.analysis result }
+    /// The verdict on the query. Where the analysis leaves a call or a limit open, a witness is sought.
+    pub fn verdict(self, alloc: Global) -> Result<Verdict, OutOfMemory>
+        requires { fits (schema_of self.planned.schema) (plan_of self.planned.resolved.plan) ≡ true }
+        ensures { IfOk result (IsVerdictOf (schema_of self.planned.schema) (plan_of self.planned.resolved.plan) self.analysis) }
     {
-        let Examined { analysis, .. } = self;
-        match analysis {
-            Analysis::Certified(certificate) => Verdict::Deterministic(certificate),
-            Analysis::Open(reasons, _) => Verdict::Unknown(reasons),
+        let Examined { planned, analysis } = self;
+        let (witness, _) = seek(alloc, &planned.schema, &planned.resolved.plan, &analysis)?;
+        match (analysis, witness) {
+            (Analysis::Certified(certificate), _) => Ok(Verdict::Deterministic(certificate)),
+            (Analysis::Open(_, _), Some(witness)) => Ok(Verdict::Depends(witness)),
+            (Analysis::Open(reasons, _), None) => Ok(Verdict::Unknown(reasons)),
         }
     }
 }

@@ -1,14 +1,26 @@
 -- What a plan gives under the choice that leaves rows that tie as they are, or why it gives nothing.
-use Rattle.std.specs.Prelude.{◌≡◌, ℕ, false, List, None, Result, IfErr, IfOk}
+use Rattle.std.specs.Prelude.{◌≡◌, ℕ, false, List, Option, None, Result, IfErr, IfOk}
 use Rattle.wd_value.specs.Rows.{Instance}
 use Rattle.wd_plan.specs.declared.plan.Outcome.{Outcome}
 use Rattle.wd_plan.specs.Choices.{IsValidChoice}
-use Rattle.wd_plan.specs.Outcomes.{RowsOrFault, outcome}
+use Rattle.wd_plan.specs.Outcomes.{RowsOrFault, outcome, outcome_of}
 use Rattle.wd_plan.specs.Plans.{PlanTree}
+use Rattle.wd_window.specs.Windows.{orderings_of}
 use Rattle.wd_eval.specs.Steps.{has_large_step}
 use Rattle.wd_eval.specs.Judged.{IsOutcome}
-use Rattle.wd_eval.specs.Tied.{IsTiedChoice, IsTiedRefused}
+use Rattle.wd_eval.specs.Tied.{IsTiedChoice, IsTiedRefused, IsValidTiedChoice}
 use Rattle.wd_eval.specs.declared.error.EvalError.{EvalError}
+use Rattle.wd_eval.specs.declared.eval.TiedOutcome.{TiedOutcome}
+
+-- such a choice, but for one ordering that may be flipped, and the outcome under it
+pub record IsTiedOutcome (plan : PlanTree) (instance : Instance) (flipped : Option ℕ) (t : TiedOutcome) : Type 0 where
+  pub choice : IsValidTiedChoice plan instance flipped (orderings_of t.choice.orderings.items)
+  pub is : outcome_of t.outcome ≡ outcome plan instance (orderings_of t.choice.orderings.items)
+
+-- the two, or why there are none
+pub record IsTiedOutcomeOrRefused (plan : PlanTree) (instance : Instance) (flipped : Option ℕ) (r : Result TiedOutcome EvalError) : Type 0 where
+  pub ok : IfOk r (λ t. IsTiedOutcome plan instance flipped t)
+  pub refused : IfErr r (λ e. IsTiedRefused plan instance flipped e)
 
 -- the outcome under a valid choice that leaves rows that tie as they are, and under which no step is too large
 pub record IsRun (plan : PlanTree) (instance : Instance) (o : Outcome) : Type 0 where

@@ -3,7 +3,7 @@
 ghost use Rattle.std.specs.Prelude.{◌≡◌, true, None};
 ghost use Rattle.wd_eval.specs.Judged.{IsAllowedOrRefused, IsOutcomeOrRefused};
 ghost use Rattle.wd_window.specs.Windows.{orderings_of};
-ghost use Rattle.wd_eval.specs.Runs.{IsRunOrRefused};
+ghost use Rattle.wd_eval.specs.Runs.{IsRunOrRefused, IsTiedOutcomeOrRefused};
 ghost use Rattle.wd_eval.specs.Tied.{IsTiedOrRefused};
 ghost use Rattle.wd_plan.specs.Fits.{fits};
 ghost use Rattle.wd_plan.specs.Plans.{plan_of};
@@ -90,6 +90,31 @@ pub fn first_choice(
     tied_choice(alloc, plan, schema, instance, None)
 }
 
+/// A choice, and the outcome of a plan under it.
+#[derive(Drop)]
+pub struct TiedOutcome {
+    pub choice: Choice,
+    pub outcome: Outcome,
+}
+
+/// What [`tied_choice`] answers, and the outcome of the plan under it, evaluated once.
+pub fn eval_tied(
+    alloc: Global,
+    plan: &Plan,
+    schema: &Schema,
+    instance: &Instance,
+    flipped: Option<u32>,
+) -> Result<TiedOutcome, EvalError>
+    requires { fits (schema_of schema.now) (plan_of plan.now) ≡ true }
+    ensures { IsTiedOutcomeOrRefused (plan_of plan.now) (instance_of instance.now.items) flipped result }
+{
+    let mut orderings = Vec::new(alloc);
+    let given = tied(alloc, plan, instance, flipped, &mut orderings)?;
+    let outcome = owned(alloc, instance, given)?;
+    let choice = Choice { orderings };
+    Ok(TiedOutcome { choice, outcome })
+}
+
 /// The outcome of a plan over an instance under the choice that leaves rows that tie as they are.
 pub fn run_plan(
     alloc: Global,
@@ -100,8 +125,6 @@ pub fn run_plan(
     requires { fits (schema_of schema.now) (plan_of plan.now) ≡ true }
     ensures { IsRunOrRefused (plan_of plan.now) (instance_of instance.now.items) result }
 {
-    let mut orderings = Vec::new(alloc);
-    let given = tied(alloc, plan, instance, None, &mut orderings)?;
-    let outcome = owned(alloc, instance, given)?;
+    let TiedOutcome { outcome, .. } = eval_tied(alloc, plan, schema, instance, None)?;
     Ok(outcome)
 }

@@ -11,4 +11,6 @@ mod step;
 mod tie;
 
 pub use error::EvalError;
-pub use eval::{check_choice, eval_with, first_choice, run_plan, tied_choice};
+pub use eval::{
+    TiedOutcome, check_choice, eval_tied, eval_with, first_choice, run_plan, tied_choice,
+};

@@ -1,9 +1,10 @@
 use Rattle.std.proofs.Common.{◌≡◌, ◌≢◌, List, rules}
 use Rattle.serde_json.specs.View.{view}
 use Rattle.wd_certificate.specs.Certificates.{NodeRecord}
-use Rattle.wd_certificate.specs.Json.{list_json, node_json}
-use Rattle.wd_certificate.specs.declared.misread.Misread.TheVariants as misread
-use Rattle.wd_certificate.proofs.Lists.{is_no_list}
+use Rattle.wd_json.specs.Json.{list_json}
+use Rattle.wd_certificate.specs.Json.{node_json}
+use Rattle.wd_json.specs.declared.misread.Misread.TheVariants as misread
+use Rattle.wd_json.proofs.Lists.{is_no_list}
 use Rattle.wd_certificate.proofs.read.nodes.Goals as goal
 
 pub returns-in_err-read-clause-refused : goal.returns-in_err-read-clause-refused

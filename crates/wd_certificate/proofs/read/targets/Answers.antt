@@ -1,8 +1,9 @@
 use Rattle.std.proofs.Common.{◌≢◌, List, rules}
 use Rattle.serde_json.specs.View.{view}
 use Rattle.wd_certificate.specs.declared.certificate.Target.{Target as SpecTarget}
-use Rattle.wd_certificate.specs.Json.{list_json, target_json}
-use Rattle.wd_certificate.proofs.Lists.{is_no_list}
+use Rattle.wd_json.specs.Json.{list_json}
+use Rattle.wd_certificate.specs.Json.{target_json}
+use Rattle.wd_json.proofs.Lists.{is_no_list}
 use Rattle.wd_certificate.proofs.read.targets.Goals as goal
 
 pub returns-in_err-read-clause-refused : goal.returns-in_err-read-clause-refused

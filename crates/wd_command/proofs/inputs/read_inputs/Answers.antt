@@ -1,12 +1,12 @@
 use Rattle.std.proofs.Common.{arith, ◌≡◌, ◌∙◌, ℕ, zero, suc, List, [], ◌∷◌, drop, map, ap, refl, sym, subst}
 use Rattle.std.specs.List.{All, Any, Contains}
 use Rattle.wd_command.specs.CommandLine.{AreCommandLine, Asked, asked_by, line_of, table_words}
-use Rattle.wd_command.specs.CommandLine.{Check as AskedCheck, Explain as AskedExplain, Verify as AskedVerify, Run as AskedRun}
+use Rattle.wd_command.specs.CommandLine.{Check as AskedCheck, Explain as AskedExplain, Verify as AskedVerify, Refute as AskedRefute, Run as AskedRun}
 use Rattle.wd_command.specs.Failures.{IsTableWord}
 use Rattle.wd_command.specs.Files.{StandsNext}
 use Rattle.wd_command.specs.Inputs.{files_of}
 use Rattle.wd_command.specs.Inputs as spec
-use Rattle.wd_command.specs.Words.{AreTaskWords, AskFor, HasNoEquals, IsPlain, Task, Check, Explain, Verify, Run, word_of, words_of}
+use Rattle.wd_command.specs.Words.{AreTaskWords, AskFor, HasNoEquals, IsPlain, Task, Check, Explain, Verify, Refute, Run, word_of, words_of}
 use Rattle.wd_command.proofs.FailureLemmas.{HasReason-from_uncut, HasReason-from_unread, HasReason-from_words, IfErr-from_known, IfErr-from_same}
 use Rattle.wd_command.proofs.FilesLemmas.{ReadsNothing-refl}
 use Rattle.wd_command.proofs.inputs.read_inputs.Goals as goal
@@ -16,12 +16,14 @@ abbrev of_task : Task → Asked
 of_task (Check schema query) = AskedCheck schema query
 of_task (Explain schema query) = AskedExplain schema query
 of_task (Verify schema query certificate) = AskedVerify schema query certificate
+of_task (Refute schema query witness) = AskedRefute schema query witness
 of_task (Run schema query tables) = AskedRun schema query (map (λ t. word_of t.0 t.1) tables)
 
 same_line : (task : Task) → words_of task ≡ line_of (of_task task)
 same_line (Check schema query) = refl
 same_line (Explain schema query) = refl
 same_line (Verify schema query certificate) = refl
+same_line (Refute schema query witness) = refl
 same_line (Run schema query tables) = refl
 
 are_line : (words : List (List ℕ)) → AreTaskWords words → AreCommandLine words
@@ -47,9 +49,11 @@ none_lacking : (asked : Asked) (task : Task) → line_of asked ≡ words_of task
 none_lacking (AskedCheck s q) task same word lacks there = no_table word there
 none_lacking (AskedExplain s q) task same word lacks there = no_table word there
 none_lacking (AskedVerify s q t) task same word lacks there = no_table word there
+none_lacking (AskedRefute s q w) task same word lacks there = no_table word there
 none_lacking (AskedRun s q tables) (Check s' q') same word lacks there = cc
 none_lacking (AskedRun s q tables) (Explain s' q') same word lacks there = cc
 none_lacking (AskedRun s q tables) (Verify s' q' t) same word lacks there = cc
+none_lacking (AskedRun s q tables) (Refute s' q' w) same word lacks there = cc
 none_lacking (AskedRun s q tables) (Run s' q' given) same word lacks there = none_lacks given word lacks (subst (Any (λ w. w ≡ word)) (ap (drop 3) same) there)
 
 -- it stands in the place of NAME=PATH
@@ -57,6 +61,7 @@ table_word : (words : List (List ℕ)) (asked : Asked) → (All IsPlain words �
 table_word words (AskedCheck s q) are word there plain = absurd (no_table word there)
 table_word words (AskedExplain s q) are word there plain = absurd (no_table word there)
 table_word words (AskedVerify s q t) are word there plain = absurd (no_table word there)
+table_word words (AskedRefute s q w) are word there plain = absurd (no_table word there)
 table_word words (AskedRun s q tables) are word there plain = (s, q, tables, are plain, there)
 
 pub returns-in_err-request-clause-err : goal.returns-in_err-request-clause-err

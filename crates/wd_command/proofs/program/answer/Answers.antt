@@ -1,6 +1,6 @@
 use Rattle.std.proofs.Common.{◌≡◌, IfOk, List, ℕ, Result, map, subst, sym}
 use Rattle.std.proofs.lemmas.Result.{IfOk-weaker}
-use Rattle.wd_command.specs.Commands.{AnswersCheck, AnswersExplain, AnswersVerify, HasAnswer}
+use Rattle.wd_command.specs.Commands.{AnswersCheck, AnswersExplain, AnswersRefute, AnswersVerify, HasAnswer}
 use Rattle.wd_command.specs.Files.{File}
 use Rattle.wd_command.specs.Inputs.{file_of, files_of, task_of}
 use Rattle.wd_command.specs.declared.failure.Failure.{Failure}
@@ -27,3 +27,6 @@ returns-in-Explain-clause-ok c = answered c.args.inputs.now _ _ AnswersExplain c
 
 pub returns-in-Verify-clause-ok : goal.returns-in-Verify-clause-ok
 returns-in-Verify-clause-ok c = answered c.args.inputs.now _ _ AnswersVerify c.in-Verify.is c.as_slice-files.ensures.value (λ text status given. given) c.verify_output.result c.verify_output.ensures.ok
+
+pub returns-in-Refute-clause-ok : goal.returns-in-Refute-clause-ok
+returns-in-Refute-clause-ok c = answered c.args.inputs.now _ _ AnswersRefute c.in-Refute.is c.as_slice-files.ensures.value (λ text status given. given) c.refute_output.result c.refute_output.ensures.ok

@@ -11,12 +11,12 @@ returns-in_err-verify-clause-err c =
     let files = map file_of c.args.files.now in
     IfErr-from_known c.from_residual.result _ _ c.from_residual.ensures.1
     (IsRefusalBy-from_cause (HasCause (text_at files 0) (text_at files 1) (text_at files 2)) verify_input verify_number verify_place c.in_err-verify.field-0.0
-    (of_three (λ s q t. HasCause s q t c.in_err-verify.field-0.0) _ (text_at files 0) _ (text_at files 1) _ (text_at files 2) c.text_of.ensures c.text_of-2.ensures c.text_of-3.ensures c.in_err-verify.ensures.refused))
+    (of_three (λ s q t. HasCause s q t c.in_err-verify.field-0.0) _ (text_at files 0) _ (text_at files 1) _ (text_at files 2) c.text_of.ensures c.text_of-2.ensures c.text_of-certificate.ensures c.in_err-verify.ensures.refused))
 
 pub returns-clause-ok : goal.returns-clause-ok
 returns-clause-ok c =
     let files = map file_of c.args.files.now in (
-      of_three IsAccepted _ (text_at files 0) _ (text_at files 1) _ (text_at files 2) c.text_of.ensures c.text_of-2.ensures c.text_of-3.ensures c.in_ok-verify.ensures.accepted,
+      of_three IsAccepted _ (text_at files 0) _ (text_at files 1) _ (text_at files 2) c.text_of.ensures c.text_of-2.ensures c.text_of-certificate.ensures c.in_ok-verify.ensures.accepted,
       c.in_ok-text.ensures.items,
       refl,
     )

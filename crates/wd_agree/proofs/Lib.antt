@@ -1,0 +1,3 @@
+pub mod RowOrder
+pub mod RowsAt
+pub mod Agreeing

@@ -1,0 +1,7 @@
+use Rattle.std.proofs.Common.{take}
+use Rattle.wd_candidates.specs.Marks.{MarksMore}
+use Rattle.wd_candidates.specs.Origins.{is_in}
+use Rattle.wd_candidates.proofs.marks.mark_columns.Given as goal
+
+abbrev pub invariant-loop-column : goal.invariant-loop-column
+invariant-loop-column l = MarksMore l.initial.marks (λ c. is_in c (take l.column-index l.columns)) l.marks

@@ -1,0 +1,9 @@
+pub mod Origins
+pub mod Listed
+pub mod Fixed
+pub mod Filled
+pub mod Tied
+pub mod Candidates
+pub mod Outlines
+pub mod Marks
+pub mod Nodes

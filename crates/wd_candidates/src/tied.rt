@@ -1,0 +1,301 @@
+//! The table columns from which the columns of a class or the keys of a limit are computed.
+
+ghost use Rattle.std.specs.Prelude.{◌≡◌, ◌<◌, ◌≤◌, ◌+◌, ◌||◌, ℕ, true, drop, length, map, take, IfOk};
+ghost use Rattle.std.specs.Result.{result_map_both};
+ghost use Rattle.wd_candidates.specs.Marks.{MarkMore, MarksMore, is_marked};
+ghost use Rattle.wd_candidates.specs.Nodes.{AreNarrow, found};
+ghost use Rattle.wd_candidates.specs.Nodes as nodes;
+ghost use Rattle.wd_candidates.specs.Origins.{call_columns, is_in_wanted, is_in, is_source};
+ghost use Rattle.wd_candidates.specs.Outlines.{AreTied, AreTiedBy, tied_in};
+ghost use Rattle.wd_candidates.specs.Tied.{of_call, ordered_at, ordered_by};
+ghost use Rattle.wd_facts.specs.Given.{table_rule, used};
+ghost use Rattle.wd_plan.specs.Expressions.{expression_of};
+ghost use Rattle.wd_plan.specs.Fits.{fits, width};
+ghost use Rattle.wd_plan.specs.Outcomes.{class_at};
+ghost use Rattle.wd_plan.specs.Plans.{plan_of, window_of};
+ghost use Rattle.wd_plan.specs.Sorting.{class_columns};
+ghost use Rattle.wd_schema.specs.Schemas.{schema_of};
+ghost use Rattle.wd_value.specs.Keys.{key_columns};
+
+use crate::marks::{
+    is_marked, mark_argument, mark_class, mark_keys, mark_table, mark_used, unmarked,
+    unmarked_tables,
+};
+use std::alloc::Global;
+use wd_plan::{Call, Expr, Plan, Window};
+use wd_schema::Schema;
+use wd_value::{OutOfMemory, SortColumn};
+
+/// Whether each column of each table of the schema is tied.
+#[derive(Drop)]
+pub struct TiedColumns {
+    pub tables: Vec<Vec<bool>>,
+}
+
+/// The table columns from which the columns are computed by which a call, or a limit (no call), of the node with a number in
+/// postorder orders rows; None where the plan has no such call or limit.
+pub fn tied_columns(
+    alloc: Global,
+    schema: &Schema,
+    plan: &Plan,
+    node: u64,
+    call: Option<u32>,
+) -> Result<Option<TiedColumns>, OutOfMemory>
+    requires { fits (schema_of schema.now) (plan_of plan.now) ≡ true }
+    ensures { IfOk result (AreTiedBy (schema_of schema.now) (ordered_by (plan_of plan.now) node call)) }
+{
+    match find_node(plan, node) {
+        Ok(found) => tied_at(alloc, schema, found, call),
+        Err(_) => Ok(None),
+    }
+}
+
+/// The node with a number in postorder; past the last, how many numbers are left.
+fn find_node(plan: &Plan, number: u64) -> Result<&Plan, u64>
+    ensures { result_map_both (λ node. plan_of node.now) (λ left. left) result ≡ found (plan_of plan.now) number }
+{
+    match plan {
+        Plan::Scan { .. } => or_own(plan, Err(number)),
+        Plan::Join { left, right, .. } => match find_node(left, number) {
+            Ok(node) => Ok(node),
+            Err(more) => or_own(plan, find_node(right, more)),
+        },
+        Plan::Filter { input, .. } => or_own(plan, find_node(input, number)),
+        Plan::Map { input, .. } => or_own(plan, find_node(input, number)),
+        Plan::Window { input, .. } => or_own(plan, find_node(input, number)),
+        Plan::Distinct { input } => or_own(plan, find_node(input, number)),
+        Plan::Limit { input, .. } => or_own(plan, find_node(input, number)),
+    }
+}
+
+/// What was found below a node, or the node itself, where no number is left.
+fn or_own<'a>(plan: &'a Plan, below: Result<&'a Plan, u64>) -> Result<&'a Plan, u64>
+    ensures { result_map_both (λ node. plan_of node.now) (λ left. left) result ≡ nodes.or_own (plan_of plan.now) (result_map_both (λ node. plan_of node.now) (λ left. left) below.entry) }
+{
+    match below {
+        Ok(node) => Ok(node),
+        Err(0) => Ok(plan),
+        Err(more) => Err(more - 1),
+    }
+}
+
+/// The same of a node with its number found, and its call or limit.
+fn tied_at(
+    alloc: Global,
+    schema: &Schema,
+    plan: &Plan,
+    call: Option<u32>,
+) -> Result<Option<TiedColumns>, OutOfMemory>
+    requires { AreNarrow (plan_of plan.now) }
+    ensures { IfOk result (AreTiedBy (schema_of schema.now) (ordered_at call (plan_of plan.now))) }
+{
+    match (plan, call) {
+        (Plan::Window { input, window }, Some(number)) => {
+            tied_by_call(alloc, schema, input, window, number)
+        }
+        (Plan::Limit { input, limit }, None) => {
+            let tied = tied_by_keys(alloc, schema, input, &limit.keys)?;
+            Ok(Some(tied))
+        }
+        _ => Ok(None),
+    }
+}
+
+/// The same of a Window and its call with a number.
+fn tied_by_call(
+    alloc: Global,
+    schema: &Schema,
+    input: &Plan,
+    window: &Window,
+    number: u32,
+) -> Result<Option<TiedColumns>, OutOfMemory>
+    requires { AreNarrow (plan_of input.now) }
+    ensures { IfOk result (AreTiedBy (schema_of schema.now) (of_call (window_of window.now) (plan_of input.now) (Some number))) }
+{
+    match window.calls.get(number as usize) {
+        Some(call) => {
+            let tied = tied_by_class(alloc, schema, input, window, call)?;
+            Ok(Some(tied))
+        }
+        None => Ok(None),
+    }
+}
+
+/// The table columns from which the columns of a call's class are computed.
+fn tied_by_class(
+    alloc: Global,
+    schema: &Schema,
+    input: &Plan,
+    window: &Window,
+    call: &Call,
+) -> Result<TiedColumns, OutOfMemory>
+    requires { AreNarrow (plan_of input.now) }
+    ensures { IfOk result (AreTied (schema_of schema.now) (record { node = plan_of input.now; columns = class_columns (class_at (window_of window.now) call.now.class) })) }
+{
+    let mut wanted = unmarked(alloc, input.width() as usize)?;
+    mark_class_of(&mut wanted, window, call);
+    let tied = tied_by(alloc, schema, input, &wanted)?;
+    Ok(tied)
+}
+
+/// The table columns from which the columns of sort keys are computed.
+fn tied_by_keys(
+    alloc: Global,
+    schema: &Schema,
+    input: &Plan,
+    keys: &[SortColumn],
+) -> Result<TiedColumns, OutOfMemory>
+    requires { AreNarrow (plan_of input.now) }
+    ensures { IfOk result (AreTied (schema_of schema.now) (record { node = plan_of input.now; columns = key_columns keys.now })) }
+{
+    let mut wanted = unmarked(alloc, input.width() as usize)?;
+    mark_keys(&mut wanted, keys);
+    let tied = tied_by(alloc, schema, input, &wanted)?;
+    Ok(tied)
+}
+
+/// The table columns from which the wanted columns of a node are computed.
+fn tied_by(
+    alloc: Global,
+    schema: &Schema,
+    plan: &Plan,
+    wanted: &[bool],
+) -> Result<TiedColumns, OutOfMemory>
+    requires narrow { AreNarrow (plan_of plan.now) }
+    requires long { length wanted.now ≡ width (plan_of plan.now) }
+    ensures { IfOk result (λ t. (table c : ℕ) → c < length (table_rule (schema_of schema.now) table).columns → tied_in t table c ≡ is_source (plan_of plan.now) (is_marked wanted.now) table c) }
+{
+    let mut tables = unmarked_tables(alloc, schema)?;
+    mark_sources(alloc, plan, wanted, &mut tables)?;
+    Ok(TiedColumns { tables })
+}
+
+/// Marks the table columns from which the wanted columns of a node are computed.
+fn mark_sources(
+    alloc: Global,
+    plan: &Plan,
+    wanted: &[bool],
+    tables: &mut [Vec<bool>],
+) -> Result<(), OutOfMemory>
+    requires narrow { AreNarrow (plan_of plan.now) }
+    requires long { length wanted.now ≡ width (plan_of plan.now) }
+    ensures { IfOk result (λ _. MarkMore tables.old (is_source (plan_of plan.now) (is_marked wanted.now)) tables.new) }
+{
+    match plan {
+        Plan::Scan { table, .. } => {
+            mark_table(tables, *table, wanted);
+            Ok(())
+        }
+        Plan::Join { left, right, .. } => {
+            let (of_left, of_right) = split_wanted(left, wanted);
+            mark_sources(alloc, left, of_left, tables)?;
+            mark_sources(alloc, right, of_right, tables)?;
+            Ok(())
+        }
+        Plan::Filter { input, .. } => {
+            mark_sources(alloc, input, wanted, tables)?;
+            Ok(())
+        }
+        Plan::Map { input, outputs } => {
+            let used = used_by_outputs(alloc, input, outputs, wanted)?;
+            mark_sources(alloc, input, &used, tables)?;
+            Ok(())
+        }
+        Plan::Window { input, window } => {
+            let used = used_by_calls(alloc, input, window, wanted)?;
+            mark_sources(alloc, input, &used, tables)?;
+            Ok(())
+        }
+        Plan::Distinct { input } => {
+            mark_sources(alloc, input, wanted, tables)?;
+            Ok(())
+        }
+        Plan::Limit { input, .. } => {
+            mark_sources(alloc, input, wanted, tables)?;
+            Ok(())
+        }
+    }
+}
+
+/// Of the wanted columns of a Join or a Window those that its first input has, and those that stand after them.
+fn split_wanted<'a>(input: &Plan, wanted: &'a [bool]) -> (&'a [bool], &'a [bool])
+    requires narrow { AreNarrow (plan_of input.now) }
+    requires long { width (plan_of input.now) ≤ length wanted.now }
+    ensures front { result.0.now ≡ take (width (plan_of input.now)) wanted.now }
+    ensures back { result.1.now ≡ drop (width (plan_of input.now)) wanted.now }
+{
+    wanted.split_at(input.width() as usize)
+}
+
+/// The columns of a Map's input that its wanted outputs use.
+fn used_by_outputs(
+    alloc: Global,
+    input: &Plan,
+    outputs: &[Expr],
+    wanted: &[bool],
+) -> Result<Vec<bool>, OutOfMemory>
+    requires { AreNarrow (plan_of input.now) }
+    ensures long { IfOk result (λ v. length v.items ≡ width (plan_of input.now)) }
+    ensures used { IfOk result (λ v. (c : ℕ) → c < width (plan_of input.now) → is_marked v.items c ≡ is_in_wanted (map used (map expression_of outputs.now)) (is_marked wanted.now) c) }
+{
+    let mut marks = unmarked(alloc, input.width() as usize)?;
+    mark_outputs(&mut marks, outputs, wanted);
+    Ok(marks)
+}
+
+/// Marks the columns that the wanted outputs use.
+fn mark_outputs(marks: &mut [bool], outputs: &[Expr], wanted: &[bool])
+    ensures { MarksMore marks.old (is_in_wanted (map used (map expression_of outputs.now)) (is_marked wanted.now)) marks.new }
+{
+    for number in 0..outputs.len() {
+        if is_marked(wanted, number) {
+            mark_used(marks, &outputs[number]);
+        }
+    }
+}
+
+/// The columns of a Window's input that are wanted, or that its wanted calls are computed from.
+fn used_by_calls(
+    alloc: Global,
+    input: &Plan,
+    window: &Window,
+    wanted: &[bool],
+) -> Result<Vec<bool>, OutOfMemory>
+    requires narrow { AreNarrow (plan_of input.now) }
+    requires long { length wanted.now ≡ width (plan_of input.now) + length (window_of window.now).calls }
+    ensures long { IfOk result (λ v. length v.items ≡ width (plan_of input.now)) }
+    ensures used { IfOk result (λ v. (c : ℕ) → c < width (plan_of input.now) → is_marked v.items c ≡ (is_marked wanted.now c || is_in_wanted (map (call_columns (window_of window.now)) (window_of window.now).calls) (λ call. is_marked wanted.now (width (plan_of input.now) + call)) c)) }
+{
+    let (passed, of_calls) = split_wanted(input, wanted);
+    let mut marks = Vec::from_slice(alloc, passed)?;
+    mark_calls(&mut marks, window, of_calls);
+    Ok(marks)
+}
+
+/// Marks the columns that the wanted calls are computed from.
+fn mark_calls(marks: &mut [bool], window: &Window, wanted: &[bool])
+    ensures { MarksMore marks.old (is_in_wanted (map (call_columns (window_of window.now)) (window_of window.now).calls) (is_marked wanted.now)) marks.new }
+{
+    for number in 0..window.calls.len() {
+        if is_marked(wanted, number) {
+            mark_call(marks, window, &window.calls[number]);
+        }
+    }
+}
+
+/// Marks the columns that a call is computed from: its argument, and those of its class.
+fn mark_call(marks: &mut [bool], window: &Window, call: &Call)
+    ensures { MarksMore marks.old (λ c. is_in c (call_columns (window_of window.now) call.now)) marks.new }
+{
+    mark_argument(marks, call.function.argument());
+    mark_class_of(marks, window, call);
+}
+
+/// Marks the columns of a call's class.
+fn mark_class_of(marks: &mut [bool], window: &Window, call: &Call)
+    ensures { MarksMore marks.old (λ c. is_in c (class_columns (class_at (window_of window.now) call.now.class))) marks.new }
+{
+    if let Some(class) = window.classes.get(usize::from(call.class)) {
+        mark_class(marks, class);
+    }
+}

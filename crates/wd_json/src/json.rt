@@ -1,0 +1,109 @@
+//! The parts of a JSON value: its members one after another, lists, numbers and texts.
+
+ghost use Rattle.std.specs.Prelude.{◌≡◌, ◌≢◌, ℕ, List, Option, IfOk, IfErr};
+ghost use Rattle.serde_json.specs.Data.{Data, Items, Members, string, array, object, member, no_members};
+ghost use Rattle.serde_json.specs.View.{view, items_view, members_view};
+ghost use Rattle.wd_json.specs.Json.{number_json, two_members_json, optional_json};
+
+use crate::misread::Misread;
+use serde_json::{Map, Value};
+use std::collections::btree_map;
+
+/// The value of the next member, which must have this name. Members come in the order of their
+/// names, each once, whatever their order in the text.
+pub fn next_member<'v>(
+    members: &mut btree_map::Iter<'v, String, Value>,
+    name: &str,
+) -> Result<&'v Value, Misread>
+    ensures ok { IfOk result (λ v. members_view members.old ≡ member name.now (view v.now) (members_view members.new)) }
+    ensures refused { IfErr result (λ e. (d : Data) (ms : Members) → members_view members.old ≢ member name.now d ms) }
+{
+    match members.next() {
+        Some((key, value)) => {
+            if key.as_str() == name {
+                Ok(value)
+            } else {
+                Err(Misread::Shape)
+            }
+        }
+        None => Err(Misread::Shape),
+    }
+}
+
+pub fn no_more_members(members: &mut btree_map::Iter<'_, String, Value>) -> Result<(), Misread>
+    ensures ok { IfOk result (λ _. members_view members.old ≡ no_members) }
+    ensures refused { IfErr result (λ e. members_view members.old ≢ no_members) }
+{
+    match members.next() {
+        Some(_) => Err(Misread::Shape),
+        None => Ok(()),
+    }
+}
+
+pub fn object<'v>(value: &'v Value) -> Result<&'v Map<String, Value>, Misread>
+    ensures ok { IfOk result (λ m. view value.now ≡ object (members_view m.now.entries)) }
+    ensures refused { IfErr result (λ e. (ms : Members) → view value.now ≢ object ms) }
+{
+    match value {
+        Value::Object(map) => Ok(map),
+        _ => Err(Misread::Shape),
+    }
+}
+
+pub fn list<'v>(value: &'v Value) -> Result<&'v [Value], Misread>
+    ensures ok { IfOk result (λ l. view value.now ≡ array (items_view l.now)) }
+    ensures refused { IfErr result (λ e. (ds : Items) → view value.now ≢ array ds) }
+{
+    match value {
+        Value::Array(list) => Ok(list),
+        _ => Err(Misread::Shape),
+    }
+}
+
+/// The values of an object that has these two members and no other, in the order of the names.
+pub fn two_members<'v>(
+    value: &'v Value,
+    first: &str,
+    second: &str,
+) -> Result<(&'v Value, &'v Value), Misread>
+    ensures ok { IfOk result (λ p. view value.now ≡ two_members_json first.now (view p.0.now) second.now (view p.1.now)) }
+    ensures refused { IfErr result (λ e. (a b : Data) → view value.now ≢ two_members_json first.now a second.now b) }
+{
+    let mut members = object(value)?.iter();
+    let a = next_member(&mut members, first)?;
+    let b = next_member(&mut members, second)?;
+    no_more_members(&mut members)?;
+    Ok((a, b))
+}
+
+/// A whole number below 2^64, written without a fraction or an exponent.
+pub fn number(value: &Value) -> Result<u64, Misread>
+    ensures ok { IfOk result (λ n. view value.now ≡ number_json n) }
+    ensures refused { IfErr result (λ e. (n : ℕ) → view value.now ≢ number_json n) }
+{
+    match value.as_u64() {
+        Some(n) => Ok(n),
+        None => Err(Misread::Shape),
+    }
+}
+
+/// A number or null.
+pub fn optional_number(value: &Value) -> Result<Option<u64>, Misread>
+    ensures ok { IfOk result (λ o. view value.now ≡ optional_json o) }
+    ensures refused { IfErr result (λ e. (o : Option ℕ) → view value.now ≢ optional_json o) }
+{
+    match value {
+        Value::Null => Ok(None),
+        _ => Ok(Some(number(value)?)),
+    }
+}
+
+pub fn text<'v>(value: &'v Value) -> Result<&'v str, Misread>
+    ensures ok { IfOk result (λ s. view value.now ≡ string s.now) }
+    ensures refused { IfErr result (λ e. (s : List ℕ) → view value.now ≢ string s) }
+{
+    match value {
+        Value::String(text) => Ok(text.as_str()),
+        _ => Err(Misread::Shape),
+    }
+}

@@ -1,0 +1,3 @@
+pub mod Passing
+pub mod Tried
+pub mod Searching

@@ -1,0 +1,3 @@
+pub mod Evaluations
+pub mod Search
+pub mod Tries

@@ -1,0 +1,3 @@
+pub mod Refutation
+pub mod Judged
+pub mod Laws

@@ -1,0 +1,87 @@
+//! Whether a witness is true of a plan.
+
+ghost use Rattle.std.specs.Prelude.{◌≡◌, true, OnOk, IfOk, IfErr};
+ghost use Rattle.wd_plan.specs.Fits.{fits};
+ghost use Rattle.wd_plan.specs.Plans.{plan_of};
+ghost use Rattle.wd_refute.specs.Refutation.{IsTrue, RefusesChoices, RefusesText, RefusesWitness, SpellsTrue};
+ghost use Rattle.wd_refute.specs.Judged.{Differ, IsOutcomeUnder, RefusesChoice};
+ghost use Rattle.wd_schema.specs.Schemas.{schema_of};
+ghost use Rattle.wd_value.specs.Rows.{instance_of};
+ghost use Rattle.wd_witness.specs.Witnesses.{positions_of, witness_of};
+
+use crate::error::Refusal;
+use std::alloc::Global;
+use wd_agree::SortedOutcome;
+use wd_eval::{EvalError, eval_with};
+use wd_plan::{Choice, Plan};
+use wd_schema::{Schema, meets};
+use wd_value::Instance;
+use wd_witness::{Witness, read_witness};
+
+/// Whether a text spells a true witness of a plan.
+pub(crate) fn refute_plan(
+    alloc: Global,
+    schema: &Schema,
+    plan: &Plan,
+    witness: &[u8],
+) -> Result<(), Refusal>
+    requires { fits (schema_of schema.now) (plan_of plan.now) ≡ true }
+    ensures refuted { OnOk result (SpellsTrue witness.now (schema_of schema.now) (plan_of plan.now)) }
+    ensures refused { IfErr result (λ r. RefusesText r witness.now (schema_of schema.now) (plan_of plan.now)) }
+{
+    let witness = read_witness(alloc, schema, witness)?;
+    check(alloc, schema, plan, &witness)
+}
+
+/// Whether a witness is true of a plan.
+fn check(alloc: Global, schema: &Schema, plan: &Plan, witness: &Witness) -> Result<(), Refusal>
+    requires { fits (schema_of schema.now) (plan_of plan.now) ≡ true }
+    ensures is_true { OnOk result (IsTrue (schema_of schema.now) (plan_of plan.now) (witness_of witness.now)) }
+    ensures refused { IfErr result (λ r. RefusesWitness r (schema_of schema.now) (plan_of plan.now) (witness_of witness.now)) }
+{
+    let instance = witness.instance(alloc, schema)?;
+    if meets(schema, &instance).is_err() {
+        return Err(Refusal::NotMet);
+    }
+    differ(alloc, schema, plan, &instance, witness)
+}
+
+/// Whether a plan's outcomes over an instance differ under the two choices of a witness.
+fn differ(
+    alloc: Global,
+    schema: &Schema,
+    plan: &Plan,
+    instance: &Instance,
+    witness: &Witness,
+) -> Result<(), Refusal>
+    requires fits { fits (schema_of schema.now) (plan_of plan.now) ≡ true }
+    ensures differ { OnOk result (Differ (plan_of plan.now) (instance_of instance.now.items) (positions_of witness.now.first.orderings.items) (positions_of witness.now.second.orderings.items)) }
+    ensures refused { IfErr result (λ r. RefusesChoices r (plan_of plan.now) (instance_of instance.now.items) (positions_of witness.now.first.orderings.items) (positions_of witness.now.second.orderings.items)) }
+{
+    let first = outcome_under(alloc, schema, plan, instance, &witness.first)?;
+    let second = outcome_under(alloc, schema, plan, instance, &witness.second)?;
+    if first.agrees(&second) {
+        return Err(Refusal::OneAnswer);
+    }
+    Ok(())
+}
+
+/// A plan's outcome over an instance under a choice, ready to be compared.
+fn outcome_under(
+    alloc: Global,
+    schema: &Schema,
+    plan: &Plan,
+    instance: &Instance,
+    choice: &Choice,
+) -> Result<SortedOutcome, Refusal>
+    requires { fits (schema_of schema.now) (plan_of plan.now) ≡ true }
+    ensures outcome { IfOk result (λ o. IsOutcomeUnder (plan_of plan.now) (instance_of instance.now.items) (positions_of choice.now.orderings.items) o) }
+    ensures refused { IfErr result (λ r. RefusesChoice r (plan_of plan.now) (instance_of instance.now.items) (positions_of choice.now.orderings.items)) }
+{
+    match eval_with(alloc, plan, schema, instance, choice) {
+        Ok(outcome) => Ok(SortedOutcome::new(alloc, outcome)?),
+        Err(EvalError::NotValid(_)) => Err(Refusal::NotValid),
+        Err(EvalError::TooManyRows) => Err(Refusal::TooManyRows),
+        Err(EvalError::OutOfMemory) => Err(Refusal::OutOfMemory),
+    }
+}

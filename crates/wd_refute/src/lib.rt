@@ -1,0 +1,10 @@
+//! Whether a witness's text shows two answers of the query of a schema's text and a query's text.
+#![tactic(auto)]
+
+mod error;
+mod judge;
+pub mod laws;
+mod texts;
+
+pub use error::{Refusal, WitnessError, WitnessOrigin};
+pub use texts::{Refuted, refute};

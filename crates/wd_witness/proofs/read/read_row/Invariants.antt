@@ -1,0 +1,7 @@
+use Rattle.std.proofs.Common.{◌≡◌, map, take}
+use Rattle.serde_json.specs.View.{view}
+use Rattle.wd_witness.specs.Json.{value_json}
+use Rattle.wd_witness.proofs.read.read_row.Given as goal
+
+abbrev pub invariant-loop-item : goal.invariant-loop-item
+invariant-loop-item l = map view (take l.item-index l.values) ≡ map value_json l.found.items
