@@ -4,8 +4,9 @@
     python3 tests/stored_answers.py PROGRAM
 
 Each folder of examples/ has schema.sql, query.sql, a CSV file for each table and answer.csv, which `run` prints, and
-check.txt: what `check` prints, but for the certificate, which may use other facts and which `verify` must accept. Where
-there is explain.txt too, `explain` prints it, and where there is certificate.json, `verify` accepts it. tests/frames has
+check.txt: what `check` prints, but for the certificate, which may use other facts and which `verify` must accept.
+Where there is explain.txt too, `explain` prints it, where there is certificate.json, `verify`
+accepts it, and where there is witness.json, `refute` does. tests/frames has
 one schema and one table and many queries, each beside its answer: each function of a window in each mode of frame with
 each exclusion; those answers are PostgreSQL 15's. Each run must end with the status of its answer, print exactly what is
 stored and nothing on standard error. A missing answer is a failure, and so is a folder without queries. The last line is
@@ -35,7 +36,7 @@ def frames():
         yield f"{folder}/schema.sql", query, [f"{folder}/t.csv"], query.removesuffix(".sql") + ".csv"
 
 
-STATUSES = {"DETERMINISTIC": 0, "UNKNOWN": 2}
+STATUSES = {"DETERMINISTIC": 0, "DEPENDS": 1, "UNKNOWN": 2}
 
 
 def complaint(words, status, wanted):
@@ -63,8 +64,9 @@ def wrong_verdict(program, folder):
     """What is wrong with what `check` says of an example, or None."""
     texts = [f"{folder}/schema.sql", f"{folder}/query.sql"]
     wanted = stored(f"{folder}/check.txt")
-    if wanted != b"DETERMINISTIC\n":
-        return complaint([program, "check", *texts], STATUSES["UNKNOWN"], wanted)
+    word = wanted.decode().splitlines()[0]
+    if word != "DETERMINISTIC":
+        return complaint([program, "check", *texts], STATUSES[word], wanted)
     ran = subprocess.run([program, "check", *texts], stdin=subprocess.DEVNULL, capture_output=True, timeout=300)
     lines = ran.stdout.split(b"\n")
     if (ran.returncode, ran.stderr, len(lines), lines[0], lines[-1]) != (0, b"", 3, b"DETERMINISTIC", b""):
@@ -87,6 +89,11 @@ def wrong_certificate(program, folder, certificate):
     return complaint([program, "verify", f"{folder}/schema.sql", f"{folder}/query.sql", certificate], 0, b"ACCEPTED\n")
 
 
+def wrong_witness(program, folder):
+    """What is wrong where the program does not accept an example's witness, or None."""
+    return complaint([program, "refute", f"{folder}/schema.sql", f"{folder}/query.sql", f"{folder}/witness.json"], 1, b"REFUTED\n")
+
+
 def trials(program):
     """Each file that is tried, with what is wrong with it."""
     for schema, query, tables, answer in [*examples(), *frames()]:
@@ -97,6 +104,8 @@ def trials(program):
             yield f"{folder}/explain.txt", wrong_explanation(program, folder)
         if os.path.exists(f"{folder}/certificate.json"):
             yield f"{folder}/certificate.json", wrong_certificate(program, folder, f"{folder}/certificate.json")
+        if os.path.exists(f"{folder}/witness.json"):
+            yield f"{folder}/witness.json", wrong_witness(program, folder)
 
 
 def main():

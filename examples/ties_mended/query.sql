@@ -1,5 +1,5 @@
--- The latest orders; the id parts orders of one day.
+-- The latest order; the id parts orders of one day.
 SELECT day, customer, cents
 FROM orders
 ORDER BY day DESC, id
-FETCH FIRST 5 ROWS ONLY
+FETCH FIRST ROW ONLY

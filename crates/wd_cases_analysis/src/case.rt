@@ -23,6 +23,7 @@ impl Queries {
         match word {
             "analyse" => found::analysed(alloc, schema, &query),
             "examine" => found::examined(alloc, schema, &query),
+            "seek" => found::sought(alloc, schema, &query),
             "decide" => verdict::decided(alloc, schema, &query),
             "why" => verdict::why(alloc, schema, &query),
             _ => Err(Failure::NoCase),

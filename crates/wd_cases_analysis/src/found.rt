@@ -3,9 +3,10 @@ use crate::shown::push_analysis;
 use crate::verdict::failure_of;
 use std::alloc::Global;
 use wd_analyse::{Analysis, analyse};
-use wd_cases::Failure;
+use wd_cases::{Failure, in_one_line};
 use wd_decide::{Examined, examine};
 use wd_query::read_texts;
+use wd_seek::seek;
 
 fn analysis_of(alloc: Global, schema: &[u8], query: &[u8]) -> Result<Analysis, Failure> {
     match read_texts(alloc, schema, query) {
@@ -36,4 +37,29 @@ fn shown(alloc: Global, examined: &Examined) -> Result<String, Failure> {
     let mut out = format!(in alloc; "nodes: {nodes}, columns: {columns}, ")?;
     push_analysis(&mut out, &examined.analysis)?;
     Ok(out)
+}
+
+/// `seek QUERY`: how many evaluations the search for a witness makes, and the witness's text.
+pub fn sought(alloc: Global, schema: &[u8], query: &[u8]) -> Result<String, Failure> {
+    match examine(alloc, schema, query) {
+        Ok(examined) => search(alloc, &examined),
+        Err(error) => Err(failure_of(&error)),
+    }
+}
+
+fn search(alloc: Global, examined: &Examined) -> Result<String, Failure> {
+    let planned = &examined.planned;
+    let (found, spent) = seek(
+        alloc,
+        &planned.schema,
+        &planned.resolved.plan,
+        &examined.analysis,
+    )?;
+    match found {
+        Some(witness) => {
+            let text = in_one_line(alloc, &witness.to_json(alloc)?)?;
+            Ok(format!(in alloc; "{spent} evaluations: {text}")?)
+        }
+        None => Ok(format!(in alloc; "{spent} evaluations, none")?),
+    }
 }

@@ -6,17 +6,21 @@ use wd_analyse::Reason;
 use wd_cases::Failure;
 use wd_certificate::Certificate;
 use wd_decide::{DecideError, Verdict, decide};
+use wd_refute::refute;
+use wd_witness::Witness;
 
 pub fn failure_of(error: &DecideError) -> Failure {
     Failure::refused(error.number(), error.place())
 }
 
-/// `decide QUERY`: the verdict, with what `verify` says of the certificate's text, or with the reasons.
+/// `decide QUERY`: the verdict, with what `verify` says of the certificate's text or `refute` of the
+/// witness's, or with the reasons.
 pub fn decided(alloc: Global, schema: &[u8], query: &[u8]) -> Result<String, Failure> {
     match decide(alloc, schema, query) {
         Ok(Verdict::Deterministic(certificate)) => {
             deterministic(alloc, schema, query, &certificate)
         }
+        Ok(Verdict::Depends(witness)) => depends(alloc, schema, query, &witness),
         Ok(Verdict::Unknown(reasons)) => unknown(alloc, &reasons),
         Err(error) => Err(failure_of(&error)),
     }
@@ -31,6 +35,19 @@ fn deterministic(
     let text = certificate.to_json(alloc)?;
     match verify(alloc, schema, query, &text) {
         Ok(_) => Ok(String::from_str(alloc, "deterministic, accepted")?),
+        Err(error) => Err(Failure::refused(error.number(), error.place())),
+    }
+}
+
+fn depends(
+    alloc: Global,
+    schema: &[u8],
+    query: &[u8],
+    witness: &Witness,
+) -> Result<String, Failure> {
+    let text = witness.to_json(alloc)?;
+    match refute(alloc, schema, query, &text) {
+        Ok(_) => Ok(String::from_str(alloc, "depends, refuted")?),
         Err(error) => Err(Failure::refused(error.number(), error.place())),
     }
 }
@@ -55,8 +72,9 @@ pub fn memory(alloc: Global) -> Result<String, Failure> {
     failure_of(&error).explained(alloc, &error)
 }
 
-/// `laws`: the law of the verdicts is a function, which returns.
+/// `laws`: the laws of the verdicts are functions, which return.
 pub fn laws(alloc: Global) -> Result<String, Failure> {
     wd_decide::laws::reported_are_sound();
+    wd_decide::laws::reported_are_true();
     Ok(String::from_str(alloc, "hold")?)
 }

@@ -96,6 +96,6 @@ explanation tables plan analysis verdict = plan_lines tables analysis 0 plan ++ 
 -- what is printed of a plan and what was found of it, with the status of the verdict
 pub record Explains (examined : Examined) (text : List ℕ) (status : ℕ) : Type 0 where
   pub verdict : Verdict
-  pub given : IsVerdictOf examined.analysis verdict
+  pub given : IsVerdictOf (schema_of examined.planned.schema) (plan_of examined.planned.resolved.plan) examined.analysis verdict
   pub is : text ≡ explanation (schema_of examined.planned.schema) (plan_of examined.planned.resolved.plan) examined.analysis verdict
   pub ends : status ≡ verdict_status verdict

@@ -3,16 +3,19 @@ use Rattle.std.specs.Prelude.{ℕ, List, ◌++◌, codes, flat_map}
 use Rattle.wd_certificate.specs.Certificates.{nodes_of}
 use Rattle.wd_certificate.specs.Json.{certificate_text}
 use Rattle.wd_analyse.specs.declared.analysis.Reason.{Reason}
+use Rattle.wd_witness.specs.Json.{witness_text}
+use Rattle.wd_witness.specs.Witnesses.{witness_of}
 use Rattle.wd_decide.specs.declared.verdict.Verdict.{Verdict}
-use Rattle.wd_decide.specs.declared.verdict.Verdict.TheVariants.{Deterministic, Unknown}
+use Rattle.wd_decide.specs.declared.verdict.Verdict.TheVariants.{Deterministic, Depends, Unknown}
 use Rattle.wd_report.specs.Words.{lack_words, line, place_words, verdict_word}
 
 abbrev pub reason_line : Reason → List ℕ
 reason_line reason = line (place_words reason.node reason.call ++ codes ": " ++ lack_words reason.lack)
 
--- the certificate on a line, or the reasons, one a line
+-- the certificate on a line, the witness on a line, or the reasons, one a line
 abbrev pub evidence_lines : Verdict → List ℕ
 evidence_lines (Deterministic certificate) = line (certificate_text (nodes_of certificate))
+evidence_lines (Depends witness) = line (witness_text (witness_of witness))
 evidence_lines (Unknown reasons) = flat_map reason_line reasons.items
 
 -- the verdict's word on a line, and what stands for it
@@ -22,4 +25,5 @@ verdict_text verdict = line (verdict_word verdict) ++ evidence_lines verdict
 -- the exit status for a verdict
 abbrev pub verdict_status : Verdict → ℕ
 verdict_status (Deterministic certificate) = 0
+verdict_status (Depends witness) = 1
 verdict_status (Unknown reasons) = 2

@@ -6,7 +6,7 @@ use Rattle.wd_analyse.specs.declared.analysis.RuleName.TheVariants.{Peers, Uniqu
 use Rattle.wd_analyse.specs.declared.decided.Lack.{Lack}
 use Rattle.wd_analyse.specs.declared.decided.Lack.TheVariants as lack
 use Rattle.wd_decide.specs.declared.verdict.Verdict.{Verdict}
-use Rattle.wd_decide.specs.declared.verdict.Verdict.TheVariants.{Deterministic, Unknown}
+use Rattle.wd_decide.specs.declared.verdict.Verdict.TheVariants.{Deterministic, Depends, Unknown}
 
 -- a line of text: its characters and a line feed
 abbrev pub line : List ℕ → List ℕ
@@ -14,6 +14,7 @@ line text = text ++ 10 ∷ []
 
 abbrev pub verdict_word : Verdict → List ℕ
 verdict_word (Deterministic certificate) = codes "DETERMINISTIC"
+verdict_word (Depends witness) = codes "DEPENDS"
 verdict_word (Unknown reasons) = codes "UNKNOWN"
 
 -- a rule's name; what has no rule is open

@@ -25,7 +25,7 @@ pub fn explain(alloc: Global, examined: Examined) -> Result<Output, OutOfMemory>
     ensures { IfOk result (λ r. spec.Explains examined r.text.items r.status) }
 {
     let mut text = plan_text(alloc, &examined)?;
-    let verdict = examined.verdict();
+    let verdict = examined.verdict(alloc)?;
     writeln!(text, "{}", verdict_word(&verdict))?;
     Ok(Output {
         text: text.into_bytes(),

@@ -4,6 +4,8 @@ ghost use Rattle.std.specs.Prelude.{◌≡◌, ◌++◌, codes, flat_map, IfOk};
 ghost use Rattle.std.specs.String.{string_bytes};
 ghost use Rattle.wd_certificate.specs.Certificates.{nodes_of};
 ghost use Rattle.wd_certificate.specs.Json.{certificate_text};
+ghost use Rattle.wd_witness.specs.Json.{witness_text};
+ghost use Rattle.wd_witness.specs.Witnesses.{witness_of};
 ghost use Rattle.wd_report.specs.Verdicts as spec;
 ghost use Rattle.wd_report.specs.Words.{lack_words, line, place_words, verdict_word};
 
@@ -13,6 +15,7 @@ use wd_analyse::{Lack, Reason};
 use wd_certificate::Certificate;
 use wd_decide::Verdict;
 use wd_value::OutOfMemory;
+use wd_witness::Witness;
 
 /// What is printed on standard output, and the exit status.
 #[derive(Drop)]
@@ -21,8 +24,8 @@ pub struct Output {
     pub status: u8,
 }
 
-/// The verdict's word on a line, then the certificate on a line or the reasons, one a line; status 0 for `DETERMINISTIC`, 2 for
-/// `UNKNOWN`.
+/// The verdict's word on a line, then the certificate on a line, the witness on a line, or the reasons, one a line; status 0 for
+/// `DETERMINISTIC`, 1 for `DEPENDS`, 2 for `UNKNOWN`.
 pub fn report(alloc: Global, verdict: &Verdict) -> Result<Output, OutOfMemory>
     ensures text { IfOk result (λ r. r.text.items ≡ spec.verdict_text verdict.now) }
     ensures status { IfOk result (λ r. r.status ≡ spec.verdict_status verdict.now) }
@@ -30,6 +33,7 @@ pub fn report(alloc: Global, verdict: &Verdict) -> Result<Output, OutOfMemory>
     let status = verdict_status(verdict);
     let text = match verdict {
         Verdict::Deterministic(certificate) => certified(alloc, certificate)?,
+        Verdict::Depends(witness) => refuted(alloc, witness)?,
         Verdict::Unknown(reasons) => unknown(alloc, reasons)?,
     };
     Ok(Output { text, status })
@@ -41,6 +45,7 @@ pub(crate) fn verdict_status(verdict: &Verdict) -> u8
 {
     match verdict {
         Verdict::Deterministic(_) => 0,
+        Verdict::Depends(_) => 1,
         Verdict::Unknown(_) => 2,
     }
 }
@@ -51,6 +56,7 @@ pub(crate) fn verdict_word(verdict: &Verdict) -> &'static str
 {
     match verdict {
         Verdict::Deterministic(_) => "DETERMINISTIC",
+        Verdict::Depends(_) => "DEPENDS",
         Verdict::Unknown(_) => "UNKNOWN",
     }
 }
@@ -60,8 +66,23 @@ fn certified(alloc: Global, certificate: &Certificate) -> Result<Vec<u8>, OutOfM
     ensures { IfOk result (λ t. t.items ≡ line (codes "DETERMINISTIC") ++ line (certificate_text (nodes_of certificate.now))) }
 {
     let certificate = certificate.to_json(alloc)?;
-    let mut text = Vec::from_slice(alloc, b"DETERMINISTIC\n")?;
-    text.extend_from_slice(&certificate)?;
+    with_evidence(alloc, b"DETERMINISTIC\n", &certificate)
+}
+
+/// What is printed of a verdict with this witness.
+fn refuted(alloc: Global, witness: &Witness) -> Result<Vec<u8>, OutOfMemory>
+    ensures { IfOk result (λ t. t.items ≡ line (codes "DEPENDS") ++ line (witness_text (witness_of witness.now))) }
+{
+    let witness = witness.to_json(alloc)?;
+    with_evidence(alloc, b"DEPENDS\n", &witness)
+}
+
+/// The line of a word, and on the next line the evidence.
+fn with_evidence(alloc: Global, word: &[u8], evidence: &[u8]) -> Result<Vec<u8>, OutOfMemory>
+    ensures { IfOk result (λ t. t.items ≡ word.now ++ line evidence.now) }
+{
+    let mut text = Vec::from_slice(alloc, word)?;
+    text.extend_from_slice(evidence)?;
     text.push(b'\n')?;
     Ok(text)
 }

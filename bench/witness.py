@@ -1,0 +1,77 @@
+#!/usr/bin/env python3
+"""Times how long the program takes to search for a witness that is not there, and to judge large witnesses.
+
+    python3 bench/witness.py [PROGRAM]
+    python3 bench/witness.py --write FOLDER
+
+First come the searches, by `check`: eight tables joined to all their pairs of rows, 65,536 where each has four rows. A limit that
+takes nothing stands on top, so that no two outcomes differ and the search goes on to its end. In the first the limit alone is
+open, which is 18 evaluations; in the second there are calls enough for 2,000, a third of them over four rows in each table. Then
+come the witnesses, by `refute`: three tables of 64 rows, joined to 262,144 rows, in which two rows differ, and four, the fourth
+of 38 rows, joined to 9,961,472, near the most that a step may have. Prints the seconds and the most memory of one run each.
+PROGRAM is the built program (default: crates/wdcheck/out/wdcheck, which ./wdcheck builds). With --write the texts are written to
+a folder in place of that.
+"""
+
+import json
+import os
+import sys
+import tempfile
+
+import verify
+
+JOINED, CALLS, ROWS, LAST_ROWS = "abcdefgh", 110, 64, 38
+SCHEMA = "CREATE TABLE t (id BIGINT PRIMARY KEY, v BIGINT);\n"
+
+
+def search_texts(calls):
+    """A query with two answers but for its limit, and as many calls that are open."""
+    tables = ", ".join("t AS %s" % name for name in JOINED)
+    items = "".join(", NTILE(%d) OVER (ORDER BY a.v)" % (n + 1) for n in range(calls))
+    return {"schema.sql": SCHEMA, "query.sql": "SELECT a.id%s FROM %s ORDER BY a.v LIMIT 0\n" % (items, tables)}
+
+
+def witness_texts(sizes):
+    """A query over all pairs of rows, and a witness whose choices swap two rows that tie."""
+    names = ["t%d" % n for n in range(len(sizes))]
+    schema = "".join("CREATE TABLE %s (id BIGINT PRIMARY KEY);\n" % name for name in names)
+    query = "SELECT %s, ROW_NUMBER() OVER () FROM %s\n" % (", ".join(name + ".id" for name in names), ", ".join(names))
+    rows = 1
+    for size in sizes:
+        rows *= size
+    first = list(range(rows))
+    second = [1, 0] + first[2:]
+    tables = {name: [[n] for n in range(size)] for name, size in zip(names, sizes)}
+    return {"schema.sql": schema, "query.sql": query, "witness.json": json.dumps({"first": [first], "second": [second], "tables": tables}, separators=(",", ":"))}
+
+
+def all_texts():
+    """What is run: a title, the command, the statuses allowed, and the texts."""
+    yield "18 evaluations", "check", (2,), search_texts(0)
+    yield "2,000 evaluations", "check", (2,), search_texts(CALLS)
+    yield "262,144 rows", "refute", (1,), witness_texts([ROWS] * 3)
+    yield "9,961,472 rows", "refute", (1,), witness_texts([ROWS] * 3 + [LAST_ROWS])
+
+
+def write(folder, texts):
+    """Writes the texts, and returns their paths in the order of the words."""
+    for name, text in texts.items():
+        with open(os.path.join(folder, name), "w", encoding="utf-8") as file:
+            file.write(text)
+    return [os.path.join(folder, name) for name in texts]
+
+
+def main():
+    if sys.argv[1:2] == ["--write"]:
+        for number, (_, _, _, texts) in enumerate(all_texts()):
+            write(sys.argv[2], {"%d.%s" % (number, name): text for name, text in texts.items()})
+        return
+    program = sys.argv[1] if len(sys.argv) > 1 else os.path.join(verify.TOP, "crates/wdcheck/out/wdcheck")
+    with tempfile.TemporaryDirectory() as folder:
+        for title, command, allowed, texts in all_texts():
+            seconds, memory = verify.measure([program, command, *write(folder, texts)], allowed)
+            print("%-20s %8.2f s, %5.0f MB at most" % (title, seconds, memory), flush=True)
+
+
+if __name__ == "__main__":
+    main()

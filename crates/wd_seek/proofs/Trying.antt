@@ -1,0 +1,86 @@
+-- What is found over the candidate of one shape.
+use Rattle.std.proofs.Common.{◌≡◌, ℕ, ◌+◌, ◌<◌, ◌≤◌, Bool, true, false, List, [], ◌∷◌, ◌++◌, filter, flat_map, length, get_or, take, drop, Option, Some, None, refl, sym, subst, ap, ◌∙◌}
+use Rattle.std.proofs.lemmas.Grind.{flat_map-append}
+use Rattle.std.proofs.lemmas.List.{append-nil, take_all, take_more, take-append-drop}
+use Rattle.std.proofs.lemmas.List.Elements.{filter-append}
+use Rattle.wd_value.specs.Rows.{Instance}
+use Rattle.wd_schema.specs.Meets.{Meets}
+use Rattle.wd_schema.specs.Tables.{TableRule}
+use Rattle.wd_plan.specs.Plans.{PlanTree}
+use Rattle.wd_witness.specs.declared.witness.Witness.{Witness}
+use Rattle.wd_candidates.specs.Candidates.{candidate}
+use Rattle.wd_candidates.specs.Outlines.{IsOutline}
+use Rattle.wd_candidates.specs.Tied.{NodeColumns}
+use Rattle.wd_candidates.specs.declared.outline.Outline.{Outline}
+use Rattle.wd_candidates.specs.declared.shape.Shape.{Shape}
+use Rattle.wd_probe.specs.Evaluations.{most_evaluations}
+use Rattle.wd_probe.specs.Search.{FindsNothing}
+use Rattle.wd_probe.proofs.Searching.{nothing_then, nothing_to_try, two_before, two_then}
+use Rattle.wd_seek.specs.Sought.{IsSought, is_meeting}
+use Rattle.wd_seek.specs.Tried.{IsTried}
+use Rattle.wd_seek.proofs.Meeting.{meets_from_test, test_from_meets}
+use Rattle.wd_seek.proofs.Over.{all_fit, all_tables, has_name, is_name, is_over}
+
+pub not_met : (tables : List TableRule) (plan : PlanTree) (instance : Instance) (start : ℕ) → (Meets tables instance → ⊥) → FindsNothing plan (filter (is_meeting tables) (instance ∷ [])) start start
+not_met tables plan instance start other = by (is_meeting tables instance) refl
+  where
+    by : (b : Bool) → is_meeting tables instance ≡ b → FindsNothing plan (filter (is_meeting tables) (instance ∷ [])) start start
+    by true e = absurd (other (meets_from_test tables instance e))
+    by false e = rw e (nothing_to_try plan start)
+
+pub met : (tables : List TableRule) (plan : PlanTree) (outline : Outline) (o : NodeColumns) (shape : Shape) (start end : ℕ) (found : Option Witness) → IsOutline tables plan outline → shape.rows ≤ 64
+    → Meets tables (candidate tables plan o shape) → IsTried tables plan outline (candidate tables plan o shape) start found end
+    → IsSought tables plan (filter (is_meeting tables) (candidate tables plan o shape ∷ [])) start found end
+met tables plan outline o shape start end None is_outline small meets h = rw (test_from_meets tables (candidate tables plan o shape) meets) h
+met tables plan outline o shape start end (Some w) is_outline small meets h =
+    rw (test_from_meets tables (candidate tables plan o shape) meets) (record {
+        instance = candidate tables plan o shape;
+        meets = meets;
+        two = h.two;
+        over = record {
+            of_tables = all_tables tables plan outline o shape _ h.differ is_outline small meets h.rows;
+            named = λ name. (is_name tables plan outline o shape _ h.differ is_outline small meets h.rows name, has_name tables plan outline o shape _ h.differ is_outline small meets h.rows name);
+            is = is_over tables plan outline o shape _ h.differ is_outline small meets h.rows;
+          };
+        fits = all_fit tables plan outline o shape _ h.differ is_outline small meets h.rows;
+      })
+
+-- ---- one candidate after another
+
+-- what is found in more instances, after nothing was found in the first
+pub then_sought : (tables : List TableRule) (plan : PlanTree) (xs ys : List Instance) (start mid end : ℕ) (found : Option Witness) → end ≤ most_evaluations
+    → FindsNothing plan xs start mid → IsSought tables plan ys mid found end → IsSought tables plan (xs ++ ys) start found end
+then_sought tables plan xs ys start mid end None few before h = nothing_then plan xs ys start mid end few before h
+then_sought tables plan xs ys start mid end (Some w) few before h =
+    record { instance = h.instance; meets = h.meets; two = two_then plan xs ys start mid end few h.instance _ _ before h.two; over = h.over; fits = h.fits }
+
+-- what was found is found whatever comes after
+pub sought_before : (tables : List TableRule) (plan : PlanTree) (xs ys : List Instance) (start end : ℕ) (w : Witness) → IsSought tables plan xs start (Some w) end → IsSought tables plan (xs ++ ys) start (Some w) end
+sought_before tables plan xs ys start end w h =
+    record { instance = h.instance; meets = h.meets; two = two_before plan xs ys start end h.instance _ _ h.two; over = h.over; fits = h.fits }
+
+-- the candidates of a list's elements, of which the first were tried
+module _ {X : Type 0} (tables : List TableRule) (plan : PlanTree) (f : X → List Instance) where
+  abbrev pub tried_by : List X → List Instance
+  tried_by xs = filter (is_meeting tables) (flat_map f xs)
+
+  one_more_tried : (xs : List X) (i : ℕ) (d : X) → i < length xs → tried_by (take (i + 1) xs) ≡ tried_by (take i xs) ++ filter (is_meeting tables) (f (get_or xs i d))
+  one_more_tried xs i d within =
+      ap tried_by (take_more xs i d within) ∙ ap (filter (is_meeting tables)) (flat_map-append f (take i xs) (get_or xs i d ∷ [])) ∙ filter-append (is_meeting tables) (flat_map f (take i xs)) (flat_map f (get_or xs i d ∷ []))
+      ∙ ap (λ ys. tried_by (take i xs) ++ filter (is_meeting tables) ys) (append-nil (f (get_or xs i d)))
+
+  rest_tried : (xs : List X) (i : ℕ) → tried_by xs ≡ tried_by (take i xs) ++ tried_by (drop i xs)
+  rest_tried xs i = ap tried_by (sym (take-append-drop i xs)) ∙ ap (filter (is_meeting tables)) (flat_map-append f (take i xs) (drop i xs)) ∙ filter-append (is_meeting tables) (flat_map f (take i xs)) (flat_map f (drop i xs))
+
+  module _ (xs : List X) (i : ℕ) (d : X) (start mid end : ℕ) (few : end ≤ most_evaluations) (within : i < length xs) (before : FindsNothing plan (tried_by (take i xs)) start mid) where
+    pub nothing_in_one_more : FindsNothing plan (filter (is_meeting tables) (f (get_or xs i d))) mid end → FindsNothing plan (tried_by (take (i + 1) xs)) start end
+    nothing_in_one_more h = subst (λ is. FindsNothing plan is start end) (sym (one_more_tried xs i d within)) (nothing_then plan _ _ start mid end few before h)
+
+    pub found_in_one_more : (w : Witness) → IsSought tables plan (filter (is_meeting tables) (f (get_or xs i d))) mid (Some w) end → IsSought tables plan (tried_by xs) start (Some w) end
+    found_in_one_more w h =
+        subst (λ is. IsSought tables plan is start (Some w) end) (sym (rest_tried xs (i + 1)))
+        (sought_before tables plan (tried_by (take (i + 1) xs)) (tried_by (drop (i + 1) xs)) start end w
+        (subst (λ is. IsSought tables plan is start (Some w) end) (sym (one_more_tried xs i d within)) (then_sought tables plan _ _ start mid end (Some w) few before h)))
+
+  pub nothing_in_all : (xs : List X) (i : ℕ) (start end : ℕ) → length xs ≤ i → FindsNothing plan (tried_by (take i xs)) start end → FindsNothing plan (tried_by xs) start end
+  nothing_in_all xs i start end h nothing = subst (λ ys. FindsNothing plan (tried_by ys) start end) (take_all i xs h) nothing

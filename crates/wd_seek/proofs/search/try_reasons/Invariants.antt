@@ -1,0 +1,13 @@
+use Rattle.std.proofs.Common.{◌≤◌, take}
+use Rattle.wd_plan.specs.Plans.{plan_of}
+use Rattle.wd_schema.specs.Schemas.{schema_of}
+use Rattle.wd_analyse.specs.declared.analysis.Reason.{Reason}
+use Rattle.wd_candidates.specs.Candidates.{candidates}
+use Rattle.wd_probe.specs.Evaluations.{most_evaluations}
+use Rattle.wd_probe.specs.Search.{FindsNothing}
+use Rattle.wd_seek.proofs.Trying.{tried_by}
+use Rattle.wd_seek.proofs.search.try_reasons.Given as goal
+
+abbrev pub invariant-loop-reason : goal.invariant-loop-reason
+invariant-loop-reason l = (l.spent ≤ most_evaluations)
+    × FindsNothing (plan_of l.plan) (tried_by (schema_of l.schema) (plan_of l.plan) (λ (reason : Reason). candidates (schema_of l.schema) (plan_of l.plan) reason.node reason.call) (take l.reason-index l.reasons)) 0 l.spent

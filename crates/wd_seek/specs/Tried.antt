@@ -1,0 +1,21 @@
+-- What is found over one instance.
+use Rattle.std.specs.Prelude.{ℕ, List, [], ◌∷◌, Option, Some, None}
+use Rattle.wd_value.specs.Rows.{Instance}
+use Rattle.wd_schema.specs.Tables.{TableRule}
+use Rattle.wd_plan.specs.Plans.{PlanTree}
+use Rattle.wd_witness.specs.Witnesses.{WitnessRecord, witness_of}
+use Rattle.wd_witness.specs.declared.witness.Witness.{Witness}
+use Rattle.wd_candidates.specs.declared.outline.Outline.{Outline}
+use Rattle.wd_probe.specs.Search.{FindsNothing, FindsTwo}
+use Rattle.wd_seek.specs.Witnesses.{HasScannedRows, NamesDiffer}
+
+-- two choices over the instance, with the rows of its scanned tables
+pub record IsFoundOver (tables : List TableRule) (plan : PlanTree) (outline : Outline) (instance : Instance) (start end : ℕ) (w : WitnessRecord) : Type 0 where
+  pub differ : NamesDiffer tables
+  pub two : FindsTwo plan (instance ∷ []) start end instance w.first w.second
+  pub rows : HasScannedRows tables outline instance w.tables
+
+-- nothing, or these
+abbrev pub IsTried : List TableRule → PlanTree → Outline → Instance → ℕ → Option Witness → ℕ → Type 0
+IsTried tables plan outline instance start None end = FindsNothing plan (instance ∷ []) start end
+IsTried tables plan outline instance start (Some w) end = IsFoundOver tables plan outline instance start end (witness_of w)

@@ -1,0 +1,8 @@
+//! The search for a witness: two answers of a plan, over the small candidate instances in which rows tie.
+#![tactic(auto)]
+
+mod search;
+mod tried;
+mod witness;
+
+pub use search::seek;

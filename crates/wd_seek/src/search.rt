@@ -1,0 +1,99 @@
+//! The search through all candidates.
+
+ghost use Rattle.std.specs.Prelude.{◌≡◌, ◌≤◌, true, filter, IfNone, IfOk, IfSome};
+ghost use Rattle.wd_candidates.specs.Candidates.{candidates};
+ghost use Rattle.wd_candidates.specs.Outlines.{IsOutline};
+ghost use Rattle.wd_plan.specs.Fits.{fits};
+ghost use Rattle.wd_plan.specs.Plans.{plan_of};
+ghost use Rattle.wd_probe.specs.Evaluations.{most_evaluations};
+ghost use Rattle.wd_probe.specs.Search.{FirstShowNothing};
+ghost use Rattle.wd_refute.specs.Laws.{IsShown};
+ghost use Rattle.wd_schema.specs.Schemas.{schema_of};
+ghost use Rattle.wd_seek.specs.Sought.{IsSought, is_meeting, reasons_of, to_try};
+ghost use Rattle.wd_witness.specs.Witnesses.{witness_of};
+
+use crate::tried::try_shapes;
+use std::alloc::Global;
+use wd_analyse::{Analysis, Reason};
+use wd_candidates::{Outline, outline_of, tied_columns};
+use wd_plan::Plan;
+use wd_probe::MOST_EVALUATIONS;
+use wd_schema::Schema;
+use wd_value::OutOfMemory;
+use wd_witness::Witness;
+
+/// A witness against a plan that an analysis leaves open, and the number of the evaluations that were made.
+///
+/// For each reason in order the candidates are tried: small instances of 2, 3 and 4 rows in each table that the plan scans, in
+/// which rows tie by the columns that the reason's call or limit sorts by. One that does not meet the schema is passed over. Each
+/// is evaluated with the orderings in which rows that tie stay as they are, and then with one ordering after another turned
+/// round, until an outcome does not agree with the first. A candidate is given up at a step of more than 10,000,000 rows, the search
+/// after 2,000 evaluations. A reason that names no call or limit of the plan is passed over; a certificate has no reasons.
+pub fn seek(
+    alloc: Global,
+    schema: &Schema,
+    plan: &Plan,
+    analysis: &Analysis,
+) -> Result<(Option<Witness>, u32), OutOfMemory>
+    requires { fits (schema_of schema.now) (plan_of plan.now) ≡ true }
+    ensures sought { IfOk result (λ r. IsSought (schema_of schema.now) (plan_of plan.now) (to_try (schema_of schema.now) (plan_of plan.now) (reasons_of analysis.now)) 0 r.0 r.1) }
+    ensures few { IfOk result (λ r. r.1 ≤ most_evaluations) }
+    ensures shown { IfOk result (λ r. IfSome r.0 (λ w. IsShown (schema_of schema.now) (plan_of plan.now) (witness_of w))) }
+    ensures exhaustive { IfOk result (λ r. IfNone r.0 (FirstShowNothing (plan_of plan.now) (to_try (schema_of schema.now) (plan_of plan.now) (reasons_of analysis.now)))) }
+{
+    match analysis {
+        Analysis::Certified(_) => Ok((None, 0)),
+        Analysis::Open(reasons, _) => {
+            let outline = outline_of(alloc, schema, plan)?;
+            try_reasons(alloc, schema, plan, &outline, reasons)
+        }
+    }
+}
+
+/// Tries the candidates for each reason.
+fn try_reasons(
+    alloc: Global,
+    schema: &Schema,
+    plan: &Plan,
+    outline: &Outline,
+    reasons: &[Reason],
+) -> Result<(Option<Witness>, u32), OutOfMemory>
+    requires fitting { fits (schema_of schema.now) (plan_of plan.now) ≡ true }
+    requires outline { IsOutline (schema_of schema.now) (plan_of plan.now) outline.now }
+    ensures few { IfOk result (λ r. r.1 ≤ most_evaluations) }
+    ensures sought { IfOk result (λ r. IsSought (schema_of schema.now) (plan_of plan.now) (to_try (schema_of schema.now) (plan_of plan.now) reasons.now) 0 r.0 r.1) }
+{
+    let mut spent = 0;
+    for reason in reasons {
+        let (found, made) = try_reason(alloc, schema, plan, outline, *reason, spent)?;
+        if let Some(witness) = found {
+            return Ok((Some(witness), made));
+        }
+        spent = made;
+    }
+    Ok((None, spent))
+}
+
+/// Tries the candidates for one reason.
+fn try_reason(
+    alloc: Global,
+    schema: &Schema,
+    plan: &Plan,
+    outline: &Outline,
+    reason: Reason,
+    spent: u32,
+) -> Result<(Option<Witness>, u32), OutOfMemory>
+    requires fitting { fits (schema_of schema.now) (plan_of plan.now) ≡ true }
+    requires outline { IsOutline (schema_of schema.now) (plan_of plan.now) outline.now }
+    requires few { spent ≤ most_evaluations }
+    ensures few { IfOk result (λ r. r.1 ≤ most_evaluations) }
+    ensures sought { IfOk result (λ r. IsSought (schema_of schema.now) (plan_of plan.now) (filter (is_meeting (schema_of schema.now)) (candidates (schema_of schema.now) (plan_of plan.now) reason.node reason.call)) spent r.0 r.1) }
+{
+    if spent == MOST_EVALUATIONS {
+        return Ok((None, spent));
+    }
+    match tied_columns(alloc, schema, plan, reason.node, reason.call)? {
+        None => Ok((None, spent)),
+        Some(tied) => try_shapes(alloc, schema, plan, outline, &tied, spent),
+    }
+}
