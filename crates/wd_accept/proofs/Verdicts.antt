@@ -15,7 +15,7 @@ use Rattle.wd_accept.specs.Acceptance.{RefusesPlan, SpellsValid}
 use Rattle.wd_accept.specs.Laws.{AcceptedHasOne, NotBoth}
 
 -- what holds of one reading holds of each
-every : HasOneMeaning → HasOnePlan → (schema query : List ℕ) (P : List TableRule → PlanTree → Type 0) (first second : Answer) (a : Reads schema query first) (b : Reads schema query second) → P a.tables first.plan → P b.tables second.plan
+pub every : HasOneMeaning → HasOnePlan → (schema query : List ℕ) (P : List TableRule → PlanTree → Type 0) (first second : Answer) (a : Reads schema query first) (b : Reads schema query second) → P a.tables first.plan → P b.tables second.plan
 every one_meaning one_plan schema query P first second a b h =
     subst (λ tables. P tables second.plan) (one_meaning schema a.tables b.tables a.declares b.declares)
     (subst (λ (read : Answer). P a.tables read.plan) (one_plan schema query first second a b) h)

@@ -1,46 +1,26 @@
 -- A reported witness is true, and its texts refute the query.
-use Rattle.std.proofs.Common.{ℕ, List, subst}
-use Rattle.wd_value.specs.Rows.{Instance}
+use Rattle.std.proofs.Common.{List}
 use Rattle.wd_schema.specs.Laws.{HasOneMeaning}
 use Rattle.wd_schema.specs.Tables.{TableRule}
 use Rattle.wd_plan.specs.Plans.{PlanTree}
 use Rattle.wd_analyse.specs.declared.analysis.Analysis.{Analysis}
 use Rattle.wd_analyse.specs.declared.analysis.Analysis.TheVariants.{Certified, Open}
-use Rattle.wd_resolve.specs.Answers.{Answer}
-use Rattle.wd_resolve.specs.Laws.{HasOnePlan, Reads}
-use Rattle.wd_witness.specs.Witnesses.{WitnessRecord, witness_of}
+use Rattle.wd_resolve.specs.Laws.{HasOnePlan}
+use Rattle.wd_witness.specs.Witnesses.{witness_of}
 use Rattle.wd_witness.specs.declared.witness.Witness.{Witness}
 use Rattle.wd_refute.specs.Laws.{IsShown, ShownIsNotRefused}
-use Rattle.wd_seek.specs.Sought.{IsFound}
+use Rattle.wd_accept.proofs.Verdicts.{every}
+use Rattle.wd_seek.proofs.Shown.{found_is_shown}
 use Rattle.wd_decide.specs.Laws.{ReportedAreTrue}
 use Rattle.wd_decide.specs.Verdicts.{IsVerdictOf}
 use Rattle.wd_decide.specs.declared.verdict.Verdict.TheVariants.{Depends}
 
--- a witness over a candidate that shows two answers is true, with no step too large
-pub found_is_shown : (tables : List TableRule) (plan : PlanTree) (instances : List Instance) (start end : ℕ) (w : WitnessRecord) → IsFound tables plan instances start end w → IsShown tables plan w
-found_is_shown tables plan instances start end w found = record {
-  of_tables = found.over.of_tables;
-  fits = found.fits;
-  is_true = rw found.over.is (record {
-    meets = found.meets;
-    first = found.two.two.first_valid.valid;
-    second = found.two.two.second_valid.valid;
-    differ = found.two.two.differ;
-  });
-  first_small = rw found.over.is found.two.two.first_valid.small;
-  second_small = rw found.over.is found.two.two.second_valid.small;
-}
-
+-- a verdict with a witness shows it
 pub shown_of : (tables : List TableRule) (plan : PlanTree) (analysis : Analysis) (witness : Witness) → IsVerdictOf tables plan analysis (Depends witness) → IsShown tables plan (witness_of witness)
 shown_of tables plan (Certified certificate) witness is = absurd is
 shown_of tables plan (Open reasons marks) witness (n, found) = found_is_shown tables plan _ 0 n (witness_of witness) found
 
--- what holds of one reading of the texts holds of each
-every : HasOneMeaning → HasOnePlan → (schema query : List ℕ) (P : List TableRule → PlanTree → Type 0) (first second : Answer) (a : Reads schema query first) (b : Reads schema query second) → P a.tables first.plan → P b.tables second.plan
-every one_meaning one_plan schema query P first second a b h =
-    subst (λ tables. P tables second.plan) (one_meaning schema a.tables b.tables a.declares b.declares)
-    (subst (λ (read : Answer). P a.tables read.plan) (one_plan schema query first second a b) h)
-
+-- it is true, and nothing refuses its texts
 pub true_of : HasOneMeaning → HasOnePlan → ShownIsNotRefused → ReportedAreTrue
 true_of one_meaning one_plan shown_is_not_refused schema query witness (read, reads, found) = record {
   shown = (read, reads, shown);

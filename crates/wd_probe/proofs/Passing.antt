@@ -1,5 +1,5 @@
 -- Evaluations that show nothing, one after another.
-use Rattle.std.proofs.Common.{◌≡◌, ℕ, zero, suc, ◌+◌, ◌<◌, ◌≤◌, ◌^◌, ◌-◌, min, List, [], ◌∷◌, Option, Some, None, Ok, Err, refl, sym, subst, arith, inl, inr, ◌⊎◌}
+use Rattle.std.proofs.Common.{◌≡◌, ℕ, zero, suc, ◌+◌, ◌<◌, ◌≤◌, ◌^◌, ◌-◌, min, List, Some, Ok, Err, refl, sym, subst, arith, inl, inr, ◌⊎◌}
 use Rattle.wd_value.specs.Rows.{Instance}
 use Rattle.wd_plan.specs.Outcomes.{Agree, RowsOrFault, outcome}
 use Rattle.wd_plan.specs.Plans.{PlanTree, ordering_count}
@@ -42,19 +42,19 @@ next_flip k = let e : k + 1 ≡ suc k = omega arith in subst (λ n. flip_of n �
 
 pub next_passes : (plan : PlanTree) (instance : Instance) (o other : RowsOrFault) (k : ℕ) (choice : List (List ℕ)) → IsFirst plan instance o → IsTiedOutcome plan instance (Some k) choice other → Agree o other → Passes plan instance (k + 1)
 next_passes plan instance o other k choice first tied agree = record {
-    first = first.choice;
-    choice = choice;
-    first_valid = first.tied.valid;
-    valid = subst (λ f. IsValidTiedChoice plan instance f choice) (sym (next_flip k)) tied.valid;
-    agree = subst (λ x. Agree x (outcome plan instance choice)) first.tied.is (subst (Agree o) tied.is agree);
-  }
+  first = first.choice;
+  choice = choice;
+  first_valid = first.tied.valid;
+  valid = subst (λ f. IsValidTiedChoice plan instance f choice) (sym (next_flip k)) tied.valid;
+  agree = subst (λ x. Agree x (outcome plan instance choice)) first.tied.is (subst (Agree o) tied.is agree);
+}
 
 pub next_too_large : (plan : PlanTree) (instance : Instance) (k : ℕ) → k < ordering_count plan → AllPass plan instance (k + 1) → IsTiedTooLarge plan instance (Some k) → IsTooLargeAt plan instance (k + 1)
 next_too_large plan instance k within passed large = record {
-    within = omega (arith, within);
-    passed = passed;
-    large = subst (IsTiedTooLarge plan instance) (sym (next_flip k)) large;
-  }
+  within = omega (arith, within);
+  passed = passed;
+  large = subst (IsTiedTooLarge plan instance) (sym (next_flip k)) large;
+}
 
 -- ---- the plan's orderings, which are counted up to a limit
 

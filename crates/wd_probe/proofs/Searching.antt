@@ -5,8 +5,8 @@ use Rattle.std.proofs.lemmas.List.{append-nil, take-append-le}
 use Rattle.std.proofs.lemmas.List.Elements.{All-cons, All-nil, All-take}
 use Rattle.std.proofs.lemmas.Nat.{div_below}
 use Rattle.wd_value.specs.Rows.{Instance}
-use Rattle.wd_plan.specs.Plans.{PlanTree, ordering_count}
-use Rattle.wd_probe.specs.Evaluations.{AllPass, IsTooLargeAt, ShowNothing, ShowsNothing, evaluations, most_evaluations}
+use Rattle.wd_plan.specs.Plans.{PlanTree}
+use Rattle.wd_probe.specs.Evaluations.{ShowNothing, ShowsNothing, evaluations, most_evaluations}
 use Rattle.wd_probe.specs.Search.{Begun, FindsNothing, FindsTwo, FirstShowNothing}
 use Rattle.wd_probe.proofs.Passing.{none_pass}
 
@@ -45,34 +45,43 @@ module _ (plan : PlanTree) (xs ys : List Instance) (start mid end : ℕ) (few : 
 
     then_nothing : FindsNothing plan ys mid end → FindsNothing plan (xs ++ ys) start end
     then_nothing b = record {
-        before = a.before ++ b.before; rest = b.rest; spent = a.spent + b.spent; part = b.part;
-        parts = (λ i. all_gone i ++ b.parts i) ∙ sym (append_assoc a.before b.before b.rest);
-        nothing = show_both plan a.before b.before a.spent b.spent a.nothing b.nothing;
-        begun = b.begun;
-        total = let e = a.total in let f = b.total in let g = no_part in omega arith;
-        whole = b.whole;
-      }
+      before = a.before ++ b.before;
+      rest = b.rest;
+      spent = a.spent + b.spent;
+      part = b.part;
+      parts = (λ i. all_gone i ++ b.parts i) ∙ sym (append_assoc a.before b.before b.rest);
+      nothing = show_both plan a.before b.before a.spent b.spent a.nothing b.nothing;
+      begun = b.begun;
+      total = let e = a.total in let f = b.total in let g = no_part in omega arith;
+      whole = b.whole;
+    }
 
     then_two : (i : Instance) (first second : List (List ℕ)) → FindsTwo plan ys mid end i first second → FindsTwo plan (xs ++ ys) start end i first second
     then_two i first second b = record {
-        before = a.before ++ b.before; after = b.after; spent = a.spent + b.spent; flipped = b.flipped;
-        parts = (λ k. all_gone k ++ b.parts k) ∙ sym (append_assoc a.before b.before (i ∷ b.after));
-        nothing = show_both plan a.before b.before a.spent b.spent a.nothing b.nothing;
-        two = b.two;
-        total = let e = a.total in let f = b.total in let g = no_part in omega arith;
-      }
+      before = a.before ++ b.before;
+      after = b.after;
+      spent = a.spent + b.spent;
+      flipped = b.flipped;
+      parts = (λ k. all_gone k ++ b.parts k) ∙ sym (append_assoc a.before b.before (i ∷ b.after));
+      nothing = show_both plan a.before b.before a.spent b.spent a.nothing b.nothing;
+      two = b.two;
+      total = let e = a.total in let f = b.total in let g = no_part in omega arith;
+    }
 
   -- the first search made the most evaluations
   cut_short : (a : FindsNothing plan xs start mid) (rest : List Instance) → a.rest ≡ rest → Begun plan rest a.part → mid ≡ most_evaluations → FindsNothing plan ys mid end → FindsNothing plan (xs ++ ys) start end
   cut_short a [] r g e b = then_nothing a r b
   cut_short a (i ∷ is) r g e b = record {
-      before = a.before; rest = (i ∷ is) ++ ys; spent = a.spent; part = a.part;
-      parts = ap (λ l. l ++ ys) (a.parts ∙ ap (λ l. a.before ++ l) r) ∙ append_assoc a.before (i ∷ is) ys;
-      nothing = a.nothing;
-      begun = g;
-      total = let t = a.total in let u = b.total in omega arith;
-      whole = inr (let u = b.total in omega arith);
-    }
+    before = a.before;
+    rest = (i ∷ is) ++ ys;
+    spent = a.spent;
+    part = a.part;
+    parts = ap (λ l. l ++ ys) (a.parts ∙ ap (λ l. a.before ++ l) r) ∙ append_assoc a.before (i ∷ is) ys;
+    nothing = a.nothing;
+    begun = g;
+    total = let t = a.total in let u = b.total in omega arith;
+    whole = inr (let u = b.total in omega arith);
+  }
 
   pub nothing_then : FindsNothing plan xs start mid → FindsNothing plan ys mid end → FindsNothing plan (xs ++ ys) start end
   nothing_then a b = by a.whole
@@ -91,10 +100,15 @@ module _ (plan : PlanTree) (xs ys : List Instance) (start mid end : ℕ) (few : 
 -- what comes after a candidate that shows two answers does not matter
 pub two_before : (plan : PlanTree) (xs ys : List Instance) (start end : ℕ) (i : Instance) (first second : List (List ℕ)) → FindsTwo plan xs start end i first second → FindsTwo plan (xs ++ ys) start end i first second
 two_before plan xs ys start end i first second a = record {
-    before = a.before; after = a.after ++ ys; spent = a.spent; flipped = a.flipped;
-    parts = ap (λ l. l ++ ys) a.parts ∙ append_assoc a.before (i ∷ a.after) ys;
-    nothing = a.nothing; two = a.two; total = a.total;
-  }
+  before = a.before;
+  after = a.after ++ ys;
+  spent = a.spent;
+  flipped = a.flipped;
+  parts = ap (λ l. l ++ ys) a.parts ∙ append_assoc a.before (i ∷ a.after) ys;
+  nothing = a.nothing;
+  two = a.two;
+  total = a.total;
+}
 
 -- ---- how far a search comes
 

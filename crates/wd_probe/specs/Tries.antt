@@ -6,7 +6,7 @@ use Rattle.wd_plan.specs.Plans.{PlanTree, ordering_count}
 use Rattle.wd_window.specs.Windows.{orderings_of}
 use Rattle.wd_eval.specs.Tied.{IsTiedTooLarge, IsValidTiedChoice}
 use Rattle.wd_plan.specs.declared.plan.Choice.{Choice}
-use Rattle.wd_probe.specs.Evaluations.{AllPass, IsTooLargeAt, evaluations, most_evaluations}
+use Rattle.wd_probe.specs.Evaluations.{AllPass, IsTooLargeAt, most_evaluations}
 use Rattle.wd_probe.specs.Search.{FindsNothing, FindsTwo}
 use Rattle.wd_probe.specs.declared.evaluated.Evaluated.{Evaluated}
 use Rattle.wd_probe.specs.declared.probed.Pair.{Pair}

@@ -114,9 +114,9 @@ module _ (tables : List TableRule) (outline : Outline) (instance : Instance) whe
   pub one_more : NamesDiffer tables → (n : ℕ) (es : List Entry) (k : String Global) (v : Rows) → HasScannedFrom tables outline instance (n + 1) (map table_rows es) → IsScannedName tables outline n (string_bytes k)
       → rows_of v.items ≡ table_at instance n → HasScannedFrom tables outline instance n (map table_rows (insert_entry string_cmp es k v))
   one_more differ n es k v before name rows = record {
-      each = all_after (IsScannedTable tables outline instance) k v (record { table = n; name = name; rows = rows }) es before.each;
-      found = λ t l w s. found_after (table_rule tables t).name k v es ∙ by t w s (at_or_above n t l);
-    }
+    each = all_after (IsScannedTable tables outline instance) k v (record { table = n; name = name; rows = rows }) es before.each;
+    found = λ t l w s. found_after (table_rule tables t).name k v es ∙ by t w s (at_or_above n t l);
+  }
     where
       by : (t : ℕ) → t < length tables → scanned_in outline t ≡ true → (t ≡ n) ⊎ (n + 1 ≤ t)
           → after (table_rule tables t).name k v (found_in (table_rule tables t).name (map table_rows es)) ≡ Some (record { name = (table_rule tables t).name; rows = table_at instance t })
@@ -131,9 +131,9 @@ module _ (tables : List TableRule) (outline : Outline) (instance : Instance) whe
 
   pub none_more : (n : ℕ) (named : List TableRows) → (n < length tables → scanned_in outline n ≡ false) → HasScannedFrom tables outline instance (n + 1) named → HasScannedFrom tables outline instance n named
   none_more n named other before = record {
-      each = before.each;
-      found = λ t l w s. by t w s (at_or_above n t l);
-    }
+    each = before.each;
+    found = λ t l w s. by t w s (at_or_above n t l);
+  }
     where
       by : (t : ℕ) → t < length tables → scanned_in outline t ≡ true → (t ≡ n) ⊎ (n + 1 ≤ t) → found_in (table_rule tables t).name named ≡ Some (record { name = (table_rule tables t).name; rows = table_at instance t })
       by t w s (inl e) = absurd (false≢true (sym (other (subst (λ m. m < length tables) e w)) ∙ ap (scanned_in outline) (sym e) ∙ s))

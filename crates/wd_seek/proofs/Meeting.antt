@@ -42,13 +42,13 @@ module _ (tables : List TableRule) (instance : Instance) where
 
   pub meets_from_test : is_meeting tables instance ≡ true → Meets tables instance
   meets_from_test h = record {
-      lists = eqb-true (length instance) (length tables) (first_true (nat_eq (length instance) (length tables)) (list_all met_at (positions (length tables))) h);
-      tables = λ t table found.
-          let within = slice_get_within tables t table found in
-          let all = all_from_test met_at (positions (length tables)) (second_true (nat_eq (length instance) (length tables)) (list_all met_at (positions (length tables))) h) in
-          let here : met_at t ≡ true = subst (λ n. met_at n ≡ true) (position_at (length tables) t 0 within) (all t 0 (subst (λ n. t < n) (sym (length-range_with_len 0 (length tables))) within)) in
-          met_from_test table (table_at instance t) (subst (λ r. is_met r (table_at instance t) ≡ true) (rule_of tables t table found) here);
-    }
+    lists = eqb-true (length instance) (length tables) (first_true (nat_eq (length instance) (length tables)) (list_all met_at (positions (length tables))) h);
+    tables = λ t table found.
+        let within = slice_get_within tables t table found in
+        let all = all_from_test met_at (positions (length tables)) (second_true (nat_eq (length instance) (length tables)) (list_all met_at (positions (length tables))) h) in
+        let here : met_at t ≡ true = subst (λ n. met_at n ≡ true) (position_at (length tables) t 0 within) (all t 0 (subst (λ n. t < n) (sym (length-range_with_len 0 (length tables))) within)) in
+        met_from_test table (table_at instance t) (subst (λ r. is_met r (table_at instance t) ≡ true) (rule_of tables t table found) here);
+  }
 
   pub table_met : Meets tables instance → (t : ℕ) → t < length tables → MeetsTable (table_rule tables t) (table_at instance t)
   table_met meets t within =

@@ -110,13 +110,13 @@ module _ (tables : List TableRule) (plan : PlanTree) (outline : Outline) (o : No
 
   table_is : (t : TableRows) → IsHere t → IsTableOf tables t
   table_is t s = record {
-      table = table_rule tables s.table;
-      known = subst (λ n. table_named n tables ≡ Some (table_rule tables s.table)) s.name.is (first_named tables s.table differ s.name.within);
-      few = subst (λ rows. length rows ≤ 64) (sym s.rows) (few tables plan o shape small s.table s.name.within);
-      values = subst (All (λ row. length row ≡ length (table_rule tables s.table).columns)) (sym s.rows)
-          (All-weaker (λ row. fits_columns (table_rule tables s.table).columns row ≡ true) (λ row. length row ≡ length (table_rule tables s.table).columns) (row_length (table_rule tables s.table).columns)
-          (table_at instance s.table) (table_met tables instance meets s.table s.name.within).values);
-    }
+    table = table_rule tables s.table;
+    known = subst (λ n. table_named n tables ≡ Some (table_rule tables s.table)) s.name.is (first_named tables s.table differ s.name.within);
+    few = subst (λ rows. length rows ≤ 64) (sym s.rows) (few tables plan o shape small s.table s.name.within);
+    values = subst (All (λ row. length row ≡ length (table_rule tables s.table).columns)) (sym s.rows)
+        (All-weaker (λ row. fits_columns (table_rule tables s.table).columns row ≡ true) (λ row. length row ≡ length (table_rule tables s.table).columns) (row_length (table_rule tables s.table).columns)
+        (table_at instance s.table) (table_met tables instance meets s.table s.name.within).values);
+  }
 
   values_fit : (t : TableRows) → IsHere t → All (All Fits64) t.rows
   values_fit t s = subst (All (All Fits64)) (sym s.rows)

@@ -34,16 +34,16 @@ pub met : (tables : List TableRule) (plan : PlanTree) (outline : Outline) (o : N
 met tables plan outline o shape start end None is_outline small meets h = rw (test_from_meets tables (candidate tables plan o shape) meets) h
 met tables plan outline o shape start end (Some w) is_outline small meets h =
     rw (test_from_meets tables (candidate tables plan o shape) meets) (record {
-        instance = candidate tables plan o shape;
-        meets = meets;
-        two = h.two;
-        over = record {
-            of_tables = all_tables tables plan outline o shape _ h.differ is_outline small meets h.rows;
-            named = λ name. (is_name tables plan outline o shape _ h.differ is_outline small meets h.rows name, has_name tables plan outline o shape _ h.differ is_outline small meets h.rows name);
-            is = is_over tables plan outline o shape _ h.differ is_outline small meets h.rows;
-          };
-        fits = all_fit tables plan outline o shape _ h.differ is_outline small meets h.rows;
-      })
+      instance = candidate tables plan o shape;
+      meets = meets;
+      two = h.two;
+      over = record {
+        of_tables = all_tables tables plan outline o shape _ h.differ is_outline small meets h.rows;
+        named = λ name. (is_name tables plan outline o shape _ h.differ is_outline small meets h.rows name, has_name tables plan outline o shape _ h.differ is_outline small meets h.rows name);
+        is = is_over tables plan outline o shape _ h.differ is_outline small meets h.rows;
+      };
+      fits = all_fit tables plan outline o shape _ h.differ is_outline small meets h.rows;
+    })
 
 -- ---- one candidate after another
 

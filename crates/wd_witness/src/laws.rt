@@ -30,7 +30,11 @@ pub fn example_text()
 
 /// A witness that is written and read again comes back; where it is of the schema, only memory can
 /// be wanting.
-pub fn read_back(alloc: Global, schema: &Schema, witness: &Witness) -> Result<Witness, WitnessTextError>
+pub fn read_back(
+    alloc: Global,
+    schema: &Schema,
+    witness: &Witness,
+) -> Result<Witness, WitnessTextError>
     ensures same { IfOk result (λ w. witness_of w ≡ witness_of witness.now) }
     ensures memory { IsOf (schema_of schema.now) (witness_of witness.now) → IfErr result (λ e. e ≡ error.OutOfMemory) }
 {

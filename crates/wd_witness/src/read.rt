@@ -183,7 +183,11 @@ fn spelled(alloc: Global, bytes: &[u8]) -> Result<Witness, WitnessTextError>
 /// whole, of 64 bits, and written in digits alone. Refused are, in this order, a text that is not
 /// JSON, JSON of another shape, and by the tables' names a table that the schema has not, more than
 /// 64 rows and a row of another length (all 601).
-pub fn read_witness(alloc: Global, schema: &Schema, bytes: &[u8]) -> Result<Witness, WitnessTextError>
+pub fn read_witness(
+    alloc: Global,
+    schema: &Schema,
+    bytes: &[u8],
+) -> Result<Witness, WitnessTextError>
     ensures ok { IfOk result (λ w. Spells (witness_of w) bytes.now) }
     ensures fits { IfOk result (λ w. IsOf (schema_of schema.now) (witness_of w)) }
     ensures refused { IfErr result (λ e. HasCause (schema_of schema.now) e bytes.now) }

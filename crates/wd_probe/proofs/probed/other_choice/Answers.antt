@@ -1,9 +1,8 @@
-use Rattle.std.proofs.Common.{◌≡◌, ℕ, ◌+◌, ◌<◌, ◌≤◌, ◌^◌, ◌-◌, min, None, Some, arith, refl, sym, subst, inl, inr}
+use Rattle.std.proofs.Common.{◌+◌, Some, arith, subst, inl, inr}
 use Rattle.wd_plan.specs.Plans.{ordering_count, plan_of}
 use Rattle.wd_value.specs.Rows.{instance_of}
-use Rattle.wd_probe.specs.Evaluations.{most_evaluations}
 use Rattle.wd_probe.specs.Tries.{IsEvaluated}
-use Rattle.wd_probe.proofs.Passing.{counted, next_passes, next_too_large, all_pass_more, first_passes, within_count}
+use Rattle.wd_probe.proofs.Passing.{next_too_large, first_passes, within_count}
 use Rattle.wd_probe.proofs.probed.other_choice.Goals as goal
 
 pub loop-flipped-init : goal.loop-flipped-init

@@ -1,4 +1,4 @@
-use Rattle.std.proofs.Common.{ℕ, ◌∷◌, ◌+◌, List, [], None, Some, subst, sym}
+use Rattle.std.proofs.Common.{◌∷◌, ◌+◌, [], None, subst, sym}
 use Rattle.wd_plan.specs.Plans.{plan_of}
 use Rattle.wd_value.specs.Rows.{instance_of}
 use Rattle.wd_window.specs.Windows.{orderings_of}

@@ -13,10 +13,11 @@ loop-reason-preserved c =
     let tables = schema_of c.args.schema.now in
     let plan = plan_of c.args.plan.now in
     let l = c.loop-reason in
-    let none : Reason = record { node = 0; call = None; lack = SecondClass } in
-    (c.in_ok-found.ensures.few,
+    let none : Reason = record { node = 0; call = None; lack = SecondClass } in (
+      c.in_ok-found.ensures.few,
       nothing_in_one_more tables plan (λ (reason : Reason). candidates tables plan reason.node reason.call) c.args.reasons.now l.reason-index none 0 l.spent c.in_ok-found.made c.in_ok-found.ensures.few c.loop-reason-test.true l.invariant.1
-      (subst (λ found. IsSought tables plan (filter (is_meeting tables) (candidates tables plan (get_or c.args.reasons.now l.reason-index none).node (get_or c.args.reasons.now l.reason-index none).call)) l.spent found c.in_ok-found.made) c.in_default.is c.in_ok-found.ensures.sought))
+          (subst (λ found. IsSought tables plan (filter (is_meeting tables) (candidates tables plan (get_or c.args.reasons.now l.reason-index none).node (get_or c.args.reasons.now l.reason-index none).call)) l.spent found c.in_ok-found.made) c.in_default.is c.in_ok-found.ensures.sought),
+    )
 
 pub returns-in-Some-clause-sought : goal.returns-in-Some-clause-sought
 returns-in-Some-clause-sought c =

@@ -18,8 +18,8 @@ returns-in-Ok-clause-sought c =
     let plan = plan_of c.args.plan.now in
     let outline = c.args.outline.now in
     IfOk-weaker c.try_instance.result _ _ (λ r h. λ o tied.
-        let is = c.in_ok-instance.ensures plan o c.requires.outline tied in
-        met tables plan outline o c.args.shape c.args.spent r.1 r.0 c.requires.outline c.requires.small (subst (Meets tables) is c.in-Ok.ensures.met) (subst (λ i. IsTried tables plan outline i c.args.spent r.0 r.1) is h)) c.try_instance.ensures.tried
+    let is = c.in_ok-instance.ensures plan o c.requires.outline tied in
+    met tables plan outline o c.args.shape c.args.spent r.1 r.0 c.requires.outline c.requires.small (subst (Meets tables) is c.in-Ok.ensures.met) (subst (λ i. IsTried tables plan outline i c.args.spent r.0 r.1) is h)) c.try_instance.ensures.tried
 
 pub returns-in-Err-clause-sought : goal.returns-in-Err-clause-sought
 returns-in-Err-clause-sought c = λ o tied.

@@ -13,11 +13,13 @@ loop-shape-preserved c =
     let tables = schema_of c.args.schema.now in
     let plan = plan_of c.args.plan.now in
     let l = c.loop-shape in
-    let none : Shape = record { rows = 0; style = TiedNull } in
-    (c.in_ok-found.ensures.few, λ o tied.
-        let here = subst (λ all. IsSought tables plan (filter (is_meeting tables) (candidate tables plan o (get_or all l.shape-index none) ∷ [])) l.total c.in_ok-found.found c.in_ok-found.made) c.shapes.ensures (c.in_ok-found.ensures.sought o tied) in
-        nothing_in_one_more tables plan (λ shape. candidate tables plan o shape ∷ []) shapes l.shape-index none c.args.spent l.total c.in_ok-found.made c.in_ok-found.ensures.few c.loop-shape-test.true (l.invariant.1 o tied)
-        (subst (λ found. IsSought tables plan (filter (is_meeting tables) (candidate tables plan o (get_or shapes l.shape-index none) ∷ [])) l.total found c.in_ok-found.made) c.in_default.is here))
+    let none : Shape = record { rows = 0; style = TiedNull } in (
+      c.in_ok-found.ensures.few,
+      λ o tied.
+          let here = subst (λ all. IsSought tables plan (filter (is_meeting tables) (candidate tables plan o (get_or all l.shape-index none) ∷ [])) l.total c.in_ok-found.found c.in_ok-found.made) c.shapes.ensures (c.in_ok-found.ensures.sought o tied) in
+          nothing_in_one_more tables plan (λ shape. candidate tables plan o shape ∷ []) shapes l.shape-index none c.args.spent l.total c.in_ok-found.made c.in_ok-found.ensures.few c.loop-shape-test.true (l.invariant.1 o tied)
+          (subst (λ found. IsSought tables plan (filter (is_meeting tables) (candidate tables plan o (get_or shapes l.shape-index none) ∷ [])) l.total found c.in_ok-found.made) c.in_default.is here),
+    )
 
 pub returns-in-Some-clause-sought : goal.returns-in-Some-clause-sought
 returns-in-Some-clause-sought c = λ o tied.

@@ -19,6 +19,6 @@ loop-rows-preserved-in-Some-scanned_name c =
     let name = subst (IsScannedName tables outline (length left)) (sym c.in_ok-name.ensures.ok) number in (
       popped c.args.instance.items c.loop-rows.left.items left c.in-Some.rows c.in-Some.ensures.items c.loop-rows.invariant.0,
       subst (λ es. HasScannedFrom tables outline instance (length left) (map table_rows es)) (sym c.in_ok-insert.ensures.entries)
-      (one_more tables outline instance c.names_differ.ensures (length left) c.loop-rows.tables.entries c.in_ok-name.name c.in-Some.rows here name
-      (popped_rows c.args.instance.items c.loop-rows.left.items left c.in-Some.rows c.in-Some.ensures.items c.loop-rows.invariant.0)),
+          (one_more tables outline instance c.names_differ.ensures (length left) c.loop-rows.tables.entries c.in_ok-name.name c.in-Some.rows here name
+          (popped_rows c.args.instance.items c.loop-rows.left.items left c.in-Some.rows c.in-Some.ensures.items c.loop-rows.invariant.0)),
     )

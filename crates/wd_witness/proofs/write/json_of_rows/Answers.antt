@@ -1,4 +1,4 @@
-use Rattle.std.proofs.Common.{All, ap, map, sym, subst, ◌∙◌}
+use Rattle.std.proofs.Common.{All, ap, map, subst, ◌∙◌}
 use Rattle.std.proofs.lemmas.List.{take_all}
 use Rattle.std.proofs.lemmas.List.Elements.{All-map, All-more}
 use Rattle.serde_json.proofs.Views.{view-Array}
@@ -14,7 +14,7 @@ loop-row-preserved c =
     let l = c.loop-row in
     let fits = subst (All Fits64) c.deref.ensures.value c.in_ok-item.ensures.fits in (
       one_more view (λ r. row_json r.items) l.list.items c.push.new.self.items c.in_ok-item.item c.args.rows.now l.row-index c.row-item.result c.in_ok-push.ensures.items l.invariant.0 c.loop-row-test.true c.row-item.is
-      (c.in_ok-item.ensures.json ∙ ap row_json c.deref.ensures.value),
+          (c.in_ok-item.ensures.json ∙ ap row_json c.deref.ensures.value),
       All-more (λ r. All Fits64 r.items) c.args.rows.now l.row-index c.row-item.result c.loop-row-test.true l.invariant.1 (subst (λ r. All Fits64 r.items) c.row-item.is fits),
     )
 

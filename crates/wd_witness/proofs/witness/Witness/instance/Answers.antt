@@ -1,4 +1,4 @@
-use Rattle.std.proofs.Common.{◌≡◌, ◌++◌, ◌∙◌, ap, map}
+use Rattle.std.proofs.Common.{◌++◌, ◌∙◌, ap, map}
 use Rattle.wd_value.specs.Rows.{instance_of}
 use Rattle.wd_witness.specs.Witnesses.{rows_named, table_rows}
 use Rattle.wd_witness.proofs.Tables.{under_names}
