@@ -1,5 +1,5 @@
 -- Where the columns of a plan's node come from: the table columns that they copy, and those from which they are computed.
-use Rattle.std.specs.Prelude.{ℕ, ◌+◌, ◌-◌, Bool, true, false, ◌&&◌, ◌||◌, List, [], ◌∷◌, ◌++◌, map, nat_eq, nat_lt, slice_get, if◌then◌else◌, Option, Some, None, option_and_then, option_to_list}
+use Rattle.std.specs.Prelude.{ℕ, ◌+◌, ◌-◌, Bool, false, ◌&&◌, ◌||◌, List, [], ◌∷◌, ◌++◌, map, nat_eq, nat_lt, slice_get, if◌then◌else◌, Option, Some, None, option_and_then, option_to_list}
 use Rattle.std.specs.List.{list_any}
 use Rattle.wd_plan.specs.declared.window.Call.{Call}
 use Rattle.wd_plan.specs.Expressions.{Expression}

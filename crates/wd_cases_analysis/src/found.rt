@@ -7,6 +7,7 @@ use wd_cases::{Failure, in_one_line};
 use wd_decide::{Examined, examine};
 use wd_query::read_texts;
 use wd_seek::seek;
+use wd_witness::Witness;
 
 fn analysis_of(alloc: Global, schema: &[u8], query: &[u8]) -> Result<Analysis, Failure> {
     match read_texts(alloc, schema, query) {
@@ -42,19 +43,16 @@ fn shown(alloc: Global, examined: &Examined) -> Result<String, Failure> {
 /// `seek QUERY`: how many evaluations the search for a witness makes, and the witness's text.
 pub fn sought(alloc: Global, schema: &[u8], query: &[u8]) -> Result<String, Failure> {
     match examine(alloc, schema, query) {
-        Ok(examined) => search(alloc, &examined),
+        Ok(examined) => {
+            let Examined { planned, analysis } = examined;
+            let (found, spent) = seek(alloc, &planned.schema, &planned.resolved.plan, &analysis)?;
+            search_shown(alloc, found.as_ref(), spent)
+        }
         Err(error) => Err(failure_of(&error)),
     }
 }
 
-fn search(alloc: Global, examined: &Examined) -> Result<String, Failure> {
-    let planned = &examined.planned;
-    let (found, spent) = seek(
-        alloc,
-        &planned.schema,
-        &planned.resolved.plan,
-        &examined.analysis,
-    )?;
+fn search_shown(alloc: Global, found: Option<&Witness>, spent: u32) -> Result<String, Failure> {
     match found {
         Some(witness) => {
             let text = in_one_line(alloc, &witness.to_json(alloc)?)?;

@@ -1,5 +1,5 @@
 -- A witness that is shown is refused for nothing, and what refuses choices refuses their witness.
-use Rattle.std.proofs.Common.{◌≡◌, ℕ, List, None, Some, ◌∙◌, ap, subst, sym, true, is_some, inl, inr}
+use Rattle.std.proofs.Common.{◌≡◌, ℕ, List, ◌∙◌, subst, sym, true, is_some, inl, inr}
 use Rattle.std.proofs.lemmas.Bool.{false≢true}
 use Rattle.wd_schema.specs.Tables.{TableRule}
 use Rattle.wd_plan.specs.Plans.{PlanTree}

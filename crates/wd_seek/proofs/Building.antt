@@ -1,5 +1,5 @@
 -- Tables put into a map by their names, one after another.
-use Rattle.std.proofs.Common.{◌≡◌, ◌≢◌, ℕ, zero, suc, ◌+◌, ◌<◌, ◌≤◌, Bool, true, false, cond, All, AllPairs, List, [], ◌∷◌, ◌++◌, map, take, length, get_or, String, Vec, Global, Ordering, Less, Equal, Greater, string_bytes, string_cmp, nat_cmp, find, Option, Some, None, refl, sym, ◌∙◌, ap, subst, arith, inl, inr, ◌⊎◌}
+use Rattle.std.proofs.Common.{◌≡◌, ◌≢◌, ℕ, zero, suc, ◌+◌, ◌<◌, ◌≤◌, Bool, true, false, cond, All, List, [], ◌∷◌, ◌++◌, map, take, length, get_or, String, Vec, Global, Ordering, Less, Equal, Greater, string_bytes, string_cmp, find, Option, Some, refl, sym, ◌∙◌, ap, subst, arith, inl, inr, ◌⊎◌}
 use Rattle.std.proofs.lemmas.Bool.{false≢true}
 use Rattle.std.proofs.lemmas.List.{get_or-take, get_or_default, get_or_push, length-append, length-map, length-take, take-take}
 use Rattle.std.proofs.Math.ListN.{get_or-map}
@@ -9,11 +9,10 @@ use Rattle.std.proofs.lemmas.Map.Text.{is_eq-slice_cmp}
 use Rattle.std.proofs.lemmas.Option.{slice_get-get_or}
 use Rattle.std.proofs.lemmas.Slice.Eq.{bytes_eq-Decides}
 use Rattle.std.specs.BTreeMap.{insert_entry}
-use Rattle.std.specs.Cmp.Lexicographic.{slice_cmp}
 use Rattle.std.specs.FinMap.{nat_cmp-IsAntisymmetric, slice_cmp-IsAntisymmetric}
 use Rattle.std.specs.Ordering.{is_eq}
 use Rattle.std.specs.Str.{bytes_eq}
-use Rattle.wd_value.specs.Rows.{Instance, Row, instance_of, rows_of, table_at}
+use Rattle.wd_value.specs.Rows.{Instance, instance_of, rows_of, table_at}
 use Rattle.wd_value.specs.declared.value.Value.{Value}
 use Rattle.wd_schema.specs.Tables.{TableRule}
 use Rattle.wd_facts.specs.Given.{table_rule}

@@ -1,5 +1,5 @@
 -- The test that decides whether an instance meets a schema, and what the values of such an instance are.
-use Rattle.std.proofs.Common.{◌≡◌, ◌≢◌, ℕ, ◌+◌, ◌-◌, ◌^◌, ◌<◌, ◌≤◌, ◌&&◌, Bool, true, false, not, All, List, [], ◌∷◌, length, get_or, slice_get, Option, Some, None, pos, negsuc, ℤ, FitsSigned, w64, int_le, nat_eq, refl, sym, ◌∙◌, ap, subst, arith, true≢false}
+use Rattle.std.proofs.Common.{◌≡◌, ℕ, ◌-◌, ◌^◌, ◌<◌, ◌&&◌, Bool, true, false, not, All, List, [], ◌∷◌, length, get_or, slice_get, Some, pos, negsuc, ℤ, FitsSigned, w64, int_le, nat_eq, refl, sym, ◌∙◌, subst, arith, true≢false}
 use Rattle.std.proofs.lemmas.Bool.{eq-eqb, eqb-true, leb-true}
 use Rattle.std.proofs.lemmas.List.FromFn.{get_or-range_with_len, length-range_with_len}
 use Rattle.std.proofs.lemmas.List.Elements.{All-cons, All-nil}
@@ -12,7 +12,7 @@ use Rattle.wd_value.specs.declared.value.ColumnType.{ColumnType}
 use Rattle.wd_value.specs.declared.value.ColumnType.TheVariants as type
 use Rattle.wd_value.specs.declared.value.Value.{Value}
 use Rattle.wd_value.specs.declared.value.Value.TheVariants.{Null, Int, Text, Bool as Truth}
-use Rattle.wd_schema.specs.Meets.{Meets, MeetsTable, fits_columns, is_met, is_null, is_of_type, is_signed, may_hold}
+use Rattle.wd_schema.specs.Meets.{Meets, MeetsTable, fits_columns, is_met, is_null, is_of_type, may_hold}
 use Rattle.wd_schema.specs.Tables.{TableRule}
 use Rattle.wd_schema.specs.declared.table.Column.{Column}
 use Rattle.wd_schema.proofs.MeetsFacts.{all_from_test, met_from_test, test_from_all, test_from_met}

@@ -1,5 +1,5 @@
 -- The names of a schema's tables differ, as the keys of a map do.
-use Rattle.std.proofs.Common.{◌≡◌, ◌≢◌, ℕ, ◌<◌, false, All, AllPairs, List, [], ◌∷◌, map, length, String, Global, string_bytes, refl, sym, ◌∙◌, ap, subst}
+use Rattle.std.proofs.Common.{◌≡◌, ◌≢◌, ◌<◌, false, All, AllPairs, List, [], ◌∷◌, map, String, Global, string_bytes, refl, sym, ◌∙◌, subst}
 use Rattle.std.proofs.Math.ListN.{get_or-map}
 use Rattle.std.proofs.lemmas.List.{length-map}
 use Rattle.std.proofs.lemmas.List.Elements.{All-head, All-tail}

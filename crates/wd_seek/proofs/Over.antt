@@ -1,5 +1,5 @@
 -- A witness that names the scanned tables of a candidate is over that candidate.
-use Rattle.std.proofs.Common.{◌≡◌, ◌≢◌, ℕ, zero, suc, ◌+◌, ◌<◌, ◌≤◌, Bool, true, false, cond, All, Any, List, [], ◌∷◌, map, length, get_or, find, Option, Some, None, refl, sym, ◌∙◌, ap, subst, arith, true≢false, ltb}
+use Rattle.std.proofs.Common.{◌≡◌, ℕ, zero, suc, ◌+◌, ◌<◌, ◌≤◌, Bool, true, false, All, Any, List, [], ◌∷◌, map, length, get_or, find, Option, Some, None, refl, sym, ◌∙◌, ap, subst, arith, ltb}
 use Rattle.std.proofs.lemmas.Bool.{false≢true, ltb-true, ltb-false}
 use Rattle.std.proofs.lemmas.List.{length-map}
 use Rattle.std.proofs.lemmas.List.FromFn.{get_or-map-range_with_len, length-range_with_len}
@@ -14,7 +14,7 @@ use Rattle.wd_schema.specs.Schemas.{table_named}
 use Rattle.wd_schema.specs.Tables.{TableRule}
 use Rattle.wd_plan.specs.Plans.{PlanTree}
 use Rattle.wd_facts.specs.Given.{table_rule}
-use Rattle.wd_witness.specs.Witnesses.{Fits64, IsOf, IsTableOf, TableRows, rows_in, rows_named}
+use Rattle.wd_witness.specs.Witnesses.{Fits64, IsTableOf, TableRows, rows_in, rows_named}
 use Rattle.wd_candidates.specs.Candidates.{candidate, candidate_row, candidate_rows}
 use Rattle.wd_candidates.specs.Fixed.{fixed_value}
 use Rattle.wd_candidates.specs.Origins.{is_scanned}

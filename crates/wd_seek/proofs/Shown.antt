@@ -1,18 +1,15 @@
 -- What a search that has ended shows.
-use Rattle.std.proofs.Common.{◌≡◌, ℕ, List, [], Option, Some, None, IfNone, IfSome, false, refl, sym, subst}
+use Rattle.std.proofs.Common.{◌≡◌, ℕ, List, Option, Some, None, IfNone, IfSome, false, refl, sym, subst}
 use Rattle.wd_value.specs.Rows.{Instance}
 use Rattle.wd_schema.specs.Tables.{TableRule}
-use Rattle.wd_plan.specs.Choices.{IsValidChoice}
-use Rattle.wd_plan.specs.Outcomes.{Agree, outcome}
 use Rattle.wd_plan.specs.Plans.{PlanTree}
 use Rattle.wd_eval.specs.Steps.{has_large_step}
 use Rattle.wd_rules.specs.Laws.{IsTrueWitness}
 use Rattle.wd_refute.specs.Laws.{IsShown}
-use Rattle.wd_witness.specs.Witnesses.{WitnessRecord, instance_under, witness_of}
+use Rattle.wd_witness.specs.Witnesses.{WitnessRecord, witness_of}
 use Rattle.wd_witness.specs.declared.witness.Witness.{Witness}
-use Rattle.wd_candidates.specs.Candidates.{candidate, candidates, shapes}
 use Rattle.wd_candidates.specs.Outlines.{AreTied, AreTiedBy}
-use Rattle.wd_candidates.specs.Tied.{NodeColumns, ordered_by}
+use Rattle.wd_candidates.specs.Tied.{NodeColumns}
 use Rattle.wd_candidates.specs.declared.tied.TiedColumns.{TiedColumns}
 use Rattle.wd_probe.specs.Search.{FirstShowNothing}
 use Rattle.wd_probe.proofs.Searching.{first_show_nothing}

@@ -1,4 +1,4 @@
-use Rattle.std.proofs.Common.{◌∷◌, [], filter, get_or, None, Some, subst, length, ◌<◌}
+use Rattle.std.proofs.Common.{◌∷◌, [], filter, get_or, subst}
 use Rattle.wd_plan.specs.Plans.{plan_of}
 use Rattle.wd_schema.specs.Schemas.{schema_of}
 use Rattle.wd_candidates.specs.Candidates.{candidate, shapes}

@@ -1,10 +1,9 @@
-use Rattle.std.proofs.Common.{◌≡◌, ◌+◌, ◌++◌, ◌∷◌, [], rules, vec_len, length, map, take, get_or, ap, sym, subst, ◌∙◌, arith}
-use Rattle.std.proofs.lemmas.List.{length-append}
-use Rattle.wd_value.specs.Rows.{instance_of, rows_of, table_at}
+use Rattle.std.proofs.Common.{◌≡◌, rules, vec_len, length, map, sym, subst, ◌∙◌}
+use Rattle.wd_value.specs.Rows.{instance_of}
 use Rattle.wd_schema.specs.Schemas.{schema_of}
 use Rattle.wd_witness.specs.Witnesses.{table_rows}
 use Rattle.wd_seek.specs.Witnesses.{IsScannedName}
-use Rattle.wd_seek.proofs.Building.{HasScannedFrom, all_there, none_more, none_yet, one_more, popped, popped_rows, popped_length}
+use Rattle.wd_seek.proofs.Building.{HasScannedFrom, one_more, popped, popped_rows, popped_length}
 use Rattle.wd_seek.proofs.witness.scanned_tables.Goals as goal
 
 pub loop-rows-preserved-in-Some-scanned_name : goal.loop-rows-preserved-in-Some-scanned_name

@@ -1,4 +1,4 @@
-use Rattle.std.proofs.Common.{◌≡◌, ℕ, length, map, take}
+use Rattle.std.proofs.Common.{◌≡◌, length, map, take}
 use Rattle.wd_value.specs.Rows.{instance_of}
 use Rattle.wd_schema.specs.Schemas.{schema_of}
 use Rattle.wd_witness.specs.Witnesses.{table_rows}
