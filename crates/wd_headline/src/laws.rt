@@ -1,0 +1,43 @@
+//! Laws over the definitions that the public calls promise.
+
+ghost use Rattle.wd_headline.specs.Headline.{AcceptedIsNotRefuted, Headline, IsNotEmpty, RunsGiveIt};
+
+use wd_accept::laws::accepted_has_one;
+use wd_laws::laws::has_valid_choice;
+use wd_resolve::laws::{one_plan, plans_fit};
+use wd_rules::laws::never_both;
+use wd_run::laws::data_meets;
+use wd_schema::laws::one_meaning;
+
+/// Where `verify` accepts a certificate, the query has one answer over every instance that meets the schema, in any order of its
+/// rows and under all lawful orderings.
+pub fn headline()
+    ensures { Headline }
+{
+    accepted_has_one();
+}
+
+/// And every answer of `run` is that one.
+pub fn runs_give_it()
+    ensures { RunsGiveIt }
+{
+    accepted_has_one();
+    data_meets();
+}
+
+/// Where `refute` accepts a witness, `verify` accepts no certificate.
+pub fn accepted_is_not_refuted()
+    ensures { AcceptedIsNotRefuted }
+{
+    one_meaning();
+    one_plan();
+    plans_fit();
+    never_both();
+}
+
+/// There is an answer over every instance.
+pub fn is_not_empty()
+    ensures { IsNotEmpty }
+{
+    has_valid_choice();
+}
