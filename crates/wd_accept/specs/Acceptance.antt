@@ -6,6 +6,9 @@ use Rattle.wd_certificate.specs.Certificates.{NodeRecord}
 use Rattle.wd_certificate.specs.Json.{Spells}
 use Rattle.wd_certificate.specs.Refusals as certificates
 use Rattle.wd_certificate.specs.declared.error.CertError.{CertError}
+use Rattle.wd_resolve.specs.Answers.{Answer}
+use Rattle.wd_resolve.specs.Laws.{Reads}
+use Rattle.wd_rules.specs.Laws.{HasOneAnswer}
 use Rattle.wd_rules.specs.Validity.{IsValidCertificate, first_refusal}
 use Rattle.wd_query.specs.Causes.{HasTextCause, text_number, text_place}
 use Rattle.wd_query.specs.Readings.{ForReading}
@@ -22,6 +25,11 @@ SpellsValid certificate tables plan = (nodes : List NodeRecord) × Spells 1 node
 -- it is valid for the plan that reads the texts of a schema and a query
 abbrev pub IsAccepted : List ℕ → List ℕ → List ℕ → Type 0
 IsAccepted schema query certificate = ForReading schema query (SpellsValid certificate)
+
+-- the plan that reads the texts has one answer: over each instance that meets the schema, in any order of its rows, under all valid
+-- choices, one multiset of rows or one fault
+abbrev pub HaveOneAnswer : List ℕ → List ℕ → Type 0
+HaveOneAnswer schema query = (read : Answer) (reads : Reads schema query read) → HasOneAnswer reads.tables read.plan
 
 -- why a certificate is refused for a plan: for its text alone, or by the first check that the certificate it spells fails
 abbrev pub RefusesPlan : CertError → List ℕ → List TableRule → PlanTree → Type 0

@@ -4,9 +4,10 @@ ghost use Rattle.std.specs.Prelude.{◌≡◌, true, IfOk, IfErr};
 ghost use Rattle.wd_plan.specs.Fits.{fits};
 ghost use Rattle.wd_plan.specs.Plans.{plan_of};
 ghost use Rattle.wd_schema.specs.Schemas.{schema_of};
-ghost use Rattle.wd_accept.specs.Acceptance.{HasCause, IsAccepted, RefusesPlan, SpellsValid};
+ghost use Rattle.wd_accept.specs.Acceptance.{HasCause, HaveOneAnswer, IsAccepted, RefusesPlan, SpellsValid};
 
 use crate::error::VerifyError;
+use crate::laws::accepted_has_one;
 use std::alloc::Global;
 use wd_certificate::{CertError, from_json};
 use wd_plan::Plan;
@@ -32,6 +33,7 @@ pub fn verify(
     certificate: &[u8],
 ) -> Result<Accepted, VerifyError>
     ensures accepted { IfOk result (λ _. IsAccepted schema.now query.now certificate.now) }
+    ensures one_answer { IfOk result (λ _. HaveOneAnswer schema.now query.now) }
     ensures refused { IfErr result (λ e. HasCause schema.now query.now certificate.now e) }
 {
     let planned = match read_texts(alloc, schema, query) {
@@ -39,7 +41,10 @@ pub fn verify(
         Err(error) => return Err(VerifyError::Texts(error)),
     };
     match verify_text(alloc, &planned.resolved.plan, &planned.schema, certificate) {
-        Ok(()) => Ok(Accepted),
+        Ok(()) => {
+            accepted_has_one();
+            Ok(Accepted)
+        }
         Err(error) => Err(VerifyError::Certificate(error)),
     }
 }

@@ -3,6 +3,7 @@
 
 mod case;
 mod found;
+mod outcomes;
 mod shown;
 mod verdict;
 

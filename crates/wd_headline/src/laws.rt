@@ -4,10 +4,8 @@ ghost use Rattle.wd_headline.specs.Headline.{AcceptedIsNotRefuted, Headline, IsN
 
 use wd_accept::laws::accepted_has_one;
 use wd_laws::laws::has_valid_choice;
-use wd_resolve::laws::{one_plan, plans_fit};
-use wd_rules::laws::never_both;
+use wd_refute::laws::refuted_has_no_certificate;
 use wd_run::laws::data_meets;
-use wd_schema::laws::one_meaning;
 
 /// Where `verify` accepts a certificate, the query has one answer over every instance that meets the schema, in any order of its
 /// rows and under all lawful orderings.
@@ -29,10 +27,7 @@ pub fn runs_give_it()
 pub fn accepted_is_not_refuted()
     ensures { AcceptedIsNotRefuted }
 {
-    one_meaning();
-    one_plan();
-    plans_fit();
-    never_both();
+    refuted_has_no_certificate();
 }
 
 /// There is an answer over every instance.

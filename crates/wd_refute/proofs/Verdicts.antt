@@ -1,14 +1,19 @@
 -- A witness that is shown is refused for nothing, and what refuses choices refuses their witness.
 use Rattle.std.proofs.Common.{◌≡◌, ℕ, List, ◌∙◌, subst, sym, true, is_some, inl, inr}
 use Rattle.std.proofs.lemmas.Bool.{false≢true}
+use Rattle.wd_schema.specs.Laws.{HasOneMeaning}
+use Rattle.wd_schema.specs.Meets.{Meets}
 use Rattle.wd_schema.specs.Tables.{TableRule}
 use Rattle.wd_plan.specs.Plans.{PlanTree}
+use Rattle.wd_resolve.specs.Laws.{HasOnePlan, PlansFit}
+use Rattle.wd_rules.specs.Laws.{NeverBoth}
+use Rattle.wd_accept.proofs.Verdicts.{every}
 use Rattle.wd_witness.specs.Json.{Spells}
 use Rattle.wd_witness.specs.Laws.{IsReadBack, SpellsOne}
 use Rattle.wd_witness.specs.Refusals as witnesses
-use Rattle.wd_witness.specs.Witnesses.{WitnessRecord}
-use Rattle.wd_refute.specs.Laws.{IsShown, ShownIsNotRefused}
-use Rattle.wd_refute.specs.Refutation.{RefusesText, RefusesWitness, SpellsRefused, refusal_number}
+use Rattle.wd_witness.specs.Witnesses.{WitnessRecord, instance_under}
+use Rattle.wd_refute.specs.Laws.{IsShown, RefutedHasNoCertificate, ShownIsNotRefused}
+use Rattle.wd_refute.specs.Refutation.{RefusesChoices, RefusesText, RefusesWitness, SpellsRefused, SpellsTrue, refusal_number}
 use Rattle.wd_refute.specs.declared.error.Refusal.{Refusal}
 use Rattle.wd_refute.specs.declared.error.Refusal.TheVariants as refusal
 
@@ -16,11 +21,17 @@ use Rattle.wd_refute.specs.declared.error.Refusal.TheVariants as refusal
 not_refused : (tables : List TableRule) (plan : PlanTree) (w : WitnessRecord) → IsShown tables plan w → (r : Refusal) → is_some (refusal_number r) ≡ true → RefusesWitness r tables plan w → ⊥
 not_refused tables plan w shown (refusal.Text e) some cause = cause
 not_refused tables plan w shown refusal.NotMet some cause = cause shown.is_true.meets
-not_refused tables plan w shown refusal.NotValid some (inl cause) = cause shown.is_true.first
-not_refused tables plan w shown refusal.NotValid some (inr cause) = cause shown.is_true.second
-not_refused tables plan w shown refusal.OneAnswer some cause = shown.is_true.differ cause
-not_refused tables plan w shown refusal.TooManyRows some (inl cause) = false≢true (sym shown.first_small ∙ cause)
-not_refused tables plan w shown refusal.TooManyRows some (inr cause) = false≢true (sym shown.second_small ∙ cause)
+not_refused tables plan w shown refusal.NotValid some cause = by cause.choices
+  where
+    by : RefusesChoices refusal.NotValid plan (instance_under tables w) w.first w.second → ⊥
+    by (inl wrong) = wrong shown.is_true.first
+    by (inr wrong) = wrong shown.is_true.second
+not_refused tables plan w shown refusal.OneAnswer some cause = shown.is_true.differ cause.choices.agree
+not_refused tables plan w shown refusal.TooManyRows some cause = by cause.choices
+  where
+    by : RefusesChoices refusal.TooManyRows plan (instance_under tables w) w.first w.second → ⊥
+    by (inl large) = false≢true (sym shown.first_small ∙ large)
+    by (inr large) = false≢true (sym shown.second_small ∙ large)
 not_refused tables plan w shown refusal.OutOfMemory some cause = false≢true some
 
 pub shown_is_not_refused : SpellsOne → IsReadBack → ShownIsNotRefused
@@ -37,6 +48,15 @@ shown_is_not_refused spells_one is_read_back tables plan w witness r shown spell
     by refusal.TooManyRows some cause = of refusal.TooManyRows some cause
     by refusal.OutOfMemory some cause = false≢true some
 
+-- over tables that meet the schema, what refuses the choices refuses the witness
+pub choices_refused : (tables : List TableRule) (plan : PlanTree) (w : WitnessRecord) → Meets tables (instance_under tables w) → (r : Refusal) → RefusesChoices r plan (instance_under tables w) w.first w.second → RefusesWitness r tables plan w
+choices_refused tables plan w meets (refusal.Text e) cause = cause
+choices_refused tables plan w meets refusal.NotMet cause = absurd cause
+choices_refused tables plan w meets refusal.NotValid cause = record { meets = meets; choices = cause }
+choices_refused tables plan w meets refusal.OneAnswer cause = record { meets = meets; choices = cause }
+choices_refused tables plan w meets refusal.TooManyRows cause = record { meets = meets; choices = cause }
+choices_refused tables plan w meets refusal.OutOfMemory cause = tt
+
 -- a witness that is refused is a cause to refuse the text that spells it
 pub text_refused : (tables : List TableRule) (plan : PlanTree) (w : WitnessRecord) (witness : List ℕ) → Spells w witness → (r : Refusal) → RefusesWitness r tables plan w → RefusesText r witness tables plan
 text_refused tables plan w witness spelled (refusal.Text e) cause = absurd cause
@@ -45,3 +65,10 @@ text_refused tables plan w witness spelled refusal.NotValid cause = (w, spelled,
 text_refused tables plan w witness spelled refusal.OneAnswer cause = (w, spelled, cause)
 text_refused tables plan w witness spelled refusal.TooManyRows cause = (w, spelled, cause)
 text_refused tables plan w witness spelled refusal.OutOfMemory cause = tt
+
+pub refuted_has_no_certificate : HasOneMeaning → HasOnePlan → PlansFit → NeverBoth → RefutedHasNoCertificate
+refuted_has_no_certificate one_meaning one_plan plans_fit never_both schema query witness refuted certificate accepted =
+    let read = accepted.0 in
+    let reads = accepted.1 in
+    let shown = every one_meaning one_plan schema query (SpellsTrue witness) refuted.0 read refuted.1 reads refuted.2 in
+    never_both reads.tables read.plan accepted.2.0 (instance_under reads.tables shown.said) shown.said.first shown.said.second (plans_fit reads.tables reads.tree read reads.means) accepted.2.2 shown.is_true

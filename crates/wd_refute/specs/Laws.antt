@@ -5,8 +5,12 @@ use Rattle.wd_plan.specs.Plans.{PlanTree}
 use Rattle.wd_eval.specs.Steps.{has_large_step}
 use Rattle.wd_witness.specs.Json.{Spells}
 use Rattle.wd_witness.specs.Witnesses.{AllFit64, IsOf, WitnessRecord, instance_under}
-use Rattle.wd_refute.specs.Refutation.{IsTrue, RefusesText, refusal_number}
+use Rattle.wd_refute.specs.Refutation.{HaveNoCertificate, IsRefuted, IsTrue, RefusesText, refusal_number}
 use Rattle.wd_refute.specs.declared.error.Refusal.{Refusal}
+
+-- where a witness is accepted for the texts of a schema and a query, no certificate is
+abbrev pub RefutedHasNoCertificate : Type 0
+RefutedHasNoCertificate = (schema query witness : List ℕ) → IsRefuted schema query witness → HaveNoCertificate schema query
 
 -- a witness over tables of the schema that is true of a plan, no step of which is too large under its choices
 pub record IsShown (tables : List TableRule) (plan : PlanTree) (w : WitnessRecord) : Type 0 where

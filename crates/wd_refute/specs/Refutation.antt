@@ -8,6 +8,7 @@ use Rattle.wd_plan.specs.Outcomes.{Agree, outcome}
 use Rattle.wd_plan.specs.Plans.{PlanTree}
 use Rattle.wd_eval.specs.Steps.{has_large_step}
 use Rattle.wd_rules.specs.Laws.{IsTrueWitness}
+use Rattle.wd_accept.specs.Acceptance.{IsAccepted}
 use Rattle.wd_query.specs.Causes.{HasTextCause, text_number, text_place}
 use Rattle.wd_query.specs.Readings.{ForReading}
 use Rattle.wd_query.specs.declared.error.TextError.TheVariants as text
@@ -38,21 +39,40 @@ pub record SpellsTrue (witness : List ℕ) (tables : List TableRule) (plan : Pla
 abbrev pub IsRefuted : List ℕ → List ℕ → List ℕ → Type 0
 IsRefuted schema query witness = ForReading schema query (SpellsTrue witness)
 
+-- no certificate is accepted for the texts of a schema and a query
+abbrev pub HaveNoCertificate : List ℕ → List ℕ → Type 0
+HaveNoCertificate schema query = (certificate : List ℕ) → ¬ IsAccepted schema query certificate
+
 -- ---- what is refused
+
+-- two valid choices, under which a plan has one answer
+pub record IsOneAnswer (plan : PlanTree) (instance : Instance) (first second : List (List ℕ)) : Type 0 where
+  pub first_valid : IsValidChoice plan instance first
+  pub second_valid : IsValidChoice plan instance second
+  pub agree : Agree (outcome plan instance first) (outcome plan instance second)
 
 -- the two choices of a witness over an instance: one is not valid; both are, and the outcomes agree; a step is too large under one
 abbrev pub RefusesChoices : Refusal → PlanTree → Instance → List (List ℕ) → List (List ℕ) → Type 0
 RefusesChoices (refusal.Text e) plan instance first second = ⊥
 RefusesChoices refusal.NotMet plan instance first second = ⊥
 RefusesChoices refusal.NotValid plan instance first second = ¬ IsValidChoice plan instance first ⊎ ¬ IsValidChoice plan instance second
-RefusesChoices refusal.OneAnswer plan instance first second = Agree (outcome plan instance first) (outcome plan instance second)
+RefusesChoices refusal.OneAnswer plan instance first second = IsOneAnswer plan instance first second
 RefusesChoices refusal.TooManyRows plan instance first second = (has_large_step plan instance first ≡ true) ⊎ (has_large_step plan instance second ≡ true)
 RefusesChoices refusal.OutOfMemory plan instance first second = ⊤
 
+-- the tables of a witness meet the schema, and its choices are refused over them
+pub record MeetsAndRefuses (r : Refusal) (tables : List TableRule) (plan : PlanTree) (w : WitnessRecord) : Type 0 where
+  pub meets : Meets tables (instance_under tables w)
+  pub choices : RefusesChoices r plan (instance_under tables w) w.first w.second
+
 -- why a witness is refused for a plan: its tables do not meet the schema, or they do and its choices are refused
 abbrev pub RefusesWitness : Refusal → List TableRule → PlanTree → WitnessRecord → Type 0
+RefusesWitness (refusal.Text e) tables plan w = ⊥
 RefusesWitness refusal.NotMet tables plan w = ¬ Meets tables (instance_under tables w)
-RefusesWitness r tables plan w = RefusesChoices r plan (instance_under tables w) w.first w.second
+RefusesWitness refusal.NotValid tables plan w = MeetsAndRefuses refusal.NotValid tables plan w
+RefusesWitness refusal.OneAnswer tables plan w = MeetsAndRefuses refusal.OneAnswer tables plan w
+RefusesWitness refusal.TooManyRows tables plan w = MeetsAndRefuses refusal.TooManyRows tables plan w
+RefusesWitness refusal.OutOfMemory tables plan w = ⊤
 
 -- the text spells a witness that is refused
 abbrev pub SpellsRefused : Refusal → List ℕ → List TableRule → PlanTree → Type 0

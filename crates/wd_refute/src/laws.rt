@@ -1,8 +1,21 @@
 //! Laws over the definitions.
 
-ghost use Rattle.wd_refute.specs.Laws.{ShownIsNotRefused};
+ghost use Rattle.wd_refute.specs.Laws.{RefutedHasNoCertificate, ShownIsNotRefused};
 
+use wd_resolve::laws::{one_plan, plans_fit};
+use wd_rules::laws::never_both;
+use wd_schema::laws::one_meaning;
 use wd_witness::laws::{is_read_back, spells_one};
+
+/// Texts for which a witness is accepted have no certificate that is.
+pub fn refuted_has_no_certificate()
+    ensures { RefutedHasNoCertificate }
+{
+    one_meaning();
+    one_plan();
+    plans_fit();
+    never_both();
+}
 
 /// The text of a true witness is refused for nothing that stands in it.
 pub fn shown_is_not_refused()

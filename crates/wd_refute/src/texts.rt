@@ -1,10 +1,11 @@
 //! From the texts of a schema, a query and a witness to whether the witness is true.
 
 ghost use Rattle.std.specs.Prelude.{IfOk, IfErr};
-ghost use Rattle.wd_refute.specs.Refutation.{HasCause, IsRefuted};
+ghost use Rattle.wd_refute.specs.Refutation.{HasCause, HaveNoCertificate, IsRefuted};
 
 use crate::error::WitnessError;
 use crate::judge::refute_plan;
+use crate::laws::refuted_has_no_certificate;
 use std::alloc::Global;
 use wd_query::read_texts;
 
@@ -14,7 +15,8 @@ pub struct Refuted;
 
 /// Whether a witness's text spells a true witness of the plan of a schema's text and a query's text: its tables meet the schema,
 /// its two choices are valid, and the plan's outcomes under them do not agree, being rows of which some row has another number in
-/// the other, or rows and a fault, or two faults. Nothing of the witness is trusted: both outcomes are evaluated.
+/// the other, or rows and a fault, or two faults. Nothing of the witness is trusted: both outcomes are evaluated. Where it does,
+/// `verify` accepts no certificate for the two texts.
 ///
 /// Each refusal comes only where its cause stands, in this order: 101 to 107 and 301 to 309 of the schema; 101 to 107, 201, 202 and
 /// 401 to 415 of the query; 601 of the witness's text; 602 of its tables; then of the first choice and of the second 603, and 802
@@ -26,6 +28,7 @@ pub fn refute(
     witness: &[u8],
 ) -> Result<Refuted, WitnessError>
     ensures refuted { IfOk result (λ _. IsRefuted schema.now query.now witness.now) }
+    ensures uncertified { IfOk result (λ _. HaveNoCertificate schema.now query.now) }
     ensures refused { IfErr result (λ e. HasCause schema.now query.now witness.now e) }
 {
     let planned = match read_texts(alloc, schema, query) {
@@ -33,7 +36,10 @@ pub fn refute(
         Err(error) => return Err(WitnessError::Texts(error)),
     };
     match refute_plan(alloc, &planned.schema, &planned.resolved.plan, witness) {
-        Ok(()) => Ok(Refuted),
+        Ok(()) => {
+            refuted_has_no_certificate();
+            Ok(Refuted)
+        }
         Err(refusal) => Err(WitnessError::Witness(refusal)),
     }
 }

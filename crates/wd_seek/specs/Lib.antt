@@ -1,3 +1,4 @@
 pub mod Witnesses
 pub mod Sought
 pub mod Tried
+pub mod Laws
