@@ -40,8 +40,8 @@ fn agree(first: &Outcome, second: &Outcome) -> bool {
     }
 }
 
-/// `outcomes QUERY`: the number of rows of its answer or its fault, over the data with the records in their order and last to
-/// first, under the choice that turns no ordering round and each that turns one; or that there are several answers.
+/// `outcomes QUERY`: the rows of its one answer, or its fault, over the data with the records in their order and last to first, under
+/// the choice that turns no ordering round and each that turns one, and how many evaluations these are; or `several answers`.
 pub fn outcomes(
     alloc: Global,
     schema: &[u8],
@@ -149,11 +149,11 @@ fn shown(alloc: Global, seen: &Seen) -> Result<String, Failure> {
         _ if seen.differ => Ok(String::from_str(alloc, "several answers")?),
         Some(Outcome::Rows(rows)) => {
             let rows = rows.len();
-            Ok(format!(in alloc; "one answer, {rows} rows, in {count} evaluations")?)
+            Ok(format!(in alloc; "rows: {rows}, evaluations: {count}")?)
         }
         Some(Outcome::Fault(fault)) => {
             let name = fault_name(*fault);
-            Ok(format!(in alloc; "one answer, {name}, in {count} evaluations")?)
+            Ok(format!(in alloc; "{name}, evaluations: {count}")?)
         }
         None => Err(Failure::NoCase),
     }
