@@ -1,20 +1,25 @@
 //! Pairs of rows for which a condition is true.
 
-ghost use Rattle.std.specs.Prelude.{◌≡◌, ◌++◌, IfOk, OnOk, Err, true, false, length, nat_lt};
+ghost use Rattle.std.specs.Prelude.{◌≡◌, ◌++◌, [], None, IfOk, OnOk, Err, true, false, length, nat_lt};
+ghost use Rattle.wd_plan.specs.Expressions as value;
 ghost use Rattle.wd_plan.specs.Expressions.{expression_of};
 ghost use Rattle.wd_plan.specs.Outcomes as spec;
 ghost use Rattle.wd_plan.specs.Outcomes.{outcome_of, join_outcome};
+ghost use Rattle.wd_steps.specs.Faults.{with_result};
 ghost use Rattle.wd_steps.specs.Joins as joins;
 ghost use Rattle.wd_steps.specs.Joins.{AreKept, condition_of, has_more_rows};
+ghost use Rattle.wd_steps.specs.Matching.{AreSkippable};
 ghost use Rattle.wd_steps.specs.declared.join.JoinError.TheVariants as error;
 ghost use Rattle.wd_value.specs.Rows.{rows_of};
 
 use crate::fault::with_value;
 use crate::filter::passes;
+use crate::matching::{JoinColumns, agreeing_positions, matching_columns, sorted_by};
 use crate::pairs::{all_pairs, joined_row};
 use std::alloc::Global;
 use wd_plan::{Expr, Outcome};
 use wd_scalar::{has_arithmetic, value_of};
+use wd_sort::row_in;
 use wd_value::{Fault, OutOfMemory, Row, Value};
 
 /// Why a join gives no outcome.
@@ -40,6 +45,37 @@ struct Kept {
     fault: Option<Fault>,
 }
 
+impl Kept {
+    /// Nothing has been looked at yet.
+    fn nothing(alloc: Global) -> Kept
+        ensures rows { rows_of result.rows.items ≡ [] }
+        ensures fault { result.fault ≡ None }
+    {
+        Kept {
+            rows: Vec::new(alloc),
+            fault: None,
+        }
+    }
+
+    /// Looks at one more pair: it is added where the condition is true for it and there are not more than `most` rows yet.
+    fn look_at(
+        &mut self,
+        alloc: Global,
+        condition: &Expr,
+        first: &[Value],
+        second: &[Value],
+        most: u64,
+    ) -> Result<(), OutOfMemory>
+        ensures rows { OnOk result (rows_of self.new.rows.items ≡ joins.with_row most (spec.passes (value.value_of (expression_of condition.now) (first.now ++ second.now))) (rows_of self.old.rows.items) (first.now ++ second.now)) }
+        ensures fault { OnOk result (self.new.fault ≡ with_result self.old.fault (value.value_of (expression_of condition.now) (first.now ++ second.now))) }
+    {
+        let row = joined_row(alloc, first, second)?;
+        let value = value_of(alloc, condition, &row)?;
+        self.fault = with_value(self.fault, &value);
+        keep_row(&mut self.rows, row, passes(&value), most)
+    }
+}
+
 /// All pairs of a left and a right row, the left one outermost, for which the condition is true, or
 /// the least fault among all pairs. Where there are more than `most` rows they are not built.
 pub fn join_rows(
@@ -60,14 +96,31 @@ pub fn join_rows(
             Ok(Outcome::Rows(all_pairs(alloc, left, right)?))
         },
         Some(condition) => {
-            let kept = pairs_where(alloc, condition, left, right, most)?;
+            let kept = kept_pairs(alloc, condition, left, right, most)?;
             outcome_within(kept, most)
         }
     }
 }
 
 /// The first rows for which the condition is true, one more than `most` of them, and the least
-/// fault among all pairs. Where no pair can fault, no more of them are looked at than needed.
+/// fault among all pairs. Where only pairs that agree on two columns can matter, only these are
+/// looked at.
+fn kept_pairs(
+    alloc: Global,
+    condition: &Expr,
+    left: &[Row],
+    right: &[Row],
+    most: u64,
+) -> Result<Kept, OutOfMemory>
+    ensures { IfOk result (λ k. AreKept (expression_of condition.now) most (spec.pairs (rows_of left.now) (rows_of right.now)) (rows_of k.rows.items) k.fault) }
+{
+    match matching_columns(condition, left, right) {
+        Some(columns) => matching_where(alloc, condition, columns, left, right, most),
+        None => pairs_where(alloc, condition, left, right, most),
+    }
+}
+
+/// The same. Where no pair can fault, no more of them are looked at than needed.
 fn pairs_where(
     alloc: Global,
     condition: &Expr,
@@ -78,20 +131,44 @@ fn pairs_where(
     ensures { IfOk result (λ k. AreKept (expression_of condition.now) most (spec.pairs (rows_of left.now) (rows_of right.now)) (rows_of k.rows.items) k.fault) }
 {
     let faultless = !has_arithmetic(condition);
-    let mut rows = Vec::new(alloc);
-    let mut fault = None;
+    let mut kept = Kept::nothing(alloc);
     for first in left {
-        if faultless && rows.len() as u64 > most {
-            return Ok(Kept { rows, fault });
+        if faultless && kept.rows.len() as u64 > most {
+            return Ok(kept);
         }
         for second in right {
-            let row = joined_row(alloc, first, second)?;
-            let value = value_of(alloc, condition, &row)?;
-            fault = with_value(fault, &value);
-            keep_row(&mut rows, row, passes(&value), most)?;
+            kept.look_at(alloc, condition, first, second, most)?;
         }
     }
-    Ok(Kept { rows, fault })
+    Ok(kept)
+}
+
+/// The same, by the pairs that agree on the columns alone. Takes n log n comparisons, and time that
+/// goes with the number of such pairs.
+fn matching_where(
+    alloc: Global,
+    condition: &Expr,
+    columns: JoinColumns,
+    left: &[Row],
+    right: &[Row],
+    most: u64,
+) -> Result<Kept, OutOfMemory>
+    requires { AreSkippable (expression_of condition.now) columns (rows_of left.now) (rows_of right.now) }
+    ensures { IfOk result (λ k. AreKept (expression_of condition.now) most (spec.pairs (rows_of left.now) (rows_of right.now)) (rows_of k.rows.items) k.fault) }
+{
+    let faultless = !has_arithmetic(condition);
+    let order = sorted_by(alloc, right, columns.right)?;
+    let mut kept = Kept::nothing(alloc);
+    for first in left {
+        if faultless && kept.rows.len() as u64 > most {
+            return Ok(kept);
+        }
+        let positions = agreeing_positions(&order, right, columns, first);
+        for position in positions {
+            kept.look_at(alloc, condition, first, row_in(right, *position), most)?;
+        }
+    }
+    Ok(kept)
 }
 
 /// Adds a row that passes where there are not more than `most` yet.
