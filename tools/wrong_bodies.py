@@ -136,8 +136,8 @@ LOST_NAME = re.compile(r"has no field|is not in scope|has no `|was not admitted"
 def lost_goals(edit, lines):
     """The goals of the edit's function whose written proof no longer holds."""
     module, _, name = edit.function.rpartition("::")
-    folder = module.replace("::", "/")
-    own, cycle = (f"{folder}/{name}/", f"{folder}/+{name}/"), f"{folder}/+"
+    folder = f"{module.replace('::', '/')}/" if module else ""
+    own, cycle = (f"{folder}{name}/", f"{folder}+{name}/"), f"{folder}+"
     goals = []
     for line in lines:
         error = re.match(r"(?:\./)?proofs/(\S+?):\d+:\d+: error: `(\S+?)`: (.*)", line)
