@@ -253,7 +253,7 @@ module _ (instance : Instance) (choice : List (List ℕ)) (first : ℕ) (conditi
           right_outcome : produced_of instance r.outcome ≡ outcome right instance on_right
           right_outcome = b.is ∙ ap (outcome right instance) right_is
 
-      pub join_done : (o : Outcome) → IsSmall below (outcome_of o) → IsEvaluated (Join condition left right) instance choice first (record { outcome = Made o; next = r.next })
+      pub join_done : (o : Produced) → IsSmall below (produced_of instance o) → IsEvaluated (Join condition left right) instance choice first (record { outcome = o; next = r.next })
       join_done o s =
           let here = a.next in
           let there = b.next in

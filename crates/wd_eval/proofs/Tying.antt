@@ -318,7 +318,7 @@ module _ (instance : Instance) (flipped : Option ℕ) (old : List (List ℕ)) wh
         both_tied : AreTied (Join condition left right) instance flipped (length old) (drop (length old) new)
         both_tied = (still_tied left mid r.own new lo l r.grown, right_tied)
 
-        pub join_tied : (o : Outcome) → IsSmall (join_over condition (produced_of instance lo) (produced_of instance ro)) (outcome_of o) → IsTied (Join condition left right) instance flipped old new (Made o)
+        pub join_tied : (o : Produced) → IsSmall (join_over condition (produced_of instance lo) (produced_of instance ro)) (produced_of instance o) → IsTied (Join condition left right) instance flipped old new o
         join_tied o s = record {
           own = l.own ++ r.own;
           grown = grown_more left mid r.own new lo l r.grown;

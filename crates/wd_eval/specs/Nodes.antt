@@ -1,5 +1,5 @@
 -- A node of a plan under the orderings from a number on.
-use Rattle.std.specs.Prelude.{◌≡◌, ℕ, ◌+◌, ◌≤◌, true, false, List, drop, length, ⊤, Option, option_map, Result, Ok, Err, IfErr, IfOk}
+use Rattle.std.specs.Prelude.{◌≡◌, ℕ, ◌+◌, ◌≤◌, true, false, List, drop, length, ⊤, Option, None, option_map, Result, Ok, Err, IfErr, IfOk}
 use Rattle.std.specs.Borrow.{Bor}
 use Rattle.std.specs.declared.alloc.Global.{Global}
 use Rattle.std.specs.declared.vec.Vec.{Vec}
@@ -21,13 +21,25 @@ use Rattle.wd_eval.specs.Wrong.{IsWrongFrom}
 use Rattle.wd_eval.specs.declared.error.EvalError.{EvalError}
 use Rattle.wd_eval.specs.declared.error.EvalError.TheVariants.{NotValid, TooManyRows, OutOfMemory}
 use Rattle.wd_eval.specs.declared.produced.Produced.{Produced}
-use Rattle.wd_eval.specs.declared.produced.Produced.TheVariants.{Table, Made}
+use Rattle.wd_eval.specs.declared.produced.Produced.TheVariants.{Table, Made, Pairs}
+use Rattle.wd_eval.specs.declared.produced.Given.{Given}
+use Rattle.wd_eval.specs.declared.produced.Given.TheVariants as given
 use Rattle.wd_eval.specs.declared.node.Evaluated.{Evaluated}
 
--- what a node gives: the rows of a table of the instance, or what its step made
+-- what a Join gives over what is below it
+abbrev pub join_over : Option Expression → RowsOrFault → RowsOrFault → RowsOrFault
+join_over condition left right = and_then left (λ ls. and_then right (λ rs. join_outcome condition (pairs ls rs)))
+
+-- what a step reads: the rows of a table of the instance, or what a step made
+abbrev pub given_of : Instance → Given → RowsOrFault
+given_of instance (given.Table table) = Ok (table_at instance table)
+given_of instance (given.Made o) = outcome_of o
+
+-- what a node gives: the same, or all pairs
 abbrev pub produced_of : Instance → Produced → RowsOrFault
 produced_of instance (Table table) = Ok (table_at instance table)
 produced_of instance (Made o) = outcome_of o
+produced_of instance (Pairs left right) = join_over None (given_of instance left) (given_of instance right)
 
 -- rows by reference, or a fault
 abbrev pub shown_of : Result (Bor (List (Vec Value Global))) Fault → RowsOrFault
@@ -75,11 +87,7 @@ pub record IsSmallOrLarge {X : Type 0} (expected : RowsOrFault) (view : X → Ro
   pub ok : IfOk r (λ x. IsSmall expected (view x))
   pub refused : IfErr r (λ e. IsLarge expected e)
 
--- what a Join gives over what is below it
-abbrev pub join_over : Option Expression → RowsOrFault → RowsOrFault → RowsOrFault
-join_over condition left right = and_then left (λ ls. and_then right (λ rs. join_outcome condition (pairs ls rs)))
-
--- the same of the Join's condition and inputs in the code
+-- what a Join gives, of its condition and inputs in the code
 abbrev pub joined_of : Instance → Option Expr → Produced → Produced → RowsOrFault
 joined_of instance condition left right = join_over (option_map expression_of condition) (produced_of instance left) (produced_of instance right)
 

@@ -12,7 +12,7 @@ ghost use Rattle.wd_value.specs.Rows.{instance_of};
 
 use crate::error::EvalError;
 use crate::node::evaluate;
-use crate::produced::owned;
+use crate::produced::outcome_from;
 use crate::tie::tied;
 use std::alloc::Global;
 use wd_plan::{Choice, Outcome, Plan};
@@ -37,7 +37,7 @@ pub fn eval_with(
     if evaluated.next < choice.orderings.len() {
         return Err(EvalError::NotValid(evaluated.next as u64));
     }
-    let outcome = owned(alloc, instance, evaluated.outcome)?;
+    let outcome = outcome_from(alloc, instance, evaluated.outcome)?;
     Ok(outcome)
 }
 
@@ -110,7 +110,7 @@ pub fn eval_tied(
 {
     let mut orderings = Vec::new(alloc);
     let given = tied(alloc, plan, instance, flipped, &mut orderings)?;
-    let outcome = owned(alloc, instance, given)?;
+    let outcome = outcome_from(alloc, instance, given)?;
     let choice = Choice { orderings };
     Ok(TiedOutcome { choice, outcome })
 }

@@ -51,7 +51,7 @@ pub(crate) fn evaluate(
             let right = evaluate(alloc, right, instance, choice, left.next)?;
             let outcome = joined(alloc, instance, condition, left.outcome, right.outcome)?;
             Ok(Evaluated {
-                outcome: Produced::Made(outcome),
+                outcome,
                 next: right.next,
             })
         }

@@ -1,30 +1,76 @@
 //! What a node gives to the step above it.
 
-ghost use Rattle.std.specs.Prelude.{◌≡◌, IfOk};
-ghost use Rattle.wd_eval.specs.Nodes.{produced_of, shown_of};
+ghost use Rattle.std.specs.Prelude.{◌≡◌, IfOk, None};
+ghost use Rattle.wd_eval.specs.Nodes.{given_of, join_over, produced_of, shown_of};
 ghost use Rattle.wd_plan.specs.Outcomes.{outcome_of};
 ghost use Rattle.wd_value.specs.Rows.{instance_of, rows_of, table_at};
 
 use std::alloc::Global;
 use wd_plan::Outcome;
+use wd_steps::all_pairs;
 use wd_value::{Fault, OutOfMemory, Row, copy_row};
 
-/// What a node gives to the step above it: a table of the instance by its number, whose rows stay
-/// where they are, or what the node's step made.
+/// What a step reads: a table of the instance by its number, whose rows stay where they are, or
+/// what a step made.
 #[derive(Drop)]
-pub(crate) enum Produced {
+pub(crate) enum Given {
     Table(u16),
     Made(Outcome),
 }
 
+/// What a node gives to the step above it: that, or all pairs of a left and a right row, the left
+/// one outermost, which are not made yet, since a condition above may want few of them.
+#[derive(Drop)]
+pub(crate) enum Produced {
+    Table(u16),
+    Made(Outcome),
+    Pairs(Given, Given),
+}
+
+/// What is produced, with its pairs made.
+pub(crate) fn gathered(
+    alloc: Global,
+    instance: &[Vec<Row>],
+    produced: Produced,
+) -> Result<Given, OutOfMemory>
+    ensures { IfOk result (λ g. given_of (instance_of instance.now) g ≡ produced_of (instance_of instance.now) produced) }
+{
+    match produced {
+        Produced::Table(table) => Ok(Given::Table(table)),
+        Produced::Made(outcome) => Ok(Given::Made(outcome)),
+        Produced::Pairs(left, right) => {
+            let outcome = paired(alloc, instance, &left, &right)?;
+            Ok(Given::Made(outcome))
+        }
+    }
+}
+
+fn paired(
+    alloc: Global,
+    instance: &[Vec<Row>],
+    left: &Given,
+    right: &Given,
+) -> Result<Outcome, OutOfMemory>
+    ensures { IfOk result (λ o. outcome_of o ≡ join_over None (given_of (instance_of instance.now) left.now) (given_of (instance_of instance.now) right.now)) }
+{
+    match (shown(left, instance), shown(right, instance)) {
+        (Err(fault), _) => Ok(Outcome::Fault(fault)),
+        (Ok(_), Err(fault)) => Ok(Outcome::Fault(fault)),
+        (Ok(left), Ok(right)) => {
+            let rows = all_pairs(alloc, left, right)?;
+            Ok(Outcome::Rows(rows))
+        }
+    }
+}
+
 /// The rows that are given, where they are, or the fault.
-pub(crate) fn shown<'a>(given: &'a Produced, instance: &'a [Vec<Row>]) -> Result<&'a [Row], Fault>
-    ensures { shown_of result ≡ produced_of (instance_of instance.now) given.now }
+pub(crate) fn shown<'a>(given: &'a Given, instance: &'a [Vec<Row>]) -> Result<&'a [Row], Fault>
+    ensures { shown_of result ≡ given_of (instance_of instance.now) given.now }
 {
     match given {
-        Produced::Table(table) => Ok(table_in(instance, *table)),
-        Produced::Made(Outcome::Rows(rows)) => Ok(rows),
-        Produced::Made(Outcome::Fault(fault)) => Err(*fault),
+        Given::Table(table) => Ok(table_in(instance, *table)),
+        Given::Made(Outcome::Rows(rows)) => Ok(rows),
+        Given::Made(Outcome::Fault(fault)) => Err(*fault),
     }
 }
 
@@ -32,17 +78,29 @@ pub(crate) fn shown<'a>(given: &'a Produced, instance: &'a [Vec<Row>]) -> Result
 pub(crate) fn owned(
     alloc: Global,
     instance: &[Vec<Row>],
-    given: Produced,
+    given: Given,
 ) -> Result<Outcome, OutOfMemory>
-    ensures { IfOk result (λ o. outcome_of o ≡ produced_of (instance_of instance.now) given) }
+    ensures { IfOk result (λ o. outcome_of o ≡ given_of (instance_of instance.now) given) }
 {
     match given {
-        Produced::Table(table) => {
+        Given::Table(table) => {
             let copied = copy_rows(alloc, table_in(instance, table))?;
             Ok(Outcome::Rows(copied))
         }
-        Produced::Made(outcome) => Ok(outcome),
+        Given::Made(outcome) => Ok(outcome),
     }
+}
+
+/// What is produced as an outcome of its own.
+pub(crate) fn outcome_from(
+    alloc: Global,
+    instance: &[Vec<Row>],
+    produced: Produced,
+) -> Result<Outcome, OutOfMemory>
+    ensures { IfOk result (λ o. outcome_of o ≡ produced_of (instance_of instance.now) produced) }
+{
+    let given = gathered(alloc, instance, produced)?;
+    owned(alloc, instance, given)
 }
 
 /// The rows of the instance's table with this number, none past the last table.

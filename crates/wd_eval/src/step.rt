@@ -1,20 +1,24 @@
 //! Each step of a plan over the outcomes below it, but for a Limit.
 
-ghost use Rattle.std.specs.Prelude.{◌≡◌, ◌-◌, ◌^◌, ◌≤◌, IfOk, length, map, Ok};
-ghost use Rattle.wd_eval.specs.Nodes.{IsExtendedOrUnserved, IsSmallOrLarge, joined_of, produced_of};
+ghost use Rattle.std.specs.Prelude.{◌≡◌, ◌-◌, ◌^◌, ◌≤◌, IfOk, length, map, None, Ok, Some};
+ghost use Rattle.wd_eval.specs.Nodes.{IsExtendedOrUnserved, IsSmallOrLarge, given_of, join_over, joined_of, produced_of};
+ghost use Rattle.wd_eval.specs.Steps.{most_rows};
 ghost use Rattle.wd_plan.specs.Expressions.{expression_of};
 ghost use Rattle.wd_plan.specs.Faults.{and_then};
 ghost use Rattle.wd_plan.specs.Outcomes as spec;
 ghost use Rattle.wd_plan.specs.Outcomes.{outcome_of};
 ghost use Rattle.wd_plan.specs.Plans.{NamesClasses, window_of};
+ghost use Rattle.wd_steps.specs.Joins.{has_more_rows};
 ghost use Rattle.wd_value.specs.Rows.{instance_of, table_at};
 ghost use Rattle.wd_window.specs.Windows.{AreFew, orderings_of};
 
 use crate::error::EvalError;
-use crate::produced::{Produced, owned, shown, table_in};
+use crate::produced::{Given, Produced, gathered, outcome_from, owned, shown, table_in};
 use std::alloc::Global;
 use wd_plan::{Expr, Outcome, Window};
-use wd_steps::{copy_filtered, distinct_rows, filter_rows, join_rows, map_rows};
+use wd_steps::{
+    copy_filtered, distinct_rows, filter_pairs, filter_rows, has_more_pairs, join_rows, map_rows,
+};
 use wd_value::{OutOfMemory, Row};
 use wd_window::evaluate_window;
 
@@ -33,21 +37,64 @@ pub(crate) fn scanned(instance: &[Vec<Row>], table: u16) -> Result<Produced, Eva
 }
 
 /// All pairs of a left and a right row for which the condition is true, or the error that there
-/// are too many.
+/// are too many. Without a condition they are not made yet.
 pub(crate) fn joined(
     alloc: Global,
     instance: &[Vec<Row>],
     condition: &Option<Expr>,
     left: Produced,
     right: Produced,
-) -> Result<Outcome, EvalError>
-    ensures { IsSmallOrLarge (joined_of (instance_of instance.now) condition.now left right) outcome_of result }
+) -> Result<Produced, EvalError>
+    ensures { IsSmallOrLarge (joined_of (instance_of instance.now) condition.now left right) (produced_of (instance_of instance.now)) result }
 {
-    match (shown(&left, instance), shown(&right, instance)) {
+    let left = gathered(alloc, instance, left)?;
+    let right = gathered(alloc, instance, right)?;
+    match condition {
+        None => pairs_of(instance, left, right),
+        Some(condition) => {
+            let outcome = joined_where(alloc, instance, condition, &left, &right)?;
+            Ok(Produced::Made(outcome))
+        }
+    }
+}
+
+/// All pairs, or the error that there are too many.
+fn pairs_of(instance: &[Vec<Row>], left: Given, right: Given) -> Result<Produced, EvalError>
+    ensures { IsSmallOrLarge (join_over None (given_of (instance_of instance.now) left) (given_of (instance_of instance.now) right)) (produced_of (instance_of instance.now)) result }
+{
+    if has_many_pairs(instance, &left, &right) {
+        Err(EvalError::TooManyRows)
+    } else {
+        Ok(Produced::Pairs(left, right))
+    }
+}
+
+/// Whether there are more pairs than a step may have rows.
+fn has_many_pairs(instance: &[Vec<Row>], left: &Given, right: &Given) -> bool
+    ensures { result ≡ has_more_rows most_rows (join_over None (given_of (instance_of instance.now) left.now) (given_of (instance_of instance.now) right.now)) }
+{
+    match (shown(left, instance), shown(right, instance)) {
+        (Err(_), _) => false,
+        (Ok(_), Err(_)) => false,
+        (Ok(left), Ok(right)) => has_more_pairs(left, right, MOST_ROWS),
+    }
+}
+
+/// The pairs for which the condition is true, or the error that there are too many.
+fn joined_where(
+    alloc: Global,
+    instance: &[Vec<Row>],
+    condition: &Expr,
+    left: &Given,
+    right: &Given,
+) -> Result<Outcome, EvalError>
+    ensures { IsSmallOrLarge (join_over (Some (expression_of condition.now)) (given_of (instance_of instance.now) left.now) (given_of (instance_of instance.now) right.now)) outcome_of result }
+{
+    match (shown(left, instance), shown(right, instance)) {
         (Err(fault), _) => Ok(Outcome::Fault(fault)),
         (Ok(_), Err(fault)) => Ok(Outcome::Fault(fault)),
         (Ok(left), Ok(right)) => {
-            let outcome = join_rows(alloc, condition.as_ref(), left, right, MOST_ROWS)?;
+            let outcome = join_rows(alloc, Some(condition), left, right, MOST_ROWS)?;
             Ok(outcome)
         }
     }
@@ -66,6 +113,24 @@ pub(crate) fn filtered(
         Produced::Table(table) => copy_filtered(alloc, condition, table_in(instance, table)),
         Produced::Made(Outcome::Rows(rows)) => filter_rows(alloc, condition, rows),
         Produced::Made(Outcome::Fault(fault)) => Ok(Outcome::Fault(fault)),
+        Produced::Pairs(left, right) => pairs_where(alloc, instance, condition, &left, &right),
+    }
+}
+
+/// The pairs for which the condition is true, of pairs that are not made yet.
+fn pairs_where(
+    alloc: Global,
+    instance: &[Vec<Row>],
+    condition: &Expr,
+    left: &Given,
+    right: &Given,
+) -> Result<Outcome, OutOfMemory>
+    ensures { IfOk result (λ o. outcome_of o ≡ and_then (join_over None (given_of (instance_of instance.now) left.now) (given_of (instance_of instance.now) right.now)) (spec.filter_outcome (expression_of condition.now))) }
+{
+    match (shown(left, instance), shown(right, instance)) {
+        (Err(fault), _) => Ok(Outcome::Fault(fault)),
+        (Ok(_), Err(fault)) => Ok(Outcome::Fault(fault)),
+        (Ok(left), Ok(right)) => filter_pairs(alloc, condition, left, right),
     }
 }
 
@@ -78,6 +143,7 @@ pub(crate) fn mapped(
 ) -> Result<Outcome, OutOfMemory>
     ensures { IfOk result (λ o. outcome_of o ≡ and_then (produced_of (instance_of instance.now) input) (spec.map_outcome (map expression_of outputs.now))) }
 {
+    let input = gathered(alloc, instance, input)?;
     match shown(&input, instance) {
         Ok(rows) => map_rows(alloc, outputs, rows),
         Err(fault) => Ok(Outcome::Fault(fault)),
@@ -99,6 +165,24 @@ pub(crate) fn extended(
     requires named { NamesClasses (window_of window.now) }
     ensures { IsExtendedOrUnserved (window_of window.now) (produced_of (instance_of instance.now) input) (orderings_of choice.now) first result }
 {
+    let input = gathered(alloc, instance, input)?;
+    extended_over(alloc, instance, window, input, choice, first)
+}
+
+/// The same over an input whose pairs are made.
+pub(crate) fn extended_over(
+    alloc: Global,
+    instance: &[Vec<Row>],
+    window: &Window,
+    input: Given,
+    choice: &[Vec<u64>],
+    first: usize,
+) -> Result<Outcome, EvalError>
+    requires few { AreFew (2 ^ 32 - 1) (given_of (instance_of instance.now) input) }
+    requires within { first ≤ length choice.now }
+    requires named { NamesClasses (window_of window.now) }
+    ensures { IsExtendedOrUnserved (window_of window.now) (given_of (instance_of instance.now) input) (orderings_of choice.now) first result }
+{
     let input = owned(alloc, instance, input)?;
     let outcome = evaluate_window(alloc, window, input, choice, first)?;
     Ok(outcome)
@@ -112,7 +196,7 @@ pub(crate) fn distinct(
 ) -> Result<Outcome, OutOfMemory>
     ensures { IfOk result (λ o. outcome_of o ≡ and_then (produced_of (instance_of instance.now) input) (λ rows. Ok (spec.distinct rows))) }
 {
-    match owned(alloc, instance, input)? {
+    match outcome_from(alloc, instance, input)? {
         Outcome::Rows(rows) => Ok(Outcome::Rows(distinct_rows(alloc, rows)?)),
         Outcome::Fault(fault) => Ok(Outcome::Fault(fault)),
     }

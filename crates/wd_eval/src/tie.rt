@@ -2,17 +2,17 @@
 
 ghost use Rattle.std.specs.Prelude.{◌≡◌, ◌-◌, ◌^◌, IfOk, OnOk};
 ghost use Rattle.wd_window.specs.Windows.{AreFew, orderings_of};
-ghost use Rattle.wd_eval.specs.Nodes.{produced_of};
+ghost use Rattle.wd_eval.specs.Nodes.{given_of, produced_of};
 ghost use Rattle.wd_eval.specs.Tied as spec;
 ghost use Rattle.wd_eval.specs.Ties.{AreAllPut, IsTiedLimitOrNoMemory, IsTiedOrUntied, IsTiedWindowOrNoMemory};
 ghost use Rattle.wd_partition.specs.Columns.{class_by};
 ghost use Rattle.wd_plan.specs.Plans.{EachNamesClasses, NamesClasses, limit_of, plan_of, window_of};
 ghost use Rattle.wd_value.specs.Rows.{instance_of};
 
-use crate::cut::limited;
+use crate::cut::limited_over;
 use crate::error::EvalError;
-use crate::produced::{Produced, shown};
-use crate::step::{distinct, extended, filtered, joined, mapped, scanned};
+use crate::produced::{Given, Produced, gathered, shown};
+use crate::step::{distinct, extended_over, filtered, joined, mapped, scanned};
 use std::alloc::Global;
 use wd_partition::sorted_ordering;
 use wd_plan::{Limit, Outcome, Plan, Window};
@@ -39,7 +39,7 @@ pub(crate) fn tied(
             let left = tied(alloc, left, instance, flipped, orderings)?;
             let right = tied(alloc, right, instance, flipped, orderings)?;
             let outcome = joined(alloc, instance, condition, left, right)?;
-            Ok(Produced::Made(outcome))
+            Ok(outcome)
         }
         Plan::Filter { input, condition } => {
             let below = tied(alloc, input, instance, flipped, orderings)?;
@@ -80,11 +80,12 @@ fn tied_limit(
 ) -> Result<Outcome, EvalError>
     ensures { IsTiedLimitOrNoMemory (limit_of limit.now) (produced_of (instance_of instance.now) input) flipped orderings.old.items orderings.new.items result }
 {
+    let input = gathered(alloc, instance, input)?;
     let number = orderings.len();
     let turned = is_flipped(flipped, number);
     let ordering = sorted_over(alloc, instance, &input, &[], &limit.keys, turned)?;
     orderings.push(ordering)?;
-    limited(alloc, instance, limit, input, orderings, number)
+    limited_over(alloc, instance, limit, &input, orderings, number)
 }
 
 /// The input's rows with the values of the calls under the sorted orderings of the classes.
@@ -100,9 +101,10 @@ fn tied_window(
     requires named { NamesClasses (window_of window.now) }
     ensures { IsTiedWindowOrNoMemory (window_of window.now) (produced_of (instance_of instance.now) input) flipped orderings.old.items orderings.new.items result }
 {
+    let input = gathered(alloc, instance, input)?;
     let first = orderings.len();
     put_sorted(alloc, instance, window, &input, flipped, orderings)?;
-    extended(alloc, instance, window, input, orderings, first)
+    extended_over(alloc, instance, window, input, orderings, first)
 }
 
 /// Puts the sorted ordering of each class of a Window after those that are there.
@@ -110,11 +112,11 @@ fn put_sorted(
     alloc: Global,
     instance: &[Vec<Row>],
     window: &Window,
-    input: &Produced,
+    input: &Given,
     flipped: Option<u32>,
     orderings: &mut Vec<Vec<u64>>,
 ) -> Result<(), OutOfMemory>
-    ensures { OnOk result (AreAllPut (window_of window.now) (produced_of (instance_of instance.now) input.now) flipped (orderings_of orderings.old.items) (orderings_of orderings.new.items)) }
+    ensures { OnOk result (AreAllPut (window_of window.now) (given_of (instance_of instance.now) input.now) flipped (orderings_of orderings.old.items) (orderings_of orderings.new.items)) }
 {
     for class in &window.classes {
         let turned = is_flipped(flipped, orderings.len());
@@ -135,12 +137,12 @@ fn put_sorted(
 fn sorted_over(
     alloc: Global,
     instance: &[Vec<Row>],
-    input: &Produced,
+    input: &Given,
     partition: &[u16],
     keys: &[SortColumn],
     turned: bool,
 ) -> Result<Vec<u64>, OutOfMemory>
-    ensures { IfOk result (λ v. spec.IsSortedOver (class_by partition.now keys.now) turned (produced_of (instance_of instance.now) input.now) v.items) }
+    ensures { IfOk result (λ v. spec.IsSortedOver (class_by partition.now keys.now) turned (given_of (instance_of instance.now) input.now) v.items) }
 {
     match shown(input, instance) {
         Err(_) => Ok(Vec::new(alloc)),

@@ -10,8 +10,8 @@ use Rattle.wd_value.specs.Rows.{Row, rows_of}
 use Rattle.wd_value.specs.declared.value.Fault.{Fault}
 use Rattle.wd_value.specs.declared.value.Fault.TheVariants.{DivisionByZero, OutOfRange}
 use Rattle.wd_plan.specs.Expressions.{Expression, value_of}
-use Rattle.wd_plan.specs.Faults.{has_fault, least_fault}
-use Rattle.wd_plan.specs.Outcomes.{pairs, passes}
+use Rattle.wd_plan.specs.Faults.{has_fault, least_fault, unless}
+use Rattle.wd_plan.specs.Outcomes.{filter_outcome, pairs, passes}
 use Rattle.wd_scalar.specs.Arithmetic.{has_arithmetic}
 use Rattle.wd_scalar.proofs.Faultless.{never_faults}
 use Rattle.wd_steps.specs.Faults.{with_result}
@@ -74,6 +74,14 @@ AreKept-enough condition most left right rows i fault sure enough kept =
       rows_are = kept.rows_are ∙ sym (ap (λ ps. take (most + 1) (filter t ps)) (pairs_cut left right i) ∙ ap (take (most + 1)) (filter-append t so_far rest) ∙ take-append-le (most + 1) (filter t so_far) (filter t rest) within);
       fault_is = kept.fault_is ∙ no_least_fault condition so_far sure ∙ sym (no_least_fault condition (pairs left right) sure);
     }
+
+-- rows that are fewer than asked for are all that pass
+pub AreKept-all : (condition : Expression) (most : ℕ) (all rows : List Row) (fault : Option Fault) → length rows ≤ most → AreKept condition most all rows fault → unless fault rows ≡ filter_outcome condition all
+AreKept-all condition most all rows fault short kept =
+    let passed = filter (λ row. passes (value_of condition row)) all in
+    let long = ap length kept.rows_are ∙ length-take (most + 1) passed in
+    let whole : rows ≡ passed = kept.rows_are ∙ take_all (most + 1) passed (omega arith) in
+    λ i. unless (kept.fault_is i) (whole i)
 
 -- ---- one pair more
 

@@ -12,7 +12,7 @@ ghost use Rattle.wd_steps.specs.Matching.{AreSkippable};
 ghost use Rattle.wd_steps.specs.declared.join.JoinError.TheVariants as error;
 ghost use Rattle.wd_value.specs.Rows.{rows_of};
 
-use crate::fault::with_value;
+use crate::fault::{rows_or_fault, with_value};
 use crate::filter::passes;
 use crate::matching::{JoinColumns, agreeing_positions, matching_columns, sorted_by};
 use crate::pairs::{all_pairs, joined_row};
@@ -100,6 +100,20 @@ pub fn join_rows(
             outcome_within(kept, most)
         }
     }
+}
+
+/// All pairs of a left and a right row, the left one outermost, for which the condition is true, or
+/// the least fault among all pairs.
+pub fn filter_pairs(
+    alloc: Global,
+    condition: &Expr,
+    left: &[Row],
+    right: &[Row],
+) -> Result<Outcome, OutOfMemory>
+    ensures { IfOk result (λ o. outcome_of o ≡ spec.filter_outcome (expression_of condition.now) (spec.pairs (rows_of left.now) (rows_of right.now))) }
+{
+    let kept = kept_pairs(alloc, condition, left, right, u64::MAX)?;
+    Ok(rows_or_fault(kept.rows, kept.fault))
 }
 
 /// The first rows for which the condition is true, one more than `most` of them, and the least
@@ -196,8 +210,8 @@ fn outcome_within(kept: Kept, most: u64) -> Result<Outcome, JoinError>
     }
 }
 
-/// Whether there are more than `most` pairs.
-fn has_more_pairs(left: &[Row], right: &[Row], most: u64) -> bool
+/// Whether there are more than `most` pairs of a left and a right row.
+pub fn has_more_pairs(left: &[Row], right: &[Row], most: u64) -> bool
     ensures { result ≡ nat_lt most (length (spec.pairs (rows_of left.now) (rows_of right.now))) }
 {
     match left.len().checked_mul(right.len()) {

@@ -8,7 +8,7 @@ use std::alloc::Global;
 use wd_value::{OutOfMemory, Row, Value};
 
 /// All pairs of a left and a right row, the left one outermost.
-pub(crate) fn all_pairs(alloc: Global, left: &[Row], right: &[Row]) -> Result<Vec<Row>, OutOfMemory>
+pub fn all_pairs(alloc: Global, left: &[Row], right: &[Row]) -> Result<Vec<Row>, OutOfMemory>
     ensures { IfOk result (λ v. rows_of v.items ≡ pairs (rows_of left.now) (rows_of right.now)) }
 {
     let mut rows = Vec::new(alloc);

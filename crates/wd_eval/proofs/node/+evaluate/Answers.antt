@@ -143,7 +143,7 @@ returns-in_ok-outcome-in-Join t c =
     let a = subst (λ p. IsEvaluated (plan_of p) instance choice first l) c.deref.ensures c.in_ok-left-in-Join.ensures.ok in
     let b = subst (λ p. IsEvaluated (plan_of p) instance choice l.next r) c.deref-in-Join.ensures c.in_ok-right-in-Join.ensures.ok in
     record {
-      ok = subst (λ p. IsEvaluated p instance choice first (record { outcome = Made o; next = r.next })) (sym (ap plan_of c.in-Join.is))
+      ok = subst (λ p. IsEvaluated p instance choice first (record { outcome = o; next = r.next })) (sym (ap plan_of c.in-Join.is))
           (join_done instance choice first condition left right l a r b o c.in_ok-outcome-in-Join.ensures.ok);
       refused = tt;
     }

@@ -74,7 +74,7 @@ returns-in_ok-outcome-in-Join t c =
     let r = subst (λ p. IsTied (plan_of p) instance flipped mid new ro) c.deref-in-Join.ensures c.in_ok-right-in-Join.ensures.ok in
     let is = sym (ap plan_of c.in-Join.is) in
     let o = c.in_ok-outcome-in-Join.outcome in
-    record { ok = subst (λ p. IsTied p instance flipped old new (Made o)) is (join_tied instance flipped old condition left right mid lo l new ro r o c.in_ok-outcome-in-Join.ensures.ok); refused = tt }
+    record { ok = subst (λ p. IsTied p instance flipped old new o) is (join_tied instance flipped old condition left right mid lo l new ro r o c.in_ok-outcome-in-Join.ensures.ok); refused = tt }
 
 pub returns-in_err-outcome-in-Join : goal.returns-in_err-outcome-in-Join
 returns-in_err-outcome-in-Join t c =

@@ -4,14 +4,14 @@ use Rattle.wd_value.specs.Rows.{instance_of}
 use Rattle.wd_partition.specs.Columns.{class_by}
 use Rattle.wd_plan.specs.Plans.{class_of, window_of}
 use Rattle.wd_window.specs.Windows.{orderings_of}
-use Rattle.wd_eval.specs.Nodes.{produced_of}
+use Rattle.wd_eval.specs.Nodes.{given_of}
 use Rattle.wd_eval.specs.Tied.{IsSortedOver}
 use Rattle.wd_eval.specs.Ties.{ArePut}
 use Rattle.wd_eval.proofs.Putting.{none_put, one_put}
 use Rattle.wd_eval.proofs.tie.put_sorted.Goals as goal
 
 pub loop-class-init : goal.loop-class-init
-loop-class-init c = none_put (window_of c.args.window.now) (produced_of (instance_of c.args.instance.now) c.args.input.now) c.args.flipped (orderings_of c.args.orderings.now.items)
+loop-class-init c = none_put (window_of c.args.window.now) (given_of (instance_of c.args.instance.now) c.args.input.now) c.args.flipped (orderings_of c.args.orderings.now.items)
 
 pub returns : goal.returns
 returns c =
@@ -19,7 +19,7 @@ returns c =
     let there = ap length c.deref-class-items.ensures.value in
     let long = length-map c.args.window.now.classes.items class_of in
     let all : c.loop-class.class-index ≡ length w.classes = omega arith in
-    subst (λ n. ArePut w (produced_of (instance_of c.args.instance.now) c.args.input.now) c.args.flipped n (orderings_of c.args.orderings.now.items) (orderings_of c.loop-class.orderings.items)) all c.loop-class.invariant
+    subst (λ n. ArePut w (given_of (instance_of c.args.instance.now) c.args.input.now) c.args.flipped n (orderings_of c.args.orderings.now.items) (orderings_of c.loop-class.orderings.items)) all c.loop-class.invariant
 
 pub loop-class-preserved : goal.loop-class-preserved
 loop-class-preserved c =
@@ -27,7 +27,7 @@ loop-class-preserved c =
     let class = c.class-item.result in
     let classes = c.deref-class-items.ensures.value in
     let there = ap length classes in
-    let input = produced_of (instance_of c.args.instance.now) c.args.input.now in
+    let input = given_of (instance_of c.args.instance.now) c.args.input.now in
     let turned = c.is_flipped-turned.result in
     let ordering = c.in_ok-ordering.ordering in
     let mid = c.loop-class.orderings.items in
