@@ -1,2 +1,9 @@
 pub mod Positions
 pub mod Order
+pub mod Rewriting
+pub mod Packing
+pub mod WholeCodes
+pub mod Ranking
+pub mod Knowing
+pub mod Codings
+pub mod TwoSorts

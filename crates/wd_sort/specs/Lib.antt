@@ -1,3 +1,4 @@
 pub mod Sorting
-pub mod Leads
-pub mod Placing
+pub mod Codes
+pub mod Ranks
+pub mod Known

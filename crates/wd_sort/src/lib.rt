@@ -1,7 +1,15 @@
 //! The positions of rows, sorted by columns.
 #![tactic(auto)]
 
-mod lead;
+mod codes;
+mod coding;
+mod columns;
+mod known;
+mod numbering;
+mod ranks;
+mod rows;
 mod sort;
+mod whole;
 
-pub use sort::{all_positions, compare_rows_at, is_sorted, row_in, sorted_from, sorted_positions};
+pub use rows::{compare_rows_at, row_in};
+pub use sort::{all_positions, is_sorted, sorted_from, sorted_positions};

@@ -1,0 +1,72 @@
+//! Numbers for the values of a column of texts or truth values.
+
+ghost use Rattle.std.specs.Prelude.{◌≡◌, ◌<◌, ℕ, [], ◌∷◌, IfOk, IfSome, OnOk, length, map, get_or};
+ghost use Rattle.wd_sort.specs.Codes.{IsCodingBelow};
+ghost use Rattle.wd_sort.specs.Known.{AreKnown, AreNumbers, IsAt, Keeps};
+ghost use Rattle.wd_value.specs.Rows.{rows_of};
+
+use crate::coding::Coding;
+use crate::known::Known;
+use crate::ranks::ranks_of;
+use crate::rows::value_at;
+use std::alloc::Global;
+use std::collections::HashMap;
+use wd_value::{OutOfMemory, Row, SortColumn, Value};
+
+/// For each position the rank of its value among the column's; none where it has whole numbers.
+pub fn value_codes(
+    alloc: Global,
+    rows: &[Row],
+    column: SortColumn,
+    positions: &[u64],
+) -> Result<Option<Coding>, OutOfMemory>
+    ensures { IfOk result (λ o. IfSome o (λ c. IsCodingBelow (column ∷ []) (rows_of rows.now) positions.now c.bound c.codes.items)) }
+{
+    let null = Value::Null;
+    let no = Value::Bool(false);
+    let yes = Value::Bool(true);
+    let mut known = Known::new(alloc, &null, &no, &yes)?;
+    let Some(numbers) = numbers_of(alloc, rows, column.column, positions, &null, &mut known)? else {
+        return Ok(None);
+    };
+    let ranks = ranks_of(alloc, &known.values, column.key)?;
+    let codes = replaced(numbers, &ranks);
+    let bound = ranks.len() as u64;
+    Ok(Some(Coding { codes, bound }))
+}
+
+/// For each position the place of its value among those known; none where it is a whole number.
+fn numbers_of<'a>(
+    alloc: Global,
+    rows: &'a [Row],
+    column: u16,
+    positions: &[u64],
+    null: &'a Value,
+    known: &mut Known<'a>,
+) -> Result<Option<Vec<u64>>, OutOfMemory>
+    requires null { null.now ≡ Value.Null }
+    requires known { AreKnown known.old }
+    ensures { IfOk result (λ o. IfSome o (λ v. AreNumbers known.new column (rows_of rows.now) positions.now v.items)) }
+{
+    let mut numbers = Vec::with_capacity(alloc, positions.len())?;
+    for i in 0..positions.len() {
+        let value = value_at(rows, column, positions[i], null);
+        match known.number_of(value)? {
+            Some(number) => numbers.push(number)?,
+            None => return Ok(None),
+        }
+    }
+    Ok(Some(numbers))
+}
+
+/// For each number the element at that place, in the memory of the numbers.
+fn replaced(numbers: Vec<u64>, elements: &[u64]) -> Vec<u64>
+    requires { (k : ℕ) → k < length numbers.items → get_or numbers.items k 0 < length elements.now }
+    ensures { result.items ≡ map (λ n. get_or elements.now n 0) numbers.items }
+{
+    let mut found = numbers;
+    for i in 0..found.len() {
+        found[i] = elements[found[i] as usize];
+    }
+    found
+}

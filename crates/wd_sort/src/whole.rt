@@ -1,0 +1,112 @@
+//! Numbers for the values of a column of whole numbers.
+
+ghost use Rattle.std.specs.Prelude.{◌≡◌, [], ◌∷◌, ◌^◌, ◌<◌, ◌+◌, ◌-ℤ◌, IfOk, IfSome, unsigned_abs};
+ghost use Rattle.wd_sort.specs.Codes as spec;
+ghost use Rattle.wd_sort.specs.Codes.{AreWhole, IsCodingBelow, IsWhole, IsWider};
+ghost use Rattle.wd_value.specs.Rows.{column_of, row_at, rows_of};
+
+use crate::coding::Coding;
+use crate::rows::value_at;
+use std::alloc::Global;
+use wd_value::{OutOfMemory, Row, SortColumn, SortKey, Value};
+
+/// The least and the greatest whole number.
+#[derive(Clone, Copy)]
+pub struct Range {
+    least: i64,
+    greatest: i64,
+}
+
+/// The range of the whole numbers of a column, or that of 0 where all is NULL; none where it has
+/// other values than these.
+pub fn whole_range(rows: &[Row], column: u16, positions: &[u64]) -> Option<Range>
+    ensures { IfSome result (λ r. AreWhole r.least r.greatest column (rows_of rows.now) positions.now) }
+{
+    let mut range = Range {
+        least: i64::MAX,
+        greatest: i64::MIN,
+    };
+    for i in 0..positions.len() {
+        range = widened(range, rows, column, positions[i])?;
+    }
+    if range.greatest < range.least {
+        return Some(Range {
+            least: 0,
+            greatest: 0,
+        });
+    }
+    Some(range)
+}
+
+fn widened(range: Range, rows: &[Row], column: u16, position: u64) -> Option<Range>
+    ensures wider { IfSome result (λ r. IsWider range.least range.greatest r.least r.greatest) }
+    ensures whole { IfSome result (λ r. IsWhole r.least r.greatest (column_of (row_at (rows_of rows.now) position) column)) }
+{
+    let null = Value::Null;
+    match value_at(rows, column, position, &null) {
+        Value::Null => Some(range),
+        Value::Int(n) => Some(Range {
+            least: range.least.min(*n),
+            greatest: range.greatest.max(*n),
+        }),
+        _ => None,
+    }
+}
+
+/// For each position how far its value is along the range; none where the range is too wide.
+pub fn whole_codes(
+    alloc: Global,
+    rows: &[Row],
+    column: SortColumn,
+    positions: &[u64],
+    range: Range,
+) -> Result<Option<Coding>, OutOfMemory>
+    requires { AreWhole range.least range.greatest column.column (rows_of rows.now) positions.now }
+    ensures { IfOk result (λ o. IfSome o (λ c. IsCodingBelow (column ∷ []) (rows_of rows.now) positions.now c.bound c.codes.items)) }
+{
+    let Some(bound) = range.greatest.abs_diff(range.least).checked_add(2) else {
+        return Ok(None);
+    };
+    let mut codes = Vec::with_capacity(alloc, positions.len())?;
+    for k in 0..positions.len() {
+        codes.push(whole_code_at(rows, column, positions[k], range))?;
+    }
+    Ok(Some(Coding { codes, bound }))
+}
+
+fn whole_code_at(rows: &[Row], column: SortColumn, position: u64, range: Range) -> u64
+    requires narrow { unsigned_abs (range.greatest -ℤ range.least) + 1 < 2 ^ 64 }
+    requires whole { IsWhole range.least range.greatest (column_of (row_at (rows_of rows.now) position) column.column) }
+    ensures { result ≡ spec.whole_code column.key range.least range.greatest (column_of (row_at (rows_of rows.now) position) column.column) }
+{
+    let null = Value::Null;
+    whole_code(
+        value_at(rows, column.column, position, &null),
+        column.key,
+        range,
+    )
+}
+
+/// How far a value is from the range's start, or under DESC from its end, with a place for NULL in
+/// front or behind.
+fn whole_code(value: &Value, key: SortKey, range: Range) -> u64
+    requires narrow { unsigned_abs (range.greatest -ℤ range.least) + 1 < 2 ^ 64 }
+    requires whole { IsWhole range.least range.greatest value.now }
+    ensures { result ≡ spec.whole_code key range.least range.greatest value.now }
+{
+    match value {
+        Value::Int(n) => {
+            let along = if key.desc {
+                range.greatest.abs_diff(*n)
+            } else {
+                n.abs_diff(range.least)
+            };
+            along + key.nulls_first as u64
+        }
+        _ => if key.nulls_first {
+            0
+        } else {
+            range.greatest.abs_diff(range.least) + 1
+        },
+    }
+}
