@@ -68,7 +68,7 @@ module _ (class : ClassRule) (frame : Frame) (partition : List Row) (p : ℕ) (k
 
 -- ---- without an offset in RANGE
 
-same_bound : (m : FrameMode) (asks : Bound → ℤ → Bool) (bound : Bound) (places groups : ℤ) (keys others : Option ℤ) → (m ≡ mode.Range → is_offset bound ≡ false)
+pub same_bound : (m : FrameMode) (asks : Bound → ℤ → Bool) (bound : Bound) (places groups : ℤ) (keys others : Option ℤ) → (m ≡ mode.Range → is_offset bound ≡ false)
     → bound_asks m asks bound (record { places = places; groups = groups; keys = keys }) ≡ bound_asks m asks bound (record { places = places; groups = groups; keys = others })
 same_bound mode.Rows asks bound places groups keys others none = refl
 same_bound mode.Groups asks bound places groups keys others none = refl
@@ -82,7 +82,7 @@ neither : (a b : Bool) → (a || b) ≡ false → (a ≡ false) × (b ≡ false)
 neither true b e = absurd (cc e)
 neither false b e = (refl, e)
 
-no_offset : (frame : Frame) → has_range_offset frame ≡ false → frame.mode ≡ mode.Range → (is_offset frame.start ≡ false) × (is_offset frame.end ≡ false)
+pub no_offset : (frame : Frame) → has_range_offset frame ≡ false → frame.mode ≡ mode.Range → (is_offset frame.start ≡ false) × (is_offset frame.end ≡ false)
 no_offset frame none range = neither (is_offset frame.start) (is_offset frame.end) (rw range at none)
 
 without_keys : (groups : List ℕ) (keys others : List Value) (desc other : Bool) (frame : Frame) (p : ℕ) → has_range_offset frame ≡ false

@@ -1,2 +1,13 @@
 pub mod Filters
 pub mod FrameLaws
+pub mod Passing
+pub mod Counted
+pub mod BoundLaws
+pub mod Stretching
+pub mod Candidates
+pub mod Held
+pub mod Sliding
+pub mod ExclusionLaws
+pub mod Joining
+pub mod Zones
+pub mod Joined

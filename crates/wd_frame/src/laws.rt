@@ -1,8 +1,21 @@
 //! Laws over the definitions alone.
 
+ghost use Rattle.wd_frame.specs.Bounds.{BoundsAreFrames};
+ghost use Rattle.wd_frame.specs.Exclusions.{ExclusionsAreStretches};
 ghost use Rattle.wd_frame.specs.Laws.{PlacesAreFrames};
 
 /// The rows at the places of a frame are the frame as plans define it.
 pub fn places_are_frames()
     ensures { PlacesAreFrames }
+{}
+
+/// The two bounds of a frame: they rise along the ordering, and between them stand the places of a
+/// frame without exclusion.
+pub fn bounds_are_frames()
+    ensures { BoundsAreFrames }
+{}
+
+/// A frame with an exclusion has the places of two stretches, with the row itself of three.
+pub fn exclusions_are_stretches()
+    ensures { ExclusionsAreStretches }
 {}

@@ -1,8 +1,28 @@
-//! The frames of window calls: which places of a partition a row's frame has.
+//! The frames of window calls: which places of a partition a row's frame has, and functions of the
+//! values there.
 #![tactic(auto)]
 
+mod answer;
+mod candidate;
+mod count;
 mod distance;
+mod exclusion;
+mod extent;
 mod frame;
+mod greatest;
 pub mod laws;
+mod least;
+mod over;
+mod slide;
+mod sum;
 
+pub use answer::Answer;
+pub use count::Count;
+pub use exclusion::frame_stretches;
+pub use extent::{Stretch, all_bounds, bounds};
 pub use frame::{Part, members};
+pub use greatest::Greatest;
+pub use least::Least;
+pub use over::{over_frames, over_lists, over_stretches};
+pub use slide::{Join, Slide};
+pub use sum::Sum;

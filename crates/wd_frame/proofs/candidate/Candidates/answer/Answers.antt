@@ -1,0 +1,9 @@
+use Rattle.wd_frame.specs.Slides.{seen}
+use Rattle.wd_frame.proofs.Held.{front_answers, none_answers}
+use Rattle.wd_frame.proofs.candidate.Candidates.answer.Goals as goal
+
+pub returns-in-Some : goal.returns-in-Some
+returns-in-Some c = λ k last are. front_answers k c.args.self.now.first.items (seen c.args.self.now.values.items) c.in-Some.value.now last are c.in-Some.ensures.item.3.0 c.in-Some.ensures.lookup
+
+pub returns-in-None : goal.returns-in-None
+returns-in-None c = λ k last are. none_answers k c.args.self.now.first.items (seen c.args.self.now.values.items) last are c.in-None.ensures.item.3

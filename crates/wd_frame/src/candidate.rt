@@ -1,0 +1,120 @@
+//! The values of a list that stand first once those before them are gone.
+
+ghost use Rattle.std.specs.Prelude.{◌≡◌, ◌∷◌, ◌++◌, [], drop, false, OnOk};
+ghost use Rattle.wd_frame.specs.Kept.{AreCandidates, popped, pushed, trimmed};
+ghost use Rattle.wd_frame.specs.Slides.{first_of_two, first_over, seen, shown};
+ghost use Rattle.wd_value.specs.declared.order.SortKey as key;
+
+use crate::answer::Answer;
+use std::alloc::Global;
+use std::collections::VecDeque;
+use wd_value::{OutOfMemory, SortKey, Value, compare};
+
+/// A list of values, and those of them that stand first under a key once the values before them are
+/// gone. Each value comes once and goes once, so that all pushes and pops together take time that
+/// goes with the number of values.
+#[derive(Drop)]
+pub(crate) struct Candidates<'a> {
+    pub values: VecDeque<&'a Value>,
+    pub first: VecDeque<&'a Value>,
+}
+
+impl<'a> Candidates<'a> {
+    pub(crate) fn new(alloc: Global) -> Candidates<'a>
+        ensures none { seen result.values.items ≡ [] }
+        ensures kept { (k : key.SortKey) → AreCandidates k result }
+    {
+        Candidates {
+            values: VecDeque::new(alloc),
+            first: VecDeque::new(alloc),
+        }
+    }
+
+    /// After a refusal the list is empty.
+    pub(crate) fn push(&mut self, value: &'a Value, key: SortKey) -> Result<(), OutOfMemory>
+        requires nulls_last { key.nulls_first ≡ false }
+        requires were { AreCandidates key self.old }
+        ensures are { AreCandidates key self.new }
+        ensures pushed { OnOk result (seen self.new.values.items ≡ seen self.old.values.items ++ value.now ∷ []) }
+    {
+        self.values.push_back(value)?;
+        if let Err(error) = push_candidate(&mut self.first, value, key) {
+            self.values.clear();
+            self.first.clear();
+            return Err(error);
+        }
+        Ok(())
+    }
+
+    pub(crate) fn pop(&mut self, key: SortKey)
+        requires { AreCandidates key self.old }
+        ensures are { AreCandidates key self.new }
+        ensures popped { seen self.new.values.items ≡ drop 1 (seen self.old.values.items) }
+    {
+        if let Some(value) = self.values.pop_front() {
+            pop_candidate(&mut self.first, value, key);
+        }
+    }
+
+    /// The value that stands first of all.
+    pub(crate) fn answer(&self) -> Answer<'a>
+        ensures { (k : key.SortKey) → k.nulls_first ≡ false → AreCandidates k self.now → shown result ≡ first_over k (seen self.now.values.items) }
+    {
+        match self.first.front() {
+            Some(value) => Answer::Of(*value),
+            None => Answer::Nothing,
+        }
+    }
+}
+
+/// The candidates with a value that comes at the back of the list.
+fn push_candidate<'a>(
+    candidates: &mut VecDeque<&'a Value>,
+    value: &'a Value,
+    key: SortKey,
+) -> Result<(), OutOfMemory>
+    ensures { OnOk result (seen candidates.new.items ≡ pushed key (seen candidates.old.items) value.now) }
+{
+    match value {
+        Value::Null => Ok(()),
+        _ => {
+            trim(candidates, value, key);
+            candidates.push_back(value)?;
+            Ok(())
+        }
+    }
+}
+
+/// The candidates without those that stand behind a value.
+fn trim(candidates: &mut VecDeque<&Value>, value: &Value, key: SortKey)
+    ensures { seen candidates.new.items ≡ trimmed key (seen candidates.old.items) value.now }
+{
+    while let Some(last) = candidates.back() {
+        if !compare(last, value, key).is_gt() {
+            break;
+        }
+        let _ = candidates.pop_back();
+    }
+}
+
+/// The candidates without a value that goes at the front of the list.
+fn pop_candidate(candidates: &mut VecDeque<&Value>, value: &Value, key: SortKey)
+    ensures { seen candidates.new.items ≡ popped key (seen candidates.old.items) value.now }
+{
+    if let Some(first) = candidates.front() {
+        if !compare(value, first, key).is_gt() {
+            let _ = candidates.pop_front();
+        }
+    }
+}
+
+/// Of two answers the value that stands first.
+pub(crate) fn first_of<'a>(first: Answer<'a>, second: Answer<'a>, key: SortKey) -> Answer<'a>
+    ensures { shown result ≡ first_of_two key (shown first.entry) (shown second.entry) }
+{
+    match (first, second) {
+        (Answer::Of(one), Answer::Of(other)) if compare(one, other, key).is_gt() => second,
+        (Answer::Nothing, _) => second,
+        _ => first,
+    }
+}

@@ -1,0 +1,164 @@
+//! The places of frames, their exclusion done, as stretches.
+
+ghost use Rattle.std.specs.Prelude.{◌≡◌, ◌<◌, ◌≤◌, ◌∷◌, [], length, IfOk};
+ghost use Rattle.wd_frame.specs.Places.{part_of};
+ghost use Rattle.wd_frame.specs.Stretches as spec;
+ghost use Rattle.wd_frame.specs.Stretches.{AreFrames, AreLeftOut, AreRows, AreShared, AreZones, lists_of};
+
+use crate::extent::{Stretch, all_bounds};
+use crate::frame::Part;
+use std::alloc::Global;
+use wd_plan::{Bound, Exclusion, Frame, FrameMode};
+use wd_value::OutOfMemory;
+
+/// The row's peers.
+const PEERS: Frame = Frame {
+    mode: FrameMode::Groups,
+    start: Bound::CurrentRow,
+    end: Bound::CurrentRow,
+    exclusion: Exclusion::NoOthers,
+};
+
+/// What an exclusion keeps of a partition: the places before those that it leaves out, the row
+/// itself, and the places behind.
+#[derive(Clone, Copy)]
+pub enum Zone {
+    Before,
+    Row,
+    Behind,
+}
+
+const AROUND: [Zone; 2] = [Zone::Before, Zone::Behind];
+
+const WITH_THE_ROW: [Zone; 3] = [Zone::Before, Zone::Row, Zone::Behind];
+
+/// The places of the frames of all places, as lists that have a stretch for each place: one list,
+/// with an exclusion two, and three where it keeps the row itself. A frame has the places of its
+/// stretches, list by list. Takes time that goes with the partition's length.
+pub fn frame_stretches(
+    alloc: Global,
+    part: &Part,
+    frame: &Frame,
+) -> Result<Vec<Vec<Stretch>>, OutOfMemory>
+    ensures { IfOk result (λ v. AreFrames (part_of part.now) frame.now (lists_of v.items)) }
+{
+    let bounds = all_bounds(alloc, part, frame)?;
+    match frame.exclusion {
+        Exclusion::NoOthers => only(alloc, bounds),
+        exclusion => {
+            let left_out = left_out(alloc, part, exclusion)?;
+            in_zones(alloc, zones_of(exclusion), &bounds, &left_out)
+        }
+    }
+}
+
+/// One list.
+fn only(alloc: Global, stretches: Vec<Stretch>) -> Result<Vec<Vec<Stretch>>, OutOfMemory>
+    ensures { IfOk result (λ v. lists_of v.items ≡ stretches.items ∷ []) }
+{
+    let mut lists = Vec::new(alloc);
+    lists.push(stretches)?;
+    Ok(lists)
+}
+
+/// For each place what the exclusion leaves out, under TIES with the row itself.
+fn left_out(alloc: Global, part: &Part, exclusion: Exclusion) -> Result<Vec<Stretch>, OutOfMemory>
+    ensures { IfOk result (λ v. AreLeftOut (part_of part.now) exclusion v.items) }
+{
+    match exclusion {
+        Exclusion::NoOthers => rows(alloc, part.groups.len(), 0),
+        Exclusion::CurrentRow => rows(alloc, part.groups.len(), 1),
+        Exclusion::Group | Exclusion::Ties => all_bounds(alloc, part, &PEERS),
+    }
+}
+
+/// At each place so many places from there on.
+fn rows(alloc: Global, count: usize, length: usize) -> Result<Vec<Stretch>, OutOfMemory>
+    requires { length ≤ 1 }
+    ensures { IfOk result (λ v. AreRows count length v.items) }
+{
+    let mut rows = Vec::with_capacity(alloc, count)?;
+    for place in 0..count {
+        rows.push(Stretch {
+            start: place,
+            end: place + length,
+        })?;
+    }
+    Ok(rows)
+}
+
+fn zones_of(exclusion: Exclusion) -> &'static [Zone]
+    ensures { result.now ≡ spec.zones_of exclusion }
+{
+    match exclusion {
+        Exclusion::Ties => &WITH_THE_ROW,
+        _ => &AROUND,
+    }
+}
+
+/// For each zone what the stretches share with it.
+fn in_zones(
+    alloc: Global,
+    zones: &[Zone],
+    bounds: &[Stretch],
+    left_out: &[Stretch],
+) -> Result<Vec<Vec<Stretch>>, OutOfMemory>
+    requires { length left_out.now ≡ length bounds.now }
+    ensures { IfOk result (λ v. AreZones zones.now bounds.now left_out.now (lists_of v.items)) }
+{
+    let mut lists = Vec::with_capacity(alloc, zones.len())?;
+    for zone in zones {
+        let list = in_zone(alloc, *zone, bounds, left_out)?;
+        lists.push(list)?;
+    }
+    Ok(lists)
+}
+
+/// What each stretch shares with the zone at its place.
+fn in_zone(
+    alloc: Global,
+    zone: Zone,
+    bounds: &[Stretch],
+    left_out: &[Stretch],
+) -> Result<Vec<Stretch>, OutOfMemory>
+    requires { length left_out.now ≡ length bounds.now }
+    ensures { IfOk result (λ v. AreShared zone bounds.now left_out.now v.items) }
+{
+    let mut list = Vec::with_capacity(alloc, bounds.len())?;
+    for place in 0..bounds.len() {
+        let kept = zone_of(zone, left_out[place], place, bounds.len());
+        list.push(shared(bounds[place], kept))?;
+    }
+    Ok(list)
+}
+
+/// Of so many places those in a zone.
+fn zone_of(zone: Zone, left_out: Stretch, place: usize, count: usize) -> Stretch
+    requires { place < count }
+    ensures { result ≡ spec.zone_of zone left_out place count }
+{
+    match zone {
+        Zone::Before => Stretch {
+            start: 0,
+            end: left_out.start,
+        },
+        Zone::Row => Stretch {
+            start: place,
+            end: place + 1,
+        },
+        Zone::Behind => Stretch {
+            start: left_out.end,
+            end: count,
+        },
+    }
+}
+
+/// The places that two stretches share.
+fn shared(one: Stretch, other: Stretch) -> Stretch
+    ensures { result ≡ spec.shared one other }
+{
+    Stretch {
+        start: one.start.max(other.start),
+        end: one.end.min(other.end),
+    }
+}

@@ -1,0 +1,65 @@
+ghost use Rattle.std.specs.Prelude.{◌≡◌, []};
+ghost use Rattle.wd_frame.specs.Slides.{ascending, first_over};
+
+use crate::answer::Answer;
+use crate::candidate::{Candidates, first_of};
+use crate::slide::{Join, Slide};
+use std::alloc::Global;
+use std::marker::Model;
+use wd_value::{OutOfMemory, SortKey, Value};
+
+const KEY: SortKey = SortKey {
+    desc: false,
+    nulls_first: false,
+};
+
+/// The least value, NULL apart.
+#[derive(Drop)]
+pub struct Least<'a> {
+    kept: Candidates<'a>,
+}
+
+impl<'a> Model for Least<'a> {
+    ghost use Rattle.wd_frame.specs.Kept.{AreCandidates};
+    ghost use Rattle.wd_frame.specs.Slides.{Values, ascending, seen};
+
+    ghost Value = { Values };
+
+    ghost view = { λ s. seen s.kept.values.items };
+
+    ghost invariant = { λ s. AreCandidates ascending s.kept };
+}
+
+impl<'a> Least<'a> {
+    pub fn new(alloc: Global) -> Least<'a>
+        ensures { result ≡ [] }
+    {
+        Least {
+            kept: Candidates::new(alloc),
+        }
+    }
+}
+
+impl<'a> Slide<'a> for Least<'a> {
+    ghost values = { λ s. s };
+
+    ghost plain = { first_over ascending };
+
+    fn push_back(&mut self, value: &'a Value) -> Result<(), OutOfMemory> {
+        self.kept.push(value, KEY)
+    }
+
+    fn pop_front(&mut self) {
+        self.kept.pop(KEY);
+    }
+
+    fn answer(&self) -> Answer<'a> {
+        self.kept.answer()
+    }
+}
+
+impl<'a> Join<'a> for Least<'a> {
+    fn join(first: Answer<'a>, second: Answer<'a>) -> Answer<'a> {
+        first_of(first, second, KEY)
+    }
+}

@@ -1,0 +1,35 @@
+//! Functions of lists that grow at the back and shrink at the front.
+
+ghost use Rattle.std.specs.Prelude.{◌≡◌, ◌^◌, ◌+◌, ◌-◌, ◌<◌, ◌++◌, ◌∷◌, [], length, drop, OnOk};
+ghost use Rattle.wd_frame.specs.Slides.{IsAnswer, IsSmall, Plain, Values, shown};
+
+use crate::answer::Answer;
+use wd_value::{OutOfMemory, Value};
+
+/// A function of a list of values that grows at its back and shrinks at its front. Contracts see it
+/// as that list.
+pub trait Slide<'a>: Drop {
+    ghost values: { Self → Values };
+
+    ghost plain: { Values → Plain };
+
+    /// After a refusal the list is any list.
+    fn push_back(&mut self, value: &'a Value) -> Result<(), OutOfMemory>
+        requires { length (values self.old) < 2 ^ 64 - 1 }
+        ensures { OnOk result (values self.new ≡ values self.old ++ value.now ∷ []) };
+
+    fn pop_front(&mut self)
+        requires { 0 < length (values self.old) }
+        ensures { values self.new ≡ drop 1 (values self.old) };
+
+    fn answer(&self) -> Answer<'a>
+        ensures exact { shown result ≡ plain (values self.now) }
+        ensures small { IsSmall (length (values self.now)) (shown result) };
+}
+
+/// A function whose answer over one list and another behind it follows from the answers over each.
+pub trait Join<'a>: Slide<'a> {
+    /// The answer over both lists, where they have fewer values than 64 bits count.
+    fn join(first: Answer<'a>, second: Answer<'a>) -> Answer<'a>
+        ensures { (xs ys : Values) → IsAnswer Self.plain xs first.entry → IsAnswer Self.plain ys second.entry → length xs + length ys < 2 ^ 64 → IsAnswer Self.plain (xs ++ ys) result };
+}
