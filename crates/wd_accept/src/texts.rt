@@ -36,15 +36,13 @@ pub fn verify(
     ensures one_answer { IfOk result (λ _. HaveOneAnswer schema.now query.now) }
     ensures refused { IfErr result (λ e. HasCause schema.now query.now certificate.now e) }
 {
+    accepted_has_one();
     let planned = match read_texts(alloc, schema, query) {
         Ok(planned) => planned,
         Err(error) => return Err(VerifyError::Texts(error)),
     };
     match verify_text(alloc, &planned.resolved.plan, &planned.schema, certificate) {
-        Ok(()) => {
-            accepted_has_one();
-            Ok(Accepted)
-        }
+        Ok(()) => Ok(Accepted),
         Err(error) => Err(VerifyError::Certificate(error)),
     }
 }

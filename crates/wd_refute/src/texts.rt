@@ -31,15 +31,13 @@ pub fn refute(
     ensures uncertified { IfOk result (λ _. HaveNoCertificate schema.now query.now) }
     ensures refused { IfErr result (λ e. HasCause schema.now query.now witness.now e) }
 {
+    refuted_has_no_certificate();
     let planned = match read_texts(alloc, schema, query) {
         Ok(planned) => planned,
         Err(error) => return Err(WitnessError::Texts(error)),
     };
     match refute_plan(alloc, &planned.schema, &planned.resolved.plan, witness) {
-        Ok(()) => {
-            refuted_has_no_certificate();
-            Ok(Refuted)
-        }
+        Ok(()) => Ok(Refuted),
         Err(refusal) => Err(WitnessError::Witness(refusal)),
     }
 }
