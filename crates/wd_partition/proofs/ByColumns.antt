@@ -1,30 +1,18 @@
 -- The order of rows by the columns of a class is that of its partition and keys.
-use Rattle.std.proofs.Common.{◌≡◌, ℕ, Bool, true, false, not, ◌&&◌, List, [], ◌∷◌, ◌++◌, refl, sym, ◌∙◌, ap, subst, Ordering, Less, Equal, Greater}
+use Rattle.std.proofs.Common.{◌≡◌, ℕ, Bool, true, false, not, ◌&&◌, List, [], ◌∷◌, refl, sym, ◌∙◌, ap, subst, Ordering, Less, Equal, Greater}
 use Rattle.std.specs.List.Sorted.{ties}
 use Rattle.std.specs.Ordering.{is_eq, is_lt, ordering_reverse, ordering_then}
-use Rattle.wd_value.specs.Order.{compare}
-use Rattle.wd_value.specs.Rows.{Row, column_of, columns_of, row_at, same_row}
+use Rattle.wd_value.specs.Rows.{Row, columns_of, row_at, same_row}
 use Rattle.wd_value.specs.Keys.{compare_keys, key_columns}
-use Rattle.wd_value.specs.declared.order.SortColumn.{SortColumn}
 use Rattle.wd_value.proofs.KeyLaws.{compare_keys_total, compare_keys-exact, compare_keys-ties}
 use Rattle.wd_value.proofs.SameLaws.{same_row-Decides}
 use Rattle.wd_sort.specs.Sorting.{compare_rows_at}
+use Rattle.wd_sort.proofs.TwoSorts.{compare_keys-append}
 use Rattle.wd_plan.specs.Plans.{ClassRule}
 use Rattle.wd_plan.specs.Sorting.{same_partition}
 use Rattle.wd_partition.specs.Columns.{partition_columns, sort_columns}
 
 -- ---- by all columns
-
-then_then : (o p q : Ordering) → ordering_then (ordering_then o p) q ≡ ordering_then o (ordering_then p q)
-then_then Less p q = refl
-then_then Equal p q = refl
-then_then Greater p q = refl
-
-compare_keys-append : (xs ys : List SortColumn) (a b : Row) → compare_keys (xs ++ ys) a b ≡ ordering_then (compare_keys xs a b) (compare_keys ys a b)
-compare_keys-append [] ys a b = refl
-compare_keys-append (x ∷ xs) ys a b =
-    ap (ordering_then (compare x.key (column_of a x.column) (column_of b x.column))) (compare_keys-append xs ys a b)
-    ∙ sym (then_then (compare x.key (column_of a x.column) (column_of b x.column)) (compare_keys xs a b) (compare_keys ys a b))
 
 pub by_parts : (class : ClassRule) (a b : Row) → compare_keys (sort_columns class) a b ≡ ordering_then (compare_keys (partition_columns class.partition) a b) (compare_keys class.order a b)
 by_parts class a b = compare_keys-append (partition_columns class.partition) class.order a b

@@ -1,6 +1,6 @@
 -- An ordering and its positions by partition have the same members in each partition.
-use Rattle.std.proofs.Common.{◌≡◌, ℕ, zero, suc, ◌+◌, ◌<◌, Bool, true, false, not, ◌&&◌, List, [], ◌∷◌, map, filter, get_or, length, refl, sym, ◌∙◌, ap, subst, arith, Ordering, Less, Equal, Greater, is_gt, IsPermutation}
-use Rattle.std.specs.Prelude.{IsSorted, reverse, if◌then◌else◌}
+use Rattle.std.proofs.Common.{◌≡◌, ℕ, zero, suc, ◌+◌, ◌<◌, Bool, true, false, List, [], ◌∷◌, filter, get_or, length, refl, sym, ◌∙◌, ap, subst, arith, Ordering, Less, Equal, Greater, is_gt, IsPermutation}
+use Rattle.std.specs.Prelude.{IsSorted}
 use Rattle.std.specs.List.{AllByRecursion}
 use Rattle.std.specs.List.Sorted.{ties}
 use Rattle.std.specs.Ordering.{is_eq, is_lt, ordering_reverse, ordering_then}

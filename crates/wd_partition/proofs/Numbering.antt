@@ -1,5 +1,5 @@
 -- The partition of each of the positions sorted by partition is a stretch of them, along which the peer group number is counted.
-use Rattle.std.proofs.Common.{◌≡◌, ℕ, zero, suc, ◌+◌, ◌-◌, ◌<◌, ◌≤◌, ◌⊎◌, inl, inr, Bool, true, false, cond, List, [], ◌∷◌, map, filter, take, drop, get_or, length, refl, sym, ◌∙◌, ap, subst, arith, Ordering, Less, Equal, Greater}
+use Rattle.std.proofs.Common.{◌≡◌, ℕ, zero, suc, ◌+◌, ◌-◌, ◌<◌, ◌≤◌, ◌⊎◌, inl, inr, Bool, true, false, cond, List, [], filter, take, drop, get_or, length, refl, sym, ◌∙◌, ap, subst, arith, Ordering, Less, Equal, Greater, Some}
 use Rattle.std.specs.Ordering.{is_eq}
 use Rattle.std.proofs.lemmas.List.{get_or-take, get_or-drop, get_or-map, length-drop, length-map, length-take}
 use Rattle.wd_value.specs.Rows.{Row, columns_of, row_at, rows_at}
@@ -14,10 +14,12 @@ use Rattle.wd_value.proofs.KeyLaws.{compare_keys-ties}
 use Rattle.wd_plan.proofs.Parts.{same_partition_is}
 use Rattle.wd_plan.proofs.SortedGroups.{tied_group}
 use Rattle.wd_partition.specs.Columns.{partition_columns}
-use Rattle.wd_partition.specs.Groups.{next_group}
 use Rattle.wd_partition.specs.Members.{own_group}
 use Rattle.wd_partition.specs.Orderings.{IsGroupedOrdering}
 use Rattle.wd_partition.specs.Runs.{ends_at, starts_at}
+use Rattle.wd_partition.specs.Steps.{group_after, step_by, step_to}
+use Rattle.wd_partition.specs.declared.steps.Step.{Step}
+use Rattle.wd_partition.specs.declared.steps.Step.TheVariants.{Group, Partition, Peer}
 use Rattle.wd_partition.proofs.ByColumns.{tie_is_partition}
 use Rattle.wd_partition.proofs.Stretches.{end_over, rising, rows_total, same_start, start_here, start_within, tied_stretch}
 
@@ -139,10 +141,22 @@ module _ (class : ClassRule) (rows : List Row) (s : List ℕ) (grouped : IsGroup
   by_tie k within false e =
       sym (first_is_0 (suc k) within (start_here by_partition (rows_total (partition_columns class.partition) rows) s grouped.sorted (suc k) within (λ j l. let at : j ≡ k = omega arith in ap (λ m. is_eq (by_partition (get_or s m 0) (get_or s (suc k) 0))) at ∙ e)))
 
-  -- counted from place to place, it is the number in the row's own partition
-  pub group_next : (i group : ℕ) → i < length s → ((k : ℕ) → k + 1 ≡ i → group ≡ own_group class rows s (get_or s k 0)) → next_group by_partition by_keys s i group ≡ own_group class rows s (get_or s i 0)
-  group_next zero group within before =
-      sym (first_is_0 0 within (let l = start_low 0 within in omega arith))
-  group_next (suc k) group within before =
-      let is : group ≡ own_group class rows s (get_or s k 0) = before k (omega arith) in
-      ap (λ g. next_group by_partition by_keys s (suc k) g) is ∙ by_tie k within (is_eq (by_partition (get_or s k 0) (get_or s (suc k) 0))) refl
+  by_step : (k group : ℕ) (step : Step) → suc k < length s → (o p : Ordering) → by_partition (get_or s k 0) (get_or s (suc k) 0) ≡ o → by_keys (get_or s k 0) (get_or s (suc k) 0) ≡ p → step_by o p ≡ Some step
+      → group ≡ own_group class rows s (get_or s k 0) → group_after step group ≡ own_group class rows s (get_or s (suc k) 0)
+  by_step k group step within Less p e f h g = let is : Partition ≡ step = cc in subst (λ t. group_after t group ≡ own_group class rows s (get_or s (suc k) 0)) is (by_tie k within false (ap is_eq e))
+  by_step k group step within Greater p e f h g = let is : Partition ≡ step = cc in subst (λ t. group_after t group ≡ own_group class rows s (get_or s (suc k) 0)) is (by_tie k within false (ap is_eq e))
+  by_step k group step within Equal Less e f h g =
+      let is : Group ≡ step = cc in
+      subst (λ t. group_after t group ≡ own_group class rows s (get_or s (suc k) 0)) is (ap (λ n. n + 1) g ∙ by_key k within (ap is_eq e) false (ap is_eq f))
+  by_step k group step within Equal Equal e f h g =
+      let is : Peer ≡ step = cc in
+      subst (λ t. group_after t group ≡ own_group class rows s (get_or s (suc k) 0)) is (g ∙ by_key k within (ap is_eq e) true (ap is_eq f))
+  by_step k group step within Equal Greater e f h g = cc
+
+  -- counted from step to step, it is the number in the row's own partition
+  pub group_next : (i group : ℕ) (step : Step) → i < length s → step_to by_partition by_keys s i ≡ Some step → ((k : ℕ) → k + 1 ≡ i → group ≡ own_group class rows s (get_or s k 0)) → group_after step group ≡ own_group class rows s (get_or s i 0)
+  group_next zero group step within h before =
+      let is : Partition ≡ step = cc in
+      subst (λ t. group_after t group ≡ own_group class rows s (get_or s 0 0)) is (sym (first_is_0 0 within (let l = start_low 0 within in omega arith)))
+  group_next (suc k) group step within h before =
+      by_step k group step within (by_partition (get_or s k 0) (get_or s (suc k) 0)) (by_keys (get_or s k 0) (get_or s (suc k) 0)) refl refl h (before k (omega arith))

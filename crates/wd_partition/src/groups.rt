@@ -1,65 +1,41 @@
 //! The peer group number and the key of each of the positions sorted by partition.
 
-ghost use Rattle.std.specs.Prelude.{◌≡◌, ◌+◌, ◌<◌, ◌≤◌, ◌^◌, ℕ, IfOk, length, map};
-ghost use Rattle.wd_partition.specs.Columns.{class_by};
-ghost use Rattle.wd_partition.specs.Groups as spec;
+ghost use Rattle.std.specs.Prelude.{◌≡◌, ◌+◌, ◌<◌, ◌≤◌, ◌^◌, IfOk, length, map};
+ghost use Rattle.wd_partition.specs.Courses.{IsCourse, class_of};
 ghost use Rattle.wd_partition.specs.Members as members;
-ghost use Rattle.wd_partition.specs.Orderings.{IsGroupedOrdering};
-ghost use Rattle.wd_sort.specs.Sorting as sorting;
+ghost use Rattle.wd_partition.specs.Steps as spec;
 ghost use Rattle.wd_value.specs.Rows.{rows_of, row_at, rows_at, column_of};
 
-use crate::columns::partition_columns;
-use crate::runs::are_tied;
+use crate::course::Course;
+use crate::steps::Step;
 use std::alloc::Global;
 use wd_value::{OutOfMemory, Row, SortColumn, Value};
 
 /// The peer group number of the row at each of the positions, in its own partition.
-pub fn group_numbers(
-    alloc: Global,
-    rows: &[Row],
-    partition: &[u16],
-    keys: &[SortColumn],
-    positions: &[u64],
-) -> Result<Vec<u32>, OutOfMemory>
-    requires short { length positions.now < 2 ^ 32 }
-    requires grouped { IsGroupedOrdering (class_by partition.now keys.now) (rows_of rows.now) positions.now }
-    ensures { IfOk result (λ v. v.items ≡ map (members.own_group (class_by partition.now keys.now) (rows_of rows.now) positions.now) positions.now) }
+pub fn group_numbers(alloc: Global, course: &Course) -> Result<Vec<u32>, OutOfMemory>
+    requires short { length course.now.positions.now < 2 ^ 32 }
+    requires course { IsCourse course.now }
+    ensures { IfOk result (λ v. v.items ≡ map (members.own_group (class_of course.now) (rows_of course.now.rows.now) course.now.positions.now) course.now.positions.now) }
 {
-    let by_partition = partition_columns(alloc, partition)?;
-    let mut groups = Vec::with_capacity(alloc, positions.len())?;
+    let mut groups = Vec::with_capacity(alloc, course.positions.len())?;
     let mut group = 0;
-    for i in 0..positions.len() {
-        group = next_group(rows, &by_partition, keys, positions, i, group);
+    for i in 0..course.positions.len() {
+        group = group_after(course.steps[i], group);
         groups.push(group)?;
     }
     Ok(groups)
 }
 
-/// The number at place `i`, from that at the place before.
-fn next_group(
-    rows: &[Row],
-    by_partition: &[SortColumn],
-    by_keys: &[SortColumn],
-    positions: &[u64],
-    i: usize,
-    group: u32,
-) -> u32
-    requires short { length positions.now < 2 ^ 32 }
-    requires within { i < length positions.now }
-    requires small { (k : ℕ) → k + 1 ≡ i → group ≤ k }
-    ensures is { result ≡ spec.next_group (sorting.compare_rows_at by_partition.now (rows_of rows.now)) (sorting.compare_rows_at by_keys.now (rows_of rows.now)) positions.now i group }
-    ensures small { result ≤ i }
+/// The number after a step, from that before it.
+fn group_after(step: Step, group: u32) -> u32
+    requires { group + 1 < 2 ^ 32 }
+    ensures is { result ≡ spec.group_after step group }
+    ensures small { result ≤ group + 1 }
 {
-    if i == 0 {
-        return 0;
-    }
-    if !are_tied(rows, by_partition, positions[i - 1], positions[i]) {
-        return 0;
-    }
-    if are_tied(rows, by_keys, positions[i - 1], positions[i]) {
-        group
-    } else {
-        group + 1
+    match step {
+        Step::Partition => 0,
+        Step::Group => group + 1,
+        Step::Peer => group,
     }
 }
 

@@ -2,6 +2,7 @@
 #![tactic(auto)]
 
 mod columns;
+mod course;
 mod groups;
 mod listing;
 mod member;
@@ -11,6 +12,7 @@ mod ordering;
 mod places;
 mod placing;
 mod runs;
+mod steps;
 
 pub use listing::partitions;
 pub use member::Member;

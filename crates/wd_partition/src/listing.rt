@@ -28,8 +28,8 @@ pub fn partitions(
 {
     match grouped(alloc, rows, partition, keys, ordering)? {
         None => Ok(None),
-        Some(sorted) => {
-            let found = partitions_of(alloc, rows, partition, keys, sorted, numbers)?;
+        Some(grouped) => {
+            let found = partitions_of(alloc, rows, partition, keys, grouped, numbers)?;
             Ok(Some(found))
         }
     }

@@ -1,15 +1,18 @@
 //! The partitions of an ordering, row by row.
 
 ghost use Rattle.std.specs.Prelude.{◌≡◌, ◌^◌, ◌<◌, ◌≤◌, List, IfOk, length, map, option_map, slice_get};
-ghost use Rattle.wd_partition.specs.Columns.{class_by};
+ghost use Rattle.wd_partition.specs.Columns.{class_by, partition_columns};
 ghost use Rattle.wd_partition.specs.Members.{AreWithin, MemberRule, member_at, members_of, stretch};
 ghost use Rattle.wd_partition.specs.Orderings.{IsGroupedOrdering};
 ghost use Rattle.wd_partition.specs.Shown.{member_rule};
+ghost use Rattle.wd_partition.specs.Steps.{AreSteps};
+ghost use Rattle.wd_sort.specs.Sorting.{compare_rows_at};
 ghost use Rattle.wd_value.specs.Rows.{rows_of};
 
-use crate::columns::partition_columns;
+use crate::course::Course;
 use crate::groups::{group_numbers, key_numbers};
 use crate::member::Member;
+use crate::ordering::Arrangement;
 use crate::places::Place;
 use crate::placing::places_of;
 use crate::runs::{partition_ends, partition_starts};
@@ -72,21 +75,29 @@ pub fn partitions_of(
     rows: &[Row],
     partition: &[u16],
     keys: &[SortColumn],
-    sorted: Vec<u64>,
+    grouped: Arrangement,
     asked: bool,
 ) -> Result<Partitions, OutOfMemory>
     requires short { length rows.now < 2 ^ 32 }
-    requires lawful { IsGroupedOrdering (class_by partition.now keys.now) (rows_of rows.now) sorted.items }
-    ensures { IfOk result (λ v. v ≡ members_of (class_by partition.now keys.now) asked (rows_of rows.now) sorted.items) }
+    requires lawful { IsGroupedOrdering (class_by partition.now keys.now) (rows_of rows.now) grouped.positions.items }
+    requires steps { AreSteps (compare_rows_at (partition_columns partition.now) (rows_of rows.now)) (compare_rows_at keys.now (rows_of rows.now)) grouped.positions.items grouped.steps.items }
+    ensures { IfOk result (λ v. v ≡ members_of (class_by partition.now keys.now) asked (rows_of rows.now) grouped.positions.items) }
 {
-    let by_partition = partition_columns(alloc, partition)?;
-    let starts = partition_starts(alloc, rows, &by_partition, &sorted)?;
-    let ends = partition_ends(alloc, rows, &by_partition, &sorted)?;
-    let places = places_of(alloc, &sorted, &starts, &ends)?;
-    let groups = group_numbers(alloc, rows, partition, keys, &sorted)?;
-    let numbers = key_numbers(alloc, rows, keys, &sorted, asked)?;
+    let Arrangement { positions, steps } = grouped;
+    let course = Course {
+        rows,
+        partition,
+        keys,
+        positions: &positions,
+        steps: &steps,
+    };
+    let starts = partition_starts(alloc, &course)?;
+    let ends = partition_ends(alloc, &course)?;
+    let places = places_of(alloc, &positions, &starts, &ends)?;
+    let groups = group_numbers(alloc, &course)?;
+    let numbers = key_numbers(alloc, rows, keys, &positions, asked)?;
     Ok(Partitions {
-        sorted,
+        sorted: positions,
         groups,
         numbers,
         places,

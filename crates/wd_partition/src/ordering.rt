@@ -5,14 +5,23 @@ ghost use Rattle.wd_partition.specs.Columns as columns_of_class;
 ghost use Rattle.wd_partition.specs.Columns.{class_by};
 ghost use Rattle.wd_partition.specs.Orderings.{AreGrouped};
 ghost use Rattle.wd_plan.specs.Sorting.{IsOrdering};
-ghost use Rattle.wd_sort.specs.Sorting.{IsStableSortOf};
+ghost use Rattle.wd_partition.specs.Steps.{AreSteps};
+ghost use Rattle.wd_sort.specs.Sorting.{IsStableSortOf, compare_rows_at};
 ghost use Rattle.wd_value.specs.Rows.{rows_of};
 
 use crate::columns::{partition_columns, sort_columns};
 use crate::once::has_each_once;
+use crate::steps::{Step, steps_of};
 use std::alloc::Global;
-use wd_sort::{all_positions, is_sorted, sorted_from};
+use wd_sort::{all_positions, sorted_from};
 use wd_value::{OutOfMemory, Row, SortColumn};
+
+/// Positions sorted by partition, and the step to each.
+#[derive(Drop)]
+pub struct Arrangement {
+    pub positions: Vec<u64>,
+    pub steps: Vec<Step>,
+}
 
 /// The ordering that a stable sort gives: the positions of the rows by the partition columns,
 /// ascending with NULL last, and then by the sort keys. Rows that tie on all of these stay as they
@@ -62,8 +71,8 @@ pub fn is_ordering(
     }
 }
 
-/// The positions of an ordering, one partition after another and in each as the ordering has them;
-/// none where the list is no ordering of the class. Where each position stands once, the list is
+/// The positions of an ordering, one partition after another and in each as the ordering has them,
+/// with the step to each; none where the list is no ordering of the class. Where each position stands once, the list is
 /// one exactly if its stable sort by partition is sorted by all columns.
 pub fn grouped(
     alloc: Global,
@@ -71,17 +80,16 @@ pub fn grouped(
     partition: &[u16],
     keys: &[SortColumn],
     ordering: &[u64],
-) -> Result<Option<Vec<u64>>, OutOfMemory>
-    ensures { IfOk result (λ o. MatchOption o (IsOrdering (class_by partition.now keys.now) (rows_of rows.now) ordering.now → ⊥) (λ v. AreGrouped (class_by partition.now keys.now) (rows_of rows.now) ordering.now v.items)) }
+) -> Result<Option<Arrangement>, OutOfMemory>
+    ensures { IfOk result (λ o. MatchOption o (IsOrdering (class_by partition.now keys.now) (rows_of rows.now) ordering.now → ⊥) (λ v. AreGrouped (class_by partition.now keys.now) (rows_of rows.now) ordering.now v.positions.items × AreSteps (compare_rows_at (columns_of_class.partition_columns partition.now) (rows_of rows.now)) (compare_rows_at keys.now (rows_of rows.now)) v.positions.items v.steps.items)) }
 {
     if !has_each_once(alloc, rows.len(), ordering)? {
         return Ok(None);
     }
     let by_partition = partition_columns(alloc, partition)?;
     let positions = sorted_from(alloc, rows, &by_partition, ordering)?;
-    let by_all = sort_columns(alloc, partition, keys)?;
-    if !is_sorted(rows, &by_all, &positions) {
-        return Ok(None);
+    match steps_of(alloc, rows, &by_partition, keys, &positions)? {
+        None => Ok(None),
+        Some(steps) => Ok(Some(Arrangement { positions, steps })),
     }
-    Ok(Some(positions))
 }

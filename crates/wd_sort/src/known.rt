@@ -28,10 +28,7 @@ impl<'a> Known<'a> {
         requires yes { yes.now ≡ Value.Bool true }
         ensures { IfOk result AreKnown }
     {
-        let mut values = Vec::with_capacity(alloc, 3)?;
-        values.push(null)?;
-        values.push(no)?;
-        values.push(yes)?;
+        let values = [null, no, yes].to_vec(alloc)?;
         let texts = HashMap::new(alloc);
         Ok(Known { values, texts })
     }

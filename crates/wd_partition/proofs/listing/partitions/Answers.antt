@@ -11,13 +11,13 @@ pub partitions_of-requires-clause-lawful : goal.partitions_of-requires-clause-la
 partitions_of-requires-clause-lawful c =
     let rows = rows_of c.args.rows.now in
     let class = class_by c.args.partition.now c.args.keys.now in
-    let are : AreGrouped class rows c.args.ordering.now c.in-Some.sorted.items = search rules in
-    IsGroupedOrdering-from_AreGrouped class rows c.args.ordering.now c.in-Some.sorted.items are
+    let are : AreGrouped class rows c.args.ordering.now c.in-Some.grouped.positions.items = search rules in
+    IsGroupedOrdering-from_AreGrouped class rows c.args.ordering.now c.in-Some.grouped.positions.items are
 
 pub returns-in_ok-found-in-Some : goal.returns-in_ok-found-in-Some
 returns-in_ok-found-in-Some c =
     let rows = rows_of c.args.rows.now in
     let class = class_by c.args.partition.now c.args.keys.now in
-    let are : AreGrouped class rows c.args.ordering.now c.in-Some.sorted.items = search rules in
-    let is : c.in_ok-found-in-Some.found ≡ members_of class c.args.numbers rows c.in-Some.sorted.items = search rules in
-    ArePartitions-from class c.args.numbers rows c.args.ordering.now c.in-Some.sorted.items c.in_ok-found-in-Some.found are is
+    let are : AreGrouped class rows c.args.ordering.now c.in-Some.grouped.positions.items = search rules in
+    let is : c.in_ok-found-in-Some.found ≡ members_of class c.args.numbers rows c.in-Some.grouped.positions.items = search rules in
+    ArePartitions-from class c.args.numbers rows c.args.ordering.now c.in-Some.grouped.positions.items c.in_ok-found-in-Some.found are is

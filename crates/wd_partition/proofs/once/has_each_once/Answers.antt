@@ -1,4 +1,4 @@
-use Rattle.std.proofs.Common.{◌≡◌, ◌≤◌, ◌<◌, true, arith, rules, get_or, length, take, subst, sym, ◌∙◌, refl}
+use Rattle.std.proofs.Common.{◌≡◌, arith, rules, length, take, subst}
 use Rattle.std.proofs.lemmas.Grind.{common_steps}
 use Rattle.std.proofs.lemmas.List.{take_all}
 use Rattle.wd_partition.specs.Seen.{AreSeen}

@@ -1,4 +1,4 @@
-use Rattle.std.proofs.Common.{◌≡◌, ◌∙◌, ap, sym, subst, rules, length}
+use Rattle.std.proofs.Common.{sym, subst, rules, length}
 use Rattle.std.proofs.lemmas.List.{length-map}
 use Rattle.wd_value.specs.Rows.{rows_of}
 use Rattle.wd_sort.specs.Sorting.{IsStableSortOf}

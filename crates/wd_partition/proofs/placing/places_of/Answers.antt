@@ -1,4 +1,4 @@
-use Rattle.std.proofs.Common.{◌≡◌, ◌<◌, ◌∙◌, arith, rules, get_or, length, subst, sym}
+use Rattle.std.proofs.Common.{◌<◌, arith, get_or, length}
 use Rattle.wd_partition.proofs.Filling.{ArePlaces-more}
 use Rattle.wd_partition.proofs.Marks.{below_once}
 use Rattle.wd_partition.proofs.placing.places_of.Goals as goal

@@ -1,28 +1,39 @@
-use Rattle.std.proofs.Common.{◌≡◌, ◌∙◌, ◌+◌, ◌-◌, ℕ, true, false, ap, sym, arith, rules, get_or}
+use Rattle.std.proofs.Common.{◌≡◌, ◌∙◌, ◌+◌, ◌<◌, true, false, sym, arith, get_or, length, Some}
 use Rattle.std.specs.Ordering.{is_eq}
-use Rattle.std.proofs.lemmas.Grind.{common_steps}
 use Rattle.wd_value.specs.Rows.{rows_of}
-use Rattle.wd_sort.specs.Sorting.{compare_rows_at}
-use Rattle.wd_partition.proofs.Stretches.{rows_total, same_end, end_here}
+use Rattle.wd_partition.specs.Columns.{partition_columns}
+use Rattle.wd_partition.specs.Courses.{by_keys, by_partition}
+use Rattle.wd_partition.specs.Steps.{begins_partition, step_to}
+use Rattle.wd_partition.specs.declared.steps.Step.TheVariants.{Partition}
+use Rattle.wd_partition.proofs.Stepping.{begins, goes_on}
+use Rattle.wd_partition.proofs.Stretches.{end_here, rows_total, same_end}
 use Rattle.wd_partition.proofs.runs.next_end.Goals as goal
-use Rattle.wd_partition.proofs.runs.next_end.Goals.{else-i-positions-via-then-i-positions+else-are_tied, else-i-positions-via-else-i-positions}
+use Rattle.wd_partition.proofs.runs.next_end.Goals.{else-i-course-via-then-i-course+else-not-begins_partition, else-i-course-via-else-i-course}
 
-pub returns-then-are_tied : goal.returns-then-are_tied
-returns-then-are_tied c =
-    let rows = rows_of c.args.rows.now in
-    let columns = c.args.columns.now in
-    let list = c.args.positions.now in
-    let e : is_eq (compare_rows_at columns rows (get_or list c.args.i 0) (get_or list (c.args.i + 1) 0)) ≡ true = grind (arith, common_steps) in
-    c.requires.behind (omega arith) ∙ sym (same_end (compare_rows_at columns rows) (rows_total columns rows) list (get_or list c.args.i 0) (get_or list (c.args.i + 1) 0) e)
+pub returns-then-not-begins_partition : goal.returns-then-not-begins_partition
+returns-then-not-begins_partition c =
+    let course = c.args.course.now in
+    let list = course.positions.now in
+    let i = c.args.i in
+    let step = get_or course.steps.now (i + 1) Partition in
+    let is : begins_partition step ≡ false = sym c.begins_partition.ensures ∙ c.if-not-begins_partition.true in
+    let long = c.requires.course.steps.long in
+    let high : i + 1 < length list = omega arith in
+    let to : step_to (by_partition course) (by_keys course) list (i + 1) ≡ Some step = c.requires.course.steps.each (i + 1) Partition high in
+    let tie : is_eq (by_partition course (get_or list i 0) (get_or list (i + 1) 0)) ≡ true = goes_on (by_partition course) (by_keys course) list i step to is in
+    c.requires.behind high ∙ sym (same_end (by_partition course) (rows_total (partition_columns course.partition.now) (rows_of course.rows.now)) list (get_or list i 0) (get_or list (i + 1) 0) tie)
 
-pub returns-else-i-positions : goal.returns-else-i-positions
-returns-else-i-positions c =
-    let rows = rows_of c.args.rows.now in
-    let columns = c.args.columns.now in
-    let list = c.args.positions.now in
-    elim c.else-i-positions.branch [
-      | else-i-positions-via-then-i-positions+else-are_tied w ↦ (
-          let e : is_eq (compare_rows_at columns rows (get_or list c.args.i 0) (get_or list (c.args.i + 1) 0)) ≡ false = grind (arith, common_steps) in
-          sym (end_here (compare_rows_at columns rows) (rows_total columns rows) list c.requires.sorted c.args.i c.requires.within (λ l. e)))
-      | else-i-positions-via-else-i-positions w ↦ sym (end_here (compare_rows_at columns rows) (rows_total columns rows) list c.requires.sorted c.args.i c.requires.within (λ l. absurd (omega arith)))
+pub returns-else-i-course : goal.returns-else-i-course
+returns-else-i-course c =
+    let course = c.args.course.now in
+    let list = course.positions.now in
+    let i = c.args.i in
+    let long = c.requires.course.steps.long in
+    elim c.else-i-course.branch [
+      | else-i-course-via-then-i-course+else-not-begins_partition w ↦ (
+          let step = get_or course.steps.now (i + 1) Partition in
+          let is : begins_partition step ≡ true = sym w.begins_partition.ensures ∙ w.if-not-begins_partition.false in
+          sym (end_here (by_partition course) (rows_total (partition_columns course.partition.now) (rows_of course.rows.now)) list c.requires.course.lawful.sorted i c.requires.within
+          (λ l. begins (by_partition course) (by_keys course) list i step (c.requires.course.steps.each (i + 1) Partition l) is)))
+      | else-i-course-via-else-i-course w ↦ sym (end_here (by_partition course) (rows_total (partition_columns course.partition.now) (rows_of course.rows.now)) list c.requires.course.lawful.sorted i c.requires.within (λ l. absurd (omega arith)))
     ]

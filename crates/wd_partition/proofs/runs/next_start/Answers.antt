@@ -1,29 +1,38 @@
-use Rattle.std.proofs.Common.{◌≡◌, ◌∙◌, ◌+◌, ◌-◌, ℕ, true, false, ap, sym, arith, rules, get_or}
+use Rattle.std.proofs.Common.{◌≡◌, ◌∙◌, ◌+◌, ◌-◌, ◌<◌, true, false, sym, subst, arith, get_or, Some}
 use Rattle.std.specs.Ordering.{is_eq}
-use Rattle.std.proofs.lemmas.Grind.{common_steps}
 use Rattle.wd_value.specs.Rows.{rows_of}
-use Rattle.wd_sort.specs.Sorting.{compare_rows_at}
+use Rattle.wd_partition.specs.Columns.{partition_columns}
+use Rattle.wd_partition.specs.Courses.{by_keys, by_partition}
+use Rattle.wd_partition.specs.Steps.{begins_partition, step_to}
+use Rattle.wd_partition.specs.declared.steps.Step.TheVariants.{Partition}
+use Rattle.wd_partition.proofs.Stepping.{begins, goes_on, goes_on_later}
 use Rattle.wd_partition.proofs.Stretches.{rows_total, same_start, start_here}
 use Rattle.wd_partition.proofs.runs.next_start.Goals as goal
-use Rattle.wd_partition.proofs.runs.next_start.Goals.{else-i-gt0-via-then-i-gt0+else-are_tied, else-i-gt0-via-else-i-gt0}
 
-pub returns-then-are_tied : goal.returns-then-are_tied
-returns-then-are_tied c =
-    let rows = rows_of c.args.rows.now in
-    let columns = c.args.columns.now in
-    let list = c.args.positions.now in
-    let e : is_eq (compare_rows_at columns rows (get_or list (c.args.i - 1) 0) (get_or list c.args.i 0)) ≡ true = grind (arith, common_steps) in
-    c.requires.before (c.args.i - 1) (omega arith) ∙ same_start (compare_rows_at columns rows) (rows_total columns rows) list (get_or list (c.args.i - 1) 0) (get_or list c.args.i 0) e
+pub returns-then-begins_partition : goal.returns-then-begins_partition
+returns-then-begins_partition c =
+    let course = c.args.course.now in
+    let list = course.positions.now in
+    let i = c.args.i in
+    let step = get_or course.steps.now i Partition in
+    let is : begins_partition step ≡ true = sym c.begins_partition.ensures ∙ c.if-begins_partition.true in
+    let to : step_to (by_partition course) (by_keys course) list i ≡ Some step = c.requires.course.steps.each i Partition c.requires.within in
+    sym (start_here (by_partition course) (rows_total (partition_columns course.partition.now) (rows_of course.rows.now)) list c.requires.course.lawful.sorted i c.requires.within
+    (λ k l.
+    subst (λ j. is_eq (by_partition course (get_or list k 0) (get_or list j 0)) ≡ false) l
+    (begins (by_partition course) (by_keys course) list k step (subst (λ j. step_to (by_partition course) (by_keys course) list j ≡ Some step) (sym l) to) is)))
 
-pub returns-else-i-gt0 : goal.returns-else-i-gt0
-returns-else-i-gt0 c =
-    let rows = rows_of c.args.rows.now in
-    let columns = c.args.columns.now in
-    let list = c.args.positions.now in
-    elim c.else-i-gt0.branch [
-      | else-i-gt0-via-then-i-gt0+else-are_tied w ↦ (
-          let e : is_eq (compare_rows_at columns rows (get_or list (c.args.i - 1) 0) (get_or list c.args.i 0)) ≡ false = grind (arith, common_steps) in
-          sym (start_here (compare_rows_at columns rows) (rows_total columns rows) list c.requires.sorted c.args.i c.requires.within
-          (λ k l. let at : k ≡ c.args.i - 1 = omega arith in ap (λ j. is_eq (compare_rows_at columns rows (get_or list j 0) (get_or list c.args.i 0))) at ∙ e)))
-      | else-i-gt0-via-else-i-gt0 w ↦ sym (start_here (compare_rows_at columns rows) (rows_total columns rows) list c.requires.sorted c.args.i c.requires.within (λ k l. absurd (omega arith)))
-    ]
+pub returns-else-begins_partition : goal.returns-else-begins_partition
+returns-else-begins_partition c =
+    let course = c.args.course.now in
+    let list = course.positions.now in
+    let i = c.args.i in
+    let step = get_or course.steps.now i Partition in
+    let is : begins_partition step ≡ false = sym c.begins_partition.ensures ∙ c.if-begins_partition.false in
+    let to : step_to (by_partition course) (by_keys course) list i ≡ Some step = c.requires.course.steps.each i Partition c.requires.within in
+    let later : 0 < i = goes_on_later (by_partition course) (by_keys course) list i step to is in
+    let at : i - 1 + 1 ≡ i = omega arith in
+    let tie : is_eq (by_partition course (get_or list (i - 1) 0) (get_or list i 0)) ≡ true =
+    subst (λ j. is_eq (by_partition course (get_or list (i - 1) 0) (get_or list j 0)) ≡ true) at
+    (goes_on (by_partition course) (by_keys course) list (i - 1) step (subst (λ j. step_to (by_partition course) (by_keys course) list j ≡ Some step) (sym at) to) is) in
+    c.requires.before (i - 1) at ∙ same_start (by_partition course) (rows_total (partition_columns course.partition.now) (rows_of course.rows.now)) list (get_or list (i - 1) 0) (get_or list i 0) tie

@@ -1,0 +1,89 @@
+//! How neighbours stand to one another among the positions sorted by partition.
+
+ghost use Rattle.std.specs.Prelude.{◌≡◌, ◌++◌, ◌<◌, IfOk, IsSorted, MatchOption, length};
+ghost use Rattle.wd_partition.specs.Steps as spec;
+ghost use Rattle.wd_partition.specs.Steps.{AreSteps};
+ghost use Rattle.wd_sort.specs.Sorting as sorting;
+ghost use Rattle.wd_value.specs.Rows.{rows_of};
+
+use std::alloc::Global;
+use std::cmp::Ordering;
+use wd_sort::compare_rows_at;
+use wd_value::{OutOfMemory, Row, SortColumn};
+
+/// How a row stands to the one before it.
+#[derive(Clone, Copy)]
+pub enum Step {
+    /// It begins a partition.
+    Partition,
+    /// It begins a peer group of the same partition.
+    Group,
+    /// It ties with the one before.
+    Peer,
+}
+
+impl Step {
+    pub fn begins_partition(self) -> bool
+        ensures { result ≡ spec.begins_partition self }
+    {
+        match self {
+            Step::Partition => true,
+            Step::Group | Step::Peer => false,
+        }
+    }
+}
+
+/// The step to each of the positions, which are sorted by partition; none where they are not sorted
+/// by the keys in each partition.
+pub fn steps_of(
+    alloc: Global,
+    rows: &[Row],
+    by_partition: &[SortColumn],
+    by_keys: &[SortColumn],
+    positions: &[u64],
+) -> Result<Option<Vec<Step>>, OutOfMemory>
+    requires { IsSorted (sorting.compare_rows_at by_partition.now (rows_of rows.now)) positions.now }
+    ensures { IfOk result (λ o. MatchOption o (IsSorted (sorting.compare_rows_at (by_partition.now ++ by_keys.now) (rows_of rows.now)) positions.now → ⊥) (λ v. IsSorted (sorting.compare_rows_at (by_partition.now ++ by_keys.now) (rows_of rows.now)) positions.now × AreSteps (sorting.compare_rows_at by_partition.now (rows_of rows.now)) (sorting.compare_rows_at by_keys.now (rows_of rows.now)) positions.now v.items)) }
+{
+    let mut steps = Vec::with_capacity(alloc, positions.len())?;
+    for i in 0..positions.len() {
+        match step_to(rows, by_partition, by_keys, positions, i) {
+            Some(step) => steps.push(step)?,
+            None => return Ok(None),
+        }
+    }
+    Ok(Some(steps))
+}
+
+/// The step to the position at place `i`, and none where the keys fall.
+fn step_to(
+    rows: &[Row],
+    by_partition: &[SortColumn],
+    by_keys: &[SortColumn],
+    positions: &[u64],
+    i: usize,
+) -> Option<Step>
+    requires { i < length positions.now }
+    ensures { result ≡ spec.step_to (sorting.compare_rows_at by_partition.now (rows_of rows.now)) (sorting.compare_rows_at by_keys.now (rows_of rows.now)) positions.now i }
+{
+    if i == 0 {
+        return Some(Step::Partition);
+    }
+    match compare_rows_at(rows, by_partition, positions[i - 1], positions[i]) {
+        Ordering::Equal => {
+            key_step(compare_rows_at(rows, by_keys, positions[i - 1], positions[i]))
+        }
+        _ => Some(Step::Partition),
+    }
+}
+
+/// The step within a partition.
+fn key_step(order: Ordering) -> Option<Step>
+    ensures { result ≡ spec.key_step order }
+{
+    match order {
+        Ordering::Less => Some(Step::Group),
+        Ordering::Equal => Some(Step::Peer),
+        Ordering::Greater => None,
+    }
+}
