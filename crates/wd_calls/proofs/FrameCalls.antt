@@ -1,8 +1,8 @@
 -- The functions of a frame, from the frame's places.
-use Rattle.std.proofs.Common.{◌≡◌, ◌∙◌, ℕ, zero, suc, ◌+◌, ◌<◌, ◌≤◌, pos, ◌-ℤ◌, Bool, true, false, cond, not, ◌&&◌, List, [], ◌∷◌, map, filter, length, get_or, count_by, nat_eq, nat_lt, refl, sym, ap, arith, Result, Ok, Err, IfOk}
+use Rattle.std.proofs.Common.{◌≡◌, ◌∙◌, ℕ, zero, suc, ◌+◌, ◌<◌, ◌≤◌, pos, ◌-ℤ◌, Bool, true, false, cond, not, ◌&&◌, List, [], ◌∷◌, map, filter, length, get_or, count_by, nat_eq, refl, sym, ap, arith, Result, Ok, Err, IfOk}
 use Rattle.std.specs.List.{range_with_len}
-use Rattle.std.proofs.lemmas.List.{get_or-map, length-map}
-use Rattle.std.proofs.lemmas.List.Sums.{count_by-le-length, sum_by-cons}
+use Rattle.std.proofs.lemmas.List.{length-map}
+use Rattle.std.proofs.lemmas.List.Sums.{sum_by-cons}
 use Rattle.wd_value.specs.Bags.{positions}
 use Rattle.wd_value.specs.Rows.{Row, column_of, row_at, rows_at}
 use Rattle.wd_plan.specs.declared.window.Frame.{Frame}
@@ -17,7 +17,8 @@ use Rattle.wd_frame.specs.Laws.{has_range_offset, is_descending, key_values, par
 use Rattle.wd_frame.specs.Places.{PartRule, is_member, places_of}
 use Rattle.wd_frame.proofs.FrameLaws.{places_are_frames, same_keys}
 use Rattle.wd_calls.specs.Parts.{IsPartOf}
-use Rattle.wd_calls.specs.Values.{lower_groups, present, values_at}
+use Rattle.wd_frame.specs.Slides.{present}
+use Rattle.wd_calls.specs.Values.{values_at}
 
 pub count_map : {X Y : Type 0} (p : Y → Bool) (f : X → Y) (xs : List X) → count_by p (map f xs) ≡ count_by (λ x. p (f x)) xs
 count_map p f [] = refl
@@ -65,23 +66,6 @@ module _ {class : ClassRule} {frame : Frame} {partition : List Row} {part : Part
 
 pub present_is : (partition : List Row) (c : ℕ) (places : List ℕ) → present (values_at partition c places) ≡ count_by (λ r. not (is_null (column_of r c))) (rows_at partition places)
 present_is partition c places = count_map (λ v. not (is_null v)) (λ r. column_of r c) (rows_at partition places)
-
--- ---- ranks
-
--- how many members are of lower groups, from the groups at their places
-pub lower_groups-is : (class : ClassRule) (partition : List Row) (groups : List ℕ) (place : ℕ) → groups ≡ map (group_of class partition) partition → place < length partition
-    → lower_groups groups place ≡ count_by (λ q. nat_lt (group_of class partition q) (group_of class partition (row_at partition place))) partition
-lower_groups-is class partition groups place is within =
-    let group = group_of class partition in
-    ap (λ gs. lower_groups gs place) is
-    ∙ count_map (λ g. nat_lt g (get_or (map group partition) place 0)) group partition
-    ∙ ap (λ n. count_by (λ q. nat_lt (group q) n) partition) (get_or-map group partition place [] 0 within)
-
-pub lower_groups-le : (class : ClassRule) (partition : List Row) (groups : List ℕ) (place : ℕ) → groups ≡ map (group_of class partition) partition → lower_groups groups place ≤ length partition
-lower_groups-le class partition groups place is =
-    let few = count_by-le-length (λ g. nat_lt g (get_or groups place 0)) groups in
-    let long : length groups ≡ length partition = ap length is ∙ length-map partition (group_of class partition) in
-    omega arith
 
 pub IfOk-on : {X E : Type 0} {P Q : X → Type 0} (r : Result X E) → IfOk r P → ((x : X) → P x → Q x) → IfOk r Q
 IfOk-on (Ok x) h f = f x h

@@ -1,5 +1,8 @@
 pub mod Buckets
 pub mod Columns
 pub mod FrameCalls
-pub mod RunningFrames
-pub mod RunningTotals
+pub mod InOrder
+pub mod Starts
+pub mod FramePlaces
+pub mod AnswerCalls
+pub mod SourceCalls

@@ -1,4 +1,4 @@
 pub mod Parts
 pub mod Values
-pub mod Running
-pub mod Totals
+pub mod Answers
+pub mod Sources

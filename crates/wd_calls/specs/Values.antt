@@ -1,34 +1,37 @@
--- Values at places of a partition list.
-use Rattle.std.specs.Prelude.{ℕ, pos, ℤ, List, count_by, not, nat_lt, slice_index_or}
+-- Values at places of a partition list, and where peer groups start.
+use Rattle.std.specs.Prelude.{◌≡◌, ℕ, ◌+◌, ◌<◌, ◌≤◌, List, map, slice_index_or}
 use Rattle.std.specs.List.Sorted.{IsNonDecreasingBy}
 use Rattle.wd_value.specs.declared.value.Value.{Value}
-use Rattle.wd_value.specs.declared.value.Value.TheVariants.{Null, Int, Text, Bool as Truth}
-use Rattle.wd_value.specs.Rows.{Row, rows_at}
+use Rattle.wd_value.specs.Bags.{positions}
+use Rattle.wd_value.specs.Rows.{Row, column_of, row_at, rows_at}
 use Rattle.wd_plan.specs.Calls.{column_values}
-use Rattle.wd_plan.specs.Expressions.{is_null}
 
-abbrev pub null : Value
-null = Null
+-- the value of a column at a place of a partition list
+abbrev pub value_in : List Row → ℕ → ℕ → Value
+value_in partition column place = column_of (row_at partition place) column
 
--- the values of a column at places of a partition list
+-- those at places
 abbrev pub values_at : List Row → ℕ → List ℕ → List Value
 values_at partition column places = column_values column (rows_at partition places)
 
--- how many values there are that are not NULL
-abbrev pub present : List Value → ℕ
-present values = count_by (λ v. not (is_null v)) values
-
--- the whole number, and 0 where the value is none
-abbrev pub whole_of : Value → ℤ
-whole_of (Int n) = n
-whole_of Null = pos 0
-whole_of (Text bytes) = pos 0
-whole_of (Truth b) = pos 0
+-- those at the first so many places
+abbrev pub first_values : List Row → ℕ → ℕ → List Value
+first_values partition column count = map (value_in partition column) (positions count)
 
 -- group numbers rise from place to place
 abbrev pub IsRising : List ℕ → Type 0
 IsRising groups = IsNonDecreasingBy (λ (g : ℕ). g) groups
 
--- how many members are of lower groups than the one at a place
-abbrev pub lower_groups : List ℕ → ℕ → ℕ
-lower_groups groups place = count_by (λ g. nat_lt g (slice_index_or groups place 0)) groups
+abbrev pub group_at : List ℕ → ℕ → ℕ
+group_at groups place = slice_index_or groups place 0
+
+-- the peer group of a place starts at this place: the places before it are of lower groups
+pub record IsStart (groups : List ℕ) (place start : ℕ) : Type 0 where
+  pub reached : start ≤ place
+  pub same : group_at groups start ≡ group_at groups place
+  pub lower : (q : ℕ) → q < start → group_at groups q < group_at groups place
+
+-- the peer group of the place before a place starts at this place; at the first place it is the first
+pub record IsStartBefore (groups : List ℕ) (place before : ℕ) : Type 0 where
+  pub first : place ≡ 0 → before ≡ 0
+  pub start : (p : ℕ) → place ≡ p + 1 → IsStart groups p before

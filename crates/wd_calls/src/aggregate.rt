@@ -1,60 +1,109 @@
-//! Functions of the values of a frame.
+//! COUNT, SUM, MIN and MAX over the frames of all places.
 
-ghost use Rattle.std.specs.Prelude.{◌≡◌, ◌^◌, pos, neg_ℤ, ◌≤ℤ◌, List, IfOk};
+ghost use Rattle.std.specs.Prelude.{◌≡◌, map, pos, IfOk};
+ghost use Rattle.wd_calls.specs.Answers as spec;
+ghost use Rattle.wd_calls.specs.Answers.{AreAnswersOf, AreCounts};
 ghost use Rattle.wd_calls.specs.Parts.{partition_of};
-ghost use Rattle.wd_calls.specs.Values as values;
-ghost use Rattle.wd_calls.specs.Values.{values_at, present};
-ghost use Rattle.std.specs.Ordering.{is_gt};
-ghost use Rattle.wd_plan.specs.Calls as calls;
+ghost use Rattle.wd_frame.specs.Slides.{seen, shown};
+ghost use Rattle.wd_frame.specs.Stretches.{AreLists, lists_of};
 ghost use Rattle.wd_plan.specs.Expressions as expressions;
-ghost use Rattle.wd_value.specs.Order as order;
-ghost use Rattle.wd_value.specs.Rows.{column_of};
+ghost use Rattle.wd_value.specs.declared.value.Value.TheVariants as variant;
 
-use crate::partition::{Partition, row_in, value_at};
+use crate::partition::{Partition, column_values};
+use crate::places::count_at;
 use std::alloc::Global;
-use wd_value::{Fault, OutOfMemory, SortColumn, SortKey, Value, compare_keys};
+use wd_frame::{Answer, Count, Greatest, Least, Stretch, Sum, over_lists};
+use wd_plan::Aggregate;
+use wd_value::{Fault, OutOfMemory, Value};
 
-/// How many values are not NULL.
-pub(crate) fn count_present(partition: &Partition, column: u16, places: &[usize]) -> usize
-    ensures { result ≡ present (values_at (partition_of partition.now) column places.now) }
+/// For each of so many places the answer of an aggregate over its stretches.
+pub(crate) fn answers<'a>(
+    alloc: Global,
+    aggregate: Aggregate,
+    partition: &'a Partition,
+    count: usize,
+    lists: &[Vec<Stretch>],
+    null: &'a Value,
+    zero: &'a Value,
+) -> Result<Vec<Answer<'a>>, OutOfMemory>
+    requires lists { AreLists count (lists_of lists.now) }
+    requires null { null.now ≡ variant.Null }
+    requires zero { zero.now ≡ variant.Int (pos 0) }
+    ensures { IfOk result (λ v. AreAnswersOf aggregate (partition_of partition.now) count (lists_of lists.now) v.items) }
 {
-    let mut count = 0;
-    for place in places {
-        if !is_null_at(row_in(partition, *place), column) {
-            count += 1;
+    match aggregate {
+        Aggregate::CountRows => counts(alloc, lists, count),
+        Aggregate::Count(column) => {
+            let values = column_values(alloc, partition, column, count, null)?;
+            over_lists(alloc, lists, &values, Count::new(alloc))
+        }
+        Aggregate::Sum(column) => {
+            let values = column_values(alloc, partition, column, count, null)?;
+            let addends = addends(alloc, &values, zero)?;
+            over_lists(alloc, lists, &addends, Sum::new(alloc))
+        }
+        Aggregate::Min(column) => {
+            let values = column_values(alloc, partition, column, count, null)?;
+            over_lists(alloc, lists, &values, Least::new(alloc))
+        }
+        Aggregate::Max(column) => {
+            let values = column_values(alloc, partition, column, count, null)?;
+            over_lists(alloc, lists, &values, Greatest::new(alloc))
         }
     }
-    count
 }
 
-pub(crate) fn is_null_at(row: &[Value], column: u16) -> bool
-    ensures { result ≡ expressions.is_null (column_of row.now column) }
+/// How many places each frame has.
+fn counts<'a>(
+    alloc: Global,
+    lists: &[Vec<Stretch>],
+    count: usize,
+) -> Result<Vec<Answer<'a>>, OutOfMemory>
+    ensures { IfOk result (λ v. AreCounts count (lists_of lists.now) v.items) }
 {
-    match row.get(column as usize) {
-        Some(Value::Null) | None => true,
-        _ => false,
+    let mut counts = Vec::with_capacity(alloc, count)?;
+    for place in 0..count {
+        counts.push(Answer::Number(count_at(lists, place) as i128))?;
+    }
+    Ok(counts)
+}
+
+/// What the values add to a total. Takes 0 for one that is no whole number.
+fn addends<'a>(
+    alloc: Global,
+    values: &[&'a Value],
+    zero: &'a Value,
+) -> Result<Vec<&'a Value>, OutOfMemory>
+    requires { zero.now ≡ variant.Int (pos 0) }
+    ensures { IfOk result (λ v. seen v.items ≡ map spec.addend (seen values.now)) }
+{
+    let mut addends = Vec::with_capacity(alloc, values.len())?;
+    for value in values {
+        addends.push(addend(value, zero))?;
+    }
+    Ok(addends)
+}
+
+/// What a value adds to a total: nothing where it is NULL.
+fn addend<'a>(value: &'a Value, zero: &'a Value) -> &'a Value
+    requires { zero.now ≡ variant.Int (pos 0) }
+    ensures { result.now ≡ spec.addend value.now }
+{
+    match value {
+        Value::Int(_) | Value::Null => value,
+        _ => zero,
     }
 }
 
-/// The total of the whole numbers, NULL where all values are NULL, and a fault where 64 bits don't
-/// hold it.
-pub(crate) fn sum(partition: &Partition, column: u16, places: &[usize]) -> Result<Value, Fault>
-    ensures { result ≡ calls.sum_of (values_at (partition_of partition.now) column places.now) }
+/// An answer as a value; a fault where it is a number that 64 bits don't hold.
+pub(crate) fn value_of(alloc: Global, answer: &Answer) -> Result<Result<Value, Fault>, OutOfMemory>
+    ensures { IfOk result (λ r. r ≡ spec.value_of (shown answer.now)) }
 {
-    sum_from(
-        count_present(partition, column, places),
-        total(partition, column, places),
-    )
-}
-
-/// A sum from how many values are not NULL and their exact total.
-pub(crate) fn sum_from(count: usize, total: i128) -> Result<Value, Fault>
-    ensures { (vs : List Value) → count ≡ present vs → total ≡ calls.total vs → result ≡ calls.sum_of vs }
-{
-    if count == 0 {
-        return Ok(Value::Null);
+    match answer {
+        Answer::Number(number) => Ok(in_64(*number)),
+        Answer::Of(value) => Ok(Ok(value.copy(alloc)?)),
+        Answer::Nothing => Ok(Ok(Value::Null)),
     }
-    in_64(total)
 }
 
 /// A whole number as a value; a fault where 64 bits don't hold it.
@@ -65,59 +114,4 @@ fn in_64(number: i128) -> Result<Value, Fault>
         Ok(number) => Ok(Value::Int(number)),
         Err(_) => Err(Fault::OutOfRange),
     }
-}
-
-/// The exact total of the whole numbers: 128 bits hold that of each list that memory holds.
-fn total(partition: &Partition, column: u16, places: &[usize]) -> i128
-    ensures { result ≡ calls.total (values_at (partition_of partition.now) column places.now) }
-{
-    let mut total: i128 = 0;
-    for place in places {
-        total += number_at(row_in(partition, *place), column);
-    }
-    total
-}
-
-/// The whole number in a column, and 0 where there is none.
-pub(crate) fn number_at(row: &[Value], column: u16) -> i128
-    ensures value { result ≡ values.whole_of (column_of row.now column) }
-    ensures least { neg_ℤ (pos (2 ^ 63)) ≤ℤ result }
-    ensures most { result ≤ℤ pos (2 ^ 63) }
-{
-    match row.get(column as usize) {
-        Some(Value::Int(n)) => i128::from(*n),
-        _ => 0,
-    }
-}
-
-/// A copy of the value that stands first under a key, and NULL where there is none.
-pub(crate) fn extreme(
-    alloc: Global,
-    partition: &Partition,
-    column: u16,
-    places: &[usize],
-    key: SortKey,
-) -> Result<Value, OutOfMemory>
-    ensures { IfOk result (λ v. v ≡ calls.first_by key (values_at (partition_of partition.now) column places.now)) }
-{
-    let mut best = partition.positions.len();
-    for i in 0..places.len() {
-        let place = places[places.len() - 1 - i];
-        if !is_behind(
-            row_in(partition, place),
-            row_in(partition, best),
-            column,
-            key,
-        ) {
-            best = place;
-        }
-    }
-    value_at(alloc, partition, best, column)
-}
-
-/// Whether a row's value stands after another's under a key.
-fn is_behind(row: &[Value], other: &[Value], column: u16, key: SortKey) -> bool
-    ensures { result ≡ is_gt (order.compare key (column_of row.now column) (column_of other.now column)) }
-{
-    compare_keys(&[SortColumn { column, key }], row, other).is_gt()
 }

@@ -1,206 +1,179 @@
-//! The value of a call.
+//! The values of a call.
 
-ghost use Rattle.std.specs.Prelude.{◌≡◌, ◌<◌, ◌^◌, pos, IfOk, slice_index_or};
-ghost use Rattle.wd_calls.specs.Parts.{IsRankAt, IsValueAt, partition_of};
-ghost use Rattle.wd_calls.specs.Values as spec;
-ghost use Rattle.wd_calls.specs.Values.{IsRising, values_at};
+ghost use Rattle.std.specs.Prelude.{◌≡◌, ◌<◌, ◌^◌, length, pos, IfOk};
+ghost use Rattle.wd_calls.specs.Parts.{AreValues, IsValueAt, partition_of};
+ghost use Rattle.wd_calls.specs.Sources as spec;
+ghost use Rattle.wd_calls.specs.Sources.{IsSourceOf};
+ghost use Rattle.wd_calls.specs.Values.{IsRising, IsStart};
+ghost use Rattle.wd_frame.specs.Places as places;
 ghost use Rattle.wd_frame.specs.Places.{part_of};
+ghost use Rattle.wd_frame.specs.Stretches.{AreFrames, AreLists, lists_of, places_along};
 ghost use Rattle.wd_plan.specs.Calls as calls;
-ghost use Rattle.wd_plan.specs.declared.function.Direction.TheVariants as direction;
+ghost use Rattle.wd_plan.specs.declared.function.Function.TheVariants as of;
+ghost use Rattle.wd_plan.specs.declared.function.Function as function;
+ghost use Rattle.wd_plan.specs.declared.window.Frame as frame;
+ghost use Rattle.wd_calls.specs.Values.{values_at};
 ghost use Rattle.wd_value.specs.declared.value.Value.TheVariants as value;
-ghost use Rattle.wd_value.specs.Rows.{rows_at};
 
-use crate::aggregate::{count_present, extreme, sum};
-use crate::bucket::bucket;
-use crate::partition::{Partition, value_at, value_of_member};
+use crate::aggregate::{answers, value_of};
+use crate::partition::{Partition, copy_at};
+use crate::places::{count_at, place_at};
+use crate::ranking::{group_start, ranking_value};
+use crate::shift::value_away;
 use std::alloc::Global;
-use wd_frame::{Part, members};
-use wd_plan::{Aggregate, Call, Direction, FrameFunction, FrameRow, Function, Ranking, Shift};
-use wd_value::{Fault, OutOfMemory, SortKey, Value};
+use wd_frame::{Answer, Part, Stretch, frame_stretches};
+use wd_plan::{Call, FrameFunction, FrameRow, Function, Ranking, Shift};
+use wd_value::{Fault, OutOfMemory, Value};
 
-const LEAST: SortKey = SortKey {
-    desc: false,
-    nulls_first: false,
-};
+/// What the values of a call at all places are made from.
+#[derive(Drop)]
+enum Source<'a> {
+    Ranking(Ranking),
+    Shift(&'a Shift),
+    /// The value of a column at a row of the frame, which has the places of stretches.
+    Row(FrameRow, u16, Vec<Vec<Stretch>>),
+    /// One for each place.
+    Answers(Vec<Answer<'a>>),
+}
 
-const GREATEST: SortKey = SortKey {
-    desc: true,
-    nulls_first: false,
-};
-
-/// The value of a call at the row that stands at `place` of a partition, or its fault: a sum that
-/// 64 bits don't hold (SQL, window function; PG, Window Functions). `part` has the partition's peer
-/// groups and, where the frame has an offset in RANGE, its keys. Takes time that goes with the
-/// partition where the function reads its frame, else with the logarithm of it at most.
-pub fn call_value(
+/// The value of a call at each place of a partition, or its fault there: a sum that 64 bits don't
+/// hold (SQL, window function; PG, Window Functions). `part` has the partition's peer groups and,
+/// where the frame has an offset in RANGE, its keys. All values together take time that goes with
+/// the partition, whatever the frame.
+pub fn call_values(
     alloc: Global,
     call: &Call,
     partition: &Partition,
     part: &Part,
-    place: usize,
-) -> Result<Result<Value, Fault>, OutOfMemory>
-    ensures { IfOk result (λ r. IsValueAt call.now.frame call.now.function (partition_of partition.now) (part_of part.now) place r) }
+) -> Result<Vec<Result<Value, Fault>>, OutOfMemory>
+    ensures { IfOk result (λ v. AreValues call.now.frame call.now.function (partition_of partition.now) (part_of part.now) v.items) }
+{
+    let null = Value::Null;
+    let zero = Value::Int(0);
+    let source = source_of(alloc, &*call, &*partition, part, &null, &zero)?;
+    values_from(alloc, &source, partition, part)
+}
+
+fn values_from(
+    alloc: Global,
+    source: &Source,
+    partition: &Partition,
+    part: &Part,
+) -> Result<Vec<Result<Value, Fault>>, OutOfMemory>
+    ensures { IfOk result (λ v. (f : frame.Frame) (function : function.Function) → IsSourceOf f function (partition_of partition.now) (part_of part.now) source.now → AreValues f function (partition_of partition.now) (part_of part.now) v.items) }
+{
+    let mut values = Vec::with_capacity(alloc, partition.positions.len())?;
+    let mut start = 0;
+    for place in 0..partition.positions.len() {
+        start = group_start(part, start, place);
+        let value = value_from(alloc, source, partition, part, place, start)?;
+        values.push(value)?;
+    }
+    Ok(values)
+}
+
+fn source_of<'a>(
+    alloc: Global,
+    call: &'a Call,
+    partition: &'a Partition,
+    part: &Part,
+    null: &'a Value,
+    zero: &'a Value,
+) -> Result<Source<'a>, OutOfMemory>
+    requires null { null.now ≡ value.Null }
+    requires zero { zero.now ≡ value.Int (pos 0) }
+    ensures { IfOk result (λ s. IsSourceOf call.now.frame call.now.function (partition_of partition.now) (part_of part.now) s) }
 {
     match &call.function {
-        Function::Ranking(ranking) => Ok(Ok(ranking_value(*ranking, partition, part, place))),
-        Function::Shift(shift) => {
+        Function::Ranking(ranking) => Ok(Source::Ranking(*ranking)),
+        Function::Shift(shift) => Ok(Source::Shift(shift)),
+        Function::OfFrame(function) => {
+            let lists = frame_stretches(alloc, part, &call.frame)?;
+            let count = part.groups.len();
+            frame_source(alloc, *function, partition, count, lists, null, zero)
+        }
+    }
+}
+
+/// The source of a function of frames that have the places of stretches.
+fn frame_source<'a>(
+    alloc: Global,
+    function: FrameFunction,
+    partition: &'a Partition,
+    count: usize,
+    lists: Vec<Vec<Stretch>>,
+    null: &'a Value,
+    zero: &'a Value,
+) -> Result<Source<'a>, OutOfMemory>
+    requires null { null.now ≡ value.Null }
+    requires zero { zero.now ≡ value.Int (pos 0) }
+    requires lists { AreLists count (lists_of lists.items) }
+    ensures { IfOk result (λ s. (f : frame.Frame) (part : places.PartRule) → length part.groups ≡ count → AreFrames part f (lists_of lists.items) → IsSourceOf f (of.OfFrame function) (partition_of partition.now) part s) }
+{
+    match function {
+        FrameFunction::ValueAt(row, column) => Ok(Source::Row(row, column, lists)),
+        FrameFunction::Aggregate(aggregate) => {
+            let answers = answers(alloc, aggregate, partition, count, &lists, null, zero)?;
+            Ok(Source::Answers(answers))
+        }
+    }
+}
+
+/// The value at a place whose peer group starts at `start`.
+fn value_from(
+    alloc: Global,
+    source: &Source,
+    partition: &Partition,
+    part: &Part,
+    place: usize,
+    start: usize,
+) -> Result<Result<Value, Fault>, OutOfMemory>
+    ensures { IfOk result (λ r. (f : frame.Frame) (function : function.Function) → IsSourceOf f function (partition_of partition.now) (part_of part.now) source.now → (IsRising (part_of part.now).groups → place < length (part_of part.now).groups → IsStart (part_of part.now).groups place start) → IsValueAt f function (partition_of partition.now) (part_of part.now) place r) }
+{
+    match source {
+        Source::Ranking(ranking) => {
+            Ok(Ok(ranking_value(*ranking, partition, part, place, start)))
+        }
+        Source::Shift(shift) => {
             let value = value_away(alloc, shift, partition, place)?;
             Ok(Ok(value))
         }
-        Function::OfFrame(function) => {
-            let places = members(alloc, part, &call.frame, place)?;
-            frame_value(alloc, *function, partition, &places)
-        }
-    }
-}
-
-/// The number that a ranking function gives at a place.
-fn ranking_value(ranking: Ranking, partition: &Partition, part: &Part, place: usize) -> Value
-    ensures { IsRankAt ranking (partition_of partition.now) (part_of part.now) place result }
-{
-    match ranking {
-        Ranking::RowNumber => number(place.saturating_add(1)),
-        Ranking::Rank => number(lower_groups(part, place).saturating_add(1)),
-        Ranking::DenseRank => number(group_at(part, place) as usize + 1),
-        Ranking::Ntile(buckets) => {
-            number(bucket(buckets, partition.positions.len(), place) as usize)
-        }
-    }
-}
-
-/// The value of a function of a frame over the rows at the frame's places, or its fault.
-fn frame_value(
-    alloc: Global,
-    function: FrameFunction,
-    partition: &Partition,
-    places: &[usize],
-) -> Result<Result<Value, Fault>, OutOfMemory>
-    ensures { IfOk result (λ r. r ≡ calls.frame_value function (rows_at (partition_of partition.now) places.now)) }
-{
-    match function {
-        FrameFunction::ValueAt(row, column) => {
-            let value = taken(alloc, row, column, partition, places)?;
+        Source::Row(row, column, lists) => {
+            let value = taken(alloc, *row, *column, partition, place, lists)?;
             Ok(Ok(value))
         }
-        FrameFunction::Aggregate(aggregate) => {
-            aggregate_value(alloc, aggregate, partition, places)
-        }
+        Source::Answers(answers) => match answers.get(place) {
+            Some(answer) => value_of(alloc, answer),
+            None => Ok(Ok(Value::Null)),
+        },
     }
 }
 
-/// The value of a column at the first, the last or the nth of places, and NULL where there is none.
+/// A copy of the value of a column at the first, the last or the nth row of a frame, and NULL where
+/// there is none.
 fn taken(
     alloc: Global,
     row: FrameRow,
     column: u16,
     partition: &Partition,
-    places: &[usize],
+    place: usize,
+    lists: &[Vec<Stretch>],
 ) -> Result<Value, OutOfMemory>
-    ensures { IfOk result (λ v. v ≡ calls.taken row (values_at (partition_of partition.now) column places.now)) }
+    ensures { IfOk result (λ v. length (places_along (lists_of lists.now) place) < 2 ^ 64 → v ≡ calls.taken row (values_at (partition_of partition.now) column (places_along (lists_of lists.now) place))) }
 {
-    let number = match row {
+    match place_at(lists, place, number_of(row, lists, place)) {
+        Some(other) => copy_at(alloc, partition, other, column),
+        None => Ok(Value::Null),
+    }
+}
+
+/// The number, from 0, of the row that a function takes of a frame.
+fn number_of(row: FrameRow, lists: &[Vec<Stretch>], place: usize) -> usize
+    ensures { length (places_along (lists_of lists.now) place) < 2 ^ 64 → result ≡ spec.number_of row (length (places_along (lists_of lists.now) place)) }
+{
+    match row {
         FrameRow::First => 0,
-        FrameRow::Last => places.len().saturating_sub(1),
+        FrameRow::Last => count_at(lists, place).saturating_sub(1),
         FrameRow::Nth(n) => n.saturating_sub(1) as usize,
-    };
-    value_of_member(alloc, partition, column, places, number)
-}
-
-/// The value of an aggregate over the rows at places, or its fault.
-fn aggregate_value(
-    alloc: Global,
-    aggregate: Aggregate,
-    partition: &Partition,
-    places: &[usize],
-) -> Result<Result<Value, Fault>, OutOfMemory>
-    ensures { IfOk result (λ r. r ≡ calls.aggregate_value aggregate (rows_at (partition_of partition.now) places.now)) }
-{
-    match aggregate {
-        Aggregate::CountRows => Ok(Ok(number(places.len()))),
-        Aggregate::Count(column) => Ok(Ok(number(count_present(partition, column, places)))),
-        Aggregate::Sum(column) => Ok(sum(partition, column, places)),
-        Aggregate::Min(column) => {
-            let least = extreme(alloc, partition, column, places, LEAST)?;
-            Ok(Ok(least))
-        }
-        Aggregate::Max(column) => {
-            let greatest = extreme(alloc, partition, column, places, GREATEST)?;
-            Ok(Ok(greatest))
-        }
-    }
-}
-
-/// The value of a column so many rows away in the partition, else the default.
-fn value_away(
-    alloc: Global,
-    shift: &Shift,
-    partition: &Partition,
-    place: usize,
-) -> Result<Value, OutOfMemory>
-    ensures { IfOk result (λ v. v ≡ calls.value_away shift.now.direction shift.now.argument shift.now.offset shift.now.default (partition_of partition.now) place) }
-{
-    match shift.direction {
-        Direction::Lag => earlier(alloc, shift, partition, place),
-        Direction::Lead => later(alloc, shift, partition, place),
-    }
-}
-
-/// The value so many rows earlier, else the default.
-fn earlier(
-    alloc: Global,
-    shift: &Shift,
-    partition: &Partition,
-    place: usize,
-) -> Result<Value, OutOfMemory>
-    ensures { IfOk result (λ v. v ≡ calls.value_away direction.Lag shift.now.argument shift.now.offset shift.now.default (partition_of partition.now) place) }
-{
-    match (place as u64).checked_sub(shift.offset) {
-        Some(other) => value_at(alloc, partition, other as usize, shift.argument),
-        None => shift.default.copy(alloc),
-    }
-}
-
-/// The value so many rows later, else the default.
-fn later(
-    alloc: Global,
-    shift: &Shift,
-    partition: &Partition,
-    place: usize,
-) -> Result<Value, OutOfMemory>
-    ensures { IfOk result (λ v. v ≡ calls.value_away direction.Lead shift.now.argument shift.now.offset shift.now.default (partition_of partition.now) place) }
-{
-    match (place as u64).checked_add(shift.offset) {
-        Some(other) if other < partition.positions.len() as u64 => {
-            value_at(alloc, partition, other as usize, shift.argument)
-        }
-        _ => shift.default.copy(alloc),
-    }
-}
-
-/// The number of members of lower peer groups. Group numbers rise.
-fn lower_groups(part: &Part, place: usize) -> usize
-    ensures { IsRising (part_of part.now).groups → result ≡ spec.lower_groups (part_of part.now).groups place }
-{
-    let group = group_at(part, place);
-    part.groups.partition_point(|other| *other < group)
-}
-
-/// The peer group number at a place, and 0 past the last.
-pub(crate) fn group_at(part: &Part, place: usize) -> u32
-    ensures { result ≡ slice_index_or (part_of part.now).groups place 0 }
-{
-    match part.groups.get(place) {
-        Some(group) => *group,
-        None => 0,
-    }
-}
-
-/// A count as a value. No list has more members than the largest value counts.
-pub(crate) fn number(count: usize) -> Value
-    ensures { count < 2 ^ 63 → result ≡ value.Int (pos count) }
-{
-    match i64::try_from(count) {
-        Ok(count) => Value::Int(count),
-        Err(_) => Value::Int(i64::MAX),
     }
 }

@@ -1,12 +1,13 @@
-//! The values of window calls at a place of a partition.
+//! The values of window calls at the places of a partition.
 #![tactic(auto)]
 
 mod aggregate;
 mod bucket;
 mod call;
 mod partition;
-mod running;
+mod places;
+mod ranking;
+mod shift;
 
-pub use call::call_value;
+pub use call::call_values;
 pub use partition::Partition;
-pub use running::{call_values, is_running};

@@ -1,8 +1,11 @@
 //! The rows of a partition, by their places.
 
-ghost use Rattle.std.specs.Prelude.{◌≡◌, IfOk, slice_index_or};
+ghost use Rattle.std.specs.Prelude.{◌≡◌, IfOk};
 ghost use Rattle.wd_calls.specs.Parts.{partition_of};
+ghost use Rattle.wd_calls.specs.Values.{value_in};
 ghost use Rattle.wd_calls.specs.Values as values;
+ghost use Rattle.wd_frame.specs.Slides.{seen};
+ghost use Rattle.wd_value.specs.declared.value.Value.TheVariants as value;
 ghost use Rattle.wd_value.specs.Rows as table;
 
 use std::alloc::Global;
@@ -17,7 +20,7 @@ pub struct Partition<'a> {
 }
 
 /// The row at a place, and the empty row past the last.
-pub(crate) fn row_in<'a>(partition: &'a Partition, place: usize) -> &'a [Value]
+fn row_in<'a>(partition: &'a Partition, place: usize) -> &'a [Value]
     ensures { result.now ≡ table.row_at (partition_of partition.now) place }
 {
     match partition.positions.get(place) {
@@ -29,14 +32,25 @@ pub(crate) fn row_in<'a>(partition: &'a Partition, place: usize) -> &'a [Value]
     }
 }
 
+/// The value in a column of the row at a place, and NULL past the last place or column.
+fn value_at<'a>(partition: &'a Partition, place: usize, column: u16, null: &'a Value) -> &'a Value
+    requires { null.now ≡ value.Null }
+    ensures { result.now ≡ value_in (partition_of partition.now) column place }
+{
+    match row_in(partition, place).get(column as usize) {
+        Some(value) => value,
+        None => null,
+    }
+}
+
 /// A copy of the value in a column of the row at a place, and NULL past the last place or column.
-pub(crate) fn value_at(
+pub(crate) fn copy_at(
     alloc: Global,
     partition: &Partition,
     place: usize,
     column: u16,
 ) -> Result<Value, OutOfMemory>
-    ensures { IfOk result (λ v. v ≡ table.column_of (table.row_at (partition_of partition.now) place) column) }
+    ensures { IfOk result (λ v. v ≡ value_in (partition_of partition.now) column place) }
 {
     match row_in(partition, place).get(column as usize) {
         Some(value) => value.copy(alloc),
@@ -44,19 +58,20 @@ pub(crate) fn value_at(
     }
 }
 
-/// A copy of the value in a column of the row at the place with this number among several, and NULL
-/// past the last.
-pub(crate) fn value_of_member(
+/// The values in a column of the rows at the first so many places.
+pub(crate) fn column_values<'a>(
     alloc: Global,
-    partition: &Partition,
+    partition: &'a Partition,
     column: u16,
-    places: &[usize],
-    number: usize,
-) -> Result<Value, OutOfMemory>
-    ensures { IfOk result (λ v. v ≡ slice_index_or (values.values_at (partition_of partition.now) column places.now) number values.null) }
+    count: usize,
+    null: &'a Value,
+) -> Result<Vec<&'a Value>, OutOfMemory>
+    requires { null.now ≡ value.Null }
+    ensures { IfOk result (λ v. seen v.items ≡ values.first_values (partition_of partition.now) column count) }
 {
-    match places.get(number) {
-        Some(place) => value_at(alloc, partition, *place, column),
-        None => Ok(Value::Null),
+    let mut values = Vec::with_capacity(alloc, count)?;
+    for place in 0..count {
+        values.push(value_at(partition, place, column, null))?;
     }
+    Ok(values)
 }

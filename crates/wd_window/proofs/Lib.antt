@@ -4,3 +4,4 @@ pub mod Serving
 pub mod Gathered
 pub mod Naming
 pub mod Filled
+pub mod CallColumns

@@ -10,8 +10,6 @@ use Rattle.wd_plan.specs.Calls.{value_at}
 use Rattle.wd_plan.specs.Outcomes.{call_at}
 use Rattle.wd_plan.specs.Partitions.{members}
 use Rattle.wd_plan.specs.Plans.{ClassRule, WindowRule}
-use Rattle.wd_window.specs.declared.listing.Listing.{Listing}
-use Rattle.wd_window.specs.Listings.{WhereListed}
 
 -- the first row of a row's partition, as the ordering has it
 abbrev pub first_of : ClassRule → List Row → List ℕ → ℕ → ℕ
@@ -27,17 +25,15 @@ pub record AreFilled (class : ClassRule) (call : Call) (rows : List Row) (orderi
 abbrev pub FillsNext : ClassRule → Call → List Row → List ℕ → ℕ → List (Result Value Fault) → List (Result Value Fault) → Type 0
 FillsNext class call rows ordering n old new = AreFilled class call rows ordering n old → AreFilled class call rows ordering (n + 1) new
 
--- the values of a call at the first rows, as many as there are
-abbrev pub IsColumn : WindowRule → List Row → List (List ℕ) → Call → List (Result Value Fault) → Type 0
-IsColumn w rows orderings call column = (p : ℕ) (other : Result Value Fault) → p < length column → slice_index_or column p other ≡ call_at w rows orderings p call
+-- the values of a call at all rows
+pub record IsColumn (w : WindowRule) (rows : List Row) (orderings : List (List ℕ)) (call : Call) (column : List (Result Value Fault)) : Type 0 where
+  pub long : length column ≡ length rows
+  pub each : (p : ℕ) (other : Result Value Fault) → p < length rows → slice_index_or column p other ≡ call_at w rows orderings p call
 
--- of each call of a Window; none of a call past the last column
-abbrev pub AreColumns : WindowRule → List Row → List (List ℕ) → List (List (Result Value Fault)) → Type 0
-AreColumns w rows orderings columns = (k : ℕ) (call : Call) → k < length w.calls → IsColumn w rows orderings (slice_index_or w.calls k call) (slice_index_or columns k [])
-
--- what is so for all orderings of a Window's classes that make these partitions, where these are the columns under them
-abbrev pub WhereColumns : WindowRule → List Row → List Listing → List (List (Result Value Fault)) → (List (List ℕ) → Type 0) → Type 0
-WhereColumns w rows listings columns Holds = WhereListed w rows listings (λ orderings. AreColumns w rows orderings columns → Holds orderings)
+-- of each call of a Window
+pub record AreColumns (w : WindowRule) (rows : List Row) (orderings : List (List ℕ)) (columns : List (List (Result Value Fault))) : Type 0 where
+  pub many : length columns ≡ length w.calls
+  pub each : (k : ℕ) (call : Call) → k < length w.calls → IsColumn w rows orderings (slice_index_or w.calls k call) (slice_index_or columns k [])
 
 -- the lists that columns of the code show
 abbrev pub columns_of : List (Vec (Result Value Fault) Global) → List (List (Result Value Fault))

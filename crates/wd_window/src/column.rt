@@ -10,42 +10,31 @@ ghost use Rattle.wd_window.specs.Listings.{WhereListed, WhereListing};
 
 use crate::listing::Listing;
 use std::alloc::Global;
-use wd_calls::{Partition, call_values, is_running};
+use wd_calls::{Partition, call_values};
 use wd_frame::Part;
 use wd_plan::{Call, Window};
 use wd_value::{Fault, OutOfMemory, Row, Value};
 
-/// The values of a call at the rows, by their positions, or their faults; none where each value is
-/// as fast to have by itself.
+/// The values of a call at the rows, by their positions, or their faults.
 pub(crate) type Column = Vec<Result<Value, Fault>>;
 
-/// The values of the call with this number, as far as there are any.
-pub(crate) fn column_in(columns: &[Column], number: usize) -> &[Result<Value, Fault>]
-    ensures { result.now ≡ slice_index_or (columns_of columns.now) number [] }
-{
-    match columns.get(number) {
-        Some(column) => column.as_slice(),
-        None => &[],
-    }
-}
-
-/// The value at a position of a column, and none past the last.
-pub(crate) fn known(
+/// A copy of the value at a position of a column, or its fault.
+pub(crate) fn value_in(
     alloc: Global,
     column: &[Result<Value, Fault>],
     position: usize,
-) -> Result<Option<Result<Value, Fault>>, OutOfMemory>
-    ensures { IfOk result (λ o. o ≡ slice_get column.now position) }
+) -> Result<Result<Value, Fault>, OutOfMemory>
+    ensures { IfOk result (λ r. (other : Result value.Value fault.Fault) → position < length column.now → r ≡ slice_index_or column.now position other) }
 {
     match column.get(position) {
-        None => Ok(None),
-        Some(Ok(value)) => Ok(Some(Ok(value.copy(alloc)?))),
-        Some(Err(fault)) => Ok(Some(Err(*fault))),
+        None => Ok(Ok(Value::Null)),
+        Some(Ok(value)) => Ok(Ok(value.copy(alloc)?)),
+        Some(Err(fault)) => Ok(Err(*fault)),
     }
 }
 
-/// The column of each call that is a running count or total, and an empty one of each other call.
-pub(crate) fn running_columns(
+/// The column of each call.
+pub(crate) fn call_columns(
     alloc: Global,
     window: &Window,
     rows: &[Row],
@@ -56,14 +45,14 @@ pub(crate) fn running_columns(
 {
     let mut columns = Vec::with_capacity(alloc, window.calls.len())?;
     for call in &window.calls {
-        let column = running_column(alloc, call, rows, listings)?;
+        let column = call_column(alloc, call, rows, listings)?;
         columns.push(column)?;
     }
     Ok(columns)
 }
 
-/// The column of a running count or total, and an empty one of another call.
-fn running_column(
+/// The column of a call, under its class.
+fn call_column(
     alloc: Global,
     call: &Call,
     rows: &[Row],
@@ -72,9 +61,6 @@ fn running_column(
     requires { call.now.class < length listings.now }
     ensures { IfOk result (λ v. (w : WindowRule) → WhereListed w (rows_of rows.now) listings.now (λ orderings. IsColumn w (rows_of rows.now) orderings call.now v.items)) }
 {
-    if !is_running(call) {
-        return Ok(Vec::new(alloc));
-    }
     let column = column_of(alloc, call, rows, &listings[call.class as usize])?;
     Ok(column)
 }

@@ -1,24 +1,22 @@
 //! A Window under the orderings of a choice.
 
-ghost use Rattle.std.specs.Prelude.{◌≡◌, ◌↔◌, ◌-◌, ◌++◌, ◌^◌, ◌<◌, ◌≤◌, IfOk, IsTrue, OnOk, length};
+ghost use Rattle.std.specs.Prelude.{◌≡◌, ◌↔◌, ℕ, List, ◌-◌, ◌++◌, ◌^◌, ◌<◌, ◌≤◌, IfOk, IsTrue, OnOk, length};
 ghost use Rattle.wd_window.specs.Windows.{AreFew, IsExtendedOrUnserved, orderings_of};
-ghost use Rattle.wd_window.specs.Columns.{IsColumn, WhereColumns, columns_of};
+ghost use Rattle.wd_window.specs.Columns.{AreColumns, columns_of};
 ghost use Rattle.wd_window.specs.Listings as spec;
-ghost use Rattle.wd_window.specs.Listings.{AreEmptyOrUnserved, IsEmptyAt, WhereListed, WhereListing, calls_at, first_calls};
-ghost use Rattle.wd_plan.specs.Calls as calls;
-ghost use Rattle.wd_plan.specs.Outcomes.{call_at, outcome_of, window_outcome};
+ghost use Rattle.wd_window.specs.Listings.{AreEmptyOrUnserved, IsEmptyAt, WhereListed, calls_at, first_calls};
+ghost use Rattle.wd_plan.specs.Outcomes.{outcome_of, window_outcome};
 ghost use Rattle.wd_plan.specs.Plans.{NameBelow, NamesClasses, WindowRule, window_of};
+ghost use Rattle.wd_value.specs.Rows as table;
 ghost use Rattle.wd_value.specs.Rows.{rows_of};
 
-use crate::column::{Column, column_in, known, running_columns};
+use crate::column::{Column, call_columns, value_in};
 use crate::error::WindowError;
 use crate::listing::{Listing, listings};
 use std::alloc::Global;
-use wd_calls::{Partition, call_value};
-use wd_frame::Part;
-use wd_plan::{Call, Outcome, Window};
+use wd_plan::{Outcome, Window};
 use wd_steps::with_fault;
-use wd_value::{Fault, OutOfMemory, Row, Value};
+use wd_value::{Fault, OutOfMemory, Row};
 
 /// The input's rows with the values of the calls after each of them, under the choice's orderings
 /// from `first` on: one for each class, each lawful, and empty where the input is a fault. The first
@@ -101,27 +99,23 @@ fn all_values(
     requires { NameBelow (length listings.now) (window_of window.now).calls }
     ensures { let w = window_of window.now in IfOk result (λ r. WhereListed w (rows_of rows.now) listings.now (λ orderings. spec.rows_or_fault r ≡ first_calls w (rows_of rows.now) orderings (length rows.now))) }
 {
-    let columns = running_columns(alloc, window, rows, listings)?;
-    let values = row_by_row(alloc, window, &columns, rows, listings)?;
+    let columns = call_columns(alloc, window, rows, listings)?;
+    let values = row_by_row(alloc, &columns, rows.len())?;
     Ok(values)
 }
 
-/// The values of the calls at each row, or the least fault of all, where the columns hold some of
-/// them.
+/// The values of the calls at each of so many rows, or the least fault of all, from their columns.
 fn row_by_row(
     alloc: Global,
-    window: &Window,
     columns: &[Column],
-    rows: &[Row],
-    listings: &[Listing],
+    count: usize,
 ) -> Result<Result<Vec<Row>, Fault>, OutOfMemory>
-    requires { NameBelow (length listings.now) (window_of window.now).calls }
-    ensures { let w = window_of window.now in IfOk result (λ r. WhereColumns w (rows_of rows.now) listings.now (columns_of columns.now) (λ orderings. spec.rows_or_fault r ≡ first_calls w (rows_of rows.now) orderings (length rows.now))) }
+    ensures { IfOk result (λ r. (w : WindowRule) (rows : List table.Row) (orderings : List (List ℕ)) → AreColumns w rows orderings (columns_of columns.now) → count ≤ length rows → spec.rows_or_fault r ≡ first_calls w rows orderings count) }
 {
-    let mut all = Vec::with_capacity(alloc, rows.len())?;
+    let mut all = Vec::with_capacity(alloc, count)?;
     let mut fault = None;
-    for position in 0..rows.len() {
-        match row_values(alloc, window, columns, rows, listings, position)? {
+    for position in 0..count {
+        match row_values(alloc, columns, position)? {
             Ok(values) => all.push(values)?,
             Err(found) => fault = Some(with_fault(fault, found)),
         }
@@ -135,21 +129,15 @@ fn row_by_row(
 /// The values of the calls at the row at a position, or their least fault.
 fn row_values(
     alloc: Global,
-    window: &Window,
     columns: &[Column],
-    rows: &[Row],
-    listings: &[Listing],
     position: usize,
 ) -> Result<Result<Row, Fault>, OutOfMemory>
-    requires within { position < length rows.now }
-    requires named { NameBelow (length listings.now) (window_of window.now).calls }
-    ensures { let w = window_of window.now in IfOk result (λ r. WhereColumns w (rows_of rows.now) listings.now (columns_of columns.now) (λ orderings. spec.values_of r ≡ calls_at w (rows_of rows.now) orderings position)) }
+    ensures { IfOk result (λ r. (w : WindowRule) (rows : List table.Row) (orderings : List (List ℕ)) → AreColumns w rows orderings (columns_of columns.now) → position < length rows → spec.values_of r ≡ calls_at w rows orderings position) }
 {
-    let mut values = Vec::with_capacity(alloc, window.calls.len())?;
+    let mut values = Vec::with_capacity(alloc, columns.len())?;
     let mut fault = None;
-    for (number, call) in window.calls.iter().enumerate() {
-        let column = column_in(columns, number);
-        match class_value(alloc, call, column, rows, listings, position)? {
+    for column in columns {
+        match value_in(alloc, column, position)? {
             Ok(value) => values.push(value)?,
             Err(found) => fault = Some(with_fault(fault, found)),
         }
@@ -157,54 +145,6 @@ fn row_values(
     match fault {
         None => Ok(Ok(values)),
         Some(fault) => Ok(Err(fault)),
-    }
-}
-
-/// The value of a call at the row at a position: from its column, else under its class.
-fn class_value(
-    alloc: Global,
-    call: &Call,
-    column: &[Result<Value, Fault>],
-    rows: &[Row],
-    listings: &[Listing],
-    position: usize,
-) -> Result<Result<Value, Fault>, OutOfMemory>
-    requires within { position < length rows.now }
-    requires named { call.now.class < length listings.now }
-    ensures { IfOk result (λ r. (w : WindowRule) → WhereListed w (rows_of rows.now) listings.now (λ orderings. IsColumn w (rows_of rows.now) orderings call.now column.now → r ≡ call_at w (rows_of rows.now) orderings position call.now)) }
-{
-    if let Some(value) = known(alloc, column, position)? {
-        return Ok(value);
-    }
-    let listing = &listings[call.class as usize];
-    let value = listed_value(alloc, call, rows, listing, position)?;
-    Ok(value)
-}
-
-/// The value of a call at the row at a position, from the partitions of its class.
-fn listed_value(
-    alloc: Global,
-    call: &Call,
-    rows: &[Row],
-    listing: &Listing,
-    position: usize,
-) -> Result<Result<Value, Fault>, OutOfMemory>
-    ensures { IfOk result (λ r. position < length rows.now → WhereListing (rows_of rows.now) listing.now (λ class ordering. r ≡ calls.value_at class call.now.frame call.now.function (rows_of rows.now) ordering position)) }
-{
-    match listing.partitions.member(position) {
-        None => Ok(Ok(Value::Null)),
-        Some(member) => {
-            let partition = Partition {
-                rows,
-                positions: member.positions,
-            };
-            let part = Part {
-                groups: member.groups,
-                keys: member.numbers,
-                desc: listing.desc,
-            };
-            call_value(alloc, call, &partition, &part, member.place)
-        }
     }
 }
 

@@ -1,7 +1,0 @@
-use Rattle.wd_frame.specs.Places.{part_of}
-use Rattle.wd_calls.specs.Parts.{partition_of}
-use Rattle.wd_calls.proofs.RunningTotals.{AreValuesBelow}
-use Rattle.wd_calls.proofs.running.call_values.Given as goal
-
-abbrev pub invariant-loop-place : goal.invariant-loop-place
-invariant-loop-place l = AreValuesBelow l.call.frame l.call.function (partition_of l.partition) (part_of l.part) l.place l.values.items
