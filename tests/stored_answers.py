@@ -4,7 +4,8 @@
     python3 tests/stored_answers.py PROGRAM
 
 Each folder of examples/ has schema.sql, query.sql, a CSV file for each table and answer.csv, which `run` prints, and
-check.txt: what `check` prints, but for the certificate, which may use other facts and which `verify` must accept.
+check.txt: what `check` prints, but for the certificate, which may use other facts and which `verify` must accept. In a folder
+other_order stand the same tables in another order, with the answer over them.
 Where there is explain.txt too, `explain` prints it, where there is certificate.json, `verify`
 accepts it, and where there is witness.json, `refute` does. A folder with refusal.txt has a query that is not read, and the line
 that `check` and `explain` say of it in place of all these. tests/frames has one schema and one table and many queries, each
@@ -31,8 +32,10 @@ def folders(is_refused):
 def examples():
     """The schema, the query, the tables and the answer of each example."""
     for folder in folders(False):
-        tables = sorted(set(glob.glob(f"{folder}/*.csv")) - {f"{folder}/answer.csv"})
-        yield f"{folder}/schema.sql", f"{folder}/query.sql", tables, f"{folder}/answer.csv"
+        for data in (folder, f"{folder}/other_order"):
+            if os.path.isdir(data):
+                tables = sorted(set(glob.glob(f"{data}/*.csv")) - {f"{data}/answer.csv"})
+                yield f"{folder}/schema.sql", f"{folder}/query.sql", tables, f"{data}/answer.csv"
 
 
 def frames():
@@ -110,7 +113,7 @@ def wrong_refusal(program, folder):
 def trials(program):
     """Each file that is tried, with what is wrong with it."""
     for schema, query, tables, answer in [*examples(), *frames()]:
-        yield query, wrong_answer(program, schema, query, tables, answer)
+        yield answer, wrong_answer(program, schema, query, tables, answer)
     for folder in folders(True):
         yield f"{folder}/refusal.txt", wrong_refusal(program, folder)
     for folder in folders(False):

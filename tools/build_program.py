@@ -58,9 +58,9 @@ class Progress:
         self.of = {crate.name: crate.count(FUNCTION) for crate in crates}
         self.printing, self.done = threading.Lock(), 0
 
-    def tell(self, crate, word, said=""):
+    def tell(self, crate, word, is_done=True, said=""):
         with self.printing:
-            self.done += self.of[crate.name]
+            self.done += self.of[crate.name] * is_done
             print(f"{said}{self.done} of {sum(self.of.values())} functions: {crate.name} {word}", file=sys.stderr, flush=True)
 
 
@@ -82,7 +82,7 @@ def prove(crate, given, jobs, made, progress):
         made.note(crate, key)
     elif not status:
         made.kept.is_built(crate)
-    progress.tell(crate, "NOT PROVED" if status else "proved", said)
+    progress.tell(crate, "NOT PROVED" if status else "proved", not status, said)
     return not status
 
 
