@@ -21,7 +21,7 @@ import textwrap
 
 TOP = os.path.dirname(os.path.dirname(os.path.abspath(__file__)))
 # Documents in which at least one command must be shown, so that a changed form of the blocks does not go unnoticed.
-SHOWING = {"README.md", "docs/HEADLINE.md", "docs/REFUSALS.md", "docs/DESIGN.md"}
+SHOWING = {"README.md", "docs/HEADLINE.md", "docs/VERDICTS.md", "docs/REFUSALS.md", "docs/DESIGN.md"}
 
 
 def blocks(text):
