@@ -100,7 +100,7 @@ def main():
                 with open(os.path.join(sys.argv[2], "%d.%s" % (number, name)), "w", encoding="utf-8") as file:
                     file.write(text)
         return
-    program = sys.argv[1] if len(sys.argv) > 1 else os.path.join(TOP, "crates/wdcheck/out/wdcheck")
+    program = verify.program_of(sys.argv[1:])
     with tempfile.TemporaryDirectory() as folder:
         measure_cases(program, folder)
         for title, schema, query in large_texts():

@@ -17,6 +17,8 @@ import sys
 import tempfile
 import time
 
+from verify import program_of
+
 SCHEMA = "CREATE TABLE t (id BIGINT PRIMARY KEY, v BIGINT);\n"
 SIZES = (100_000, 1_000_000)
 FRAME_SIZES = (1_000, 10_000)
@@ -79,8 +81,7 @@ def measure_query(program, folder, title, text, sizes, mixed):
 
 
 def main():
-    top = os.path.dirname(os.path.dirname(os.path.abspath(__file__)))
-    program = sys.argv[1] if len(sys.argv) > 1 else os.path.join(top, "crates/wdcheck/out/wdcheck")
+    program = program_of(sys.argv[1:])
     with tempfile.TemporaryDirectory() as folder:
         for title, text, sizes, mixed in QUERIES:
             measure_query(program, folder, title, text, sizes, mixed)

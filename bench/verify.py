@@ -27,6 +27,14 @@ KEY_COLUMNS, FILTERS, CONJUNCTS = 150, 30, 200
 TURNS = 3
 
 
+def program_of(words):
+    """The program that is to be timed; says so plainly where there is none."""
+    program = words[0] if words else os.path.join(TOP, "crates/wdcheck/out/wdcheck")
+    if not os.access(program, os.X_OK) or os.path.isdir(program):
+        sys.exit("there is no program %s: ./wdcheck builds it, and so does ./test" % program)
+    return program
+
+
 def measure(words, allowed):
     """Seconds and peak memory in MB of one run, which must end with one of these statuses."""
     start = time.monotonic()
@@ -169,7 +177,7 @@ def main():
                 with open(os.path.join(sys.argv[2], "%d.%s" % (number, name)), "w", encoding="utf-8") as file:
                     file.write(text)
         return
-    program = sys.argv[1] if len(sys.argv) > 1 else os.path.join(TOP, "crates/wdcheck/out/wdcheck")
+    program = program_of(sys.argv[1:])
     with tempfile.TemporaryDirectory() as folder:
         measure_cases(program, folder)
         for title, schema, query, certificate in large_texts():

@@ -66,7 +66,7 @@ def main():
         for number, (_, _, _, texts) in enumerate(all_texts()):
             write(sys.argv[2], {"%d.%s" % (number, name): text for name, text in texts.items()})
         return
-    program = sys.argv[1] if len(sys.argv) > 1 else os.path.join(verify.TOP, "crates/wdcheck/out/wdcheck")
+    program = verify.program_of(sys.argv[1:])
     with tempfile.TemporaryDirectory() as folder:
         for title, command, allowed, texts in all_texts():
             seconds, memory = verify.measure([program, command, *write(folder, texts)], allowed)

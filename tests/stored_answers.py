@@ -4,13 +4,14 @@
     python3 tests/stored_answers.py PROGRAM
 
 Each folder of examples/ has schema.sql, query.sql, a CSV file for each table and answer.csv, which `run` prints, and
-check.txt: what `check` prints, but for the certificate, which may use other facts and which `verify` must accept.
+check.txt: what `check` prints, but for the certificate, which may use other facts and which `verify` must accept. In a folder
+other_order stand the same tables in another order, with the answer over them.
 Where there is explain.txt too, `explain` prints it, where there is certificate.json, `verify`
-accepts it, and where there is witness.json, `refute` does. tests/frames has
-one schema and one table and many queries, each beside its answer: each function of a window in each mode of frame with
-each exclusion; those answers are PostgreSQL 15's. Each run must end with the status of its answer, print exactly what is
-stored and nothing on standard error. A missing answer is a failure, and so is a folder without queries. The last line is
-'N passed, M failed'.
+accepts it, and where there is witness.json, `refute` does. A folder with refusal.txt has a query that is not read, and the line
+that `check` and `explain` say of it in place of all these. tests/frames has one schema and one table and many queries, each
+beside its answer: each function of a window in each mode of frame with each exclusion; those answers are PostgreSQL 15's. Each
+run must end with the status of its answer, print exactly what is stored and nothing on standard error. A missing answer is a
+failure, and so is a folder without queries. The last line is 'N passed, M failed'.
 """
 
 import glob
@@ -22,11 +23,19 @@ import tempfile
 TOP = os.path.dirname(os.path.dirname(os.path.abspath(__file__)))
 
 
+def folders(is_refused):
+    """The folders of the examples with a query that is read, or that is refused."""
+    found = (folder.rstrip("/") for folder in sorted(glob.glob(f"{TOP}/examples/*/")))
+    return [folder for folder in found if os.path.exists(f"{folder}/refusal.txt") == is_refused]
+
+
 def examples():
     """The schema, the query, the tables and the answer of each example."""
-    for folder in sorted(glob.glob(f"{TOP}/examples/*")):
-        tables = sorted(set(glob.glob(f"{folder}/*.csv")) - {f"{folder}/answer.csv"})
-        yield f"{folder}/schema.sql", f"{folder}/query.sql", tables, f"{folder}/answer.csv"
+    for folder in folders(False):
+        for data in (folder, f"{folder}/other_order"):
+            if os.path.isdir(data):
+                tables = sorted(set(glob.glob(f"{data}/*.csv")) - {f"{data}/answer.csv"})
+                yield f"{folder}/schema.sql", f"{folder}/query.sql", tables, f"{data}/answer.csv"
 
 
 def frames():
@@ -39,10 +48,10 @@ def frames():
 STATUSES = {"DETERMINISTIC": 0, "DEPENDS": 1, "UNKNOWN": 2}
 
 
-def complaint(words, status, wanted):
+def complaint(words, status, wanted, said=b""):
     """What is wrong with what the program prints for these words, or None."""
     ran = subprocess.run(words, stdin=subprocess.DEVNULL, capture_output=True, timeout=300)
-    if (ran.returncode, ran.stderr) != (status, b""):
+    if (ran.returncode, ran.stderr) != (status, said):
         return f"status {ran.returncode}, standard error {ran.stderr[:300]!r}"
     return None if ran.stdout == wanted else f"{ran.stdout[:300]!r} is not the stored answer {wanted[:300]!r}"
 
@@ -94,11 +103,20 @@ def wrong_witness(program, folder):
     return complaint([program, "refute", f"{folder}/schema.sql", f"{folder}/query.sql", f"{folder}/witness.json"], 1, b"REFUTED\n")
 
 
+def wrong_refusal(program, folder):
+    """What is wrong where the program does not refuse an example as it should, or None."""
+    texts = [f"{folder}/schema.sql", f"{folder}/query.sql"]
+    found = (complaint([program, command, *texts], 3, b"", stored(f"{folder}/refusal.txt")) for command in ("check", "explain"))
+    return next(filter(None, found), None)
+
+
 def trials(program):
     """Each file that is tried, with what is wrong with it."""
     for schema, query, tables, answer in [*examples(), *frames()]:
-        yield query, wrong_answer(program, schema, query, tables, answer)
-    for folder in sorted(glob.glob(f"{TOP}/examples/*")):
+        yield answer, wrong_answer(program, schema, query, tables, answer)
+    for folder in folders(True):
+        yield f"{folder}/refusal.txt", wrong_refusal(program, folder)
+    for folder in folders(False):
         yield f"{folder}/check.txt", wrong_verdict(program, folder)
         if os.path.exists(f"{folder}/explain.txt"):
             yield f"{folder}/explain.txt", wrong_explanation(program, folder)
