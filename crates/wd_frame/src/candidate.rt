@@ -1,6 +1,7 @@
 //! The values of a list that stand first once those before them are gone.
 
-ghost use Rattle.std.specs.Prelude.{◌≡◌, ◌∷◌, ◌++◌, [], drop, false, OnOk};
+ghost use Rattle.std.specs.Prelude.{◌≡◌, ◌<◌, ◌∷◌, ◌++◌, [], drop, false, OnErr, OnOk};
+ghost use Rattle.std.specs.VecDeque.{deque_capacity, deque_len};
 ghost use Rattle.wd_frame.specs.Kept.{AreCandidates, popped, pushed, trimmed};
 ghost use Rattle.wd_frame.specs.Slides.{first_of_two, first_over, seen, shown};
 ghost use Rattle.wd_value.specs.declared.order.SortKey as key;
@@ -30,19 +31,17 @@ impl<'a> Candidates<'a> {
         }
     }
 
-    /// After a refusal the list is empty.
+    /// After a refusal the list is as before.
     pub(crate) fn push(&mut self, value: &'a Value, key: SortKey) -> Result<(), OutOfMemory>
         requires nulls_last { key.nulls_first ≡ false }
         requires were { AreCandidates key self.old }
         ensures are { AreCandidates key self.new }
         ensures pushed { OnOk result (seen self.new.values.items ≡ seen self.old.values.items ++ value.now ∷ []) }
+        ensures kept { OnErr result (seen self.new.values.items ≡ seen self.old.values.items) }
     {
+        self.first.reserve(1)?;
         self.values.push_back(value)?;
-        if let Err(error) = push_candidate(&mut self.first, value, key) {
-            self.values.clear();
-            self.first.clear();
-            return Err(error);
-        }
+        push_candidate(&mut self.first, value, key);
         Ok(())
     }
 
@@ -67,27 +66,24 @@ impl<'a> Candidates<'a> {
     }
 }
 
-/// The candidates with a value that comes at the back of the list.
-fn push_candidate<'a>(
-    candidates: &mut VecDeque<&'a Value>,
-    value: &'a Value,
-    key: SortKey,
-) -> Result<(), OutOfMemory>
-    ensures { OnOk result (seen candidates.new.items ≡ pushed key (seen candidates.old.items) value.now) }
+/// The candidates with a value that comes at the back of the list. There is room for one more.
+fn push_candidate<'a>(candidates: &mut VecDeque<&'a Value>, value: &'a Value, key: SortKey)
+    requires room { deque_len candidates.old < deque_capacity candidates.old }
+    ensures { seen candidates.new.items ≡ pushed key (seen candidates.old.items) value.now }
 {
     match value {
-        Value::Null => Ok(()),
+        Value::Null => {}
         _ => {
             trim(candidates, value, key);
-            candidates.push_back(value)?;
-            Ok(())
+            candidates.push_back_reserved(value);
         }
     }
 }
 
 /// The candidates without those that stand behind a value.
 fn trim(candidates: &mut VecDeque<&Value>, value: &Value, key: SortKey)
-    ensures { seen candidates.new.items ≡ trimmed key (seen candidates.old.items) value.now }
+    ensures trimmed { seen candidates.new.items ≡ trimmed key (seen candidates.old.items) value.now }
+    ensures room { deque_len candidates.old < deque_capacity candidates.old → deque_len candidates.new < deque_capacity candidates.new }
 {
     while let Some(last) = candidates.back() {
         if !compare(last, value, key).is_gt() {

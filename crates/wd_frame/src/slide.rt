@@ -1,6 +1,6 @@
 //! Functions of lists that grow at the back and shrink at the front.
 
-ghost use Rattle.std.specs.Prelude.{◌≡◌, ◌^◌, ◌+◌, ◌-◌, ◌<◌, ◌++◌, ◌∷◌, [], length, drop, OnOk};
+ghost use Rattle.std.specs.Prelude.{◌≡◌, ◌^◌, ◌+◌, ◌-◌, ◌<◌, ◌++◌, ◌∷◌, [], length, drop, OnErr, OnOk};
 ghost use Rattle.wd_frame.specs.Slides.{IsAnswer, IsSmall, Plain, Values, shown};
 
 use crate::answer::Answer;
@@ -13,10 +13,11 @@ pub trait Slide<'a>: Drop {
 
     ghost plain: { Values → Plain };
 
-    /// After a refusal the list is any list.
+    /// After a refusal the list is as before.
     fn push_back(&mut self, value: &'a Value) -> Result<(), OutOfMemory>
         requires { length (values self.old) < 2 ^ 64 - 1 }
-        ensures { OnOk result (values self.new ≡ values self.old ++ value.now ∷ []) };
+        ensures pushed { OnOk result (values self.new ≡ values self.old ++ value.now ∷ []) }
+        ensures kept { OnErr result (values self.new ≡ values self.old) };
 
     fn pop_front(&mut self)
         requires { 0 < length (values self.old) }
