@@ -1,6 +1,7 @@
 -- The headline: if `verify` accepts a certificate for a schema and a query, then for every instance that meets the schema, in any
 -- order of its rows, under all lawful orderings, the query has one multiset of answer rows or one named fault, and every answer of
--- `run` is that one.
+-- `run` is that one. (`verify` and `run` may refuse for want of memory, and `run` where a step has more than 10,000,000 rows: then
+-- there is no answer of theirs to speak of. The outcomes spoken of here have no such limit.)
 use Rattle.std.specs.Prelude.{ℕ, List}
 use Rattle.wd_value.specs.Rows.{Instance}
 use Rattle.wd_schema.specs.Meets.{Meets}
