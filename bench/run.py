@@ -4,9 +4,8 @@
     python3 bench/run.py [PROGRAM]
 
 The keys of the records stand in rising order, as a table is mostly exported, and for the sorted query
-once more in mixed order, where the search for a repeated key has the most to do. The moving frame runs
-over 1,000 and 10,000 records, since the rows of its frames are visited one by one so far. Prints the
-least seconds and the most memory of three runs, and what ten times the records cost.
+once more in mixed order, where the search for a repeated key has the most to do. Prints the least
+seconds and the most memory of three runs, and what ten times the records cost.
 PROGRAM is the built program (default: crates/wdcheck/out/wdcheck, which ./wdcheck builds).
 """
 
@@ -21,7 +20,6 @@ from verify import program_of
 
 SCHEMA = "CREATE TABLE t (id BIGINT PRIMARY KEY, v BIGINT);\n"
 SIZES = (100_000, 1_000_000)
-FRAME_SIZES = (1_000, 10_000)
 # A query's title, its text, the numbers of records, and whether the keys are mixed.
 QUERIES = (
     ("first rows, keys rising", "SELECT id, v FROM t ORDER BY v FETCH FIRST 2 ROWS ONLY", SIZES, False),
@@ -30,7 +28,9 @@ QUERIES = (
     ("RANK by partition", "SELECT id, RANK() OVER (PARTITION BY v % 100 ORDER BY v) AS r FROM t", SIZES, False),
     ("running SUM", "SELECT id, SUM(v) OVER (ORDER BY id ROWS UNBOUNDED PRECEDING) AS s FROM t", SIZES, False),
     ("running SUM to the peers", "SELECT id, SUM(v) OVER (PARTITION BY id % 100 ORDER BY v) AS s FROM t", SIZES, False),
-    ("moving frame", "SELECT id, MAX(v) OVER (ORDER BY id ROWS BETWEEN 50 PRECEDING AND 50 FOLLOWING) AS m FROM t", FRAME_SIZES, False),
+    ("moving frame", "SELECT id, MAX(v) OVER (ORDER BY id ROWS BETWEEN 50 PRECEDING AND 50 FOLLOWING) AS m FROM t", SIZES, False),
+    ("moving frame, peers left out", "SELECT id, SUM(v) OVER (ORDER BY v ROWS BETWEEN 250 PRECEDING AND 250 FOLLOWING EXCLUDE GROUP) AS s FROM t", SIZES, False),
+    ("join by a key", "SELECT a.id, b.v FROM t AS a JOIN t AS b ON a.id = b.id", SIZES, False),
 )
 TURNS = 3
 
