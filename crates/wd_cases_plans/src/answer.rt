@@ -1,12 +1,12 @@
 //! From a line to what is printed after it.
 
 use crate::shown::push;
-use crate::{calls, facts, plans, sorts, steps, values};
+use crate::{calls, facts, plans, slides, sorts, steps, values};
 use std::alloc::Global;
 use wd_cases::{Cases, Failure, text_of};
 use wd_cases_notation::{Line, State};
 use wd_eval::laws::{has_one_tied_outcome, has_tied_choice};
-use wd_frame::laws::places_are_frames;
+use wd_frame::laws::{bounds_are_frames, exclusions_are_stretches, places_are_frames};
 use wd_laws::laws::agreeing_is_an_equivalence;
 use wd_value::laws::compare_is_a_total_order;
 
@@ -61,12 +61,8 @@ fn asked(alloc: Global, state: &State, line: Line, out: &mut String) -> Result<(
             sorts::class_answer(alloc, state, line, out)
         }
         "members" => calls::frame_members(alloc, state, line, out),
-        "call_value" | "call_values" | "is_running" => calls::answer(
-            alloc,
-            state,
-            line.word.name,
-            out,
-        ),
+        "call_values" => calls::answer(alloc, state, out),
+        "slides" => slides::answer(alloc, state, line, out),
         "map_rows" | "join_rows" | "distinct_rows" | "cut_rows" => {
             steps::answer(alloc, state, line, out)
         }
@@ -87,6 +83,8 @@ fn asked(alloc: Global, state: &State, line: Line, out: &mut String) -> Result<(
 fn laws(out: &mut String) -> Result<(), Failure> {
     compare_is_a_total_order();
     places_are_frames();
+    bounds_are_frames();
+    exclusions_are_stretches();
     agreeing_is_an_equivalence();
     has_tied_choice();
     has_one_tied_outcome();

@@ -8,6 +8,7 @@ mod calls;
 mod facts;
 mod plans;
 mod shown;
+mod slides;
 mod sorts;
 mod steps;
 mod values;
