@@ -8,7 +8,8 @@ use Rattle.wd_certificate.specs.Laws.{IsReadBack, SpellsOne}
 use Rattle.wd_certificate.specs.Refusals.{number_of}
 use Rattle.wd_certificate.specs.declared.error.CertError.{CertError}
 use Rattle.wd_resolve.specs.Answers.{Answer}
-use Rattle.wd_resolve.specs.Laws.{HasOnePlan, PlansFit, Reads}
+use Rattle.wd_query.specs.Laws.{HasOnePlan}
+use Rattle.wd_resolve.specs.Laws.{PlansFit, Reads}
 use Rattle.wd_rules.specs.Laws.{ValidHasOne}
 use Rattle.wd_rules.specs.Validity.{first_refusal}
 use Rattle.wd_accept.specs.Acceptance.{RefusesPlan, SpellsValid}

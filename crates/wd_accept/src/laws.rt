@@ -3,7 +3,8 @@
 ghost use Rattle.wd_accept.specs.Laws.{AcceptedHasOne, NotBoth};
 
 use wd_certificate::laws::{is_read_back, spells_one};
-use wd_resolve::laws::{one_plan, plans_fit};
+use wd_query::laws::one_plan;
+use wd_resolve::laws::plans_fit;
 use wd_rules::laws::valid_has_one;
 use wd_schema::laws::one_meaning;
 

@@ -16,7 +16,7 @@ pub fn laws(alloc: Global) -> Result<String, Failure> {
     wd_scope::laws::meanings_are_typed();
     wd_scope::laws::windows_are_typed();
     wd_scope::laws::met_calls_are_shown();
-    wd_resolve::laws::one_plan();
+    wd_query::laws::one_plan();
     wd_resolve::laws::plans_fit();
     Ok(String::from_str(alloc, "hold")?)
 }

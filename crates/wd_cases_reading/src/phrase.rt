@@ -1,14 +1,9 @@
-//! What the calls of wd_phrase give at the front of a text's tokens, and how many tokens are left
+//! What the calls of wd_cursor give at the front of a text's tokens, and how many tokens are left
 //! after it.
 use std::alloc::Global;
-use std::fmt::Debug;
 use wd_cases::Failure;
+use wd_cursor::{Name, Refusal, eat, eat_name, expect, name_at};
 use wd_lex::{Terminal, Token, TokenKind};
-use wd_phrase::{
-    Refusal, direction_at, eat, eat_name, expect, frame_at, limits_at, name_at, nulls_at,
-    operator_at, sign_at,
-};
-use wd_syntax::Name;
 
 fn refused(alloc: Global, refusal: Refusal) -> Result<String, Failure> {
     Ok(match refusal {
@@ -25,12 +20,6 @@ fn none(alloc: Global) -> Result<String, Failure> {
 fn left(alloc: Global, rest: &[Token]) -> Result<String, Failure> {
     let count = rest.len();
     Ok(format!(in alloc; "{count} left")?)
-}
-
-/// What was found, and how many tokens are left after it.
-fn found<T: Debug>(alloc: Global, found: &T, rest: &[Token]) -> Result<String, Failure> {
-    let count = rest.len();
-    Ok(format!(in alloc; "{found:?}, {count} left")?)
 }
 
 /// A name, in double quotes where it is quoted.
@@ -53,22 +42,6 @@ fn first_terminal(tokens: &[Token]) -> Result<(Terminal, &[Token]), Failure> {
                 rest,
             ),
         ) => Ok((*terminal, rest)),
-        _ => Err(Failure::NoCase),
-    }
-}
-
-/// The number that stands first, and the tokens after it.
-fn first_number(tokens: &[Token]) -> Result<(u8, &[Token]), Failure> {
-    match tokens.split_first() {
-        Some(
-            (
-                Token {
-                    kind: TokenKind::Number(number),
-                    ..
-                },
-                rest,
-            ),
-        ) if *number < 256 => Ok((*number as u8, rest)),
         _ => Err(Failure::NoCase),
     }
 }
@@ -104,48 +77,6 @@ pub fn eaten_name(alloc: Global, tokens: &[Token]) -> Result<String, Failure> {
 pub fn name(alloc: Global, tokens: &[Token]) -> Result<String, Failure> {
     match name_at(alloc, tokens) {
         Ok((name, rest)) => named(alloc, &name, rest),
-        Err(refusal) => refused(alloc, refusal),
-    }
-}
-
-/// `operator_at HEIGHT TEXT`
-pub fn operator(alloc: Global, tokens: &[Token]) -> Result<String, Failure> {
-    let (height, tokens) = first_number(tokens)?;
-    match operator_at(tokens, height) {
-        Some((operator, rest)) => found(alloc, &operator, rest),
-        None => none(alloc),
-    }
-}
-
-/// `sign_at TEXT`
-pub fn sign(alloc: Global, tokens: &[Token]) -> Result<String, Failure> {
-    match sign_at(tokens) {
-        Some((sign, rest)) => found(alloc, &sign, rest),
-        None => none(alloc),
-    }
-}
-
-/// `order_at TEXT`: a direction and a place of NULLs.
-pub fn order(alloc: Global, tokens: &[Token]) -> Result<String, Failure> {
-    let (direction, rest) = direction_at(tokens);
-    match nulls_at(rest) {
-        Ok((nulls, rest)) => found(alloc, &(direction, nulls), rest),
-        Err(refusal) => refused(alloc, refusal),
-    }
-}
-
-/// `frame_at TEXT`
-pub fn frame(alloc: Global, tokens: &[Token]) -> Result<String, Failure> {
-    match frame_at(tokens) {
-        Ok((frame, rest)) => found(alloc, &frame, rest),
-        Err(refusal) => refused(alloc, refusal),
-    }
-}
-
-/// `limits_at TEXT`
-pub fn limits(alloc: Global, tokens: &[Token]) -> Result<String, Failure> {
-    match limits_at(tokens) {
-        Ok((limits, rest)) => found(alloc, &limits, rest),
         Err(refusal) => refused(alloc, refusal),
     }
 }

@@ -31,7 +31,7 @@ pub fn laws(alloc: Global) -> Result<String, Failure> {
     wd_lex::laws::has_answer();
     wd_lex::laws::longest_front();
     wd_lex::laws::comments_come_first();
-    wd_syntax::laws::one_tree();
+    wd_parse::laws::one_tree();
     wd_statements::laws::one_tree();
     wd_statements::laws::one_place();
     wd_schema::laws::one_meaning();

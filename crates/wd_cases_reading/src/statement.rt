@@ -25,11 +25,9 @@ fn key_words(words: KeyWords) -> &'static str {
 
 /// A name, in double quotes where it is quoted.
 fn push_name(out: &mut String, name: &Name) -> Result<(), AllocError> {
-    let text = name.text().as_str();
-    match name {
-        Name::Unquoted(_) => out.push_str(text),
-        Name::Quoted(_) => write!(out, "\"{text}\""),
-    }
+    let text = name.text.as_str();
+    let quote = if name.quoted { "\"" } else { "" };
+    write!(out, "{quote}{text}{quote}")
 }
 
 fn push_constraint(out: &mut String, constraint: &Option<Name>) -> Result<(), AllocError> {

@@ -1,7 +1,7 @@
 use std::alloc::{AllocError, Global};
 use wd_cases::Failure;
 use wd_lex::Token;
-use wd_parse::{Alias, Expr, Item, Link, Literal, Quantifier, Query, parse};
+use wd_parse::{Alias, Expr, Item, Link, Literal, Quantifier, Query, Window, parse};
 
 /// `query TEXT`: whether it is read, or why not.
 pub fn query(alloc: Global, tokens: &[Token]) -> Result<String, Failure> {
@@ -95,4 +95,31 @@ fn push_tests(out: &mut String, nots: &[bool]) -> Result<(), AllocError> {
         out.push_str(if *not { " IS NOT NULL" } else { " IS NULL" })?;
     }
     Ok(())
+}
+
+/// `window QUERY`: the directions and places of NULLs of its first named window, and the frame.
+pub fn window(alloc: Global, tokens: &[Token]) -> Result<String, Failure> {
+    let query = parse(alloc, tokens)?;
+    let Some(named) = query.select.windows.first() else {
+        return Err(Failure::NoCase);
+    };
+    window_shown(alloc, &named.window)
+}
+
+fn window_shown(alloc: Global, window: &Window) -> Result<String, Failure> {
+    let mut out = String::new(alloc);
+    for key in &window.order {
+        let (direction, nulls) = (key.direction, key.nulls);
+        write!(out, "{direction:?} {nulls:?} ")?;
+    }
+    let frame = window.frame;
+    write!(out, "{frame:?}")?;
+    Ok(out)
+}
+
+/// `limits QUERY`: its offset and count.
+pub fn limits(alloc: Global, tokens: &[Token]) -> Result<String, Failure> {
+    let query = parse(alloc, tokens)?;
+    let limits = query.select.limits;
+    Ok(format!(in alloc; "{limits:?}")?)
 }

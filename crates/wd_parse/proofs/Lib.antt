@@ -1,2 +1,13 @@
+pub mod TerminalFacts
+pub mod Pieces
+pub mod Complete
+pub mod CompleteQuery
+pub mod SoundPieces
+pub mod Sound
+pub mod SoundQuery
+pub mod Unique
+pub mod CutPieces
+pub mod Cut
+pub mod CutQuery
 pub mod Loops
 pub mod Whole

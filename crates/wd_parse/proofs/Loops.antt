@@ -1,22 +1,23 @@
--- Steps of the code's loops, and rows of the code's trees.
-use Rattle.std.proofs.Common.{◌≡◌, ◌≢◌, ℕ, zero, suc, ◌+◌, ◌-◌, ◌<◌, ◌≤◌, List, [], ◌∷◌, ◌++◌, length, map, Option, Some, None, Ok, Err, refl, sym, ap, subst, ◌∙◌, arith}
-use Rattle.std.proofs.Common.{Bool, true, false}
+-- Steps of the code's loops.
+use Rattle.std.proofs.Common.{◌≡◌, ◌≢◌, ℕ, zero, suc, ◌+◌, ◌-◌, ◌<◌, ◌≤◌, List, [], ◌∷◌, ◌++◌, length, map, Some, Ok, Err, refl, sym, ap, ◌∙◌, arith}
+use Rattle.std.proofs.Common.{Bool}
+use Rattle.std.proofs.lemmas.List.{map_push}
 use Rattle.wd_lex.specs.Lexed.{kinds_of}
 use Rattle.wd_lex.specs.declared.token.Token.{Token}
-use Rattle.wd_lex.specs.declared.token.Terminal.{Terminal}
 use Rattle.wd_lex.specs.declared.token.Terminal.TheVariants as m
 use Rattle.wd_syntax.specs.declared.expression.Operator.{Operator}
 use Rattle.wd_syntax.specs.declared.expression.Link.{Link}
 use Rattle.wd_syntax.specs.View.{view, view_link, chained, tested}
-use Rattle.wd_syntax.specs.Tokens.{Kinds}
-use Rattle.wd_syntax.specs.Tree.{Tree, Binary, IsNull, JoinTree}
-use Rattle.wd_syntax.specs.Reading.{◌>>=◌, Unexpected, Limit, Reads, Parser, Chance, choose, eat, operator_at, null_at, tests, links, many, after, read, Inner, join_at, begins_join, inside_of, selects, select_at}
-use Rattle.wd_syntax.proofs.Complete.{after_none, operand_first}
-use Rattle.wd_syntax.proofs.CompleteQuery.{selects_are}
-use Rattle.wd_phrase.specs.declared.refusal.Refusal.{Refusal}
-use Rattle.wd_phrase.specs.declared.refusal.Refusal.TheVariants as r
-use Rattle.wd_phrase.specs.Given.{Fails, MayFail}
-use Rattle.wd_parse.specs.Given.{IsLoopHeight, with_front}
+use Rattle.wd_cursor.specs.Tokens.{Kinds}
+use Rattle.wd_syntax.specs.Tree.{Tree, Binary, IsNull}
+use Rattle.wd_cursor.specs.Cursor.{◌>>=◌, Unexpected, Limit, Reads, Parser, eat}
+use Rattle.wd_parse.specs.Reading.{operator_at, null_at, tests, links, read, inside_of, selects, select_at}
+use Rattle.wd_parse.proofs.Complete.{operand_first}
+use Rattle.wd_parse.proofs.CompleteQuery.{selects_are}
+use Rattle.wd_cursor.specs.declared.refusal.Refusal.{Refusal}
+use Rattle.wd_cursor.specs.declared.refusal.Refusal.TheVariants as r
+use Rattle.wd_cursor.specs.Given.{Fails}
+use Rattle.wd_parse.specs.Given.{IsLoopHeight}
 
 -- tokens and what they say are as many
 pub length_kinds : (tokens : List Token) → length (kinds_of tokens) ≡ length tokens
@@ -35,10 +36,6 @@ pub read_chain : (h d : ℕ) (ts : Kinds) → IsLoopHeight h → read 200 d h ts
 read_chain zero d ts h = absurd (omega arith)
 read_chain (suc g) d ts h = let e : suc g - 1 ≡ g = omega arith in rw e (read_suc g d ts (omega arith) (omega arith) (omega arith) (omega arith) (omega arith))
 
-map_end : {X A : Type 0} (view : X → A) (xs : List X) (x : X) → map view (xs ++ x ∷ []) ≡ map view xs ++ view x ∷ []
-map_end view [] x = refl
-map_end {X} {A} view (y ∷ xs) x = ap (λ (z : List A). view y ∷ z) (map_end view xs x)
-
 -- ---- a chain
 
 pub chained_end : (a : Tree) (xs : List (Operator × Tree)) (x : Operator × Tree) → chained a (xs ++ x ∷ []) ≡ Binary x.0 (chained a xs) x.1
@@ -55,7 +52,7 @@ links_more p h i a xs x ts behind rest total lt eo ep so_far =
     let k : 200 - i ≡ suc (200 - (i + 1)) = omega arith in
     let tree = chained a (map view_link xs) in
     let one : links p h (200 - i) tree ts ≡ links p h (200 - (i + 1)) (Binary x.operator tree (view x.operand)) rest = rw (k, eo, ep) refl in
-    let grown : chained a (map view_link (xs ++ x ∷ [])) ≡ Binary x.operator tree (view x.operand) = ap (chained a) (map_end view_link xs x) ∙ chained_end a (map view_link xs) (view_link x) in
+    let grown : chained a (map view_link (xs ++ x ∷ [])) ≡ Binary x.operator tree (view x.operand) = ap (chained a) (map_push view_link xs x) ∙ chained_end a (map view_link xs) (view_link x) in
     ap (λ z. links p h (200 - (i + 1)) z rest) grown ∙ sym one ∙ so_far
 
 pub links_fail : (e : Refusal) (p : Parser Tree) (h i : ℕ) (a : Tree) (ts : Kinds) (o : Operator) (behind : Kinds) (total : Reads Tree) → i < 200 → operator_at h ts ≡ Some (o, behind) → Fails e (p behind) → links p h (200 - i) a ts ≡ total → Fails e total
@@ -63,7 +60,7 @@ unfolding links
 links_fail r.OutOfMemory p h i a ts o behind total lt eo ep so_far = tt
 links_fail (r.Unexpected left) p h i a ts o behind total lt eo ep so_far =
     let k : 200 - i ≡ suc (200 - (i + 1)) = omega arith in
-    let one : links p h (200 - i) a ts ≡ Err Unexpected = rw (k, eo, ep) refl in
+    let one : links p h (200 - i) a ts ≡ Err (Unexpected left) = rw (k, eo, ep) refl in
     sym so_far ∙ one
 links_fail (r.PastLimit left) p h i a ts o behind total lt eo ep so_far =
     let k : 200 - i ≡ suc (200 - (i + 1)) = omega arith in
@@ -91,7 +88,7 @@ unfolding tests
 tests_fail r.OutOfMemory i a ts behind total lt eo ep so_far = tt
 tests_fail (r.Unexpected left) i a ts behind total lt eo ep so_far =
     let k : 200 - i ≡ suc (200 - (i + 1)) = omega arith in
-    let one : tests (200 - i) a ts ≡ Err Unexpected = rw (k, eo, ep) refl in
+    let one : tests (200 - i) a ts ≡ Err (Unexpected left) = rw (k, eo, ep) refl in
     sym so_far ∙ one
 tests_fail (r.PastLimit left) i a ts behind total lt eo ep so_far =
     let k : 200 - i ≡ suc (200 - (i + 1)) = omega arith in
@@ -105,99 +102,7 @@ tests_full i a ts behind n total en le eo so_far =
     let one : tests (200 - i) a ts ≡ Err (Limit n) = rw (k, eo, en) refl in
     sym so_far ∙ one
 
--- ---- lists
-
-append_none : {A : Type 0} (xs : List A) → xs ++ [] ≡ xs
-append_none [] = refl
-append_none {A} (x ∷ xs) = ap (λ (z : List A). x ∷ z) (append_none xs)
-
-append_one : {A : Type 0} (xs ys : List A) (a : A) → xs ++ (a ∷ ys) ≡ (xs ++ a ∷ []) ++ ys
-append_one [] ys a = refl
-append_one {A} (x ∷ xs) ys a = ap (λ (z : List A). x ∷ z) (append_one xs ys a)
-
-regroup : {A : Type 0} (front : List A) (a : A) (r : Reads (List A)) → with_front front (r >>= λ x. Ok (a ∷ x.0, x.1)) ≡ with_front (front ++ a ∷ []) r
-regroup {A} front a (Ok x) = ap (λ (z : List A). let w : Reads (List A) = Ok (z, x.1) in w) (append_one front x.0 a)
-regroup front a (Err f) = refl
-
-pub after_some : {A : Type 0} (x : Terminal) (item : Parser A) (ts behind : Kinds) → eat x ts ≡ Some behind → after x item ts ≡ Some (item behind)
-unfolding after
-after_some x item ts behind e = rw e refl
-
-pub many_more : {X A : Type 0} (view : X → A) (item : Chance A) (n i : ℕ) (xs : List X) (x : X) (ts rest : Kinds) (total : Reads (List A)) → i < n → item ts ≡ Some (Ok (view x, rest)) → with_front (map view xs) (many item (n - i) ts) ≡ total → with_front (map view (xs ++ x ∷ [])) (many item (n - (i + 1)) rest) ≡ total
-unfolding many
-many_more view item n i xs x ts rest total lt e so_far =
-    let k : n - i ≡ suc (n - (i + 1)) = omega arith in
-    let one : with_front (map view xs) (many item (n - i) ts) ≡ with_front (map view xs ++ view x ∷ []) (many item (n - (i + 1)) rest) = rw (k, e) (regroup (map view xs) (view x) (many item (n - (i + 1)) rest)) in
-    rw (map_end view xs x) (sym one ∙ so_far)
-
-pub many_fail : {A : Type 0} (e : Refusal) (item : Chance A) (n i : ℕ) (front : List A) (ts : Kinds) (read : Reads A) (total : Reads (List A)) → i < n → item ts ≡ Some read → Fails e read → with_front front (many item (n - i) ts) ≡ total → Fails e total
-unfolding many
-many_fail r.OutOfMemory item n i front ts read total lt e h so_far = tt
-many_fail {A} (r.Unexpected left) item n i front ts read total lt e h so_far =
-    let k : n - i ≡ suc (n - (i + 1)) = omega arith in
-    let one : with_front front (many item (n - i) ts) ≡ Err Unexpected = rw (k, e, h) refl in
-    sym so_far ∙ one
-many_fail {A} (r.PastLimit left) item n i front ts read total lt e h so_far =
-    let k : n - i ≡ suc (n - (i + 1)) = omega arith in
-    let one : with_front front (many item (n - i) ts) ≡ Err (Limit left) = rw (k, e, h) refl in
-    sym so_far ∙ one
-
-pub many_end : {A : Type 0} (item : Chance A) (n : ℕ) (front : List A) (ts : Kinds) (total : Reads (List A)) → item ts ≡ None → with_front front (many item n ts) ≡ total → total ≡ Ok (front, ts)
-unfolding many
-many_end {A} item zero front ts total e so_far =
-    let one : with_front front (many item 0 ts) ≡ Ok (front, ts) = rw e (ap (λ (z : List A). let w : Reads (List A) = Ok (z, ts) in w) (append_none front)) in
-    sym so_far ∙ one
-many_end {A} item (suc n) front ts total e so_far =
-    let one : with_front front (many item (suc n) ts) ≡ Ok (front, ts) = rw e (ap (λ (z : List A). let w : Reads (List A) = Ok (z, ts) in w) (append_none front)) in
-    sym so_far ∙ one
-
-pub many_full : {A : Type 0} (item : Chance A) (n i : ℕ) (front : List A) (ts : Kinds) (read : Reads A) (total : Reads (List A)) → n ≤ i → item ts ≡ Some read → with_front front (many item (n - i) ts) ≡ total → total ≡ Err Unexpected
-unfolding many
-many_full item n i front ts read total le e so_far =
-    let k : n - i ≡ 0 = omega arith in
-    let one : with_front front (many item (n - i) ts) ≡ Err Unexpected = rw (k, e) refl in
-    sym so_far ∙ one
-
--- ---- lists with a terminal between their items
-
-pub list_more : {X A : Type 0} (view : X → A) (x : Terminal) (item : Parser A) (n i : ℕ) (xs : List X) (one : X) (ts behind rest : Kinds) (total : Reads (List A)) → i < n → eat x ts ≡ Some behind → item behind ≡ Ok (view one, rest) → with_front (map view xs) (many (after x item) (n - i) ts) ≡ total → with_front (map view (xs ++ one ∷ [])) (many (after x item) (n - (i + 1)) rest) ≡ total
-list_more {X} {A} view x item n i xs one ts behind rest total lt e h so_far =
-    many_more view (after x item) n i xs one ts rest total lt (after_some x item ts behind e ∙ ap (λ (z : Reads A). Some z) h) so_far
-
-pub list_fail : {A : Type 0} (e : Refusal) (x : Terminal) (item : Parser A) (n i : ℕ) (front : List A) (ts behind : Kinds) (total : Reads (List A)) → i < n → eat x ts ≡ Some behind → Fails e (item behind) → with_front front (many (after x item) (n - i) ts) ≡ total → Fails e total
-list_fail e x item n i front ts behind total lt h f so_far = many_fail e (after x item) n i front ts (item behind) total lt (after_some x item ts behind h) f so_far
-
-pub list_end : {A : Type 0} (x : Terminal) (item : Parser A) (n : ℕ) (front : List A) (ts : Kinds) (total : Reads (List A)) → eat x ts ≡ None → with_front front (many (after x item) n ts) ≡ total → total ≡ Ok (front, ts)
-list_end x item n front ts total e so_far = many_end (after x item) n front ts total (after_none x item ts e) so_far
-
-pub list_full : {A : Type 0} (x : Terminal) (item : Parser A) (n i : ℕ) (front : List A) (ts behind : Kinds) (total : Reads (List A)) → n ≤ i → eat x ts ≡ Some behind → with_front front (many (after x item) (n - i) ts) ≡ total → total ≡ Err Unexpected
-list_full x item n i front ts behind total le e so_far = many_full (after x item) n i front ts (item behind) total le (after_some x item ts behind e) so_far
-
 -- ---- joins
 
 pub selects_at : (d : ℕ) (ts : Kinds) → selects 200 d ts ≡ select_at 200 d (inside_of 200 d) ts
 selects_at d ts = selects_are 200 d ts
-
--- whether a join begins
-abbrev pub Begins : Bool → Option (Reads JoinTree) → Type 0
-Begins true chance = (read : Reads JoinTree) × (chance ≡ Some read)
-Begins false chance = chance ≡ None
-
-begins_by : (o : Option Kinds) (f : Kinds → Reads JoinTree) (b : Bool) (chance : Option (Reads JoinTree)) → Begins b chance → Begins (choose o (λ r. true) b) (choose o (λ r. Some (f r)) chance)
-begins_by None f b chance h = h
-begins_by (Some r) f b chance h = (f r, refl)
-
-pub join_begins : (deeper : Inner) (item : Parser Tree) (ts : Kinds) → Begins (begins_join ts) (join_at deeper item ts)
-unfolding begins_join join_at
-join_begins deeper item ts = begins_by (eat m.Comma ts) _ _ _ (begins_by (eat m.Cross ts) _ _ _ (begins_by (eat m.Inner ts) _ _ _ (begins_by (eat m.Join ts) _ _ _ refl)))
-
-pub join_there : (deeper : Inner) (item : Parser Tree) (ts : Kinds) → begins_join ts ≡ true → (read : Reads JoinTree) × (join_at deeper item ts ≡ Some read)
-join_there deeper item ts e = subst (λ b. Begins b (join_at deeper item ts)) e (join_begins deeper item ts)
-
-pub join_absent : (deeper : Inner) (item : Parser Tree) (ts : Kinds) → begins_join ts ≡ false → join_at deeper item ts ≡ None
-join_absent deeper item ts e = subst (λ b. Begins b (join_at deeper item ts)) e (join_begins deeper item ts)
-
-pub may_fail : {A : Type 0} (e : Refusal) (item : Chance A) (n i : ℕ) (front : List A) (ts : Kinds) (total : Reads (List A)) → i < n → MayFail e (item ts) → with_front front (many item (n - i) ts) ≡ total → Fails e total
-may_fail r.OutOfMemory item n i front ts total lt h so_far = tt
-may_fail (r.Unexpected left) item n i front ts total lt h so_far = many_fail (r.Unexpected left) item n i front ts (Err Unexpected) total lt h refl so_far
-may_fail (r.PastLimit left) item n i front ts total lt h so_far = many_fail (r.PastLimit left) item n i front ts (Err (Limit left)) total lt h refl so_far

@@ -2,21 +2,23 @@
 use Rattle.std.proofs.Common.{◌≡◌, ℕ, suc, ◌+◌, ◌-◌, length, length-append, ◌∷◌, Result, Ok, Err, ap, subst, ◌∙◌, arith}
 use Rattle.std.specs.Prelude.{IfOk, IfErr}
 use Rattle.wd_syntax.specs.declared.query.Query.{Query}
-use Rattle.wd_syntax.specs.Tokens.{Kinds}
+use Rattle.wd_cursor.specs.Tokens.{Kinds}
 use Rattle.wd_syntax.specs.Tree.{QueryTree}
 use Rattle.wd_syntax.specs.View.{view_query}
 use Rattle.wd_syntax.specs.Limits.{KeepsLimits}
 use Rattle.wd_syntax.specs.Laws.{IsTreeOf}
 use Rattle.wd_syntax.specs.Passing.{PassesLimitAt}
-use Rattle.wd_syntax.proofs.CutPieces.{CutBy}
-use Rattle.wd_syntax.proofs.CutQuery.{Passed, whole_cuts}
-use Rattle.wd_syntax.specs.Reading.{Fault, whole, Limit as PastLimits, Unexpected as NoTree}
-use Rattle.wd_syntax.proofs.SoundPieces.{Holds}
-use Rattle.wd_syntax.proofs.SoundQuery.{IsQuery, whole_holds}
-use Rattle.wd_syntax.proofs.CompleteQuery.{Answers as Reads, whole_answers}
+use Rattle.wd_parse.proofs.CutPieces.{CutBy}
+use Rattle.wd_parse.proofs.CutQuery.{Passed, whole_cuts}
+use Rattle.wd_cursor.specs.Cursor.{Fault, Limit as PastLimits, Unexpected as NoTree}
+use Rattle.wd_parse.specs.Reading.{whole}
+use Rattle.wd_parse.proofs.SoundPieces.{Holds}
+use Rattle.wd_parse.proofs.SoundQuery.{IsQuery, whole_holds}
+use Rattle.wd_parse.proofs.CompleteQuery.{Answers as Reads, whole_answers}
 use Rattle.wd_parse.specs.declared.error.ParseError.{ParseError}
 use Rattle.wd_parse.specs.declared.error.ParseError.TheVariants.{Unexpected, PastLimit, OutOfMemory}
-use Rattle.wd_parse.specs.Causes.{Answers, HasCause, GivesTree, IsPastLimit}
+use Rattle.wd_parse.specs.Causes.{HasCause, GivesTree, IsPastLimit}
+use Rattle.wd_parse.specs.Given.{Answers}
 
 -- what is read is a query of the tokens
 read_is : (ts : Kinds) (q : QueryTree) → whole 200 32 ts ≡ Ok q → IsQuery 200 32 ts q
@@ -42,13 +44,13 @@ passed_at ts place left e p =
 
 pub cause_is : (ts : Kinds) (r : Result Query ParseError) → Answers r ts → IfErr r (λ refusal. HasCause refusal ts)
 cause_is ts (Ok query) a = tt
-cause_is ts (Err (Unexpected place)) a = λ tree t. tree_reads ts tree t (Err NoTree) a
+cause_is ts (Err (Unexpected place)) a = λ tree t. tree_reads ts tree t (Err (NoTree a.0)) a.1
 cause_is ts (Err (PastLimit place)) a = (passed_at ts place a.0 a.2 (subst (CutBy (Passed 200 32 ts)) a.1 (whole_cuts 200 32 ts (omega arith))), λ tree t. tree_reads ts tree t (Err (PastLimits a.0)) a.1)
 cause_is ts (Err OutOfMemory) a = tt
 
 pub tree_given : (ts : Kinds) (r : Result Query ParseError) → Answers r ts → (tree : QueryTree) → IsTreeOf ts tree → KeepsLimits tree → GivesTree tree r
 tree_given ts (Ok query) a tree t k = tree_reads ts tree t (Ok (view_query query)) a
-tree_given ts (Err (Unexpected place)) a tree t k = tree_reads ts tree t (Err NoTree) a
+tree_given ts (Err (Unexpected place)) a tree t k = tree_reads ts tree t (Err (NoTree a.0)) a.1
 tree_given ts (Err (PastLimit place)) a tree t k = tree_reads ts tree t (Err (PastLimits a.0)) a.1 k
 tree_given ts (Err OutOfMemory) a tree t k = tt
 
@@ -56,6 +58,6 @@ pub past_limit : (ts : Kinds) (r : Result Query ParseError) → Answers r ts →
 past_limit ts (Ok query) a tree t k =
     let same : view_query query ≡ tree = tree_reads ts tree t (Ok (view_query query)) a in
     k (subst KeepsLimits same (read_is ts (view_query query) a).2)
-past_limit ts (Err (Unexpected place)) a tree t k = tree_reads ts tree t (Err NoTree) a
+past_limit ts (Err (Unexpected place)) a tree t k = tree_reads ts tree t (Err (NoTree a.0)) a.1
 past_limit ts (Err (PastLimit place)) a tree t k = tt
 past_limit ts (Err OutOfMemory) a tree t k = tt

@@ -1,13 +1,12 @@
 -- Refusals: their numbers and places, and what stands in the tokens where they are answered.
-use Rattle.std.specs.Prelude.{◌≡◌, ◌-◌, ℕ, length, Option, Some, None, Result, Ok, Err}
+use Rattle.std.specs.Prelude.{◌≡◌, ℕ, Option, Some, None, Result, Ok, Err}
 use Rattle.wd_syntax.specs.declared.query.Query.{Query}
-use Rattle.wd_syntax.specs.Tokens.{Kinds}
+use Rattle.wd_cursor.specs.Tokens.{Kinds}
 use Rattle.wd_syntax.specs.Tree.{QueryTree}
 use Rattle.wd_syntax.specs.View.{view_query}
 use Rattle.wd_syntax.specs.Limits.{KeepsLimits}
 use Rattle.wd_syntax.specs.Laws.{IsTreeOf}
 use Rattle.wd_syntax.specs.Passing.{PassesLimitAt}
-use Rattle.wd_syntax.specs.Reading.{whole, Limit as PastLimits, Unexpected as NoTree}
 use Rattle.wd_parse.specs.declared.error.ParseError.{ParseError}
 use Rattle.wd_parse.specs.declared.error.ParseError.TheVariants.{Unexpected, PastLimit, OutOfMemory}
 
@@ -40,10 +39,3 @@ IsPastLimit (Ok query) = ⊥
 IsPastLimit (Err (Unexpected place)) = ⊥
 IsPastLimit (Err (PastLimit place)) = Unit {0}
 IsPastLimit (Err OutOfMemory) = Unit {0}
-
--- The answer is that of the reading of the tokens, or memory ran out.
-abbrev pub Answers : Result Query ParseError → Kinds → Type 0
-Answers (Ok query) ts = whole 200 32 ts ≡ Ok (view_query query)
-Answers (Err (Unexpected place)) ts = whole 200 32 ts ≡ Err NoTree
-Answers (Err (PastLimit place)) ts = (left : ℕ) × (whole 200 32 ts ≡ Err (PastLimits left)) × (place ≡ length ts - left)
-Answers (Err OutOfMemory) ts = Unit {0}

@@ -1,13 +1,19 @@
--- Levels, and what the code's values show.
-use Rattle.std.specs.Prelude.{◌≡◌, ◌≢◌, ◌<◌, ◌≤◌, ◌++◌, ℕ, List, map, Option, Some, None, Result, Ok, Err}
+-- Levels, what the code's values show, and what it answers.
+use Rattle.std.specs.Prelude.{◌≡◌, ◌≢◌, ◌<◌, ◌≤◌, ◌-◌, ℕ, List, length, map, Option, Some, None, Result, Ok, Err}
 use Rattle.std.proofs.Common.{Vec, Global}
 use Rattle.wd_syntax.specs.declared.expression.Expr.{Expr}
 use Rattle.wd_syntax.specs.declared.query.From.{From}
 use Rattle.wd_syntax.specs.Tree.{Tree, TableTree, JoinTree}
 use Rattle.wd_syntax.specs.View.{view, view_table, view_joined}
-use Rattle.wd_syntax.specs.Reading.{◌>>=◌, Reads, read, deeper_of, inside_of, selects}
-use Rattle.wd_phrase.specs.declared.refusal.Refusal.{Refusal}
-use Rattle.wd_phrase.specs.declared.refusal.Refusal.TheVariants as r
+use Rattle.wd_cursor.specs.Cursor.{Limit as PastLimits, Unexpected as NoTree}
+use Rattle.wd_cursor.specs.Tokens.{Kinds}
+use Rattle.wd_syntax.specs.declared.query.Query.{Query}
+use Rattle.wd_syntax.specs.View.{view_query}
+use Rattle.wd_parse.specs.Reading.{read, deeper_of, inside_of, selects, whole}
+use Rattle.wd_parse.specs.declared.error.ParseError.{ParseError}
+use Rattle.wd_parse.specs.declared.error.ParseError.TheVariants.{Unexpected, PastLimit, OutOfMemory}
+use Rattle.wd_cursor.specs.declared.refusal.Refusal.{Refusal}
+use Rattle.wd_cursor.specs.declared.refusal.Refusal.TheVariants as r
 
 -- One level fewer, if one is left.
 abbrev pub MakesDeeper : Result ℕ Refusal → ℕ → ℕ → Type 0
@@ -25,10 +31,13 @@ abbrev pub view_arguments : Option (Vec Expr Global) → Option (List Tree)
 view_arguments None = None
 view_arguments (Some arguments) = Some (map view arguments.items)
 
--- what was read before, and what is still read
-abbrev pub with_front : {A : Type 0} → List A → Reads (List A) → Reads (List A)
-with_front front read = read >>= λ x. Ok (front ++ x.0, x.1)
-
 -- what follows FROM
 abbrev pub view_from : From → TableTree × List JoinTree
 view_from from = (view_table from.first, map view_joined from.joined.items)
+
+-- The answer is that of the reading of the tokens, or memory ran out.
+abbrev pub Answers : Result Query ParseError → Kinds → Type 0
+Answers (Ok query) ts = whole 200 32 ts ≡ Ok (view_query query)
+Answers (Err (Unexpected place)) ts = (left : ℕ) × (whole 200 32 ts ≡ Err (NoTree left)) × (place ≡ length ts - left)
+Answers (Err (PastLimit place)) ts = (left : ℕ) × (whole 200 32 ts ≡ Err (PastLimits left)) × (place ≡ length ts - left)
+Answers (Err OutOfMemory) ts = Unit {0}

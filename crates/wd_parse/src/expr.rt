@@ -8,15 +8,16 @@ ghost use Rattle.wd_lex.specs.Lexed.{kinds_of};
 ghost use Rattle.wd_lex.specs.declared.token.Terminal.TheVariants as m;
 ghost use Rattle.wd_syntax.specs.Tree.{Tree, trees_of, arms_of, keys_of, window};
 ghost use Rattle.wd_syntax.specs.View.{view, view_link, chained, tested, view_arm, view_key, view_window, view_over_option, view_else_option};
-ghost use Rattle.wd_syntax.specs.Reading.{read, levels, deeper_of, links, compared, tests, null_at, primary, primary_by_terminal, named_at, bracket_at, call_of, call_at, arguments_at, over_at, list_at, case_at, arm_at, else_at, key_at, partition_at, order_at, base_at, window_at};
-ghost use Rattle.wd_phrase.specs.Given.{Gives, MayRead};
+ghost use Rattle.wd_parse.specs.Reading.{read, levels, deeper_of, links, compared, tests, null_at, primary, primary_by_terminal, named_at, bracket_at, call_of, call_at, arguments_at, over_at, case_at, arm_at, else_at, key_at, partition_at, order_at, base_at, window_at};
+ghost use Rattle.wd_cursor.specs.Cursor.{list_at};
+ghost use Rattle.wd_cursor.specs.Given.{Gives, MayRead};
 ghost use Rattle.wd_parse.specs.Given.{MakesDeeper, IsLoopHeight, view_arguments};
 
+use crate::frame::{direction_at, frame_at, nulls_at};
+use crate::operator::{operator_at, sign_at};
 use std::alloc::Global;
+use wd_cursor::{Refusal, eat, eat_name, expect, name_at};
 use wd_lex::{Terminal, Token, TokenKind};
-use wd_phrase::{
-    Refusal, direction_at, eat, eat_name, expect, frame_at, name_at, nulls_at, operator_at, sign_at,
-};
 use wd_syntax::{Arm, Expr, Frame, Link, Literal, Name, Over, SortKey, Window};
 
 /// The most operators of one chain.
@@ -26,7 +27,7 @@ const MAX_OPERATORS: u32 = 200;
 pub const WHOLE: u8 = 8;
 
 /// One level fewer, if one is left for the first of the `left` last tokens to open.
-#[tactic(auto, unfolding(wd_syntax::specs::Reading::deeper_of))]
+#[tactic(auto, unfolding(crate::specs::Reading::deeper_of))]
 pub fn deeper(depth: u8, left: usize) -> Result<u8, Refusal>
     ensures { MakesDeeper result depth left }
 {
@@ -37,7 +38,7 @@ pub fn deeper(depth: u8, left: usize) -> Result<u8, Refusal>
 }
 
 /// An expression no looser than the height.
-#[tactic(auto, unfolding(wd_syntax::specs::Reading::levels), using(crate::proofs::Loops::read_chain))]
+#[tactic(auto, unfolding(crate::specs::Reading::levels), using(crate::proofs::Loops::read_chain))]
 #[cycle(expr)]
 pub fn at(
     alloc: Global,
@@ -92,7 +93,7 @@ fn chain_of(alloc: Global, first: Box<Expr>, links: Vec<Link>) -> Result<Box<Exp
 }
 
 /// What follows the first operand of a chain.
-#[tactic(auto, unfolding(wd_syntax::specs::Reading::links))]
+#[tactic(auto, unfolding(crate::specs::Reading::links))]
 #[cycle(expr)]
 fn links(
     alloc: Global,
@@ -124,7 +125,7 @@ fn links(
 }
 
 /// One comparison at most.
-#[tactic(auto, unfolding(wd_syntax::specs::Reading::levels, wd_syntax::specs::Reading::compared))]
+#[tactic(auto, unfolding(crate::specs::Reading::levels, crate::specs::Reading::compared))]
 #[cycle(expr)]
 fn comparison(alloc: Global, depth: u8, tokens: &[Token]) -> Result<(Box<Expr>, &[Token]), Refusal>
     ensures { Gives (λ x. (view x.0.value, kinds_of x.1.now)) result (read 200 depth 4 (kinds_of tokens.now)) }
@@ -139,7 +140,7 @@ fn comparison(alloc: Global, depth: u8, tokens: &[Token]) -> Result<(Box<Expr>, 
     }
 }
 
-#[tactic(auto, unfolding(wd_syntax::specs::Reading::levels))]
+#[tactic(auto, unfolding(crate::specs::Reading::levels))]
 #[cycle(expr)]
 fn tested(alloc: Global, depth: u8, tokens: &[Token]) -> Result<(Box<Expr>, &[Token]), Refusal>
     ensures { Gives (λ x. (view x.0.value, kinds_of x.1.now)) result (read 200 depth 5 (kinds_of tokens.now)) }
@@ -149,7 +150,7 @@ fn tested(alloc: Global, depth: u8, tokens: &[Token]) -> Result<(Box<Expr>, &[To
 }
 
 /// `[NOT] NULL`: whether NOT is written.
-#[tactic(auto, unfolding(wd_syntax::specs::Reading::null_at))]
+#[tactic(auto, unfolding(crate::specs::Reading::null_at))]
 fn null_at(tokens: &[Token]) -> Result<(bool, &[Token]), Refusal>
     ensures { Gives (λ x. (x.0, kinds_of x.1.now)) result (null_at (kinds_of tokens.now)) }
 {
@@ -170,7 +171,7 @@ fn tests_of(alloc: Global, operand: Box<Expr>, nots: Vec<bool>) -> Result<Box<Ex
 }
 
 /// Tests for NULL.
-#[tactic(auto, unfolding(wd_syntax::specs::Reading::tests))]
+#[tactic(auto, unfolding(crate::specs::Reading::tests))]
 fn tests(
     alloc: Global,
     operand: Box<Expr>,
@@ -194,7 +195,7 @@ fn tests(
     }
 }
 
-#[tactic(auto, unfolding(wd_syntax::specs::Reading::levels), using(crate::proofs::Loops::length_kinds))]
+#[tactic(auto, unfolding(crate::specs::Reading::levels), using(crate::proofs::Loops::length_kinds))]
 #[cycle(expr)]
 fn negated(alloc: Global, depth: u8, tokens: &[Token]) -> Result<(Box<Expr>, &[Token]), Refusal>
     ensures { Gives (λ x. (view x.0.value, kinds_of x.1.now)) result (read 200 depth 6 (kinds_of tokens.now)) }
@@ -209,7 +210,7 @@ fn negated(alloc: Global, depth: u8, tokens: &[Token]) -> Result<(Box<Expr>, &[T
     }
 }
 
-#[tactic(auto, unfolding(wd_syntax::specs::Reading::levels), using(crate::proofs::Loops::length_kinds))]
+#[tactic(auto, unfolding(crate::specs::Reading::levels), using(crate::proofs::Loops::length_kinds))]
 #[cycle(expr)]
 fn signed(alloc: Global, depth: u8, tokens: &[Token]) -> Result<(Box<Expr>, &[Token]), Refusal>
     ensures { Gives (λ x. (view x.0.value, kinds_of x.1.now)) result (read 200 depth 1 (kinds_of tokens.now)) }
@@ -224,7 +225,7 @@ fn signed(alloc: Global, depth: u8, tokens: &[Token]) -> Result<(Box<Expr>, &[To
     }
 }
 
-#[tactic(auto, unfolding(wd_syntax::specs::Reading::primary))]
+#[tactic(auto, unfolding(crate::specs::Reading::primary))]
 #[cycle(expr)]
 fn primary(alloc: Global, depth: u8, tokens: &[Token]) -> Result<(Box<Expr>, &[Token]), Refusal>
     ensures { Gives (λ x. (view x.0.value, kinds_of x.1.now)) result (primary (deeper_of 200 depth) (kinds_of tokens.now)) }
@@ -291,7 +292,7 @@ fn led_by(
 }
 
 /// After an opening bracket.
-#[tactic(auto, unfolding(wd_syntax::specs::Reading::bracket_at))]
+#[tactic(auto, unfolding(crate::specs::Reading::bracket_at))]
 #[cycle(expr)]
 fn bracket(alloc: Global, depth: u8, tokens: &[Token]) -> Result<(Box<Expr>, &[Token]), Refusal>
     ensures { Gives (λ x. (view x.0.value, kinds_of x.1.now)) result (bracket_at (read 200 depth 8) (kinds_of tokens.now)) }
@@ -302,7 +303,7 @@ fn bracket(alloc: Global, depth: u8, tokens: &[Token]) -> Result<(Box<Expr>, &[T
 }
 
 /// A name, and what may follow it.
-#[tactic(auto, unfolding(wd_syntax::specs::Reading::named_at))]
+#[tactic(auto, unfolding(crate::specs::Reading::named_at))]
 #[cycle(expr)]
 fn named(
     alloc: Global,
@@ -355,7 +356,7 @@ fn window_of(
 }
 
 /// A call, after its opening bracket.
-#[tactic(auto, unfolding(wd_syntax::specs::Reading::call_at), using(crate::proofs::Loops::length_kinds))]
+#[tactic(auto, unfolding(crate::specs::Reading::call_at), using(crate::proofs::Loops::length_kinds))]
 #[cycle(expr)]
 fn call(
     alloc: Global,
@@ -372,7 +373,7 @@ fn call(
 }
 
 /// `* )`, where it gives `None`, or `[expr {, expr}] )`.
-#[tactic(auto, unfolding(wd_syntax::specs::Reading::arguments_at))]
+#[tactic(auto, unfolding(crate::specs::Reading::arguments_at))]
 #[cycle(expr)]
 fn arguments(
     alloc: Global,
@@ -394,7 +395,7 @@ fn arguments(
 }
 
 /// `[OVER (name | ( .. ))]`
-#[tactic(auto, unfolding(wd_syntax::specs::Reading::over_at), using(crate::proofs::Loops::length_kinds))]
+#[tactic(auto, unfolding(crate::specs::Reading::over_at), using(crate::proofs::Loops::length_kinds))]
 #[cycle(expr)]
 fn over(
     alloc: Global,
@@ -420,7 +421,7 @@ fn over(
 }
 
 /// `expr {, expr}`
-#[tactic(auto, unfolding(wd_syntax::specs::Reading::list_at))]
+#[tactic(auto, unfolding(wd_cursor::specs::Cursor::list_at))]
 #[cycle(expr)]
 fn list(alloc: Global, depth: u8, tokens: &[Token]) -> Result<(Vec<Expr>, &[Token]), Refusal>
     ensures { Gives (λ x. (map view x.0.items, kinds_of x.1.now)) result (list_at m.Comma (read 200 depth 8) (kinds_of tokens.now)) }
@@ -436,14 +437,11 @@ fn list(alloc: Global, depth: u8, tokens: &[Token]) -> Result<(Vec<Expr>, &[Toke
         items.push(Box::into_inner(item))?;
         rest = after;
     }
-    match eat(rest, Terminal::Comma) {
-        Some(_) => Err(Refusal::Unexpected { left: rest.len() }),
-        None => Ok((items, rest)),
-    }
+    Ok((items, rest))
 }
 
 /// `expr THEN expr`
-#[tactic(auto, unfolding(wd_syntax::specs::Reading::arm_at))]
+#[tactic(auto, unfolding(crate::specs::Reading::arm_at))]
 #[cycle(expr)]
 fn arm(alloc: Global, depth: u8, tokens: &[Token]) -> Result<(Arm, &[Token]), Refusal>
     ensures { Gives (λ x. (view_arm x.0, kinds_of x.1.now)) result (arm_at (read 200 depth 8) (kinds_of tokens.now)) }
@@ -461,7 +459,7 @@ fn arm(alloc: Global, depth: u8, tokens: &[Token]) -> Result<(Arm, &[Token]), Re
 }
 
 /// `arm {WHEN arm}`
-#[tactic(auto, unfolding(wd_syntax::specs::Reading::list_at))]
+#[tactic(auto, unfolding(wd_cursor::specs::Cursor::list_at))]
 #[cycle(expr)]
 fn arms(alloc: Global, depth: u8, tokens: &[Token]) -> Result<(Vec<Arm>, &[Token]), Refusal>
     ensures { Gives (λ x. (map view_arm x.0.items, kinds_of x.1.now)) result (list_at m.When (arm_at (read 200 depth 8)) (kinds_of tokens.now)) }
@@ -477,14 +475,11 @@ fn arms(alloc: Global, depth: u8, tokens: &[Token]) -> Result<(Vec<Arm>, &[Token
         items.push(item)?;
         rest = after;
     }
-    match eat(rest, Terminal::When) {
-        Some(_) => Err(Refusal::Unexpected { left: rest.len() }),
-        None => Ok((items, rest)),
-    }
+    Ok((items, rest))
 }
 
 /// `[ELSE expr]`
-#[tactic(auto, unfolding(wd_syntax::specs::Reading::else_at))]
+#[tactic(auto, unfolding(crate::specs::Reading::else_at))]
 #[cycle(expr)]
 fn otherwise(
     alloc: Global,
@@ -503,7 +498,7 @@ fn otherwise(
 }
 
 /// After `CASE`.
-#[tactic(auto, unfolding(wd_syntax::specs::Reading::case_at))]
+#[tactic(auto, unfolding(crate::specs::Reading::case_at))]
 #[cycle(expr)]
 fn case(alloc: Global, depth: u8, tokens: &[Token]) -> Result<(Box<Expr>, &[Token]), Refusal>
     ensures { Gives (λ x. (view x.0.value, kinds_of x.1.now)) result (case_at (read 200 depth 8) (kinds_of tokens.now)) }
@@ -516,7 +511,7 @@ fn case(alloc: Global, depth: u8, tokens: &[Token]) -> Result<(Box<Expr>, &[Toke
 }
 
 /// `expr [ASC|DESC] [NULLS (FIRST|LAST)]`
-#[tactic(auto, unfolding(wd_syntax::specs::Reading::key_at))]
+#[tactic(auto, unfolding(crate::specs::Reading::key_at))]
 #[cycle(expr)]
 fn key(alloc: Global, depth: u8, tokens: &[Token]) -> Result<(SortKey, &[Token]), Refusal>
     ensures { Gives (λ x. (view_key x.0, kinds_of x.1.now)) result (key_at (read 200 depth 8) (kinds_of tokens.now)) }
@@ -535,7 +530,7 @@ fn key(alloc: Global, depth: u8, tokens: &[Token]) -> Result<(SortKey, &[Token])
 }
 
 /// `key {, key}`
-#[tactic(auto, unfolding(wd_syntax::specs::Reading::list_at))]
+#[tactic(auto, unfolding(wd_cursor::specs::Cursor::list_at))]
 #[cycle(expr)]
 fn keys(alloc: Global, depth: u8, tokens: &[Token]) -> Result<(Vec<SortKey>, &[Token]), Refusal>
     ensures { Gives (λ x. (map view_key x.0.items, kinds_of x.1.now)) result (list_at m.Comma (key_at (read 200 depth 8)) (kinds_of tokens.now)) }
@@ -551,14 +546,11 @@ fn keys(alloc: Global, depth: u8, tokens: &[Token]) -> Result<(Vec<SortKey>, &[T
         items.push(item)?;
         rest = after;
     }
-    match eat(rest, Terminal::Comma) {
-        Some(_) => Err(Refusal::Unexpected { left: rest.len() }),
-        None => Ok((items, rest)),
-    }
+    Ok((items, rest))
 }
 
 /// `[ORDER BY key {, key}]`
-#[tactic(auto, unfolding(wd_syntax::specs::Reading::order_at))]
+#[tactic(auto, unfolding(crate::specs::Reading::order_at))]
 #[cycle(expr)]
 pub fn order(
     alloc: Global,
@@ -577,7 +569,7 @@ pub fn order(
 }
 
 /// `[PARTITION BY expr {, expr}]`
-#[tactic(auto, unfolding(wd_syntax::specs::Reading::partition_at))]
+#[tactic(auto, unfolding(crate::specs::Reading::partition_at))]
 #[cycle(expr)]
 fn partition(alloc: Global, depth: u8, tokens: &[Token]) -> Result<(Vec<Expr>, &[Token]), Refusal>
     ensures { Gives (λ x. (map view x.0.items, kinds_of x.1.now)) result (partition_at (read 200 depth 8) (kinds_of tokens.now)) }
@@ -592,7 +584,7 @@ fn partition(alloc: Global, depth: u8, tokens: &[Token]) -> Result<(Vec<Expr>, &
 }
 
 /// `[name]`
-#[tactic(auto, unfolding(wd_syntax::specs::Reading::base_at))]
+#[tactic(auto, unfolding(crate::specs::Reading::base_at))]
 fn base_at(alloc: Global, tokens: &[Token]) -> Result<(Option<Name>, &[Token]), Refusal>
     ensures { MayRead (λ x. (x.0, kinds_of x.1.now)) result (base_at (kinds_of tokens.now)) }
 {
@@ -603,7 +595,7 @@ fn base_at(alloc: Global, tokens: &[Token]) -> Result<(Option<Name>, &[Token]), 
 }
 
 /// A window specification, after its opening bracket.
-#[tactic(auto, unfolding(wd_syntax::specs::Reading::window_at))]
+#[tactic(auto, unfolding(crate::specs::Reading::window_at))]
 #[cycle(expr)]
 pub fn window(alloc: Global, depth: u8, tokens: &[Token]) -> Result<(Window, &[Token]), Refusal>
     ensures { Gives (λ x. (view_window x.0, kinds_of x.1.now)) result (window_at (read 200 depth 8) (kinds_of tokens.now)) }

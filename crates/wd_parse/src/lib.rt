@@ -3,6 +3,10 @@
 
 mod error;
 mod expr;
+mod frame;
+pub mod laws;
+mod limits;
+mod operator;
 mod parser;
 mod query;
 

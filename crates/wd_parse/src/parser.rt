@@ -1,39 +1,32 @@
 //! The tree of a list of tokens.
 
-ghost use Rattle.std.specs.Prelude.{◌≡◌, ◌≤◌, ◌-◌, length, IfOk, IfErr, IfSome};
+ghost use Rattle.std.specs.Prelude.{◌≤◌, length, IfOk, IfErr, IfSome};
 ghost use Rattle.wd_lex.specs.Lexed.{kinds_of};
 ghost use Rattle.wd_syntax.specs.Tree.{QueryTree};
 ghost use Rattle.wd_syntax.specs.View.{view_query};
 ghost use Rattle.wd_syntax.specs.Limits.{KeepsLimits};
 ghost use Rattle.wd_syntax.specs.Laws.{IsTreeOf};
-ghost use Rattle.wd_parse.specs.Causes.{HasCause, GivesTree, IsPastLimit, place_of, Answers};
+ghost use Rattle.wd_parse.specs.Causes.{HasCause, GivesTree, IsPastLimit, place_of};
+ghost use Rattle.wd_parse.specs.Given.{Answers};
 
 use crate::error::ParseError;
 use crate::query::whole;
 use std::alloc::Global;
+use wd_cursor::{Refusal, token_place};
 use wd_lex::Token;
-use wd_phrase::Refusal;
 use wd_syntax::Query;
-
-/// The number of the first of the last `left` of so many tokens.
-fn token_place(count: usize, left: usize) -> u64
-    ensures { result ≡ count - left }
-{
-    count.saturating_sub(left) as u64
-}
 
 fn answer(alloc: Global, tokens: &[Token]) -> Result<Query, ParseError>
     ensures whole { Answers result (kinds_of tokens.now) }
     ensures within { IfErr result (λ refusal. IfSome (place_of refusal) (λ place. place ≤ length tokens.now)) }
 {
-    let count = tokens.len();
     match whole(alloc, tokens) {
         Ok(query) => Ok(query),
         Err(Refusal::Unexpected { left }) => Err(ParseError::Unexpected {
-            place: token_place(count, left),
+            place: token_place(tokens, left),
         }),
         Err(Refusal::PastLimit { left }) => Err(ParseError::PastLimit {
-            place: token_place(count, left),
+            place: token_place(tokens, left),
         }),
         Err(Refusal::OutOfMemory) => Err(ParseError::OutOfMemory),
     }

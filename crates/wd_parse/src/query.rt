@@ -5,15 +5,17 @@ ghost use Rattle.wd_lex.specs.Lexed.{kinds_of};
 ghost use Rattle.wd_lex.specs.declared.token.Terminal.TheVariants as m;
 ghost use Rattle.wd_syntax.specs.Tree.{joins_of, derived, query};
 ghost use Rattle.wd_syntax.specs.View.{view_item, view_option, view_named_window, view_table, view_joined, view_select, view_query};
-ghost use Rattle.wd_syntax.specs.Reading.{read, deeper_of, inside_of, selects, list_at, quantifier_at, given_at, alias_at, star_at, item_at, filter_at, named_window_at, windows_at, table_at, inner_at, join_at, begins_join, from_at, many, if_last, whole};
-ghost use Rattle.wd_phrase.specs.Given.{Gives, MayFind, MayGive};
+ghost use Rattle.wd_parse.specs.Reading.{read, deeper_of, inside_of, selects, quantifier_at, given_at, alias_at, star_at, filter_at, windows_at, table_at, inner_at, join_at, from_at, if_last, whole};
+ghost use Rattle.wd_cursor.specs.Cursor.{list_at, many};
+ghost use Rattle.wd_cursor.specs.Given.{Gives, MayFind, MayGive};
 ghost use Rattle.wd_parse.specs.Given.{view_from};
 
 use crate::expr;
 use crate::expr::deeper;
+use crate::limits::limits_at;
 use std::alloc::Global;
+use wd_cursor::{Reader, Refusal, eat, eat_name, expect, list_at, name_at, unexpected};
 use wd_lex::{Terminal, Token};
-use wd_phrase::{Refusal, eat, eat_name, expect, limits_at, name_at};
 use wd_syntax::{
     Alias, Expr, From, Item, Joined, Name, NamedWindow, Quantifier, Query, Select, Table,
 };
@@ -22,7 +24,7 @@ use wd_syntax::{
 const MAX_LEVELS: u8 = 32;
 
 /// `[ALL|DISTINCT]`
-#[tactic(auto, unfolding(wd_syntax::specs::Reading::quantifier_at))]
+#[tactic(auto, unfolding(crate::specs::Reading::quantifier_at))]
 fn quantifier_at(tokens: &[Token]) -> (Option<Quantifier>, &[Token])
     ensures { quantifier_at (kinds_of tokens.now) ≡ (result.0, kinds_of result.1.now) }
 {
@@ -36,7 +38,7 @@ fn quantifier_at(tokens: &[Token]) -> (Option<Quantifier>, &[Token])
 }
 
 /// `[AS] name`
-#[tactic(auto, unfolding(wd_syntax::specs::Reading::given_at))]
+#[tactic(auto, unfolding(crate::specs::Reading::given_at))]
 fn given_at(alloc: Global, tokens: &[Token]) -> Result<(Alias, &[Token]), Refusal>
     ensures { Gives (λ x. (x.0, kinds_of x.1.now)) result (given_at (kinds_of tokens.now)) }
 {
@@ -65,7 +67,7 @@ fn given_at(alloc: Global, tokens: &[Token]) -> Result<(Alias, &[Token]), Refusa
 }
 
 /// `[[AS] name]`
-#[tactic(auto, unfolding(wd_syntax::specs::Reading::alias_at))]
+#[tactic(auto, unfolding(crate::specs::Reading::alias_at))]
 fn alias_at(alloc: Global, tokens: &[Token]) -> Result<(Option<Alias>, &[Token]), Refusal>
     ensures { Gives (λ x. (x.0, kinds_of x.1.now)) result (alias_at (kinds_of tokens.now)) }
 {
@@ -92,7 +94,7 @@ fn alias_at(alloc: Global, tokens: &[Token]) -> Result<(Option<Alias>, &[Token])
 }
 
 /// `name . *`, where it stands first.
-#[tactic(auto, unfolding(wd_syntax::specs::Reading::star_at))]
+#[tactic(auto, unfolding(crate::specs::Reading::star_at))]
 fn star_at(alloc: Global, tokens: &[Token]) -> Result<Option<(Name, &[Token])>, Refusal>
     ensures { MayFind (λ x. (x.0, kinds_of x.1.now)) result (star_at (kinds_of tokens.now)) }
 {
@@ -109,45 +111,41 @@ fn star_at(alloc: Global, tokens: &[Token]) -> Result<Option<(Name, &[Token])>, 
 }
 
 /// A member of a select list.
-#[tactic(auto, unfolding(wd_syntax::specs::Reading::item_at))]
-fn item(alloc: Global, depth: u8, tokens: &[Token]) -> Result<(Item, &[Token]), Refusal>
-    ensures { Gives (λ x. (view_item x.0, kinds_of x.1.now)) result (item_at (read 200 depth 8) (kinds_of tokens.now)) }
-{
-    if let Some(rest) = eat(tokens, Terminal::Star) {
-        return Ok((Item::All, rest));
-    }
-    if let Some((name, rest)) = star_at(alloc, tokens)? {
-        return Ok((Item::AllOf(name), rest));
-    }
-    let (expr, rest) = expr::at(alloc, expr::WHOLE, depth, tokens)?;
-    let (alias, rest) = alias_at(alloc, rest)?;
-    Ok((Item::Expr(Box::into_inner(expr), alias), rest))
+/// Reads the members of a select list, with so many levels left.
+#[derive(Clone, Copy)]
+struct Items {
+    depth: u8,
 }
 
-/// `item {, item}`
-#[tactic(auto, unfolding(wd_syntax::specs::Reading::list_at))]
-fn items(alloc: Global, depth: u8, tokens: &[Token]) -> Result<(Vec<Item>, &[Token]), Refusal>
-    ensures { Gives (λ x. (map view_item x.0.items, kinds_of x.1.now)) result (list_at m.Comma (item_at (read 200 depth 8)) (kinds_of tokens.now)) }
-{
-    let (first, mut rest) = item(alloc, depth, tokens)?;
-    let mut items = Vec::new(alloc);
-    items.push(first)?;
-    for _ in 0..rest.len() {
-        let Some(after) = eat(rest, Terminal::Comma) else {
-            return Ok((items, rest));
-        };
-        let (item, after) = item(alloc, depth, after)?;
-        items.push(item)?;
-        rest = after;
-    }
-    match eat(rest, Terminal::Comma) {
-        Some(_) => Err(Refusal::Unexpected { left: rest.len() }),
-        None => Ok((items, rest)),
+impl Reader for Items {
+    ghost use Rattle.wd_syntax.specs.Tree.{ItemTree};
+    ghost use Rattle.wd_syntax.specs.View.{view_item};
+    ghost use Rattle.wd_parse.specs.Reading.{read, item_at};
+
+    type Item = Item;
+
+    ghost Tree = { ItemTree };
+
+    ghost tree = { view_item };
+
+    ghost item = { λ items. item_at (read 200 items.depth 8) };
+
+    #[tactic(auto, unfolding(crate::specs::Reading::item_at))]
+    fn read<'t>(&self, alloc: Global, tokens: &'t [Token]) -> Result<(Item, &'t [Token]), Refusal> {
+        if let Some(rest) = eat(tokens, Terminal::Star) {
+            return Ok((Item::All, rest));
+        }
+        if let Some((name, rest)) = star_at(alloc, tokens)? {
+            return Ok((Item::AllOf(name), rest));
+        }
+        let (expr, rest) = expr::at(alloc, expr::WHOLE, self.depth, tokens)?;
+        let (alias, rest) = alias_at(alloc, rest)?;
+        Ok((Item::Expr(Box::into_inner(expr), alias), rest))
     }
 }
 
 /// `[WHERE expr]`
-#[tactic(auto, unfolding(wd_syntax::specs::Reading::filter_at))]
+#[tactic(auto, unfolding(crate::specs::Reading::filter_at))]
 fn filter(alloc: Global, depth: u8, tokens: &[Token]) -> Result<(Option<Expr>, &[Token]), Refusal>
     ensures { Gives (λ x. (view_option x.0, kinds_of x.1.now)) result (filter_at (read 200 depth 8) (kinds_of tokens.now)) }
 {
@@ -160,51 +158,43 @@ fn filter(alloc: Global, depth: u8, tokens: &[Token]) -> Result<(Option<Expr>, &
     }
 }
 
-/// `name AS ( .. )`
-#[tactic(auto, unfolding(wd_syntax::specs::Reading::named_window_at), using(crate::proofs::Loops::length_kinds))]
-fn named_window(
-    alloc: Global,
+/// Reads windows `name AS ( .. )`, with so many levels left.
+#[derive(Clone, Copy)]
+struct NamedWindows {
     depth: u8,
-    tokens: &[Token],
-) -> Result<(NamedWindow, &[Token]), Refusal>
-    ensures { Gives (λ x. (view_named_window x.0, kinds_of x.1.now)) result (named_window_at (deeper_of 200 depth) (kinds_of tokens.now)) }
-{
-    let (name, rest) = name_at(alloc, tokens)?;
-    let bracket = expect(rest, Terminal::As)?;
-    let rest = expect(bracket, Terminal::LeftBracket)?;
-    let inside = deeper(depth, bracket.len())?;
-    let (window, rest) = expr::window(alloc, inside, rest)?;
-    Ok((NamedWindow { name, window }, rest))
 }
 
-/// `window {, window}`
-#[tactic(auto, unfolding(wd_syntax::specs::Reading::list_at))]
-fn named_windows(
-    alloc: Global,
-    depth: u8,
-    tokens: &[Token],
-) -> Result<(Vec<NamedWindow>, &[Token]), Refusal>
-    ensures { Gives (λ x. (map view_named_window x.0.items, kinds_of x.1.now)) result (list_at m.Comma (named_window_at (deeper_of 200 depth)) (kinds_of tokens.now)) }
-{
-    let (first, mut rest) = named_window(alloc, depth, tokens)?;
-    let mut items = Vec::new(alloc);
-    items.push(first)?;
-    for _ in 0..rest.len() {
-        let Some(after) = eat(rest, Terminal::Comma) else {
-            return Ok((items, rest));
-        };
-        let (item, after) = named_window(alloc, depth, after)?;
-        items.push(item)?;
-        rest = after;
-    }
-    match eat(rest, Terminal::Comma) {
-        Some(_) => Err(Refusal::Unexpected { left: rest.len() }),
-        None => Ok((items, rest)),
+impl Reader for NamedWindows {
+    ghost use Rattle.wd_cursor.specs.declared.name.Name.{Name as NameTree};
+    ghost use Rattle.wd_syntax.specs.Tree.{WindowTree};
+    ghost use Rattle.wd_syntax.specs.View.{view_named_window};
+    ghost use Rattle.wd_parse.specs.Reading.{deeper_of, named_window_at};
+
+    type Item = NamedWindow;
+
+    ghost Tree = { NameTree × WindowTree };
+
+    ghost tree = { view_named_window };
+
+    ghost item = { λ windows. named_window_at (deeper_of 200 windows.depth) };
+
+    #[tactic(auto, unfolding(crate::specs::Reading::named_window_at), using(crate::proofs::Loops::length_kinds))]
+    fn read<'t>(
+        &self,
+        alloc: Global,
+        tokens: &'t [Token],
+    ) -> Result<(NamedWindow, &'t [Token]), Refusal> {
+        let (name, rest) = name_at(alloc, tokens)?;
+        let bracket = expect(rest, Terminal::As)?;
+        let rest = expect(bracket, Terminal::LeftBracket)?;
+        let inside = deeper(self.depth, bracket.len())?;
+        let (window, rest) = expr::window(alloc, inside, rest)?;
+        Ok((NamedWindow { name, window }, rest))
     }
 }
 
 /// `[WINDOW window {, window}]`
-#[tactic(auto, unfolding(wd_syntax::specs::Reading::windows_at))]
+#[tactic(auto, unfolding(crate::specs::Reading::windows_at))]
 fn windows(
     alloc: Global,
     depth: u8,
@@ -213,7 +203,7 @@ fn windows(
     ensures { Gives (λ x. (map view_named_window x.0.items, kinds_of x.1.now)) result (windows_at (deeper_of 200 depth) (kinds_of tokens.now)) }
 {
     match eat(tokens, Terminal::Window) {
-        Some(rest) => named_windows(alloc, depth, rest),
+        Some(rest) => list_at(alloc, &NamedWindows { depth }, Terminal::Comma, rest),
         None => Ok((Vec::new(alloc), tokens)),
     }
 }
@@ -226,7 +216,7 @@ fn derived_of(select: Box<Select>, alias: Alias) -> Table
 }
 
 /// A table of FROM.
-#[tactic(auto, unfolding(wd_syntax::specs::Reading::table_at), using(crate::proofs::Loops::length_kinds))]
+#[tactic(auto, unfolding(crate::specs::Reading::table_at), using(crate::proofs::Loops::length_kinds))]
 #[cycle(select)]
 fn table(alloc: Global, depth: u8, tokens: &[Token]) -> Result<(Table, &[Token]), Refusal>
     ensures { Gives (λ x. (view_table x.0, kinds_of x.1.now)) result (table_at (inside_of 200 depth) (kinds_of tokens.now)) }
@@ -248,7 +238,7 @@ fn table(alloc: Global, depth: u8, tokens: &[Token]) -> Result<(Table, &[Token])
 }
 
 /// `table ON expr`, after `JOIN`.
-#[tactic(auto, unfolding(wd_syntax::specs::Reading::inner_at))]
+#[tactic(auto, unfolding(crate::specs::Reading::inner_at))]
 #[cycle(select)]
 fn inner(
     alloc: Global,
@@ -265,7 +255,7 @@ fn inner(
 }
 
 /// A table and how it is joined, if one begins here.
-#[tactic(auto, unfolding(wd_syntax::specs::Reading::join_at))]
+#[tactic(auto, unfolding(crate::specs::Reading::join_at))]
 #[cycle(select)]
 fn joined(alloc: Global, depth: u8, tokens: &[Token]) -> Result<Option<(Joined, &[Token])>, Refusal>
     ensures { MayGive (λ x. (view_joined x.0, kinds_of x.1.now)) result (join_at (inside_of 200 depth) (read 200 depth 8) (kinds_of tokens.now)) }
@@ -293,16 +283,6 @@ fn joined(alloc: Global, depth: u8, tokens: &[Token]) -> Result<Option<(Joined, 
     }
 }
 
-#[tactic(auto, unfolding(wd_syntax::specs::Reading::begins_join))]
-fn begins_join(tokens: &[Token]) -> bool
-    ensures { result ≡ begins_join (kinds_of tokens.now) }
-{
-    eat(tokens, Terminal::Comma).is_some()
-        || eat(tokens, Terminal::Cross).is_some()
-        || eat(tokens, Terminal::Inner).is_some()
-        || eat(tokens, Terminal::Join).is_some()
-}
-
 /// The tables after the first.
 #[cycle(select)]
 fn joins(alloc: Global, depth: u8, tokens: &[Token]) -> Result<(Vec<Joined>, &[Token]), Refusal>
@@ -317,14 +297,11 @@ fn joins(alloc: Global, depth: u8, tokens: &[Token]) -> Result<(Vec<Joined>, &[T
         items.push(item)?;
         rest = after;
     }
-    if begins_join(rest) {
-        return Err(Refusal::Unexpected { left: rest.len() });
-    }
     Ok((items, rest))
 }
 
 /// After `FROM`.
-#[tactic(auto, unfolding(wd_syntax::specs::Reading::from_at))]
+#[tactic(auto, unfolding(crate::specs::Reading::from_at))]
 #[cycle(select)]
 fn from(alloc: Global, depth: u8, tokens: &[Token]) -> Result<(From, &[Token]), Refusal>
     ensures { Gives (λ x. (view_from x.0, kinds_of x.1.now)) result (from_at (inside_of 200 depth) (read 200 depth 8) (kinds_of tokens.now)) }
@@ -335,14 +312,14 @@ fn from(alloc: Global, depth: u8, tokens: &[Token]) -> Result<(From, &[Token]), 
 }
 
 /// A select, up to its limits.
-#[tactic(auto, unfolding(wd_syntax::specs::Reading::select_at), using(crate::proofs::Loops::selects_at))]
+#[tactic(auto, unfolding(crate::specs::Reading::select_at), using(crate::proofs::Loops::selects_at))]
 #[cycle(select)]
 fn select(alloc: Global, depth: u8, tokens: &[Token]) -> Result<(Box<Select>, &[Token]), Refusal>
     ensures { Gives (λ x. (view_select x.0.value, kinds_of x.1.now)) result (selects 200 depth (kinds_of tokens.now)) }
 {
     let rest = expect(tokens, Terminal::Select)?;
     let (quantifier, rest) = quantifier_at(rest);
-    let (items, rest) = items(alloc, depth, rest)?;
+    let (items, rest) = list_at(alloc, &Items { depth }, Terminal::Comma, rest)?;
     let rest = expect(rest, Terminal::From)?;
     let (from, rest) = from(alloc, depth, rest)?;
     let (filter, rest) = filter(alloc, depth, rest)?;
@@ -370,12 +347,12 @@ fn ended(select: Box<Select>, semicolon: bool, rest: &[Token]) -> Result<Query, 
             select: Box::into_inner(select),
             semicolon,
         }),
-        _ => Err(Refusal::Unexpected { left: rest.len() }),
+        _ => Err(unexpected(rest)),
     }
 }
 
 /// `select [;]`, and nothing more.
-#[tactic(auto, unfolding(wd_syntax::specs::Reading::whole))]
+#[tactic(auto, unfolding(crate::specs::Reading::whole))]
 pub fn whole(alloc: Global, tokens: &[Token]) -> Result<Query, Refusal>
     ensures { Gives view_query result (whole 200 32 (kinds_of tokens.now)) }
 {

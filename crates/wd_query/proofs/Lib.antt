@@ -1,2 +1,3 @@
 pub mod MeaningLaw
 pub mod ForReadings
+pub mod OnePlan

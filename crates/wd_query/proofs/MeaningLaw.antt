@@ -8,7 +8,7 @@ use Rattle.wd_lex.specs.declared.token.Token.{Token}
 use Rattle.wd_lex.proofs.TextLaws.{no_cause, one_list_of_tokens}
 use Rattle.wd_syntax.specs.Laws.{IsTreeOf}
 use Rattle.wd_syntax.specs.Tree.{QueryTree}
-use Rattle.wd_syntax.proofs.Unique.{one_tree}
+use Rattle.wd_parse.proofs.Unique.{one_tree}
 use Rattle.wd_parse.specs.declared.error.ParseError.TheVariants as parse_error
 use Rattle.wd_operand.specs.declared.cause.ResolveError.TheVariants as resolve_error
 use Rattle.wd_schema.specs.Refusals as refusals

@@ -1,6 +1,11 @@
 //! Laws of texts, over the definitions alone.
 
-ghost use Rattle.wd_query.specs.Laws.{HasMeaningOrCause};
+ghost use Rattle.wd_query.specs.Laws.{HasMeaningOrCause, HasOnePlan};
+
+/// A schema's text and a query's text have at most one plan.
+pub fn one_plan()
+    ensures { HasOnePlan }
+{}
 
 /// Texts that have a meaning within the limits are refused for nothing that stands in them.
 pub fn meaning_or_cause()

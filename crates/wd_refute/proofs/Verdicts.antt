@@ -5,7 +5,8 @@ use Rattle.wd_schema.specs.Laws.{HasOneMeaning}
 use Rattle.wd_schema.specs.Meets.{Meets}
 use Rattle.wd_schema.specs.Tables.{TableRule}
 use Rattle.wd_plan.specs.Plans.{PlanTree}
-use Rattle.wd_resolve.specs.Laws.{HasOnePlan, PlansFit}
+use Rattle.wd_query.specs.Laws.{HasOnePlan}
+use Rattle.wd_resolve.specs.Laws.{PlansFit}
 use Rattle.wd_rules.specs.Laws.{NeverBoth}
 use Rattle.wd_accept.proofs.Verdicts.{every}
 use Rattle.wd_witness.specs.Json.{Spells}

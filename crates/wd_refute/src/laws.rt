@@ -2,7 +2,8 @@
 
 ghost use Rattle.wd_refute.specs.Laws.{RefutedHasNoCertificate, ShownIsNotRefused};
 
-use wd_resolve::laws::{one_plan, plans_fit};
+use wd_query::laws::one_plan;
+use wd_resolve::laws::plans_fit;
 use wd_rules::laws::never_both;
 use wd_schema::laws::one_meaning;
 use wd_witness::laws::{is_read_back, spells_one};

@@ -1,4 +1,3 @@
-mod Reading
 pub mod Beside
 mod SomeKeys
 mod Crowded

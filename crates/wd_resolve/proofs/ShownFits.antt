@@ -10,7 +10,7 @@ use Rattle.wd_value.specs.declared.order.SortColumn.{SortColumn}
 use Rattle.wd_plan.specs.Expressions.{Expression}
 use Rattle.wd_plan.specs.Fits.{Kinds, kinds_of}
 use Rattle.wd_plan.specs.Plans.{PlanTree, Filter, Map}
-use Rattle.wd_syntax.specs.declared.name.Name.{Name}
+use Rattle.wd_cursor.specs.declared.name.Name.{Name}
 use Rattle.wd_syntax.specs.declared.query.Count.{Count}
 use Rattle.wd_syntax.specs.declared.query.Count.TheVariants as written
 use Rattle.wd_syntax.specs.declared.query.Limits.{Limits}

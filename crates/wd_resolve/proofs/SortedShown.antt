@@ -7,7 +7,7 @@ use Rattle.wd_value.specs.declared.order.SortKey.{SortKey}
 use Rattle.wd_plan.specs.declared.expression.ValueKind.{ValueKind}
 use Rattle.wd_value.specs.declared.order.SortColumn.{SortColumn}
 use Rattle.wd_plan.specs.Expressions.{Expression}
-use Rattle.wd_syntax.specs.declared.name.Name.{Name}
+use Rattle.wd_cursor.specs.declared.name.Name.{Name}
 use Rattle.wd_syntax.specs.declared.expression.Literal.{Literal}
 use Rattle.wd_syntax.specs.declared.expression.Literal.TheVariants as l
 use Rattle.wd_syntax.specs.Tree as tree

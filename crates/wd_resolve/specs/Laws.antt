@@ -22,10 +22,6 @@ pub record Reads (schema query : List ℕ) (a : Answer) : Type 0 where
   pub spelled : spell tree ≡ kinds_of tokens
   pub means : answer tables tree ≡ Ok a
 
--- A schema's text and a query's text have at most one plan.
-abbrev pub HasOnePlan : Type 0
-HasOnePlan = (schema query : List ℕ) (first second : Answer) → Reads schema query first → Reads schema query second → first ≡ second
-
 -- Each plan that a query has under a schema fits the schema.
 abbrev pub PlansFit : Type 0
 PlansFit = (tables : List TableRule) (tree : QueryTree) (a : Answer) → answer tables tree ≡ Ok a → fits tables a.plan ≡ true

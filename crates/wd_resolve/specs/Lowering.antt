@@ -1,7 +1,7 @@
 -- The plan of a query: its tables, its condition, its windows, its outputs, its order and its limits, one step over the other
 -- (SQL, query specification, query expression; PG, SELECT).
 use Rattle.std.specs.Prelude.{Bool, true, false, List, [], length, Option, Some, None, Ok}
-use Rattle.wd_syntax.specs.declared.name.Name.{Name}
+use Rattle.wd_cursor.specs.declared.name.Name.{Name}
 use Rattle.wd_syntax.specs.declared.query.Quantifier.{Quantifier}
 use Rattle.wd_syntax.specs.declared.query.Quantifier.TheVariants.{All, Distinct as DistinctRows}
 use Rattle.wd_syntax.specs.declared.query.Limits.{Limits}

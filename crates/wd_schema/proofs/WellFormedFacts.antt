@@ -15,7 +15,7 @@ use Rattle.wd_schema.specs.Declares.{ColumnsDiffer, HasOnePrimary, IsSmall, KeyC
 use Rattle.wd_schema.specs.Tables.{TableRule}
 use Rattle.wd_schema.specs.Texts.{Declares}
 use Rattle.wd_schema.specs.WellFormed.{IsKeyOf, IsNotNull, IsWellFormed, IsWellFormedTable}
-use Rattle.wd_statements.specs.declared.syntax.Name.TheVariants.{Unquoted}
+use Rattle.wd_cursor.specs.declared.name.Name.{Name}
 use Rattle.wd_statements.specs.Written.{ColumnTree, TableTree, name_text}
 use Rattle.wd_schema.proofs.RefusalFacts.{is_found}
 
@@ -54,7 +54,7 @@ number_is names name at =
 -- ---- the keys of a table
 
 no_column : ColumnTree
-no_column = record { name = Unquoted []; kind = Unquoted []; rules = [] }
+no_column = let none : Name = record { text = []; quoted = false } in record { name = none; kind = none; rules = [] }
 
 module _ (cols : List ColumnTree) (keys : List SaidKey) where
   abbrev names : List (List ℕ)

@@ -132,7 +132,7 @@ pub fn column_names(alloc: Global, elements: &[Element]) -> Result<Vec<Text>, Al
     let mut names = Vec::new(alloc);
     for element in elements {
         if let Element::Column(column) = element {
-            names.push(column.name.text().copy(alloc)?)?;
+            names.push(column.name.text.copy(alloc)?)?;
         }
     }
     Ok(names)
@@ -179,7 +179,7 @@ fn column_key(
     ensures { IfOk result (λ key. said key ≡ record { words = words; columns = name_text name.now ∷ [] }) }
 {
     let mut columns = Vec::new(alloc);
-    columns.push(name.text().copy(alloc)?)?;
+    columns.push(name.text.copy(alloc)?)?;
     Ok(KeyAt {
         words,
         columns,
@@ -204,7 +204,7 @@ fn texts_of(alloc: Global, names: &[Name]) -> Result<Vec<Text>, AllocError>
 {
     let mut texts = Vec::with_capacity(alloc, names.len())?;
     for name in names {
-        texts.push(name.text().copy(alloc)?)?;
+        texts.push(name.text.copy(alloc)?)?;
     }
     Ok(texts)
 }
@@ -266,7 +266,7 @@ fn unknown_type(elements: &[Element]) -> Option<ElementPlace>
 {
     for (e, element) in elements.iter().enumerate() {
         if let Element::Column(column) = element {
-            if type_named(column.kind.text().as_str()).is_none() {
+            if type_named(column.kind.text.as_str()).is_none() {
                 return Some(ElementPlace {
                     element: e,
                     part: 1,
@@ -316,7 +316,7 @@ fn is_in_primary(keys: &[KeyAt], name: &Text) -> bool
 fn is_not_null(keys: &[KeyAt], column: &WrittenColumn) -> bool
     ensures { result ≡ spec.is_not_null (map said keys.now) (column_tree column.now) }
 {
-    says_not_null(&column.rules) || is_in_primary(keys, column.name.text())
+    says_not_null(&column.rules) || is_in_primary(keys, &column.name.text)
 }
 
 /// 308: the first word NULL on a column that is NOT NULL.
@@ -471,8 +471,8 @@ fn declared_column(
     ensures { IfOk result (λ found. found ≡ spec.column_declared (map said keys.now) (column_tree column.now)) }
 {
     Ok(Column {
-        name: column.name.text().copy(alloc)?,
-        kind: type_named(column.kind.text().as_str()).unwrap_or(ColumnType::Text),
+        name: column.name.text.copy(alloc)?,
+        kind: type_named(column.kind.text.as_str()).unwrap_or(ColumnType::Text),
         not_null: is_not_null(keys, column),
     })
 }
@@ -531,7 +531,7 @@ pub fn declare(alloc: Global, table: &WrittenTable) -> Result<Table, SchemaError
         return Err(refusal.error);
     }
     Ok(Table {
-        name: table.name.text().copy(alloc)?,
+        name: table.name.text.copy(alloc)?,
         columns: declared_columns(alloc, &table.elements, &keys)?,
         keys: declared_keys(alloc, &names, &keys)?,
     })

@@ -80,7 +80,7 @@ fn declared_schema(alloc: Global, tables: &[WrittenTable]) -> Result<Schema, Sch
 {
     let mut schema = IndexMap::new(alloc);
     for (t, table) in tables.iter().enumerate() {
-        let name = table.name.text();
+        let name = &table.name.text;
         if schema.contains_key(name.as_str()) {
             return Err(SchemaError::TableTwice);
         }

@@ -1,7 +1,7 @@
 -- Each call that an expression meets first stands in what it means.
 use Rattle.std.proofs.Common.{◌≡◌, sym, ap, subst, ℕ, ◌+◌, ◌<◌, ◌≤◌, ◌⊎◌, inl, inr, arith, Bool, true, false, cond, List, [], ◌∷◌, ◌++◌, length, length-append, nat_lt, Option, Some, None, Ok, Err}
 use Rattle.std.proofs.lemmas.Bool.{cases_lt}
-use Rattle.wd_syntax.specs.declared.name.Name.{Name}
+use Rattle.wd_cursor.specs.declared.name.Name.{Name}
 use Rattle.wd_syntax.specs.declared.expression.Operator.{Operator}
 use Rattle.wd_syntax.specs.declared.expression.Operator.TheVariants as o
 use Rattle.wd_syntax.specs.declared.expression.Sign.{Sign}

@@ -2,7 +2,7 @@
 use Rattle.std.proofs.Common.{◌≡◌, refl, subst, Bool, true, false, cond, List, [], ◌∷◌, ◌++◌, Ok, Err}
 use Rattle.wd_plan.specs.declared.expression.ValueKind.TheVariants.{Truth}
 use Rattle.wd_plan.specs.Expressions.{Expression}
-use Rattle.wd_syntax.specs.declared.name.Name.{Name}
+use Rattle.wd_cursor.specs.declared.name.Name.{Name}
 use Rattle.wd_syntax.specs.Tree.{Tree, WindowTree}
 use Rattle.wd_operand.specs.declared.cause.Cause.TheVariants.{UnknownWindow}
 use Rattle.wd_operand.specs.Causes.{◌>>=◌}

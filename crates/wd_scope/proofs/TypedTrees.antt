@@ -5,7 +5,7 @@ use Rattle.std.specs.Str.{bytes_eq}
 use Rattle.std.proofs.lemmas.Bool.{lt-ltb}
 use Rattle.std.proofs.lemmas.List.{append_assoc, append-nil, length-append, length_push}
 use Rattle.wd_plan.specs.Expressions as e
-use Rattle.wd_syntax.specs.declared.name.Name.{Name}
+use Rattle.wd_cursor.specs.declared.name.Name.{Name}
 use Rattle.wd_syntax.specs.declared.expression.Sign.{Sign}
 use Rattle.wd_syntax.specs.Tree.{Tree, Constant, Column, Qualified, CallAll, Call, Case, Bracket, Signed, Binary, IsNull, Negated, Trees, no_trees, more_trees, Arms, no_arms, more_arms, Otherwise, no_else, or_else, OverTree, no_over, over_name, over_window, WindowTree, window, Keys, no_keys, more_keys}
 use Rattle.wd_plan.specs.Fits.{Kinds}

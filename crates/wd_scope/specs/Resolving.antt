@@ -1,6 +1,6 @@
 -- What the expressions of a query mean over the columns in scope, with the window calls that they meet.
 use Rattle.std.specs.Prelude.{ℕ, Bool, false, List, [], ◌∷◌, ◌++◌, map, length, Option, Some, None, option_map, Ok, Err, if◌then◌else◌}
-use Rattle.wd_syntax.specs.declared.name.Name.{Name}
+use Rattle.wd_cursor.specs.declared.name.Name.{Name}
 use Rattle.std.specs.List.{list_any}
 use Rattle.std.specs.Str.{bytes_eq}
 use Rattle.wd_syntax.specs.declared.expression.Literal.TheVariants as l

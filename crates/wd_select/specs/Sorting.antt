@@ -3,7 +3,7 @@ use Rattle.std.specs.Prelude.{◌≡◌, ℕ, ◌+◌, ◌-◌, Bool, true, fals
 use Rattle.std.specs.List.{list_all}
 use Rattle.std.specs.Str.{bytes_eq}
 use Rattle.wd_value.specs.declared.order.SortKey.{SortKey}
-use Rattle.wd_syntax.specs.declared.name.Name.{Name}
+use Rattle.wd_cursor.specs.declared.name.Name.{Name}
 use Rattle.wd_syntax.specs.declared.expression.Literal.{Literal}
 use Rattle.wd_syntax.specs.declared.expression.Literal.TheVariants as l
 use Rattle.wd_syntax.specs.declared.query.Count.{Count}

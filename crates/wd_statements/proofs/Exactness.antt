@@ -1,14 +1,13 @@
 -- What is read is spelled so, and no tree goes on where reading stops.
-use Rattle.std.proofs.Common.{◌≡◌, ◌∙◌, ◌⊎◌, inl, inr, ℕ, suc, ◌≤◌, sym, ap, subst, List, [], ◌∷◌, length, Bool, true, false, eqb-true, Option, Some, None, Ok, Err, refl, arith, cond}
+use Rattle.std.proofs.Common.{◌≡◌, ◌∙◌, ◌⊎◌, inl, inr, ℕ, suc, ◌≤◌, sym, ap, subst, List, [], ◌∷◌, length, Option, Some, None, Ok, Err, refl, arith}
 use Rattle.std.specs.Prelude.{⊤}
-use Rattle.std.proofs.lemmas.Slice.Eq.{bytes_eq-Decides}
-use Rattle.wd_lex.proofs.TerminalLaws.{same_terminal}
-use Rattle.wd_lex.specs.Terminals.{terminal_code}
 use Rattle.wd_lex.specs.declared.token.Terminal.{Terminal}
 use Rattle.wd_lex.specs.declared.token.TokenKind.{TokenKind}
 use Rattle.wd_lex.specs.declared.token.TokenKind.TheVariants as k
-use Rattle.wd_statements.proofs.ReadingFacts.{eat_same}
-use Rattle.wd_statements.specs.Reading.{Reading, ◌>>=◌, choose, some_or, is_terminal, is_word, eat, eat_word}
+use Rattle.wd_cursor.specs.declared.words.KeyWord.{KeyWord}
+use Rattle.wd_cursor.specs.Tokens.{letters}
+use Rattle.wd_cursor.specs.Cursor.{Unexpected, Limit, ◌>>=◌, Reads, choose, some_or_unexpected, eat, eat_word}
+use Rattle.wd_cursor.proofs.Eaten.{eat_is, eat_same, eat_word_is, eat_word_same}
 
 -- The first list is the same as the second up to and with the token from which on so many are left.
 abbrev pub Agree : ℕ → List TokenKind → List TokenKind → Type 0
@@ -37,9 +36,10 @@ pub record IsRefused {A : Type 0} (spell : A → List TokenKind → List TokenKi
   pub none : (y : A) (after : List TokenKind) → Whole y → May y after → Agree left (spell y after) kinds → ⊥
   pub near : (y : A) × Whole y × ((after : List TokenKind) → Before left (spell y after) kinds)
 
-abbrev pub Exact : {A : Type 0} → (A → List TokenKind → List TokenKind) → (A → Type 0) → (A → List TokenKind → Type 0) → List TokenKind → Reading A → Type 0
+abbrev pub Exact : {A : Type 0} → (A → List TokenKind → List TokenKind) → (A → Type 0) → (A → List TokenKind → Type 0) → List TokenKind → Reads A → Type 0
 Exact spell Whole May kinds (Ok x) = IsRead spell Whole May kinds x.0 x.1
-Exact spell Whole May kinds (Err left) = IsRefused spell Whole May kinds left
+Exact spell Whole May kinds (Err (Unexpected left)) = IsRefused spell Whole May kinds left
+Exact spell Whole May kinds (Err (Limit left)) = ⊥
 
 -- ---- one item, and what follows it
 
@@ -53,8 +53,9 @@ module _ {A C : Type 0} (spell : A → List TokenKind → List TokenKind) (Whole
   before_all : (left : ℕ) (y : C) (x : A) (after kinds : List TokenKind) → WholeAll y → first y ≡ x → Before left (spell x (others y after)) kinds → Before left (spell_all y after) kinds
   before_all left y x after kinds w e before = subst (λ ks. Before left ks kinds) (sym (is y after w)) (subst (λ z. Before left (spell z (others y after)) kinds) (sym e) before)
 
-  second_exact : (kinds : List TokenKind) (x : A) (rest : List TokenKind) (r : Reading C) → IsRead spell Whole May kinds x rest → Exact others (λ y. WholeAll y × (first y ≡ x)) MayAll rest r → Exact spell_all WholeAll MayAll kinds r
-  second_exact kinds x rest (Err left) read refused = record {
+  second_exact : (kinds : List TokenKind) (x : A) (rest : List TokenKind) (r : Reads C) → IsRead spell Whole May kinds x rest → Exact others (λ y. WholeAll y × (first y ≡ x)) MayAll rest r → Exact spell_all WholeAll MayAll kinds r
+  second_exact kinds x rest (Err (Limit left)) read refused = absurd refused
+  second_exact kinds x rest (Err (Unexpected left)) read refused = record {
     within = omega (arith, read.shorter, refused.within);
     none = λ y after w may_all agree.
         let both = read.same left (first y) (others y after) (whole y w) (may y after w may_all) refused.within (subst (λ ks. Agree left ks kinds) (is y after w) agree) in
@@ -71,9 +72,10 @@ module _ {A C : Type 0} (spell : A → List TokenKind → List TokenKind) (Whole
     carries = λ left after before. before_all left z.0 x after kinds others_read.whole.0 others_read.whole.1 (read.carries left (others z.0 after) (others_read.carries left after before));
   }
 
-  pub then_exact : (kinds : List TokenKind) (r : Reading A) (f : A × List TokenKind → Reading C) → Exact spell Whole May kinds r
+  pub then_exact : (kinds : List TokenKind) (r : Reads A) (f : A × List TokenKind → Reads C) → Exact spell Whole May kinds r
       → ((x : A) (rest : List TokenKind) → Whole x → kinds ≡ spell x rest → length rest ≤ length kinds → Exact others (λ y. WholeAll y × (first y ≡ x)) MayAll rest (f (x, rest))) → Exact spell_all WholeAll MayAll kinds (r >>= f)
-  then_exact kinds (Err left) f refused next = record {
+  then_exact kinds (Err (Limit left)) f refused next = absurd refused
+  then_exact kinds (Err (Unexpected left)) f refused next = record {
     within = refused.within;
     none = λ y after w may_all agree. refused.none (first y) (others y after) (whole y w) (may y after w may_all) (subst (λ ks. Agree left ks kinds) (is y after w) agree);
     near = let whole_one = complete refused.near.0 refused.near.1 in (whole_one.0, whole_one.1, λ after. before_all left whole_one.0 refused.near.0 after kinds whole_one.1 whole_one.2 (refused.near.2 (others whole_one.0 after)));
@@ -94,8 +96,9 @@ pub done_exact : {C : Type 0} (Whole : C → Type 0) (May : C → List TokenKind
 done_exact {C = C} Whole May z kinds whole one = empty_exact (λ (y : C) after. after) Whole May z kinds (λ after. refl) whole one
 
 -- those that may be spelled here are fewer
-pub narrow_exact : {C : Type 0} (spell : C → List TokenKind → List TokenKind) (Whole Narrow : C → Type 0) (May : C → List TokenKind → Type 0) (kinds : List TokenKind) (r : Reading C) → ((left : ℕ) (y : C) (after : List TokenKind) → Whole y → May y after → Agree left (spell y after) kinds → Narrow y) → ((y : C) → Narrow y → Whole y) → Exact spell Narrow May kinds r → Exact spell Whole May kinds r
-narrow_exact spell Whole Narrow May kinds (Err left) to from refused = record {
+pub narrow_exact : {C : Type 0} (spell : C → List TokenKind → List TokenKind) (Whole Narrow : C → Type 0) (May : C → List TokenKind → Type 0) (kinds : List TokenKind) (r : Reads C) → ((left : ℕ) (y : C) (after : List TokenKind) → Whole y → May y after → Agree left (spell y after) kinds → Narrow y) → ((y : C) → Narrow y → Whole y) → Exact spell Narrow May kinds r → Exact spell Whole May kinds r
+narrow_exact spell Whole Narrow May kinds (Err (Limit left)) to from refused = absurd refused
+narrow_exact spell Whole Narrow May kinds (Err (Unexpected left)) to from refused = record {
   within = refused.within;
   none = λ y after w may agree. refused.none y after (to left y after w may agree) may agree;
   near = (refused.near.0, from refused.near.0 refused.near.1, refused.near.2);
@@ -141,8 +144,9 @@ module _ (token : TokenKind) (found : List TokenKind → Option (List TokenKind)
   behind : (left : ℕ) (after kinds rest all : List TokenKind) → kinds ≡ token ∷ rest → all ≡ token ∷ after → Before left after rest → Before left all kinds
   behind left after kinds rest all e f before = subst (λ ks. Before left ks kinds) (sym f) (subst (λ ks. Before left (token ∷ after) ks) (sym e) (λ le. (refl, before)))
 
-  token_exact : ((y : C) (after : List TokenKind) → Whole y → spell_all y after ≡ token ∷ others y after) → (kinds rest : List TokenKind) (r : Reading C) → kinds ≡ token ∷ rest → Exact others Whole May rest r → Exact spell_all Whole May kinds r
-  token_exact is kinds rest (Err left) e refused = record {
+  token_exact : ((y : C) (after : List TokenKind) → Whole y → spell_all y after ≡ token ∷ others y after) → (kinds rest : List TokenKind) (r : Reads C) → kinds ≡ token ∷ rest → Exact others Whole May rest r → Exact spell_all Whole May kinds r
+  token_exact is kinds rest (Err (Limit left)) e refused = absurd refused
+  token_exact is kinds rest (Err (Unexpected left)) e refused = record {
     within = let n : length kinds ≡ suc (length rest) = ap length e in omega (arith, refused.within);
     none = λ y after w may agree.
         let found = agree_first left token (others y after) kinds (subst (λ ks. Agree left ks kinds) (is y after w) agree) in
@@ -161,10 +165,10 @@ module _ (token : TokenKind) (found : List TokenKind → Option (List TokenKind)
     carries = λ left after before. behind left (others z.0 after) kinds rest (spell_all z.0 after) e (is z.0 after read.whole) (read.carries left after before);
   }
 
-  pub expect_exact : ((y : C) (after : List TokenKind) → Whole y → spell_all y after ≡ token ∷ others y after) → (y : C) × Whole y → (kinds : List TokenKind) (f : List TokenKind → Reading C) → ((rest : List TokenKind) → Exact others Whole May rest (f rest)) → Exact spell_all Whole May kinds (some_or (length kinds) (found kinds) >>= f)
+  pub expect_exact : ((y : C) (after : List TokenKind) → Whole y → spell_all y after ≡ token ∷ others y after) → (y : C) × Whole y → (kinds : List TokenKind) (f : List TokenKind → Reads C) → ((rest : List TokenKind) → Exact others Whole May rest (f rest)) → Exact spell_all Whole May kinds (some_or_unexpected (length kinds) (found kinds) >>= f)
   expect_exact is some kinds f next = by (found kinds) refl
     where
-      by : (o : Option (List TokenKind)) → found kinds ≡ o → Exact spell_all Whole May kinds (some_or (length kinds) o >>= f)
+      by : (o : Option (List TokenKind)) → found kinds ≡ o → Exact spell_all Whole May kinds (some_or_unexpected (length kinds) o >>= f)
       by (Some rest) e = token_exact is kinds rest (f rest) (eats.is kinds rest e) (next rest)
       by None e = record {
         within = omega arith;
@@ -178,7 +182,7 @@ module _ (token : TokenKind) (found : List TokenKind → Option (List TokenKind)
     {C : Type 0} (spell_all : C → List TokenKind → List TokenKind) (Whole : C → Type 0) (May : C → List TokenKind → Type 0) (others : C → List TokenKind → List TokenKind) where
   pub choose_exact : (Yes No : C → Type 0) → ((y : C) → Whole y → Yes y ⊎ No y) → ((y : C) (after : List TokenKind) → Whole y → Yes y → spell_all y after ≡ token ∷ others y after)
       → ((y : C) (after : List TokenKind) → Whole y → No y → May y after → Without token (spell_all y after))
-      → (kinds : List TokenKind) (f : List TokenKind → Reading C) (other : Reading C)
+      → (kinds : List TokenKind) (f : List TokenKind → Reads C) (other : Reads C)
       → ((rest : List TokenKind) → kinds ≡ token ∷ rest → Exact others (λ y. Whole y × Yes y) May rest (f rest)) → Exact spell_all (λ y. Whole y × No y) May kinds other
       → Exact spell_all Whole May kinds (choose (found kinds) f other)
   choose_exact Yes No cases is isnt kinds f other next elsewhere = by (found kinds) refl
@@ -200,43 +204,11 @@ module _ (token : TokenKind) (found : List TokenKind → Option (List TokenKind)
           (token_exact token found eats spell_all (λ y. Whole y × Yes y) May others (λ y after w. is y after w.0 w.1) kinds rest (f rest) (eats.is kinds rest e) (next rest (eats.is kinds rest e)))
       by None e = narrow_exact spell_all Whole (λ y. Whole y × No y) May kinds other (to_no e) (λ y h. h.0) elsewhere
 
-if_some : (b : Bool) (kinds rest : List TokenKind) → cond b (Some kinds) None ≡ Some rest → (b ≡ true) × (kinds ≡ rest)
-if_some true kinds rest e = (refl, cc)
-if_some false kinds rest e = absurd (cc)
-
-is_terminal_is : (x : Terminal) (y : TokenKind) → is_terminal x y ≡ true → y ≡ k.Terminal x
-is_terminal_is x (k.Terminal y) t = ap k.Terminal (same_terminal y x (eqb-true (terminal_code y) (terminal_code x) t))
-is_terminal_is x (k.Word word) t = absurd (cc)
-is_terminal_is x (k.Quoted name) t = absurd (cc)
-is_terminal_is x (k.Literal text) t = absurd (cc)
-is_terminal_is x (k.Number n) t = absurd (cc)
-
-is_word_is : (x : List ℕ) (y : TokenKind) → is_word x y ≡ true → y ≡ k.Word x
-is_word_is x (k.Word word) t = ap k.Word ((bytes_eq-Decides word x).0 t)
-is_word_is x (k.Terminal y) t = absurd (cc)
-is_word_is x (k.Quoted name) t = absurd (cc)
-is_word_is x (k.Literal text) t = absurd (cc)
-is_word_is x (k.Number n) t = absurd (cc)
-
-eat_is : (x : Terminal) (kinds rest : List TokenKind) → eat x kinds ≡ Some rest → kinds ≡ k.Terminal x ∷ rest
-unfolding eat
-eat_is x [] rest e = absurd (cc)
-eat_is x (y ∷ kinds) rest e = let found = if_some (is_terminal x y) kinds rest e in ap (λ z. z ∷ kinds) (is_terminal_is x y found.0) ∙ ap (λ ks. k.Terminal x ∷ ks) found.1
-
-eat_word_is : (x : List ℕ) (kinds rest : List TokenKind) → eat_word x kinds ≡ Some rest → kinds ≡ k.Word x ∷ rest
-unfolding eat_word
-eat_word_is x [] rest e = absurd (cc)
-eat_word_is x (y ∷ kinds) rest e = let found = if_some (is_word x y) kinds rest e in ap (λ z. z ∷ kinds) (is_word_is x y found.0) ∙ ap (λ ks. k.Word x ∷ ks) found.1
-
-pub eat_word_same : (x : List ℕ) (kinds : List TokenKind) → eat_word x (k.Word x ∷ kinds) ≡ Some kinds
-unfolding eat_word
-eat_word_same x kinds = rw ((bytes_eq-Decides x x).1 refl) refl
-
 some≢none : (kinds : List TokenKind) → Some kinds ≡ None → ⊥
 some≢none kinds e = cc
 
 pub eats_terminal : (x : Terminal) → Eats (k.Terminal x) (eat x)
 eats_terminal x = record { is = eat_is x; none = λ kinds rest e at. some≢none rest (sym (eat_same x rest) ∙ ap (eat x) (sym at) ∙ e) }
 
-pub eats_word : (x : List ℕ) → Eats (k.Word x) (eat_word x)
+pub eats_word : (x : KeyWord) → Eats (k.Word (letters x)) (eat_word x)
 eats_word x = record { is = eat_word_is x; none = λ kinds rest e at. some≢none rest (sym (eat_word_same x rest) ∙ ap (eat_word x) (sym at) ∙ e) }

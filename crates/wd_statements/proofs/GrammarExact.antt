@@ -1,5 +1,5 @@
 -- Each reader of the grammar of schemas is exact.
-use Rattle.std.proofs.Common.{◌≡◌, ◌≢◌, ◌∙◌, ◌⊎◌, inl, inr, ℕ, zero, suc, ◌<◌, ◌≤◌, sym, ap, subst, List, [], ◌∷◌, length, Bool, true, false, codes, Option, Some, None, is_some, Ok, refl, arith, ◌||◌, cond}
+use Rattle.std.proofs.Common.{◌≡◌, ◌≢◌, ◌∙◌, ◌⊎◌, inl, inr, ℕ, zero, suc, ◌<◌, ◌≤◌, sym, ap, subst, List, [], ◌∷◌, length, Bool, true, false, Option, Some, None, is_some, Ok, refl, arith, ◌||◌, cond}
 use Rattle.std.proofs.lemmas.Bool.{true≢false}
 use Rattle.std.specs.List.{All}
 use Rattle.std.proofs.lemmas.List.Elements.{All-nil, All-cons, All-head, All-tail}
@@ -8,8 +8,10 @@ use Rattle.wd_lex.specs.declared.token.Terminal.{Terminal}
 use Rattle.wd_lex.specs.declared.token.Terminal.TheVariants as m
 use Rattle.wd_lex.specs.declared.token.TokenKind.{TokenKind}
 use Rattle.wd_lex.specs.declared.token.TokenKind.TheVariants as k
-use Rattle.wd_statements.specs.declared.syntax.Name.{Name}
-use Rattle.wd_statements.specs.declared.syntax.Name.TheVariants.{Unquoted, Quoted}
+use Rattle.wd_cursor.specs.declared.name.Name.{Name}
+use Rattle.wd_cursor.specs.declared.words.KeyWord.TheVariants as w
+use Rattle.wd_cursor.specs.Tokens.{letters, written, name_kind}
+use Rattle.wd_cursor.specs.Cursor.{◌>>=◌, Parser, Reads, choose, is_terminal, eat, eat_word, expect, expect_word, eat_name, name_at, if_begun, many, after, list_at}
 use Rattle.wd_statements.specs.declared.syntax.Nulls.{Nulls}
 use Rattle.wd_statements.specs.declared.syntax.Nulls.TheVariants.{Unsaid, Distinct, NotDistinct}
 use Rattle.wd_statements.specs.declared.syntax.KeyWords.{KeyWords}
@@ -17,8 +19,8 @@ use Rattle.wd_statements.specs.declared.syntax.KeyWords.TheVariants.{Primary, Un
 use Rattle.wd_statements.specs.declared.syntax.Rule.{Rule}
 use Rattle.wd_statements.specs.declared.syntax.Rule.TheVariants as rule
 use Rattle.wd_statements.specs.declared.syntax.ColumnRule.{ColumnRule}
-use Rattle.wd_statements.specs.Grammar.{HasColumns, IsTable, listed, spell_column, spell_constraint, spell_element, spell_key, spell_name, spell_nulls, spell_rule, spell_rules, spell_stop, spell_table, spell_words, token_of}
-use Rattle.wd_statements.specs.Reading.{Reading, ◌>>=◌, is_terminal, eat, eat_word, expect, expect_word, name_of, name_at, nulls_at, words_at, rule_at, constraint_at, column_rule_at, ends_column, rules_at, more_at, list_at, column_at, key_at, begins_key, element_at, table_at, stop_at, statement_at}
+use Rattle.wd_statements.specs.Grammar.{HasColumns, IsTable, listed, spell_column, spell_constraint, spell_element, spell_key, spell_name, spell_nulls, spell_rule, spell_rules, spell_stop, spell_table, spell_words}
+use Rattle.wd_statements.specs.Reading.{nulls_at, words_at, rule_at, constraint_at, column_rule_at, ends_column, rule_if, rules_at, column_at, key_at, begins_key, element_at, table_at, stop_at, statement_at}
 use Rattle.wd_statements.specs.Written.{ColumnTree, KeyTree, ElementTree, Column, Key, TableTree}
 use Rattle.wd_statements.proofs.Exactness.{Agree, Exact, Without, before_first, choose_exact, done_exact, empty_exact, eats_terminal, eats_word, expect_exact, narrow_exact, then_exact}
 
@@ -30,54 +32,63 @@ Ever x after = ⊤
 
 -- ---- a name
 
-name_is : (x : Name) (text : List ℕ) → token_of x ≡ k.Word text → x ≡ Unquoted text
-name_is (Unquoted t) text e = cc
-name_is (Quoted t) text e = absurd (cc)
+no_name : Name
+no_name = record { text = []; quoted = false }
 
-quoted_is : (x : Name) (text : List ℕ) → token_of x ≡ k.Quoted text → x ≡ Quoted text
-quoted_is (Unquoted t) text e = absurd (cc)
-quoted_is (Quoted t) text e = cc
+name_by : (x : Name) (text : List ℕ) (quoted : Bool) → x.text ≡ text → x.quoted ≡ quoted → x ≡ record { text = text; quoted = quoted }
+name_by x text quoted e f = ap (λ t. let z : Name = record { text = t; quoted = x.quoted } in z) e ∙ ap (λ q. let z : Name = record { text = text; quoted = q } in z) f
 
-no_name_terminal : (x : Name) (y : Terminal) → token_of x ≡ k.Terminal y → ⊥
-no_name_terminal (Unquoted t) y e = cc
-no_name_terminal (Quoted t) y e = cc
+written_word : (quoted : Bool) (text word : List ℕ) → written quoted text ≡ k.Word word → (text ≡ word) × (quoted ≡ false)
+written_word true text word e = absurd (cc)
+written_word false text word e = (cc, refl)
 
-no_name_literal : (x : Name) (y : List ℕ) → token_of x ≡ k.Literal y → ⊥
-no_name_literal (Unquoted t) y e = cc
-no_name_literal (Quoted t) y e = cc
+written_quoted : (quoted : Bool) (text name : List ℕ) → written quoted text ≡ k.Quoted name → (text ≡ name) × (quoted ≡ true)
+written_quoted true text name e = (cc, refl)
+written_quoted false text name e = absurd (cc)
 
-no_name_number : (x : Name) (y : ℕ) → token_of x ≡ k.Number y → ⊥
-no_name_number (Unquoted t) y e = cc
-no_name_number (Quoted t) y e = cc
+name_is : (x : Name) (text : List ℕ) → name_kind x ≡ k.Word text → x ≡ record { text = text; quoted = false }
+name_is x text e = let parts = written_word x.quoted x.text text e in name_by x text false parts.0 parts.1
 
-name_first : (y : TokenKind) (kinds : List TokenKind) → Exact spell_name Any Ever (y ∷ kinds) (name_of y kinds)
-name_first (k.Word text) kinds = record {
+quoted_is : (x : Name) (text : List ℕ) → name_kind x ≡ k.Quoted text → x ≡ record { text = text; quoted = true }
+quoted_is x text e = let parts = written_quoted x.quoted x.text text e in name_by x text true parts.0 parts.1
+
+no_terminal : (quoted : Bool) (text : List ℕ) (y : Terminal) → written quoted text ≡ k.Terminal y → ⊥
+no_terminal true text y e = cc
+no_terminal false text y e = cc
+
+no_literal : (quoted : Bool) (text y : List ℕ) → written quoted text ≡ k.Literal y → ⊥
+no_literal true text y e = cc
+no_literal false text y e = cc
+
+no_number : (quoted : Bool) (text : List ℕ) (y : ℕ) → written quoted text ≡ k.Number y → ⊥
+no_number true text y e = cc
+no_number false text y e = cc
+
+pub name_exact : (kinds : List TokenKind) → Exact spell_name Any Ever kinds (name_at kinds)
+unfolding name_at eat_name
+name_exact [] = record { within = omega arith; none = λ x after w may agree. agree; near = (no_name, tt, λ after. tt) }
+name_exact (k.Word text ∷ kinds) = record {
   spelled = refl;
   whole = tt;
   shorter = omega arith;
   same = λ left x after w may lt agree. (name_is x text agree.0, agree.1 lt);
   carries = λ left after before. λ le. (refl, before);
 }
-name_first (k.Quoted text) kinds = record {
+name_exact (k.Quoted text ∷ kinds) = record {
   spelled = refl;
   whole = tt;
   shorter = omega arith;
   same = λ left x after w may lt agree. (quoted_is x text agree.0, agree.1 lt);
   carries = λ left after before. λ le. (refl, before);
 }
-name_first (k.Terminal y) kinds = record { within = omega arith; none = λ x after w may agree. no_name_terminal x y agree.0; near = (Unquoted [], tt, λ after. before_first (spell_name (Unquoted []) after) (k.Terminal y ∷ kinds)) }
-name_first (k.Literal y) kinds = record { within = omega arith; none = λ x after w may agree. no_name_literal x y agree.0; near = (Unquoted [], tt, λ after. before_first (spell_name (Unquoted []) after) (k.Literal y ∷ kinds)) }
-name_first (k.Number y) kinds = record { within = omega arith; none = λ x after w may agree. no_name_number x y agree.0; near = (Unquoted [], tt, λ after. before_first (spell_name (Unquoted []) after) (k.Number y ∷ kinds)) }
-
-pub name_exact : (kinds : List TokenKind) → Exact spell_name Any Ever kinds (name_at kinds)
-unfolding name_at
-name_exact [] = record { within = omega arith; none = λ x after w may agree. agree; near = (Unquoted [], tt, λ after. tt) }
-name_exact (y ∷ kinds) = name_first y kinds
+name_exact (k.Terminal y ∷ kinds) = record { within = omega arith; none = λ x after w may agree. no_terminal x.quoted x.text y agree.0; near = (no_name, tt, λ after. before_first (spell_name no_name after) (k.Terminal y ∷ kinds)) }
+name_exact (k.Literal y ∷ kinds) = record { within = omega arith; none = λ x after w may agree. no_literal x.quoted x.text y agree.0; near = (no_name, tt, λ after. before_first (spell_name no_name after) (k.Literal y ∷ kinds)) }
+name_exact (k.Number y ∷ kinds) = record { within = omega arith; none = λ x after w may agree. no_number x.quoted x.text y agree.0; near = (no_name, tt, λ after. before_first (spell_name no_name after) (k.Number y ∷ kinds)) }
 
 -- ---- NULLS [NOT] DISTINCT
 
 abbrev nulls_token : TokenKind
-nulls_token = k.Word (codes "nulls")
+nulls_token = k.Word (letters w.Nulls)
 
 abbrev IsSaid : Nulls → Type 0
 IsSaid Unsaid = ⊥
@@ -114,7 +125,7 @@ MayNulls y after = Without nulls_token after
 pub nulls_exact : (kinds : List TokenKind) → Exact spell_nulls Any MayNulls kinds (nulls_at kinds)
 unfolding nulls_at expect
 nulls_exact kinds =
-    choose_exact nulls_token (eat_word (codes "nulls")) (eats_word (codes "nulls")) spell_nulls Any MayNulls behind_nulls IsSaid (λ y. y ≡ Unsaid)
+    choose_exact nulls_token (eat_word w.Nulls) (eats_word w.Nulls) spell_nulls Any MayNulls behind_nulls IsSaid (λ y. y ≡ Unsaid)
     (λ y w. said_or_not y) (λ y after w said. behind_nulls_is y after said)
     (λ y after w is may. λ rest e. may rest (sym (ap (λ z. spell_nulls z after) is) ∙ e))
     kinds _ _
@@ -158,11 +169,11 @@ unique_not_primary x rest e = cc
 pub words_exact : (kinds : List TokenKind) → Exact spell_words Any MayNulls kinds (words_at kinds)
 unfolding words_at expect expect_word
 words_exact kinds =
-    choose_exact (k.Terminal m.Primary) (eat m.Primary) (eats_terminal m.Primary) spell_words Any MayNulls (λ y after. k.Word (codes "key") ∷ after) (λ y. y ≡ Primary) IsUnique
+    choose_exact (k.Terminal m.Primary) (eat m.Primary) (eats_terminal m.Primary) spell_words Any MayNulls (λ y after. k.Word (letters w.Key) ∷ after) (λ y. y ≡ Primary) IsUnique
     (λ y w. primary_or_unique y) (λ y after w is. ap (λ z. spell_words z after) is)
     (λ y after w is may. λ rest e. unique_not_primary (spell_nulls (nulls_in y) after) rest (sym (unique_is y after is) ∙ e))
     kinds _ _
-    (λ primary at. expect_exact (k.Word (codes "key")) (eat_word (codes "key")) (eats_word (codes "key")) (λ y after. k.Word (codes "key") ∷ after) (λ y. Any y × (y ≡ Primary)) MayNulls (λ y after. after)
+    (λ primary at. expect_exact (k.Word (letters w.Key)) (eat_word w.Key) (eats_word w.Key) (λ y after. k.Word (letters w.Key) ∷ after) (λ y. Any y × (y ≡ Primary)) MayNulls (λ y after. after)
     (λ y after w. refl) (Primary, (tt, refl)) primary _ (λ rest. done_exact (λ y. Any y × (y ≡ Primary)) MayNulls Primary rest (tt, refl) (λ y w. w.1)))
     (expect_exact (k.Terminal m.Unique) (eat m.Unique) (eats_terminal m.Unique) spell_words (λ y. Any y × IsUnique y) MayNulls (λ y after. spell_nulls (nulls_in y) after)
     (λ y after w. unique_is y after w.1) (Unique Unsaid, (tt, tt)) kinds _
@@ -244,7 +255,7 @@ has_name_or_not None = inr refl
 has_name_or_not (Some name) = inl tt
 
 abbrev name_in : Option Name → Name
-name_in None = Unquoted []
+name_in None = no_name
 name_in (Some name) = name
 
 constraint_is : (y : Option Name) (after : List TokenKind) → HasName y → spell_constraint y after ≡ k.Terminal m.Constraint ∷ spell_name (name_in y) after
@@ -416,22 +427,26 @@ rules_is : (y : List ColumnRule) (after : List TokenKind) → IsCons y → spell
 rules_is [] after w = absurd w
 rules_is (y ∷ ys) after w = refl
 
-pub rules_exact : (n : ℕ) (kinds : List TokenKind) → length kinds ≤ n → Exact spell_rules Any MayEnd kinds (rules_at n kinds)
-unfolding rules_at
-rules_exact zero [] le = rules_stop [] (λ left y after may agree. none_at_end left y after agree)
-rules_exact zero (x ∷ kinds) le = absurd (omega arith)
-rules_exact (suc n) kinds le = by (ends_column kinds) refl (rules_exact n)
+many_rules_exact : (n : ℕ) (kinds : List TokenKind) → length kinds ≤ n → Exact spell_rules Any MayEnd kinds (many rule_if n kinds)
+unfolding many rule_if
+many_rules_exact zero [] le = rules_stop [] (λ left y after may agree. none_at_end left y after agree)
+many_rules_exact zero (x ∷ kinds) le = absurd (omega arith)
+many_rules_exact (suc n) kinds le = by (ends_column kinds) refl (many_rules_exact n)
   where
-    by : (b : Bool) → ends_column kinds ≡ b → ((rest : List TokenKind) → length rest ≤ n → Exact spell_rules Any MayEnd rest (rules_at n rest)) → Exact spell_rules Any MayEnd kinds (cond b (Ok ([], kinds)) (column_rule_at kinds >>= λ r. rules_at n r.1 >>= λ rs. Ok (r.0 ∷ rs.0, rs.1)))
+    by : (b : Bool) → ends_column kinds ≡ b → ((rest : List TokenKind) → length rest ≤ n → Exact spell_rules Any MayEnd rest (many rule_if n rest)) → Exact spell_rules Any MayEnd kinds (if_begun (cond b None (Some (column_rule_at kinds))) kinds (λ r. many rule_if n r.1 >>= λ rs. Ok (r.0 ∷ rs.0, rs.1)))
     by true e others = rules_stop kinds (λ left y after may agree. none_where_ends kinds e left y after agree)
     by false e others =
-        narrow_exact spell_rules Any IsCons MayEnd kinds (column_rule_at kinds >>= λ r. rules_at n r.1 >>= λ rs. Ok (r.0 ∷ rs.0, rs.1)) (λ left y after w may agree. some_where_goes kinds e left y after may agree) (λ y w. tt)
+        narrow_exact spell_rules Any IsCons MayEnd kinds (column_rule_at kinds >>= λ r. many rule_if n r.1 >>= λ rs. Ok (r.0 ∷ rs.0, rs.1)) (λ left y after w may agree. some_where_goes kinds e left y after may agree) (λ y w. tt)
         (then_exact spell_column_rule Any MayNulls spell_rules IsCons MayEnd (head_or no_rule) (λ y after. spell_rules (tail_of y) after)
         (λ y after w. rules_is y after w) (λ y w. tt) (λ y after w may. rules_not_nulls (tail_of y) after may) (λ r w. (r ∷ [], tt, refl)) kinds _ _ (column_rule_exact kinds)
         (λ r rest w at le'. then_exact spell_rules Any MayEnd (λ y after. spell_rules (tail_of y) after) (λ y. IsCons y × (head_or no_rule y ≡ r)) MayEnd tail_of (λ y after. after)
         (λ y after w. refl) (λ y w. tt) (λ y after w may. may) (λ rs w. (r ∷ rs, (tt, refl), refl)) rest _ _
         (others rest (let n : length kinds ≡ length (spell_column_rule r rest) = ap length at in let lt : length rest < length (spell_column_rule r rest) = longer_by r.constraint r.rule rest in omega arith))
         (λ rs last w at le'. done_exact (λ y. (IsCons y × (head_or no_rule y ≡ r)) × (tail_of y ≡ rs)) MayEnd (r ∷ rs) last ((tt, refl), refl) (λ y h. cons_of no_rule y r rs h.0.0 h.0.1 h.1))))
+
+pub rules_exact : (kinds : List TokenKind) → Exact spell_rules Any MayEnd kinds (rules_at kinds)
+unfolding rules_at
+rules_exact kinds = many_rules_exact (length kinds) kinds (omega arith)
 
 -- ---- items with commas between them
 
@@ -448,7 +463,7 @@ listed_is_by : {A : Type 0} (spell : A → List TokenKind → List TokenKind) (x
 listed_is_by spell x [] after = refl
 listed_is_by spell x (y ∷ ys) after = ap (λ r. spell x (k.Terminal m.Comma ∷ r)) (listed_is_by spell y ys after)
 
-module _ {A : Type 0} (d : A) (item : List TokenKind → Reading A) (spell : A → List TokenKind → List TokenKind) (Whole : A → Type 0) (May : A → List TokenKind → Type 0)
+module _ {A : Type 0} (d : A) (item : Parser A) (spell : A → List TokenKind → List TokenKind) (Whole : A → Type 0) (May : A → List TokenKind → Type 0)
     (exact : (kinds : List TokenKind) → Exact spell Whole May kinds (item kinds)) (may_comma : (y : A) (after : List TokenKind) → May y (k.Terminal m.Comma ∷ after)) where
   -- no comma follows the last item
   abbrev MayMore : List A → List TokenKind → Type 0
@@ -478,14 +493,20 @@ module _ {A : Type 0} (d : A) (item : List TokenKind → Reading A) (spell : A �
   none_left left [] after agree = refl
   none_left left (y ∷ ys) after agree = absurd agree
 
-  pub more_exact : (n : ℕ) (kinds : List TokenKind) → length kinds ≤ n → Exact (spell_more spell) (EachIs Whole) MayMore kinds (more_at item n kinds)
-  unfolding more_at
+  -- what is read after a comma, or nothing
+  chosen : (o : Option (List TokenKind)) (kinds : List TokenKind) (next : A × List TokenKind → Reads (List A)) → choose o (λ rest. item rest >>= next) (Ok ([], kinds)) ≡ if_begun (choose o (λ rest. Some (item rest)) None) kinds next
+  chosen (Some rest) kinds next = refl
+  chosen None kinds next = refl
+
+  pub more_exact : (n : ℕ) (kinds : List TokenKind) → length kinds ≤ n → Exact (spell_more spell) (EachIs Whole) MayMore kinds (many (after m.Comma item) n kinds)
+  unfolding many after
   more_exact zero [] le =
       narrow_exact (spell_more spell) (EachIs Whole) (λ y. y ≡ []) MayMore [] (Ok ([], [])) (λ left y after w may agree. none_left left y after agree) (λ y e. subst (EachIs Whole) (sym e) tt)
       (empty_exact (spell_more spell) (λ y. y ≡ []) MayMore [] [] (λ after. refl) refl (λ y e. e))
   more_exact zero (x ∷ kinds) le = absurd (omega arith)
   more_exact (suc n) kinds le =
-      choose_exact (k.Terminal m.Comma) (eat m.Comma) (eats_terminal m.Comma) (spell_more spell) (EachIs Whole) MayMore (λ y after. spell (head_or d y) (spell_more spell (tail_of y) after)) IsCons (λ y. y ≡ [])
+      subst (Exact (spell_more spell) (EachIs Whole) MayMore kinds) (chosen (eat m.Comma kinds) kinds (λ a. many (after m.Comma item) n a.1 >>= λ xs. Ok (a.0 ∷ xs.0, xs.1)))
+      (choose_exact (k.Terminal m.Comma) (eat m.Comma) (eats_terminal m.Comma) (spell_more spell) (EachIs Whole) MayMore (λ y after. spell (head_or d y) (spell_more spell (tail_of y) after)) IsCons (λ y. y ≡ [])
       (λ y w. cons_or_not y) (λ y after w is. more_is y after is) (λ y after w is may. λ rest e. may.0 rest (sym (ap (λ z. spell_more spell z after) is) ∙ e))
       kinds _ _
       (λ rest at. then_exact spell Whole May (λ y after. spell (head_or d y) (spell_more spell (tail_of y) after)) (λ y. EachIs Whole y × IsCons y) MayMore (head_or d) (λ y after. spell_more spell (tail_of y) after)
@@ -493,15 +514,15 @@ module _ {A : Type 0} (d : A) (item : List TokenKind → Reading A) (spell : A �
       (λ x last w e le'. then_exact (spell_more spell) (EachIs Whole) MayMore (λ y after. spell_more spell (tail_of y) after) (λ y. (EachIs Whole y × IsCons y) × (head_or d y ≡ x)) MayMore tail_of (λ y after. after)
       (λ y after w. refl) (λ y w. tail_whole y w.0.0) (λ y after w may. may) (λ xs ws. (x ∷ xs, (((w, ws), tt), refl), refl)) last _ _ (more_exact n last (let n : length kinds ≡ suc (length rest) = ap length at in omega arith))
       (λ xs end ws e le''. done_exact (λ y. ((EachIs Whole y × IsCons y) × (head_or d y ≡ x)) × (tail_of y ≡ xs)) MayMore (x ∷ xs) end ((((w, ws), tt), refl), refl) (λ y h. cons_of d y x xs h.0.0.1 h.0.1 h.1))))
-      (empty_exact (spell_more spell) (λ y. EachIs Whole y × (y ≡ [])) MayMore [] kinds (λ after. refl) (tt, refl) (λ y w. w.1))
+      (empty_exact (spell_more spell) (λ y. EachIs Whole y × (y ≡ [])) MayMore [] kinds (λ after. refl) (tt, refl) (λ y w. w.1)))
 
-  pub list_exact : (kinds : List TokenKind) → Exact (listed m.Comma spell) (λ y. EachIs Whole y × IsCons y) MayMore kinds (list_at item kinds)
+  pub list_exact : (kinds : List TokenKind) → Exact (listed m.Comma spell) (λ y. EachIs Whole y × IsCons y) MayMore kinds (list_at m.Comma item kinds)
   unfolding list_at
   list_exact kinds =
       then_exact spell Whole May (listed m.Comma spell) (λ y. EachIs Whole y × IsCons y) MayMore (head_or d) (λ y after. spell_more spell (tail_of y) after)
       (λ y after w. listed_is y after w.1) (λ y w. head_whole y w.0 w.1) (λ y after w may. may_item (head_or d y) (tail_of y) after may) (λ x w. (x ∷ [], ((w, tt), tt), refl)) kinds _ _ (exact kinds)
       (λ x rest w e le. then_exact (spell_more spell) (EachIs Whole) MayMore (λ y after. spell_more spell (tail_of y) after) (λ y. (EachIs Whole y × IsCons y) × (head_or d y ≡ x)) MayMore tail_of (λ y after. after)
-      (λ y after w. refl) (λ y w. tail_whole y w.0.0) (λ y after w may. may) (λ xs ws. (x ∷ xs, (((w, ws), tt), refl), refl)) rest _ _ (more_exact (length kinds) rest le)
+      (λ y after w. refl) (λ y w. tail_whole y w.0.0) (λ y after w may. may) (λ xs ws. (x ∷ xs, (((w, ws), tt), refl), refl)) rest _ _ (more_exact (length rest) rest (omega arith))
       (λ xs end ws e le''. done_exact (λ y. ((EachIs Whole y × IsCons y) × (head_or d y ≡ x)) × (tail_of y ≡ xs)) MayMore (x ∷ xs) end ((((w, ws), tt), refl), refl) (λ y h. cons_of d y x xs h.0.0.1 h.0.1 h.1)))
 
 -- ---- a column
@@ -519,7 +540,7 @@ column_exact kinds =
     (λ name others w e le. then_exact spell_name Any Ever (λ y after. spell_name y.kind (spell_rules y.rules after)) (λ y. Any y × (y.name ≡ name)) MayEnd (λ y. y.kind) (λ y after. spell_rules y.rules after)
     (λ y after w. refl) (λ y w. tt) (λ y after w may. tt) (λ kind w. (record { name = name; kind = kind; rules = [] }, (tt, refl), refl)) others _ _ (name_exact others)
     (λ kind more w e le. then_exact spell_rules Any MayEnd (λ y after. spell_rules y.rules after) (λ y. (Any y × (y.name ≡ name)) × (y.kind ≡ kind)) MayEnd (λ y. y.rules) (λ y after. after)
-    (λ y after w. refl) (λ y w. tt) (λ y after w may. may) (λ rules w. (record { name = name; kind = kind; rules = rules }, ((tt, refl), refl), refl)) more _ _ (rules_exact (length more) more (omega arith))
+    (λ y after w. refl) (λ y w. tt) (λ y after w may. may) (λ rules w. (record { name = name; kind = kind; rules = rules }, ((tt, refl), refl), refl)) more _ _ (rules_exact more)
     (λ rules rest w e le. done_exact (λ y. ((Any y × (y.name ≡ name)) × (y.kind ≡ kind)) × (y.rules ≡ rules)) MayEnd (record { name = name; kind = kind; rules = rules }) rest (((tt, refl), refl), refl)
     (λ y h. column_of y name kind rules h.0.0.1 h.0.1 h.1))))
 
@@ -529,7 +550,7 @@ abbrev HasNames : KeyTree → Type 0
 HasNames key = key.columns ≢ []
 
 abbrev MayNames : List Name → List TokenKind → Type 0
-MayNames = MayMore (Unquoted []) name_at spell_name Any Ever name_exact (λ y after. tt)
+MayNames = MayMore no_name name_at spell_name Any Ever name_exact (λ y after. tt)
 
 any_each : {A : Type 0} (ys : List A) → EachIs Any ys
 any_each [] = tt
@@ -551,7 +572,7 @@ abbrev spell_names : KeyTree → List TokenKind → List TokenKind
 spell_names y after = listed m.Comma spell_name y.columns (k.Terminal m.RightBracket ∷ after)
 
 a_name : List Name
-a_name = Unquoted [] ∷ []
+a_name = no_name ∷ []
 
 has_a_name : a_name ≢ []
 unfolding a_name
@@ -568,7 +589,7 @@ key_exact kinds =
     (λ y after w. refl) (record { constraint = name; words = words; columns = a_name }, ((has_a_name, refl), refl)) more _
     (λ bracket. then_exact (listed m.Comma spell_name) (λ y. EachIs Any y × IsCons y) MayNames spell_names (λ y. (HasNames y × (y.constraint ≡ name)) × (y.words ≡ words)) Ever (λ y. y.columns) (λ y after. k.Terminal m.RightBracket ∷ after)
     (λ y after w. refl) (λ y w. (any_each y.columns, cons_from y.columns w.0.0)) (λ y after w may. (bracket_not_comma after, λ x. tt)) (λ columns w. (record { constraint = name; words = words; columns = columns }, ((some_from columns w.1, refl), refl), refl)) bracket _ _
-    (list_exact (Unquoted []) name_at spell_name Any Ever name_exact (λ y after. tt) bracket)
+    (list_exact no_name name_at spell_name Any Ever name_exact (λ y after. tt) bracket)
     (λ columns last some e le. expect_exact (k.Terminal m.RightBracket) (eat m.RightBracket) (eats_terminal m.RightBracket) (λ y after. k.Terminal m.RightBracket ∷ after) (λ y. ((HasNames y × (y.constraint ≡ name)) × (y.words ≡ words)) × (y.columns ≡ columns)) Ever (λ y after. after)
     (λ y after w. refl) (record { constraint = name; words = words; columns = columns }, (((some_from columns some.1, refl), refl), refl)) last _
     (λ rest. done_exact (λ y. ((HasNames y × (y.constraint ≡ name)) × (y.words ≡ words)) × (y.columns ≡ columns)) Ever (record { constraint = name; words = words; columns = columns }) rest
@@ -592,10 +613,13 @@ key_begins_by (Some name) words after = refl
 key_begins_by None Primary after = refl
 key_begins_by None (Unique nulls) after = refl
 
-column_begins_by : (name : Name) (after : List TokenKind) → begins_key (token_of name ∷ after) ≡ false
+column_begins_by : (name : Name) (after : List TokenKind) → begins_key (name_kind name ∷ after) ≡ false
 unfolding begins_key eat
-column_begins_by (Unquoted text) after = refl
-column_begins_by (Quoted text) after = refl
+column_begins_by name after = by name.quoted
+  where
+    by : (quoted : Bool) → begins_key (written quoted name.text ∷ after) ≡ false
+    by true = refl
+    by false = refl
 
 abbrev IsKey : ElementTree → Type 0
 IsKey (Column column) = ⊥
@@ -606,7 +630,7 @@ IsColumn (Column column) = ⊤
 IsColumn (Key key) = ⊥
 
 no_column : ColumnTree
-no_column = record { name = Unquoted []; kind = Unquoted []; rules = [] }
+no_column = record { name = no_name; kind = no_name; rules = [] }
 
 no_key : KeyTree
 no_key = record { constraint = None; words = Primary; columns = [] }
@@ -621,7 +645,7 @@ column_in (Key key) = no_column
 
 key_where_begins : (kinds : List TokenKind) → begins_key kinds ≡ true → (left : ℕ) (y : ElementTree) (after : List TokenKind) → Agree left (spell_element y after) kinds → IsKey y
 key_where_begins kinds e left (Column column) after agree =
-    absurd (true≢false (sym e ∙ sym (begins_agree left (spell_column column after) kinds agree) ∙ column_begins_by column.name (token_of column.kind ∷ spell_rules column.rules after)))
+    absurd (true≢false (sym e ∙ sym (begins_agree left (spell_column column after) kinds agree) ∙ column_begins_by column.name (name_kind column.kind ∷ spell_rules column.rules after)))
 key_where_begins kinds e left (Key key) after agree = tt
 
 column_where_not : (kinds : List TokenKind) → begins_key kinds ≡ false → (left : ℕ) (y : ElementTree) (after : List TokenKind) → Agree left (spell_element y after) kinds → IsColumn y
@@ -699,9 +723,9 @@ a_table name = record { some = λ e. cc; each = all_from_each (Column no_column 
 pub table_exact : (kinds : List TokenKind) → Exact spell_table IsTable Ever kinds (table_at kinds)
 unfolding table_at expect
 table_exact kinds =
-    expect_exact (k.Terminal m.Create) (eat m.Create) (eats_terminal m.Create) spell_table IsTable Ever (λ y after. k.Terminal m.Table ∷ token_of y.name ∷ k.Terminal m.LeftBracket ∷ spell_elements y after) (λ y after w. refl) (record { name = Unquoted []; elements = some_elements }, a_table (Unquoted [])) kinds _
-    (λ create. expect_exact (k.Terminal m.Table) (eat m.Table) (eats_terminal m.Table) (λ y after. k.Terminal m.Table ∷ token_of y.name ∷ k.Terminal m.LeftBracket ∷ spell_elements y after) IsTable Ever (λ y after. spell_name y.name (k.Terminal m.LeftBracket ∷ spell_elements y after))
-    (λ y after w. refl) (record { name = Unquoted []; elements = some_elements }, a_table (Unquoted [])) create _
+    expect_exact (k.Terminal m.Create) (eat m.Create) (eats_terminal m.Create) spell_table IsTable Ever (λ y after. k.Terminal m.Table ∷ name_kind y.name ∷ k.Terminal m.LeftBracket ∷ spell_elements y after) (λ y after w. refl) (record { name = no_name; elements = some_elements }, a_table no_name) kinds _
+    (λ create. expect_exact (k.Terminal m.Table) (eat m.Table) (eats_terminal m.Table) (λ y after. k.Terminal m.Table ∷ name_kind y.name ∷ k.Terminal m.LeftBracket ∷ spell_elements y after) IsTable Ever (λ y after. spell_name y.name (k.Terminal m.LeftBracket ∷ spell_elements y after))
+    (λ y after w. refl) (record { name = no_name; elements = some_elements }, a_table no_name) create _
     (λ word. then_exact spell_name Any Ever (λ y after. spell_name y.name (k.Terminal m.LeftBracket ∷ spell_elements y after)) IsTable Ever (λ y. y.name) (λ y after. k.Terminal m.LeftBracket ∷ spell_elements y after)
     (λ y after w. refl) (λ y w. tt) (λ y after w may. tt) (λ name w. (record { name = name; elements = some_elements }, a_table name, refl)) word _ _ (name_exact word)
     (λ name others w e le. expect_exact (k.Terminal m.LeftBracket) (eat m.LeftBracket) (eats_terminal m.LeftBracket) (λ y after. k.Terminal m.LeftBracket ∷ spell_elements y after) (λ y. IsTable y × (y.name ≡ name)) Ever spell_elements

@@ -1,4 +1,3 @@
-pub mod ReadingFacts
 pub mod Exactness
 pub mod GrammarExact
 pub mod SchemaLaws

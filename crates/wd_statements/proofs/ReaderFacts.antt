@@ -1,12 +1,21 @@
--- Lists of a schema that grow by an item at their end, as they are spelled.
-use Rattle.std.proofs.Common.{◌≡◌, ◌≢◌, ◌∙◌, sym, Bool, true, false, List, [], ◌∷◌, ◌++◌, refl, ap}
+-- The rules of a column, where it goes on, and lists of a schema that grow by an item at their end, as they are spelled.
+use Rattle.std.proofs.Common.{◌≡◌, ◌≢◌, ◌∙◌, sym, Bool, true, false, List, [], ◌∷◌, ◌++◌, Some, None, refl, ap}
 use Rattle.std.proofs.lemmas.Bool.{true≢false}
 use Rattle.wd_lex.specs.declared.token.Terminal.{Terminal}
 use Rattle.wd_lex.specs.declared.token.Terminal.TheVariants as m
 use Rattle.wd_lex.specs.declared.token.TokenKind.{TokenKind}
 use Rattle.wd_lex.specs.declared.token.TokenKind.TheVariants as k
 use Rattle.wd_statements.specs.Grammar.{listed, spell_table, spell_tables, spell_stop}
+use Rattle.wd_statements.specs.Reading.{column_rule_at, ends_column, rule_if}
 use Rattle.wd_statements.specs.Written.{TableTree}
+
+pub rule_goes : (kinds : List TokenKind) → ends_column kinds ≡ false → rule_if kinds ≡ Some (column_rule_at kinds)
+unfolding rule_if
+rule_goes kinds e = rw e refl
+
+pub rule_ends : (kinds : List TokenKind) → ends_column kinds ≡ true → rule_if kinds ≡ None
+unfolding rule_if
+rule_ends kinds e = rw e refl
 
 listed-push : {A : Type 0} (terminal : Terminal) (spell : A → List TokenKind → List TokenKind) (xs : List A) (y : A) (rest : List TokenKind) → xs ≢ [] → listed terminal spell xs (k.Terminal terminal ∷ spell y rest) ≡ listed terminal spell (xs ++ y ∷ []) rest
 listed-push terminal spell [] y rest some = absurd (some refl)

@@ -12,10 +12,14 @@ use Rattle.wd_lex.specs.declared.token.TokenKind.TheVariants as k
 use Rattle.wd_statements.specs.declared.syntax.ColumnRule.{ColumnRule}
 use Rattle.wd_statements.specs.declared.syntax.KeyWords.{KeyWords}
 use Rattle.wd_statements.specs.declared.syntax.KeyWords.TheVariants.{Primary, Unique}
-use Rattle.wd_statements.specs.declared.syntax.Name.{Name}
+use Rattle.wd_cursor.specs.declared.name.Name.{Name}
+use Rattle.wd_cursor.specs.Cursor.{Unexpected, Limit, ◌>>=◌, Reads, some_or_unexpected, eat, expect}
 use Rattle.wd_statements.specs.declared.syntax.Nulls.TheVariants.{Unsaid, Distinct, NotDistinct}
 use Rattle.wd_statements.specs.Grammar.{AreStatements, Begins, IsEnd, IsSchema, IsTable, IsUnexpected, listed, spell_constraint, spell_element, spell_key, spell_name, spell_rule, spell_rules, spell_schema, spell_stop, spell_tables, spell_words}
-use Rattle.wd_statements.specs.Reading.{Reading, ◌>>=◌, some_or, eat, expect, statement_at, stop_at, table_at}
+use Rattle.wd_statements.specs.Reading.{statement_at, stop_at, table_at}
+use Rattle.wd_cursor.specs.Given.{Fails, left_of}
+use Rattle.wd_cursor.specs.declared.refusal.Refusal.{Refusal}
+use Rattle.wd_cursor.specs.declared.refusal.Refusal.TheVariants as r
 use Rattle.wd_statements.specs.Laws.{HasOnePlace}
 use Rattle.wd_statements.specs.Written.{ElementTree, Column, Key, SchemaTree, TableTree}
 use Rattle.wd_statements.proofs.Exactness.{Agree, Before, Exact, IsRead, IsRefused}
@@ -62,9 +66,10 @@ before_at (suc place) left (x ∷ xs) (y ∷ ys) sum before =
 
 -- ---- one statement
 
-unique_by : (kinds : List TokenKind) (r : Reading (TableTree × Bool)) → Exact spell_statement WholeStatement MayStatement kinds r → (a b : TableTree × Bool) (more rest : List TokenKind)
+unique_by : (kinds : List TokenKind) (r : Reads (TableTree × Bool)) → Exact spell_statement WholeStatement MayStatement kinds r → (a b : TableTree × Bool) (more rest : List TokenKind)
     → WholeStatement a → MayStatement a more → kinds ≡ spell_statement a more → WholeStatement b → MayStatement b rest → kinds ≡ spell_statement b rest → (a ≡ b) × (more ≡ rest)
-unique_by kinds (Err left) refused a b more rest wa ma ea wb mb eb = absurd (refused.none a more wa ma (subst (Agree left (spell_statement a more)) (sym ea) (agree_same left (spell_statement a more))))
+unique_by kinds (Err (Limit left)) refused a b more rest wa ma ea wb mb eb = absurd refused
+unique_by kinds (Err (Unexpected left)) refused a b more rest wa ma ea wb mb eb = absurd (refused.none a more wa ma (subst (Agree left (spell_statement a more)) (sym ea) (agree_same left (spell_statement a more))))
 unique_by kinds (Ok z) read a b more rest wa ma ea wb mb eb =
     let first = read.same 0 a more wa ma (omega arith) (subst (Agree 0 (spell_statement a more)) (sym ea) (agree_same 0 (spell_statement a more))) in
     let second = read.same 0 b rest wb mb (omega arith) (subst (Agree 0 (spell_statement b rest)) (sym eb) (agree_same 0 (spell_statement b rest))) in
@@ -195,7 +200,16 @@ IsOver rest = (x : TableTree × Bool) (after : List TokenKind) → WholeStatemen
 pub nothing_over : IsOver []
 nothing_over x after whole may e = absurd (omega (arith, ap length e, statement_longer x after))
 
-pub refused_over : (rest : List TokenKind) (left : ℕ) → statement_at rest ≡ Err left → IsOver rest
+-- a statement opens no level
+pub no_limit : (rest : List TokenKind) (left : ℕ) → statement_at rest ≡ Err (Limit left) → ⊥
+no_limit rest left e = subst (Exact spell_statement WholeStatement MayStatement rest) e (statement_exact rest)
+
+pub refused_as : (e : Refusal) (rest : List TokenKind) (left : ℕ) → left_of e ≡ Some left → Fails e (statement_at rest) → statement_at rest ≡ Err (Unexpected left)
+refused_as (r.Unexpected n) rest left is fails = let same : n ≡ left = cc in rw same at fails
+refused_as (r.PastLimit n) rest left is fails = absurd (no_limit rest n fails)
+refused_as r.OutOfMemory rest left is fails = absurd (cc)
+
+pub refused_over : (rest : List TokenKind) (left : ℕ) → statement_at rest ≡ Err (Unexpected left) → IsOver rest
 refused_over rest left e x after whole may is =
     let refused : IsRefused spell_statement WholeStatement MayStatement rest left = subst (Exact spell_statement WholeStatement MayStatement rest) e (statement_exact rest) in
     refused.none x after whole may (subst (Agree left (spell_statement x after)) (sym is) (agree_same left (spell_statement x after)))
@@ -253,16 +267,16 @@ schema_statements tree whole = statements_are (spell_schema tree) tree.tables tr
 
 -- ---- what a read statement tells
 
-abbrev Holds : {A : Type 0} → (A × List TokenKind → Type 0) → Reading A → Type 0
+abbrev Holds : {A : Type 0} → (A × List TokenKind → Type 0) → Reads A → Type 0
 Holds P (Ok x) = P x
-Holds P (Err left) = ⊤
+Holds P (Err fault) = ⊤
 
 stop_last : (kinds : List TokenKind) → Holds (λ (x : Bool × List TokenKind). x.0 ≡ false → x.1 ≡ []) (stop_at kinds)
 unfolding stop_at expect
 stop_last [] = λ e. refl
 stop_last (x ∷ kinds) = by (eat m.Semicolon (x ∷ kinds))
   where
-    by : (o : Option (List TokenKind)) → Holds (λ (x : Bool × List TokenKind). x.0 ≡ false → x.1 ≡ []) (some_or (suc (length kinds)) o >>= λ rest. Ok (true, rest))
+    by : (o : Option (List TokenKind)) → Holds (λ (x : Bool × List TokenKind). x.0 ≡ false → x.1 ≡ []) (some_or_unexpected (suc (length kinds)) o >>= λ rest. Ok (true, rest))
     by (Some rest) = λ e. absurd (true≢false e)
     by None = tt
 
@@ -270,13 +284,13 @@ statement_last : (kinds : List TokenKind) → Holds (λ (x : (TableTree × Bool)
 unfolding statement_at
 statement_last kinds = by (table_at kinds)
   where
-    stopped : (table : TableTree) (r : Reading Bool) → Holds (λ (x : Bool × List TokenKind). x.0 ≡ false → x.1 ≡ []) r → Holds (λ (x : (TableTree × Bool) × List TokenKind). x.0.1 ≡ false → x.1 ≡ []) (r >>= λ stop. Ok ((table, stop.0), stop.1))
+    stopped : (table : TableTree) (r : Reads Bool) → Holds (λ (x : Bool × List TokenKind). x.0 ≡ false → x.1 ≡ []) r → Holds (λ (x : (TableTree × Bool) × List TokenKind). x.0.1 ≡ false → x.1 ≡ []) (r >>= λ stop. Ok ((table, stop.0), stop.1))
     stopped table (Ok x) h = h
-    stopped table (Err left) h = tt
+    stopped table (Err fault) h = tt
 
-    by : (r : Reading TableTree) → Holds (λ (x : (TableTree × Bool) × List TokenKind). x.0.1 ≡ false → x.1 ≡ []) (r >>= λ table. stop_at table.1 >>= λ stop. Ok ((table.0, stop.0), stop.1))
+    by : (r : Reads TableTree) → Holds (λ (x : (TableTree × Bool) × List TokenKind). x.0.1 ≡ false → x.1 ≡ []) (r >>= λ table. stop_at table.1 >>= λ stop. Ok ((table.0, stop.0), stop.1))
     by (Ok table) = stopped table.0 (stop_at table.1) (stop_last table.1)
-    by (Err left) = tt
+    by (Err fault) = tt
 
 pub read_is : (kinds : List TokenKind) (x : TableTree × Bool) (after : List TokenKind) → statement_at kinds ≡ Ok (x, after) → IsRead spell_statement WholeStatement MayStatement kinds x after
 read_is kinds x after e = subst (Exact spell_statement WholeStatement MayStatement kinds) e (statement_exact kinds)
@@ -332,7 +346,7 @@ refused_step left [] ended rest some whole refused agree = nothing_left left res
 refused_step left (t ∷ ts) ended rest some whole refused agree =
     refused.none (t, first_stop ts ended) (spell_schema (schema_of ts (next_ended ts ended))) (All-head IsTable t ts whole.tables) (first_may t ts ended) (subst (λ ks. Agree left ks rest) (first_is t ts ended) agree)
 
-pub settled_stops : (kinds : List TokenKind) (tables : List TableTree) (ended : Bool) (rest : List TokenKind) (left : ℕ) → rest ≢ [] → MayGoOn tables ended rest → All IsTable tables → statement_at rest ≡ Err left → IsSettled kinds tables ended rest → IsUnexpected kinds (length kinds - left)
+pub settled_stops : (kinds : List TokenKind) (tables : List TableTree) (ended : Bool) (rest : List TokenKind) (left : ℕ) → rest ≢ [] → MayGoOn tables ended rest → All IsTable tables → statement_at rest ≡ Err (Unexpected left) → IsSettled kinds tables ended rest → IsUnexpected kinds (length kinds - left)
 settled_stops kinds tables ended rest left some may each e settled =
     let refused : IsRefused spell_statement WholeStatement MayStatement rest left = subst (Exact spell_statement WholeStatement MayStatement rest) e (statement_exact rest) in
     let within : left ≤ length kinds = omega (arith, refused.within, settled.shorter) in

@@ -1,6 +1,6 @@
 -- Laws of the trees of schemas and their tokens, over the definitions alone.
-use Rattle.std.specs.Prelude.{◌≡◌, ℕ, List}
-use Rattle.wd_lex.specs.declared.token.TokenKind.{TokenKind}
+use Rattle.std.specs.Prelude.{◌≡◌, ℕ}
+use Rattle.wd_cursor.specs.Tokens.{Kinds}
 use Rattle.wd_statements.specs.Grammar.{IsSchema, IsUnexpected, spell_schema}
 use Rattle.wd_statements.specs.Written.{SchemaTree}
 
@@ -10,4 +10,4 @@ HasOneTree = (first second : SchemaTree) → IsSchema first → IsSchema second 
 
 -- Among the places of a token list there is at most one where the first token stands that no schema goes on with.
 abbrev pub HasOnePlace : Type 0
-HasOnePlace = (kinds : List TokenKind) (first second : ℕ) → IsUnexpected kinds first → IsUnexpected kinds second → first ≡ second
+HasOnePlace = (kinds : Kinds) (first second : ℕ) → IsUnexpected kinds first → IsUnexpected kinds second → first ≡ second

@@ -1,7 +1,6 @@
 -- Schemas as they are written, without where they lie in memory.
 use Rattle.std.specs.Prelude.{ℕ, List, Option, Bool, map}
-use Rattle.wd_statements.specs.declared.syntax.Name.{Name}
-use Rattle.wd_statements.specs.declared.syntax.Name.TheVariants.{Unquoted, Quoted}
+use Rattle.wd_cursor.specs.declared.name.Name.{Name}
 use Rattle.wd_statements.specs.declared.syntax.KeyWords.{KeyWords}
 use Rattle.wd_statements.specs.declared.syntax.ColumnRule.{ColumnRule}
 use Rattle.wd_statements.specs.declared.syntax.WrittenColumn.{WrittenColumn}
@@ -39,8 +38,7 @@ pub record SchemaTree : Type 0 where
 
 -- the bytes of a name
 abbrev pub name_text : Name → List ℕ
-name_text (Unquoted text) = text
-name_text (Quoted text) = text
+name_text name = name.text
 
 abbrev pub column_tree : WrittenColumn → ColumnTree
 column_tree c = record { name = c.name; kind = c.kind; rules = c.rules.items }

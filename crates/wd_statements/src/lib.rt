@@ -7,5 +7,6 @@ mod syntax;
 
 pub use reader::{Statements, read_statements};
 pub use syntax::{
-    ColumnRule, Element, KeyWords, Name, Nulls, Rule, WrittenColumn, WrittenKey, WrittenTable,
+    ColumnRule, Element, KeyWords, Nulls, Rule, WrittenColumn, WrittenKey, WrittenTable,
 };
+pub use wd_cursor::Name;

@@ -1,137 +1,30 @@
 //! Reads tokens as schemas.
 
-ghost use Rattle.std.specs.Prelude.{◌≡◌, ◌-◌, List, length, map, None, IfOk, IfSome};
+ghost use Rattle.std.specs.Prelude.{◌≡◌, map, None, IfOk, IfSome};
 ghost use Rattle.wd_lex.specs.Lexed.{kinds_of};
-ghost use Rattle.wd_lex.specs.declared.token.TokenKind.{TokenKind as Kind};
+ghost use Rattle.wd_cursor.specs.Cursor.{list_at, name_at};
+ghost use Rattle.wd_cursor.specs.Given.{Gives};
 ghost use Rattle.wd_statements.specs.Grammar.{AreStatements, IsSchema, IsUnexpected, spell_schema};
-ghost use Rattle.wd_statements.specs.Reading.{Finds, Gives, Reading, begins_key, column_at, column_rule_at, constraint_at, eat, eat_word, element_at, ends_column, expect, expect_word, key_at, list_at, name_at, nulls_at, rule_at, rules_at, statement_at, stop_at, table_at, words_at};
-ghost use Rattle.wd_statements.specs.declared.reader.ReadError.TheVariants.{OutOfMemory};
+ghost use Rattle.wd_statements.specs.Reading.{begins_key, column_at, column_rule_at, constraint_at, element_at, ends_column, key_at, nulls_at, rule_at, rules_at, statement_at, stop_at, table_at, words_at};
 ghost use Rattle.wd_statements.specs.Written.{column_tree, key_tree, schema_tree, table_tree};
 
 use crate::syntax::{
-    ColumnRule, Element, KeyWords, Name, Nulls, Rule, WrittenColumn, WrittenKey, WrittenTable,
+    ColumnRule, Element, KeyWords, Nulls, Rule, WrittenColumn, WrittenKey, WrittenTable,
 };
-use std::alloc::{AllocError, AllocFailed, Global};
-use wd_lex::{Terminal, Token, TokenKind};
+use std::alloc::Global;
+use wd_cursor::{
+    KeyWord, Name, Reader, Refusal, eat, eat_word, expect, expect_word, list_at, name_at,
+    token_place,
+};
+use wd_lex::{Terminal, Token};
 use wd_value::OutOfMemory;
-
-/// Why tokens can't be read.
-#[derive(Clone, Copy, PartialEq, Eq)]
-pub enum ReadError {
-    /// The first of the last `left` tokens stands where it may not, or the tokens end too early.
-    Unexpected { left: usize },
-    OutOfMemory,
-}
-
-impl From<AllocError> for ReadError {
-    ghost from_gives = { λ _ e. e ≡ OutOfMemory };
-
-    fn from(_error: AllocError) -> ReadError {
-        ReadError::OutOfMemory
-    }
-}
-
-impl<T: Drop> From<AllocFailed<T>> for ReadError {
-    ghost from_gives = { λ _ e. e ≡ OutOfMemory };
-
-    fn from(_error: AllocFailed<T>) -> ReadError {
-        ReadError::OutOfMemory
-    }
-}
-
-/// What stands in a list with commas.
-trait Item: Drop {
-    /// An item without where it lies in memory.
-    ghost Tree: { Type 0 };
-
-    ghost tree: { Self → Tree };
-
-    /// How an item is read.
-    ghost item: { List Kind → Reading Tree };
-
-    fn read(alloc: Global, tokens: &[Token]) -> Result<(Self, &[Token]), ReadError>
-        ensures { Gives (λ x. (tree x.0, kinds_of x.1.now)) result (item (kinds_of tokens.now)) };
-}
-
-/// The tokens after a terminal, if it stands first.
-#[tactic(auto, unfolding(crate::specs::Reading::eat), using(crate::proofs::ReadingFacts::one_terminal, crate::proofs::ReadingFacts::other_terminal))]
-fn eat(tokens: &[Token], terminal: Terminal) -> Option<&[Token]>
-    ensures { Finds (λ r. kinds_of r.now) result (eat terminal (kinds_of tokens.now)) }
-{
-    let (first, rest) = tokens.split_first()?;
-    match &first.kind {
-        TokenKind::Terminal(found) if *found == terminal => Some(rest),
-        _ => None,
-    }
-}
-
-/// The tokens after a key word that is not reserved, if it stands first.
-#[tactic(auto, unfolding(crate::specs::Reading::eat_word))]
-fn eat_word<'t>(tokens: &'t [Token], word: &str) -> Option<&'t [Token]>
-    ensures { Finds (λ r. kinds_of r.now) result (eat_word word.now (kinds_of tokens.now)) }
-{
-    let (first, rest) = tokens.split_first()?;
-    match &first.kind {
-        TokenKind::Word(found) => {
-            if found.as_str() == word {
-                Some(rest)
-            } else {
-                None
-            }
-        }
-        _ => None,
-    }
-}
-
-fn unexpected(tokens: &[Token]) -> ReadError
-    ensures { result ≡ ReadError.Unexpected (length (kinds_of tokens.now)) }
-{
-    ReadError::Unexpected { left: tokens.len() }
-}
-
-/// The tokens after a terminal, which has to stand first.
-#[tactic(auto, unfolding(crate::specs::Reading::expect))]
-fn expect(tokens: &[Token], terminal: Terminal) -> Result<&[Token], ReadError>
-    ensures { Gives (λ r. kinds_of r.now) result (expect terminal (kinds_of tokens.now)) }
-{
-    match eat(tokens, terminal) {
-        Some(rest) => Ok(rest),
-        None => Err(unexpected(tokens)),
-    }
-}
-
-/// The tokens after a key word that is not reserved, which has to stand first.
-#[tactic(auto, unfolding(crate::specs::Reading::expect_word))]
-fn expect_word<'t>(tokens: &'t [Token], word: &str) -> Result<&'t [Token], ReadError>
-    ensures { Gives (λ r. kinds_of r.now) result (expect_word word.now (kinds_of tokens.now)) }
-{
-    match eat_word(tokens, word) {
-        Some(rest) => Ok(rest),
-        None => Err(unexpected(tokens)),
-    }
-}
-
-/// A name, which has to stand first, and the tokens after it.
-#[tactic(auto, unfolding(crate::specs::Reading::name_at))]
-fn read_name(alloc: Global, tokens: &[Token]) -> Result<(Name, &[Token]), ReadError>
-    ensures { Gives (λ x. (x.0, kinds_of x.1.now)) result (name_at (kinds_of tokens.now)) }
-{
-    let Some((first, rest)) = tokens.split_first() else {
-        return Err(unexpected(tokens));
-    };
-    match &first.kind {
-        TokenKind::Word(text) => Ok((Name::Unquoted(text.copy(alloc)?), rest)),
-        TokenKind::Quoted(text) => Ok((Name::Quoted(text.copy(alloc)?), rest)),
-        _ => Err(unexpected(tokens)),
-    }
-}
 
 /// `[NULLS [NOT] DISTINCT]`
 #[tactic(auto, unfolding(crate::specs::Reading::nulls_at))]
-fn read_nulls(tokens: &[Token]) -> Result<(Nulls, &[Token]), ReadError>
+fn read_nulls(tokens: &[Token]) -> Result<(Nulls, &[Token]), Refusal>
     ensures { Gives (λ x. (x.0, kinds_of x.1.now)) result (nulls_at (kinds_of tokens.now)) }
 {
-    let Some(rest) = eat_word(tokens, "nulls") else {
+    let Some(rest) = eat_word(tokens, KeyWord::Nulls) else {
         return Ok((Nulls::Unsaid, tokens));
     };
     match eat(rest, Terminal::Not) {
@@ -142,11 +35,11 @@ fn read_nulls(tokens: &[Token]) -> Result<(Nulls, &[Token]), ReadError>
 
 /// The words of a key: PRIMARY KEY, or UNIQUE and what it says of NULLs.
 #[tactic(auto, unfolding(crate::specs::Reading::words_at))]
-fn read_words(tokens: &[Token]) -> Result<(KeyWords, &[Token]), ReadError>
+fn read_words(tokens: &[Token]) -> Result<(KeyWords, &[Token]), Refusal>
     ensures { Gives (λ x. (x.0, kinds_of x.1.now)) result (words_at (kinds_of tokens.now)) }
 {
     match eat(tokens, Terminal::Primary) {
-        Some(rest) => Ok((KeyWords::Primary, expect_word(rest, "key")?)),
+        Some(rest) => Ok((KeyWords::Primary, expect_word(rest, KeyWord::Key)?)),
         None => {
             let rest = expect(tokens, Terminal::Unique)?;
             let (nulls, rest) = read_nulls(rest)?;
@@ -157,7 +50,7 @@ fn read_words(tokens: &[Token]) -> Result<(KeyWords, &[Token]), ReadError>
 
 /// A rule for a column: NOT NULL, NULL or the words of a key.
 #[tactic(auto, unfolding(crate::specs::Reading::rule_at))]
-fn read_rule(tokens: &[Token]) -> Result<(Rule, &[Token]), ReadError>
+fn read_rule(tokens: &[Token]) -> Result<(Rule, &[Token]), Refusal>
     ensures { Gives (λ x. (x.0, kinds_of x.1.now)) result (rule_at (kinds_of tokens.now)) }
 {
     if let Some(rest) = eat(tokens, Terminal::Not) {
@@ -172,12 +65,12 @@ fn read_rule(tokens: &[Token]) -> Result<(Rule, &[Token]), ReadError>
 
 /// `[CONSTRAINT name]`
 #[tactic(auto, unfolding(crate::specs::Reading::constraint_at))]
-fn read_constraint(alloc: Global, tokens: &[Token]) -> Result<(Option<Name>, &[Token]), ReadError>
+fn read_constraint(alloc: Global, tokens: &[Token]) -> Result<(Option<Name>, &[Token]), Refusal>
     ensures { Gives (λ x. (x.0, kinds_of x.1.now)) result (constraint_at (kinds_of tokens.now)) }
 {
     match eat(tokens, Terminal::Constraint) {
         Some(rest) => {
-            let (name, rest) = read_name(alloc, rest)?;
+            let (name, rest) = name_at(alloc, rest)?;
             Ok((Some(name), rest))
         }
         None => Ok((None, tokens)),
@@ -185,7 +78,7 @@ fn read_constraint(alloc: Global, tokens: &[Token]) -> Result<(Option<Name>, &[T
 }
 
 #[tactic(auto, unfolding(crate::specs::Reading::column_rule_at))]
-fn read_column_rule(alloc: Global, tokens: &[Token]) -> Result<(ColumnRule, &[Token]), ReadError>
+fn read_column_rule(alloc: Global, tokens: &[Token]) -> Result<(ColumnRule, &[Token]), Refusal>
     ensures { Gives (λ x. (x.0, kinds_of x.1.now)) result (column_rule_at (kinds_of tokens.now)) }
 {
     let (constraint, rest) = read_constraint(alloc, tokens)?;
@@ -203,8 +96,8 @@ fn ends_column(tokens: &[Token]) -> bool
 
 /// The rules of a column, up to the comma or bracket that ends it.
 #[tactic(auto, unfolding(crate::specs::Reading::rules_at))]
-fn read_rules(alloc: Global, tokens: &[Token]) -> Result<(Vec<ColumnRule>, &[Token]), ReadError>
-    ensures { Gives (λ x. (x.0.items, kinds_of x.1.now)) result (rules_at (length (kinds_of tokens.now)) (kinds_of tokens.now)) }
+fn read_rules(alloc: Global, tokens: &[Token]) -> Result<(Vec<ColumnRule>, &[Token]), Refusal>
+    ensures { Gives (λ x. (x.0.items, kinds_of x.1.now)) result (rules_at (kinds_of tokens.now)) }
 {
     let mut rules = Vec::new(alloc);
     let mut rest = tokens;
@@ -219,58 +112,44 @@ fn read_rules(alloc: Global, tokens: &[Token]) -> Result<(Vec<ColumnRule>, &[Tok
     Ok((rules, rest))
 }
 
-/// Items with commas between them, at least one.
-#[tactic(auto, unfolding(crate::specs::Reading::list_at))]
-fn read_list<T: Item>(alloc: Global, tokens: &[Token]) -> Result<(Vec<T>, &[Token]), ReadError>
-    ensures { Gives (λ x. (map T.tree x.0.items, kinds_of x.1.now)) result (list_at T.item (kinds_of tokens.now)) }
-{
-    let (first, mut rest) = T::read(alloc, tokens)?;
-    let mut items = Vec::new(alloc);
-    items.push(first)?;
-    for _ in 0..tokens.len() {
-        let Some(after) = eat(rest, Terminal::Comma) else {
-            break;
-        };
-        let (item, after) = T::read(alloc, after)?;
-        items.push(item)?;
-        rest = after;
-    }
-    Ok((items, rest))
-}
+/// Reads the names of a key's columns.
+struct Names;
 
-impl Item for Name {
-    ghost use Rattle.wd_statements.specs.declared.syntax.Name.{Name as NameTree};
+impl Reader for Names {
+    ghost use Rattle.wd_cursor.specs.declared.name.Name.{Name as NameTree};
+
+    type Item = Name;
 
     ghost Tree = { NameTree };
 
     ghost tree = { λ name. name };
 
-    ghost item = { name_at };
+    ghost item = { λ names. name_at };
 
-    fn read(alloc: Global, tokens: &[Token]) -> Result<(Self, &[Token]), ReadError> {
-        let (name, rest) = read_name(alloc, tokens)?;
+    fn read<'t>(&self, alloc: Global, tokens: &'t [Token]) -> Result<(Name, &'t [Token]), Refusal> {
+        let (name, rest) = name_at(alloc, tokens)?;
         Ok((name, rest))
     }
 }
 
 #[tactic(auto, unfolding(crate::specs::Reading::column_at))]
-fn read_column(alloc: Global, tokens: &[Token]) -> Result<(WrittenColumn, &[Token]), ReadError>
+fn read_column(alloc: Global, tokens: &[Token]) -> Result<(WrittenColumn, &[Token]), Refusal>
     ensures { Gives (λ x. (column_tree x.0, kinds_of x.1.now)) result (column_at (kinds_of tokens.now)) }
 {
-    let (name, rest) = read_name(alloc, tokens)?;
-    let (kind, rest) = read_name(alloc, rest)?;
+    let (name, rest) = name_at(alloc, tokens)?;
+    let (kind, rest) = name_at(alloc, rest)?;
     let (rules, rest) = read_rules(alloc, rest)?;
     Ok((WrittenColumn { name, kind, rules }, rest))
 }
 
 #[tactic(auto, unfolding(crate::specs::Reading::key_at))]
-fn read_key(alloc: Global, tokens: &[Token]) -> Result<(WrittenKey, &[Token]), ReadError>
+fn read_key(alloc: Global, tokens: &[Token]) -> Result<(WrittenKey, &[Token]), Refusal>
     ensures { Gives (λ x. (key_tree x.0, kinds_of x.1.now)) result (key_at (kinds_of tokens.now)) }
 {
     let (constraint, rest) = read_constraint(alloc, tokens)?;
     let (words, rest) = read_words(rest)?;
     let rest = expect(rest, Terminal::LeftBracket)?;
-    let (columns, rest) = read_list(alloc, rest)?;
+    let (columns, rest) = list_at(alloc, &Names, Terminal::Comma, rest)?;
     let rest = expect(rest, Terminal::RightBracket)?;
     let key = WrittenKey {
         constraint,
@@ -290,17 +169,26 @@ fn begins_key(tokens: &[Token]) -> bool
         || eat(tokens, Terminal::Unique).is_some()
 }
 
-impl Item for Element {
+/// Reads the columns and keys of a table.
+struct Elements;
+
+impl Reader for Elements {
     ghost use Rattle.wd_statements.specs.Written.{ElementTree, element_tree};
+
+    type Item = Element;
 
     ghost Tree = { ElementTree };
 
     ghost tree = { element_tree };
 
-    ghost item = { element_at };
+    ghost item = { λ elements. element_at };
 
     #[tactic(auto, unfolding(crate::specs::Reading::element_at))]
-    fn read(alloc: Global, tokens: &[Token]) -> Result<(Self, &[Token]), ReadError> {
+    fn read<'t>(
+        &self,
+        alloc: Global,
+        tokens: &'t [Token],
+    ) -> Result<(Element, &'t [Token]), Refusal> {
         if begins_key(tokens) {
             let (key, rest) = read_key(alloc, tokens)?;
             Ok((Element::Key(key), rest))
@@ -313,14 +201,14 @@ impl Item for Element {
 
 /// The declaration of a table.
 #[tactic(auto, unfolding(crate::specs::Reading::table_at))]
-fn read_table(alloc: Global, tokens: &[Token]) -> Result<(WrittenTable, &[Token]), ReadError>
+fn read_table(alloc: Global, tokens: &[Token]) -> Result<(WrittenTable, &[Token]), Refusal>
     ensures { Gives (λ x. (table_tree x.0, kinds_of x.1.now)) result (table_at (kinds_of tokens.now)) }
 {
     let rest = expect(tokens, Terminal::Create)?;
     let rest = expect(rest, Terminal::Table)?;
-    let (name, rest) = read_name(alloc, rest)?;
+    let (name, rest) = name_at(alloc, rest)?;
     let rest = expect(rest, Terminal::LeftBracket)?;
-    let (elements, rest) = read_list(alloc, rest)?;
+    let (elements, rest) = list_at(alloc, &Elements, Terminal::Comma, rest)?;
     let rest = expect(rest, Terminal::RightBracket)?;
     Ok((WrittenTable { name, elements }, rest))
 }
@@ -334,7 +222,7 @@ struct Statement {
 
 /// A statement goes up to its semicolon or the end of the tokens.
 #[tactic(auto, unfolding(crate::specs::Reading::statement_at))]
-fn read_statement(alloc: Global, tokens: &[Token]) -> Result<(Statement, &[Token]), ReadError>
+fn read_statement(alloc: Global, tokens: &[Token]) -> Result<(Statement, &[Token]), Refusal>
     ensures { Gives (λ x. ((table_tree x.0.table, x.0.semicolon), kinds_of x.1.now)) result (statement_at (kinds_of tokens.now)) }
 {
     let (table, rest) = read_table(alloc, tokens)?;
@@ -344,7 +232,7 @@ fn read_statement(alloc: Global, tokens: &[Token]) -> Result<(Statement, &[Token
 
 /// The semicolon after a statement, or the end of the tokens.
 #[tactic(auto, unfolding(crate::specs::Reading::stop_at))]
-fn read_stop(tokens: &[Token]) -> Result<(bool, &[Token]), ReadError>
+fn read_stop(tokens: &[Token]) -> Result<(bool, &[Token]), Refusal>
     ensures { Gives (λ x. (x.0, kinds_of x.1.now)) result (stop_at (kinds_of tokens.now)) }
 {
     if tokens.is_empty() {
@@ -382,7 +270,10 @@ pub fn read_statements(alloc: Global, tokens: &[Token]) -> Result<Statements, Ou
                 ended = semicolon;
                 rest = after;
             }
-            Err(ReadError::Unexpected { left }) => {
+            Err(refusal) => {
+                let Some(left) = refusal.left() else {
+                    return Err(OutOfMemory);
+                };
                 let unexpected = Some(token_place(tokens, left));
                 return Ok(Statements {
                     tables,
@@ -390,7 +281,6 @@ pub fn read_statements(alloc: Global, tokens: &[Token]) -> Result<Statements, Ou
                     unexpected,
                 });
             }
-            Err(ReadError::OutOfMemory) => return Err(OutOfMemory),
         }
     }
     Ok(Statements {
@@ -398,11 +288,4 @@ pub fn read_statements(alloc: Global, tokens: &[Token]) -> Result<Statements, Ou
         ended,
         unexpected: None,
     })
-}
-
-/// The number of the first of the last `left` tokens.
-fn token_place(tokens: &[Token], left: usize) -> u64
-    ensures { result ≡ length (kinds_of tokens.now) - left }
-{
-    tokens.len().saturating_sub(left) as u64
 }

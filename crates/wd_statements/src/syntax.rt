@@ -1,16 +1,6 @@
 //! Schemas as they are written.
 
-ghost use Rattle.std.specs.Prelude.{◌≡◌};
-ghost use Rattle.wd_statements.specs.Written.{name_text};
-
-use wd_value::Text;
-
-/// A name as it is written.
-#[derive(Drop)]
-pub enum Name {
-    Unquoted(Text),
-    Quoted(Text),
-}
+use wd_cursor::Name;
 
 /// What stands after UNIQUE.
 #[derive(Clone, Copy, PartialEq, Eq)]
@@ -73,14 +63,4 @@ pub enum Element {
 pub struct WrittenTable {
     pub name: Name,
     pub elements: Vec<Element>,
-}
-
-impl Name {
-    pub fn text(&self) -> &Text
-        ensures { result.now ≡ name_text self.now }
-    {
-        match self {
-            Name::Unquoted(text) | Name::Quoted(text) => text,
-        }
-    }
 }

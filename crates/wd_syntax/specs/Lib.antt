@@ -4,6 +4,5 @@ pub mod View
 pub mod Spelling
 pub mod Levels
 pub mod Limits
-pub mod Reading
 pub mod Laws
 pub mod Passing

@@ -1,20 +1,16 @@
-//! The trees of queries, how they are spelled, and the laws of both.
+//! The trees of queries, and how they are spelled.
 #![tactic(auto)]
 
 mod expression;
 mod frame;
-pub mod laws;
-mod name;
 mod query;
-mod words;
 
 pub use expression::{
     Arm, Expr, Link, Literal, NullsPlace, Operator, Over, Sign, SortDirection, SortKey, Window,
 };
 pub use frame::{Bound, Exclusion, Extent, Frame, FrameMode};
-pub use name::Name;
 pub use query::{
     Alias, Count, FetchWord, From, Item, Joined, Limits, NamedWindow, Offset, Quantifier, Query,
     RowWord, Select, Table,
 };
-pub use words::KeyWord;
+pub use wd_cursor::Name;

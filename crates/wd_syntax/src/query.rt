@@ -1,7 +1,7 @@
 //! Queries, as they are written.
 
 use crate::expression::{Expr, SortKey, Window};
-use crate::name::Name;
+use wd_cursor::Name;
 
 /// `[AS] name`
 #[derive(Drop)]

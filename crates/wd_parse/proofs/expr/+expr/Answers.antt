@@ -3,8 +3,10 @@ use Rattle.std.proofs.lemmas.Result.{err_from_is_err_and}
 use Rattle.wd_lex.specs.Lexed.{kinds_of}
 use Rattle.wd_lex.specs.declared.token.Terminal.TheVariants as m
 use Rattle.wd_syntax.specs.View.{view, view_link, chained, view_arm, view_key}
-use Rattle.wd_syntax.specs.Reading.{read, links, list_at, arm_at, key_at}
-use Rattle.wd_parse.proofs.Loops.{links_more, links_fail, links_full, length_kinds, list_more, list_fail, list_end, list_full}
+use Rattle.wd_parse.specs.Reading.{read, links, arm_at, key_at}
+use Rattle.wd_cursor.specs.Cursor.{list_at}
+use Rattle.wd_parse.proofs.Loops.{links_more, links_fail, links_full, length_kinds}
+use Rattle.wd_cursor.proofs.Loops.{list_more, list_fail, list_end, list_over}
 use Rattle.wd_parse.proofs.expr.+expr.Goals as goal
 
 pub links-returns-in_err-right : goal.links-returns-in_err-right
@@ -33,13 +35,9 @@ pub list-loop-preserved : goal.list-loop-preserved
 list-loop-preserved t c =
     rw c.in_ok-push-2.ensures.items (list_more view m.Comma (read 200 c.args.depth 8) (length c.in_ok-first.rest.now) c.loop.counter c.loop.items.items c.into_inner-in-loop.result (kinds_of c.loop.rest.now) (kinds_of c.in-Some.after.now) (kinds_of c.in_ok-item.after.now) (list_at m.Comma (read 200 c.args.depth 8) (kinds_of c.args.tokens.now)) c.loop-test.true c.in-Some.ensures (rw c.into_inner-in-loop.ensures c.in_ok-item.ensures) c.loop.invariant)
 
-pub list-returns-in-Some-eat : goal.list-returns-in-Some-eat
-list-returns-in-Some-eat t c =
-    list_full m.Comma (read 200 c.args.depth 8) (length c.in_ok-first.rest.now) c.loop.counter (map view c.loop.items.items) (kinds_of c.loop.rest.now) (kinds_of c.in-Some-eat.field-0.now) (list_at m.Comma (read 200 c.args.depth 8) (kinds_of c.args.tokens.now)) c.loop-test.false c.in-Some-eat.ensures c.loop.invariant
-
 pub list-returns : goal.list-returns
 list-returns t c =
-    list_end m.Comma (read 200 c.args.depth 8) ((length c.in_ok-first.rest.now) - c.loop.counter) (map view c.loop.items.items) (kinds_of c.loop.rest.now) (list_at m.Comma (read 200 c.args.depth 8) (kinds_of c.args.tokens.now)) c.in-None.ensures c.loop.invariant
+    list_over m.Comma (read 200 c.args.depth 8) (length c.in_ok-first.rest.now) c.loop.counter (map view c.loop.items.items) (kinds_of c.loop.rest.now) (list_at m.Comma (read 200 c.args.depth 8) (kinds_of c.args.tokens.now)) c.loop-test.false c.loop.invariant
 
 pub arms-returns-in_default : goal.arms-returns-in_default
 arms-returns-in_default t c =
@@ -54,13 +52,9 @@ pub arms-loop-preserved : goal.arms-loop-preserved
 arms-loop-preserved t c =
     rw c.in_ok-push-2.ensures.items (list_more view_arm m.When (arm_at (read 200 c.args.depth 8)) (length c.in_ok-first.rest.now) c.loop.counter c.loop.items.items c.in_ok-item.item (kinds_of c.loop.rest.now) (kinds_of c.in-Some.after.now) (kinds_of c.in_ok-item.after.now) (list_at m.When (arm_at (read 200 c.args.depth 8)) (kinds_of c.args.tokens.now)) c.loop-test.true c.in-Some.ensures c.in_ok-item.ensures c.loop.invariant)
 
-pub arms-returns-in-Some-eat : goal.arms-returns-in-Some-eat
-arms-returns-in-Some-eat t c =
-    list_full m.When (arm_at (read 200 c.args.depth 8)) (length c.in_ok-first.rest.now) c.loop.counter (map view_arm c.loop.items.items) (kinds_of c.loop.rest.now) (kinds_of c.in-Some-eat.field-0.now) (list_at m.When (arm_at (read 200 c.args.depth 8)) (kinds_of c.args.tokens.now)) c.loop-test.false c.in-Some-eat.ensures c.loop.invariant
-
 pub arms-returns : goal.arms-returns
 arms-returns t c =
-    list_end m.When (arm_at (read 200 c.args.depth 8)) ((length c.in_ok-first.rest.now) - c.loop.counter) (map view_arm c.loop.items.items) (kinds_of c.loop.rest.now) (list_at m.When (arm_at (read 200 c.args.depth 8)) (kinds_of c.args.tokens.now)) c.in-None.ensures c.loop.invariant
+    list_over m.When (arm_at (read 200 c.args.depth 8)) (length c.in_ok-first.rest.now) c.loop.counter (map view_arm c.loop.items.items) (kinds_of c.loop.rest.now) (list_at m.When (arm_at (read 200 c.args.depth 8)) (kinds_of c.args.tokens.now)) c.loop-test.false c.loop.invariant
 
 pub keys-returns-in_default : goal.keys-returns-in_default
 keys-returns-in_default t c =
@@ -75,13 +69,9 @@ pub keys-loop-preserved : goal.keys-loop-preserved
 keys-loop-preserved t c =
     rw c.in_ok-push-2.ensures.items (list_more view_key m.Comma (key_at (read 200 c.args.depth 8)) (length c.in_ok-first.rest.now) c.loop.counter c.loop.items.items c.in_ok-item.item (kinds_of c.loop.rest.now) (kinds_of c.in-Some.after.now) (kinds_of c.in_ok-item.after.now) (list_at m.Comma (key_at (read 200 c.args.depth 8)) (kinds_of c.args.tokens.now)) c.loop-test.true c.in-Some.ensures c.in_ok-item.ensures c.loop.invariant)
 
-pub keys-returns-in-Some-eat : goal.keys-returns-in-Some-eat
-keys-returns-in-Some-eat t c =
-    list_full m.Comma (key_at (read 200 c.args.depth 8)) (length c.in_ok-first.rest.now) c.loop.counter (map view_key c.loop.items.items) (kinds_of c.loop.rest.now) (kinds_of c.in-Some-eat.field-0.now) (list_at m.Comma (key_at (read 200 c.args.depth 8)) (kinds_of c.args.tokens.now)) c.loop-test.false c.in-Some-eat.ensures c.loop.invariant
-
 pub keys-returns : goal.keys-returns
 keys-returns t c =
-    list_end m.Comma (key_at (read 200 c.args.depth 8)) ((length c.in_ok-first.rest.now) - c.loop.counter) (map view_key c.loop.items.items) (kinds_of c.loop.rest.now) (list_at m.Comma (key_at (read 200 c.args.depth 8)) (kinds_of c.args.tokens.now)) c.in-None.ensures c.loop.invariant
+    list_over m.Comma (key_at (read 200 c.args.depth 8)) (length c.in_ok-first.rest.now) c.loop.counter (map view_key c.loop.items.items) (kinds_of c.loop.rest.now) (list_at m.Comma (key_at (read 200 c.args.depth 8)) (kinds_of c.args.tokens.now)) c.loop-test.false c.loop.invariant
 
 pub links-loop-init : goal.links-loop-init
 links-loop-init t c = rw c.new-items.ensures.items refl

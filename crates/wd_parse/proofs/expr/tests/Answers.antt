@@ -2,7 +2,7 @@ use Rattle.std.proofs.Common.{length, refl}
 use Rattle.std.proofs.lemmas.Result.{err_from_is_err_and}
 use Rattle.wd_lex.specs.Lexed.{kinds_of}
 use Rattle.wd_syntax.specs.View.{view, tested}
-use Rattle.wd_syntax.specs.Reading.{tests}
+use Rattle.wd_parse.specs.Reading.{tests}
 use Rattle.wd_parse.proofs.Loops.{tests_more, tests_fail, tests_full, length_kinds}
 use Rattle.wd_parse.proofs.expr.tests.Goals as goal
 

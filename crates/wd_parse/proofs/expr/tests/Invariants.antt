@@ -1,7 +1,7 @@
 use Rattle.std.proofs.Common.{◌≡◌, ◌-◌}
 use Rattle.wd_lex.specs.Lexed.{kinds_of}
 use Rattle.wd_syntax.specs.View.{view, tested}
-use Rattle.wd_syntax.specs.Reading.{tests}
+use Rattle.wd_parse.specs.Reading.{tests}
 use Rattle.wd_parse.proofs.expr.tests.Given as goal
 
 -- what is still read from the tree so far is what was to be read

@@ -17,7 +17,7 @@ returns-then-contains_key-clause-refused c = λ _ differ.
     let t = c.loop-t.t in
     let table = c.index-tables-t.result in
     let name = name_text table.name in
-    let asked : c.as_str.result.now ≡ name = c.as_str.ensures ∙ c.text-name.ensures in
+    let asked : c.as_str.result.now ≡ name = c.as_str.ensures in
     let among : list_any (bytes_eq name) (map (λ e. string_bytes e.0) c.loop-t.schema.entries) ≡ true =
     sym (found_name c.loop-t.schema.entries name) ∙ rw asked at (sym c.contains_key.ensures ∙ c.if-contains_key.true) in
     let some : list_any (bytes_eq name) (map (λ (x : TableTree). name_text x.name) (take t (map table_tree tables))) ≡ true =
@@ -44,10 +44,10 @@ loop-t-preserved c =
     let before : List TableTree = map table_tree (take t tables) in
     let key = c.into_string.result in
     let value = c.in_ok-declared.declared in
-    let asked : c.as_str.result.now ≡ name = c.as_str.ensures ∙ c.text-name.ensures in
+    let asked : c.as_str.result.now ≡ name = c.as_str.ensures in
     let none : list_any (bytes_eq name) (map (λ e. string_bytes e.0) old) ≡ false =
     sym (found_name old name) ∙ rw asked at (sym c.contains_key.ensures ∙ c.if-contains_key.false) in
-    let named : string_bytes key ≡ name = c.into_string.ensures ∙ c.in_ok-copy.ensures ∙ c.text-name.ensures in
+    let named : string_bytes key ≡ name = c.into_string.ensures ∙ c.in_ok-copy.ensures in
     let entries : c.insert.new.self.entries ≡ old ++ (key, value) ∷ [] = c.in_ok-insert.ensures.entries ∙ insert_new old key value name named none in
     let next : map table_tree (take (t + 1) tables) ≡ before ++ table_tree table ∷ [] =
     ap (map table_tree) (ap (λ n. take n tables) (add-one t) ∙ take-suc tables t table c.loop-t-test.true ∙ ap (λ y. take t tables ++ y ∷ []) (sym c.index-tables-t.is))

@@ -5,7 +5,7 @@ use Rattle.wd_lex.specs.Lexed.{kinds_of}
 use Rattle.wd_statements.specs.Grammar.{IsTable, spell_tables, spell_stop}
 use Rattle.wd_statements.specs.Written.{TableTree, table_tree}
 use Rattle.wd_statements.proofs.ReaderFacts.{tables-push, push-some}
-use Rattle.wd_statements.proofs.SchemaLaws.{IsOver, IsSettled, kinds_none, kinds_some, read_is, read_last, read_longer, nothing_over, refused_over, settled_more, settled_stops, statements_are}
+use Rattle.wd_statements.proofs.SchemaLaws.{IsOver, IsSettled, kinds_none, kinds_some, read_is, read_last, read_longer, nothing_over, refused_as, refused_over, settled_more, settled_stops, statements_are}
 use Rattle.wd_statements.proofs.reader.read_statements.Goals as goal
 
 pub loop-rest-smaller : goal.loop-rest-smaller
@@ -35,19 +35,22 @@ loop-rest-preserved c =
           (settled_more (kinds_of c.args.tokens.now) before c.loop-rest.ended kinds (table, ended) rest some (c.loop-rest.invariant.over, c.loop-rest.invariant.fresh) c.in-Ok.ensures c.loop-rest.invariant.settled);
     }
 
-pub returns-in-Err-Unexpected-clause-unexpected : goal.returns-in-Err-Unexpected-clause-unexpected
-returns-in-Err-Unexpected-clause-unexpected c =
-    let kinds = kinds_of c.loop-rest.rest.now in
-    let some : kinds ≢ [] = kinds_some c.loop-rest.rest.now (sym c.is_empty.ensures ∙ c.loop-rest-test.true) in
-    rw (c.token_place.ensures, c.in-Err-Unexpected.left-is) (settled_stops (kinds_of c.args.tokens.now) (map table_tree c.loop-rest.tables.items) c.loop-rest.ended kinds c.in-Err-Unexpected.left some (c.loop-rest.invariant.over, c.loop-rest.invariant.fresh) c.loop-rest.invariant.each (rw c.in-Err-Unexpected.field-0-is at c.in-Err-Unexpected.ensures) c.loop-rest.invariant.settled)
-
-pub returns-in-Err-Unexpected-clause-statements : goal.returns-in-Err-Unexpected-clause-statements
-returns-in-Err-Unexpected-clause-statements c =
-    statements_are (kinds_of c.args.tokens.now) (map table_tree c.loop-rest.tables.items) c.loop-rest.ended (kinds_of c.loop-rest.rest.now) c.loop-rest.invariant.each c.loop-rest.invariant.spelled (c.loop-rest.invariant.over, c.loop-rest.invariant.fresh)
-    (refused_over (kinds_of c.loop-rest.rest.now) c.in-Err-Unexpected.left (rw c.in-Err-Unexpected.field-0-is at c.in-Err-Unexpected.ensures))
-
 pub returns-clause-statements : goal.returns-clause-statements
 returns-clause-statements c =
     let none : kinds_of c.loop-rest.rest.now ≡ [] = kinds_none c.loop-rest.rest.now (sym c.is_empty.ensures ∙ c.loop-rest-test.false) in
     statements_are (kinds_of c.args.tokens.now) (map table_tree c.loop-rest.tables.items) c.loop-rest.ended (kinds_of c.loop-rest.rest.now) c.loop-rest.invariant.each c.loop-rest.invariant.spelled (c.loop-rest.invariant.over, c.loop-rest.invariant.fresh)
     (subst IsOver (sym none) nothing_over)
+
+pub returns-in-Err-clause-unexpected : goal.returns-in-Err-clause-unexpected
+returns-in-Err-clause-unexpected c =
+    let kinds = kinds_of c.loop-rest.rest.now in
+    let some : kinds ≢ [] = kinds_some c.loop-rest.rest.now (sym c.is_empty.ensures ∙ c.loop-rest-test.true) in
+    rw c.token_place.ensures
+    (settled_stops (kinds_of c.args.tokens.now) (map table_tree c.loop-rest.tables.items) c.loop-rest.ended kinds c.in-Some.left some (c.loop-rest.invariant.over, c.loop-rest.invariant.fresh) c.loop-rest.invariant.each
+    (refused_as c.in-Err.refusal kinds c.in-Some.left (sym c.in-Some.ensures) c.in-Err.ensures) c.loop-rest.invariant.settled)
+
+pub returns-in-Err-clause-statements : goal.returns-in-Err-clause-statements
+returns-in-Err-clause-statements c =
+    let kinds = kinds_of c.loop-rest.rest.now in
+    statements_are (kinds_of c.args.tokens.now) (map table_tree c.loop-rest.tables.items) c.loop-rest.ended kinds c.loop-rest.invariant.each c.loop-rest.invariant.spelled (c.loop-rest.invariant.over, c.loop-rest.invariant.fresh)
+    (refused_over kinds c.in-Some.left (refused_as c.in-Err.refusal kinds c.in-Some.left (sym c.in-Some.ensures) c.in-Err.ensures))

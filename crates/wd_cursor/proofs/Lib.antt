@@ -1,0 +1,3 @@
+pub mod Eaten
+pub mod Loops
+mod TokenFacts

@@ -1,0 +1,3 @@
+pub mod Tokens
+pub mod Cursor
+pub mod Given

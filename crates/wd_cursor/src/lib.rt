@@ -1,0 +1,18 @@
+//! The tokens that are left: what stands first among them, names, and lists.
+//!
+//! Each function takes the tokens that are left, and hands back those that follow what it read.
+#![tactic(auto)]
+
+mod list;
+mod name;
+mod refusal;
+mod tokens;
+mod words;
+
+pub use list::{Reader, list_at};
+pub use name::Name;
+pub use refusal::Refusal;
+pub use tokens::{
+    eat, eat_name, eat_word, expect, expect_word, name_at, number_at, token_place, unexpected,
+};
+pub use words::KeyWord;
