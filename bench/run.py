@@ -1,90 +1,184 @@
 #!/usr/bin/env python3
-"""Times the program on tables of 100,000 and of 1,000,000 records.
+"""Times queries from CSV to CSV, side by side with PostgreSQL, SQLite and data.table where they are there.
 
-    python3 bench/run.py [PROGRAM]
+    python3 bench/run.py [PROGRAM] [--tasks WORD] [--turns N]
 
-The keys of the records stand in rising order, as a table is mostly exported, and for the sorted query
-once more in mixed order, where the search for a repeated key has the most to do. Prints the least
-seconds and the most memory of three runs, and what ten times the records cost.
-PROGRAM is the built program (default: crates/wdcheck/out/wdcheck, which ./wdcheck builds).
+PROGRAM is the built program (default: crates/wdcheck/out/wdcheck, which ./wdcheck builds). PostgreSQL is asked by psql, in the
+database that its usual variables name (PGDATABASE, PGHOST, ..); SQLite by sqlite3; data.table by Rscript, on one thread. Each of
+them starts anew, reads the CSV files, answers the query and writes CSV; what another answers than the program, each row equally
+often, is told. Tasks run at 100,000 and 1,000,000 records, or at the sizes that their line gives. Prints the least seconds of the
+turns, the program's most memory, and what ten times the records cost it. With --tasks those whose title has the word.
 """
 
+import argparse
+import hashlib
 import os
 import random
 import subprocess
 import sys
 import tempfile
 import time
+from collections import namedtuple
 
 from verify import program_of
 
-SCHEMA = "CREATE TABLE t (id BIGINT PRIMARY KEY, v BIGINT);\n"
-SIZES = (100_000, 1_000_000)
-# A query's title, its text, the numbers of records, and whether the keys are mixed.
-QUERIES = (
-    ("first rows, keys rising", "SELECT id, v FROM t ORDER BY v FETCH FIRST 2 ROWS ONLY", SIZES, False),
-    ("first rows, keys mixed", "SELECT id, v FROM t ORDER BY v FETCH FIRST 2 ROWS ONLY", SIZES, True),
-    ("ROW_NUMBER", "SELECT id, ROW_NUMBER() OVER (ORDER BY v, id) AS n FROM t", SIZES, False),
-    ("RANK by partition", "SELECT id, RANK() OVER (PARTITION BY v % 100 ORDER BY v) AS r FROM t", SIZES, False),
-    ("running SUM", "SELECT id, SUM(v) OVER (ORDER BY id ROWS UNBOUNDED PRECEDING) AS s FROM t", SIZES, False),
-    ("running SUM to the peers", "SELECT id, SUM(v) OVER (PARTITION BY id % 100 ORDER BY v) AS s FROM t", SIZES, False),
-    ("moving frame", "SELECT id, MAX(v) OVER (ORDER BY id ROWS BETWEEN 50 PRECEDING AND 50 FOLLOWING) AS m FROM t", SIZES, False),
-    ("moving frame, peers left out", "SELECT id, SUM(v) OVER (ORDER BY v ROWS BETWEEN 250 PRECEDING AND 250 FOLLOWING EXCLUDE GROUP) AS s FROM t", SIZES, False),
-    ("join by a key", "SELECT a.id, b.v FROM t AS a JOIN t AS b ON a.id = b.id", SIZES, False),
+# The columns of each table with their types; a record has no NULL, which SQLite would read as an empty text.
+TABLES = {
+    "t": "id BIGINT PRIMARY KEY, g TEXT NOT NULL, region BIGINT NOT NULL, day BIGINT NOT NULL, v BIGINT NOT NULL",
+    "u": "id BIGINT PRIMARY KEY, w BIGINT NOT NULL",
+    "r": "region BIGINT PRIMARY KEY, name TEXT NOT NULL",
+}
+REGIONS, GROUPS = 100, 1000
+
+# A title, the query, its tables, the numbers of records, and what data.table does for it, where it has something for it.
+Task = namedtuple("Task", "title query tables sizes r")
+BOTH = (100_000, 1_000_000)
+TASKS = (
+    Task("ten least of n", "SELECT id, v FROM t ORDER BY v, id FETCH FIRST 10 ROWS ONLY", "t", BOTH, "t[order(v, id)][1:10, .(id, v)]"),
+    Task("ROW_NUMBER by partition", "SELECT id, ROW_NUMBER() OVER (PARTITION BY g ORDER BY v, id) AS n FROM t", "t", BOTH,
+         "setorder(t, g, v, id)[, n := seq_len(.N), by = g][, .(id, n)]"),
+    Task("RANK, DENSE_RANK, LAG",
+         "SELECT id, RANK() OVER (PARTITION BY g ORDER BY v) AS a, DENSE_RANK() OVER (PARTITION BY g ORDER BY v) AS b, "
+         "LAG(v) OVER (PARTITION BY g ORDER BY v, id) AS c FROM t", "t", BOTH,
+         "setorder(t, g, v, id)[, `:=`(a = frank(v, ties.method = 'min'), b = frank(v, ties.method = 'dense'), c = shift(v)), by = g]"
+         "[, .(id, a, b, c)]"),
+    Task("running SUM", "SELECT id, SUM(v) OVER (ORDER BY id ROWS UNBOUNDED PRECEDING) AS s FROM t", "t", BOTH,
+         "setorder(t, id)[, s := cumsum(as.numeric(v))][, .(id, s)]"),
+    Task("MIN over 501 rows", "SELECT id, MIN(v) OVER (ORDER BY id ROWS BETWEEN 250 PRECEDING AND 250 FOLLOWING) AS m FROM t", "t",
+         (20_000, 200_000), None),
+    Task("SUM over 501 rows, EXCLUDE GROUP",
+         "SELECT id, SUM(v) OVER (ORDER BY day, id ROWS BETWEEN 250 PRECEDING AND 250 FOLLOWING EXCLUDE GROUP) AS s FROM t", "t",
+         (20_000, 200_000), None),
+    Task("SUM over RANGE of 7 days",
+         "SELECT id, SUM(v) OVER (PARTITION BY g ORDER BY day RANGE BETWEEN 6 PRECEDING AND CURRENT ROW) AS s FROM t", "t", BOTH, None),
+    Task("join with 100 regions, RANK",
+         "SELECT t.id, r.name, RANK() OVER (PARTITION BY r.name ORDER BY t.v) AS n FROM t JOIN r ON t.region = r.region", "tr", BOTH,
+         "t[r, on = 'region'][, n := frank(v, ties.method = 'min'), by = name][, .(id, name, n)]"),
+    Task("join of n with n", "SELECT t.id, u.w FROM t JOIN u ON t.id = u.id", "tu", BOTH, "t[u, on = 'id'][, .(id, w)]"),
 )
-TURNS = 3
 
 
-def write_table(path, records, mixed):
-    """Records with a tenth of the values NULL and many of them tied."""
-    chosen = random.Random(1)
+def write_tables(folder, records):
+    """Keys in rising order, as a table is mostly exported; texts that share a beginning; many values that tie."""
+    draw = random.Random(1)
+    with open(f"{folder}/t.csv", "w", encoding="ascii") as file:
+        file.write("id,g,region,day,v\n")
+        for key in range(records):
+            file.write("%d,customer %04d,%d,%d,%d\n" % (key, draw.randrange(GROUPS), draw.randrange(REGIONS), draw.randrange(3650), draw.randrange(100_000)))
     keys = list(range(records))
-    if mixed:
-        chosen.shuffle(keys)
-    with open(path, "w", encoding="ascii") as file:
-        file.write("id,v\n")
-        for key in keys:
-            value = chosen.randrange(records)
-            file.write("%d,%s\n" % (key, value if value % 10 else ""))
+    draw.shuffle(keys)
+    with open(f"{folder}/u.csv", "w", encoding="ascii") as file:
+        file.write("id,w\n" + "".join("%d,%d\n" % (key, draw.randrange(1000)) for key in keys))
+    with open(f"{folder}/r.csv", "w", encoding="ascii") as file:
+        file.write("region,name\n" + "".join("%d,region %02d\n" % (key, key) for key in range(REGIONS)))
 
 
-def measure(words):
-    """Seconds and peak memory in MB of one run."""
-    start = time.monotonic()
-    child = subprocess.Popen(words, stdout=subprocess.DEVNULL)
-    _, status, usage = os.wait4(child.pid, 0)
-    seconds = time.monotonic() - start
-    if status != 0:
-        sys.exit("the program ended with status %d" % os.waitstatus_to_exitcode(status))
-    return seconds, usage.ru_maxrss / 1024
+def create(table, word=""):
+    return f"CREATE {word}TABLE {table} ({TABLES[table]});\n"
 
 
-def write_text(path, text):
-    with open(path, "w", encoding="ascii") as file:
+def text_file(folder, name, text):
+    with open(f"{folder}/{name}", "w", encoding="utf-8") as file:
         file.write(text)
+    return f"{folder}/{name}"
 
 
-def measure_query(program, folder, title, text, sizes, mixed):
-    """Measures a query over the tables of each size and prints what comes out."""
-    schema, query = os.path.join(folder, "schema.sql"), os.path.join(folder, "query.sql")
-    write_text(schema, SCHEMA)
-    write_text(query, text + "\n")
-    least = []
-    for records in sizes:
-        table = os.path.join(folder, "t.csv")
-        write_table(table, records, mixed)
-        runs = [measure([program, "run", schema, query, "t=" + table]) for _ in range(TURNS)]
-        seconds, memory = min(run[0] for run in runs), max(run[1] for run in runs)
-        least.append(seconds)
-        print("%-24s %8d records: %6.2f s, %4.0f MB at most" % (title, records, seconds, memory))
-    print("%-24s ten times the records take %.1f times as long" % (title, least[1] / least[0]))
+def of_wdcheck(program, task, folder):
+    schema = text_file(folder, "schema.sql", "".join(create(table) for table in task.tables))
+    query = text_file(folder, "query.sql", task.query + "\n")
+    return [program, "run", schema, query, *[f"{table}={folder}/{table}.csv" for table in task.tables]]
+
+
+def of_postgres(task, folder):
+    text = "".join(create(table, "TEMPORARY ") + f"\\copy {table} FROM '{folder}/{table}.csv' CSV HEADER\n" for table in task.tables)
+    return ["psql", "-qX", "-v", "ON_ERROR_STOP=1", "-f", text_file(folder, "task.psql", f"{text}\\copy ({task.query}) TO STDOUT CSV HEADER\n")]
+
+
+def of_sqlite(task, folder):
+    query = task.query.replace("FETCH FIRST 10 ROWS ONLY", "LIMIT 10")
+    text = "".join(f"{create(table)}.import --csv --skip 1 {folder}/{table}.csv {table}\n" for table in task.tables)
+    return ["sqlite3", ":memory:", "-batch", "-cmd", f".read {text_file(folder, 'task.sqlite', text)}", "-cmd", ".mode csv", "-cmd", ".headers on", query]
+
+
+def of_data_table(task, folder):
+    text = "".join(f"{table} <- fread('{folder}/{table}.csv')\n" for table in task.tables)
+    text = f"suppressMessages(library(data.table))\nsetDTthreads(1)\noptions(scipen = 20)\n{text}fwrite({task.r}, '')\n"
+    return ["Rscript", "--vanilla", text_file(folder, "task.R", text)]
+
+
+def answers(words):
+    """Whether the words run here at all."""
+    try:
+        return subprocess.run(words, stdin=subprocess.DEVNULL, capture_output=True).returncode == 0
+    except OSError:
+        return False
+
+
+def others():
+    """The other engines that are there, each with what makes its words."""
+    tried = (
+        ("PostgreSQL", ["psql", "-qXc", "SELECT 1"], of_postgres),
+        ("SQLite", ["sqlite3", ":memory:", "SELECT 1"], of_sqlite),
+        ("data.table", ["Rscript", "--vanilla", "-e", "library(data.table)"], of_data_table),
+    )
+    found = [(name, words_of) for name, words, words_of in tried if answers(words)]
+    missing = [name for name, _, words_of in tried if (name, words_of) not in found]
+    if missing:
+        print(f"not here: {', '.join(missing)}")
+    return found
+
+
+def measure(words, folder):
+    """Seconds, peak memory in MB and the bytes of one run."""
+    path = f"{folder}/answer.csv"
+    with open(path, "wb") as out:
+        start = time.monotonic()
+        child = subprocess.Popen(words, stdout=out)
+        _, status, usage = os.wait4(child.pid, 0)
+        seconds = time.monotonic() - start
+    if status != 0:
+        sys.exit("%s ended with status %d" % (words[0], os.waitstatus_to_exitcode(status)))
+    return seconds, usage.ru_maxrss / 1024, path
+
+
+def rows_in(path):
+    """A sum of the rows of an answer, each row equally often."""
+    with open(path, "rb") as file:
+        rows = sorted(row.replace(b'"', b"").rstrip(b"\r\n") for row in file.readlines()[1:])
+    return hashlib.sha256(b"\n".join(rows)).hexdigest()
+
+
+def measure_task(program, task, engines, folder, turns):
+    """Measures a task at each of its sizes and prints what comes out."""
+    before = None
+    for records in task.sizes:
+        write_tables(folder, records)
+        runs = [measure(of_wdcheck(program, task, folder), folder) for _ in range(turns)]
+        seconds, wanted = min(run[0] for run in runs), rows_in(runs[-1][2])
+        told = [f"wdcheck {seconds:.2f} s, {max(run[1] for run in runs):.0f} MB"]
+        for name, words_of in engines:
+            if words_of is of_data_table and not task.r:
+                continue
+            their = [measure(words_of(task, folder), folder) for _ in range(turns)]
+            told.append(f"{name} {min(run[0] for run in their):.2f} s" + ("" if rows_in(their[-1][2]) == wanted else " WITH ANOTHER ANSWER"))
+        print(f"{task.title}, {records:,} records: {'; '.join(told)}", flush=True)
+        if before:
+            print(f"{task.title}: ten times the records take {seconds / before:.1f} times as long", flush=True)
+        before = seconds
 
 
 def main():
-    program = program_of(sys.argv[1:])
+    parser = argparse.ArgumentParser(description=__doc__.splitlines()[0])
+    parser.add_argument("program", nargs="?")
+    parser.add_argument("--tasks", default="")
+    parser.add_argument("--turns", type=int, default=3)
+    given = parser.parse_args()
+    program, engines = program_of([given.program] if given.program else []), others()
     with tempfile.TemporaryDirectory() as folder:
-        for title, text, sizes, mixed in QUERIES:
-            measure_query(program, folder, title, text, sizes, mixed)
+        os.chmod(folder, 0o755)
+        for task in TASKS:
+            if given.tasks in task.title:
+                measure_task(program, task, engines, folder, given.turns)
 
 
 if __name__ == "__main__":

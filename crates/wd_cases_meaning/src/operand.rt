@@ -5,10 +5,9 @@ use crate::tree::written;
 use std::alloc::Global;
 use wd_cases::Failure;
 use wd_operand::{
-    CaseArm, Meaning, case_of, combined, copy_expression, literal, negated, same_expression,
-    same_kind, signed, signed_number, tested,
+    CaseArm, Meaning, case_of, combined, literal, negated, signed, signed_number, tested,
 };
-use wd_plan::{Expr, ValueKind};
+use wd_plan::{Expr, ValueKind, same_kind};
 use wd_syntax::{Literal, Operator, Sign};
 
 fn kind_named(word: &str) -> Result<ValueKind, Failure> {
@@ -171,7 +170,7 @@ pub fn expressions_are_same(alloc: Global, text: &str) -> Result<String, Failure
 
 fn is_same_as(alloc: Global, one: &Expr, other: &str) -> Result<String, Failure> {
     let other = expression_of(alloc, other)?;
-    written(alloc, &same_expression(one, &other))
+    written(alloc, &one.same(&other))
 }
 
 /// `copy_expression EXPRESSION`: a copy, and whether it is the same expression.
@@ -181,6 +180,6 @@ pub fn copied(alloc: Global, text: &str) -> Result<String, Failure> {
 }
 
 fn copy_shown(alloc: Global, expression: &Expr) -> Result<String, Failure> {
-    let copy = copy_expression(alloc, expression)?;
-    written(alloc, &(same_expression(expression, &copy), &copy))
+    let copy = expression.copy(alloc)?;
+    written(alloc, &(expression.same(&copy), &copy))
 }

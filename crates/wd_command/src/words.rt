@@ -59,53 +59,76 @@ pub fn read_words<'a>(alloc: Global, words: &'a [&'a str]) -> Result<Request<'a>
     }
 }
 
+// What stands below the commands in the program's help.
+const STATUSES: &str = "Exit status:
+  0  DETERMINISTIC, ACCEPTED, or the rows of the answer
+  1  DEPENDS or REFUTED: two orders of rows that tie give two answers
+  2  UNKNOWN: neither is shown
+  3  an input is refused (WHERE: refused N), or the command line
+  4  the query ends in a fault (fault F1, fault F2)
+  5  a file can't be read, the output can't be written, or memory runs out";
+
 // The command line: one level of subcommands, each with positional words.
 fn command_line<'a>(alloc: Global) -> Result<Command<'a>, AllocError>
     ensures { IfOk result (λ command. app_of command ≡ spec.command_line) }
 {
-    let command = program(alloc)
-        .subcommand(paths_command(alloc, "check")?)?
-        .subcommand(paths_command(alloc, "explain")?)?
-        .subcommand(file_command(alloc, "verify", "CERT")?)?
-        .subcommand(file_command(alloc, "refute", "WITNESS")?)?
+    let command = program(alloc)?
+        .subcommand(check_command(alloc)?)?
+        .subcommand(explain_command(alloc)?)?
+        .subcommand(verify_command(alloc)?)?
+        .subcommand(refute_command(alloc)?)?
         .subcommand(run_command(alloc)?)?;
     Ok(command)
 }
 
 // The program's name, after which a command is wanted.
-fn program<'a>(alloc: Global) -> Command<'a>
-    ensures { app_of result ≡ spec.program }
+fn program<'a>(alloc: Global) -> Result<Command<'a>, AllocError>
+    ensures { IfOk result (λ command. app_of command ≡ spec.program) }
 {
     Command::new(alloc, "wdcheck")
+        .about(
+            "Tells whether a SQL query with window functions has one answer, whatever the order of rows that tie.",
+        )
+        .after_help(STATUSES)
         .no_binary_name(true)
         .subcommand_required(true)
+        .bin_name("wdcheck")
 }
 
-// The words `NAME SCHEMA QUERY`.
-fn paths_command<'a>(alloc: Global, name: &'a str) -> Result<Command<'a>, AllocError>
-    ensures app { IfOk result (λ command. app_of command ≡ spec.paths_command name.entry.now) }
+fn check_command<'a>(alloc: Global) -> Result<Command<'a>, AllocError>
+    ensures app { IfOk result (λ command. app_of command ≡ spec.paths_command (codes "check")) }
     ensures local { IfOk result (λ command. (fields_of command).has_globals ≡ false) }
 {
-    let schema = Arg::new(alloc, "schema")
-        .required(true)
-        .value_name("SCHEMA");
-    let query = Arg::new(alloc, "query").required(true).value_name("QUERY");
-    Command::new(alloc, name).arg(schema)?.arg(query)
+    let command = paths_command(alloc, "check")?;
+    Ok(command.about("Prints the verdict: DETERMINISTIC, DEPENDS or UNKNOWN, and what shows it"))
 }
 
-// The words `NAME SCHEMA QUERY` and one more path.
-fn file_command<'a>(
-    alloc: Global,
-    name: &'a str,
-    value_name: &'a str,
-) -> Result<Command<'a>, AllocError>
-    ensures app { IfOk result (λ command. app_of command ≡ spec.file_command name.entry.now) }
+fn explain_command<'a>(alloc: Global) -> Result<Command<'a>, AllocError>
+    ensures app { IfOk result (λ command. app_of command ≡ spec.paths_command (codes "explain")) }
     ensures local { IfOk result (λ command. (fields_of command).has_globals ≡ false) }
 {
-    let file = Arg::new(alloc, "file")
-        .required(true)
-        .value_name(value_name);
-    paths_command(alloc, name)?.arg(file)
+    let command = paths_command(alloc, "explain")?;
+    Ok(command.about("Prints the plan, with the rule of each window call and limit"))
+}
+
+fn verify_command<'a>(alloc: Global) -> Result<Command<'a>, AllocError>
+    ensures app { IfOk result (λ command. app_of command ≡ spec.file_command (codes "verify")) }
+    ensures local { IfOk result (λ command. (fields_of command).has_globals ≡ false) }
+{
+    let certificate = file_word(alloc, "CERT").help("A file with the certificate's line");
+    let command = paths_command(alloc, "verify")?.arg(certificate)?;
+    Ok(command.about(
+        "Prints ACCEPTED where the certificate is valid, so that the query has one answer",
+    ))
+}
+
+fn refute_command<'a>(alloc: Global) -> Result<Command<'a>, AllocError>
+    ensures app { IfOk result (λ command. app_of command ≡ spec.file_command (codes "refute")) }
+    ensures local { IfOk result (λ command. (fields_of command).has_globals ≡ false) }
+{
+    let witness = file_word(alloc, "WITNESS").help("A file with the witness's line");
+    let command = paths_command(alloc, "refute")?.arg(witness)?;
+    Ok(command.about("Prints REFUTED where the witness's two orders give two answers"))
 }
 
 // The words `run SCHEMA QUERY [NAME=PATH]...`.
@@ -115,8 +138,36 @@ fn run_command<'a>(alloc: Global) -> Result<Command<'a>, AllocError>
 {
     let tables = Arg::new(alloc, "tables")
         .num_args(0..)
-        .value_name("NAME=PATH");
-    paths_command(alloc, "run")?.arg(tables)
+        .value_name("NAME=PATH")
+        .help("A table of the query and its CSV file with a header");
+    let command = paths_command(alloc, "run")?.arg(tables)?;
+    Ok(command.about("Prints the answer over CSV tables, as CSV"))
+}
+
+// The words `NAME SCHEMA QUERY`.
+fn paths_command<'a>(alloc: Global, name: &'a str) -> Result<Command<'a>, AllocError>
+    ensures app { IfOk result (λ command. app_of command ≡ spec.paths_command name.entry.now) }
+    ensures local { IfOk result (λ command. (fields_of command).has_globals ≡ false) }
+{
+    let schema = Arg::new(alloc, "schema")
+        .required(true)
+        .value_name("SCHEMA")
+        .help("A file of CREATE TABLE statements");
+    let query = Arg::new(alloc, "query")
+        .required(true)
+        .value_name("QUERY")
+        .help("A file with one SELECT");
+    Command::new(alloc, name).arg(schema)?.arg(query)
+}
+
+// One more path, behind the words `NAME SCHEMA QUERY`.
+fn file_word<'a>(alloc: Global, value_name: &'a str) -> Arg<'a>
+    ensures rule { rule_of result ≡ spec.wanted (codes "file") }
+    ensures plain { IsPlainArg result }
+{
+    Arg::new(alloc, "file")
+        .required(true)
+        .value_name(value_name)
 }
 
 // What a parse has found.

@@ -1,3 +1,2 @@
 pub mod Causes
 pub mod Operands
-pub mod Equality

@@ -2,15 +2,11 @@
 #![tactic(auto)]
 
 mod cause;
-mod copy;
-mod equality;
 mod literals;
 mod meaning;
 mod operator;
 
 pub use cause::{Cause, ResolveError};
-pub use copy::copy_expression;
-pub use equality::same_expression;
 pub use literals::{literal, number, signed_number};
-pub use meaning::{Meaning, same_kind};
+pub use meaning::Meaning;
 pub use operator::{CaseArm, case_of, combined, negated, signed, tested};

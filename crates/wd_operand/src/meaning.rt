@@ -2,14 +2,13 @@
 
 ghost use Rattle.std.specs.Prelude.{◌≡◌};
 ghost use Rattle.wd_plan.specs.Expressions.{expression_of};
-ghost use Rattle.wd_plan.specs.Fits as fits;
 ghost use Rattle.wd_operand.specs.Causes.{Gives};
 ghost use Rattle.wd_operand.specs.Operands.{operand_of};
 ghost use Rattle.wd_operand.specs.Operands as spec;
 
 use crate::cause::{Cause, ResolveError};
 use std::alloc::Global;
-use wd_plan::{Expr, ValueKind};
+use wd_plan::{Expr, ValueKind, same_kind};
 use wd_value::Value;
 
 /// What an expression means as an operand: a bare NULL, whose kind its place decides, or an expression of a kind.
@@ -59,16 +58,5 @@ impl Meaning {
         ensures { Gives operand_of result (spec.meant (expression_of expression) kind) }
     {
         Ok(Meaning::Typed(Box::new(alloc, expression)?, kind))
-    }
-}
-
-pub fn same_kind(a: ValueKind, b: ValueKind) -> bool
-    ensures { result ≡ fits.same_kind a b }
-{
-    match (a, b) {
-        (ValueKind::Number, ValueKind::Number) => true,
-        (ValueKind::Text, ValueKind::Text) => true,
-        (ValueKind::Truth, ValueKind::Truth) => true,
-        _ => false,
     }
 }

@@ -11,4 +11,5 @@ pub mod Choices
 pub mod Facts
 pub mod Settled
 pub mod Fits
+pub mod Equality
 pub mod Sources

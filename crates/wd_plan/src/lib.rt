@@ -1,13 +1,15 @@
 //! Plans of queries, and what a plan gives over an instance under a choice of orderings.
 #![tactic(auto)]
 
+mod equality;
 mod expression;
 mod fits;
 mod function;
 mod plan;
 mod window;
 
-pub use expression::{ArithmeticOp, Branch, ComparisonOp, Expr, ValueKind};
+pub use equality::{Leaf, same_kind};
+pub use expression::{ArithmeticOp, Branch, ComparisonOp, Expr, ExprOver, ValueKind};
 pub use fits::kind_of_type;
 pub use function::{
     Aggregate, Argument, ByPeers, Direction, FrameFunction, FrameRow, Function, FunctionName,

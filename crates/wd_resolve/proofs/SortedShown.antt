@@ -14,7 +14,7 @@ use Rattle.wd_syntax.specs.Tree as tree
 use Rattle.wd_syntax.specs.Tree.{Tree, Keys, no_keys, more_keys}
 use Rattle.wd_operand.specs.declared.cause.Cause.TheVariants.{WrongSortKey, ForeignSortKey, TooMany}
 use Rattle.wd_operand.specs.Causes.{Meant}
-use Rattle.wd_operand.specs.Equality.{same_expression}
+use Rattle.wd_plan.specs.Equality.{same_expression}
 use Rattle.wd_operand.specs.Operands.{Operand, settled}
 use Rattle.wd_operand.specs.Operands as operands
 use Rattle.wd_scope.specs.Resolving.{plain, written_number}

@@ -15,7 +15,7 @@ use Rattle.wd_plan.specs.Fits.{Kinds}
 use Rattle.wd_plan.specs.declared.function.FunctionName.{FunctionName}
 use Rattle.wd_plan.specs.declared.function.FunctionName.TheVariants.{RowNumber, Rank, DenseRank, Ntile, Lag, Lead, FirstValue, LastValue, NthValue, Count, Sum, Min, Max}
 use Rattle.wd_scope.specs.Calls.{CallMeaning, FunctionMeaning, same_argument, same_call, same_function}
-use Rattle.wd_operand.specs.Equality.{same_expression}
+use Rattle.wd_plan.specs.Equality.{same_expression}
 use Rattle.wd_scope.specs.Typed.{IsFunction, IsFunctionOver, IsOfKind}
 use Rattle.wd_scope.proofs.Typing.{both, same_kind-is}
 

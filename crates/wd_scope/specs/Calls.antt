@@ -28,7 +28,7 @@ use Rattle.wd_scope.specs.declared.call.WindowCall.{WindowCall}
 use Rattle.wd_scope.specs.declared.call.Calls.{Calls}
 use Rattle.wd_operand.specs.declared.meaning.Meaning.{Meaning}
 use Rattle.wd_operand.specs.Causes.{Meant, ◌>>=◌}
-use Rattle.wd_operand.specs.Equality.{same_expression}
+use Rattle.wd_plan.specs.Equality.{same_expression}
 use Rattle.wd_operand.specs.Operands.{Operand, bare_null, typed, settled, kind_of, operand_of}
 use Rattle.wd_scope.specs.Windows.{KeyMeaning, WindowMeaning, window_of}
 

@@ -10,8 +10,8 @@ ghost use Rattle.wd_operand.specs.Operands.{operand_of};
 
 use crate::call::AppliedFunction;
 use std::alloc::Global;
-use wd_operand::{Cause, Meaning, ResolveError, same_kind};
-use wd_plan::{Expr, FunctionName, ValueKind};
+use wd_operand::{Cause, Meaning, ResolveError};
+use wd_plan::{Expr, FunctionName, ValueKind, same_kind};
 use wd_value::Value;
 
 /// How far LAG and LEAD go where they do not say.

@@ -7,14 +7,14 @@ ghost use Rattle.wd_plan.specs.Expressions.{expression_of};
 ghost use Rattle.wd_operand.specs.Causes.{Gives};
 ghost use Rattle.wd_scope.specs.Calls.{call_of, function_of};
 ghost use Rattle.wd_scope.specs.Calls as spec;
-ghost use Rattle.wd_operand.specs.Equality as equality;
+ghost use Rattle.wd_plan.specs.Equality as equality;
 ghost use Rattle.wd_operand.specs.Operands.{operand_of};
 ghost use Rattle.wd_scope.specs.Windows.{key_of, window_of};
 
 use crate::call::{AppliedFunction, Calls, MOST_CALLS, WindowCall};
 use crate::window::{OrderKey, Window};
 use std::alloc::Global;
-use wd_operand::{Cause, Meaning, ResolveError, same_expression};
+use wd_operand::{Cause, Meaning, ResolveError};
 use wd_plan::{Bound, Expr, Frame};
 use wd_value::same;
 
@@ -23,7 +23,7 @@ fn same_argument(a: &Option<Expr>, b: &Option<Expr>) -> bool
 {
     match (a, b) {
         (None, None) => true,
-        (Some(a), Some(b)) => same_expression(a, b),
+        (Some(a), Some(b)) => a.same(b),
         _ => false,
     }
 }
@@ -40,7 +40,7 @@ fn same_key(k: &OrderKey, l: &OrderKey) -> bool
     ensures { result ≡ spec.same_key (key_of k.now) (key_of l.now) }
 {
     (k.key.desc == l.key.desc && k.key.nulls_first == l.key.nulls_first)
-        && same_expression(&k.expression, &l.expression)
+        && k.expression.same(&l.expression)
 }
 
 fn same_bound(a: Bound, b: Bound) -> bool
@@ -70,7 +70,7 @@ fn same_partition(a: &[Expr], b: &[Expr]) -> bool
         return false;
     }
     for (i, x) in a.iter().enumerate() {
-        if !same_expression(x, &b[i]) {
+        if !x.same(&b[i]) {
             return false;
         }
     }

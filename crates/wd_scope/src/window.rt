@@ -9,8 +9,8 @@ ghost use Rattle.wd_scope.specs.Windows as spec;
 
 use std::alloc::Global;
 use std::rc::Rc;
-use wd_operand::{Cause, ResolveError, number, same_kind};
-use wd_plan::{Bound, Exclusion, Expr, Frame, FrameMode, ValueKind};
+use wd_operand::{Cause, ResolveError, number};
+use wd_plan::{Bound, Exclusion, Expr, Frame, FrameMode, ValueKind, same_kind};
 use wd_syntax as written;
 use wd_syntax::{Extent, Name, NullsPlace, SortDirection};
 use wd_value::{SortKey, Text};

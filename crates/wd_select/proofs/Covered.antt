@@ -11,7 +11,7 @@ use Rattle.wd_plan.specs.contracts.expression.ComparisonOp.{the_type as comparis
 use Rattle.wd_plan.specs.contracts.expression.Branch.{the_type as branches}
 use Rattle.wd_plan.specs.Expressions.{Expression, Column, Literal, Negate, Arithmetic, Compare, Not, And, Or, IsNull, IsNotNull, Case}
 use Rattle.wd_plan.specs.Fits.{Kinds, is_typed}
-use Rattle.wd_operand.specs.Equality.{same_expression}
+use Rattle.wd_plan.specs.Equality.{same_expression}
 use Rattle.wd_plan.specs.declared.function.FunctionName.{FunctionName}
 use Rattle.wd_plan.specs.declared.function.FunctionName.TheVariants.{Lag, Lead, FirstValue, LastValue, NthValue, Count, Sum, Min, Max}
 use Rattle.wd_scope.specs.declared.scope.ScopeColumn.{ScopeColumn}

@@ -20,7 +20,7 @@ use Rattle.wd_plan.specs.Expressions.{Expression, Column, Literal, Negate, Arith
 use Rattle.wd_plan.specs.Fits.{Kinds, are_alike, are_bounds, fits, has_class, has_columns, has_keys, has_keys_for, has_offset, is_call, is_kind, is_typed, kind_of, kind_of_function, kinds_of, takes}
 use Rattle.wd_plan.specs.Fits as fits_spec
 use Rattle.wd_plan.specs.Plans.{ClassRule, PlanTree, Map, Window}
-use Rattle.wd_operand.specs.Equality.{same_expression}
+use Rattle.wd_plan.specs.Equality.{same_expression}
 use Rattle.wd_plan.specs.declared.function.FunctionName.{FunctionName}
 use Rattle.wd_plan.specs.declared.function.FunctionName.TheVariants.{RowNumber, Rank, DenseRank, Ntile, Lag, Lead, FirstValue, LastValue, NthValue, Count, Sum, Min, Max}
 use Rattle.wd_scope.specs.declared.scope.ScopeColumn.{ScopeColumn}

@@ -11,7 +11,7 @@ use Rattle.wd_plan.specs.Expressions.{Expression, expression_of, Column, Literal
 use Rattle.wd_operand.specs.declared.cause.Cause.TheVariants.{UnknownTable, TooMany}
 use Rattle.wd_scope.specs.declared.scope.ScopeColumn.{ScopeColumn}
 use Rattle.wd_operand.specs.Causes.{Meant, ◌>>=◌}
-use Rattle.wd_operand.specs.Equality.{same_expression}
+use Rattle.wd_plan.specs.Equality.{same_expression}
 use Rattle.wd_operand.specs.Operands.{Operand, settled, kind_of}
 use Rattle.wd_scope.specs.Scopes.{ScopeRule, has_table}
 use Rattle.wd_scope.specs.Windows.{KeyMeaning}

@@ -17,7 +17,7 @@ use Rattle.wd_value.specs.declared.order.SortColumn.{SortColumn}
 use Rattle.wd_plan.specs.Expressions.{Expression, expression_of}
 use Rattle.wd_operand.specs.declared.cause.Cause.TheVariants.{Ambiguous, WrongSortKey, TiesWithoutOrder, ForeignSortKey, TooMany}
 use Rattle.wd_operand.specs.Causes.{Meant, ◌>>=◌}
-use Rattle.wd_operand.specs.Equality.{same_expression}
+use Rattle.wd_plan.specs.Equality.{same_expression}
 use Rattle.wd_operand.specs.Operands.{number, settled}
 use Rattle.wd_scope.specs.Scopes.{ScopeRule, scope_of}
 use Rattle.wd_scope.specs.Windows.{sort_key}

@@ -3,7 +3,7 @@
 ghost use Rattle.std.specs.Prelude.{◌≡◌, ◌≤◌, [], ◌∷◌, map, length, option_map, IfOk};
 ghost use Rattle.std.specs.List.{list_any};
 ghost use Rattle.wd_plan.specs.Expressions.{expression_of, Column};
-ghost use Rattle.wd_operand.specs.Equality as equality;
+ghost use Rattle.wd_plan.specs.Equality as equality;
 ghost use Rattle.wd_scope.specs.Calls.{call_of, calls_of};
 ghost use Rattle.wd_scope.specs.Windows.{key_of};
 ghost use Rattle.wd_select.specs.Outputs.{output_of, expressions_of, with_new, call_expressions, argument_of, sorted_by, inputs_with, inputs_with_all};
@@ -11,7 +11,6 @@ ghost use Rattle.wd_select.specs.Outputs as spec;
 
 use crate::output::Output;
 use std::alloc::Global;
-use wd_operand::{copy_expression, same_expression};
 use wd_plan::Expr;
 use wd_scope::{Calls, OrderKey, WindowCall};
 use wd_value::OutOfMemory;
@@ -21,7 +20,7 @@ fn is_among(expression: &Expr, others: &[Expr]) -> bool
     ensures { result ≡ list_any (equality.same_expression (expression_of expression.now)) (map expression_of others.now) }
 {
     for other in others {
-        if same_expression(expression, other) {
+        if expression.same(other) {
             return true;
         }
     }
@@ -35,7 +34,7 @@ fn add_input(alloc: Global, inputs: &mut Vec<Expr>, expression: &Expr) -> Result
     if is_among(expression, inputs) {
         return Ok(());
     }
-    inputs.push(copy_expression(alloc, expression)?)?;
+    inputs.push(expression.copy(alloc)?)?;
     Ok(())
 }
 
@@ -158,7 +157,7 @@ pub fn input_number(inputs: &[Expr], expression: &Expr) -> usize
     ensures within { result ≤ length inputs.now }
 {
     for (number, input) in inputs.iter().enumerate() {
-        if same_expression(expression, input) {
+        if expression.same(input) {
             return number;
         }
     }

@@ -16,7 +16,7 @@ use crate::inputs::add_met;
 use crate::output::Output;
 use crate::shown::{KeyPlace, Shown, Sorted};
 use std::alloc::Global;
-use wd_operand::{Cause, ResolveError, number, same_expression};
+use wd_operand::{Cause, ResolveError, number};
 use wd_plan::Expr;
 use wd_scope::{Calls, MOST_COLUMNS, Scope, plain, sort_key, written_number};
 use wd_syntax as written;
@@ -43,7 +43,7 @@ fn output_number(expression: &Expr, outputs: &[Output]) -> Option<u16>
     ensures { MatchOption result (spec.sorted_place 0 (expression_of expression.now) (map output_of outputs.now) ≡ spec.hidden (expression_of expression.now)) (λ number. spec.sorted_place 0 (expression_of expression.now) (map output_of outputs.now) ≡ spec.output number) }
 {
     for (number, output) in outputs.iter().enumerate() {
-        if same_expression(expression, &output.expression) {
+        if expression.same(&output.expression) {
             return Some(number as u16);
         }
     }
@@ -78,7 +78,7 @@ fn names_only(name: &Name, expression: &Expr, outputs: &[Output]) -> bool
     ensures { result ≡ spec.names_only name.now.text (expression_of expression.now) (map output_of outputs.now) }
 {
     for output in outputs {
-        if is_named(name, output) && !same_expression(expression, &output.expression) {
+        if is_named(name, output) && !expression.same(&output.expression) {
             return false;
         }
     }

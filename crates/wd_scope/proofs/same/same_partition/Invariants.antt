@@ -1,7 +1,7 @@
 use Rattle.std.proofs.Common.{◌≡◌, drop, map}
 use lib.Pointwise.{pointwise}
 use Rattle.wd_plan.specs.Expressions.{expression_of}
-use Rattle.wd_operand.specs.Equality.{same_expression}
+use Rattle.wd_plan.specs.Equality.{same_expression}
 use Rattle.wd_scope.proofs.same.same_partition.Given as goal
 
 abbrev pub invariant-loop-i : goal.invariant-loop-i
