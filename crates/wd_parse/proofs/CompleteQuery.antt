@@ -15,7 +15,7 @@ use Rattle.wd_syntax.specs.declared.query.Count.TheVariants as c
 use Rattle.wd_syntax.specs.declared.query.Limits.{Limits}
 use Rattle.wd_syntax.specs.declared.query.Limits.TheVariants.{OffsetFirst, CountFirst}
 use Rattle.wd_cursor.specs.Tokens.{Kinds, ◌▸◌, name_kind}
-use Rattle.wd_syntax.specs.Tree.{Tree, WindowTree, Keys, ItemTree, all_columns, all_of, shown, TableTree, named, derived, JoinTree, comma, cross, inner, Joins, no_joins, more_joins, SelectTree, select, QueryTree, query, keys_of, joins_of, Each}
+use Rattle.wd_syntax.specs.Tree.{Tree, WindowTree, Keys, ItemTree, all_columns, all_of, shown, Tail, TableTree, named, derived, JoinTree, comma, cross, inner, Joins, no_joins, more_joins, SelectTree, select, QueryTree, query, keys_of, joins_of, Each}
 use Rattle.wd_syntax.specs.Spelling.{onto, window_onto, order_onto, quantifier_onto, as_onto, given_onto, alias_onto, item_onto, more_items_onto, items_onto, filter_onto, named_window_onto, more_windows_onto, windows_onto, row_onto, row_option_onto, offset_onto, fetch_onto, number_onto, ties_onto, count_onto, limits_onto, tail_onto, table_onto, join_onto, joins_onto, select_onto, end_onto, spell}
 use Rattle.wd_syntax.specs.Levels.{IsLevelled, WindowLevelled, ItemLevelled, OptionLevelled, TableLevelled, JoinLevelled, JoinsLevelled, SelectLevelled, IsWellLevelled}
 use Rattle.wd_syntax.specs.Limits.{Below, Fits, WindowFits, KeysFit, ItemFits, OptionFits, TableFits, JoinFits, JoinsFit, SelectFits, QueryFits}
@@ -129,9 +129,11 @@ limits_longer (Some (OffsetFirst o (Some count))) ts = omega (arith, row_option_
 limits_longer (Some (CountFirst count None)) ts = count_longer count ts
 limits_longer (Some (CountFirst count (Some o))) ts = omega (arith, count_longer count (offset_onto o ts), row_option_longer o.word ts)
 
-tail_longer : (filter : Option Tree) (windows : List (Name × WindowTree)) (order : Keys) (limits : Option Limits) (ts : Kinds) → length ts ≤ length (tail_onto filter windows order limits ts)
-tail_longer filter windows order limits ts =
-    omega (arith, filter_longer filter (windows_onto windows (order_onto order (limits_onto limits ts))), windows_longer windows (order_onto order (limits_onto limits ts)), order_longer order (limits_onto limits ts), limits_longer limits ts)
+tail_longer : (tail : Tail) (ts : Kinds) → length ts ≤ length (tail_onto tail ts)
+tail_longer tail ts =
+    let t1 : Kinds = limits_onto tail.limits ts in
+    let t2 : Kinds = order_onto tail.order t1 in
+    omega (arith, filter_longer tail.filter (windows_onto tail.windows t2), windows_longer tail.windows t2, order_longer tail.order t1, limits_longer tail.limits ts)
 
 mutual
   table_longer : (table : TableTree) (ts : Kinds) → length ts ≤ length (table_onto table ts)
@@ -149,9 +151,10 @@ mutual
   joins_longer (more_joins join joins) ts = omega (arith, join_longer join (joins_onto joins ts), joins_longer joins ts)
 
   select_longer : (s : SelectTree) (ts : Kinds) → length ts ≤ length (select_onto s ts)
-  select_longer (select quantifier items first joins filter windows order limits) ts =
-      let tail : Kinds = tail_onto filter windows order limits ts in
-      omega (arith, quantifier_longer quantifier (items_onto items (m.From ▸ table_onto first (joins_onto joins tail))), items_longer items (m.From ▸ table_onto first (joins_onto joins tail)), table_longer first (joins_onto joins tail), joins_longer joins tail, tail_longer filter windows order limits ts)
+  select_longer (select parts first joins) ts =
+      let tail : Kinds = tail_onto parts.tail ts in
+      let from : Kinds = m.From ▸ table_onto first (joins_onto joins tail) in
+      omega (arith, quantifier_longer parts.quantifier (items_onto parts.items from), items_longer parts.items from, table_longer first (joins_onto joins tail), joins_longer joins tail, tail_longer parts.tail ts)
 
 abbrev pub join_items : Joins → List JoinTree
 join_items no_joins = []
@@ -330,39 +333,43 @@ module _ (c : ℕ) where
   selects_are zero ts = refl
   selects_are (suc d) ts = refl
 
-  select_reads : (d : ℕ) (quantifier : Option Quantifier) (a : ItemTree) (items : List ItemTree) (first : TableTree) (joins : Joins) (filter : Option Tree) (windows : List (Name × WindowTree)) (order : Keys) (limits : Option Limits) → SelectLevelled (select quantifier (a ∷ items) first joins filter windows order limits) → TableReads d first → JoinTurns d joins → SelectReads d (select quantifier (a ∷ items) first joins filter windows order limits)
+  select_reads : (d : ℕ) (quantifier : Option Quantifier) (a : ItemTree) (items : List ItemTree) (first : TableTree) (joins : Joins) (tail : Tail) → SelectLevelled (select (record { quantifier = quantifier; items = a ∷ items; tail = tail }) first joins) → TableReads d first → JoinTurns d joins → SelectReads d (select (record { quantifier = quantifier; items = a ∷ items; tail = tail }) first joins)
   unfolding select_at
-  select_reads d quantifier a items first joins filter windows order limits wl kf kj rest lt =
-      let s : SelectTree = select quantifier (a ∷ items) first joins filter windows order limits in
+  select_reads d quantifier a items first joins tail wl kf kj rest lt =
+      let s : SelectTree = select (record { quantifier = quantifier; items = a ∷ items; tail = tail }) first joins in
       let F : Type 0 = SelectFits c d s in
       let p : Parser Tree = level c d 8 in
       let inside : Inner = inside_of c d in
-      let t4 : Kinds = limits_onto limits rest in
-      let t3 : Kinds = order_onto order t4 in
-      let t2 : Kinds = windows_onto windows t3 in
-      let t1 : Kinds = filter_onto filter t2 in
+      let t4 : Kinds = limits_onto tail.limits rest in
+      let t3 : Kinds = order_onto tail.order t4 in
+      let t2 : Kinds = windows_onto tail.windows t3 in
+      let t1 : Kinds = filter_onto tail.filter t2 in
       let t0 : Kinds = table_onto first (joins_onto joins t1) in
       let list : Kinds = item_onto a (more_items_onto items (m.From ▸ t0)) in
-      let h4 : 4 < clauses t4 = limits_clause limits rest (omega arith) in
-      let h3 : 3 < clauses t3 = order_clause order t4 (omega arith) in
-      let h2 : 2 < clauses t2 = windows_clause windows t3 (omega arith) in
-      let h1 : 1 < clauses t1 = filter_clause filter t2 (omega arith) in
+      let h4 : 4 < clauses t4 = limits_clause tail.limits rest (omega arith) in
+      let h3 : 3 < clauses t3 = order_clause tail.order t4 (omega arith) in
+      let h2 : 2 < clauses t2 = windows_clause tail.windows t3 (omega arith) in
+      let h1 : 1 < clauses t1 = filter_clause tail.filter t2 (omega arith) in
       let no_all : eat m.All list ≡ None = item_begins m.All a (more_items_onto items (m.From ▸ t0)) (no_quantifier (more_items_onto items (m.From ▸ t0))).0 (λ b r. begun_stops m.All (onto b r) refl (begun b r)) in
       let no_distinct : eat m.Distinct list ≡ None = item_begins m.Distinct a (more_items_onto items (m.From ▸ t0)) (no_quantifier (more_items_onto items (m.From ▸ t0))).1 (λ b r. begun_stops m.Distinct (onto b r) refl (begun b r)) in
       subst (Yields F (s, rest)) (sym (selects_are d (select_onto s rest)))
       (rw (expect_same m.Select (quantifier_onto quantifier list)) (rw (quantifier_same quantifier list no_all no_distinct)
-      (then_yields (Each (ItemFits c d) (a ∷ items)) F (a ∷ items, m.From ▸ t0) (s, rest) (list_at m.Comma (item_at p) list) (λ items. expect m.From items.1 >>= λ q. from_at inside p q >>= λ tables. filter_at p tables.1 >>= λ filter. windows_at (deeper_of c d) filter.1 >>= λ windows. order_at p windows.1 >>= λ order. limits_at order.1 >>= λ limits. Ok (select quantifier items.0 tables.0.0 (joins_of tables.0.1) filter.0 windows.0 (keys_of order.0) limits.0, limits.1)) (λ f. f.0) (items_read d a items (m.From ▸ t0) wl.1.0 wl.1.1 (omega arith))
+      (then_yields (Each (ItemFits c d) (a ∷ items)) F (a ∷ items, m.From ▸ t0) (s, rest) (list_at m.Comma (item_at p) list) (λ items. expect m.From items.1 >>= λ q. from_at inside p q >>= λ tables. filter_at p tables.1 >>= λ filter. windows_at (deeper_of c d) filter.1 >>= λ windows. order_at p windows.1 >>= λ order. limits_at order.1 >>= λ limits. Ok (select (record { quantifier = quantifier; items = items.0; tail = record { filter = filter.0; windows = windows.0; order = keys_of order.0; limits = limits.0 } }) tables.0.0 (joins_of tables.0.1), limits.1)) (λ f. f.0) (items_read d a items (m.From ▸ t0) wl.1.0 wl.1.1 (omega arith))
       (rw (expect_same m.From t0)
-      (then_yields (TableFits c d first × JoinsFit c d joins) F ((first, join_items joins), t1) (s, rest) (from_at inside p t0) (λ tables. filter_at p tables.1 >>= λ filter. windows_at (deeper_of c d) filter.1 >>= λ windows. order_at p windows.1 >>= λ order. limits_at order.1 >>= λ limits. Ok (select quantifier (a ∷ items) tables.0.0 (joins_of tables.0.1) filter.0 windows.0 (keys_of order.0) limits.0, limits.1)) (λ f. (f.1, f.2)) (from_reads d first joins t1 kf kj h1)
-      (then_yields (OptionFits c d filter) F (filter, t2) (s, rest) (filter_at p t1) (λ filter. windows_at (deeper_of c d) filter.1 >>= λ windows. order_at p windows.1 >>= λ order. limits_at order.1 >>= λ limits. Ok (select quantifier (a ∷ items) first (joins_of (join_items joins)) filter.0 windows.0 (keys_of order.0) limits.0, limits.1)) (λ f. f.3) (filter_reads d filter t2 wl.4 h2)
-      (then_yields (Each (WindowBelow d) windows) F (windows, t3) (s, rest) (windows_at (deeper_of c d) t2) (λ windows. order_at p windows.1 >>= λ order. limits_at order.1 >>= λ limits. Ok (select quantifier (a ∷ items) first (joins_of (join_items joins)) filter windows.0 (keys_of order.0) limits.0, limits.1)) (λ f. f.4) (windows_read d windows t3 wl.5 h3)
-      (then_exactly (KeysFit c d order) F (key_items order, t4) (s, rest) (order_at p t3) (λ order. limits_at order.1 >>= λ limits. Ok (select quantifier (a ∷ items) first (joins_of (join_items joins)) filter windows (keys_of order.0) limits.0, limits.1)) (λ f. f.5) (order_known c order wl.6 d t4 h4)
-      (rw (limits_same limits rest lt) (rw (joins_back joins, keys_back order) refl))))))))))
+      (then_yields (TableFits c d first × JoinsFit c d joins) F ((first, join_items joins), t1) (s, rest) (from_at inside p t0) (λ tables. filter_at p tables.1 >>= λ filter. windows_at (deeper_of c d) filter.1 >>= λ windows. order_at p windows.1 >>= λ order. limits_at order.1 >>= λ limits. Ok (select (record { quantifier = quantifier; items = a ∷ items; tail = record { filter = filter.0; windows = windows.0; order = keys_of order.0; limits = limits.0 } }) tables.0.0 (joins_of tables.0.1), limits.1)) (λ f. (f.1, f.2)) (from_reads d first joins t1 kf kj h1)
+      (then_yields (OptionFits c d tail.filter) F (tail.filter, t2) (s, rest) (filter_at p t1) (λ filter. windows_at (deeper_of c d) filter.1 >>= λ windows. order_at p windows.1 >>= λ order. limits_at order.1 >>= λ limits. Ok (select (record { quantifier = quantifier; items = a ∷ items; tail = record { filter = filter.0; windows = windows.0; order = keys_of order.0; limits = limits.0 } }) first (joins_of (join_items joins)), limits.1)) (λ f. f.3) (filter_reads d tail.filter t2 wl.4 h2)
+      (then_yields (Each (WindowBelow d) tail.windows) F (tail.windows, t3) (s, rest) (windows_at (deeper_of c d) t2) (λ windows. order_at p windows.1 >>= λ order. limits_at order.1 >>= λ limits. Ok (select (record { quantifier = quantifier; items = a ∷ items; tail = record { filter = tail.filter; windows = windows.0; order = keys_of order.0; limits = limits.0 } }) first (joins_of (join_items joins)), limits.1)) (λ f. f.4) (windows_read d tail.windows t3 wl.5 h3)
+      (then_exactly (KeysFit c d tail.order) F (key_items tail.order, t4) (s, rest) (order_at p t3) (λ order. limits_at order.1 >>= λ limits. Ok (select (record { quantifier = quantifier; items = a ∷ items; tail = record { filter = tail.filter; windows = tail.windows; order = keys_of order.0; limits = limits.0 } }) first (joins_of (join_items joins)), limits.1)) (λ f. f.5) (order_known c tail.order wl.6 d t4 h4)
+      (rw (limits_same tail.limits rest lt) (rw (joins_back joins, keys_back tail.order) refl))))))))))
+
+  parts_read : (d : ℕ) (quantifier : Option Quantifier) (items : List ItemTree) (tail : Tail) (first : TableTree) (joins : Joins) → SelectLevelled (select (record { quantifier = quantifier; items = items; tail = tail }) first joins) → TableReads d first → JoinTurns d joins
+      → SelectReads d (select (record { quantifier = quantifier; items = items; tail = tail }) first joins)
+  parts_read d quantifier [] tail first joins wl kf kj = absurd wl.0
+  parts_read d quantifier (a ∷ items) tail first joins wl kf kj = select_reads d quantifier a items first joins tail wl kf kj
 
   mutual
     pub select_known : (s : SelectTree) → SelectLevelled s → (d : ℕ) → SelectReads d s
-    select_known (select quantifier [] first joins filter windows order limits) wl d = absurd wl.0
-    select_known (select quantifier (a ∷ items) first joins filter windows order limits) wl d = select_reads d quantifier a items first joins filter windows order limits wl (table_known first wl.2 d) (joins_known joins wl.3 d)
+    select_known (select parts first joins) wl d = parts_read d parts.quantifier parts.items parts.tail first joins wl (table_known first wl.2 d) (joins_known joins wl.3 d)
 
     table_known : (table : TableTree) → TableLevelled table → (d : ℕ) → TableReads d table
     table_known (named n alias) wl d = table_named d n alias

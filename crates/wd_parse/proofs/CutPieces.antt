@@ -33,7 +33,7 @@ use Rattle.wd_syntax.specs.declared.query.Limits.{Limits}
 use Rattle.wd_syntax.specs.declared.query.Limits.TheVariants.{OffsetFirst, CountFirst}
 use Rattle.wd_cursor.specs.Tokens.{Kinds, ◌▸◌, ◌▹◌, name_kind}
 use Rattle.wd_syntax.specs.Tokens.{operator_terminal, sign_terminal}
-use Rattle.wd_syntax.specs.Tree.{Tree, Constant, Column, Qualified, CallAll, Call, Case, Bracket, Signed, Binary, IsNull, Negated, Trees, no_trees, more_trees, Arms, no_arms, more_arms, Otherwise, no_else, or_else, OverTree, no_over, over_name, over_window, WindowTree, window, Keys, no_keys, more_keys, ItemTree, all_columns, all_of, shown, TableTree, named, derived, JoinTree, comma, cross, inner, Joins, no_joins, more_joins, SelectTree, select, Key}
+use Rattle.wd_syntax.specs.Tree.{Tree, Constant, Column, Qualified, CallAll, Call, Case, Bracket, Signed, Binary, IsNull, Negated, Trees, no_trees, more_trees, Arms, no_arms, more_arms, Otherwise, no_else, or_else, OverTree, no_over, over_name, over_window, WindowTree, window, Keys, no_keys, more_keys, ItemTree, all_columns, all_of, shown, Tail, TableTree, named, derived, JoinTree, comma, cross, inner, Joins, no_joins, more_joins, SelectTree, select, Key}
 use Rattle.wd_syntax.specs.Spelling.{mode_onto, bound_onto, extent_onto, exclusion_onto, frame_onto, direction_onto, nulls_onto, not_onto, base_onto, onto, list_onto, more_onto, arms_onto, else_onto, over_onto, window_onto, partition_onto, order_onto, more_keys_onto, quantifier_onto, as_onto, given_onto, alias_onto, item_onto, more_items_onto, items_onto, filter_onto, named_window_onto, more_windows_onto, windows_onto, row_onto, row_option_onto, offset_onto, fetch_onto, number_onto, ties_onto, count_onto, limits_onto, tail_onto, table_onto, join_onto, joins_onto, select_onto}
 use Rattle.wd_cursor.specs.Cursor.{Fault, Unexpected, Limit, ◌>>=◌, Reads, choose, eat, expect, eat_word, expect_word, eat_name, name_at, number_at, some_or_unexpected, try, optional}
 use Rattle.wd_parse.specs.Reading.{mode_at, side_at, unbounded, away, bound_at, extent_at, excluded_at, exclusion_at, frame_if, frame_at, nulls_at, null_at, given_at, bare_if, alias_at, row_at, row_if, offset_at, fetch_word_at, number_option_at, ties_at, fetch_at, limit_at, count_if, offset_if, limits_at}
@@ -391,9 +391,10 @@ pre_limits (Some (OffsetFirst o (Some count))) ts us = ap (offset_onto o) (pre_c
 pre_limits (Some (CountFirst count None)) ts us = pre_count count ts us
 pre_limits (Some (CountFirst count (Some o))) ts us = ap (count_onto count) (pre_offset o ts us) ∙ pre_count count (offset_onto o ts) us
 
-pub pre_tail : (filter : Option Tree) (windows : List (Name × WindowTree)) (order : Keys) (limits : Option Limits) → IsPre (tail_onto filter windows order limits)
-pre_tail filter windows order limits =
-    pre_then (filter_onto filter) (λ z. windows_onto windows (order_onto order (limits_onto limits z))) (pre_filter filter) (pre_then (windows_onto windows) (λ z. order_onto order (limits_onto limits z)) (pre_windows windows) (pre_then (order_onto order) (limits_onto limits) (pre_order order) (pre_limits limits)))
+pub pre_tail : (tail : Tail) → IsPre (tail_onto tail)
+pre_tail tail =
+    pre_then (filter_onto tail.filter) (λ z. windows_onto tail.windows (order_onto tail.order (limits_onto tail.limits z))) (pre_filter tail.filter)
+    (pre_then (windows_onto tail.windows) (λ z. order_onto tail.order (limits_onto tail.limits z)) (pre_windows tail.windows) (pre_then (order_onto tail.order) (limits_onto tail.limits) (pre_order tail.order) (pre_limits tail.limits)))
 
 pub pre_items : (items : List ItemTree) → IsPre (items_onto items)
 pre_items [] ts us = refl
@@ -415,10 +416,10 @@ mutual
   pre_joins (more_joins join joins) ts us = ap (join_onto join) (pre_joins joins ts us) ∙ pre_join join (joins_onto joins ts) us
 
   pub pre_select : (s : SelectTree) → IsPre (select_onto s)
-  pre_select (select quantifier items first joins filter windows order limits) ts us =
-      let tail : Kinds = tail_onto filter windows order limits ts in
-      ap (λ (z : Kinds). m.Select ▸ quantifier_onto quantifier (items_onto items (m.From ▸ table_onto first (joins_onto joins z)))) (pre_tail filter windows order limits ts us)
-      ∙ ap (λ (z : Kinds). m.Select ▸ quantifier_onto quantifier (items_onto items (m.From ▸ table_onto first z))) (pre_joins joins tail us)
-      ∙ ap (λ (z : Kinds). m.Select ▸ quantifier_onto quantifier (items_onto items (m.From ▸ z))) (pre_table first (joins_onto joins tail) us)
-      ∙ ap (λ (z : Kinds). m.Select ▸ quantifier_onto quantifier z) (pre_items items (m.From ▸ table_onto first (joins_onto joins tail)) us)
-      ∙ ap (λ (z : Kinds). m.Select ▸ z) (pre_quantifier quantifier (items_onto items (m.From ▸ table_onto first (joins_onto joins tail))) us)
+  pre_select (select parts first joins) ts us =
+      let tail : Kinds = tail_onto parts.tail ts in
+      ap (λ (z : Kinds). m.Select ▸ quantifier_onto parts.quantifier (items_onto parts.items (m.From ▸ table_onto first (joins_onto joins z)))) (pre_tail parts.tail ts us)
+      ∙ ap (λ (z : Kinds). m.Select ▸ quantifier_onto parts.quantifier (items_onto parts.items (m.From ▸ table_onto first z))) (pre_joins joins tail us)
+      ∙ ap (λ (z : Kinds). m.Select ▸ quantifier_onto parts.quantifier (items_onto parts.items (m.From ▸ z))) (pre_table first (joins_onto joins tail) us)
+      ∙ ap (λ (z : Kinds). m.Select ▸ quantifier_onto parts.quantifier z) (pre_items parts.items (m.From ▸ table_onto first (joins_onto joins tail)) us)
+      ∙ ap (λ (z : Kinds). m.Select ▸ z) (pre_quantifier parts.quantifier (items_onto parts.items (m.From ▸ table_onto first (joins_onto joins tail))) us)

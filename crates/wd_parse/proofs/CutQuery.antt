@@ -33,11 +33,11 @@ abbrev some_table : TableTree
 some_table = named some_name None
 
 abbrev some_select : SelectTree
-some_select = select None (all_columns ∷ []) some_table no_joins None [] no_keys None
+some_select = select (record { quantifier = None; items = all_columns ∷ []; tail = record { filter = None; windows = []; order = no_keys; limits = None } }) some_table no_joins
 
 -- a select that ends after these parts
 abbrev short : Option Quantifier → List ItemTree → TableTree → List JoinTree → Option Tree → List (Name × WindowTree) → Keys → SelectTree
-short quantifier items first joins filter windows order = select quantifier items first (joins_of joins) filter windows order None
+short quantifier items first joins filter windows order = select (record { quantifier = quantifier; items = items; tail = record { filter = filter; windows = windows; order = order; limits = None } }) first (joins_of joins)
 
 items_pass : (c d : ℕ) (xs : List ItemTree) (us rest : Kinds) → SomePasses (led_by m.Comma item_onto) (ItemPasses c d) xs us rest → OneItemPasses c d xs us rest
 items_pass c d [] us rest h = h
@@ -243,41 +243,41 @@ module _ (c : ℕ) where
       let op : Whole c d p = whole_expression c d (sound c d one) in
       let cuts : WholeCut c d p = whole_cut c d (cut c d one) in
       let inside : Inner = inside_of c d in
-      terminal_cuts L m.Select ts (λ r. list_at m.Comma (item_at p) (quantifier_at r).1 >>= λ items. expect m.From items.1 >>= λ q. from_at inside p q >>= λ tables. filter_at p tables.1 >>= λ filter. windows_at (deeper_of c d) filter.1 >>= λ windows. order_at p windows.1 >>= λ order. limits_at order.1 >>= λ limits. Ok (select (quantifier_at r).0 items.0 tables.0.0 (joins_of tables.0.1) filter.0 windows.0 (keys_of order.0) limits.0, limits.1)) (λ r e.
+      terminal_cuts L m.Select ts (λ r. list_at m.Comma (item_at p) (quantifier_at r).1 >>= λ items. expect m.From items.1 >>= λ q. from_at inside p q >>= λ tables. filter_at p tables.1 >>= λ filter. windows_at (deeper_of c d) filter.1 >>= λ windows. order_at p windows.1 >>= λ order. limits_at order.1 >>= λ limits. Ok (select (record { quantifier = (quantifier_at r).0; items = items.0; tail = record { filter = filter.0; windows = windows.0; order = keys_of order.0; limits = limits.0 } }) tables.0.0 (joins_of tables.0.1), limits.1)) (λ r e.
       let quantifier : Option Quantifier = (quantifier_at r).0 in
       let us : Kinds = (quantifier_at r).1 in
       let start : ts ≡ m.Select ▸ quantifier_onto quantifier us = e ∙ ap (λ (z : Kinds). m.Select ▸ z) (quantifier_is r) in
       let pre0 : Kinds → Kinds = λ z. m.Select ▸ quantifier_onto quantifier z in
       let hp0 : IsPre pre0 = pre_then (λ z. m.Select ▸ z) (quantifier_onto quantifier) (λ x y. refl) (pre_quantifier quantifier) in
-      then_cuts (IsCut (listed m.Comma item_onto) (GoodList ItemLevelled) (ListPasses m.Comma item_onto (ItemPasses c d)) us) L (λ y. IsListed m.Comma item_onto (GoodItem c d) us y.0 y.1) (list_at m.Comma (item_at p) us) (λ items. expect m.From items.1 >>= λ q. from_at inside p q >>= λ tables. filter_at p tables.1 >>= λ filter. windows_at (deeper_of c d) filter.1 >>= λ windows. order_at p windows.1 >>= λ order. limits_at order.1 >>= λ limits. Ok (select quantifier items.0 tables.0.0 (joins_of tables.0.1) filter.0 windows.0 (keys_of order.0) limits.0, limits.1))
+      then_cuts (IsCut (listed m.Comma item_onto) (GoodList ItemLevelled) (ListPasses m.Comma item_onto (ItemPasses c d)) us) L (λ y. IsListed m.Comma item_onto (GoodItem c d) us y.0 y.1) (list_at m.Comma (item_at p) us) (λ items. expect m.From items.1 >>= λ q. from_at inside p q >>= λ tables. filter_at p tables.1 >>= λ filter. windows_at (deeper_of c d) filter.1 >>= λ windows. order_at p windows.1 >>= λ order. limits_at order.1 >>= λ limits. Ok (select (record { quantifier = quantifier; items = items.0; tail = record { filter = filter.0; windows = windows.0; order = keys_of order.0; limits = limits.0 } }) tables.0.0 (joins_of tables.0.1), limits.1))
       (list_cut m.Comma item_onto ItemLevelled (GoodItem c d) (ItemPasses c d) (item_at p) us pre_item (λ a g. g.0) (λ vs. item_cut d p vs cuts) (λ vs. item_holds c d p vs op)) (list_holds m.Comma item_onto (GoodItem c d) (item_at p) us (λ vs. item_holds c d p vs op))
       (cut_step (listed m.Comma item_onto) (GoodList ItemLevelled) (ListPasses m.Comma item_onto (ItemPasses c d)) us select_onto SelectLevelled (SelectPasses c d) ts pre0 (λ xs. short quantifier xs some_table [] None [] no_keys) (λ xs us. m.From ▸ table_onto some_table us) hp0 start (λ xs g. let y = items_good xs g in (y.0, y.1, tt, tt, tt, tt, tt)) (λ xs us g. ap pre0 (items_listed xs (m.From ▸ table_onto some_table us) g)) (λ xs us rest g s. inl (items_passes d xs (m.From ▸ table_onto some_table us) rest g s)))
       (λ items h. let read = items_read d us items.1 items.0 h in
-      terminal_cuts L m.From items.1 (λ q. from_at inside p q >>= λ tables. filter_at p tables.1 >>= λ filter. windows_at (deeper_of c d) filter.1 >>= λ windows. order_at p windows.1 >>= λ order. limits_at order.1 >>= λ limits. Ok (select quantifier items.0 tables.0.0 (joins_of tables.0.1) filter.0 windows.0 (keys_of order.0) limits.0, limits.1)) (λ q f.
+      terminal_cuts L m.From items.1 (λ q. from_at inside p q >>= λ tables. filter_at p tables.1 >>= λ filter. windows_at (deeper_of c d) filter.1 >>= λ windows. order_at p windows.1 >>= λ order. limits_at order.1 >>= λ limits. Ok (select (record { quantifier = quantifier; items = items.0; tail = record { filter = filter.0; windows = windows.0; order = keys_of order.0; limits = limits.0 } }) tables.0.0 (joins_of tables.0.1), limits.1)) (λ q f.
       let pre1 : Kinds → Kinds = λ z. pre0 (items_onto items.0 (m.From ▸ z)) in
       let hp1 : IsPre pre1 = pre_then pre0 (λ z. items_onto items.0 (m.From ▸ z)) hp0 (pre_then (items_onto items.0) (λ z. m.From ▸ z) (pre_items items.0) (λ x y. refl)) in
       let start1 : ts ≡ pre1 q = start ∙ ap pre0 (read.1 ∙ ap (items_onto items.0) f) in
-      then_cuts (IsCut from_pair FromLevelled (FromPasses d) q) L (IsPart (from_onto c) (GoodTables c d) q) (from_at inside p q) (λ tables. filter_at p tables.1 >>= λ filter. windows_at (deeper_of c d) filter.1 >>= λ windows. order_at p windows.1 >>= λ order. limits_at order.1 >>= λ limits. Ok (select quantifier items.0 tables.0.0 (joins_of tables.0.1) filter.0 windows.0 (keys_of order.0) limits.0, limits.1)) (from_cut d p q cuts op tables lower) (from_holds c d p q op lower)
-      (cut_step from_pair FromLevelled (FromPasses d) q select_onto SelectLevelled (SelectPasses c d) ts pre1 (λ tables. select quantifier items.0 tables.0 tables.1 None [] no_keys None) (λ tables us. us) hp1 start1 (λ tables g. (read.0.0, read.0.1, g.0, g.1, tt, tt, tt)) (λ tables us g. refl) (λ tables us rest g s. inr (⊎_elim (λ a. inl a) (λ b. inr (inl b)) s)))
+      then_cuts (IsCut from_pair FromLevelled (FromPasses d) q) L (IsPart (from_onto c) (GoodTables c d) q) (from_at inside p q) (λ tables. filter_at p tables.1 >>= λ filter. windows_at (deeper_of c d) filter.1 >>= λ windows. order_at p windows.1 >>= λ order. limits_at order.1 >>= λ limits. Ok (select (record { quantifier = quantifier; items = items.0; tail = record { filter = filter.0; windows = windows.0; order = keys_of order.0; limits = limits.0 } }) tables.0.0 (joins_of tables.0.1), limits.1)) (from_cut d p q cuts op tables lower) (from_holds c d p q op lower)
+      (cut_step from_pair FromLevelled (FromPasses d) q select_onto SelectLevelled (SelectPasses c d) ts pre1 (λ tables. select (record { quantifier = quantifier; items = items.0; tail = record { filter = None; windows = []; order = no_keys; limits = None } }) tables.0 tables.1) (λ tables us. us) hp1 start1 (λ tables g. (read.0.0, read.0.1, g.0, g.1, tt, tt, tt)) (λ tables us g. refl) (λ tables us rest g s. inr (⊎_elim (λ a. inl a) (λ b. inr (inl b)) s)))
       (λ tables it.
       let pre2 : Kinds → Kinds = λ z. pre1 (from_onto c tables.0 z) in
       let hp2 : IsPre pre2 = pre_then pre1 (from_onto c tables.0) hp1 (pre_then (table_onto tables.0.0) (joins_onto (joins_of tables.0.1)) (pre_table tables.0.0) (pre_joins (joins_of tables.0.1))) in
       let start2 : ts ≡ pre2 tables.1 = start1 ∙ ap pre1 it.parts in
-      then_cuts (IsCut filter_onto OptionLevelled (FilterPasses c d) tables.1) L (IsPart filter_onto (GoodFilter c d) tables.1) (filter_at p tables.1) (λ filter. windows_at (deeper_of c d) filter.1 >>= λ windows. order_at p windows.1 >>= λ order. limits_at order.1 >>= λ limits. Ok (select quantifier items.0 tables.0.0 (joins_of tables.0.1) filter.0 windows.0 (keys_of order.0) limits.0, limits.1)) (filter_cut d p tables.1 cuts) (filter_holds c d p tables.1 op)
+      then_cuts (IsCut filter_onto OptionLevelled (FilterPasses c d) tables.1) L (IsPart filter_onto (GoodFilter c d) tables.1) (filter_at p tables.1) (λ filter. windows_at (deeper_of c d) filter.1 >>= λ windows. order_at p windows.1 >>= λ order. limits_at order.1 >>= λ limits. Ok (select (record { quantifier = quantifier; items = items.0; tail = record { filter = filter.0; windows = windows.0; order = keys_of order.0; limits = limits.0 } }) tables.0.0 (joins_of tables.0.1), limits.1)) (filter_cut d p tables.1 cuts) (filter_holds c d p tables.1 op)
       (cut_step filter_onto OptionLevelled (FilterPasses c d) tables.1 select_onto SelectLevelled (SelectPasses c d) ts pre2 (λ filter. short quantifier items.0 tables.0.0 tables.0.1 filter [] no_keys) (λ filter us. us) hp2 start2 (λ filter g. (read.0.0, read.0.1, it.good.0.0, it.good.0.1, g, tt, tt)) (λ filter us g. refl) (λ filter us rest g s. inr (inr (inr (inl s)))))
       (λ filter iw.
       let pre3 : Kinds → Kinds = λ z. pre2 (filter_onto filter.0 z) in
       let hp3 : IsPre pre3 = pre_then pre2 (filter_onto filter.0) hp2 (pre_filter filter.0) in
       let start3 : ts ≡ pre3 filter.1 = start2 ∙ ap pre2 iw.parts in
-      then_cuts (WindowsCut d filter.1) L (IsPart windows_onto (GoodWindows c d) filter.1) (windows_at (deeper_of c d) filter.1) (λ windows. order_at p windows.1 >>= λ order. limits_at order.1 >>= λ limits. Ok (select quantifier items.0 tables.0.0 (joins_of tables.0.1) filter.0 windows.0 (keys_of order.0) limits.0, limits.1)) (windows_cut d filter.1 (cut_within c d one) (within c d one)) (windows_hold c d filter.1 (within c d one))
+      then_cuts (WindowsCut d filter.1) L (IsPart windows_onto (GoodWindows c d) filter.1) (windows_at (deeper_of c d) filter.1) (λ windows. order_at p windows.1 >>= λ order. limits_at order.1 >>= λ limits. Ok (select (record { quantifier = quantifier; items = items.0; tail = record { filter = filter.0; windows = windows.0; order = keys_of order.0; limits = limits.0 } }) tables.0.0 (joins_of tables.0.1), limits.1)) (windows_cut d filter.1 (cut_within c d one) (within c d one)) (windows_hold c d filter.1 (within c d one))
       (cut_step windows_onto (Each NamedLevelled) (OneWindowPasses c d) filter.1 select_onto SelectLevelled (SelectPasses c d) ts pre3 (λ windows. short quantifier items.0 tables.0.0 tables.0.1 filter.0 windows no_keys) (λ windows us. us) hp3 start3 (λ windows g. (read.0.0, read.0.1, it.good.0.0, it.good.0.1, iw.good.0, g, tt)) (λ windows us g. refl) (λ windows us rest g s. inr (inr (inr (inr (inl s))))))
       (λ windows is.
       let pre4 : Kinds → Kinds = λ z. pre3 (windows_onto windows.0 z) in
       let hp4 : IsPre pre4 = pre_then pre3 (windows_onto windows.0) hp3 (pre_windows windows.0) in
       let start4 : ts ≡ pre4 windows.1 = start3 ∙ ap pre3 is.parts in
-      then_cuts (OrderCut c d windows.1) L (λ z. Unit {0}) (order_at p windows.1) (λ order. limits_at order.1 >>= λ limits. Ok (select quantifier items.0 tables.0.0 (joins_of tables.0.1) filter.0 windows.0 (keys_of order.0) limits.0, limits.1)) (order_cut c d p windows.1 cuts op) (all_things (order_at p windows.1))
+      then_cuts (OrderCut c d windows.1) L (λ z. Unit {0}) (order_at p windows.1) (λ order. limits_at order.1 >>= λ limits. Ok (select (record { quantifier = quantifier; items = items.0; tail = record { filter = filter.0; windows = windows.0; order = keys_of order.0; limits = limits.0 } }) tables.0.0 (joins_of tables.0.1), limits.1)) (order_cut c d p windows.1 cuts op) (all_things (order_at p windows.1))
       (cut_step order_onto KeysLevelled (KeyPasses c d) windows.1 select_onto SelectLevelled (SelectPasses c d) ts pre4 (λ order. short quantifier items.0 tables.0.0 tables.0.1 filter.0 windows.0 order) (λ order us. us) hp4 start4 (λ order g. (read.0.0, read.0.1, it.good.0.0, it.good.0.1, iw.good.0, is.good.0, g)) (λ order us g. refl) (λ order us rest g s. inr (inr (inr (inr (inr s))))))
-      (λ order u. on_cuts L (limits_at order.1) (λ limits. Ok (select quantifier items.0 tables.0.0 (joins_of tables.0.1) filter.0 windows.0 (keys_of order.0) limits.0, limits.1)) (limits_cuts L order.1) (λ limits. tt))))))))
+      (λ order u. on_cuts L (limits_at order.1) (λ limits. Ok (select (record { quantifier = quantifier; items = items.0; tail = record { filter = filter.0; windows = windows.0; order = keys_of order.0; limits = limits.0 } }) tables.0.0 (joins_of tables.0.1), limits.1)) (limits_cuts L order.1) (λ limits. tt))))))))
 
   selects_cut : (d : ℕ) → 1 ≤ c → SelectsCut d
   unfolding selects

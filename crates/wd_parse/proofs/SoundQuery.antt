@@ -195,7 +195,7 @@ module _ (c : ℕ) where
   select_is : (d : ℕ) (ts us rest t1 t2 t3 t4 : Kinds) (quantifier : Option Quantifier) (items : List ItemTree) (first : TableTree) (joins : Joins) (filter : Option Tree) (windows : List (Name × WindowTree)) (order : Keys) (limits : Option Limits) (mid : Kinds)
       → ts ≡ m.Select ▸ quantifier_onto quantifier us → IsListed m.Comma item_onto (GoodItem d) us items mid → mid ≡ m.From ▸ table_onto first (joins_onto joins t1) → t1 ≡ filter_onto filter t2 → t2 ≡ windows_onto windows t3 → t3 ≡ order_onto order t4 → t4 ≡ limits_onto limits rest
       → ((TableLevelled first × JoinsLevelled joins) × (TableFits c d first × JoinsFit c d joins)) → GoodFilter d filter → GoodWindows d windows → (KeysLevelled order × KeysFit c d order)
-      → IsPart select_onto (GoodSelect d) ts (select quantifier items first joins filter windows order limits, rest)
+      → IsPart select_onto (GoodSelect d) ts (select (record { quantifier = quantifier; items = items; tail = record { filter = filter; windows = windows; order = order; limits = limits } }) first joins, rest)
   select_is d ts us rest t1 t2 t3 t4 quantifier [] first joins filter windows order limits mid e h ef e1 e2 e3 e4 gf gw gs go = absurd h
   select_is d ts us rest t1 t2 t3 t4 quantifier (a ∷ items) first joins filter windows order limits mid e h ef e1 e2 e3 e4 gf gw gs go = record {
     parts = e ∙ ap (λ (z : Kinds). m.Select ▸ quantifier_onto quantifier z) (h.0 ∙ ap (item_onto a) (items_spelled items mid ∙ ap (more_items_onto items) (ef ∙ ap (λ (z : Kinds). m.From ▸ table_onto first (joins_onto joins z)) (e1 ∙ ap (filter_onto filter) (e2 ∙ ap (windows_onto windows) (e3 ∙ ap (order_onto order) e4))))));
@@ -209,16 +209,16 @@ module _ (c : ℕ) where
       let p : Parser Tree = read c d 8 in
       let op : Whole c d p = whole_expression c d (sound c d one) in
       let inside : Inner = inside_of c d in
-      past_terminal Q m.Select ts (λ r. list_at m.Comma (item_at p) (quantifier_at r).1 >>= λ items. expect m.From items.1 >>= λ q. from_at inside p q >>= λ tables. filter_at p tables.1 >>= λ filter. windows_at (deeper_of c d) filter.1 >>= λ windows. order_at p windows.1 >>= λ order. limits_at order.1 >>= λ limits. Ok (select (quantifier_at r).0 items.0 tables.0.0 (joins_of tables.0.1) filter.0 windows.0 (keys_of order.0) limits.0, limits.1)) (λ r e.
+      past_terminal Q m.Select ts (λ r. list_at m.Comma (item_at p) (quantifier_at r).1 >>= λ items. expect m.From items.1 >>= λ q. from_at inside p q >>= λ tables. filter_at p tables.1 >>= λ filter. windows_at (deeper_of c d) filter.1 >>= λ windows. order_at p windows.1 >>= λ order. limits_at order.1 >>= λ limits. Ok (select (record { quantifier = (quantifier_at r).0; items = items.0; tail = record { filter = filter.0; windows = windows.0; order = keys_of order.0; limits = limits.0 } }) tables.0.0 (joins_of tables.0.1), limits.1)) (λ r e.
       let quantifier : Option Quantifier = (quantifier_at r).0 in
       let us : Kinds = (quantifier_at r).1 in
-      then_holds (λ y. IsListed m.Comma item_onto (GoodItem d) us y.0 y.1) Q (list_at m.Comma (item_at p) us) (λ items. expect m.From items.1 >>= λ q. from_at inside p q >>= λ tables. filter_at p tables.1 >>= λ filter. windows_at (deeper_of c d) filter.1 >>= λ windows. order_at p windows.1 >>= λ order. limits_at order.1 >>= λ limits. Ok (select quantifier items.0 tables.0.0 (joins_of tables.0.1) filter.0 windows.0 (keys_of order.0) limits.0, limits.1)) (list_holds m.Comma item_onto (GoodItem d) (item_at p) us (λ vs. item_holds d p vs op)) (λ items h.
-      past_terminal Q m.From items.1 (λ q. from_at inside p q >>= λ tables. filter_at p tables.1 >>= λ filter. windows_at (deeper_of c d) filter.1 >>= λ windows. order_at p windows.1 >>= λ order. limits_at order.1 >>= λ limits. Ok (select quantifier items.0 tables.0.0 (joins_of tables.0.1) filter.0 windows.0 (keys_of order.0) limits.0, limits.1)) (λ q f.
-      then_holds (IsPart from_onto (GoodTables d) q) Q (from_at inside p q) (λ tables. filter_at p tables.1 >>= λ filter. windows_at (deeper_of c d) filter.1 >>= λ windows. order_at p windows.1 >>= λ order. limits_at order.1 >>= λ limits. Ok (select quantifier items.0 tables.0.0 (joins_of tables.0.1) filter.0 windows.0 (keys_of order.0) limits.0, limits.1)) (from_holds d p q op lower) (λ tables it.
-      then_holds (IsPart filter_onto (GoodFilter d) tables.1) Q (filter_at p tables.1) (λ filter. windows_at (deeper_of c d) filter.1 >>= λ windows. order_at p windows.1 >>= λ order. limits_at order.1 >>= λ limits. Ok (select quantifier items.0 tables.0.0 (joins_of tables.0.1) filter.0 windows.0 (keys_of order.0) limits.0, limits.1)) (filter_holds d p tables.1 op) (λ filter iw.
-      then_holds (IsPart windows_onto (GoodWindows d) filter.1) Q (windows_at (deeper_of c d) filter.1) (λ windows. order_at p windows.1 >>= λ order. limits_at order.1 >>= λ limits. Ok (select quantifier items.0 tables.0.0 (joins_of tables.0.1) filter.0 windows.0 (keys_of order.0) limits.0, limits.1)) (windows_hold d filter.1 (within c d one)) (λ windows is.
-      then_holds (IsPart (keys_row_onto c) (GoodKeys c d) windows.1) Q (order_at p windows.1) (λ order. limits_at order.1 >>= λ limits. Ok (select quantifier items.0 tables.0.0 (joins_of tables.0.1) filter.0 windows.0 (keys_of order.0) limits.0, limits.1)) (order_holds c d p windows.1 op) (λ order io.
-      then_holds (Spelled limits_onto order.1) Q (limits_at order.1) (λ limits. Ok (select quantifier items.0 tables.0.0 (joins_of tables.0.1) filter.0 windows.0 (keys_of order.0) limits.0, limits.1)) (limits_is order.1) (λ limits el.
+      then_holds (λ y. IsListed m.Comma item_onto (GoodItem d) us y.0 y.1) Q (list_at m.Comma (item_at p) us) (λ items. expect m.From items.1 >>= λ q. from_at inside p q >>= λ tables. filter_at p tables.1 >>= λ filter. windows_at (deeper_of c d) filter.1 >>= λ windows. order_at p windows.1 >>= λ order. limits_at order.1 >>= λ limits. Ok (select (record { quantifier = quantifier; items = items.0; tail = record { filter = filter.0; windows = windows.0; order = keys_of order.0; limits = limits.0 } }) tables.0.0 (joins_of tables.0.1), limits.1)) (list_holds m.Comma item_onto (GoodItem d) (item_at p) us (λ vs. item_holds d p vs op)) (λ items h.
+      past_terminal Q m.From items.1 (λ q. from_at inside p q >>= λ tables. filter_at p tables.1 >>= λ filter. windows_at (deeper_of c d) filter.1 >>= λ windows. order_at p windows.1 >>= λ order. limits_at order.1 >>= λ limits. Ok (select (record { quantifier = quantifier; items = items.0; tail = record { filter = filter.0; windows = windows.0; order = keys_of order.0; limits = limits.0 } }) tables.0.0 (joins_of tables.0.1), limits.1)) (λ q f.
+      then_holds (IsPart from_onto (GoodTables d) q) Q (from_at inside p q) (λ tables. filter_at p tables.1 >>= λ filter. windows_at (deeper_of c d) filter.1 >>= λ windows. order_at p windows.1 >>= λ order. limits_at order.1 >>= λ limits. Ok (select (record { quantifier = quantifier; items = items.0; tail = record { filter = filter.0; windows = windows.0; order = keys_of order.0; limits = limits.0 } }) tables.0.0 (joins_of tables.0.1), limits.1)) (from_holds d p q op lower) (λ tables it.
+      then_holds (IsPart filter_onto (GoodFilter d) tables.1) Q (filter_at p tables.1) (λ filter. windows_at (deeper_of c d) filter.1 >>= λ windows. order_at p windows.1 >>= λ order. limits_at order.1 >>= λ limits. Ok (select (record { quantifier = quantifier; items = items.0; tail = record { filter = filter.0; windows = windows.0; order = keys_of order.0; limits = limits.0 } }) tables.0.0 (joins_of tables.0.1), limits.1)) (filter_holds d p tables.1 op) (λ filter iw.
+      then_holds (IsPart windows_onto (GoodWindows d) filter.1) Q (windows_at (deeper_of c d) filter.1) (λ windows. order_at p windows.1 >>= λ order. limits_at order.1 >>= λ limits. Ok (select (record { quantifier = quantifier; items = items.0; tail = record { filter = filter.0; windows = windows.0; order = keys_of order.0; limits = limits.0 } }) tables.0.0 (joins_of tables.0.1), limits.1)) (windows_hold d filter.1 (within c d one)) (λ windows is.
+      then_holds (IsPart (keys_row_onto c) (GoodKeys c d) windows.1) Q (order_at p windows.1) (λ order. limits_at order.1 >>= λ limits. Ok (select (record { quantifier = quantifier; items = items.0; tail = record { filter = filter.0; windows = windows.0; order = keys_of order.0; limits = limits.0 } }) tables.0.0 (joins_of tables.0.1), limits.1)) (order_holds c d p windows.1 op) (λ order io.
+      then_holds (Spelled limits_onto order.1) Q (limits_at order.1) (λ limits. Ok (select (record { quantifier = quantifier; items = items.0; tail = record { filter = filter.0; windows = windows.0; order = keys_of order.0; limits = limits.0 } }) tables.0.0 (joins_of tables.0.1), limits.1)) (limits_is order.1) (λ limits el.
       select_is d ts us limits.1 tables.1 filter.1 windows.1 order.1 quantifier items.0 tables.0.0 (joins_of tables.0.1) filter.0 windows.0 (keys_of order.0) limits.0 items.1 (e ∙ ap (λ (z : Kinds). m.Select ▸ z) (quantifier_is r)) h (f ∙ ap (λ (z : Kinds). m.From ▸ z) it.parts) iw.parts is.parts io.parts el it.good iw.good is.good io.good))))))))
 
   pub selects_hold : (d : ℕ) → 1 ≤ c → Selects d

@@ -95,7 +95,7 @@ abbrev mutual
   joins_size (more_joins join joins) = join_size join + joins_size joins
 
   select_size : SelectTree → ℕ
-  select_size (select quantifier items first joins filter windows order limits) = items_size items + table_size first + joins_size joins + option_size filter + windows_size windows + keys_size order
+  select_size (select parts first joins) = items_size parts.items + table_size first + joins_size joins + option_size parts.tail.filter + windows_size parts.tail.windows + keys_size parts.tail.order
 
 abbrev query_size : QueryTree → ℕ
 query_size (query s b) = select_size s
@@ -171,7 +171,7 @@ module _ (c : ℕ) where
     joins_fit (more_joins join joins) d le lc = (join_fits join d (omega arith) (omega arith), joins_fit joins d (omega arith) (omega arith))
 
     select_fits : (s : SelectTree) (d : ℕ) → select_size s ≤ d → select_size s ≤ c → SelectFits c d s
-    select_fits (select quantifier items first joins filter windows order limits) d le lc = (items_fit items d (omega arith) (omega arith), table_fits first d (omega arith) (omega arith), joins_fit joins d (omega arith) (omega arith), option_fits filter d (omega arith) (omega arith), windows_fit windows d (omega arith) (omega arith), keys_fit order d (omega arith) (omega arith))
+    select_fits (select parts first joins) d le lc = (items_fit parts.items d (omega arith) (omega arith), table_fits first d (omega arith) (omega arith), joins_fit joins d (omega arith) (omega arith), option_fits parts.tail.filter d (omega arith) (omega arith), windows_fit parts.tail.windows d (omega arith) (omega arith), keys_fit parts.tail.order d (omega arith) (omega arith))
 
   query_fits : (q : QueryTree) (d : ℕ) → query_size q ≤ d → query_size q ≤ c → QueryFits c d q
   query_fits (query s b) d le lc = select_fits s d le lc

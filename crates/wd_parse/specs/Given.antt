@@ -8,6 +8,7 @@ use Rattle.wd_syntax.specs.View.{view, view_table, view_joined}
 use Rattle.wd_cursor.specs.Cursor.{Limit as PastLimits, Unexpected as NoTree}
 use Rattle.wd_cursor.specs.Tokens.{Kinds}
 use Rattle.wd_syntax.specs.declared.query.Query.{Query}
+use Rattle.wd_syntax.specs.Limits.{most_levels, most_operators}
 use Rattle.wd_syntax.specs.View.{view_query}
 use Rattle.wd_parse.specs.Reading.{read, deeper_of, inside_of, selects, whole}
 use Rattle.wd_parse.specs.declared.error.ParseError.{ParseError}
@@ -17,10 +18,10 @@ use Rattle.wd_cursor.specs.declared.refusal.Refusal.TheVariants as r
 
 -- One level fewer, if one is left.
 abbrev pub MakesDeeper : Result ℕ Refusal → ℕ → ℕ → Type 0
-MakesDeeper (Ok inside) depth left = (deeper_of 200 depth ≡ Some (read 200 inside)) × (inside_of 200 depth ≡ Some (selects 200 inside)) × (inside < depth)
+MakesDeeper (Ok inside) depth left = (deeper_of most_operators depth ≡ Some (read most_operators inside)) × (inside_of most_operators depth ≡ Some (selects most_operators inside)) × (inside < depth)
 MakesDeeper (Err r.OutOfMemory) depth left = ⊥
 MakesDeeper (Err (r.Unexpected n)) depth left = ⊥
-MakesDeeper (Err (r.PastLimit n)) depth left = (deeper_of 200 depth ≡ None) × (inside_of 200 depth ≡ None) × (n ≡ left)
+MakesDeeper (Err (r.PastLimit n)) depth left = (deeper_of most_operators depth ≡ None) × (inside_of most_operators depth ≡ None) × (n ≡ left)
 
 -- the heights of chains
 abbrev pub IsLoopHeight : ℕ → Type 0
@@ -37,7 +38,7 @@ view_from from = (view_table from.first, map view_joined from.joined.items)
 
 -- The answer is that of the reading of the tokens, or memory ran out.
 abbrev pub Answers : Result Query ParseError → Kinds → Type 0
-Answers (Ok query) ts = whole 200 32 ts ≡ Ok (view_query query)
-Answers (Err (Unexpected place)) ts = (left : ℕ) × (whole 200 32 ts ≡ Err (NoTree left)) × (place ≡ length ts - left)
-Answers (Err (PastLimit place)) ts = (left : ℕ) × (whole 200 32 ts ≡ Err (PastLimits left)) × (place ≡ length ts - left)
+Answers (Ok query) ts = whole most_operators most_levels ts ≡ Ok (view_query query)
+Answers (Err (Unexpected place)) ts = (left : ℕ) × (whole most_operators most_levels ts ≡ Err (NoTree left)) × (place ≡ length ts - left)
+Answers (Err (PastLimit place)) ts = (left : ℕ) × (whole most_operators most_levels ts ≡ Err (PastLimits left)) × (place ≡ length ts - left)
 Answers (Err OutOfMemory) ts = Unit {0}

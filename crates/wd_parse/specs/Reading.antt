@@ -402,7 +402,7 @@ select_at limit depth inside ts =
     expect m.From items.1 >>= λ q. from_at inside (read limit depth 8) q >>= λ tables.
     filter_at (read limit depth 8) tables.1 >>= λ filter. windows_at (deeper_of limit depth) filter.1 >>= λ windows.
     order_at (read limit depth 8) windows.1 >>= λ order. limits_at order.1 >>= λ limits.
-    Ok (select (quantifier_at r).0 items.0 tables.0.0 (joins_of tables.0.1) filter.0 windows.0 (keys_of order.0) limits.0, limits.1)
+    Ok (select (record { quantifier = (quantifier_at r).0; items = items.0; tail = record { filter = filter.0; windows = windows.0; order = keys_of order.0; limits = limits.0 } }) tables.0.0 (joins_of tables.0.1), limits.1)
 
 -- a select with so many levels left
 unfoldable pub selects : ℕ → ℕ → Parser SelectTree

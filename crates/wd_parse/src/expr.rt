@@ -6,6 +6,7 @@
 ghost use Rattle.std.specs.Prelude.{◌≡◌, ◌≤◌, ◌-◌, map};
 ghost use Rattle.wd_lex.specs.Lexed.{kinds_of};
 ghost use Rattle.wd_lex.specs.declared.token.Terminal.TheVariants as m;
+ghost use Rattle.wd_syntax.specs.Limits.{most_operators};
 ghost use Rattle.wd_syntax.specs.Tree.{Tree, trees_of, arms_of, keys_of, window};
 ghost use Rattle.wd_syntax.specs.View.{view, view_link, chained, tested, view_arm, view_key, view_window, view_over_option, view_else_option};
 ghost use Rattle.wd_parse.specs.Reading.{read, levels, deeper_of, links, compared, tests, null_at, primary, primary_by_terminal, named_at, bracket_at, call_of, call_at, arguments_at, over_at, case_at, arm_at, else_at, key_at, partition_at, order_at, base_at, window_at};
@@ -47,7 +48,7 @@ pub fn at(
     tokens: &[Token],
 ) -> Result<(Box<Expr>, &[Token]), Refusal>
     requires { height ≤ 8 }
-    ensures { Gives (λ x. (view x.0.value, kinds_of x.1.now)) result (read 200 depth height (kinds_of tokens.now)) }
+    ensures { Gives (λ x. (view x.0.value, kinds_of x.1.now)) result (read most_operators depth height (kinds_of tokens.now)) }
 {
     match height {
         0 => primary(alloc, depth, tokens),
@@ -69,7 +70,7 @@ fn chain(
     tokens: &[Token],
 ) -> Result<(Box<Expr>, &[Token]), Refusal>
     requires { IsLoopHeight height }
-    ensures { Gives (λ x. (view x.0.value, kinds_of x.1.now)) result (read 200 depth height (kinds_of tokens.now)) }
+    ensures { Gives (λ x. (view x.0.value, kinds_of x.1.now)) result (read most_operators depth height (kinds_of tokens.now)) }
 {
     let (first, rest) = at(alloc, height - 1, depth, tokens)?;
     links(alloc, height, depth, first, rest)
@@ -103,7 +104,7 @@ fn links(
     tokens: &[Token],
 ) -> Result<(Box<Expr>, &[Token]), Refusal>
     requires { IsLoopHeight height }
-    ensures { Gives (λ x. (view x.0.value, kinds_of x.1.now)) result (links (read 200 depth (height - 1)) height 200 (view first.value) (kinds_of tokens.now)) }
+    ensures { Gives (λ x. (view x.0.value, kinds_of x.1.now)) result (links (read most_operators depth (height - 1)) height most_operators (view first.value) (kinds_of tokens.now)) }
 {
     let mut items = Vec::new(alloc);
     let mut rest = tokens;
@@ -128,7 +129,7 @@ fn links(
 #[tactic(auto, unfolding(crate::specs::Reading::levels, crate::specs::Reading::compared))]
 #[cycle(expr)]
 fn comparison(alloc: Global, depth: u8, tokens: &[Token]) -> Result<(Box<Expr>, &[Token]), Refusal>
-    ensures { Gives (λ x. (view x.0.value, kinds_of x.1.now)) result (read 200 depth 4 (kinds_of tokens.now)) }
+    ensures { Gives (λ x. (view x.0.value, kinds_of x.1.now)) result (read most_operators depth 4 (kinds_of tokens.now)) }
 {
     let (left, rest) = at(alloc, 3, depth, tokens)?;
     match operator_at(rest, 4) {
@@ -143,7 +144,7 @@ fn comparison(alloc: Global, depth: u8, tokens: &[Token]) -> Result<(Box<Expr>, 
 #[tactic(auto, unfolding(crate::specs::Reading::levels))]
 #[cycle(expr)]
 fn tested(alloc: Global, depth: u8, tokens: &[Token]) -> Result<(Box<Expr>, &[Token]), Refusal>
-    ensures { Gives (λ x. (view x.0.value, kinds_of x.1.now)) result (read 200 depth 5 (kinds_of tokens.now)) }
+    ensures { Gives (λ x. (view x.0.value, kinds_of x.1.now)) result (read most_operators depth 5 (kinds_of tokens.now)) }
 {
     let (operand, rest) = at(alloc, 4, depth, tokens)?;
     tests(alloc, operand, rest)
@@ -177,7 +178,7 @@ fn tests(
     operand: Box<Expr>,
     tokens: &[Token],
 ) -> Result<(Box<Expr>, &[Token]), Refusal>
-    ensures { Gives (λ x. (view x.0.value, kinds_of x.1.now)) result (tests 200 (view operand.value) (kinds_of tokens.now)) }
+    ensures { Gives (λ x. (view x.0.value, kinds_of x.1.now)) result (tests most_operators (view operand.value) (kinds_of tokens.now)) }
 {
     let mut items = Vec::new(alloc);
     let mut rest = tokens;
@@ -198,7 +199,7 @@ fn tests(
 #[tactic(auto, unfolding(crate::specs::Reading::levels), using(crate::proofs::Loops::length_kinds))]
 #[cycle(expr)]
 fn negated(alloc: Global, depth: u8, tokens: &[Token]) -> Result<(Box<Expr>, &[Token]), Refusal>
-    ensures { Gives (λ x. (view x.0.value, kinds_of x.1.now)) result (read 200 depth 6 (kinds_of tokens.now)) }
+    ensures { Gives (λ x. (view x.0.value, kinds_of x.1.now)) result (read most_operators depth 6 (kinds_of tokens.now)) }
 {
     match eat(tokens, Terminal::Not) {
         Some(rest) => {
@@ -213,7 +214,7 @@ fn negated(alloc: Global, depth: u8, tokens: &[Token]) -> Result<(Box<Expr>, &[T
 #[tactic(auto, unfolding(crate::specs::Reading::levels), using(crate::proofs::Loops::length_kinds))]
 #[cycle(expr)]
 fn signed(alloc: Global, depth: u8, tokens: &[Token]) -> Result<(Box<Expr>, &[Token]), Refusal>
-    ensures { Gives (λ x. (view x.0.value, kinds_of x.1.now)) result (read 200 depth 1 (kinds_of tokens.now)) }
+    ensures { Gives (λ x. (view x.0.value, kinds_of x.1.now)) result (read most_operators depth 1 (kinds_of tokens.now)) }
 {
     match sign_at(tokens) {
         Some((sign, rest)) => {
@@ -228,7 +229,7 @@ fn signed(alloc: Global, depth: u8, tokens: &[Token]) -> Result<(Box<Expr>, &[To
 #[tactic(auto, unfolding(crate::specs::Reading::primary))]
 #[cycle(expr)]
 fn primary(alloc: Global, depth: u8, tokens: &[Token]) -> Result<(Box<Expr>, &[Token]), Refusal>
-    ensures { Gives (λ x. (view x.0.value, kinds_of x.1.now)) result (primary (deeper_of 200 depth) (kinds_of tokens.now)) }
+    ensures { Gives (λ x. (view x.0.value, kinds_of x.1.now)) result (primary (deeper_of most_operators depth) (kinds_of tokens.now)) }
 {
     let [first, rest @ ..] = tokens else {
         return Err(Refusal::Unexpected { left: 0 });
@@ -271,7 +272,7 @@ fn led_by(
     terminal: Terminal,
     rest: &[Token],
 ) -> Result<(Box<Expr>, &[Token]), Refusal>
-    ensures { Gives (λ x. (view x.0.value, kinds_of x.1.now)) result (primary_by_terminal (deeper_of 200 depth) terminal (kinds_of rest.now)) }
+    ensures { Gives (λ x. (view x.0.value, kinds_of x.1.now)) result (primary_by_terminal (deeper_of most_operators depth) terminal (kinds_of rest.now)) }
 {
     match terminal {
         Terminal::True => Ok((Box::new(alloc, Expr::Literal(Literal::Truth(true)))?, rest)),
@@ -295,7 +296,7 @@ fn led_by(
 #[tactic(auto, unfolding(crate::specs::Reading::bracket_at))]
 #[cycle(expr)]
 fn bracket(alloc: Global, depth: u8, tokens: &[Token]) -> Result<(Box<Expr>, &[Token]), Refusal>
-    ensures { Gives (λ x. (view x.0.value, kinds_of x.1.now)) result (bracket_at (read 200 depth 8) (kinds_of tokens.now)) }
+    ensures { Gives (λ x. (view x.0.value, kinds_of x.1.now)) result (bracket_at (read most_operators depth 8) (kinds_of tokens.now)) }
 {
     let (inside, rest) = at(alloc, WHOLE, depth, tokens)?;
     let rest = expect(rest, Terminal::RightBracket)?;
@@ -311,7 +312,7 @@ fn named(
     name: Name,
     tokens: &[Token],
 ) -> Result<(Box<Expr>, &[Token]), Refusal>
-    ensures { Gives (λ x. (view x.0.value, kinds_of x.1.now)) result (named_at (deeper_of 200 depth) name (kinds_of tokens.now)) }
+    ensures { Gives (λ x. (view x.0.value, kinds_of x.1.now)) result (named_at (deeper_of most_operators depth) name (kinds_of tokens.now)) }
 {
     if let Some(rest) = eat(tokens, Terminal::Dot) {
         let (column, rest) = name_at(alloc, rest)?;
@@ -364,7 +365,7 @@ fn call(
     name: Name,
     tokens: &[Token],
 ) -> Result<(Box<Expr>, &[Token]), Refusal>
-    ensures { Gives (λ x. (view x.0.value, kinds_of x.1.now)) result (call_at (deeper_of 200 depth) name (kinds_of tokens.now)) }
+    ensures { Gives (λ x. (view x.0.value, kinds_of x.1.now)) result (call_at (deeper_of most_operators depth) name (kinds_of tokens.now)) }
 {
     let inside = deeper(depth, tokens.len() + 1)?;
     let (arguments, rest) = arguments(alloc, inside, tokens)?;
@@ -380,7 +381,7 @@ fn arguments(
     depth: u8,
     tokens: &[Token],
 ) -> Result<(Option<Vec<Expr>>, &[Token]), Refusal>
-    ensures { Gives (λ x. (view_arguments x.0, kinds_of x.1.now)) result (arguments_at (read 200 depth 8) (kinds_of tokens.now)) }
+    ensures { Gives (λ x. (view_arguments x.0, kinds_of x.1.now)) result (arguments_at (read most_operators depth 8) (kinds_of tokens.now)) }
 {
     if let Some(rest) = eat(tokens, Terminal::Star) {
         let rest = expect(rest, Terminal::RightBracket)?;
@@ -402,7 +403,7 @@ fn over(
     depth: u8,
     tokens: &[Token],
 ) -> Result<(Option<Box<Over>>, &[Token]), Refusal>
-    ensures { Gives (λ x. (view_over_option x.0, kinds_of x.1.now)) result (over_at (deeper_of 200 depth) (kinds_of tokens.now)) }
+    ensures { Gives (λ x. (view_over_option x.0, kinds_of x.1.now)) result (over_at (deeper_of most_operators depth) (kinds_of tokens.now)) }
 {
     let Some(rest) = eat(tokens, Terminal::Over) else {
         return Ok((None, tokens));
@@ -424,7 +425,7 @@ fn over(
 #[tactic(auto, unfolding(wd_cursor::specs::Cursor::list_at))]
 #[cycle(expr)]
 fn list(alloc: Global, depth: u8, tokens: &[Token]) -> Result<(Vec<Expr>, &[Token]), Refusal>
-    ensures { Gives (λ x. (map view x.0.items, kinds_of x.1.now)) result (list_at m.Comma (read 200 depth 8) (kinds_of tokens.now)) }
+    ensures { Gives (λ x. (map view x.0.items, kinds_of x.1.now)) result (list_at m.Comma (read most_operators depth 8) (kinds_of tokens.now)) }
 {
     let (first, mut rest) = at(alloc, WHOLE, depth, tokens)?;
     let mut items = Vec::new(alloc);
@@ -444,7 +445,7 @@ fn list(alloc: Global, depth: u8, tokens: &[Token]) -> Result<(Vec<Expr>, &[Toke
 #[tactic(auto, unfolding(crate::specs::Reading::arm_at))]
 #[cycle(expr)]
 fn arm(alloc: Global, depth: u8, tokens: &[Token]) -> Result<(Arm, &[Token]), Refusal>
-    ensures { Gives (λ x. (view_arm x.0, kinds_of x.1.now)) result (arm_at (read 200 depth 8) (kinds_of tokens.now)) }
+    ensures { Gives (λ x. (view_arm x.0, kinds_of x.1.now)) result (arm_at (read most_operators depth 8) (kinds_of tokens.now)) }
 {
     let (when, rest) = at(alloc, WHOLE, depth, tokens)?;
     let rest = expect(rest, Terminal::Then)?;
@@ -462,7 +463,7 @@ fn arm(alloc: Global, depth: u8, tokens: &[Token]) -> Result<(Arm, &[Token]), Re
 #[tactic(auto, unfolding(wd_cursor::specs::Cursor::list_at))]
 #[cycle(expr)]
 fn arms(alloc: Global, depth: u8, tokens: &[Token]) -> Result<(Vec<Arm>, &[Token]), Refusal>
-    ensures { Gives (λ x. (map view_arm x.0.items, kinds_of x.1.now)) result (list_at m.When (arm_at (read 200 depth 8)) (kinds_of tokens.now)) }
+    ensures { Gives (λ x. (map view_arm x.0.items, kinds_of x.1.now)) result (list_at m.When (arm_at (read most_operators depth 8)) (kinds_of tokens.now)) }
 {
     let (first, mut rest) = arm(alloc, depth, tokens)?;
     let mut items = Vec::new(alloc);
@@ -486,7 +487,7 @@ fn otherwise(
     depth: u8,
     tokens: &[Token],
 ) -> Result<(Option<Box<Expr>>, &[Token]), Refusal>
-    ensures { Gives (λ x. (view_else_option x.0, kinds_of x.1.now)) result (else_at (read 200 depth 8) (kinds_of tokens.now)) }
+    ensures { Gives (λ x. (view_else_option x.0, kinds_of x.1.now)) result (else_at (read most_operators depth 8) (kinds_of tokens.now)) }
 {
     match eat(tokens, Terminal::Else) {
         Some(rest) => {
@@ -501,7 +502,7 @@ fn otherwise(
 #[tactic(auto, unfolding(crate::specs::Reading::case_at))]
 #[cycle(expr)]
 fn case(alloc: Global, depth: u8, tokens: &[Token]) -> Result<(Box<Expr>, &[Token]), Refusal>
-    ensures { Gives (λ x. (view x.0.value, kinds_of x.1.now)) result (case_at (read 200 depth 8) (kinds_of tokens.now)) }
+    ensures { Gives (λ x. (view x.0.value, kinds_of x.1.now)) result (case_at (read most_operators depth 8) (kinds_of tokens.now)) }
 {
     let rest = expect(tokens, Terminal::When)?;
     let (arms, rest) = arms(alloc, depth, rest)?;
@@ -514,7 +515,7 @@ fn case(alloc: Global, depth: u8, tokens: &[Token]) -> Result<(Box<Expr>, &[Toke
 #[tactic(auto, unfolding(crate::specs::Reading::key_at))]
 #[cycle(expr)]
 fn key(alloc: Global, depth: u8, tokens: &[Token]) -> Result<(SortKey, &[Token]), Refusal>
-    ensures { Gives (λ x. (view_key x.0, kinds_of x.1.now)) result (key_at (read 200 depth 8) (kinds_of tokens.now)) }
+    ensures { Gives (λ x. (view_key x.0, kinds_of x.1.now)) result (key_at (read most_operators depth 8) (kinds_of tokens.now)) }
 {
     let (expr, rest) = at(alloc, WHOLE, depth, tokens)?;
     let (direction, rest) = direction_at(rest);
@@ -533,7 +534,7 @@ fn key(alloc: Global, depth: u8, tokens: &[Token]) -> Result<(SortKey, &[Token])
 #[tactic(auto, unfolding(wd_cursor::specs::Cursor::list_at))]
 #[cycle(expr)]
 fn keys(alloc: Global, depth: u8, tokens: &[Token]) -> Result<(Vec<SortKey>, &[Token]), Refusal>
-    ensures { Gives (λ x. (map view_key x.0.items, kinds_of x.1.now)) result (list_at m.Comma (key_at (read 200 depth 8)) (kinds_of tokens.now)) }
+    ensures { Gives (λ x. (map view_key x.0.items, kinds_of x.1.now)) result (list_at m.Comma (key_at (read most_operators depth 8)) (kinds_of tokens.now)) }
 {
     let (first, mut rest) = key(alloc, depth, tokens)?;
     let mut items = Vec::new(alloc);
@@ -557,7 +558,7 @@ pub fn order(
     depth: u8,
     tokens: &[Token],
 ) -> Result<(Vec<SortKey>, &[Token]), Refusal>
-    ensures { Gives (λ x. (map view_key x.0.items, kinds_of x.1.now)) result (order_at (read 200 depth 8) (kinds_of tokens.now)) }
+    ensures { Gives (λ x. (map view_key x.0.items, kinds_of x.1.now)) result (order_at (read most_operators depth 8) (kinds_of tokens.now)) }
 {
     match eat(tokens, Terminal::Order) {
         Some(rest) => {
@@ -572,7 +573,7 @@ pub fn order(
 #[tactic(auto, unfolding(crate::specs::Reading::partition_at))]
 #[cycle(expr)]
 fn partition(alloc: Global, depth: u8, tokens: &[Token]) -> Result<(Vec<Expr>, &[Token]), Refusal>
-    ensures { Gives (λ x. (map view x.0.items, kinds_of x.1.now)) result (partition_at (read 200 depth 8) (kinds_of tokens.now)) }
+    ensures { Gives (λ x. (map view x.0.items, kinds_of x.1.now)) result (partition_at (read most_operators depth 8) (kinds_of tokens.now)) }
 {
     match eat(tokens, Terminal::Partition) {
         Some(rest) => {
@@ -598,7 +599,7 @@ fn base_at(alloc: Global, tokens: &[Token]) -> Result<(Option<Name>, &[Token]), 
 #[tactic(auto, unfolding(crate::specs::Reading::window_at))]
 #[cycle(expr)]
 pub fn window(alloc: Global, depth: u8, tokens: &[Token]) -> Result<(Window, &[Token]), Refusal>
-    ensures { Gives (λ x. (view_window x.0, kinds_of x.1.now)) result (window_at (read 200 depth 8) (kinds_of tokens.now)) }
+    ensures { Gives (λ x. (view_window x.0, kinds_of x.1.now)) result (window_at (read most_operators depth 8) (kinds_of tokens.now)) }
 {
     let (base, rest) = base_at(alloc, tokens)?;
     let (partition, rest) = partition(alloc, depth, rest)?;

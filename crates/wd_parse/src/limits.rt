@@ -2,7 +2,7 @@
 
 ghost use Rattle.std.specs.Prelude.{◌≡◌};
 ghost use Rattle.wd_lex.specs.Lexed.{kinds_of};
-ghost use Rattle.wd_parse.specs.Reading.{row_at, row_if, offset_at, fetch_word_at, number_option_at, number_if, ties_at, fetch_at, limit_at, count_if, offset_if, limits_at};
+ghost use Rattle.wd_parse.specs.Reading.{row_at, offset_at, fetch_word_at, number_option_at, ties_at, fetch_at, limit_at, count_if, offset_if, limits_at};
 ghost use Rattle.wd_cursor.specs.Given.{Gives, Finds, MayGive};
 
 use wd_cursor::{KeyWord, Refusal, eat, eat_word, expect_word, number_at, unexpected};

@@ -2,9 +2,9 @@
 
 ghost use Rattle.std.specs.Prelude.{◌≡◌, length, map};
 ghost use Rattle.wd_lex.specs.Lexed.{kinds_of};
-ghost use Rattle.wd_lex.specs.declared.token.Terminal.TheVariants as m;
-ghost use Rattle.wd_syntax.specs.Tree.{joins_of, derived, query};
-ghost use Rattle.wd_syntax.specs.View.{view_item, view_option, view_named_window, view_table, view_joined, view_select, view_query};
+ghost use Rattle.wd_syntax.specs.Limits.{most_levels, most_operators};
+ghost use Rattle.wd_syntax.specs.Tree.{derived, query};
+ghost use Rattle.wd_syntax.specs.View.{view_item, view_named_window, view_option, view_table, view_joined, view_select, view_query};
 ghost use Rattle.wd_parse.specs.Reading.{read, deeper_of, inside_of, selects, quantifier_at, given_at, alias_at, star_at, filter_at, windows_at, table_at, inner_at, join_at, from_at, if_last, whole};
 ghost use Rattle.wd_cursor.specs.Cursor.{list_at, many};
 ghost use Rattle.wd_cursor.specs.Given.{Gives, MayFind, MayGive};
@@ -119,6 +119,7 @@ struct Items {
 
 impl Reader for Items {
     ghost use Rattle.wd_syntax.specs.Tree.{ItemTree};
+    ghost use Rattle.wd_syntax.specs.Limits.{most_operators};
     ghost use Rattle.wd_syntax.specs.View.{view_item};
     ghost use Rattle.wd_parse.specs.Reading.{read, item_at};
 
@@ -128,7 +129,7 @@ impl Reader for Items {
 
     ghost tree = { view_item };
 
-    ghost item = { λ items. item_at (read 200 items.depth 8) };
+    ghost item = { λ items. item_at (read most_operators items.depth 8) };
 
     #[tactic(auto, unfolding(crate::specs::Reading::item_at))]
     fn read<'t>(&self, alloc: Global, tokens: &'t [Token]) -> Result<(Item, &'t [Token]), Refusal> {
@@ -147,7 +148,7 @@ impl Reader for Items {
 /// `[WHERE expr]`
 #[tactic(auto, unfolding(crate::specs::Reading::filter_at))]
 fn filter(alloc: Global, depth: u8, tokens: &[Token]) -> Result<(Option<Expr>, &[Token]), Refusal>
-    ensures { Gives (λ x. (view_option x.0, kinds_of x.1.now)) result (filter_at (read 200 depth 8) (kinds_of tokens.now)) }
+    ensures { Gives (λ x. (view_option x.0, kinds_of x.1.now)) result (filter_at (read most_operators depth 8) (kinds_of tokens.now)) }
 {
     match eat(tokens, Terminal::Where) {
         Some(rest) => {
@@ -167,6 +168,7 @@ struct NamedWindows {
 impl Reader for NamedWindows {
     ghost use Rattle.wd_cursor.specs.declared.name.Name.{Name as NameTree};
     ghost use Rattle.wd_syntax.specs.Tree.{WindowTree};
+    ghost use Rattle.wd_syntax.specs.Limits.{most_operators};
     ghost use Rattle.wd_syntax.specs.View.{view_named_window};
     ghost use Rattle.wd_parse.specs.Reading.{deeper_of, named_window_at};
 
@@ -176,7 +178,7 @@ impl Reader for NamedWindows {
 
     ghost tree = { view_named_window };
 
-    ghost item = { λ windows. named_window_at (deeper_of 200 windows.depth) };
+    ghost item = { λ windows. named_window_at (deeper_of most_operators windows.depth) };
 
     #[tactic(auto, unfolding(crate::specs::Reading::named_window_at), using(crate::proofs::Loops::length_kinds))]
     fn read<'t>(
@@ -200,7 +202,7 @@ fn windows(
     depth: u8,
     tokens: &[Token],
 ) -> Result<(Vec<NamedWindow>, &[Token]), Refusal>
-    ensures { Gives (λ x. (map view_named_window x.0.items, kinds_of x.1.now)) result (windows_at (deeper_of 200 depth) (kinds_of tokens.now)) }
+    ensures { Gives (λ x. (map view_named_window x.0.items, kinds_of x.1.now)) result (windows_at (deeper_of most_operators depth) (kinds_of tokens.now)) }
 {
     match eat(tokens, Terminal::Window) {
         Some(rest) => list_at(alloc, &NamedWindows { depth }, Terminal::Comma, rest),
@@ -219,7 +221,7 @@ fn derived_of(select: Box<Select>, alias: Alias) -> Table
 #[tactic(auto, unfolding(crate::specs::Reading::table_at), using(crate::proofs::Loops::length_kinds))]
 #[cycle(select)]
 fn table(alloc: Global, depth: u8, tokens: &[Token]) -> Result<(Table, &[Token]), Refusal>
-    ensures { Gives (λ x. (view_table x.0, kinds_of x.1.now)) result (table_at (inside_of 200 depth) (kinds_of tokens.now)) }
+    ensures { Gives (λ x. (view_table x.0, kinds_of x.1.now)) result (table_at (inside_of most_operators depth) (kinds_of tokens.now)) }
 {
     match eat(tokens, Terminal::LeftBracket) {
         Some(rest) => {
@@ -246,7 +248,7 @@ fn inner(
     with_inner: bool,
     tokens: &[Token],
 ) -> Result<(Joined, &[Token]), Refusal>
-    ensures { Gives (λ x. (view_joined x.0, kinds_of x.1.now)) result (inner_at (inside_of 200 depth) (read 200 depth 8) with_inner (kinds_of tokens.now)) }
+    ensures { Gives (λ x. (view_joined x.0, kinds_of x.1.now)) result (inner_at (inside_of most_operators depth) (read most_operators depth 8) with_inner (kinds_of tokens.now)) }
 {
     let (table, rest) = table(alloc, depth, tokens)?;
     let rest = expect(rest, Terminal::On)?;
@@ -258,7 +260,7 @@ fn inner(
 #[tactic(auto, unfolding(crate::specs::Reading::join_at))]
 #[cycle(select)]
 fn joined(alloc: Global, depth: u8, tokens: &[Token]) -> Result<Option<(Joined, &[Token])>, Refusal>
-    ensures { MayGive (λ x. (view_joined x.0, kinds_of x.1.now)) result (join_at (inside_of 200 depth) (read 200 depth 8) (kinds_of tokens.now)) }
+    ensures { MayGive (λ x. (view_joined x.0, kinds_of x.1.now)) result (join_at (inside_of most_operators depth) (read most_operators depth 8) (kinds_of tokens.now)) }
 {
     if let Some(rest) = eat(tokens, Terminal::Comma) {
         let (table, rest) = table(alloc, depth, rest)?;
@@ -286,7 +288,7 @@ fn joined(alloc: Global, depth: u8, tokens: &[Token]) -> Result<Option<(Joined, 
 /// The tables after the first.
 #[cycle(select)]
 fn joins(alloc: Global, depth: u8, tokens: &[Token]) -> Result<(Vec<Joined>, &[Token]), Refusal>
-    ensures { Gives (λ x. (map view_joined x.0.items, kinds_of x.1.now)) result (many (join_at (inside_of 200 depth) (read 200 depth 8)) (length (kinds_of tokens.now)) (kinds_of tokens.now)) }
+    ensures { Gives (λ x. (map view_joined x.0.items, kinds_of x.1.now)) result (many (join_at (inside_of most_operators depth) (read most_operators depth 8)) (length (kinds_of tokens.now)) (kinds_of tokens.now)) }
 {
     let mut items = Vec::new(alloc);
     let mut rest = tokens;
@@ -304,7 +306,7 @@ fn joins(alloc: Global, depth: u8, tokens: &[Token]) -> Result<(Vec<Joined>, &[T
 #[tactic(auto, unfolding(crate::specs::Reading::from_at))]
 #[cycle(select)]
 fn from(alloc: Global, depth: u8, tokens: &[Token]) -> Result<(From, &[Token]), Refusal>
-    ensures { Gives (λ x. (view_from x.0, kinds_of x.1.now)) result (from_at (inside_of 200 depth) (read 200 depth 8) (kinds_of tokens.now)) }
+    ensures { Gives (λ x. (view_from x.0, kinds_of x.1.now)) result (from_at (inside_of most_operators depth) (read most_operators depth 8) (kinds_of tokens.now)) }
 {
     let (first, rest) = table(alloc, depth, tokens)?;
     let (joined, rest) = joins(alloc, depth, rest)?;
@@ -315,7 +317,7 @@ fn from(alloc: Global, depth: u8, tokens: &[Token]) -> Result<(From, &[Token]), 
 #[tactic(auto, unfolding(crate::specs::Reading::select_at), using(crate::proofs::Loops::selects_at))]
 #[cycle(select)]
 fn select(alloc: Global, depth: u8, tokens: &[Token]) -> Result<(Box<Select>, &[Token]), Refusal>
-    ensures { Gives (λ x. (view_select x.0.value, kinds_of x.1.now)) result (selects 200 depth (kinds_of tokens.now)) }
+    ensures { Gives (λ x. (view_select x.0.value, kinds_of x.1.now)) result (selects most_operators depth (kinds_of tokens.now)) }
 {
     let rest = expect(tokens, Terminal::Select)?;
     let (quantifier, rest) = quantifier_at(rest);
@@ -354,7 +356,7 @@ fn ended(select: Box<Select>, semicolon: bool, rest: &[Token]) -> Result<Query, 
 /// `select [;]`, and nothing more.
 #[tactic(auto, unfolding(crate::specs::Reading::whole))]
 pub fn whole(alloc: Global, tokens: &[Token]) -> Result<Query, Refusal>
-    ensures { Gives view_query result (whole 200 32 (kinds_of tokens.now)) }
+    ensures { Gives view_query result (whole most_operators most_levels (kinds_of tokens.now)) }
 {
     let (select, rest) = select(alloc, MAX_LEVELS, tokens)?;
     match eat(rest, Terminal::Semicolon) {

@@ -180,12 +180,12 @@ inner_is tables from on part next h is e =
 
 mutual
   pub lowered_is : (tables : List TableRule) (s : SelectTree) (l : Lowered) → lowered tables s ≡ Ok l → IsLowered tables l
-  lowered_is tables (select quantifier items first joins filter windows order limits) l e =
-      let part = bound (table_meant tables first) (λ p. first_admitted p >>= λ start. joins_meant tables joins start >>= λ from. behind_from (together from.before from.current) quantifier items filter windows order limits) l e in
-      let start = bound (first_admitted part.0) (λ s. joins_meant tables joins s >>= λ from. behind_from (together from.before from.current) quantifier items filter windows order limits) l part.2 in
-      let from = bound (joins_meant tables joins start.0) (λ f. behind_from (together f.before f.current) quantifier items filter windows order limits) l start.2 in
+  lowered_is tables (select parts first joins) l e =
+      let part = bound (table_meant tables first) (λ p. first_admitted p >>= λ start. joins_meant tables joins start >>= λ from. behind_from (together from.before from.current) parts) l e in
+      let start = bound (first_admitted part.0) (λ s. joins_meant tables joins s >>= λ from. behind_from (together from.before from.current) parts) l part.2 in
+      let from = bound (joins_meant tables joins start.0) (λ f. behind_from (together f.before f.current) parts) l start.2 in
       let begun = first_is tables part.0 start.0 (table_is tables first part.0 part.1) start.1 in
-      behind_from_is tables (together from.0.before from.0.current) quantifier items filter windows order limits l (from_is tables from.0 (joins_are tables joins start.0 from.0 begun from.1)) from.2
+      behind_from_is tables (together from.0.before from.0.current) parts l (from_is tables from.0 (joins_are tables joins start.0 from.0 begun from.1)) from.2
 
   table_is : (tables : List TableRule) (t : TableTree) (part : JoinedTables) → table_meant tables t ≡ Ok part → IsPart tables part
   table_is tables (named name alias) part e = scan_at_is tables (called name alias) (table_number tables name.text) part e

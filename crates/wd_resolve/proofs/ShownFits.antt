@@ -16,7 +16,7 @@ use Rattle.wd_syntax.specs.declared.query.Count.TheVariants as written
 use Rattle.wd_syntax.specs.declared.query.Limits.{Limits}
 use Rattle.wd_syntax.specs.declared.query.Limits.TheVariants.{OffsetFirst, CountFirst}
 use Rattle.wd_syntax.specs.declared.query.Quantifier.{Quantifier}
-use Rattle.wd_syntax.specs.Tree.{Tree, ItemTree, Keys, WindowTree}
+use Rattle.wd_syntax.specs.Tree.{Tree, ItemTree, Keys, Parts}
 use Rattle.wd_operand.specs.Causes.{◌>>=◌}
 use Rattle.wd_operand.specs.Operands.{number}
 use Rattle.wd_scope.specs.Calls.{CallMeaning}
@@ -185,12 +185,12 @@ shown_sorted_is tables plan scope distinct list order limits l h is e =
     let keys = keys_sorted_is s is.calls_are order (unsorted list.inputs) sorted.0 (unsorted_is scope distinct list is) sorted.1 in
     subst (IsLowered tables) (ok_is _ _ cut.2) (lowered_shown_is tables plan s sorted.0 (is_sorted order) cut.0 h is.outputs_are is.calls_are keys.0 (cut_is (is_sorted order) limits cut.0 cut.1) keys.2)
 
-selected_is : (tables : List TableRule) (scope : ScopeRule) (plan : PlanTree) (windows : List KnownMeaning) (quantifier : Option Quantifier) (items : List ItemTree) (order : Keys) (limits : Option Limits) (l : Lowered) → HasKinds tables plan (scope_kinds scope) → AreKnown (kinds_met scope []) windows
-    → selected scope plan windows quantifier items order limits ≡ Ok l → IsLowered tables l
-selected_is tables scope plan windows quantifier items order limits l h known e =
+selected_is : (tables : List TableRule) (scope : ScopeRule) (plan : PlanTree) (windows : List KnownMeaning) (parts : Parts) (l : Lowered) → HasKinds tables plan (scope_kinds scope) → AreKnown (kinds_met scope []) windows
+    → selected scope plan windows parts ≡ Ok l → IsLowered tables l
+selected_is tables scope plan windows parts l h known e =
     let c : ContextRule = record { scope = scope; windows = windows; calls_allowed = true } in
-    let list = bound (list_meant c items) (λ (x : Listing). shown_sorted (shown_by scope (is_distinct quantifier) x) x.inputs order limits plan) l e in
-    shown_sorted_is tables plan scope (is_distinct quantifier) list.0 order limits l h (list_is c items list.0 known list.1) list.2
+    let list = bound (list_meant c parts.items) (λ (x : Listing). shown_sorted (shown_by scope (is_distinct parts.quantifier) x) x.inputs parts.tail.order parts.tail.limits plan) l e in
+    shown_sorted_is tables plan scope (is_distinct parts.quantifier) list.0 parts.tail.order parts.tail.limits l h (list_is c parts.items list.0 known list.1) list.2
 
 filtered_is : (tables : List TableRule) (scope : ScopeRule) (filter : Option Tree) (plan next : PlanTree) → HasKinds tables plan (scope_kinds scope) → filtered scope filter plan ≡ Ok next → HasKinds tables next (scope_kinds scope)
 filtered_is tables scope None plan next h e = subst (λ p. HasKinds tables p (scope_kinds scope)) (ok_is _ _ e) h
@@ -198,9 +198,9 @@ filtered_is tables scope (Some a) plan next h e =
     let x = bound (condition scope a) (λ y. Ok (Filter y plan)) next e in
     subst (λ p. HasKinds tables p (scope_kinds scope)) (ok_is _ _ x.2) (filter_is tables x.0 plan (scope_kinds scope) h (over_plan tables plan scope x.0 Truth h (condition_is scope a x.0 x.1)))
 
-pub behind_from_is : (tables : List TableRule) (from : JoinedTables) (quantifier : Option Quantifier) (items : List ItemTree) (filter : Option Tree) (windows : List (Name × WindowTree)) (order : Keys) (limits : Option Limits) (l : Lowered) → HasKinds tables from.plan (scope_kinds from.scope)
-    → behind_from from quantifier items filter windows order limits ≡ Ok l → IsLowered tables l
-behind_from_is tables from quantifier items filter windows order limits l h e =
-    let p = bound (filtered from.scope filter from.plan) (λ plan. all_defined from.scope [] windows >>= λ known. selected from.scope plan known quantifier items order limits) l e in
-    let k = bound (all_defined from.scope [] windows) (λ known. selected from.scope p.0 known quantifier items order limits) l p.2 in
-    selected_is tables from.scope p.0 k.0 quantifier items order limits l (filtered_is tables from.scope filter from.plan p.0 h p.1) (all_defined_is from.scope [] windows k.0 tt k.1) k.2
+pub behind_from_is : (tables : List TableRule) (from : JoinedTables) (parts : Parts) (l : Lowered) → HasKinds tables from.plan (scope_kinds from.scope)
+    → behind_from from parts ≡ Ok l → IsLowered tables l
+behind_from_is tables from parts l h e =
+    let p = bound (filtered from.scope parts.tail.filter from.plan) (λ plan. all_defined from.scope [] parts.tail.windows >>= λ known. selected from.scope plan known parts) l e in
+    let k = bound (all_defined from.scope [] parts.tail.windows) (λ known. selected from.scope p.0 known parts) l p.2 in
+    selected_is tables from.scope p.0 k.0 parts l (filtered_is tables from.scope parts.tail.filter from.plan p.0 h p.1) (all_defined_is from.scope [] parts.tail.windows k.0 tt k.1) k.2

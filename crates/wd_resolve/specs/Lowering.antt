@@ -1,12 +1,11 @@
 -- The plan of a query: its tables, its condition, its windows, its outputs, its order and its limits, one step over the other
 -- (SQL, query specification, query expression; PG, SELECT).
 use Rattle.std.specs.Prelude.{Bool, true, false, List, [], length, Option, Some, None, Ok}
-use Rattle.wd_cursor.specs.declared.name.Name.{Name}
 use Rattle.wd_syntax.specs.declared.query.Quantifier.{Quantifier}
 use Rattle.wd_syntax.specs.declared.query.Quantifier.TheVariants.{All, Distinct as DistinctRows}
 use Rattle.wd_syntax.specs.declared.query.Limits.{Limits}
 use Rattle.wd_syntax.specs.Tree as tree
-use Rattle.wd_syntax.specs.Tree.{Tree, Keys, ItemTree, TableTree, named, derived, JoinTree, comma, cross, inner, Joins, no_joins, more_joins, SelectTree, select, QueryTree, query, WindowTree}
+use Rattle.wd_syntax.specs.Tree.{Tree, Keys, Parts, TableTree, named, derived, JoinTree, comma, cross, inner, Joins, no_joins, more_joins, SelectTree, select, QueryTree, query}
 use Rattle.wd_schema.specs.Tables.{TableRule}
 use Rattle.wd_plan.specs.Expressions.{Expression}
 use Rattle.wd_plan.specs.Plans.{PlanTree}
@@ -41,17 +40,17 @@ shown_sorted s inputs order limits plan =
     Ok (lowered_shown (length s.scope.columns) s.distinct s.outputs s.calls sorted cut plan)
 
 -- what is left of a select after its FROM and its WINDOW: the select list, ORDER BY and the limits, from left to right
-abbrev pub selected : ScopeRule → PlanTree → List KnownMeaning → Option Quantifier → List ItemTree → Keys → Option Limits → Meant Lowered
-selected scope plan windows quantifier items order limits =
-    list_meant (record { scope = scope; windows = windows; calls_allowed = true }) items >>= λ list.
-    shown_sorted (shown_by scope (is_distinct quantifier) list) list.inputs order limits plan
+abbrev pub selected : ScopeRule → PlanTree → List KnownMeaning → Parts → Meant Lowered
+selected scope plan windows parts =
+    list_meant (record { scope = scope; windows = windows; calls_allowed = true }) parts.items >>= λ list.
+    shown_sorted (shown_by scope (is_distinct parts.quantifier) list) list.inputs parts.tail.order parts.tail.limits plan
 
 -- a select after its FROM: WHERE, WINDOW, and the rest
-abbrev pub behind_from : JoinedTables → Option Quantifier → List ItemTree → Option Tree → List (Name × WindowTree) → Keys → Option Limits → Meant Lowered
-behind_from from quantifier items filter windows order limits =
-    filtered from.scope filter from.plan >>= λ plan.
-    all_defined from.scope [] windows >>= λ known.
-    selected from.scope plan known quantifier items order limits
+abbrev pub behind_from : JoinedTables → Parts → Meant Lowered
+behind_from from parts =
+    filtered from.scope parts.tail.filter from.plan >>= λ plan.
+    all_defined from.scope [] parts.tail.windows >>= λ known.
+    selected from.scope plan known parts
 
 -- a table after a comma begins a new row of joins
 abbrev pub behind_comma : FromSoFar → JoinedTables → Meant FromSoFar
@@ -71,7 +70,7 @@ joined_on from on part = next_admitted from part >>= λ p. condition (joined Non
 abbrev mutual
   -- the plan of a select, and its columns
   pub lowered : List TableRule → SelectTree → Meant Lowered
-  lowered tables (select quantifier items first joins filter windows order limits) = table_meant tables first >>= λ part. first_admitted part >>= λ start. joins_meant tables joins start >>= λ from. behind_from (together from.before from.current) quantifier items filter windows order limits
+  lowered tables (select parts first joins) = table_meant tables first >>= λ part. first_admitted part >>= λ start. joins_meant tables joins start >>= λ from. behind_from (together from.before from.current) parts
 
   -- a table of FROM: a Scan, or its own plan
   pub table_meant : List TableRule → TableTree → Meant JoinedTables

@@ -5,7 +5,7 @@ ghost use Rattle.wd_plan.specs.Expressions.{expression_of};
 ghost use Rattle.wd_plan.specs.Plans.{plan_of};
 ghost use Rattle.wd_schema.specs.Schemas.{schema_of};
 ghost use Rattle.wd_syntax.specs.Tree.{joins_of, keys_of};
-ghost use Rattle.wd_syntax.specs.View.{view_item, view_joined, view_key, view_named_window, view_option, view_select, view_table};
+ghost use Rattle.wd_syntax.specs.View.{view_item, view_joined, view_key, view_parts, view_select, view_table};
 ghost use Rattle.wd_operand.specs.Causes.{Gives};
 ghost use Rattle.wd_scope.specs.Calls.{calls_of};
 ghost use Rattle.wd_scope.specs.Resolving.{context_of};
@@ -126,7 +126,7 @@ fn behind_from(
     from: JoinedTables,
     select: &Select,
 ) -> Result<LoweredSelect, ResolveError>
-    ensures { Gives lowered_of result (spec.behind_from (joined_of from) select.now.quantifier (map view_item select.now.items.items) (view_option select.now.filter) (map view_named_window select.now.windows.items) (keys_of (map view_key select.now.order.items)) select.now.limits) }
+    ensures { Gives lowered_of result (spec.behind_from (joined_of from) (view_parts select.now)) }
 {
     let JoinedTables { scope, plan } = from;
     let plan = filtered(alloc, &scope, &select.filter, plan)?;
@@ -142,7 +142,7 @@ fn selected(
     windows: &[KnownWindow],
     select: &Select,
 ) -> Result<LoweredSelect, ResolveError>
-    ensures { Gives lowered_of result (spec.selected (scope_of scope.now) (plan_of plan) (map known_of windows.now) select.now.quantifier (map view_item select.now.items.items) (keys_of (map view_key select.now.order.items)) select.now.limits) }
+    ensures { Gives lowered_of result (spec.selected (scope_of scope.now) (plan_of plan) (map known_of windows.now) (view_parts select.now)) }
 {
     let context = Context {
         scope,

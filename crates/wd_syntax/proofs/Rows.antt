@@ -18,7 +18,7 @@ use Rattle.wd_syntax.specs.declared.query.Joined.{Joined}
 use Rattle.wd_syntax.specs.declared.query.Table.{Table, Row_of-Joined, end_of-Joined, more_of-Joined, items-the_row-Joined, items_hidden-the_row-Joined-0}
 use Rattle.wd_syntax.specs.declared.query.Table.TheVariants as b
 use Rattle.wd_syntax.specs.Tree.{Joins, more_joins, joins_of, derived, select}
-use Rattle.wd_syntax.specs.View.{view_item, view_option, view_named_window, view_table, view_joined, view_join_row, view_select}
+use Rattle.wd_syntax.specs.View.{view_parts, view_table, view_joined, view_join_row, view_select}
 use Rattle.wd_syntax.specs.View.{view_links, view_link, chained, view, view_row, view_arm_row, view_key_row, view_arm, view_key, view_window, view_over_option, view_else_option}
 
 row_trees : (n : _) (row : Row_of-Expr n) → view_row row ≡ trees_of (map view (items-the_row-Expr n row))
@@ -101,5 +101,5 @@ pub view_derived : (s : Box Select) (alias : Alias) → view_table (b.Derived s 
 view_derived s alias =
     let row = joins_in (b.Derived s alias) in
     let v = s.value in
-    ap (λ (z : Joins). derived (select v.quantifier (map view_item v.items.items) (view_table v.from.first) z (view_option v.filter) (map view_named_window v.windows.items) (keys_of (map view_key v.order.items)) v.limits) alias)
+    ap (λ (z : Joins). derived (select (view_parts v) (view_table v.from.first) z) alias)
     (row_joins row.0 row.1 ∙ ap (λ (z : List Joined). joins_of (map view_joined z)) (items_hidden-the_row-Joined-0 v.from.joined))

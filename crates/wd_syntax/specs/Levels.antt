@@ -87,7 +87,8 @@ abbrev mutual
   JoinsLevelled (more_joins join joins) = JoinLevelled join × JoinsLevelled joins
 
   pub SelectLevelled : SelectTree → Type 0
-  SelectLevelled (select quantifier items first joins filter windows order limits) = IsSomeItem items × Each ItemLevelled items × TableLevelled first × JoinsLevelled joins × OptionLevelled filter × Each (λ w. WindowLevelled w.1) windows × KeysLevelled order
+  SelectLevelled (select parts first joins) =
+      IsSomeItem parts.items × Each ItemLevelled parts.items × TableLevelled first × JoinsLevelled joins × OptionLevelled parts.tail.filter × Each (λ w. WindowLevelled w.1) parts.tail.windows × KeysLevelled parts.tail.order
 
 abbrev pub IsWellLevelled : QueryTree → Type 0
 IsWellLevelled (query s semicolon) = SelectLevelled s

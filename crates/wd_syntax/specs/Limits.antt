@@ -79,11 +79,19 @@ abbrev mutual
   JoinsFit c d (more_joins join joins) = JoinFits c d join × JoinsFit c d joins
 
   pub SelectFits : ℕ → ℕ → SelectTree → Type 0
-  SelectFits c d (select quantifier items first joins filter windows order limits) = Each (ItemFits c d) items × TableFits c d first × JoinsFit c d joins × OptionFits c d filter × Each (λ w. Below d (λ k. WindowFits c k w.1)) windows × KeysFit c d order
+  SelectFits c d (select parts first joins) =
+      Each (ItemFits c d) parts.items × TableFits c d first × JoinsFit c d joins × OptionFits c d parts.tail.filter × Each (λ w. Below d (λ k. WindowFits c k w.1)) parts.tail.windows × KeysFit c d parts.tail.order
 
 abbrev pub QueryFits : ℕ → ℕ → QueryTree → Type 0
 QueryFits c d (query s semicolon) = SelectFits c d s
 
--- The limits of this project: 200 operators of one chain, and 32 levels.
+-- the most operators of an unbracketed chain of one height (this project's choice)
+abbrev pub most_operators : ℕ
+most_operators = 200
+
+-- the most levels that are open at once (this project's choice)
+abbrev pub most_levels : ℕ
+most_levels = 32
+
 abbrev pub KeepsLimits : QueryTree → Type 0
-KeepsLimits q = QueryFits 200 32 q
+KeepsLimits q = QueryFits most_operators most_levels q

@@ -8,7 +8,7 @@ use Rattle.wd_syntax.specs.Tokens.{operator_terminal, sign_terminal, operator_he
 use Rattle.wd_syntax.specs.Tree.{Tree, Constant, Column, Qualified, CallAll, Call, Case, Bracket, Signed, Binary, IsNull, Negated, Trees, no_trees, more_trees, Arms, no_arms, more_arms, Otherwise, no_else, or_else, OverTree, no_over, over_name, over_window, WindowTree, window, Keys, no_keys, more_keys, ItemTree, all_columns, all_of, shown, TableTree, named, derived, JoinTree, comma, cross, inner, Joins, no_joins, more_joins, SelectTree, select, QueryTree, query}
 use Rattle.wd_syntax.specs.Spelling.{frame_onto, direction_onto, nulls_onto, not_onto, onto, list_onto, more_onto, arms_onto, else_onto, over_onto, window_onto, order_onto, more_keys_onto, given_onto, alias_onto, more_items_onto, more_windows_onto, windows_onto, limits_onto, tail_onto, table_onto, joins_onto, select_onto, end_onto, spell}
 use Rattle.wd_syntax.specs.Levels.{IsWellLevelled}
-use Rattle.wd_syntax.specs.Limits.{operators}
+use Rattle.wd_syntax.specs.Limits.{operators, most_operators, most_levels}
 
 -- `here` begins with a token that opens a level: it passes the limit where no level is left, and else something within.
 abbrev pub Opens : ℕ → (ℕ → Type 0) → Kinds → Kinds → Type 0
@@ -91,13 +91,13 @@ abbrev mutual
   OneJoinPasses c d (more_joins join joins) ts rest = JoinPasses c d join (joins_onto joins ts) rest ⊎ OneJoinPasses c d joins ts rest
 
   pub SelectPasses : ℕ → ℕ → SelectTree → Kinds → Kinds → Type 0
-  SelectPasses c d (select quantifier items first joins filter windows order limits) ts rest =
-      OneItemPasses c d items (m.From ▸ table_onto first (joins_onto joins (tail_onto filter windows order limits ts))) rest
-      ⊎ (TablePasses c d first (joins_onto joins (tail_onto filter windows order limits ts)) rest
-      ⊎ (OneJoinPasses c d joins (tail_onto filter windows order limits ts) rest
-      ⊎ (FilterPasses c d filter (windows_onto windows (order_onto order (limits_onto limits ts))) rest
-      ⊎ (OneWindowPasses c d windows (order_onto order (limits_onto limits ts)) rest
-      ⊎ KeyPasses c d order (limits_onto limits ts) rest))))
+  SelectPasses c d (select parts first joins) ts rest =
+      OneItemPasses c d parts.items (m.From ▸ table_onto first (joins_onto joins (tail_onto parts.tail ts))) rest
+      ⊎ (TablePasses c d first (joins_onto joins (tail_onto parts.tail ts)) rest
+      ⊎ (OneJoinPasses c d joins (tail_onto parts.tail ts) rest
+      ⊎ (FilterPasses c d parts.tail.filter (windows_onto parts.tail.windows (order_onto parts.tail.order (limits_onto parts.tail.limits ts))) rest
+      ⊎ (OneWindowPasses c d parts.tail.windows (order_onto parts.tail.order (limits_onto parts.tail.limits ts)) rest
+      ⊎ KeyPasses c d parts.tail.order (limits_onto parts.tail.limits ts) rest))))
 
 abbrev pub QueryPasses : ℕ → ℕ → QueryTree → Kinds → Type 0
 QueryPasses c d (query s semicolon) rest = SelectPasses c d s (end_onto semicolon) rest
@@ -105,4 +105,4 @@ QueryPasses c d (query s semicolon) rest = SelectPasses c d s (end_onto semicolo
 -- At that place of the tokens a limit is passed: a well-levelled query begins with the same tokens, up to and with the one
 -- at the place, and in it this token opens a 33rd level or is the 201st operator of its chain.
 abbrev pub PassesLimitAt : Kinds → ℕ → Type 0
-PassesLimitAt ts place = (front : Kinds) × (token : TokenKind) × (more : Kinds) × (tree : QueryTree) × (behind : Kinds) × (length front ≡ place) × (ts ≡ front ++ token ∷ more) × (spell tree ≡ front ++ token ∷ behind) × IsWellLevelled tree × QueryPasses 200 32 tree (token ∷ behind)
+PassesLimitAt ts place = (front : Kinds) × (token : TokenKind) × (more : Kinds) × (tree : QueryTree) × (behind : Kinds) × (length front ≡ place) × (ts ≡ front ++ token ∷ more) × (spell tree ≡ front ++ token ∷ behind) × IsWellLevelled tree × QueryPasses most_operators most_levels tree (token ∷ behind)

@@ -31,7 +31,7 @@ use Rattle.wd_syntax.specs.declared.query.Limits.{Limits}
 use Rattle.wd_syntax.specs.declared.query.Limits.TheVariants.{OffsetFirst, CountFirst}
 use Rattle.wd_cursor.specs.Tokens.{Kinds, ◌▸◌, ◌▹◌, name_kind}
 use Rattle.wd_syntax.specs.Tokens.{literal_kind, operator_terminal, sign_terminal}
-use Rattle.wd_syntax.specs.Tree.{Tree, Constant, Column, Qualified, CallAll, Call, Case, Bracket, Signed, Binary, IsNull, Negated, Trees, no_trees, more_trees, Arms, no_arms, more_arms, Otherwise, no_else, or_else, OverTree, no_over, over_name, over_window, WindowTree, window, Keys, no_keys, more_keys, ItemTree, all_columns, all_of, shown, TableTree, named, derived, JoinTree, comma, cross, inner, Joins, no_joins, more_joins, SelectTree, select, QueryTree, query}
+use Rattle.wd_syntax.specs.Tree.{Tree, Constant, Column, Qualified, CallAll, Call, Case, Bracket, Signed, Binary, IsNull, Negated, Trees, no_trees, more_trees, Arms, no_arms, more_arms, Otherwise, no_else, or_else, OverTree, no_over, over_name, over_window, WindowTree, window, Keys, no_keys, more_keys, ItemTree, all_columns, all_of, shown, Tail, TableTree, named, derived, JoinTree, comma, cross, inner, Joins, no_joins, more_joins, SelectTree, select, QueryTree, query}
 
 -- ---- frames
 
@@ -227,8 +227,8 @@ limits_onto (Some (OffsetFirst o c)) ts = offset_onto o (count_option_onto c ts)
 limits_onto (Some (CountFirst c o)) ts = count_onto c (offset_option_onto o ts)
 
 -- what follows FROM
-abbrev pub tail_onto : Option Tree → List (Name × WindowTree) → Keys → Option Limits → Kinds → Kinds
-tail_onto filter windows order limits ts = filter_onto filter (windows_onto windows (order_onto order (limits_onto limits ts)))
+abbrev pub tail_onto : Tail → Kinds → Kinds
+tail_onto tail ts = filter_onto tail.filter (windows_onto tail.windows (order_onto tail.order (limits_onto tail.limits ts)))
 
 abbrev mutual
   pub table_onto : TableTree → Kinds → Kinds
@@ -246,7 +246,7 @@ abbrev mutual
   joins_onto (more_joins join joins) ts = join_onto join (joins_onto joins ts)
 
   pub select_onto : SelectTree → Kinds → Kinds
-  select_onto (select quantifier items first joins filter windows order limits) ts = m.Select ▸ quantifier_onto quantifier (items_onto items (m.From ▸ table_onto first (joins_onto joins (tail_onto filter windows order limits ts))))
+  select_onto (select parts first joins) ts = m.Select ▸ quantifier_onto parts.quantifier (items_onto parts.items (m.From ▸ table_onto first (joins_onto joins (tail_onto parts.tail ts))))
 
 abbrev pub end_onto : Bool → Kinds
 end_onto true = m.Semicolon ▸ []

@@ -60,6 +60,19 @@ pub data ItemTree : Type 0 where
   all_of : Name → ItemTree
   shown : Tree → Option Alias → ItemTree
 
+-- what follows the FROM of a select
+pub record Tail : Type 0 where
+  pub filter : Option Tree
+  pub windows : List (Name × WindowTree)
+  pub order : Keys
+  pub limits : Option Limits
+
+-- a select but for its FROM
+pub record Parts : Type 0 where
+  pub quantifier : Option Quantifier
+  pub items : List ItemTree
+  pub tail : Tail
+
 mutual
   pub data TableTree : Type 0 where
     named : Name → Option Alias → TableTree
@@ -75,7 +88,7 @@ mutual
     more_joins : JoinTree → Joins → Joins
 
   pub data SelectTree : Type 0 where
-    select : (quantifier : Option Quantifier) (items : List ItemTree) (first : TableTree) (joins : Joins) (filter : Option Tree) (windows : List (Name × WindowTree)) (order : Keys) (limits : Option Limits) → SelectTree
+    select : Parts → (first : TableTree) (joins : Joins) → SelectTree
 
 -- a select, and whether a semicolon ends it
 pub data QueryTree : Type 0 where

@@ -10,7 +10,7 @@ use Rattle.wd_syntax.specs.declared.expression.Link.{Link}
 use Rattle.wd_syntax.specs.declared.expression.Operator.{Operator}
 use Rattle.wd_syntax.specs.declared.expression.Window.{Window, Window', Row_of-SortKey, end_of-SortKey, more_of-SortKey}
 use Rattle.wd_syntax.specs.declared.expression.SortKey.{SortKey}
-use Rattle.wd_syntax.specs.Tree.{Tree, Constant, Column, Qualified, CallAll, Call, Case, Bracket, Signed, Binary, IsNull, Negated, Trees, no_trees, more_trees, Arms, no_arms, more_arms, Otherwise, no_else, or_else, OverTree, no_over, over_name, over_window, WindowTree, window, Keys, no_keys, more_keys, Key, keys_of, joins_of, ItemTree, all_columns, all_of, shown, TableTree, named, derived, JoinTree, comma, cross, inner, Joins, no_joins, more_joins, SelectTree, select, QueryTree, query}
+use Rattle.wd_syntax.specs.Tree.{Tree, Constant, Column, Qualified, CallAll, Call, Case, Bracket, Signed, Binary, IsNull, Negated, Trees, no_trees, more_trees, Arms, no_arms, more_arms, Otherwise, no_else, or_else, OverTree, no_over, over_name, over_window, WindowTree, window, Keys, no_keys, more_keys, Key, keys_of, joins_of, ItemTree, all_columns, all_of, shown, Parts, TableTree, named, derived, JoinTree, comma, cross, inner, Joins, no_joins, more_joins, SelectTree, select, QueryTree, query}
 use Rattle.wd_cursor.specs.declared.name.Name.{Name}
 use Rattle.wd_syntax.specs.declared.query.Item.{Item}
 use Rattle.wd_syntax.specs.declared.query.Item.TheVariants as i
@@ -19,6 +19,8 @@ use Rattle.wd_syntax.specs.declared.query.Table.{Table, Row_of-Joined, end_of-Jo
 use Rattle.wd_syntax.specs.declared.query.Table.TheVariants as b
 use Rattle.wd_syntax.specs.declared.query.Joined.{Joined}
 use Rattle.wd_syntax.specs.declared.query.Joined.TheVariants as j
+use Rattle.wd_syntax.specs.declared.query.Limits.{Limits}
+use Rattle.wd_syntax.specs.declared.query.Quantifier.{Quantifier}
 use Rattle.wd_syntax.specs.declared.query.Select.{Select}
 use Rattle.wd_syntax.specs.declared.query.Query.{Query}
 
@@ -108,10 +110,16 @@ view_item (i.Expr a alias) = shown (view a) alias
 abbrev pub view_named_window : NamedWindow → Name × WindowTree
 view_named_window w = (w.name, view_window w.window)
 
+-- what the parts of a select show, but for its FROM
+abbrev pub parts_of : Option Quantifier → List Item → Option Expr → List NamedWindow → List SortKey → Option Limits → Parts
+parts_of quantifier items filter windows order limits =
+    record { quantifier = quantifier; items = map view_item items; tail = record { filter = view_option filter; windows = map view_named_window windows; order = keys_of (map view_key order); limits = limits } }
+
 abbrev mutual
   pub view_table : Table → TableTree
   view_table (b.Named n alias) = named n alias
-  view_table (b.Derived' p quantifier items first shape row filter windows order limits alias) = derived (select quantifier (map view_item items.items) (view_table first) (view_join_row row) (view_option filter) (map view_named_window windows.items) (keys_of (map view_key order.items)) limits) alias
+  view_table (b.Derived' p quantifier items first shape row filter windows order limits alias) =
+      derived (select (parts_of quantifier items.items filter windows.items order.items limits) (view_table first) (view_join_row row)) alias
 
   pub view_joined : Joined → JoinTree
   view_joined (j.Comma table) = comma (view_table table)
@@ -122,8 +130,11 @@ abbrev mutual
   view_join_row end_of-Joined = no_joins
   view_join_row (more_of-Joined join row) = more_joins (view_joined join) (view_join_row row)
 
+abbrev pub view_parts : Select → Parts
+view_parts s = parts_of s.quantifier s.items.items s.filter s.windows.items s.order.items s.limits
+
 abbrev pub view_select : Select → SelectTree
-view_select s = select s.quantifier (map view_item s.items.items) (view_table s.from.first) (joins_of (map view_joined s.from.joined.items)) (view_option s.filter) (map view_named_window s.windows.items) (keys_of (map view_key s.order.items)) s.limits
+view_select s = select (view_parts s) (view_table s.from.first) (joins_of (map view_joined s.from.joined.items))
 
 abbrev pub view_query : Query → QueryTree
 view_query q = query (view_select q.select) q.semicolon
