@@ -12,9 +12,8 @@ use Rattle.wd_plan.specs.Plans.{ClassRule, WindowRule}
 use Rattle.wd_plan.specs.Sorting.{IsOrdering}
 use Rattle.wd_frame.specs.Laws.{is_descending}
 use Rattle.wd_partition.specs.Members.{members_of}
-use Rattle.wd_window.specs.declared.error.WindowError.{WindowError}
 use Rattle.wd_window.specs.declared.listing.Listing.{Listing}
-use Rattle.wd_window.specs.Windows.{AreUnserved, IsLeast, IsUnserved, IsWrong}
+use Rattle.wd_window.specs.Windows.{AreUnserved, IsLeast}
 
 -- the partitions of a class under a lawful ordering, row by row
 pub record IsListing (class : ClassRule) (rows : List Row) (ordering : List ℕ) (listing : Listing) : Type 0 where
@@ -27,11 +26,6 @@ pub record IsListed (class : ClassRule) (rows : List Row) (choice : List (List �
   pub present : number < length choice
   pub is : IsListing class rows (ordering_at choice number) listing
 
--- those, or why the ordering with this number does not serve the class
-pub record IsListedOrUnserved (class : ClassRule) (rows : List Row) (choice : List (List ℕ)) (number : ℕ) (r : Result Listing WindowError) : Type 0 where
-  pub ok : IfOk r (λ listing. IsListed class rows choice number listing)
-  pub refused : IfErr r (λ e. IsUnserved (IsWrong class (Ok rows) choice number) e)
-
 -- what is so for each class and each ordering of it that makes these partitions
 abbrev pub WhereListing : List Row → Listing → (ClassRule → List ℕ → Type 0) → Type 0
 WhereListing rows listing Holds = (class : ClassRule) (ordering : List ℕ) → IsListing class rows ordering listing → Holds class ordering
@@ -42,10 +36,10 @@ pub record AreListings (w : WindowRule) (rows : List Row) (choice : List (List �
   pub present : first + n ≤ length choice
   pub each : (k : ℕ) (listing : Listing) → k < n → IsListing (class_at w k) rows (ordering_at choice (first + k)) (slice_index_or listings k listing)
 
--- those of all classes, or why these orderings do not serve the Window
-pub record AreListingsOrUnserved (w : WindowRule) (rows : List Row) (choice : List (List ℕ)) (first : ℕ) (r : Result (Vec Listing Global) WindowError) : Type 0 where
+-- those of all classes, or the place of the first of these orderings that does not serve the Window
+pub record AreListingsOrUnserved (w : WindowRule) (rows : List Row) (choice : List (List ℕ)) (first : ℕ) (r : Result (Vec Listing Global) ℕ) : Type 0 where
   pub ok : IfOk r (λ v. AreListings w rows choice first (length w.classes) v.items)
-  pub refused : IfErr r (λ e. AreUnserved w (Ok rows) choice first e)
+  pub refused : IfErr r (λ place. AreUnserved w (Ok rows) choice first place)
 
 -- the partitions of a Window's classes
 pub record AreListed (w : WindowRule) (rows : List Row) (orderings : List (List ℕ)) (listings : List Listing) : Type 0 where
@@ -97,7 +91,7 @@ pub record IsNotEmptyIn (count : ℕ) (choice : List (List ℕ)) (first place : 
   pub at : place ≡ first + number
   pub wrong : IsEmptyAt choice (first + number) → ⊥
 
--- so many orderings are there and empty, or the number of the first that is not
-pub record AreEmptyOrUnserved {X : Type 0} (count : ℕ) (choice : List (List ℕ)) (first : ℕ) (r : Result X WindowError) : Type 0 where
+-- so many orderings are there and empty, or the place of the first that is not
+pub record AreEmptyOrUnserved {X : Type 0} (count : ℕ) (choice : List (List ℕ)) (first : ℕ) (r : Result X ℕ) : Type 0 where
   pub ok : OnOk r (AreEmpty count choice first)
-  pub refused : IfErr r (λ e. IsUnserved (IsLeast (IsNotEmptyIn count choice first)) e)
+  pub refused : IfErr r (λ place. IsLeast (IsNotEmptyIn count choice first) place)

@@ -2,9 +2,8 @@
 #![tactic(auto)]
 
 mod column;
-mod error;
 mod listing;
 mod window;
 
-pub use error::WindowError;
-pub use window::evaluate_window;
+pub use listing::{Listing, SortedListing, sorted_listing};
+pub use window::{evaluate_window, with_calls};

@@ -11,7 +11,6 @@ ghost use Rattle.wd_value.specs.Rows as table;
 ghost use Rattle.wd_value.specs.Rows.{rows_of};
 
 use crate::column::{Column, call_columns, value_in};
-use crate::error::WindowError;
 use crate::listing::{Listing, listings};
 use std::alloc::Global;
 use wd_plan::{Outcome, Window};
@@ -19,35 +18,38 @@ use wd_steps::with_fault;
 use wd_value::{Fault, OutOfMemory, Row};
 
 /// The input's rows with the values of the calls after each of them, under the choice's orderings
-/// from `first` on: one for each class, each lawful, and empty where the input is a fault. The first
-/// that is not is refused by its number in the choice.
+/// from `first` on: one for each class, each lawful, and empty where the input is a fault. Where one
+/// is not, the number of the first such ordering in the choice.
 pub fn evaluate_window(
     alloc: Global,
     window: &Window,
     input: Outcome,
     choice: &[Vec<u64>],
     first: usize,
-) -> Result<Outcome, WindowError>
+) -> Result<Result<Outcome, u64>, OutOfMemory>
     requires few { AreFew (2 ^ 32 - 1) (outcome_of input) }
     requires within { first ≤ length choice.now }
     requires named { NamesClasses (window_of window.now) }
-    ensures { IsExtendedOrUnserved (window_of window.now) (outcome_of input) (orderings_of choice.now) first result }
+    ensures { IfOk result (λ r. IsExtendedOrUnserved (window_of window.now) (outcome_of input) (orderings_of choice.now) first r) }
 {
     match input {
-        Outcome::Fault(fault) => {
-            all_empty(window.classes.len(), choice, first)?;
-            Ok(Outcome::Fault(fault))
-        }
-        Outcome::Rows(rows) => {
-            let listings = listings(alloc, window, &rows, choice, first)?;
-            let outcome = with_calls(alloc, window, rows, &listings)?;
-            Ok(outcome)
-        }
+        Outcome::Fault(fault) => match all_empty(window.classes.len(), choice, first) {
+            Ok(()) => Ok(Ok(Outcome::Fault(fault))),
+            Err(number) => Ok(Err(number)),
+        },
+        Outcome::Rows(rows) => match listings(alloc, window, &rows, choice, first)? {
+            Ok(listings) => {
+                let outcome = with_calls(alloc, window, rows, &listings)?;
+                Ok(Ok(outcome))
+            }
+            Err(number) => Ok(Err(number)),
+        },
     }
 }
 
-/// The rows with the values of the calls after each of them, or the least fault of the calls.
-fn with_calls(
+/// The rows with the values of the calls after each of them, or the least fault of the calls, under
+/// the orderings that make these partitions of the classes.
+pub fn with_calls(
     alloc: Global,
     window: &Window,
     rows: Vec<Row>,
@@ -148,14 +150,15 @@ fn row_values(
     }
 }
 
-/// Refuses the first of so many orderings from `first` on that is not there or not empty.
-fn all_empty(count: usize, choice: &[Vec<u64>], first: usize) -> Result<(), WindowError>
+/// Refuses the first of so many orderings from `first` on that is not there or not empty, by its
+/// number.
+fn all_empty(count: usize, choice: &[Vec<u64>], first: usize) -> Result<(), u64>
     requires { first ≤ length choice.now }
     ensures { AreEmptyOrUnserved count (orderings_of choice.now) first result }
 {
     for number in 0..count {
         if !is_empty_at(choice, first + number) {
-            return Err(WindowError::NotValid((first + number) as u64));
+            return Err((first + number) as u64);
         }
     }
     Ok(())
