@@ -1,11 +1,10 @@
 -- The partitions of a Window's classes, and the values of its calls.
-use Rattle.std.specs.Prelude.{◌≡◌, ℕ, ◌+◌, ◌<◌, ◌≤◌, true, List, [], ◌∷◌, ◌++◌, length, map, slice_index_or, Result, Ok, Err, IfErr, IfOk, OnOk}
+use Rattle.std.specs.Prelude.{◌≡◌, ℕ, ◌+◌, ◌<◌, ◌≤◌, true, List, [], length, map, slice_index_or, Result, Ok, IfErr, IfOk, OnOk}
 use Rattle.std.specs.declared.alloc.Global.{Global}
 use Rattle.std.specs.declared.vec.Vec.{Vec}
-use Rattle.wd_value.specs.declared.value.Value.{Value}
 use Rattle.wd_value.specs.declared.value.Fault.{Fault}
 use Rattle.wd_value.specs.Bags.{positions}
-use Rattle.wd_value.specs.Rows.{Row, rows_of}
+use Rattle.wd_value.specs.Rows.{Row}
 use Rattle.wd_plan.specs.Faults.{all_ok}
 use Rattle.wd_plan.specs.Outcomes.{RowsOrFault, call_at, class_at, ordering_at}
 use Rattle.wd_plan.specs.Plans.{ClassRule, WindowRule}
@@ -50,16 +49,6 @@ pub record AreListed (w : WindowRule) (rows : List Row) (orderings : List (List 
 abbrev pub WhereListed : WindowRule → List Row → List Listing → (List (List ℕ) → Type 0) → Type 0
 WhereListed w rows listings Holds = (orderings : List (List ℕ)) → AreListed w rows orderings listings → Holds orderings
 
--- a row's values, or a fault
-abbrev pub values_of : Result (Vec Value Global) Fault → Result Row Fault
-values_of (Ok row) = Ok row.items
-values_of (Err fault) = Err fault
-
--- each row's values, or a fault
-abbrev pub rows_or_fault : Result (Vec (Vec Value Global) Global) Fault → RowsOrFault
-rows_or_fault (Ok rows) = Ok (rows_of rows.items)
-rows_or_fault (Err fault) = Err fault
-
 -- the values of the calls at a row, or their least fault
 abbrev pub calls_at : WindowRule → List Row → List (List ℕ) → ℕ → Result Row Fault
 calls_at w rows orderings p = all_ok (map (call_at w rows orderings p) w.calls)
@@ -67,12 +56,6 @@ calls_at w rows orderings p = all_ok (map (call_at w rows orderings p) w.calls)
 -- the values of the calls at each of the first n rows, or the least fault of all
 abbrev pub first_calls : WindowRule → List Row → List (List ℕ) → ℕ → RowsOrFault
 first_calls w rows orderings n = all_ok (map (calls_at w rows orderings) (positions n))
-
--- each row with the values beside it after its own; rows beside which there are none stay
-abbrev pub beside : List Row → List Row → List Row
-beside rows [] = rows
-beside [] (value ∷ values) = []
-beside (row ∷ rows) (value ∷ values) = (row ++ value) ∷ beside rows values
 
 -- the ordering with this number is there and empty
 pub record IsEmptyAt (choice : List (List ℕ)) (number : ℕ) : Type 0 where

@@ -1,6 +1,7 @@
 //! A Window of a plan under the orderings of a choice.
 #![tactic(auto)]
 
+mod appending;
 mod column;
 mod listing;
 mod window;
