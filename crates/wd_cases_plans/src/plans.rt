@@ -15,18 +15,17 @@ use wd_cases_notation::{Line, State, Word};
 use wd_eval::{EvalError, check_choice, eval_with, first_choice, run_plan, tied_choice};
 use wd_plan::{Choice, Outcome, Plan, Window};
 use wd_schema::Schema;
-use wd_value::{Instance, Row};
-use wd_window::{WindowError, evaluate_window};
+use wd_value::{Instance, OutOfMemory, Row};
+use wd_window::evaluate_window;
 
 /// `evaluate_window(FIRST) CLASSES CALLS : ORDERINGS`: the rows with the calls' values, under the
 /// orderings from that number on; over a fault with `evaluate_window(FIRST,FAULT)`.
 pub fn window(alloc: Global, state: &State, word: Word, out: &mut String) -> Result<(), Failure> {
     let first = word.number(0).ok_or(Failure::NoCase)? as usize;
     let input = input_of(alloc, state.rows(), word.argument(1))?;
-    match evaluated(alloc, state, input, first) {
+    match evaluated(alloc, state, input, first)? {
         Ok(outcome) => push_outcome(out, &outcome),
-        Err(WindowError::NotValid(place)) => push_not_valid(out, place),
-        Err(WindowError::OutOfMemory) => Err(Failure::OUT_OF_MEMORY),
+        Err(place) => push_not_valid(out, place),
     }
 }
 
@@ -47,12 +46,12 @@ fn evaluated(
     state: &State,
     input: Outcome,
     first: usize,
-) -> Result<Outcome, WindowError> {
+) -> Result<Result<Outcome, u64>, OutOfMemory> {
     let (window, choice) = (&state.stacks.window, &state.choice.orderings);
     if names_classes(window) && is_few(&input) && first <= choice.len() {
         evaluate_window(alloc, window, input, choice, first)
     } else {
-        Err(WindowError::OutOfMemory)
+        Err(OutOfMemory)
     }
 }
 

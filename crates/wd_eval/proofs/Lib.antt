@@ -6,3 +6,4 @@ pub mod Tying
 pub mod Putting
 pub mod SomeSort
 pub mod SomeTied
+pub mod Walks

@@ -14,11 +14,7 @@ use Rattle.wd_steps.specs.Joins.{has_more_rows}
 use Rattle.wd_eval.specs.Steps.{has_large_step, is_large, most_rows}
 use Rattle.wd_eval.specs.Nodes.{produced_of, IsEvaluated, IsStopped, IsSmall, IsLarge, join_over, cut_over, IsCut, IsUnserved}
 use Rattle.wd_eval.specs.Wrong.{IsWrongFrom}
-use Rattle.wd_window.specs.Windows as window
 use Rattle.wd_window.specs.Windows.{IsExtended, IsLeast, IsWrong, IsWrongIn, window_over}
-use Rattle.wd_window.specs.declared.error.WindowError.{WindowError}
-use Rattle.wd_window.specs.declared.error.WindowError.TheVariants as error
-use Rattle.wd_eval.specs.Errors.{window_error_of}
 use Rattle.wd_eval.specs.declared.error.EvalError.{EvalError}
 use Rattle.wd_eval.specs.declared.error.EvalError.TheVariants.{NotValid, TooManyRows, OutOfMemory}
 use Rattle.wd_eval.specs.declared.produced.Produced.{Produced}
@@ -275,8 +271,3 @@ module _ (instance : Instance) (choice : List (List ℕ)) (first : ℕ) (conditi
       join_stopped (NotValid p) h = absurd h
       join_stopped TooManyRows h = or_right (has_large_step left instance all || has_large_step right instance on_right) (is_large (Join condition left right) instance all) (ap (has_more_rows most_rows) (sym below_is) ∙ h)
       join_stopped OutOfMemory h = tt
-
--- a Window's error where its orderings do not serve, as an error of the plan
-pub unserved_from : (IsPlace : ℕ → Type 0) (e : WindowError) → window.IsUnserved IsPlace e → IsUnserved IsPlace (window_error_of e)
-unserved_from IsPlace (error.NotValid place) h = h
-unserved_from IsPlace error.OutOfMemory h = h

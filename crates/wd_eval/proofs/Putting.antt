@@ -1,37 +1,26 @@
 -- Sorted orderings put after those that are there serve a Window, or a Limit, over its input.
-use Rattle.std.proofs.Common.{◌≡◌, ℕ, ◌+◌, ◌<◌, Bool, List, [], ◌∷◌, ◌++◌, take, drop, length, get_or, Option, Result, Ok, Err, refl, sym, ap, ◌∙◌, subst, arith, append_assoc, below_more, length-append}
+use Rattle.std.proofs.Common.{◌≡◌, ℕ, ◌+◌, ◌<◌, Bool, List, [], ◌∷◌, ◌++◌, take, drop, length, get_or, Option, Ok, Err, refl, sym, ap, ◌∙◌, subst, arith, append_assoc, below_more, length-append}
 use Rattle.std.specs.List.{AllByRecursion}
 use Rattle.std.proofs.Math.Seq.{drop-append_seam, get_or-append_seam}
 use Rattle.std.proofs.lemmas.List.{append-nil, get_or-map, get_or_append_left, take_all}
-use Rattle.std.specs.declared.alloc.Global.{Global}
-use Rattle.std.specs.declared.vec.Vec.{Vec}
 use Rattle.wd_plan.specs.declared.plan.Outcome.{Outcome}
+use Rattle.wd_plan.specs.declared.plan.Outcome.TheVariants as outcomes
+use Rattle.wd_value.specs.declared.value.Fault.{Fault}
+use Rattle.wd_value.specs.Rows.{Row}
 use Rattle.wd_plan.specs.declared.window.Class.{Class}
 use Rattle.wd_plan.specs.declared.window.Window.{Window}
 use Rattle.wd_plan.specs.Choices.{AtRows, AreOrderings}
-use Rattle.wd_plan.specs.Outcomes.{RowsOrFault, class_at, ordering_at}
+use Rattle.wd_plan.specs.Outcomes.{RowsOrFault, class_at, ordering_at, outcome_of}
 use Rattle.wd_plan.specs.Plans.{ClassRule, LimitRule, WindowRule, class_of, window_of}
 use Rattle.wd_plan.specs.Sorting.{IsOrdering, limit_class}
 use Rattle.wd_partition.proofs.Grouping.{IsOrdering-from_given}
-use Rattle.wd_eval.specs.Nodes.{IsCut, IsCutOrUnserved, IsExtendedOrUnserved, IsUnserved}
-use Rattle.wd_window.specs.Windows.{HasOrdering, IsExtended, IsLeast, IsWindowServed, IsWrong, IsWrongIn, orderings_of}
+use Rattle.wd_eval.specs.Nodes.{IsCut, cut_over}
+use Rattle.wd_window.specs.Windows.{HasOrdering, IsWindowServed}
+use Rattle.wd_window.specs.Listings.{AreListings, IsListing}
+use Rattle.wd_window.specs.declared.listing.Listing.{Listing}
 use Rattle.wd_eval.specs.Tied.{IsSortedOver, is_flipped}
-use Rattle.wd_eval.specs.Ties.{ArePut, AreSortedOver, IsTiedLimit, IsTiedLimitOrNoMemory, IsTiedWindow, IsTiedWindowOrNoMemory, IsOutOfMemory}
-use Rattle.wd_eval.specs.declared.error.EvalError.{EvalError}
-use Rattle.wd_eval.specs.declared.error.EvalError.TheVariants.{NotValid, TooManyRows, OutOfMemory}
-use Rattle.wd_window.proofs.Serving.{all_from_each, class_served}
-
--- where the orderings serve, only memory can be wanting
-served_memory : (IsPlace : ℕ → Type 0) (e : EvalError) → ((place : ℕ) → IsPlace place → ⊥) → IsUnserved IsPlace e → IsOutOfMemory e
-served_memory IsPlace (NotValid p) none h = none p h
-served_memory IsPlace TooManyRows none h = h
-served_memory IsPlace OutOfMemory none h = tt
-
-limit_memory : (class : ClassRule) (input : RowsOrFault) (choice : List (List ℕ)) (number : ℕ) (e : EvalError) → HasOrdering class input choice number → IsUnserved (IsWrong class input choice number) e → IsOutOfMemory e
-limit_memory class input choice number e s = served_memory (IsWrong class input choice number) e (λ place h. h.1 s)
-
-window_memory : (w : WindowRule) (input : RowsOrFault) (choice : List (List ℕ)) (first : ℕ) (e : EvalError) → IsWindowServed w input choice first → IsUnserved (IsLeast (IsWrongIn w input choice first)) e → IsOutOfMemory e
-window_memory w input choice first e s = served_memory (IsLeast (IsWrongIn w input choice first)) e (λ place h. h.0.wrong.1 (class_served w input choice first h.0.number s h.0.within))
+use Rattle.wd_eval.specs.Ties.{ArePut, AreSortedOver, IsPutEmpty, IsTiedLimit, IsTiedWindow}
+use Rattle.wd_window.proofs.Serving.{all_from_each, listings_more}
 
 lawful_over : (class : ClassRule) (flipped : Bool) (input : RowsOrFault) (ordering : List ℕ) → IsSortedOver class flipped input ordering → AtRows input (λ rows. IsOrdering class rows ordering) (ordering ≡ [])
 lawful_over class flipped (Ok rows) ordering s = IsOrdering-from_given class rows flipped ordering s
@@ -51,19 +40,13 @@ module _ (limit : LimitRule) (input : RowsOrFault) (flipped : Option ℕ) (old n
         lawful = subst (λ (o : List ℕ). AtRows input (λ rows. IsOrdering (limit_class limit) rows o) (o ≡ [])) (sym own_is) (lawful_over (limit_class limit) turned input own sorted);
       }
 
-  pub limit_tied_from : (o : Outcome) → turned ≡ is_flipped flipped number → IsCut limit input new number o → IsTiedLimit limit input flipped old new o
+  pub limit_tied_from : (o : Outcome) → turned ≡ is_flipped flipped number → outcome_of o ≡ cut_over limit own input → IsTiedLimit limit input flipped old new o
   limit_tied_from o e is = record {
     own = own;
     grown = grown;
     sorted = subst (λ (t : Bool). IsSortedOver (limit_class limit) t input own) (e ∙ ap (is_flipped flipped) at) sorted;
-    is = subst (λ (n : ℕ). IsCut limit input new n o) at is;
+    is = subst (λ (n : ℕ). IsCut limit input new n o) at (record { served = limit_put; is = is ∙ ap (λ ordering. cut_over limit ordering input) (sym own_is) });
   }
-
--- the sorted ordering serves, so that there is an outcome or no memory
-pub limit_or_no_memory : (limit : LimitRule) (input : RowsOrFault) (flipped : Option ℕ) (old new : List (Vec ℕ Global)) (choice : List (List ℕ)) (number : ℕ) (r : Result Outcome EvalError) → HasOrdering (limit_class limit) input choice number
-    → ((o : Outcome) → IsCut limit input choice number o → IsTiedLimit limit input flipped (orderings_of old) (orderings_of new) o) → IsCutOrUnserved limit input choice number r → IsTiedLimitOrNoMemory limit input flipped old new r
-limit_or_no_memory limit input flipped old new choice number (Ok o) served then h = record { ok = then o h.ok; refused = tt }
-limit_or_no_memory limit input flipped old new choice number (Err e) served then h = record { ok = tt; refused = limit_memory (limit_class limit) input choice number e served h.refused }
 
 -- ---- a Window
 
@@ -85,10 +68,37 @@ window_put w input flipped old new p =
       lawful = subst (λ (os : List (List ℕ)). AtRows input (λ rows. AreOrderings w rows os) (AllByRecursion (λ o. o ≡ []) os)) (sym taken) (lawful_all w input flipped (length old) own p.sorted);
     }
 
-pub window_or_no_memory : (w : WindowRule) (input : RowsOrFault) (flipped : Option ℕ) (old new : List (Vec ℕ Global)) (choice : List (List ℕ)) (first : ℕ) (r : Result Outcome EvalError) → IsWindowServed w input choice first
-    → ((o : Outcome) → IsExtended w input choice first o → IsTiedWindow w input flipped (orderings_of old) (orderings_of new) o) → IsExtendedOrUnserved w input choice first r → IsTiedWindowOrNoMemory w input flipped old new r
-window_or_no_memory w input flipped old new choice first (Ok o) served then h = record { ok = then o h.ok; refused = tt }
-window_or_no_memory w input flipped old new choice first (Err e) served then h = record { ok = tt; refused = window_memory w input choice first e served h.refused }
+-- ---- a Window over a fault
+
+pub empty_put : (w : WindowRule) (fault : Fault) (flipped : Option ℕ) (count : ℕ) (old new : List (List ℕ)) → count ≡ length w.classes → IsPutEmpty count old new → ArePut w (Err fault) flipped (length w.classes) old new
+empty_put w fault flipped count old new e p = record {
+  own = p.own;
+  grown = p.grown;
+  sorted = record { long = p.long ∙ e; each = λ k h. p.empty k (omega arith) };
+}
+
+pub fault_tied : (w : WindowRule) (fault : Fault) (flipped : Option ℕ) (count : ℕ) (old new : List (List ℕ)) → count ≡ length w.classes → IsPutEmpty count old new → IsTiedWindow w (Err fault) flipped old new (outcomes.Fault fault)
+fault_tied w fault flipped count old new e p =
+    let put = empty_put w fault flipped count old new e p in
+    record { put = put; extended = record { served = window_put w (Err fault) flipped old new put; is = refl } }
+
+pub none_empty : (old : List (List ℕ)) → IsPutEmpty 0 old old
+none_empty old = record { own = []; grown = sym (append-nil old); long = refl; empty = λ k h. absurd (omega arith) }
+
+pub one_empty : (count : ℕ) (old mid new : List (List ℕ)) → IsPutEmpty count old mid → new ≡ mid ++ [] ∷ [] → IsPutEmpty (count + 1) old new
+one_empty count old mid new p e =
+    let own = p.own in
+    let all = own ++ [] ∷ [] in
+    let size = p.long in
+    let long = length-append own ([] ∷ []) in
+    let here : ordering_at all count ≡ [] = ap (ordering_at all) (sym size) ∙ get_or-append_seam own [] [] [] in
+    let earlier : (k : ℕ) → k < count → ordering_at all k ≡ [] = λ k h. get_or_append_left own ([] ∷ []) [] k (omega arith) ∙ p.empty k h in
+    record {
+      own = all;
+      grown = e ∙ ap (λ ch. ch ++ [] ∷ []) p.grown ∙ append_assoc old own ([] ∷ []);
+      long = long ∙ ap (λ k. k + 1) size;
+      empty = λ k h. below_more (λ i. ordering_at all i ≡ []) count earlier here k h;
+    }
 
 -- ---- one class after another
 
@@ -124,3 +134,28 @@ one_put window class input flipped n number old mid new turned ordering lt is p 
         each = λ k h. below_more (λ i. IsSortedOver (class_at w i) (is_flipped flipped (length old + i)) input (ordering_at all i)) n earlier here k h;
       };
     }
+
+-- ---- the partitions under them
+
+listings_grown : (w : WindowRule) (rows : List Row) (choice more : List (List ℕ)) (first n : ℕ) (ls : List Listing) → AreListings w rows choice first n ls → AreListings w rows (choice ++ more) first n ls
+listings_grown w rows choice more first n ls a =
+    let there = a.present in
+    let long = length-append choice more in
+    record {
+      long = a.long;
+      present = omega arith;
+      each = λ k l h. subst (λ (o : List ℕ). IsListing (class_at w k) rows o (get_or ls k l)) (sym (get_or_append_left choice more [] (first + k) (omega arith))) (a.each k l h);
+    }
+
+pub none_listed : (w : WindowRule) (rows : List Row) (old : List (List ℕ)) → AreListings w rows old (length old) 0 []
+none_listed w rows old = record { long = refl; present = omega arith; each = λ k l h. absurd (omega arith) }
+
+-- those of one class more
+pub one_listed : (window : Window) (class : Class) (rows : List Row) (first n : ℕ) (mid new : List (List ℕ)) (ordering : List ℕ) (ls more : List Listing) (l : Listing) → n < length window.classes.items → class ≡ get_or window.classes.items n class
+    → first + n ≡ length mid → new ≡ mid ++ ordering ∷ [] → AreListings (window_of window) rows mid first n ls → IsListing (class_of class) rows ordering l → more ≡ ls ++ l ∷ [] → AreListings (window_of window) rows new first (n + 1) more
+one_listed window class rows first n mid new ordering ls more l lt is at e a b f =
+    let w = window_of window in
+    let grown : AreListings w rows new first n ls = subst (λ (ch : List (List ℕ)). AreListings w rows ch first n ls) (sym e) (listings_grown w rows mid (ordering ∷ []) first n ls a) in
+    let long = ap length e ∙ length-append mid (ordering ∷ []) in
+    let here : ordering_at new (first + n) ≡ ordering = ap (ordering_at new) at ∙ ap (λ ch. ordering_at ch (length mid)) e ∙ get_or-append_seam mid ordering [] [] in
+    listings_more window class rows new first n ls more l lt is grown (record { present = omega arith; is = subst (λ (o : List ℕ). IsListing (class_of class) rows o l) (sym here) b }) f

@@ -2,8 +2,6 @@
 use Rattle.std.specs.Prelude.{ℕ, Option, Some, None}
 use Rattle.wd_steps.specs.declared.join.JoinError.{JoinError}
 use Rattle.wd_steps.specs.declared.join.JoinError.TheVariants as join
-use Rattle.wd_window.specs.declared.error.WindowError.{WindowError}
-use Rattle.wd_window.specs.declared.error.WindowError.TheVariants as window
 use Rattle.wd_eval.specs.declared.error.EvalError.{EvalError}
 use Rattle.wd_eval.specs.declared.error.EvalError.TheVariants.{NotValid, TooManyRows, OutOfMemory}
 
@@ -21,8 +19,3 @@ place_of OutOfMemory = None
 abbrev pub error_of : JoinError → EvalError
 error_of join.TooManyRows = TooManyRows
 error_of join.OutOfMemory = OutOfMemory
-
--- and a Window's error
-abbrev pub window_error_of : WindowError → EvalError
-window_error_of (window.NotValid ordering) = NotValid ordering
-window_error_of window.OutOfMemory = OutOfMemory

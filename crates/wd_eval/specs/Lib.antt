@@ -5,5 +5,6 @@ pub mod Judged
 pub mod Nodes
 pub mod Tied
 pub mod Ties
+pub mod Walks
 pub mod Runs
 pub mod Laws

@@ -64,11 +64,6 @@ IsStopped plan instance choice first (NotValid place) = IsLeast (IsWrongFrom pla
 IsStopped plan instance choice first TooManyRows = has_large_step plan instance (drop first choice) ≡ true
 IsStopped plan instance choice first OutOfMemory = ⊤
 
--- that outcome, or why there is none
-pub record IsEvaluatedOrStopped (plan : PlanTree) (instance : Instance) (choice : List (List ℕ)) (first : ℕ) (r : Result Evaluated EvalError) : Type 0 where
-  pub ok : IfOk r (λ e. IsEvaluated plan instance choice first e)
-  pub refused : IfErr r (λ e. IsStopped plan instance choice first e)
-
 -- ---- steps over the outcomes below them
 
 -- an outcome of not too many rows, or the error that it has too many

@@ -49,10 +49,14 @@ pub record IsTied (plan : PlanTree) (instance : Instance) (flipped : Option ℕ)
   pub evaluated : IsEvaluated plan instance new (length old) (record { outcome = o; next = length new })
   pub tied : AreTied plan instance flipped (length old) (drop (length old) new)
 
--- out of memory, or a step of too many rows under all sorted orderings
+-- some step is too large under all sorted orderings
+abbrev pub IsTiedTooLargeFrom : PlanTree → Instance → Option ℕ → ℕ → Type 0
+IsTiedTooLargeFrom plan instance flipped first = (choice : List (List ℕ)) → ordering_count plan ≤ length choice → AreTied plan instance flipped first choice → has_large_step plan instance choice ≡ true
+
+-- out of memory, or such a step
 abbrev pub IsUntied : PlanTree → Instance → Option ℕ → ℕ → EvalError → Type 0
 IsUntied plan instance flipped first (NotValid place) = ⊥
-IsUntied plan instance flipped first TooManyRows = (choice : List (List ℕ)) → ordering_count plan ≤ length choice → AreTied plan instance flipped first choice → has_large_step plan instance choice ≡ true
+IsUntied plan instance flipped first TooManyRows = IsTiedTooLargeFrom plan instance flipped first
 IsUntied plan instance flipped first OutOfMemory = ⊤
 
 -- out of memory alone
@@ -61,10 +65,12 @@ IsOutOfMemory (NotValid place) = ⊥
 IsOutOfMemory TooManyRows = ⊥
 IsOutOfMemory OutOfMemory = ⊤
 
--- the plan's outcome under its sorted orderings, or why there is none
-pub record IsTiedOrUntied (plan : PlanTree) (instance : Instance) (flipped : Option ℕ) (old new : List (Vec ℕ Global)) (r : Result Produced EvalError) : Type 0 where
-  pub ok : IfOk r (λ o. IsTied plan instance flipped (orderings_of old) (orderings_of new) o)
-  pub refused : IfErr r (λ e. IsUntied plan instance flipped (length (orderings_of old)) e)
+-- so many empty orderings were put there
+pub record IsPutEmpty (count : ℕ) (old new : List (List ℕ)) : Type 0 where
+  pub own : List (List ℕ)
+  pub grown : new ≡ old ++ own
+  pub long : length own ≡ count
+  pub empty : (k : ℕ) → k < count → ordering_at own k ≡ []
 
 -- a Window's outcome under its sorted orderings, or out of memory
 pub record IsTiedWindowOrNoMemory (w : WindowRule) (input : RowsOrFault) (flipped : Option ℕ) (old new : List (Vec ℕ Global)) (r : Result Outcome EvalError) : Type 0 where

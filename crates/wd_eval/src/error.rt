@@ -1,14 +1,13 @@
 //! Why a plan has no outcome.
 
 ghost use Rattle.std.specs.Prelude.{◌≡◌};
-ghost use Rattle.wd_eval.specs.Errors.{error_of, number_of, place_of, window_error_of};
+ghost use Rattle.wd_eval.specs.Errors.{error_of, number_of, place_of};
 ghost use Rattle.wd_eval.specs.declared.error.EvalError.TheVariants as error;
 
 use std::alloc::{AllocError, AllocFailed};
 use thiserror::Error;
 use wd_steps::JoinError;
 use wd_value::OutOfMemory;
-use wd_window::WindowError;
 
 /// Why a plan has no outcome under a choice.
 #[derive(Clone, Copy, PartialEq, Eq, Debug, Error)]
@@ -62,17 +61,6 @@ impl From<JoinError> for EvalError {
         match error {
             JoinError::TooManyRows => EvalError::TooManyRows,
             JoinError::OutOfMemory => EvalError::OutOfMemory,
-        }
-    }
-}
-
-impl From<WindowError> for EvalError {
-    ghost from_gives = { λ w e. e ≡ window_error_of w };
-
-    fn from(error: WindowError) -> EvalError {
-        match error {
-            WindowError::NotValid(ordering) => EvalError::NotValid(ordering),
-            WindowError::OutOfMemory => EvalError::OutOfMemory,
         }
     }
 }

@@ -12,8 +12,8 @@ ghost use Rattle.wd_value.specs.Rows.{instance_of};
 
 use crate::error::EvalError;
 use crate::node::evaluate;
+use crate::orderings::Orderings;
 use crate::produced::outcome_from;
-use crate::tie::tied;
 use std::alloc::Global;
 use wd_plan::{Choice, Outcome, Plan};
 use wd_schema::Schema;
@@ -33,7 +33,9 @@ pub fn eval_with(
     requires { fits (schema_of schema.now) (plan_of plan.now) ≡ true }
     ensures { IsOutcomeOrRefused (plan_of plan.now) (instance_of instance.now.items) (orderings_of choice.now.orderings.items) result }
 {
-    let evaluated = evaluate(alloc, plan, instance, &choice.orderings, 0)?;
+    let mut made = Vec::new(alloc);
+    let chosen = Orderings::Chosen(&choice.orderings);
+    let evaluated = evaluate(alloc, plan, instance, chosen, 0, &mut made)?;
     if evaluated.next < choice.orderings.len() {
         return Err(EvalError::NotValid(evaluated.next as u64));
     }
@@ -73,7 +75,8 @@ pub fn tied_choice(
     ensures { IsTiedOrRefused (plan_of plan.now) (instance_of instance.now.items) flipped result }
 {
     let mut orderings = Vec::new(alloc);
-    tied(alloc, plan, instance, flipped, &mut orderings)?;
+    let sorted = Orderings::Sorted(flipped);
+    evaluate(alloc, plan, instance, sorted, 0, &mut orderings)?;
     Ok(Choice { orderings })
 }
 
@@ -109,8 +112,9 @@ pub fn eval_tied(
     ensures { IsTiedOutcomeOrRefused (plan_of plan.now) (instance_of instance.now.items) flipped result }
 {
     let mut orderings = Vec::new(alloc);
-    let given = tied(alloc, plan, instance, flipped, &mut orderings)?;
-    let outcome = outcome_from(alloc, instance, given)?;
+    let sorted = Orderings::Sorted(flipped);
+    let evaluated = evaluate(alloc, plan, instance, sorted, 0, &mut orderings)?;
+    let outcome = outcome_from(alloc, instance, evaluated.outcome)?;
     let choice = Choice { orderings };
     Ok(TiedOutcome { choice, outcome })
 }

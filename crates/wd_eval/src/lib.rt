@@ -6,9 +6,10 @@ mod error;
 mod eval;
 pub mod laws;
 mod node;
+mod orderings;
 mod produced;
 mod step;
-mod tie;
+mod window;
 
 pub use error::EvalError;
 pub use eval::{

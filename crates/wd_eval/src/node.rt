@@ -1,15 +1,15 @@
-//! A plan under given orderings, node by node.
+//! A plan under the orderings of its nodes, node by node.
 
-ghost use Rattle.std.specs.Prelude.{◌≤◌, length};
-ghost use Rattle.wd_window.specs.Windows.{orderings_of};
-ghost use Rattle.wd_eval.specs.Nodes.{IsEvaluatedOrStopped};
+ghost use Rattle.wd_eval.specs.Walks.{IsAt, IsWalkedOrHalted};
 ghost use Rattle.wd_plan.specs.Plans.{EachNamesClasses, plan_of};
 ghost use Rattle.wd_value.specs.Rows.{instance_of};
 
 use crate::cut::limited;
 use crate::error::EvalError;
+use crate::orderings::Orderings;
 use crate::produced::Produced;
-use crate::step::{distinct, extended, filtered, joined, mapped, scanned};
+use crate::step::{distinct, filtered, joined, mapped, scanned};
+use crate::window::extended;
 use std::alloc::Global;
 use wd_plan::Plan;
 use wd_value::Row;
@@ -22,17 +22,19 @@ pub(crate) struct Evaluated {
 }
 
 /// The plan's outcome under the orderings from `first` on, which are those of its nodes in
-/// postorder. A node's orderings are judged before the number of its rows.
+/// postorder. Those of a choice are judged, a node's before the number of its rows; sorted ones are
+/// put after those that were made before, of which there are `first`.
 pub(crate) fn evaluate(
     alloc: Global,
     plan: &Plan,
     instance: &[Vec<Row>],
-    choice: &[Vec<u64>],
+    orderings: Orderings,
     first: usize,
+    made: &mut Vec<Vec<u64>>,
 ) -> Result<Evaluated, EvalError>
-    requires within { first ≤ length choice.now }
+    requires at { IsAt orderings first made.old.items }
     requires named { EachNamesClasses (plan_of plan.now) }
-    ensures { IsEvaluatedOrStopped (plan_of plan.now) (instance_of instance.now) (orderings_of choice.now) first result }
+    ensures { IsWalkedOrHalted (plan_of plan.now) (instance_of instance.now) orderings.entry first made.old.items made.new.items result }
 {
     match plan {
         Plan::Scan { table, .. } => {
@@ -47,8 +49,8 @@ pub(crate) fn evaluate(
             right,
             condition,
         } => {
-            let left = evaluate(alloc, left, instance, choice, first)?;
-            let right = evaluate(alloc, right, instance, choice, left.next)?;
+            let left = evaluate(alloc, left, instance, orderings, first, made)?;
+            let right = evaluate(alloc, right, instance, orderings, left.next, made)?;
             let outcome = joined(alloc, instance, condition, left.outcome, right.outcome)?;
             Ok(Evaluated {
                 outcome,
@@ -56,7 +58,7 @@ pub(crate) fn evaluate(
             })
         }
         Plan::Filter { input, condition } => {
-            let below = evaluate(alloc, input, instance, choice, first)?;
+            let below = evaluate(alloc, input, instance, orderings, first, made)?;
             let outcome = filtered(alloc, instance, condition, below.outcome)?;
             Ok(Evaluated {
                 outcome: Produced::Made(outcome),
@@ -64,7 +66,7 @@ pub(crate) fn evaluate(
             })
         }
         Plan::Map { input, outputs } => {
-            let below = evaluate(alloc, input, instance, choice, first)?;
+            let below = evaluate(alloc, input, instance, orderings, first, made)?;
             let outcome = mapped(alloc, instance, outputs, below.outcome)?;
             Ok(Evaluated {
                 outcome: Produced::Made(outcome),
@@ -72,15 +74,16 @@ pub(crate) fn evaluate(
             })
         }
         Plan::Window { input, window } => {
-            let below = evaluate(alloc, input, instance, choice, first)?;
-            let outcome = extended(alloc, instance, window, below.outcome, choice, below.next)?;
+            let below = evaluate(alloc, input, instance, orderings, first, made)?;
+            let Evaluated { outcome, next } = below;
+            let outcome = extended(alloc, instance, window, outcome, orderings, next, made)?;
             Ok(Evaluated {
                 outcome: Produced::Made(outcome),
-                next: below.next + window.classes.len(),
+                next: next + window.classes.len(),
             })
         }
         Plan::Distinct { input } => {
-            let below = evaluate(alloc, input, instance, choice, first)?;
+            let below = evaluate(alloc, input, instance, orderings, first, made)?;
             let outcome = distinct(alloc, instance, below.outcome)?;
             Ok(Evaluated {
                 outcome: Produced::Made(outcome),
@@ -88,11 +91,12 @@ pub(crate) fn evaluate(
             })
         }
         Plan::Limit { input, limit } => {
-            let below = evaluate(alloc, input, instance, choice, first)?;
-            let outcome = limited(alloc, instance, limit, below.outcome, choice, below.next)?;
+            let below = evaluate(alloc, input, instance, orderings, first, made)?;
+            let Evaluated { outcome, next } = below;
+            let outcome = limited(alloc, instance, limit, outcome, orderings, next, made)?;
             Ok(Evaluated {
                 outcome: Produced::Made(outcome),
-                next: below.next + 1,
+                next: next + 1,
             })
         }
     }

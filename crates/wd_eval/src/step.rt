@@ -1,26 +1,23 @@
-//! Each step of a plan over the outcomes below it, but for a Limit.
+//! Each step of a plan over the outcomes below it, but for a Window and a Limit.
 
-ghost use Rattle.std.specs.Prelude.{◌≡◌, ◌-◌, ◌^◌, ◌≤◌, IfOk, length, map, None, Ok, Some};
-ghost use Rattle.wd_eval.specs.Nodes.{IsExtendedOrUnserved, IsSmallOrLarge, given_of, join_over, joined_of, produced_of};
+ghost use Rattle.std.specs.Prelude.{◌≡◌, IfOk, map, None, Ok, Some};
+ghost use Rattle.wd_eval.specs.Nodes.{IsSmallOrLarge, given_of, join_over, joined_of, produced_of};
 ghost use Rattle.wd_eval.specs.Steps.{most_rows};
 ghost use Rattle.wd_plan.specs.Expressions.{expression_of};
 ghost use Rattle.wd_plan.specs.Faults.{and_then};
 ghost use Rattle.wd_plan.specs.Outcomes as spec;
 ghost use Rattle.wd_plan.specs.Outcomes.{outcome_of};
-ghost use Rattle.wd_plan.specs.Plans.{NamesClasses, window_of};
 ghost use Rattle.wd_steps.specs.Joins.{has_more_rows};
 ghost use Rattle.wd_value.specs.Rows.{instance_of, table_at};
-ghost use Rattle.wd_window.specs.Windows.{AreFew, orderings_of};
 
 use crate::error::EvalError;
-use crate::produced::{Given, Produced, gathered, outcome_from, owned, shown, table_in};
+use crate::produced::{Given, Produced, gathered, outcome_from, shown, table_in};
 use std::alloc::Global;
-use wd_plan::{Expr, Outcome, Window};
+use wd_plan::{Expr, Outcome};
 use wd_steps::{
     copy_filtered, distinct_rows, filter_pairs, filter_rows, has_more_pairs, join_rows, map_rows,
 };
 use wd_value::{OutOfMemory, Row};
-use wd_window::evaluate_window;
 
 /// The largest number of rows of a step.
 const MOST_ROWS: u64 = 10_000_000;
@@ -148,44 +145,6 @@ pub(crate) fn mapped(
         Ok(rows) => map_rows(alloc, outputs, rows),
         Err(fault) => Ok(Outcome::Fault(fault)),
     }
-}
-
-/// The input's rows with the values of the calls after each of them, under the choice's orderings
-/// from `first` on: one for each class, each lawful, and empty where the input is a fault.
-pub(crate) fn extended(
-    alloc: Global,
-    instance: &[Vec<Row>],
-    window: &Window,
-    input: Produced,
-    choice: &[Vec<u64>],
-    first: usize,
-) -> Result<Outcome, EvalError>
-    requires few { AreFew (2 ^ 32 - 1) (produced_of (instance_of instance.now) input) }
-    requires within { first ≤ length choice.now }
-    requires named { NamesClasses (window_of window.now) }
-    ensures { IsExtendedOrUnserved (window_of window.now) (produced_of (instance_of instance.now) input) (orderings_of choice.now) first result }
-{
-    let input = gathered(alloc, instance, input)?;
-    extended_over(alloc, instance, window, input, choice, first)
-}
-
-/// The same over an input whose pairs are made.
-pub(crate) fn extended_over(
-    alloc: Global,
-    instance: &[Vec<Row>],
-    window: &Window,
-    input: Given,
-    choice: &[Vec<u64>],
-    first: usize,
-) -> Result<Outcome, EvalError>
-    requires few { AreFew (2 ^ 32 - 1) (given_of (instance_of instance.now) input) }
-    requires within { first ≤ length choice.now }
-    requires named { NamesClasses (window_of window.now) }
-    ensures { IsExtendedOrUnserved (window_of window.now) (given_of (instance_of instance.now) input) (orderings_of choice.now) first result }
-{
-    let input = owned(alloc, instance, input)?;
-    let outcome = evaluate_window(alloc, window, input, choice, first)?;
-    Ok(outcome)
 }
 
 /// The first of the input's rows that are not distinct.

@@ -40,6 +40,11 @@ module _ (R K : ℕ → ℕ → Ordering) (list : List ℕ) where
 
 -- ---- the keys are in order where each place has a step
 
+firsts_by : (o p : Ordering) → is_lt (ordering_then o p) ≡ false → is_lt o ≡ false
+firsts_by Less p h = h
+firsts_by Equal p h = refl
+firsts_by Greater p h = refl
+
 rises_by : (o p q : Ordering) → q ≡ ordering_reverse (ordering_then o p) → is_lt (ordering_reverse o) ≡ false → (step : Step) → step_by o p ≡ Some step → is_lt q ≡ false
 rises_by Less p q e low step h = ap is_lt e
 rises_by Equal Less q e low step h = ap is_lt e
@@ -90,3 +95,10 @@ module _ (firsts others : List SortColumn) (rows : List Row) (list : List ℕ) w
       let rises : is_lt (by_all q p) ≡ false = ap (λ j. is_lt (by_all (get_or list j 0) p)) e ∙ sorted k 0 (omega arith) (omega arith) in
       let no : true ≡ false = sym falls ∙ rises in
       cc
+
+  -- what is sorted by all columns is sorted by the first ones
+  pub sorted_by_firsts : IsSorted by_all list → IsSorted by_firsts list
+  sorted_by_firsts sorted = λ k d low high. (
+      let p = get_or list k d in
+      let q = get_or list (k + 1) d in
+      firsts_by (by_firsts q p) (by_others q p) (ap is_lt (sym (compare_keys-append firsts others (row_at rows q) (row_at rows p))) ∙ sorted k d low high))

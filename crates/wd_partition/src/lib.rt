@@ -14,7 +14,7 @@ mod placing;
 mod runs;
 mod steps;
 
-pub use listing::partitions;
+pub use listing::{SortedPartitions, partitions, sorted_partitions};
 pub use member::Member;
 pub use members::Partitions;
 pub use ordering::{is_ordering, sorted_ordering};

@@ -1,13 +1,15 @@
-//! The partitions of a given ordering.
+//! The partitions of a given ordering, and of the sorted one.
 
 ghost use Rattle.std.specs.Prelude.{◌^◌, ◌<◌, IfOk, MatchOption, length};
+ghost use Rattle.wd_partition.specs.Columns as columns;
 ghost use Rattle.wd_partition.specs.Columns.{class_by};
 ghost use Rattle.wd_partition.specs.Members.{ArePartitions};
 ghost use Rattle.wd_plan.specs.Sorting.{IsOrdering};
+ghost use Rattle.wd_sort.specs.Sorting.{IsStableSortOf};
 ghost use Rattle.wd_value.specs.Rows.{rows_of};
 
 use crate::members::{Partitions, partitions_of};
-use crate::ordering::grouped;
+use crate::ordering::{arranged, grouped, sorted_ordering};
 use std::alloc::Global;
 use wd_value::{OutOfMemory, Row, SortColumn};
 
@@ -33,4 +35,34 @@ pub fn partitions(
             Ok(Some(found))
         }
     }
+}
+
+/// The sorted ordering of rows under a class, and its partitions.
+#[derive(Drop)]
+pub struct SortedPartitions {
+    pub ordering: Vec<u64>,
+    pub partitions: Partitions,
+}
+
+/// What [`sorted_ordering`] gives, and its partitions. The ordering is used as it was sorted: it is
+/// not judged. Takes fewer than 2^32 rows, since peer group numbers have 32 bits.
+pub fn sorted_partitions(
+    alloc: Global,
+    rows: &[Row],
+    partition: &[u16],
+    keys: &[SortColumn],
+    flipped: bool,
+    numbers: bool,
+) -> Result<SortedPartitions, OutOfMemory>
+    requires { length rows.now < 2 ^ 32 }
+    ensures stable { IfOk result (λ s. IsStableSortOf (columns.sort_columns (class_by partition.now keys.now)) (rows_of rows.now) (columns.given_positions flipped (length rows.now)) s.ordering.items) }
+    ensures partitions { IfOk result (λ s. ArePartitions (class_by partition.now keys.now) numbers (rows_of rows.now) s.ordering.items s.partitions) }
+{
+    let ordering = sorted_ordering(alloc, rows, partition, keys, flipped)?;
+    let arrangement = arranged(alloc, rows, partition, keys, &ordering)?;
+    let partitions = partitions_of(alloc, rows, partition, keys, arrangement, numbers)?;
+    Ok(SortedPartitions {
+        ordering,
+        partitions,
+    })
 }

@@ -1,6 +1,6 @@
 //! Orderings of rows under a class: the sorted one, and the test of a given one.
 
-ghost use Rattle.std.specs.Prelude.{◌≡◌, ◌↔◌, IfOk, IsTrue, MatchOption, length};
+ghost use Rattle.std.specs.Prelude.{◌≡◌, ◌↔◌, IfOk, IsSorted, IsTrue, MatchOption, length};
 ghost use Rattle.wd_partition.specs.Columns as columns_of_class;
 ghost use Rattle.wd_partition.specs.Columns.{class_by};
 ghost use Rattle.wd_partition.specs.Orderings.{AreGrouped};
@@ -11,7 +11,7 @@ ghost use Rattle.wd_value.specs.Rows.{rows_of};
 
 use crate::columns::{partition_columns, sort_columns};
 use crate::once::has_each_once;
-use crate::steps::{Step, steps_of};
+use crate::steps::{Step, sorted_steps, steps_of};
 use std::alloc::Global;
 use wd_sort::{all_positions, sorted_from};
 use wd_value::{OutOfMemory, Row, SortColumn};
@@ -92,4 +92,23 @@ pub fn grouped(
         None => Ok(None),
         Some(steps) => Ok(Some(Arrangement { positions, steps })),
     }
+}
+
+/// An ordering that is sorted by the partition's columns and then by the keys, with the step to each
+/// of its positions.
+pub fn arranged(
+    alloc: Global,
+    rows: &[Row],
+    partition: &[u16],
+    keys: &[SortColumn],
+    ordering: &[u64],
+) -> Result<Arrangement, OutOfMemory>
+    requires { IsSorted (compare_rows_at (columns_of_class.sort_columns (class_by partition.now keys.now)) (rows_of rows.now)) ordering.now }
+    ensures positions { IfOk result (λ v. v.positions.items ≡ ordering.now) }
+    ensures steps { IfOk result (λ v. AreSteps (compare_rows_at (columns_of_class.partition_columns partition.now) (rows_of rows.now)) (compare_rows_at keys.now (rows_of rows.now)) ordering.now v.steps.items) }
+{
+    let by_partition = partition_columns(alloc, partition)?;
+    let steps = sorted_steps(alloc, rows, &by_partition, keys, ordering)?;
+    let positions = ordering.to_vec(alloc)?;
+    Ok(Arrangement { positions, steps })
 }

@@ -1,6 +1,6 @@
 //! How neighbours stand to one another among the positions sorted by partition.
 
-ghost use Rattle.std.specs.Prelude.{◌≡◌, ◌++◌, ◌<◌, IfOk, IsSorted, MatchOption, length};
+ghost use Rattle.std.specs.Prelude.{◌≡◌, ◌++◌, ◌<◌, IfOk, IsSorted, MatchOption, Some, length};
 ghost use Rattle.wd_partition.specs.Steps as spec;
 ghost use Rattle.wd_partition.specs.Steps.{AreSteps};
 ghost use Rattle.wd_sort.specs.Sorting as sorting;
@@ -85,5 +85,42 @@ fn key_step(order: Ordering) -> Option<Step>
         Ordering::Less => Some(Step::Group),
         Ordering::Equal => Some(Step::Peer),
         Ordering::Greater => None,
+    }
+}
+
+/// The step to each of the positions, which are sorted by the partition's columns and then by the
+/// keys.
+pub fn sorted_steps(
+    alloc: Global,
+    rows: &[Row],
+    by_partition: &[SortColumn],
+    by_keys: &[SortColumn],
+    positions: &[u64],
+) -> Result<Vec<Step>, OutOfMemory>
+    requires { IsSorted (sorting.compare_rows_at (by_partition.now ++ by_keys.now) (rows_of rows.now)) positions.now }
+    ensures { IfOk result (λ v. AreSteps (sorting.compare_rows_at by_partition.now (rows_of rows.now)) (sorting.compare_rows_at by_keys.now (rows_of rows.now)) positions.now v.items) }
+{
+    let mut steps = Vec::with_capacity(alloc, positions.len())?;
+    for i in 0..positions.len() {
+        steps.push(sorted_step(rows, by_partition, by_keys, positions, i))?;
+    }
+    Ok(steps)
+}
+
+/// The step to the position at place `i` of such positions.
+fn sorted_step(
+    rows: &[Row],
+    by_partition: &[SortColumn],
+    by_keys: &[SortColumn],
+    positions: &[u64],
+    i: usize,
+) -> Step
+    requires within { i < length positions.now }
+    requires sorted { IsSorted (sorting.compare_rows_at (by_partition.now ++ by_keys.now) (rows_of rows.now)) positions.now }
+    ensures { spec.step_to (sorting.compare_rows_at by_partition.now (rows_of rows.now)) (sorting.compare_rows_at by_keys.now (rows_of rows.now)) positions.now i ≡ Some result }
+{
+    match step_to(rows, by_partition, by_keys, positions, i) {
+        Some(step) => step,
+        None => Step::Partition,
     }
 }

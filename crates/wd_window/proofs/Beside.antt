@@ -1,19 +1,25 @@
 -- Rows with the values of a Window's calls after them.
-use Rattle.std.proofs.Common.{◌≡◌, ℕ, zero, suc, ◌+◌, ◌<◌, ◌≤◌, Bool, true, false, cond, ◌||◌, List, [], ◌∷◌, ◌++◌, map, length, get_or, set, Option, Some, None, Result, Ok, Err, refl, sym, ap, ◌∙◌, arith, length-append}
+use Rattle.std.proofs.Common.{◌≡◌, ℕ, zero, suc, ◌+◌, ◌<◌, ◌≤◌, Bool, true, false, cond, ◌||◌, List, [], ◌∷◌, ◌++◌, map, length, get_or, set, Option, Some, None, Result, Ok, Err, refl, sym, ap, ◌∙◌, arith, append_assoc, zero-add, inl, inr, length-append}
 use Rattle.std.specs.List.{list_any, range_with_len}
-use Rattle.std.proofs.lemmas.List.{get_or-map, length-map, map-set, map_push}
+use Rattle.std.proofs.lemmas.Bool.{cases_lt}
+use Rattle.std.proofs.lemmas.List.{append-nil, ext_get_or, get_or-map, length-map, map-set, map_push}
+use Rattle.std.proofs.lemmas.List.FromFn.{get_or-range_with_len, length-range_with_len}
 use Rattle.std.specs.declared.alloc.Global.{Global}
 use Rattle.std.specs.declared.vec.Vec.{Vec}
 use Rattle.wd_value.specs.declared.value.Value.{Value}
+use Rattle.wd_value.specs.declared.value.Value.TheVariants.{Null}
 use Rattle.wd_value.specs.declared.value.Fault.{Fault}
 use Rattle.wd_value.specs.declared.value.Fault.TheVariants.{DivisionByZero, OutOfRange}
 use Rattle.wd_value.specs.Bags.{positions}
 use Rattle.wd_value.specs.Rows.{Row, row_at, rows_of}
 use Rattle.wd_plan.specs.Faults.{all_ok, and_then, has_fault, least_fault, unless, values_among}
-use Rattle.wd_plan.specs.Outcomes.{RowsOrFault, window_outcome}
+use Rattle.wd_plan.specs.Outcomes.{RowsOrFault, call_at, window_outcome}
 use Rattle.wd_plan.specs.Plans.{WindowRule}
 use Rattle.wd_steps.proofs.Filtering.{items}
-use Rattle.wd_window.specs.Listings.{beside, calls_at, first_calls}
+use Rattle.wd_window.specs.Beside.{beside, own_value, with_column, with_columns}
+use Rattle.wd_window.specs.Columns.{AreColumns}
+use Rattle.wd_window.specs.Listings.{calls_at, first_calls}
+use Rattle.wd_window.proofs.CallColumns.{one_at}
 
 -- a result with a row in front
 abbrev behind : Row → Result Row Fault → Result Row Fault
@@ -120,33 +126,132 @@ beside_next (row ∷ rows) [] value (suc k) e h = absurd (omega arith)
 beside_next (row ∷ rows) (v ∷ values) value zero e h = absurd (omega arith)
 beside_next (row ∷ rows) (v ∷ values) value (suc k) e h = ap (λ rs. (row ++ v) ∷ rs) (beside_next rows values value k (omega arith) (omega arith))
 
--- ---- the same of values of the code
+-- ---- one column more
 
-pub one_more : (given yielded : List (Vec Value Global)) (more : Vec Value Global) (position : ℕ) → position ≡ length yielded → position + 1 ≡ length (yielded ++ more ∷ [])
-one_more given yielded more position e = omega (arith, length-append yielded (more ∷ []))
+pub one_more : (yielded : List (Result Value Fault)) (more : Result Value Fault) (position : ℕ) → position ≡ length yielded → position + 1 ≡ length (yielded ++ more ∷ [])
+one_more yielded more position e = omega (arith, length-append yielded (more ∷ []))
 
-module _ (given yielded rows : List (Vec Value Global)) (more : Vec Value Global) (position : ℕ) (at : position ≡ length yielded) (is : rows_of rows ≡ beside (rows_of given) (rows_of yielded)) where
-  last_more : rows_of (yielded ++ more ∷ []) ≡ rows_of yielded ++ more.items ∷ []
-  last_more = map_push items yielded more
+module _ (given rows : List (Vec Value Global)) (yielded : List (Result Value Fault)) (more : Result Value Fault) (position : ℕ) (at : position ≡ length yielded) (is : rows_of rows ≡ with_column (rows_of given) yielded) where
+  last_more : map own_value (yielded ++ more ∷ []) ≡ map own_value yielded ++ own_value more ∷ []
+  last_more = map_push own_value yielded more
 
   as_long : length rows ≡ length given
-  as_long = sym (length-map rows items) ∙ ap length is ∙ length-beside (rows_of given) (rows_of yielded) ∙ length-map given items
+  as_long = sym (length-map rows items) ∙ ap length is ∙ length-beside (rows_of given) (map own_value yielded) ∙ length-map given items
 
-  pub step_past : length rows ≤ position → rows_of rows ≡ beside (rows_of given) (rows_of (yielded ++ more ∷ []))
+  pub step_past : length rows ≤ position → rows_of rows ≡ with_column (rows_of given) (yielded ++ more ∷ [])
   step_past h =
-      let long = length-map yielded items in
+      let long = length-map yielded own_value in
       let wide = length-map given items in
       let size = as_long in
-      is ∙ sym (beside_past (rows_of given) (rows_of yielded) more.items (omega arith)) ∙ ap (beside (rows_of given)) (sym last_more)
+      is ∙ sym (beside_past (rows_of given) (map own_value yielded) (own_value more) (omega arith)) ∙ ap (beside (rows_of given)) (sym last_more)
 
-  pub step_within : (row row' : Vec Value Global) (new : List (Vec Value Global)) → position < length rows → row ≡ get_or rows position row → row'.items ≡ row.items ++ more.items → new ≡ set rows position row'
-      → rows_of new ≡ beside (rows_of given) (rows_of (yielded ++ more ∷ []))
-  step_within row row' new h here grown e =
-      let long = length-map yielded items in
+  pub step_within : (new : List (Vec Value Global)) → position < length rows → rows_of new ≡ set (rows_of rows) position (row_at (rows_of rows) position ++ own_value more) → rows_of new ≡ with_column (rows_of given) (yielded ++ more ∷ [])
+  step_within new h e =
+      let long = length-map yielded own_value in
       let wide = length-map given items in
       let size = as_long in
-      let before : get_or (beside (rows_of given) (rows_of yielded)) position [] ≡ row.items = ap (λ rs. get_or rs position []) (sym is) ∙ get_or-map items rows position row [] h ∙ ap items (sym here) in
-      ap rows_of e ∙ map-set items rows position row' ∙ (λ i. set (is i) position (grown i))
-      ∙ (λ i. set (beside (rows_of given) (rows_of yielded)) position (sym before i ++ more.items))
-      ∙ sym (beside_next (rows_of given) (rows_of yielded) more.items position (omega arith) (omega arith))
+      e ∙ (λ i. set (is i) position (get_or (is i) position [] ++ own_value more))
+      ∙ sym (beside_next (rows_of given) (map own_value yielded) (own_value more) position (omega arith) (omega arith))
       ∙ ap (beside (rows_of given)) (sym last_more)
+
+  pub step : (new : List (Vec Value Global)) → (position < length rows → rows_of new ≡ set (rows_of rows) position (row_at (rows_of rows) position ++ own_value more)) → (length rows ≤ position → new ≡ rows)
+      → rows_of new ≡ with_column (rows_of given) (yielded ++ more ∷ [])
+  step new within past = elim (cases_lt position (length rows)) [
+    | inl h ↦ step_within new h (within h)
+    | inr h ↦ (ap rows_of (past h) ∙ step_past h)
+  ]
+
+-- a row with a value more
+pub pushed : (rows new : List (Vec Value Global)) (position : ℕ) (row row' : Vec Value Global) (values : Row) → position < length rows → row ≡ get_or rows position row → row'.items ≡ row.items ++ values → new ≡ set rows position row'
+    → rows_of new ≡ set (rows_of rows) position (row_at (rows_of rows) position ++ values)
+pushed rows new position row row' values h here grown e =
+    let before : row_at (rows_of rows) position ≡ row.items = get_or-map items rows position row [] h ∙ ap items (sym here) in
+    ap rows_of e ∙ map-set items rows position row' ∙ ap (set (rows_of rows) position) (grown ∙ ap (λ r. r ++ values) (sym before))
+
+pub columns_push : (rows : List Row) (columns : List (List (Result Value Fault))) (column : List (Result Value Fault)) → with_columns rows (columns ++ column ∷ []) ≡ with_column (with_columns rows columns) column
+columns_push rows [] column = refl
+columns_push rows (c ∷ columns) column = columns_push (with_column rows c) columns column
+
+-- ---- all columns are the values of the calls
+
+get-beside : (rows values : List Row) (p : ℕ) → p < length rows → p < length values → get_or (beside rows values) p [] ≡ get_or rows p [] ++ get_or values p []
+get-beside [] values p h g = absurd (omega arith)
+get-beside (row ∷ rows) [] p h g = absurd (omega arith)
+get-beside (row ∷ rows) (v ∷ values) zero h g = refl
+get-beside (row ∷ rows) (v ∷ values) (suc p) h g = get-beside rows values p (omega arith) (omega arith)
+
+length-columns : (rows : List Row) (columns : List (List (Result Value Fault))) → length (with_columns rows columns) ≡ length rows
+length-columns rows [] = refl
+length-columns rows (column ∷ columns) = length-columns (with_column rows column) columns ∙ length-beside rows (map own_value column)
+
+abbrev at_place : ℕ → List (Result Value Fault) → Result Value Fault
+at_place p column = get_or column p (Ok Null)
+
+get-columns : (rows : List Row) (columns : List (List (Result Value Fault))) (p : ℕ) → p < length rows → ((k : ℕ) → k < length columns → p < length (get_or columns k [])) → get_or (with_columns rows columns) p [] ≡ get_or rows p [] ++ values_among (map (at_place p) columns)
+get-columns rows [] p h long = sym (append-nil (get_or rows p []))
+get-columns rows (column ∷ columns) p h long =
+    let here = long 0 (omega arith) in
+    let size = length-beside rows (map own_value column) in
+    let many = length-map column own_value in
+    let value = at_place p column in
+    get-columns (with_column rows column) columns p (omega arith) (λ k l. long (suc k) (omega arith))
+    ∙ ap (λ row. row ++ values_among (map (at_place p) columns)) (get-beside rows (map own_value column) p h (omega arith) ∙ ap (λ v. get_or rows p [] ++ v) (get_or-map own_value column p (Ok Null) [] here))
+    ∙ append_assoc (get_or rows p []) (own_value value) (values_among (map (at_place p) columns))
+    ∙ ap (λ v. get_or rows p [] ++ v) (sym (one_value value (map (at_place p) columns)))
+  where
+    one_value : (r : Result Value Fault) (rs : List (Result Value Fault)) → values_among (r ∷ rs) ≡ own_value r ++ values_among rs
+    one_value (Ok x) rs = refl
+    one_value (Err fault) rs = refl
+
+module _ (w : WindowRule) (rows : List Row) (orderings : List (List ℕ)) where
+  abbrev values_at : ℕ → Row
+  values_at p = values_among (map (call_at w rows orderings p) w.calls)
+
+  unless_ok : (fault : Option Fault) (values x : Row) → unless fault values ≡ Ok x → x ≡ values
+  unless_ok None values x e = cc
+  unless_ok (Some fault) values x e = absurd (cc)
+
+  all_values : (ps : List ℕ) → least_fault (map (calls_at w rows orderings) ps) ≡ None → values_among (map (calls_at w rows orderings) ps) ≡ map values_at ps
+  all_values [] h = refl
+  all_values (p ∷ ps) h =
+      let parts = no_fault (calls_at w rows orderings p) (map (calls_at w rows orderings) ps) h in
+      let x = parts.0.0 in
+      let same : x ≡ values_at p = unless_ok (least_fault (map (call_at w rows orderings p) w.calls)) (values_at p) x parts.0.1 in
+      ap (λ r. values_among (r ∷ map (calls_at w rows orderings) ps)) parts.0.1 ∙ (λ i. same i ∷ all_values ps parts.1 i)
+
+  module _ (columns : List (List (Result Value Fault))) (are : AreColumns w rows orderings columns) where
+    call_there : (p : ℕ) → p < length rows → map (at_place p) columns ≡ map (call_at w rows orderings p) w.calls
+    call_there p there =
+        let many = are.many in
+        let long = length-map columns (at_place p) in
+        let wide = length-map w.calls (call_at w rows orderings p) in
+        ext_get_or (Ok Null) (map (at_place p) columns) (map (call_at w rows orderings p) w.calls) (omega arith) (λ k l. (
+        let within : k < length columns = omega arith in
+        let named : k < length w.calls = omega arith in
+        let call = one_at w.calls k named in
+        get_or-map (at_place p) columns k [] (Ok Null) within
+        ∙ (are.each k call.0 named).each p (Ok Null) there
+        ∙ sym (get_or-map (call_at w rows orderings p) w.calls k call.0 (Ok Null) named)))
+
+    -- the rows with the columns are what the Window gives, where no call has a fault
+    pub window_from_columns : (n : ℕ) → n ≡ length rows → least_fault (map (calls_at w rows orderings) (positions n)) ≡ None → Ok (with_columns rows columns) ≡ window_outcome w rows orderings
+    window_from_columns n long none =
+        let ps = positions n in
+        let vs = map values_at ps in
+        let count = length-range_with_len 0 n in
+        let many = length-map ps values_at in
+        let first : Ok vs ≡ first_calls w rows orderings n = sym (ap (λ o. unless o (values_among (map (calls_at w rows orderings) ps))) none ∙ ap Ok (all_values ps none)) in
+        let sizes = length-columns rows columns in
+        let beside_size = length-beside rows vs in
+        let same : with_columns rows columns ≡ beside rows vs = ext_get_or [] (with_columns rows columns) (beside rows vs) (omega arith) (λ p l. (
+        let there : p < length rows = omega arith in
+        let in_values : p < length vs = omega arith in
+        let in_positions : p < length ps = omega arith in
+        get-columns rows columns p there (λ k h. (let call = one_at w.calls k (let m = are.many in omega arith) in let size = (are.each k call.0 (let m = are.many in omega arith)).long in omega arith))
+        ∙ ap (λ rs. get_or rows p [] ++ values_among rs) (call_there p there)
+        ∙ ap (λ v. get_or rows p [] ++ v) (sym (get_or-map values_at ps p 0 [] in_positions ∙ ap values_at (get_or-range_with_len 0 n p 0 (omega arith) ∙ zero-add p)))
+        ∙ sym (get-beside rows vs p there in_values))) in
+        ap Ok same ∙ window_from_values w rows orderings n (Ok vs) long first
+
+    pub window_fault : (n : ℕ) (fault : Fault) → n ≡ length rows → least_fault (map (calls_at w rows orderings) (positions n)) ≡ Some fault → Err fault ≡ window_outcome w rows orderings
+    window_fault n fault long some = window_from_values w rows orderings n (Err fault) long (sym (ap (λ o. unless o (values_among (map (calls_at w rows orderings) (positions n)))) some))

@@ -1,7 +1,7 @@
 pub mod Listed
 pub mod Beside
 pub mod Serving
-pub mod Gathered
+pub mod Taken
 pub mod Naming
 pub mod Filled
 pub mod CallColumns

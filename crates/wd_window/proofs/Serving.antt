@@ -11,10 +11,8 @@ use Rattle.wd_plan.specs.declared.window.Window.{Window}
 use Rattle.wd_plan.specs.Outcomes.{RowsOrFault, class_at, ordering_at, outcome_of, window_outcome}
 use Rattle.wd_plan.specs.Plans.{ClassRule, WindowRule, class_of, window_of}
 use Rattle.wd_plan.specs.Sorting.{IsOrdering}
-use Rattle.wd_window.specs.Windows.{AreUnserved, HasOrdering, IsExtended, IsLeast, IsUnserved, IsWindowServed, IsWrong}
+use Rattle.wd_window.specs.Windows.{AreUnserved, HasOrdering, IsExtended, IsLeast, IsWindowServed, IsWrong}
 use Rattle.wd_window.specs.Listings.{AreEmpty, AreListed, AreListings, IsEmptyAt, IsListed, IsListing, IsNotEmptyIn, WhereListed}
-use Rattle.wd_window.specs.declared.error.WindowError.{WindowError}
-use Rattle.wd_window.specs.declared.error.WindowError.TheVariants.{NotValid, OutOfMemory}
 use Rattle.wd_window.specs.declared.listing.Listing.{Listing}
 
 own_at : (choice : List (List ℕ)) (first m k : ℕ) → k < m → ordering_at (take m (drop first choice)) k ≡ ordering_at choice (first + k)
@@ -24,17 +22,16 @@ length_own : (choice : List (List ℕ)) (first m : ℕ) → first + m ≤ length
 length_own choice first m h = let a = length-take m (drop first choice) in let b = length-drop first choice in omega arith
 
 -- the first class that does not serve stops its Window
-pub class_unserved : (window : Window) (class : Class) (rows : List Row) (choice : List (List ℕ)) (first k : ℕ) (e : WindowError) (listings : List Listing) → k < length window.classes.items → class ≡ get_or window.classes.items k class
-    → AreListings (window_of window) rows choice first k listings → IsUnserved (IsWrong (class_of class) (Ok rows) choice (first + k)) e → AreUnserved (window_of window) (Ok rows) choice first e
-class_unserved window class rows choice first k (NotValid p) listings lt is a h =
+pub class_unserved : (window : Window) (class : Class) (rows : List Row) (choice : List (List ℕ)) (first k : ℕ) (listings : List Listing) → k < length window.classes.items → class ≡ get_or window.classes.items k class
+    → AreListings (window_of window) rows choice first k listings → (HasOrdering (class_of class) (Ok rows) choice (first + k) → ⊥) → AreUnserved (window_of window) (Ok rows) choice first (first + k)
+class_unserved window class rows choice first k listings lt is a h =
     let classes = window.classes.items in
     let long = length-map classes class_of in
-    let here = h.0 in
     let there = a.present in (
       record {
         number = k;
         within = omega arith;
-        wrong = subst (λ (rule : ClassRule). IsWrong rule (Ok rows) choice (first + k) p) (ap class_of is ∙ sym (get_or-map class_of classes k class (record { partition = []; order = [] }) lt)) h;
+        wrong = subst (λ (rule : ClassRule). IsWrong rule (Ok rows) choice (first + k) (first + k)) (ap class_of is ∙ sym (get_or-map class_of classes k class (record { partition = []; order = [] }) lt)) (refl, h);
       },
       λ m earlier x. (
           let at = x.wrong.0 in
@@ -44,7 +41,6 @@ class_unserved window class rows choice first k (NotValid p) listings lt is a h 
             lawful = (a.each x.number (record { partitions = []; desc = false }) before).lawful;
           })),
     )
-class_unserved window class rows choice first k OutOfMemory listings lt is a h = tt
 
 -- the partitions of one class more
 pub listings_more : (window : Window) (class : Class) (rows : List Row) (choice : List (List ℕ)) (first n : ℕ) (ls more : List Listing) (l : Listing) → n < length window.classes.items → class ≡ get_or window.classes.items n class
@@ -113,8 +109,8 @@ module _ (w : WindowRule) (fault : Fault) (choice : List (List ℕ)) (first n : 
         is = is;
       }
 
-  pub fault_unserved : (e : WindowError) → IsUnserved (IsLeast (IsNotEmptyIn n choice first)) e → AreUnserved w (Err fault) choice first e
-  fault_unserved (NotValid p) h =
+  pub fault_unserved : (place : ℕ) → IsLeast (IsNotEmptyIn n choice first) place → AreUnserved w (Err fault) choice first place
+  fault_unserved place h =
       let small = h.0.within in (
         record {
           number = h.0.number;
@@ -128,7 +124,6 @@ module _ (w : WindowRule) (fault : Fault) (choice : List (List ℕ)) (first n : 
           wrong = λ o. x.wrong.1 (record { present = o.present; lawful = o.empty });
         })),
       )
-  fault_unserved OutOfMemory h = tt
 
 -- the first ordering that is not empty
 pub empty_unserved : (count : ℕ) (choice : List (List ℕ)) (first k : ℕ) → k < count → AreEmpty k choice first → (IsEmptyAt choice (first + k) → ⊥) → IsLeast (IsNotEmptyIn count choice first) (first + k)

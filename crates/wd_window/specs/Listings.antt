@@ -1,20 +1,18 @@
 -- The partitions of a Window's classes, and the values of its calls.
-use Rattle.std.specs.Prelude.{◌≡◌, ℕ, ◌+◌, ◌<◌, ◌≤◌, true, List, [], ◌∷◌, ◌++◌, length, map, slice_index_or, Result, Ok, Err, IfErr, IfOk, OnOk}
+use Rattle.std.specs.Prelude.{◌≡◌, ℕ, ◌+◌, ◌<◌, ◌≤◌, true, List, [], length, map, slice_index_or, Result, Ok, IfErr, IfOk, OnOk}
 use Rattle.std.specs.declared.alloc.Global.{Global}
 use Rattle.std.specs.declared.vec.Vec.{Vec}
-use Rattle.wd_value.specs.declared.value.Value.{Value}
 use Rattle.wd_value.specs.declared.value.Fault.{Fault}
 use Rattle.wd_value.specs.Bags.{positions}
-use Rattle.wd_value.specs.Rows.{Row, rows_of}
+use Rattle.wd_value.specs.Rows.{Row}
 use Rattle.wd_plan.specs.Faults.{all_ok}
 use Rattle.wd_plan.specs.Outcomes.{RowsOrFault, call_at, class_at, ordering_at}
 use Rattle.wd_plan.specs.Plans.{ClassRule, WindowRule}
 use Rattle.wd_plan.specs.Sorting.{IsOrdering}
 use Rattle.wd_frame.specs.Laws.{is_descending}
 use Rattle.wd_partition.specs.Members.{members_of}
-use Rattle.wd_window.specs.declared.error.WindowError.{WindowError}
 use Rattle.wd_window.specs.declared.listing.Listing.{Listing}
-use Rattle.wd_window.specs.Windows.{AreUnserved, IsLeast, IsUnserved, IsWrong}
+use Rattle.wd_window.specs.Windows.{AreUnserved, IsLeast}
 
 -- the partitions of a class under a lawful ordering, row by row
 pub record IsListing (class : ClassRule) (rows : List Row) (ordering : List ℕ) (listing : Listing) : Type 0 where
@@ -27,11 +25,6 @@ pub record IsListed (class : ClassRule) (rows : List Row) (choice : List (List �
   pub present : number < length choice
   pub is : IsListing class rows (ordering_at choice number) listing
 
--- those, or why the ordering with this number does not serve the class
-pub record IsListedOrUnserved (class : ClassRule) (rows : List Row) (choice : List (List ℕ)) (number : ℕ) (r : Result Listing WindowError) : Type 0 where
-  pub ok : IfOk r (λ listing. IsListed class rows choice number listing)
-  pub refused : IfErr r (λ e. IsUnserved (IsWrong class (Ok rows) choice number) e)
-
 -- what is so for each class and each ordering of it that makes these partitions
 abbrev pub WhereListing : List Row → Listing → (ClassRule → List ℕ → Type 0) → Type 0
 WhereListing rows listing Holds = (class : ClassRule) (ordering : List ℕ) → IsListing class rows ordering listing → Holds class ordering
@@ -42,10 +35,10 @@ pub record AreListings (w : WindowRule) (rows : List Row) (choice : List (List �
   pub present : first + n ≤ length choice
   pub each : (k : ℕ) (listing : Listing) → k < n → IsListing (class_at w k) rows (ordering_at choice (first + k)) (slice_index_or listings k listing)
 
--- those of all classes, or why these orderings do not serve the Window
-pub record AreListingsOrUnserved (w : WindowRule) (rows : List Row) (choice : List (List ℕ)) (first : ℕ) (r : Result (Vec Listing Global) WindowError) : Type 0 where
+-- those of all classes, or the place of the first of these orderings that does not serve the Window
+pub record AreListingsOrUnserved (w : WindowRule) (rows : List Row) (choice : List (List ℕ)) (first : ℕ) (r : Result (Vec Listing Global) ℕ) : Type 0 where
   pub ok : IfOk r (λ v. AreListings w rows choice first (length w.classes) v.items)
-  pub refused : IfErr r (λ e. AreUnserved w (Ok rows) choice first e)
+  pub refused : IfErr r (λ place. AreUnserved w (Ok rows) choice first place)
 
 -- the partitions of a Window's classes
 pub record AreListed (w : WindowRule) (rows : List Row) (orderings : List (List ℕ)) (listings : List Listing) : Type 0 where
@@ -56,16 +49,6 @@ pub record AreListed (w : WindowRule) (rows : List Row) (orderings : List (List 
 abbrev pub WhereListed : WindowRule → List Row → List Listing → (List (List ℕ) → Type 0) → Type 0
 WhereListed w rows listings Holds = (orderings : List (List ℕ)) → AreListed w rows orderings listings → Holds orderings
 
--- a row's values, or a fault
-abbrev pub values_of : Result (Vec Value Global) Fault → Result Row Fault
-values_of (Ok row) = Ok row.items
-values_of (Err fault) = Err fault
-
--- each row's values, or a fault
-abbrev pub rows_or_fault : Result (Vec (Vec Value Global) Global) Fault → RowsOrFault
-rows_or_fault (Ok rows) = Ok (rows_of rows.items)
-rows_or_fault (Err fault) = Err fault
-
 -- the values of the calls at a row, or their least fault
 abbrev pub calls_at : WindowRule → List Row → List (List ℕ) → ℕ → Result Row Fault
 calls_at w rows orderings p = all_ok (map (call_at w rows orderings p) w.calls)
@@ -73,12 +56,6 @@ calls_at w rows orderings p = all_ok (map (call_at w rows orderings p) w.calls)
 -- the values of the calls at each of the first n rows, or the least fault of all
 abbrev pub first_calls : WindowRule → List Row → List (List ℕ) → ℕ → RowsOrFault
 first_calls w rows orderings n = all_ok (map (calls_at w rows orderings) (positions n))
-
--- each row with the values beside it after its own; rows beside which there are none stay
-abbrev pub beside : List Row → List Row → List Row
-beside rows [] = rows
-beside [] (value ∷ values) = []
-beside (row ∷ rows) (value ∷ values) = (row ++ value) ∷ beside rows values
 
 -- the ordering with this number is there and empty
 pub record IsEmptyAt (choice : List (List ℕ)) (number : ℕ) : Type 0 where
@@ -97,7 +74,7 @@ pub record IsNotEmptyIn (count : ℕ) (choice : List (List ℕ)) (first place : 
   pub at : place ≡ first + number
   pub wrong : IsEmptyAt choice (first + number) → ⊥
 
--- so many orderings are there and empty, or the number of the first that is not
-pub record AreEmptyOrUnserved {X : Type 0} (count : ℕ) (choice : List (List ℕ)) (first : ℕ) (r : Result X WindowError) : Type 0 where
+-- so many orderings are there and empty, or the place of the first that is not
+pub record AreEmptyOrUnserved {X : Type 0} (count : ℕ) (choice : List (List ℕ)) (first : ℕ) (r : Result X ℕ) : Type 0 where
   pub ok : OnOk r (AreEmpty count choice first)
-  pub refused : IfErr r (λ e. IsUnserved (IsLeast (IsNotEmptyIn count choice first)) e)
+  pub refused : IfErr r (λ place. IsLeast (IsNotEmptyIn count choice first) place)

@@ -9,8 +9,6 @@ use Rattle.wd_plan.specs.Faults.{and_then}
 use Rattle.wd_plan.specs.Outcomes.{RowsOrFault, class_at, ordering_at, outcome_of, window_outcome}
 use Rattle.wd_plan.specs.Plans.{ClassRule, WindowRule}
 use Rattle.wd_plan.specs.Sorting.{IsOrdering}
-use Rattle.wd_window.specs.declared.error.WindowError.{WindowError}
-use Rattle.wd_window.specs.declared.error.WindowError.TheVariants.{NotValid, OutOfMemory}
 
 -- the orderings that a choice of the code shows
 abbrev pub orderings_of : List (Vec ℕ Global) → List (List ℕ)
@@ -57,17 +55,13 @@ pub record IsWrongIn (w : WindowRule) (input : RowsOrFault) (choice : List (List
 abbrev pub IsLeast : (ℕ → Type 0) → ℕ → Type 0
 IsLeast Holds n = Holds n × ((m : ℕ) → m < n → Holds m → ⊥)
 
--- a place of which this holds, or out of memory
-abbrev pub IsUnserved : (ℕ → Type 0) → WindowError → Type 0
-IsUnserved IsPlace (NotValid place) = IsPlace place
-IsUnserved IsPlace OutOfMemory = ⊤
-
 -- the orderings from the number `first` on do not serve a Window over its input: the place is that of the first of them that is
--- missing or not lawful; or out of memory
-abbrev pub AreUnserved : WindowRule → RowsOrFault → List (List ℕ) → ℕ → WindowError → Type 0
-AreUnserved w input choice first e = IsUnserved (IsLeast (IsWrongIn w input choice first)) e
+-- missing or not lawful
+abbrev pub AreUnserved : WindowRule → RowsOrFault → List (List ℕ) → ℕ → ℕ → Type 0
+AreUnserved w input choice first place = IsLeast (IsWrongIn w input choice first) place
 
--- the outcome of a Window over its input under the orderings from the number `first` on, or why they do not serve it
-pub record IsExtendedOrUnserved (w : WindowRule) (input : RowsOrFault) (choice : List (List ℕ)) (first : ℕ) (r : Result Outcome WindowError) : Type 0 where
+-- the outcome of a Window over its input under the orderings from the number `first` on, or the place of the first that does not
+-- serve it
+pub record IsExtendedOrUnserved (w : WindowRule) (input : RowsOrFault) (choice : List (List ℕ)) (first : ℕ) (r : Result Outcome ℕ) : Type 0 where
   pub ok : IfOk r (λ o. IsExtended w input choice first o)
-  pub refused : IfErr r (λ e. AreUnserved w input choice first e)
+  pub refused : IfErr r (λ place. AreUnserved w input choice first place)

@@ -18,21 +18,6 @@ use wd_value::{Fault, OutOfMemory, Row, Value};
 /// The values of a call at the rows, by their positions, or their faults.
 pub(crate) type Column = Vec<Result<Value, Fault>>;
 
-/// A copy of the value at a position of a column, or its fault.
-pub(crate) fn value_in(
-    alloc: Global,
-    column: &[Result<Value, Fault>],
-    position: usize,
-) -> Result<Result<Value, Fault>, OutOfMemory>
-    ensures { IfOk result (λ r. (other : Result value.Value fault.Fault) → position < length column.now → r ≡ slice_index_or column.now position other) }
-{
-    match column.get(position) {
-        None => Ok(Ok(Value::Null)),
-        Some(Ok(value)) => Ok(Ok(value.copy(alloc)?)),
-        Some(Err(fault)) => Ok(Err(*fault)),
-    }
-}
-
 /// The column of each call.
 pub(crate) fn call_columns(
     alloc: Global,

@@ -1,10 +1,10 @@
 //! A Window of a plan under the orderings of a choice.
 #![tactic(auto)]
 
+mod appending;
 mod column;
-mod error;
 mod listing;
 mod window;
 
-pub use error::WindowError;
-pub use window::evaluate_window;
+pub use listing::{Listing, SortedListing, sorted_listing};
+pub use window::{evaluate_window, with_calls};

@@ -1,67 +1,100 @@
-//! The partitions of a Window's classes under the orderings of a choice.
+//! The partitions of a Window's classes, under the orderings of a choice and under sorted ones.
 
-ghost use Rattle.std.specs.Prelude.{◌≡◌, ◌^◌, ◌<◌, ◌≤◌, length};
-ghost use Rattle.wd_window.specs.Windows.{orderings_of};
-ghost use Rattle.wd_window.specs.Listings.{AreListingsOrUnserved, IsListedOrUnserved};
+ghost use Rattle.std.specs.Prelude.{◌≡◌, ◌^◌, ◌<◌, ◌≤◌, IfOk, MatchOption, Ok, length};
 ghost use Rattle.wd_frame.specs.Laws as frames;
+ghost use Rattle.wd_partition.specs.Columns.{given_positions, sort_columns};
 ghost use Rattle.wd_plan.specs.Plans.{class_of, window_of};
+ghost use Rattle.wd_sort.specs.Sorting.{IsStableSortOf};
 ghost use Rattle.wd_value.specs.Rows.{rows_of};
+ghost use Rattle.wd_window.specs.Listings.{AreListingsOrUnserved, IsListed, IsListing};
+ghost use Rattle.wd_window.specs.Windows.{HasOrdering, orderings_of};
 
-use crate::error::WindowError;
 use std::alloc::Global;
-use wd_partition::{Partitions, partitions};
+use wd_partition::{Partitions, SortedPartitions, partitions, sorted_partitions};
 use wd_plan::{Class, Window};
-use wd_value::{Row, SortColumn};
+use wd_value::{OutOfMemory, Row, SortColumn};
 
 /// The partitions of a class, and whether its only sort key is sorted descending.
 #[derive(Drop)]
-pub(crate) struct Listing {
+pub struct Listing {
     pub partitions: Partitions,
     pub desc: bool,
 }
 
-/// The partitions of each class of a Window under the orderings from `first` on, the first of which
-/// that is missing or not lawful is refused.
+/// The partitions of each class of a Window under the orderings from `first` on, or the number of
+/// the first of these that is missing or not lawful.
 pub(crate) fn listings(
     alloc: Global,
     window: &Window,
     rows: &[Row],
     choice: &[Vec<u64>],
     first: usize,
-) -> Result<Vec<Listing>, WindowError>
+) -> Result<Result<Vec<Listing>, u64>, OutOfMemory>
     requires short { length rows.now < 2 ^ 32 }
     requires within { first ≤ length choice.now }
-    ensures { AreListingsOrUnserved (window_of window.now) (rows_of rows.now) (orderings_of choice.now) first result }
+    ensures { IfOk result (λ r. AreListingsOrUnserved (window_of window.now) (rows_of rows.now) (orderings_of choice.now) first r) }
 {
     let mut listings = Vec::new(alloc);
     for (number, class) in window.classes.iter().enumerate() {
-        let listing = listing_of(alloc, class, rows, choice, first + number)?;
-        listings.push(listing)?;
+        match listing_of(alloc, class, rows, choice, first + number)? {
+            Some(listing) => listings.push(listing)?,
+            None => return Ok(Err((first + number) as u64)),
+        }
     }
-    Ok(listings)
+    Ok(Ok(listings))
 }
 
-/// The partitions of a class under the choice's ordering with this number.
+/// The partitions of a class under the choice's ordering with this number; none where that is
+/// missing or not lawful.
 fn listing_of(
     alloc: Global,
     class: &Class,
     rows: &[Row],
     choice: &[Vec<u64>],
     number: usize,
-) -> Result<Listing, WindowError>
+) -> Result<Option<Listing>, OutOfMemory>
     requires { length rows.now < 2 ^ 32 }
-    ensures { IsListedOrUnserved (class_of class.now) (rows_of rows.now) (orderings_of choice.now) number result }
+    ensures { IfOk result (λ o. MatchOption o (HasOrdering (class_of class.now) (Ok (rows_of rows.now)) (orderings_of choice.now) number → ⊥) (λ l. IsListed (class_of class.now) (rows_of rows.now) (orderings_of choice.now) number l)) }
 {
     let Some(ordering) = choice.get(number) else {
-        return Err(WindowError::NotValid(number as u64));
+        return Ok(None);
     };
     match partitions(alloc, rows, &class.partition, &class.order, ordering, true)? {
-        None => Err(WindowError::NotValid(number as u64)),
-        Some(partitions) => Ok(Listing {
+        None => Ok(None),
+        Some(partitions) => Ok(Some(Listing {
             partitions,
             desc: is_descending(&class.order),
-        }),
+        })),
     }
+}
+
+/// The sorted ordering of a class, and the partitions under it.
+#[derive(Drop)]
+pub struct SortedListing {
+    pub ordering: Vec<u64>,
+    pub listing: Listing,
+}
+
+/// The stable sort of the rows' positions by the class, last to first where it is flipped, and the
+/// partitions that it makes.
+pub fn sorted_listing(
+    alloc: Global,
+    class: &Class,
+    rows: &[Row],
+    flipped: bool,
+) -> Result<SortedListing, OutOfMemory>
+    requires { length rows.now < 2 ^ 32 }
+    ensures stable { IfOk result (λ s. IsStableSortOf (sort_columns (class_of class.now)) (rows_of rows.now) (given_positions flipped (length rows.now)) s.ordering.items) }
+    ensures listing { IfOk result (λ s. IsListing (class_of class.now) (rows_of rows.now) s.ordering.items s.listing) }
+{
+    let sorted = sorted_partitions(alloc, rows, &class.partition, &class.order, flipped, true)?;
+    let SortedPartitions {
+        ordering,
+        partitions,
+    } = sorted;
+    let desc = is_descending(&class.order);
+    let listing = Listing { partitions, desc };
+    Ok(SortedListing { ordering, listing })
 }
 
 /// Whether the only sort key is sorted descending; false where there is none or there are several.

@@ -7,6 +7,7 @@ use Rattle.wd_plan.specs.Plans.{plan_of, ordering_count}
 use Rattle.wd_plan.proofs.Ranges.{names_classes}
 use Rattle.wd_schema.specs.Schemas.{schema_of}
 use Rattle.wd_eval.specs.Nodes.{IsEvaluated, IsStopped}
+use Rattle.wd_eval.proofs.Walks.{to_stopped}
 use Rattle.wd_eval.proofs.Wrong.{stopped_refused, surplus_refused}
 use Rattle.wd_eval.proofs.eval.eval_with.Goals as goal
 
@@ -18,8 +19,9 @@ returns-in_err-evaluated c =
     let p = err_from_is_err_and c.from_residual.result c.from_residual.ensures.1 in
     let e = c.in_err-evaluated.field-0.0 in
     let plan = plan_of c.args.plan.now in
-    let h = subst (λ os. IsStopped plan (instance_of c.args.instance.now.items) (orderings_of os) 0 e) c.deref-2.ensures.value
-    (subst (λ is. IsStopped plan (instance_of is) (orderings_of c.deref-2.result.now) 0 e) c.deref.ensures.value c.in_err-evaluated.ensures.refused) in
+    let stopped = to_stopped plan (instance_of c.deref-2.result.now) 0 c.deref.result e c.in_err-evaluated.ensures.refused in
+    let h = subst (λ os. IsStopped plan (instance_of c.args.instance.now.items) (orderings_of os) 0 e) c.deref.ensures.value
+    (subst (λ is. IsStopped plan (instance_of is) (orderings_of c.deref.result.now) 0 e) c.deref-2.ensures.value stopped) in
     rw (p.1, p.2) (record { ok = tt; refused = stopped_refused plan (instance_of c.args.instance.now.items) (orderings_of c.args.choice.now.orderings.items) e h })
 
 pub returns-then-evaluated-len : goal.returns-then-evaluated-len
@@ -28,8 +30,8 @@ returns-then-evaluated-len c =
     let instance = instance_of c.args.instance.now.items in
     let choice = orderings_of c.args.choice.now.orderings.items in
     let evaluated = c.in_ok-evaluated.evaluated in
-    let x = subst (λ os. IsEvaluated plan instance (orderings_of os) 0 evaluated) c.deref-2.ensures.value
-    (subst (λ is. IsEvaluated plan (instance_of is) (orderings_of c.deref-2.result.now) 0 evaluated) c.deref.ensures.value c.in_ok-evaluated.ensures.ok) in
+    let x = subst (λ os. IsEvaluated plan instance (orderings_of os) 0 evaluated) c.deref.ensures.value
+    (subst (λ is. IsEvaluated plan (instance_of is) (orderings_of c.deref.result.now) 0 evaluated) c.deref-2.ensures.value c.in_ok-evaluated.ensures.ok) in
     let long = length-map c.args.choice.now.orderings.items (λ v. v.items) in
     let next = x.next in
     let at : evaluated.next ≡ ordering_count plan = omega arith in

@@ -1,37 +1,35 @@
-use Rattle.std.proofs.Common.{◌≡◌, ℕ, List, ◌∙◌, sym, ap, subst, length, Result, Ok, Err}
+use Rattle.std.proofs.Common.{◌∙◌, None, Some, sym, ap, subst, length, map, Ok, arith}
 use Rattle.std.proofs.lemmas.List.{length-map}
 use Rattle.wd_value.specs.Rows.{rows_of}
-use Rattle.wd_plan.specs.Plans.{WindowRule, window_of}
+use Rattle.wd_plan.specs.Plans.{window_of}
 use Rattle.wd_steps.proofs.Filtering.{items}
-use Rattle.wd_window.specs.Listings.{AreListed, first_calls, rows_or_fault}
-use Rattle.wd_window.specs.declared.listing.Listing.{Listing}
-use Rattle.std.specs.declared.alloc.Global.{Global}
-use Rattle.std.specs.declared.vec.Vec.{Vec}
-use Rattle.wd_value.specs.declared.value.Value.{Value}
-use Rattle.wd_value.specs.declared.value.Fault.{Fault}
-use Rattle.wd_window.proofs.Beside.{window_from_values}
+use Rattle.wd_window.specs.Columns.{AreColumns, columns_of}
+use Rattle.wd_window.specs.Listings.{AreListed}
+use Rattle.wd_window.proofs.Beside.{window_fault, window_from_columns}
 use Rattle.wd_window.proofs.window.with_calls.Goals as goal
 
--- the same of the rows behind a reference
-values_from : (w : WindowRule) (orderings : List (List ℕ)) (listings : List Listing) (there rows : List (Vec Value Global)) (r : Result (Vec (Vec Value Global) Global) Fault) → there ≡ rows
-    → (AreListed w (rows_of there) orderings listings → rows_or_fault r ≡ first_calls w (rows_of there) orderings (length there))
-    → AreListed w (rows_of rows) orderings listings → rows_or_fault r ≡ first_calls w (rows_of rows) orderings (length rows)
-values_from w orderings listings there rows r e h =
-    subst (λ rs. AreListed w (rows_of rs) orderings listings → rows_or_fault r ≡ first_calls w (rows_of rs) orderings (length rs)) e h
-
-pub returns-in-Err : goal.returns-in-Err
-returns-in-Err c = λ orderings listed. (
+pub returns-in-Some : goal.returns-in-Some
+returns-in-Some c = λ orderings listed. (
     let w = window_of c.args.window.now in
     let rows = rows_of c.args.rows.items in
-    let n = length c.args.rows.items in
-    let values = sym (ap rows_or_fault c.in-Err.is) ∙ values_from w orderings c.args.listings.now c.deref.result.now c.args.rows.items c.in_ok-fault.field-0 c.deref.ensures.value (c.in_ok-fault.ensures orderings) listed in
-    window_from_values w rows orderings n (Err c.in-Err.fault) (sym (length-map c.args.rows.items items)) values)
+    let long = length-map c.args.rows.items items in
+    let columns = c.in_ok-columns.columns.items in
+    let there = subst (λ rs. AreListed w (rows_of rs) orderings c.args.listings.now) (sym c.deref.ensures.value) listed in
+    let given = c.in_ok-columns.ensures orderings there in
+    let are : AreColumns w rows orderings (columns_of columns) = subst (λ rs. AreColumns w (rows_of rs) orderings (columns_of columns)) c.deref.ensures.value given in
+    let are_there = subst (λ cs. AreColumns w rows orderings (columns_of cs)) (sym c.deref-2.ensures.value) are in
+    let least = c.fault_among.ensures w rows orderings are_there (omega arith) in
+    window_fault w rows orderings (columns_of columns) are c.len.result c.in-Some.fault (omega arith) (sym least ∙ c.in-Some.is))
 
-pub returns-in_ok-extended-in-Ok : goal.returns-in_ok-extended-in-Ok
-returns-in_ok-extended-in-Ok c = λ orderings listed. (
+pub returns-in_ok-extended-in-None : goal.returns-in_ok-extended-in-None
+returns-in_ok-extended-in-None c = λ orderings listed. (
     let w = window_of c.args.window.now in
     let rows = rows_of c.args.rows.items in
-    let n = length c.args.rows.items in
-    let given = rows_of c.in-Ok.values.items in
-    let values = sym (ap rows_or_fault c.in-Ok.is) ∙ values_from w orderings c.args.listings.now c.deref.result.now c.args.rows.items c.in_ok-fault.field-0 c.deref.ensures.value (c.in_ok-fault.ensures orderings) listed in
-    ap Ok c.in_ok-extended-in-Ok.ensures ∙ window_from_values w rows orderings n (Ok given) (sym (length-map c.args.rows.items items)) values)
+    let long = length-map c.args.rows.items items in
+    let columns = c.in_ok-columns.columns.items in
+    let there = subst (λ rs. AreListed w (rows_of rs) orderings c.args.listings.now) (sym c.deref.ensures.value) listed in
+    let given = c.in_ok-columns.ensures orderings there in
+    let are : AreColumns w rows orderings (columns_of columns) = subst (λ rs. AreColumns w (rows_of rs) orderings (columns_of columns)) c.deref.ensures.value given in
+    let are_there = subst (λ cs. AreColumns w rows orderings (columns_of cs)) (sym c.deref-2.ensures.value) are in
+    let least = c.fault_among.ensures w rows orderings are_there (omega arith) in
+    ap Ok c.in_ok-extended-in-None.ensures ∙ window_from_columns w rows orderings (columns_of columns) are c.len.result (omega arith) (sym least ∙ c.in-None.is))

@@ -1,0 +1,60 @@
+-- One walk over the nodes of a plan, under the orderings of a choice or under sorted ones.
+use Rattle.std.specs.Prelude.{◌≡◌, ℕ, ◌≤◌, true, List, drop, length, Result, IfErr, IfOk, ⊤}
+use Rattle.std.specs.declared.alloc.Global.{Global}
+use Rattle.std.specs.declared.vec.Vec.{Vec}
+use Rattle.wd_value.specs.Rows.{Instance}
+use Rattle.wd_plan.specs.declared.plan.Outcome.{Outcome}
+use Rattle.wd_plan.specs.Outcomes.{RowsOrFault}
+use Rattle.wd_plan.specs.Plans.{LimitRule, PlanTree, WindowRule}
+use Rattle.wd_window.specs.Windows.{IsLeast, orderings_of}
+use Rattle.wd_eval.specs.Nodes.{IsCutOrUnserved, IsEvaluated, IsExtendedOrUnserved}
+use Rattle.wd_eval.specs.Steps.{has_large_step}
+use Rattle.wd_eval.specs.Ties.{IsTied, IsTiedLimitOrNoMemory, IsTiedTooLargeFrom, IsTiedWindowOrNoMemory}
+use Rattle.wd_eval.specs.Wrong.{IsWrongFrom}
+use Rattle.wd_eval.specs.declared.error.EvalError.{EvalError}
+use Rattle.wd_eval.specs.declared.error.EvalError.TheVariants.{NotValid, TooManyRows, OutOfMemory}
+use Rattle.wd_eval.specs.declared.node.Evaluated.{Evaluated}
+use Rattle.wd_eval.specs.declared.orderings.Orderings.{Orderings}
+use Rattle.wd_eval.specs.declared.orderings.Orderings.TheVariants.{Chosen, Sorted}
+
+-- the number of the next ordering: one within the choice, or that of the orderings made so far
+abbrev pub IsAt : Orderings → ℕ → List (Vec ℕ Global) → Type 0
+IsAt (Chosen choice) first made = first ≤ length choice.now
+IsAt (Sorted flipped) first made = first ≡ length made
+
+-- what a plan gives under the choice's orderings from the number `first` on, or under its sorted orderings, which are put after
+-- those made before; with the number of the next ordering
+abbrev pub IsWalked : PlanTree → Instance → Orderings → ℕ → List (Vec ℕ Global) → List (Vec ℕ Global) → Evaluated → Type 0
+IsWalked plan instance (Chosen choice) first old new e = IsEvaluated plan instance (orderings_of choice.now) first e
+IsWalked plan instance (Sorted flipped) first old new e = (e.next ≡ length new) × IsTied plan instance flipped (orderings_of old) (orderings_of new) e.outcome
+
+-- the place is that of the first wrong ordering of the choice; no sorted ordering is wrong
+abbrev pub IsWrongAt : PlanTree → Instance → Orderings → ℕ → ℕ → Type 0
+IsWrongAt plan instance (Chosen choice) first place = IsLeast (IsWrongFrom plan instance (orderings_of choice.now) first) place
+IsWrongAt plan instance (Sorted flipped) first place = ⊥
+
+-- some step is too large under these orderings
+abbrev pub IsTooLarge : PlanTree → Instance → Orderings → ℕ → Type 0
+IsTooLarge plan instance (Chosen choice) first = has_large_step plan instance (drop first (orderings_of choice.now)) ≡ true
+IsTooLarge plan instance (Sorted flipped) first = IsTiedTooLargeFrom plan instance flipped first
+
+-- why a plan gives nothing
+abbrev pub IsHalted : PlanTree → Instance → Orderings → ℕ → EvalError → Type 0
+IsHalted plan instance orderings first (NotValid place) = IsWrongAt plan instance orderings first place
+IsHalted plan instance orderings first TooManyRows = IsTooLarge plan instance orderings first
+IsHalted plan instance orderings first OutOfMemory = ⊤
+
+-- what it gives, or why it gives nothing
+pub record IsWalkedOrHalted (plan : PlanTree) (instance : Instance) (orderings : Orderings) (first : ℕ) (old new : List (Vec ℕ Global)) (r : Result Evaluated EvalError) : Type 0 where
+  pub ok : IfOk r (λ e. IsWalked plan instance orderings first old new e)
+  pub refused : IfErr r (λ e. IsHalted plan instance orderings first e)
+
+-- ---- Windows and Limits over their inputs
+
+abbrev pub IsWindowStep : WindowRule → RowsOrFault → Orderings → ℕ → List (Vec ℕ Global) → List (Vec ℕ Global) → Result Outcome EvalError → Type 0
+IsWindowStep w input (Chosen choice) first old new r = IsExtendedOrUnserved w input (orderings_of choice.now) first r
+IsWindowStep w input (Sorted flipped) first old new r = IsTiedWindowOrNoMemory w input flipped old new r
+
+abbrev pub IsLimitStep : LimitRule → RowsOrFault → Orderings → ℕ → List (Vec ℕ Global) → List (Vec ℕ Global) → Result Outcome EvalError → Type 0
+IsLimitStep limit input (Chosen choice) first old new r = IsCutOrUnserved limit input (orderings_of choice.now) first r
+IsLimitStep limit input (Sorted flipped) first old new r = IsTiedLimitOrNoMemory limit input flipped old new r
