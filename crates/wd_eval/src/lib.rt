@@ -6,6 +6,7 @@ mod error;
 mod eval;
 pub mod laws;
 mod node;
+mod pairs;
 mod produced;
 mod step;
 mod tie;
