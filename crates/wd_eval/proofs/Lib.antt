@@ -1,6 +1,7 @@
 pub mod Sizes
 pub mod Wrong
 pub mod Nodes
+pub mod Enough
 pub mod Stable
 pub mod Tying
 pub mod Putting

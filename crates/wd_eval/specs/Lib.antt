@@ -3,6 +3,7 @@ pub mod Steps
 pub mod Wrong
 pub mod Judged
 pub mod Nodes
+pub mod Enough
 pub mod Tied
 pub mod Ties
 pub mod Walks

@@ -7,6 +7,7 @@ mod eval;
 pub mod laws;
 mod node;
 mod orderings;
+mod pairs;
 mod produced;
 mod step;
 mod window;

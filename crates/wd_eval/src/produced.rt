@@ -19,12 +19,13 @@ pub(crate) enum Given {
 }
 
 /// What a node gives to the step above it: that, or all pairs of a left and a right row, the left
-/// one outermost, which are not made yet, since a condition above may want few of them.
+/// one outermost, which are not made yet, since a condition above may want few of them. The left
+/// rows may be such pairs themselves.
 #[derive(Drop)]
 pub(crate) enum Produced {
     Table(u16),
     Made(Outcome),
-    Pairs(Given, Given),
+    Pairs(Box<Produced>, Given),
 }
 
 /// What is produced, with its pairs made.
@@ -39,6 +40,7 @@ pub(crate) fn gathered(
         Produced::Table(table) => Ok(Given::Table(table)),
         Produced::Made(outcome) => Ok(Given::Made(outcome)),
         Produced::Pairs(left, right) => {
+            let left = gathered(alloc, instance, Box::into_inner(left))?;
             let outcome = paired(alloc, instance, &left, &right)?;
             Ok(Given::Made(outcome))
         }

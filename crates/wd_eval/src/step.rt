@@ -11,12 +11,11 @@ ghost use Rattle.wd_steps.specs.Joins.{has_more_rows};
 ghost use Rattle.wd_value.specs.Rows.{instance_of, table_at};
 
 use crate::error::EvalError;
-use crate::produced::{Given, Produced, gathered, outcome_from, shown, table_in};
+use crate::pairs::{has_more, narrowed};
+use crate::produced::{Given, Produced, gathered, outcome_from, owned, shown, table_in};
 use std::alloc::Global;
 use wd_plan::{Expr, Outcome};
-use wd_steps::{
-    copy_filtered, distinct_rows, filter_pairs, filter_rows, has_more_pairs, join_rows, map_rows,
-};
+use wd_steps::{copy_filtered, distinct_rows, filter_pairs, filter_rows, join_rows, map_rows};
 use wd_value::{OutOfMemory, Row};
 
 /// The largest number of rows of a step.
@@ -44,11 +43,11 @@ pub(crate) fn joined(
 ) -> Result<Produced, EvalError>
     ensures { IsSmallOrLarge (joined_of (instance_of instance.now) condition.now left right) (produced_of (instance_of instance.now)) result }
 {
-    let left = gathered(alloc, instance, left)?;
     let right = gathered(alloc, instance, right)?;
     match condition {
-        None => pairs_of(instance, left, right),
+        None => pairs_of(alloc, instance, left, right),
         Some(condition) => {
+            let left = narrowed(alloc, instance, condition, left)?;
             let outcome = joined_where(alloc, instance, condition, &left, &right)?;
             Ok(Produced::Made(outcome))
         }
@@ -56,24 +55,19 @@ pub(crate) fn joined(
 }
 
 /// All pairs, or the error that there are too many.
-fn pairs_of(instance: &[Vec<Row>], left: Given, right: Given) -> Result<Produced, EvalError>
-    ensures { IsSmallOrLarge (join_over None (given_of (instance_of instance.now) left) (given_of (instance_of instance.now) right)) (produced_of (instance_of instance.now)) result }
+fn pairs_of(
+    alloc: Global,
+    instance: &[Vec<Row>],
+    left: Produced,
+    right: Given,
+) -> Result<Produced, EvalError>
+    ensures { IsSmallOrLarge (join_over None (produced_of (instance_of instance.now) left) (given_of (instance_of instance.now) right)) (produced_of (instance_of instance.now)) result }
 {
-    if has_many_pairs(instance, &left, &right) {
+    let pairs = Produced::Pairs(Box::new(alloc, left)?, right);
+    if has_more(instance, &pairs, MOST_ROWS) {
         Err(EvalError::TooManyRows)
     } else {
-        Ok(Produced::Pairs(left, right))
-    }
-}
-
-/// Whether there are more pairs than a step may have rows.
-fn has_many_pairs(instance: &[Vec<Row>], left: &Given, right: &Given) -> bool
-    ensures { result ≡ has_more_rows most_rows (join_over None (given_of (instance_of instance.now) left.now) (given_of (instance_of instance.now) right.now)) }
-{
-    match (shown(left, instance), shown(right, instance)) {
-        (Err(_), _) => false,
-        (Ok(_), Err(_)) => false,
-        (Ok(left), Ok(right)) => has_more_pairs(left, right, MOST_ROWS),
+        Ok(pairs)
     }
 }
 
@@ -110,7 +104,10 @@ pub(crate) fn filtered(
         Produced::Table(table) => copy_filtered(alloc, condition, table_in(instance, table)),
         Produced::Made(Outcome::Rows(rows)) => filter_rows(alloc, condition, rows),
         Produced::Made(Outcome::Fault(fault)) => Ok(Outcome::Fault(fault)),
-        Produced::Pairs(left, right) => pairs_where(alloc, instance, condition, &left, &right),
+        Produced::Pairs(left, right) => {
+            let left = narrowed(alloc, instance, condition, Box::into_inner(left))?;
+            pairs_where(alloc, instance, condition, &left, &right)
+        }
     }
 }
 

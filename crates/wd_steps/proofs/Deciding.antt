@@ -1,8 +1,10 @@
 -- Conditions that are true only where two columns are equal.
-use Rattle.std.proofs.Common.{◌≡◌, ℕ, zero, suc, ◌+◌, ◌<◌, Bool, true, false, List, [], ◌∷◌, ◌++◌, All, length, get_or, Result, Ok, Err, refl, sym, ap, ◌∙◌, arith, inl, inr, Ordering, Less, Equal, Greater}
-use Rattle.std.specs.Prelude.{◌⊎◌}
+use Rattle.std.proofs.Common.{◌≡◌, ℕ, zero, suc, ◌+◌, ◌<◌, Bool, true, false, ◌&&◌, List, [], ◌∷◌, ◌++◌, All, length, get_or, Result, Ok, Err, refl, sym, ap, ◌∙◌, arith, inl, inr, Ordering, Less, Equal, Greater}
+use Rattle.std.specs.Prelude.{◌⊎◌, Contains}
 use Rattle.std.specs.Ordering.{is_eq, ordering_reverse}
 use Rattle.std.proofs.lemmas.Bool.{false≢true}
+use Rattle.std.proofs.lemmas.List.{append-nil, append_assoc, length-append}
+use Rattle.std.proofs.lemmas.List.Elements.{All-append, All-cons, All-contains, All-head, All-nil, All-tail, All-weaker}
 use Rattle.wd_value.specs.declared.value.Value.{Value}
 use Rattle.wd_value.specs.declared.value.Value.TheVariants.{Null, Int, Text, Bool as Truth}
 use Rattle.wd_value.specs.declared.value.Fault.{Fault}
@@ -16,7 +18,7 @@ use Rattle.wd_plan.specs.Outcomes.{passes}
 use Rattle.wd_scalar.specs.Arithmetic.{has_arithmetic}
 use Rattle.wd_scalar.proofs.Faultless.{never_faults}
 use Rattle.wd_steps.specs.declared.matching.JoinColumns.{JoinColumns}
-use Rattle.wd_steps.specs.Matching.{AreSides, Decides, IsUntrue, AreSkippable, agree, equal, equality}
+use Rattle.wd_steps.specs.Matching.{AreDeciding, AreSides, AreSkippable, AreWhole, Decides, IsUntrue, agree, equal, equality}
 
 -- ---- columns of a pair
 
@@ -74,23 +76,37 @@ is_verdict (Truth p) (Int n) = inr refl
 is_verdict (Truth p) (Text t) = inr refl
 is_verdict (Truth p) (Truth b) = inr refl
 
-module _ (width : ℕ) (c : JoinColumns) where
-  equality_is : (a b : ℕ) → AreSides width a b c → (l r : Row) → length l ≡ width → value_of (equality (Column a) (Column b)) (l ++ r) ≡ Ok (equal c l r)
-  equality_is a b (within, sides) l r long = elim sides [
-    | inl is ↦ (
-        let first = ap (column_of (l ++ r)) is.0 ∙ column-left l r c.left (omega (arith, within, long)) in
-        let second = column-right l r c.right b (omega (arith, is.1, long)) in
-        λ i. Ok (comparison op.Equal (first i) (second i)))
-    | inr is ↦ (
-        let first = ap (column_of (l ++ r)) is.0 ∙ column-left l r c.left (omega (arith, within, long)) in
-        let second = column-right l r c.right a (omega (arith, is.1, long)) in
-        (λ i. Ok (comparison op.Equal (second i) (first i))) ∙ ap Ok (turned (column_of r c.right) (column_of l c.left)))
-  ]
+-- columns of a pair that a row follows
+at_left : (l r x : Row) (c : ℕ) → c < length l → column_of ((l ++ r) ++ x) c ≡ column_of l c
+at_left l r x c h =
+    let long = length-append l r in
+    column-left (l ++ r) x c (omega arith) ∙ column-left l r c h
 
-  pub Decides-equality : (a b : ℕ) → AreSides width a b c → Decides width (equality (Column a) (Column b)) c
+at_right : (l r x : Row) (c k : ℕ) → k ≡ length l + c → c < length r → column_of ((l ++ r) ++ x) k ≡ column_of r c
+at_right l r x c k is h =
+    let long = length-append l r in
+    column-left (l ++ r) x k (omega arith) ∙ column-right l r c k is
+
+module _ (left right : ℕ) (c : JoinColumns) where
+  equality_is : (a b : ℕ) → AreSides left right a b c → (l r x : Row) → length l ≡ left → length r ≡ right → value_of (equality (Column a) (Column b)) ((l ++ r) ++ x) ≡ Ok (equal c l r)
+  equality_is a b sides l r x l-long r-long =
+      let l-within : c.left < length l = omega (arith, sides.0, l-long) in
+      let r-within : c.right < length r = omega (arith, sides.1, r-long) in
+      elim sides.2 [
+        | inl is ↦ (
+            let first = ap (column_of ((l ++ r) ++ x)) is.0 ∙ at_left l r x c.left l-within in
+            let second = at_right l r x c.right b (omega (arith, is.1, l-long)) r-within in
+            λ i. Ok (comparison op.Equal (first i) (second i)))
+        | inr is ↦ (
+            let first = ap (column_of ((l ++ r) ++ x)) is.0 ∙ at_left l r x c.left l-within in
+            let second = at_right l r x c.right a (omega (arith, is.1, l-long)) r-within in
+            (λ i. Ok (comparison op.Equal (second i) (first i))) ∙ ap Ok (turned (column_of r c.right) (column_of l c.left)))
+      ]
+
+  pub Decides-equality : (a b : ℕ) → AreSides left right a b c → Decides left right (equality (Column a) (Column b)) c
   Decides-equality a b sides = record {
-    where_false = λ l r long e. equality_is a b sides l r long ∙ ap Ok e;
-    where_null = λ l r long e. ap passes (equality_is a b sides l r long ∙ ap Ok e);
+    where_false = λ l r x l-long r-long e. equality_is a b sides l r x l-long r-long ∙ ap Ok e;
+    where_null = λ l r x l-long r-long e. ap passes (equality_is a b sides l r x l-long r-long ∙ ap Ok e);
   }
 
 -- ---- conjuncts
@@ -151,46 +167,90 @@ false-right Null = refl
 false-right (Int n) = refl
 false-right (Text t) = refl
 
-module _ (width : ℕ) (a b : Expression) (c : JoinColumns) where
-  pub Decides-left : Decides width a c → Decides width (And a b) c
-  Decides-left d = record {
-    where_false = λ l r long e. ap (λ x. and_then x (λ v. and_result v (value_of b (l ++ r)))) (d.where_false l r long e);
-    where_null = λ l r long e. passes-left (value_of a (l ++ r)) (value_of b (l ++ r)) (d.where_null l r long e);
+module _ (left right : ℕ) (a b : Expression) where
+  pub Decides-left : (c : JoinColumns) → Decides left right a c → Decides left right (And a b) c
+  Decides-left c d = record {
+    where_false = λ l r x l-long r-long e. ap (λ y. and_then y (λ v. and_result v (value_of b ((l ++ r) ++ x)))) (d.where_false l r x l-long r-long e);
+    where_null = λ l r x l-long r-long e. passes-left (value_of a ((l ++ r) ++ x)) (value_of b ((l ++ r) ++ x)) (d.where_null l r x l-long r-long e);
   }
 
-  pub Decides-right : has_arithmetic a ≡ false → Decides width b c → Decides width (And a b) c
-  Decides-right sure d = record {
-    where_false = λ l r long e. (
-        let value = never_faults a (l ++ r) sure in
-        (λ i. and_then (value.1 i) (λ v. and_result v (d.where_false l r long e i))) ∙ false-right value.0);
-    where_null = λ l r long e. passes-right (value_of a (l ++ r)) (value_of b (l ++ r)) (d.where_null l r long e);
+  pub Decides-right : has_arithmetic a ≡ false → (c : JoinColumns) → Decides left right b c → Decides left right (And a b) c
+  Decides-right sure c d = record {
+    where_false = λ l r x l-long r-long e. (
+        let value = never_faults a ((l ++ r) ++ x) sure in
+        (λ i. and_then (value.1 i) (λ v. and_result v (d.where_false l r x l-long r-long e i))) ∙ false-right value.0);
+    where_null = λ l r x l-long r-long e. passes-right (value_of a ((l ++ r) ++ x)) (value_of b ((l ++ r) ++ x)) (d.where_null l r x l-long r-long e);
+  }
+
+-- ---- columns, put after those that are there
+
+pub AreDeciding-none : (left right : ℕ) (e : Expression) (columns : List JoinColumns) → AreDeciding left right e columns columns
+AreDeciding-none left right e columns = record { own = []; grown = sym (append-nil columns); each = All-nil (Decides left right e) }
+
+pub AreDeciding-one : (left right : ℕ) (e : Expression) (columns : List JoinColumns) (c : JoinColumns) → Decides left right e c → AreDeciding left right e columns (columns ++ c ∷ [])
+AreDeciding-one left right e columns c d = record { own = c ∷ []; grown = refl; each = All-cons (Decides left right e) c [] d (All-nil (Decides left right e)) }
+
+module _ (left right : ℕ) (a b : Expression) (old middle new : List JoinColumns) where
+  pub AreDeciding-left : AreDeciding left right a old new → AreDeciding left right (And a b) old new
+  AreDeciding-left d = record { own = d.own; grown = d.grown; each = All-weaker (Decides left right a) (Decides left right (And a b)) (Decides-left left right a b) d.own d.each }
+
+  pub AreDeciding-both : has_arithmetic a ≡ false → AreDeciding left right a old middle → AreDeciding left right b middle new → AreDeciding left right (And a b) old new
+  AreDeciding-both sure first second = record {
+    own = first.own ++ second.own;
+    grown = second.grown ∙ ap (λ cs. cs ++ second.own) first.grown ∙ append_assoc old first.own second.own;
+    each = All-append (Decides left right (And a b)) first.own second.own
+        (All-weaker (Decides left right a) (Decides left right (And a b)) (Decides-left left right a b) first.own first.each)
+        (All-weaker (Decides left right b) (Decides left right (And a b)) (Decides-right left right a b sure) second.own second.each);
   }
 
 -- ---- pairs that do not agree
 
-module _ (width : ℕ) (e : Expression) (c : JoinColumns) (d : Decides width e c) (l r : Row) (long : length l ≡ width) (apart : agree c l r ≡ false) where
-  where_told : (b : Bool) → equal c l r ≡ Truth b → IsUntrue (value_of e (l ++ r))
-  where_told true is = absurd (false≢true (sym apart ∙ ap is_true is))
-  where_told false is = (Truth false, d.where_false l r long is, refl)
+module _ (left right : ℕ) (e : Expression) (l r x : Row) (l-long : length l ≡ left) (r-long : length r ≡ right) where
+  abbrev Untrue : Type 0
+  Untrue = IsUntrue (value_of e ((l ++ r) ++ x))
 
-  pub untrue-faultless : has_arithmetic e ≡ false → IsUntrue (value_of e (l ++ r))
-  untrue-faultless sure = elim (is_verdict (column_of l c.left) (column_of r c.right)) [
-    | inl none ↦ (let value = never_faults e (l ++ r) sure in (value.0, value.1, ap passes (sym value.1) ∙ d.where_null l r long none.0))
-    | inr is ↦ where_told _ is
+  where_told : (c : JoinColumns) → Decides left right e c → is_true (equal c l r) ≡ false → (b : Bool) → equal c l r ≡ Truth b → Untrue
+  where_told c d apart true is = absurd (false≢true (sym apart ∙ ap is_true is))
+  where_told c d apart false is = (Truth false, d.where_false l r x l-long r-long is, refl)
+
+  untrue-faultless : has_arithmetic e ≡ false → (c : JoinColumns) → Decides left right e c → is_true (equal c l r) ≡ false → Untrue
+  untrue-faultless sure c d apart = elim (is_verdict (column_of l c.left) (column_of r c.right)) [
+    | inl none ↦ (let value = never_faults e ((l ++ r) ++ x) sure in (value.0, value.1, ap passes (sym value.1) ∙ d.where_null l r x l-long r-long none.0))
+    | inr is ↦ where_told c d apart _ is
   ]
 
-  pub untrue-whole : is_null (column_of l c.left) ≡ false → is_null (column_of r c.right) ≡ false → IsUntrue (value_of e (l ++ r))
-  untrue-whole left right = elim (is_verdict (column_of l c.left) (column_of r c.right)) [
+  untrue-whole : (c : JoinColumns) → Decides left right e c → is_null (column_of l c.left) ≡ false → is_null (column_of r c.right) ≡ false → is_true (equal c l r) ≡ false → Untrue
+  untrue-whole c d l-whole r-whole apart = elim (is_verdict (column_of l c.left) (column_of r c.right)) [
     | inl none ↦ elim none.1 [
-      | inl is ↦ absurd (false≢true (sym left ∙ is))
-      | inr is ↦ absurd (false≢true (sym right ∙ is))
+      | inl is ↦ absurd (false≢true (sym l-whole ∙ is))
+      | inr is ↦ absurd (false≢true (sym r-whole ∙ is))
     ]
-    | inr is ↦ where_told _ is
+    | inr is ↦ where_told c d apart _ is
   ]
 
-pub AreSkippable-faultless : (width : ℕ) (e : Expression) (c : JoinColumns) (left right : List Row) → Decides width e c → All (λ l. length l ≡ width) left → has_arithmetic e ≡ false → AreSkippable e c left right
-AreSkippable-faultless width e c left right d wide sure = λ i x i-within j y j-within apart. untrue-faultless width e c d (get_or left i x) (get_or right j y) (wide i x i-within) apart sure
+-- a pair that does not agree differs in one of the columns
+differs : {X : Type 0} (l r : Row) (columns : List JoinColumns) → All (λ c. is_true (equal c l r) ≡ false → X) columns → agree columns l r ≡ false → X
+differs l r [] all h = absurd (false≢true (sym h))
+differs {X} l r (c ∷ columns) all h = by (is_true (equal c l r)) refl (differs l r columns (All-tail (λ c. is_true (equal c l r) ≡ false → X) c columns all))
+  where
+    by : (b : Bool) → is_true (equal c l r) ≡ b → (agree columns l r ≡ false → X) → X
+    by false is rest = All-head (λ c. is_true (equal c l r) ≡ false → X) c columns all is
+    by true is rest = rest (sym (ap (λ b. b && agree columns l r) is) ∙ h)
 
-pub AreSkippable-whole : (width : ℕ) (e : Expression) (c : JoinColumns) (left right : List Row) → Decides width e c → All (λ l. length l ≡ width) left
-    → All (λ l. is_null (column_of l c.left) ≡ false) left → All (λ r. is_null (column_of r c.right) ≡ false) right → AreSkippable e c left right
-AreSkippable-whole width e c left right d wide lefts rights = λ i x i-within j y j-within apart. untrue-whole width e c d (get_or left i x) (get_or right j y) (wide i x i-within) apart (lefts i x i-within) (rights j y j-within)
+module _ (left right : ℕ) (e : Expression) (columns : List JoinColumns) (ls rs : List Row) (l-wide : All (λ l. length l ≡ left) ls) (r-wide : All (λ r. length r ≡ right) rs) where
+  pub AreSkippable-faultless : All (Decides left right e) columns → has_arithmetic e ≡ false → AreSkippable e columns ls rs
+  AreSkippable-faultless all sure = λ i d i-within j f j-within apart x. (
+      let l = get_or ls i d in
+      let r = get_or rs j f in
+      differs l r columns (All-weaker (Decides left right e) (λ c. is_true (equal c l r) ≡ false → IsUntrue (value_of e ((l ++ r) ++ x))) (untrue-faultless left right e l r x (l-wide i d i-within) (r-wide j f j-within) sure) columns all) apart)
+
+  pub AreSkippable-whole : (whole : List JoinColumns) → All (Decides left right e) columns → All (λ c. Contains columns c × AreWhole c ls rs) whole → AreSkippable e whole ls rs
+  AreSkippable-whole whole all told = λ i d i-within j f j-within apart x. (
+      let l = get_or ls i d in
+      let r = get_or rs j f in
+      differs l r whole (All-weaker (λ c. Contains columns c × AreWhole c ls rs) (λ c. is_true (equal c l r) ≡ false → IsUntrue (value_of e ((l ++ r) ++ x)))
+      (λ c h. untrue-whole left right e l r x (l-wide i d i-within) (r-wide j f j-within) c (All-contains (Decides left right e) columns c all h.0) (h.1.0 i d i-within) (h.1.1 j f j-within)) whole told) apart)
+
+-- without columns each pair agrees
+pub AreSkippable-none : (e : Expression) (ls rs : List Row) → AreSkippable e [] ls rs
+AreSkippable-none e ls rs = λ i d i-within j f j-within apart x. absurd (false≢true (sym apart))

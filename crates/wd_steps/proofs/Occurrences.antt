@@ -38,7 +38,7 @@ then_equal Less p e = absurd (cc e)
 then_equal Equal p e = (refl, e)
 then_equal Greater p e = absurd (cc e)
 
-compare_rows-exact : (a b : Row) → compare_rows a b ≡ Equal → a ≡ b
+pub compare_rows-exact : (a b : Row) → compare_rows a b ≡ Equal → a ≡ b
 compare_rows-exact [] [] e = refl
 compare_rows-exact [] (y ∷ b) e = absurd (cc e)
 compare_rows-exact (x ∷ a) [] e = absurd (cc e)

@@ -6,7 +6,7 @@ use Rattle.wd_value.specs.Rows.{Row}
 use Rattle.wd_plan.specs.Expressions.{Expr, Expression, expression_of, value_of}
 use Rattle.wd_plan.specs.Faults.{least_fault}
 use Rattle.wd_plan.specs.declared.plan.Outcome.{Outcome}
-use Rattle.wd_plan.specs.Outcomes.{RowsOrFault, outcome_of, passes}
+use Rattle.wd_plan.specs.Outcomes.{RowsOrFault, filter_outcome, outcome_of, pairs, passes}
 use Rattle.wd_steps.specs.declared.join.JoinError.{JoinError}
 use Rattle.wd_steps.specs.declared.join.JoinError.TheVariants.{TooManyRows}
 
@@ -37,3 +37,7 @@ result_of (Err error) = Err error
 abbrev pub within : ℕ → List Row → Option Fault → Result RowsOrFault JoinError
 within most rows (Some fault) = Ok (Err fault)
 within most rows None = if nat_lt most (length rows) then Err TooManyRows else Ok (Ok rows)
+
+-- the condition gives the same over these rows as over all, whatever rows they are paired with
+abbrev pub AreEnough : Expression → List Row → List Row → Type 0
+AreEnough condition all rows = (right : List Row) → filter_outcome condition (pairs rows right) ≡ filter_outcome condition (pairs all right)

@@ -14,8 +14,9 @@ ghost use Rattle.wd_value.specs.Rows.{rows_of};
 
 use crate::fault::{rows_or_fault, with_value};
 use crate::filter::passes;
-use crate::matching::{JoinColumns, agreeing_positions, matching_columns, sorted_by};
+use crate::matching::{JoinColumns, matching_columns};
 use crate::pairs::{all_pairs, joined_row};
+use crate::walk::{agreeing_rows, positions_in};
 use std::alloc::Global;
 use wd_plan::{Expr, Outcome};
 use wd_scalar::{has_arithmetic, value_of};
@@ -117,8 +118,8 @@ pub fn filter_pairs(
 }
 
 /// The first rows for which the condition is true, one more than `most` of them, and the least
-/// fault among all pairs. Where only pairs that agree on two columns can matter, only these are
-/// looked at.
+/// fault among all pairs. Where only pairs that agree on columns can matter, only these are looked
+/// at.
 fn kept_pairs(
     alloc: Global,
     condition: &Expr,
@@ -128,9 +129,11 @@ fn kept_pairs(
 ) -> Result<Kept, OutOfMemory>
     ensures { IfOk result (λ k. AreKept (expression_of condition.now) most (spec.pairs (rows_of left.now) (rows_of right.now)) (rows_of k.rows.items) k.fault) }
 {
-    match matching_columns(condition, left, right) {
-        Some(columns) => matching_where(alloc, condition, columns, left, right, most),
-        None => pairs_where(alloc, condition, left, right, most),
+    let columns = matching_columns(alloc, condition, left, right)?;
+    if columns.is_empty() {
+        pairs_where(alloc, condition, left, right, most)
+    } else {
+        matching_where(alloc, condition, &columns, left, right, most)
     }
 }
 
@@ -157,27 +160,28 @@ fn pairs_where(
     Ok(kept)
 }
 
-/// The same, by the pairs that agree on the columns alone. Takes n log n comparisons, and time that
-/// goes with the number of such pairs.
+/// The same, by the pairs that agree on the columns alone. Takes time as a sort of either side, and
+/// time that goes with the number of such pairs.
 fn matching_where(
     alloc: Global,
     condition: &Expr,
-    columns: JoinColumns,
+    columns: &[JoinColumns],
     left: &[Row],
     right: &[Row],
     most: u64,
 ) -> Result<Kept, OutOfMemory>
-    requires { AreSkippable (expression_of condition.now) columns (rows_of left.now) (rows_of right.now) }
+    requires { AreSkippable (expression_of condition.now) columns.now (rows_of left.now) (rows_of right.now) }
     ensures { IfOk result (λ k. AreKept (expression_of condition.now) most (spec.pairs (rows_of left.now) (rows_of right.now)) (rows_of k.rows.items) k.fault) }
 {
     let faultless = !has_arithmetic(condition);
-    let order = sorted_by(alloc, right, columns.right)?;
+    let agreeing = agreeing_rows(alloc, columns, left, right)?;
     let mut kept = Kept::nothing(alloc);
-    for first in left {
+    for i in 0..left.len() {
         if faultless && kept.rows.len() as u64 > most {
             return Ok(kept);
         }
-        let positions = agreeing_positions(&order, right, columns, first);
+        let first = row_in(left, i as u64);
+        let positions = positions_in(&agreeing.order, agreeing.stretches[i]);
         for position in positions {
             kept.look_at(alloc, condition, first, row_in(right, *position), most)?;
         }

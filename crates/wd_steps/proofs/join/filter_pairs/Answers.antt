@@ -1,4 +1,4 @@
-use Rattle.std.proofs.Common.{◌≡◌, ◌^◌, ◌-◌, ◌≤◌, ◌∙◌, length, arith, rules}
+use Rattle.std.proofs.Common.{◌^◌, ◌-◌, ◌≤◌, ◌∙◌, length, arith, rules}
 use Rattle.std.proofs.lemmas.List.{length-map}
 use Rattle.wd_value.specs.Rows.{rows_of}
 use Rattle.wd_plan.specs.Expressions.{expression_of}

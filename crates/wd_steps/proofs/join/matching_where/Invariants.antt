@@ -5,8 +5,8 @@ use Rattle.wd_steps.specs.Joins.{AreKept}
 use Rattle.wd_steps.specs.Matching.{matching}
 use Rattle.wd_steps.proofs.join.matching_where.Given as goal
 
-abbrev pub invariant-loop-first : goal.invariant-loop-first
-invariant-loop-first l = AreKept (expression_of l.condition) l.most (matching l.columns (rows_of (take l.first-index l.left)) (rows_of l.right)) (rows_of l.kept.rows.items) l.kept.fault
+abbrev pub invariant-loop-i : goal.invariant-loop-i
+invariant-loop-i l = AreKept (expression_of l.condition) l.most (matching l.columns (take l.i (rows_of l.left)) (rows_of l.right)) (rows_of l.kept.rows.items) l.kept.fault
 
 abbrev pub invariant-loop-position : goal.invariant-loop-position
-invariant-loop-position l = AreKept (expression_of l.condition) l.most (matching l.columns (rows_of (take l.first-index l.left)) (rows_of l.right) ++ map (λ (r : Row). l.first.items ++ r) (rows_at (rows_of l.right) (take l.position-index l.positions))) (rows_of l.kept.rows.items) l.kept.fault
+invariant-loop-position l = AreKept (expression_of l.condition) l.most (matching l.columns (take l.i (rows_of l.left)) (rows_of l.right) ++ map (λ (r : Row). l.first ++ r) (rows_at (rows_of l.right) (take l.position-index l.positions))) (rows_of l.kept.rows.items) l.kept.fault

@@ -1,25 +1,38 @@
-use Rattle.std.proofs.Common.{◌≡◌, false, length, All, rules}
+use Rattle.std.proofs.Common.{◌≡◌, false, [], length, All, Contains, rules}
+use Rattle.std.proofs.lemmas.List.Elements.{All-same}
+use Rattle.std.proofs.lemmas.Result.{IfOk-weaker}
 use Rattle.wd_value.specs.Rows.{Row, rows_of}
 use Rattle.wd_plan.specs.Expressions.{expression_of}
 use Rattle.wd_scalar.specs.Arithmetic.{has_arithmetic}
-use Rattle.wd_steps.specs.Matching.{AreWhole, Decides}
+use Rattle.wd_steps.specs.Matching.{AreDeciding, AreSkippable, AreWhole, Decides}
 use Rattle.wd_steps.proofs.Deciding.{AreSkippable-faultless, AreSkippable-whole}
 use Rattle.wd_steps.proofs.matching.matching_columns.Goals as goal
 
-pub returns : goal.returns
-returns c =
+pub returns-then-has_arithmetic : goal.returns-then-has_arithmetic
+returns-then-has_arithmetic c =
     let e = expression_of c.args.condition.now in
     let left = rows_of c.args.left.now in
     let right = rows_of c.args.right.now in
-    let width = c.width_of-width.result in
-    let columns = c.in_ok-columns.columns in
-    let wide : All (λ (row : Row). length row ≡ width) left = c.are_wide.ensures (search rules) in
-    let decides : Decides width e columns = search rules in
-    elim c.else-has_arithmetic.branch [
-      | goal.else-has_arithmetic-via-then-has_arithmetic+else-have_nulls w ↦ (
-          let whole : AreWhole columns left right = w.have_nulls.ensures (search rules) in
-          AreSkippable-whole width e columns left right decides wide whole.0 whole.1)
-      | goal.else-has_arithmetic-via-else-has_arithmetic w ↦ (
-          let sure : has_arithmetic e ≡ false = search rules in
-          AreSkippable-faultless width e columns left right decides wide sure)
-    ]
+    let l = c.width_of.result in
+    let r = c.width_of-2.result in
+    let columns = c.deref.result.now in
+    let l-wide : All (λ (row : Row). length row ≡ l) left = c.are_wide.ensures (search rules) in
+    let r-wide : All (λ (row : Row). length row ≡ r) right = c.are_wide-else-not-are_wide.ensures (search rules) in
+    let told : AreDeciding l r e [] columns = search rules in
+    let all = All-same (Decides l r e) columns told.own told.grown told.each in
+    IfOk-weaker c.whole_columns.result (λ v. All (λ k. Contains columns k × AreWhole k left right) v.items) (λ v. AreSkippable e v.items left right) (λ v h. AreSkippable-whole l r e columns left right l-wide r-wide v.items all h) c.whole_columns.ensures
+
+pub returns-else-has_arithmetic : goal.returns-else-has_arithmetic
+returns-else-has_arithmetic c =
+    let e = expression_of c.args.condition.now in
+    let left = rows_of c.args.left.now in
+    let right = rows_of c.args.right.now in
+    let l = c.width_of.result in
+    let r = c.width_of-2.result in
+    let columns = c.push_deciding.new.columns.items in
+    let l-wide : All (λ (row : Row). length row ≡ l) left = c.are_wide.ensures (search rules) in
+    let r-wide : All (λ (row : Row). length row ≡ r) right = c.are_wide-else-not-are_wide.ensures (search rules) in
+    let told : AreDeciding l r e [] columns = search rules in
+    let all = All-same (Decides l r e) columns told.own told.grown told.each in
+    let sure : has_arithmetic e ≡ false = search rules in
+    AreSkippable-faultless l r e columns left right l-wide r-wide all sure

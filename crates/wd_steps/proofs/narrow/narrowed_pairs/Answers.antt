@@ -1,0 +1,19 @@
+use Rattle.std.proofs.Common.{◌≡◌, rules, subst, sym}
+use Rattle.std.proofs.lemmas.Result.{IfOk-weaker}
+use Rattle.wd_value.specs.Rows.{rows_of}
+use Rattle.wd_plan.specs.Expressions.{expression_of}
+use Rattle.wd_plan.specs.Outcomes.{pairs}
+use Rattle.wd_steps.specs.Joins.{AreEnough}
+use Rattle.wd_steps.specs.Matching.{AreSkippable, matching}
+use Rattle.wd_steps.proofs.Agreeing.{AreEnough-matching}
+use Rattle.wd_steps.proofs.narrow.narrowed_pairs.Goals as goal
+
+pub returns : goal.returns
+returns c =
+    let e = expression_of c.args.condition.now in
+    let left = rows_of c.args.left.now in
+    let right = rows_of c.args.right.now in
+    let columns = c.deref.result.now in
+    let skips : AreSkippable e columns left right = search rules in
+    IfOk-weaker c.matching_pairs.result (λ v. rows_of v.items ≡ matching columns left right) (λ v. AreEnough e (pairs left right) (rows_of v.items))
+    (λ v is. subst (AreEnough e (pairs left right)) (sym is) (AreEnough-matching e columns left right skips)) c.matching_pairs.ensures
