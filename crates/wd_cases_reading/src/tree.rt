@@ -97,29 +97,37 @@ fn push_tests(out: &mut String, nots: &[bool]) -> Result<(), AllocError> {
     Ok(())
 }
 
-/// `window QUERY`: the directions and places of NULLs of its first named window, and the frame.
+/// `window QUERY`: the directions and places of NULLs of its named windows, and their frames.
 pub fn window(alloc: Global, tokens: &[Token]) -> Result<String, Failure> {
     let query = parse(alloc, tokens)?;
-    let Some(named) = query.select.windows.first() else {
-        return Err(Failure::NoCase);
-    };
-    window_shown(alloc, &named.window)
+    window_shown(alloc, &query)
 }
 
-fn window_shown(alloc: Global, window: &Window) -> Result<String, Failure> {
+fn window_shown(alloc: Global, query: &Query) -> Result<String, Failure> {
     let mut out = String::new(alloc);
+    for named in &query.select.windows {
+        push_window(&mut out, &named.window)?;
+    }
+    Ok(out)
+}
+
+fn push_window(out: &mut String, window: &Window) -> Result<(), AllocError> {
     for key in &window.order {
-        let (direction, nulls) = (key.direction, key.nulls);
+        let direction = key.direction;
+        let nulls = key.nulls;
         write!(out, "{direction:?} {nulls:?} ")?;
     }
     let frame = window.frame;
-    write!(out, "{frame:?}")?;
-    Ok(out)
+    write!(out, "{frame:?}")
 }
 
 /// `limits QUERY`: its offset and count.
 pub fn limits(alloc: Global, tokens: &[Token]) -> Result<String, Failure> {
     let query = parse(alloc, tokens)?;
+    limits_shown(alloc, &query)
+}
+
+fn limits_shown(alloc: Global, query: &Query) -> Result<String, Failure> {
     let limits = query.select.limits;
     Ok(format!(in alloc; "{limits:?}")?)
 }
