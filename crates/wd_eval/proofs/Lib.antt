@@ -8,3 +8,4 @@ pub mod Putting
 pub mod SomeSort
 pub mod SomeTied
 pub mod Walks
+pub mod Taking

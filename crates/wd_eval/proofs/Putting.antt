@@ -22,7 +22,7 @@ use Rattle.wd_eval.specs.Tied.{IsSortedOver, is_flipped}
 use Rattle.wd_eval.specs.Ties.{ArePut, AreSortedOver, IsPutEmpty, IsTiedLimit, IsTiedWindow}
 use Rattle.wd_window.proofs.Serving.{all_from_each, listings_more}
 
-lawful_over : (class : ClassRule) (flipped : Bool) (input : RowsOrFault) (ordering : List ℕ) → IsSortedOver class flipped input ordering → AtRows input (λ rows. IsOrdering class rows ordering) (ordering ≡ [])
+pub lawful_over : (class : ClassRule) (flipped : Bool) (input : RowsOrFault) (ordering : List ℕ) → IsSortedOver class flipped input ordering → AtRows input (λ rows. IsOrdering class rows ordering) (ordering ≡ [])
 lawful_over class flipped (Ok rows) ordering s = IsOrdering-from_given class rows flipped ordering s
 lawful_over class flipped (Err fault) ordering s = s
 

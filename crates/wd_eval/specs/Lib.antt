@@ -1,4 +1,5 @@
 pub mod Errors
+pub mod Moves
 pub mod Steps
 pub mod Wrong
 pub mod Judged

@@ -1,18 +1,22 @@
 //! What a Limit keeps, under an ordering of a choice or under the sorted one.
 
-ghost use Rattle.std.specs.Prelude.{◌≡◌, IfOk};
-ghost use Rattle.wd_eval.specs.Nodes.{IsCutOrUnserved, given_of, produced_of};
+ghost use Rattle.std.specs.Prelude.{◌≡◌, ◌↔◌, [], IfOk, IsTrue, drop, length};
+ghost use Rattle.wd_eval.specs.Nodes.{IsCutOrUnserved, cut_over, given_of, produced_of};
 ghost use Rattle.wd_eval.specs.Tied.{IsSortedOver};
 ghost use Rattle.wd_eval.specs.Ties.{IsTiedLimit};
 ghost use Rattle.wd_eval.specs.Walks.{IsAt, IsLimitStep};
+ghost use Rattle.wd_plan.specs.Choices.{AtRows};
+ghost use Rattle.wd_plan.specs.Outcomes.{cut, outcome_of};
 ghost use Rattle.wd_plan.specs.Plans.{limit_of};
-ghost use Rattle.wd_plan.specs.Sorting.{limit_class};
-ghost use Rattle.wd_value.specs.Rows.{instance_of};
+ghost use Rattle.wd_plan.specs.Sorting.{IsOrdering, limit_class};
+ghost use Rattle.wd_value.specs.Bags.{EachOnce};
+ghost use Rattle.wd_value.specs.Rows.{instance_of, rows_at, rows_of};
 ghost use Rattle.wd_window.specs.Windows.{orderings_of};
 
 use crate::error::EvalError;
+use crate::moved::moved_rows;
 use crate::orderings::{Orderings, is_flipped};
-use crate::produced::{Given, Produced, gathered, shown};
+use crate::produced::{Given, Produced, gathered, shown, table_in};
 use std::alloc::Global;
 use wd_partition::{is_ordering, sorted_ordering};
 use wd_plan::{Limit, Outcome};
@@ -35,9 +39,9 @@ pub(crate) fn limited(
 {
     let input = gathered(alloc, instance, input)?;
     match orderings {
-        Orderings::Chosen(choice) => chosen_limit(alloc, instance, limit, &input, choice, first),
+        Orderings::Chosen(choice) => chosen_limit(alloc, instance, limit, input, choice, first),
         Orderings::Sorted(flipped) => {
-            let outcome = sorted_limit(alloc, instance, limit, &input, flipped, made)?;
+            let outcome = sorted_limit(alloc, instance, limit, input, flipped, made)?;
             Ok(outcome)
         }
     }
@@ -48,29 +52,93 @@ fn chosen_limit(
     alloc: Global,
     instance: &[Vec<Row>],
     limit: &Limit,
-    input: &Given,
+    input: Given,
     choice: &[Vec<u64>],
     number: usize,
 ) -> Result<Outcome, EvalError>
-    ensures { IsCutOrUnserved (limit_of limit.now) (given_of (instance_of instance.now) input.now) (orderings_of choice.now) number result }
+    ensures { IsCutOrUnserved (limit_of limit.now) (given_of (instance_of instance.now) input) (orderings_of choice.now) number result }
 {
     let Some(ordering) = choice.get(number) else {
         return Err(EvalError::NotValid(number as u64));
     };
+    if !is_lawful(alloc, instance, limit, &input, ordering)? {
+        return Err(EvalError::NotValid(number as u64));
+    }
+    let outcome = cut_given(alloc, instance, limit, input, ordering)?;
+    Ok(outcome)
+}
+
+/// Whether an ordering serves a limit over its input.
+fn is_lawful(
+    alloc: Global,
+    instance: &[Vec<Row>],
+    limit: &Limit,
+    input: &Given,
+    ordering: &[u64],
+) -> Result<bool, OutOfMemory>
+    ensures { IfOk result (λ b. IsTrue b ↔ AtRows (given_of (instance_of instance.now) input.now) (λ rows. IsOrdering (limit_class (limit_of limit.now)) rows ordering.now) (ordering.now ≡ [])) }
+{
     match shown(input, instance) {
-        Err(fault) => if ordering.is_empty() {
-            Ok(Outcome::Fault(fault))
-        } else {
-            Err(EvalError::NotValid(number as u64))
-        },
+        Err(_) => Ok(ordering.is_empty()),
         Ok(rows) => {
-            if !is_ordering(alloc, rows, &[], &limit.keys, ordering)? {
-                return Err(EvalError::NotValid(number as u64));
-            }
-            let kept = cut_rows(alloc, limit, rows, ordering)?;
+            let lawful = is_ordering(alloc, rows, &[], &limit.keys, ordering)?;
+            Ok(lawful)
+        }
+    }
+}
+
+/// What the limit keeps of its input under an ordering that serves it.
+fn cut_given(
+    alloc: Global,
+    instance: &[Vec<Row>],
+    limit: &Limit,
+    input: Given,
+    ordering: &[u64],
+) -> Result<Outcome, OutOfMemory>
+    requires { AtRows (given_of (instance_of instance.now) input) (λ rows. IsOrdering (limit_class (limit_of limit.now)) rows ordering.now) (ordering.now ≡ []) }
+    ensures { IfOk result (λ o. outcome_of o ≡ cut_over (limit_of limit.now) ordering.now (given_of (instance_of instance.now) input)) }
+{
+    match input {
+        Given::Table(table) => {
+            let kept = cut_rows(alloc, limit, table_in(instance, table), ordering)?;
+            Ok(Outcome::Rows(kept))
+        }
+        Given::Made(Outcome::Fault(fault)) => Ok(Outcome::Fault(fault)),
+        Given::Made(Outcome::Rows(rows)) => {
+            let kept = cut_made(alloc, limit, rows, ordering)?;
             Ok(Outcome::Rows(kept))
         }
     }
+}
+
+/// What the limit keeps of rows under an ordering of them. Where it has no count, these are moved.
+fn cut_made(
+    alloc: Global,
+    limit: &Limit,
+    rows: Vec<Row>,
+    ordering: &[u64],
+) -> Result<Vec<Row>, OutOfMemory>
+    requires { EachOnce (length (rows_of rows.items)) ordering.now }
+    ensures { IfOk result (λ v. rows_of v.items ≡ cut (limit_of limit.now) (rows_at (rows_of rows.items) ordering.now)) }
+{
+    match limit.count {
+        Some(_) => {
+            let kept = cut_rows(alloc, limit, &rows, ordering)?;
+            Ok(kept)
+        }
+        None => {
+            let moved = moved_rows(alloc, rows, behind(ordering, limit.offset))?;
+            Ok(moved)
+        }
+    }
+}
+
+/// The positions behind the offset.
+fn behind(ordering: &[u64], offset: u64) -> &[u64]
+    ensures { result.now ≡ drop offset ordering.now }
+{
+    let start = (offset as usize).min(ordering.len());
+    &ordering[start..]
 }
 
 /// The same under the sorted ordering, which is used as it is.
@@ -78,23 +146,34 @@ fn sorted_limit(
     alloc: Global,
     instance: &[Vec<Row>],
     limit: &Limit,
-    input: &Given,
+    input: Given,
     flipped: Option<u32>,
     made: &mut Vec<Vec<u64>>,
 ) -> Result<Outcome, OutOfMemory>
-    ensures { IfOk result (λ o. IsTiedLimit (limit_of limit.now) (given_of (instance_of instance.now) input.now) flipped (orderings_of made.old.items) (orderings_of made.new.items) o) }
+    ensures { IfOk result (λ o. IsTiedLimit (limit_of limit.now) (given_of (instance_of instance.now) input) flipped (orderings_of made.old.items) (orderings_of made.new.items) o) }
 {
     let turned = is_flipped(flipped, made.len());
+    let ordering = sorted_over(alloc, instance, &input, limit, turned)?;
+    let outcome = cut_given(alloc, instance, limit, input, &ordering)?;
+    made.push(ordering)?;
+    Ok(outcome)
+}
+
+/// The sorted ordering of a limit over its input, and the empty list where that is a fault.
+fn sorted_over(
+    alloc: Global,
+    instance: &[Vec<Row>],
+    input: &Given,
+    limit: &Limit,
+    turned: bool,
+) -> Result<Vec<u64>, OutOfMemory>
+    ensures { IfOk result (λ v. IsSortedOver (limit_class (limit_of limit.now)) turned (given_of (instance_of instance.now) input.now) v.items) }
+{
     match shown(input, instance) {
-        Err(fault) => {
-            made.push(Vec::new(alloc))?;
-            Ok(Outcome::Fault(fault))
-        }
+        Err(_) => Ok(Vec::new(alloc)),
         Ok(rows) => {
             let ordering = sorted_ordering(alloc, rows, &[], &limit.keys, turned)?;
-            let kept = cut_rows(alloc, limit, rows, &ordering)?;
-            made.push(ordering)?;
-            Ok(Outcome::Rows(kept))
+            Ok(ordering)
         }
     }
 }

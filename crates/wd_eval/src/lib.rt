@@ -5,6 +5,7 @@ mod cut;
 mod error;
 mod eval;
 pub mod laws;
+mod moved;
 mod node;
 mod orderings;
 mod pairs;

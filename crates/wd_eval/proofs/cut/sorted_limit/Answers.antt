@@ -1,0 +1,33 @@
+use Rattle.std.proofs.Common.{◌≡◌, ◌++◌, [], ◌∷◌, ◌∙◌, sym, ap, subst, length, arith}
+use Rattle.std.proofs.lemmas.List.{length-map, map_push}
+use Rattle.wd_value.specs.Rows.{instance_of}
+use Rattle.wd_plan.specs.Choices.{AtRows}
+use Rattle.wd_plan.specs.Outcomes.{outcome_of}
+use Rattle.wd_plan.specs.Plans.{limit_of}
+use Rattle.wd_plan.specs.Sorting.{IsOrdering, limit_class}
+use Rattle.wd_window.specs.Windows.{orderings_of}
+use Rattle.wd_eval.specs.Nodes.{cut_over, given_of}
+use Rattle.wd_eval.proofs.Putting.{lawful_over, limit_tied_from}
+use Rattle.wd_eval.proofs.cut.sorted_limit.Goals as goal
+
+pub cut_given-requires : goal.cut_given-requires
+cut_given-requires c =
+    let limit = limit_of c.args.limit.now in
+    let input = given_of (instance_of c.args.instance.now) c.args.input in
+    let ordering = c.in_ok-ordering.ordering.items in
+    subst (λ o. AtRows input (λ rows. IsOrdering (limit_class limit) rows o) (o ≡ [])) (sym c.deref.ensures.value) (lawful_over (limit_class limit) c.is_flipped-turned.result input ordering c.in_ok-ordering.ensures)
+
+pub returns : goal.returns
+returns c =
+    let limit = limit_of c.args.limit.now in
+    let input = given_of (instance_of c.args.instance.now) c.args.input in
+    let made = c.args.made.now.items in
+    let old = orderings_of made in
+    let new = orderings_of c.push.new.self.items in
+    let own = c.in_ok-ordering.ordering.items in
+    let o = c.in_ok-outcome.outcome in
+    let number = c.len.result in
+    let at : number ≡ length old = (let long = length-map made (λ v. v.items) in omega arith) in
+    let grown : new ≡ old ++ own ∷ [] = ap orderings_of c.in_ok-push.ensures.items ∙ map_push (λ v. v.items) made c.in_ok-ordering.ordering in
+    let is = subst (λ ps. outcome_of o ≡ cut_over limit ps input) c.deref.ensures.value c.in_ok-outcome.ensures in
+    limit_tied_from limit input c.args.flipped old new own number c.is_flipped-turned.result at grown c.in_ok-ordering.ensures o c.is_flipped-turned.ensures is
