@@ -3,8 +3,8 @@
 ghost use Rattle.wd_decide.specs.Laws.{ReportedAreSound, ReportedAreTrue};
 
 use wd_accept::laws::not_both;
-use wd_refute::laws::shown_is_not_refused;
 use wd_query::laws::one_plan;
+use wd_refute::laws::shown_is_not_refused;
 use wd_schema::laws::one_meaning;
 
 /// A certificate that is reported is valid, and nothing refuses its text.
