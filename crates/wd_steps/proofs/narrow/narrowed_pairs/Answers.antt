@@ -1,4 +1,4 @@
-use Rattle.std.proofs.Common.{◌≡◌, rules, subst, sym}
+use Rattle.std.proofs.Common.{◌≡◌, subst, sym}
 use Rattle.std.proofs.lemmas.Result.{IfOk-weaker}
 use Rattle.wd_value.specs.Rows.{rows_of}
 use Rattle.wd_plan.specs.Expressions.{expression_of}
@@ -14,6 +14,6 @@ returns c =
     let left = rows_of c.args.left.now in
     let right = rows_of c.args.right.now in
     let columns = c.deref.result.now in
-    let skips : AreSkippable e columns left right = search rules in
+    let skips : AreSkippable e columns left right = rw c.deref.ensures.value c.in_ok-columns.ensures in
     IfOk-weaker c.matching_pairs.result (λ v. rows_of v.items ≡ matching columns left right) (λ v. AreEnough e (pairs left right) (rows_of v.items))
     (λ v is. subst (AreEnough e (pairs left right)) (sym is) (AreEnough-matching e columns left right skips)) c.matching_pairs.ensures
