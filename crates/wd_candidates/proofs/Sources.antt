@@ -5,8 +5,9 @@ use Rattle.std.specs.declared.vec.Vec.{Vec}
 use Rattle.std.proofs.lemmas.Bool.{ltb-false, ltb-true}
 use Rattle.std.proofs.lemmas.List.{get_or-drop, get_or-map, length-map, length-take-le}
 use Rattle.wd_schema.specs.Tables.{TableRule}
+use Rattle.wd_plan.specs.declared.expression.Expr.{Expr}
 use Rattle.wd_plan.specs.declared.window.Call.{Call}
-use Rattle.wd_plan.specs.Expressions.{Expr, Expression, expression_of}
+use Rattle.wd_plan.specs.Expressions.{Expression, expression_of}
 use Rattle.wd_plan.specs.Fits.{width}
 use Rattle.wd_plan.specs.Plans.{WindowRule, PlanTree, Scan, Join, Filter, Map, Window, Distinct, Limit}
 use Rattle.wd_facts.specs.Given.{table_rule, used}

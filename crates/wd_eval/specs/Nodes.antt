@@ -8,7 +8,8 @@ use Rattle.wd_value.specs.declared.value.Fault.{Fault}
 use Rattle.wd_value.specs.Rows.{Instance, rows_at, rows_of, table_at}
 use Rattle.wd_plan.specs.declared.plan.Outcome.{Outcome}
 use Rattle.wd_plan.specs.Choices.{AreLawful}
-use Rattle.wd_plan.specs.Expressions.{Expr, Expression, expression_of}
+use Rattle.wd_plan.specs.declared.expression.Expr.{Expr}
+use Rattle.wd_plan.specs.Expressions.{Expression, expression_of}
 use Rattle.wd_plan.specs.Faults.{and_then}
 use Rattle.wd_plan.specs.Outcomes.{RowsOrFault, cut, join_outcome, ordering_at, outcome, outcome_of, pairs}
 use Rattle.wd_plan.specs.Plans.{PlanTree, LimitRule, WindowRule, ordering_count}

@@ -15,48 +15,37 @@ use Rattle.wd_plan.specs.declared.expression.ArithmeticOp.TheVariants.{Add, Subt
 use Rattle.wd_plan.specs.declared.expression.ComparisonOp.{ComparisonOp}
 use Rattle.wd_plan.specs.declared.expression.ComparisonOp.TheVariants.{Equal, NotEqual, Less, LessOrEqual, Greater, GreaterOrEqual}
 use Rattle.wd_plan.specs.declared.expression.Branch.{Branch}
-use Rattle.wd_plan.specs.declared.expression.ExprOver.{ExprOver}
-use Rattle.wd_plan.specs.declared.expression.ExprOver.TheVariants as code
+use Rattle.wd_plan.specs.declared.expression.Expr.{Expr}
+use Rattle.wd_plan.specs.declared.expression.Expr.TheVariants as code
 
--- an expression over columns of any type
-pub data ExpressionOver (C : Type 0) : Type 0 where
-  Column : C → ExpressionOver C
-  Literal : Value → ValueKind → ExpressionOver C
-  Negate : ExpressionOver C → ExpressionOver C
-  Arithmetic : ArithmeticOp → ExpressionOver C → ExpressionOver C → ExpressionOver C
-  Compare : ComparisonOp → ExpressionOver C → ExpressionOver C → ExpressionOver C
-  Not : ExpressionOver C → ExpressionOver C
-  And : ExpressionOver C → ExpressionOver C → ExpressionOver C
-  Or : ExpressionOver C → ExpressionOver C → ExpressionOver C
-  IsNull : ExpressionOver C → ExpressionOver C
-  IsNotNull : ExpressionOver C → ExpressionOver C
+pub data Expression : Type 0 where
+  -- a column of the row, by its number
+  Column : ℕ → Expression
+  Literal : Value → ValueKind → Expression
+  Negate : Expression → Expression
+  Arithmetic : ArithmeticOp → Expression → Expression → Expression
+  Compare : ComparisonOp → Expression → Expression → Expression
+  Not : Expression → Expression
+  And : Expression → Expression → Expression
+  Or : Expression → Expression → Expression
+  IsNull : Expression → Expression
+  IsNotNull : Expression → Expression
   -- a branch of a CASE: its condition, its result, and the rest, which is the next branch or what ELSE gives
-  Case : Branch → ExpressionOver C → ExpressionOver C → ExpressionOver C → ExpressionOver C
+  Case : Branch → Expression → Expression → Expression → Expression
 
--- an expression over the columns of a row, by their numbers
-abbrev pub Expression : Type 0
-Expression = ExpressionOver ℕ
-
--- the code's expressions over the columns of a row
-abbrev pub Expr : Type 0
-Expr = ExprOver ℕ
-
--- the expression that a value of the code shows, where its columns are seen by view
-abbrev pub seen_by : {D C : Type 0} → (D → C) → ExprOver D → ExpressionOver C
-seen_by view (code.Column c) = Column (view c)
-seen_by view (code.Literal v kind) = Literal v kind
-seen_by view (code.Negate' p a) = Negate (seen_by view a)
-seen_by view (code.Arithmetic' op p a q b) = Arithmetic op (seen_by view a) (seen_by view b)
-seen_by view (code.Compare' op p a q b) = Compare op (seen_by view a) (seen_by view b)
-seen_by view (code.Not' p a) = Not (seen_by view a)
-seen_by view (code.And' p a q b) = And (seen_by view a) (seen_by view b)
-seen_by view (code.Or' p a q b) = Or (seen_by view a) (seen_by view b)
-seen_by view (code.IsNull' p a) = IsNull (seen_by view a)
-seen_by view (code.IsNotNull' p a) = IsNotNull (seen_by view a)
-seen_by view (code.Case' branch p a q b r c) = Case branch (seen_by view a) (seen_by view b) (seen_by view c)
-
+-- the expression that a value of the code shows
 abbrev pub expression_of : Expr → Expression
-expression_of e = seen_by (λ c. c) e
+expression_of (code.Column c) = Column c
+expression_of (code.Literal v kind) = Literal v kind
+expression_of (code.Negate' p a) = Negate (expression_of a)
+expression_of (code.Arithmetic' op p a q b) = Arithmetic op (expression_of a) (expression_of b)
+expression_of (code.Compare' op p a q b) = Compare op (expression_of a) (expression_of b)
+expression_of (code.Not' p a) = Not (expression_of a)
+expression_of (code.And' p a q b) = And (expression_of a) (expression_of b)
+expression_of (code.Or' p a q b) = Or (expression_of a) (expression_of b)
+expression_of (code.IsNull' p a) = IsNull (expression_of a)
+expression_of (code.IsNotNull' p a) = IsNotNull (expression_of a)
+expression_of (code.Case' branch p a q b r c) = Case branch (expression_of a) (expression_of b) (expression_of c)
 
 -- ---- whole numbers
 

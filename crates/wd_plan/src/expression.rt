@@ -37,24 +37,21 @@ pub enum Branch {
     Later,
 }
 
-/// A scalar expression over columns, which are of any type: those of a row by their numbers, or what a query's text names.
+/// A scalar expression over the columns of a row, which are counted from 0.
 #[derive(Debug, Drop)]
-pub enum ExprOver<C> {
-    Column(C),
+pub enum Expr {
+    Column(u16),
     /// A literal, NULL too, with its kind.
     Literal(Value, ValueKind),
-    Negate(Box<ExprOver<C>>),
-    Arithmetic(ArithmeticOp, Box<ExprOver<C>>, Box<ExprOver<C>>),
-    Compare(ComparisonOp, Box<ExprOver<C>>, Box<ExprOver<C>>),
-    Not(Box<ExprOver<C>>),
-    And(Box<ExprOver<C>>, Box<ExprOver<C>>),
-    Or(Box<ExprOver<C>>, Box<ExprOver<C>>),
-    IsNull(Box<ExprOver<C>>),
-    IsNotNull(Box<ExprOver<C>>),
+    Negate(Box<Expr>),
+    Arithmetic(ArithmeticOp, Box<Expr>, Box<Expr>),
+    Compare(ComparisonOp, Box<Expr>, Box<Expr>),
+    Not(Box<Expr>),
+    And(Box<Expr>, Box<Expr>),
+    Or(Box<Expr>, Box<Expr>),
+    IsNull(Box<Expr>),
+    IsNotNull(Box<Expr>),
     /// A branch of a CASE: the first part is its condition, the second its result, the third the rest, which is the
     /// next branch or what ELSE gives.
-    Case(Branch, Box<ExprOver<C>>, Box<ExprOver<C>>, Box<ExprOver<C>>),
+    Case(Branch, Box<Expr>, Box<Expr>, Box<Expr>),
 }
-
-/// An expression over the columns of a row, which are counted from 0.
-pub type Expr = ExprOver<u16>;

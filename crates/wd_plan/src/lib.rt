@@ -8,8 +8,8 @@ mod function;
 mod plan;
 mod window;
 
-pub use equality::{Leaf, same_kind};
-pub use expression::{ArithmeticOp, Branch, ComparisonOp, Expr, ExprOver, ValueKind};
+pub use equality::same_kind;
+pub use expression::{ArithmeticOp, Branch, ComparisonOp, Expr, ValueKind};
 pub use fits::kind_of_type;
 pub use function::{
     Aggregate, Argument, ByPeers, Direction, FrameFunction, FrameRow, Function, FunctionName,

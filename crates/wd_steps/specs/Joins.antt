@@ -3,7 +3,8 @@ use Rattle.std.specs.Prelude.{◌≡◌, ℕ, ◌+◌, Bool, false, List, [], �
 use Rattle.std.specs.Borrow.{Bor}
 use Rattle.wd_value.specs.declared.value.Fault.{Fault}
 use Rattle.wd_value.specs.Rows.{Row}
-use Rattle.wd_plan.specs.Expressions.{Expr, Expression, expression_of, value_of}
+use Rattle.wd_plan.specs.declared.expression.Expr.{Expr}
+use Rattle.wd_plan.specs.Expressions.{Expression, expression_of, value_of}
 use Rattle.wd_plan.specs.Faults.{least_fault}
 use Rattle.wd_plan.specs.declared.plan.Outcome.{Outcome}
 use Rattle.wd_plan.specs.Outcomes.{RowsOrFault, filter_outcome, outcome_of, pairs, passes}

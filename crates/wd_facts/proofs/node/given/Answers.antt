@@ -2,10 +2,11 @@ use Rattle.std.proofs.Common.{◌≡◌, ◌≤◌, ◌-◌, rules, arith, refl,
 use Rattle.std.specs.List.{list_all}
 use Rattle.std.proofs.lemmas.List.{length-map}
 use Rattle.wd_schema.specs.Schemas.{schema_of}
-use Rattle.wd_plan.specs.Expressions.{Expr, expression_of}
+use Rattle.wd_plan.specs.Expressions.{expression_of}
 use Rattle.wd_plan.specs.Fits.{fits, width}
 use Rattle.wd_plan.specs.Plans.{Filter, Window, Distinct, Limit, limit_of, plan_of, window_of}
 use Rattle.wd_plan.proofs.Ranges.{names_classes}
+use Rattle.wd_plan.specs.declared.expression.Expr.{Expr}
 use Rattle.wd_facts.specs.Facts.{is_plain_fact, kept_by}
 use Rattle.wd_facts.specs.Given.{used as used_by}
 use Rattle.wd_facts.specs.Laws.{AreOfChildren}
