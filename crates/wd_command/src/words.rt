@@ -2,7 +2,7 @@
 
 ghost use Rattle.std.specs.Prelude.{◌≡◌, ℕ, List, map, codes, option_map, false, IfOk, IfErr, IfSome, IfNone};
 ghost use Rattle.clap.specs.Values.{kind_of};
-ghost use Rattle.clap.specs.Words.{app_of, found_of, rows_of, subcommand_rows_of};
+ghost use Rattle.clap.specs.Words.{app_of, found_of, rows_of, rule_of, subcommand_rows_of};
 ghost use Rattle.clap.specs.declared.builder.command.Command.TheViews.{out-Command as fields_of};
 ghost use Rattle.clap.specs.declared.error.kind.ErrorKind.TheVariants as kind;
 ghost use Rattle.wd_command.specs.CommandLine as spec;
@@ -163,7 +163,7 @@ fn paths_command<'a>(alloc: Global, name: &'a str) -> Result<Command<'a>, AllocE
 // One more path, behind the words `NAME SCHEMA QUERY`.
 fn file_word<'a>(alloc: Global, value_name: &'a str) -> Arg<'a>
     ensures rule { rule_of result ≡ spec.wanted (codes "file") }
-    ensures plain { IsPlainArg result }
+    ensures local { result.global ≡ false }
 {
     Arg::new(alloc, "file")
         .required(true)

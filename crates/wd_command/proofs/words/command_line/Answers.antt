@@ -11,8 +11,8 @@ added adds local is is_sub = adds.shape local ∙ ap₂ with_subcommand is (ap (
 
 pub returns : goal.returns
 returns c =
-    let check = added c.in_ok-subcommand.ensures c.in_ok-paths_command.ensures.local c.program.ensures c.in_ok-paths_command.ensures.app in
-    let explain = added c.in_ok-subcommand-2.ensures c.in_ok-paths_command-2.ensures.local check c.in_ok-paths_command-2.ensures.app in
-    let verify = added c.in_ok-subcommand-3.ensures c.in_ok-file_command.ensures.local explain c.in_ok-file_command.ensures.app in
-    let refute = added c.in_ok-subcommand-4.ensures c.in_ok-file_command-2.ensures.local verify c.in_ok-file_command-2.ensures.app in
+    let check = added c.in_ok-subcommand.ensures c.in_ok-check_command.ensures.local c.in_ok-program.ensures c.in_ok-check_command.ensures.app in
+    let explain = added c.in_ok-subcommand-2.ensures c.in_ok-explain_command.ensures.local check c.in_ok-explain_command.ensures.app in
+    let verify = added c.in_ok-subcommand-3.ensures c.in_ok-verify_command.ensures.local explain c.in_ok-verify_command.ensures.app in
+    let refute = added c.in_ok-subcommand-4.ensures c.in_ok-refute_command.ensures.local verify c.in_ok-refute_command.ensures.app in
     added c.in_ok-command.ensures c.in_ok-run_command.ensures.local refute c.in_ok-run_command.ensures.app
