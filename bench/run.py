@@ -11,7 +11,7 @@ turns, the program's most memory, and what ten times the records cost it. With -
 """
 
 import argparse
-import hashlib
+import multiprocessing
 import os
 import random
 import subprocess
@@ -143,16 +143,18 @@ def measure(words, folder):
 
 def rows_in(path):
     """A sum of the rows of an answer, each row equally often."""
-    with open(path, "rb") as file:
-        rows = sorted(row.replace(b'"', b"").rstrip(b"\r\n") for row in file.readlines()[1:])
-    return hashlib.sha256(b"\n".join(rows)).hexdigest()
+    steps = f"tail -n +2 '{path}' | tr -d '\"\\r' | LC_ALL=C sort | sha256sum"
+    return subprocess.run(["sh", "-c", steps], stdout=subprocess.PIPE, check=True).stdout
 
 
 def measure_task(program, task, engines, folder, turns):
     """Measures a task at each of its sizes and prints what comes out."""
     before = None
     for records in task.sizes:
-        write_tables(folder, records)
+        # In a process of its own, since what this one has taken counts as its children's too.
+        writer = multiprocessing.Process(target=write_tables, args=(folder, records))
+        writer.start()
+        writer.join()
         runs = [measure(of_wdcheck(program, task, folder), folder) for _ in range(turns)]
         seconds, wanted = min(run[0] for run in runs), rows_in(runs[-1][2])
         told = [f"wdcheck {seconds:.2f} s, {max(run[1] for run in runs):.0f} MB"]
