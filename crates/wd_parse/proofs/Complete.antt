@@ -29,7 +29,8 @@ use Rattle.wd_syntax.specs.Tokens.{literal_kind, operator_terminal, sign_termina
 use Rattle.wd_syntax.specs.Tree.{Tree, Constant, Column, Qualified, CallAll, Call, Case, Bracket, Signed, Binary, IsNull, Negated, Trees, no_trees, more_trees, Arms, no_arms, more_arms, Otherwise, no_else, or_else, OverTree, no_over, over_name, over_window, WindowTree, window, Keys, no_keys, more_keys, Key, trees_of, arms_of, keys_of, Each}
 use Rattle.wd_syntax.specs.Spelling.{mode_onto, bound_onto, extent_onto, exclusion_onto, frame_onto, direction_onto, nulls_onto, not_onto, base_onto, onto, list_onto, more_onto, arms_onto, else_onto, over_onto, window_onto, partition_onto, order_onto, more_keys_onto}
 use Rattle.wd_syntax.specs.Levels.{height, left_height, IsLevelled, AreLevelled, ArmsLevelled, ElseLevelled, OverLevelled, WindowLevelled, KeysLevelled}
-use Rattle.wd_syntax.specs.Limits.{operators, Below, Fits, AllFit, ArmsFit, ElseFits, OverFits, WindowFits, KeysFit}
+use Rattle.wd_syntax.specs.Limits.{operators}
+use Rattle.wd_parse.proofs.Fitting.{Below, Fits, AllFit, ArmsFit, ElseFits, OverFits, WindowFits, KeysFit}
 use Rattle.wd_cursor.specs.Cursor.{Unexpected, Limit, ◌>>=◌, Reads, Parser, Chance, eat, expect, eat_name, many, after, list_at}
 use Rattle.wd_parse.specs.Reading.{operator_at, sign_at, frame_at, direction_at, nulls_at, key_at, partition_at, order_at, window_at, links, compared, null_at, tests, arguments_at, call_of, enter, over_at, call_at, named_at, arm_at, else_at, case_at, bracket_at, primary, goes_on, levels, deeper_of, star_at}
 use Rattle.wd_cursor.proofs.Eaten.{eat_same, expect_same, eat_name_same, name_at_same, eat_name_kind, eat_other, eqb-same}

@@ -1,3 +1,5 @@
+pub mod Fitting
+pub mod Passing
 pub mod TerminalFacts
 pub mod Pieces
 pub mod Complete
@@ -10,4 +12,5 @@ pub mod CutPieces
 pub mod Cut
 pub mod CutQuery
 pub mod Loops
+pub mod Marked
 pub mod Whole

@@ -11,7 +11,8 @@ use Rattle.wd_syntax.specs.Tokens.{operator_terminal, sign_terminal, operator_he
 use Rattle.wd_syntax.specs.Tree.{Tree, Column, Qualified, Case, Bracket, Signed, Binary, IsNull, Negated, Trees, Otherwise, no_else, or_else, OverTree, no_over, over_name, over_window, WindowTree, window, Key, trees_of, arms_of, keys_of, Each}
 use Rattle.wd_syntax.specs.Spelling.{frame_onto, direction_onto, nulls_onto, not_onto, base_onto, onto, list_onto, more_onto, arms_onto, else_onto, over_onto, window_onto, partition_onto, order_onto, more_keys_onto}
 use Rattle.wd_syntax.specs.Levels.{height, left_height, IsLevelled, AreLevelled, ArmsLevelled, ElseLevelled, OverLevelled, WindowLevelled, KeysLevelled}
-use Rattle.wd_syntax.specs.Limits.{operators, Below, Fits, AllFit, ArmsFit, ElseFits, OverFits, WindowFits, KeysFit}
+use Rattle.wd_syntax.specs.Limits.{operators}
+use Rattle.wd_parse.proofs.Fitting.{Below, Fits, AllFit, ArmsFit, ElseFits, OverFits, WindowFits, KeysFit}
 use Rattle.wd_cursor.specs.Cursor.{Fault, Limit, ◌>>=◌, Reads, Parser, choose, eat, expect, with_rest, name_at, list_at}
 use Rattle.wd_parse.specs.Reading.{operator_of, operator_if, operator_at, sign_of, sign_at, frame_at, direction_at, nulls_at, key_at, partition_at, order_at, base_at, window_at, link, ended, links, compared, null_at, tests, arguments_at, call_of, enter, over_at, call_at, named_at, arm_at, else_at, case_at, bracket_at, primary_by_terminal, primary, signed_by, goes_on, levels, deeper_of}
 use Rattle.std.proofs.lemmas.Bool.{eqb-true}

@@ -4,9 +4,8 @@ use Rattle.wd_syntax.specs.declared.query.Query.{Query}
 use Rattle.wd_cursor.specs.Tokens.{Kinds}
 use Rattle.wd_syntax.specs.Tree.{QueryTree}
 use Rattle.wd_syntax.specs.View.{view_query}
-use Rattle.wd_syntax.specs.Limits.{KeepsLimits}
+use Rattle.wd_syntax.specs.Limits.{KeepsLimits, PassesLimitAt}
 use Rattle.wd_syntax.specs.Laws.{IsTreeOf}
-use Rattle.wd_syntax.specs.Passing.{PassesLimitAt}
 use Rattle.wd_parse.specs.declared.error.ParseError.{ParseError}
 use Rattle.wd_parse.specs.declared.error.ParseError.TheVariants.{Unexpected, PastLimit, OutOfMemory}
 

@@ -5,4 +5,3 @@ pub mod Spelling
 pub mod Levels
 pub mod Limits
 pub mod Laws
-pub mod Passing

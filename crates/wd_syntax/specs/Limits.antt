@@ -1,8 +1,28 @@
--- Trees within limits: at most c operators in an unbracketed chain of one height, and at most d levels open at once.
--- Levels are opened by each left bracket, CASE, NOT before an operand and a sign.
-use Rattle.std.specs.Prelude.{ℕ, zero, suc, ◌≤◌, ◌==◌, if◌then◌else◌, Option, Some, None}
-use Rattle.wd_syntax.specs.Tokens.{operator_height}
-use Rattle.wd_syntax.specs.Tree.{Tree, Constant, Column, Qualified, CallAll, Call, Case, Bracket, Signed, Binary, IsNull, Negated, Trees, no_trees, more_trees, Arms, no_arms, more_arms, Otherwise, no_else, or_else, OverTree, no_over, over_name, over_window, WindowTree, window, Keys, no_keys, more_keys, ItemTree, all_columns, all_of, shown, TableTree, named, derived, JoinTree, comma, cross, inner, Joins, no_joins, more_joins, SelectTree, select, QueryTree, query, Each}
+-- The limits of trees: how many levels are open at once, and how many operators an unbracketed chain of one height has. Each left
+-- bracket, CASE, NOT before an operand and sign opens a level.
+use Rattle.std.specs.Prelude.{◌≡◌, ◌++◌, ℕ, suc, ◌≤◌, ◌==◌, if◌then◌else◌, List, [], ◌∷◌, length, Option, Some, None}
+use Rattle.wd_lex.specs.declared.token.Terminal.TheVariants as m
+use Rattle.wd_lex.specs.declared.token.TokenKind.{TokenKind}
+use Rattle.wd_cursor.specs.declared.name.Name.{Name}
+use Rattle.wd_cursor.specs.Tokens.{Kinds, ◌▸◌}
+use Rattle.wd_syntax.specs.Tokens.{operator_terminal, sign_terminal, operator_height}
+use Rattle.wd_syntax.specs.Tree.{Tree, Constant, Column, Qualified, CallAll, Call, Case, Bracket, Signed, Binary, IsNull, Negated, Trees, no_trees, more_trees, Arms, no_arms, more_arms, Otherwise, no_else, or_else, OverTree, no_over, over_name, over_window, WindowTree, window, Keys, no_keys, more_keys, ItemTree, all_columns, all_of, shown, Tail, TableTree, named, derived, JoinTree, comma, cross, inner, Joins, no_joins, more_joins, SelectTree, select, QueryTree, query, Each, One}
+use Rattle.wd_syntax.specs.Spelling.{frame_onto, direction_onto, nulls_onto, not_onto, onto, list_onto, more_onto, arms_onto, else_onto, over_onto, window_onto, order_onto, more_keys_onto, given_onto, alias_onto, more_items_onto, more_windows_onto, windows_onto, limits_onto, tail_onto, table_onto, joins_onto, select_onto, end_onto, spell}
+use Rattle.wd_syntax.specs.Levels.{IsWellLevelled}
+
+-- What limits ask of a token: it opens the level of that number, or is the operator of that number in its chain, both from 1.
+pub data Weight : Type 0 where
+  level : ℕ → Weight
+  operator : ℕ → Weight
+
+-- a token that has a weight, and the tokens from it on
+pub record Mark : Type 0 where
+  pub weight : Weight
+  pub from : Kinds
+
+-- a token that opens a level where so many are open, and those within
+abbrev pub opened : ℕ → Kinds → (ℕ → List Mark) → List Mark
+opened n from within = record { weight = level (suc n); from = from } ∷ within (suc n)
 
 -- the operators of that height on the left of a chain
 abbrev pub operators : ℕ → Tree → ℕ
@@ -10,80 +30,101 @@ operators h (Binary o a b) = if operator_height o == h then suc (operators h a) 
 operators h (IsNull a not) = if 5 == h then suc (operators h a) else 0
 operators h _ = 0
 
--- one level deeper, if a level is left
-abbrev pub Below : ℕ → (ℕ → Type 0) → Type 0
-Below zero P = ⊥
-Below (suc d) P = P d
+-- the last operator of a chain of that height
+abbrev pub linked : ℕ → Tree → Kinds → Mark
+linked h a from = record { weight = operator (operators h a); from = from }
 
 abbrev mutual
-  pub Fits : ℕ → ℕ → Tree → Type 0
-  Fits c d (Constant l) = Unit {0}
-  Fits c d (Column a) = Unit {0}
-  Fits c d (Qualified a b) = Unit {0}
-  Fits c d (CallAll f over) = Below d (λ k. Unit {0}) × OverFits c d over
-  Fits c d (Call f bs over) = Below d (λ k. AllFit c k bs) × OverFits c d over
-  Fits c d (Case arms other) = Below d (λ k. ArmsFit c k arms × ElseFits c k other)
-  Fits c d (Bracket a) = Below d (λ k. Fits c k a)
-  Fits c d (Signed s a) = Below d (λ k. Fits c k a)
-  Fits c d (Binary o a b) = Fits c d a × Fits c d b × (operators (operator_height o) (Binary o a b) ≤ c)
-  Fits c d (IsNull a not) = Fits c d a × (operators 5 (IsNull a not) ≤ c)
-  Fits c d (Negated a) = Below d (λ k. Fits c k a)
+  -- the tokens of a tree that have a weight, from left to right, where so many levels are open and these tokens follow
+  pub marks : ℕ → Tree → Kinds → List Mark
+  marks n (Constant l) ts = []
+  marks n (Column a) ts = []
+  marks n (Qualified a b) ts = []
+  marks n (CallAll f over) ts = opened n (m.LeftBracket ▸ m.Star ▸ m.RightBracket ▸ over_onto over ts) (λ k. []) ++ over_marks n over ts
+  marks n (Call f bs over) ts = opened n (m.LeftBracket ▸ list_onto bs (m.RightBracket ▸ over_onto over ts)) (λ k. list_marks k bs (m.RightBracket ▸ over_onto over ts)) ++ over_marks n over ts
+  marks n (Case arms other) ts = opened n (onto (Case arms other) ts) (λ k. arms_marks k arms (else_onto other (m.End ▸ ts)) ++ else_marks k other (m.End ▸ ts))
+  marks n (Bracket a) ts = opened n (onto (Bracket a) ts) (λ k. marks k a (m.RightBracket ▸ ts))
+  marks n (Signed s a) ts = opened n (onto (Signed s a) ts) (λ k. marks k a ts)
+  marks n (Binary o a b) ts = marks n a (operator_terminal o ▸ onto b ts) ++ linked (operator_height o) (Binary o a b) (operator_terminal o ▸ onto b ts) ∷ marks n b ts
+  marks n (IsNull a not) ts = marks n a (m.Is ▸ not_onto not (m.Null ▸ ts)) ++ linked 5 (IsNull a not) (m.Is ▸ not_onto not (m.Null ▸ ts)) ∷ []
+  marks n (Negated a) ts = opened n (onto (Negated a) ts) (λ k. marks k a ts)
 
-  pub AllFit : ℕ → ℕ → Trees → Type 0
-  AllFit c d no_trees = Unit {0}
-  AllFit c d (more_trees a bs) = Fits c d a × AllFit c d bs
+  pub list_marks : ℕ → Trees → Kinds → List Mark
+  list_marks n no_trees ts = []
+  list_marks n (more_trees a bs) ts = marks n a (more_onto bs ts) ++ list_marks n bs ts
 
-  pub ArmsFit : ℕ → ℕ → Arms → Type 0
-  ArmsFit c d no_arms = Unit {0}
-  ArmsFit c d (more_arms when gives arms) = Fits c d when × Fits c d gives × ArmsFit c d arms
+  pub arms_marks : ℕ → Arms → Kinds → List Mark
+  arms_marks n no_arms ts = []
+  arms_marks n (more_arms when gives arms) ts = marks n when (m.Then ▸ onto gives (arms_onto arms ts)) ++ (marks n gives (arms_onto arms ts) ++ arms_marks n arms ts)
 
-  pub ElseFits : ℕ → ℕ → Otherwise → Type 0
-  ElseFits c d no_else = Unit {0}
-  ElseFits c d (or_else a) = Fits c d a
+  pub else_marks : ℕ → Otherwise → Kinds → List Mark
+  else_marks n no_else ts = []
+  else_marks n (or_else a) ts = marks n a ts
 
-  pub OverFits : ℕ → ℕ → OverTree → Type 0
-  OverFits c d no_over = Unit {0}
-  OverFits c d (over_name n) = Unit {0}
-  OverFits c d (over_window w) = Below d (λ k. WindowFits c k w)
+  pub over_marks : ℕ → OverTree → Kinds → List Mark
+  over_marks n no_over ts = []
+  over_marks n (over_name name) ts = []
+  over_marks n (over_window w) ts = bracketed_marks n w ts
 
-  pub WindowFits : ℕ → ℕ → WindowTree → Type 0
-  WindowFits c d (window base partition order frame) = AllFit c d partition × KeysFit c d order
+  -- a window in brackets
+  pub bracketed_marks : ℕ → WindowTree → Kinds → List Mark
+  bracketed_marks n (window base partition order frame) ts = opened n (m.LeftBracket ▸ window_onto (window base partition order frame) (m.RightBracket ▸ ts)) (λ k. list_marks k partition (order_onto order (frame_onto frame (m.RightBracket ▸ ts))) ++ keys_marks k order (frame_onto frame (m.RightBracket ▸ ts)))
 
-  pub KeysFit : ℕ → ℕ → Keys → Type 0
-  KeysFit c d no_keys = Unit {0}
-  KeysFit c d (more_keys a direction nulls keys) = Fits c d a × KeysFit c d keys
+  pub keys_marks : ℕ → Keys → Kinds → List Mark
+  keys_marks n no_keys ts = []
+  keys_marks n (more_keys a direction nulls keys) ts = marks n a (direction_onto direction (nulls_onto nulls (more_keys_onto keys ts))) ++ keys_marks n keys ts
 
 -- ---- selects
 
-abbrev pub ItemFits : ℕ → ℕ → ItemTree → Type 0
-ItemFits c d all_columns = Unit {0}
-ItemFits c d (all_of n) = Unit {0}
-ItemFits c d (shown a alias) = Fits c d a
+abbrev pub item_marks : ℕ → ItemTree → Kinds → List Mark
+item_marks n all_columns ts = []
+item_marks n (all_of name) ts = []
+item_marks n (shown a alias) ts = marks n a (alias_onto alias ts)
 
-abbrev pub OptionFits : ℕ → ℕ → Option Tree → Type 0
-OptionFits c d None = Unit {0}
-OptionFits c d (Some a) = Fits c d a
+abbrev pub items_marks : ℕ → List ItemTree → Kinds → List Mark
+items_marks n [] ts = []
+items_marks n (a ∷ items) ts = item_marks n a (more_items_onto items ts) ++ items_marks n items ts
+
+abbrev pub filter_marks : ℕ → Option Tree → Kinds → List Mark
+filter_marks n None ts = []
+filter_marks n (Some a) ts = marks n a ts
+
+abbrev pub windows_marks : ℕ → List (Name × WindowTree) → Kinds → List Mark
+windows_marks n [] ts = []
+windows_marks n (w ∷ windows) ts = bracketed_marks n w.1 (more_windows_onto windows ts) ++ windows_marks n windows ts
+
+abbrev pub tail_marks : ℕ → Tail → Kinds → List Mark
+tail_marks n tail ts =
+    filter_marks n tail.filter (windows_onto tail.windows (order_onto tail.order (limits_onto tail.limits ts)))
+    ++ (windows_marks n tail.windows (order_onto tail.order (limits_onto tail.limits ts))
+    ++ keys_marks n tail.order (limits_onto tail.limits ts))
 
 abbrev mutual
-  pub TableFits : ℕ → ℕ → TableTree → Type 0
-  TableFits c d (named n alias) = Unit {0}
-  TableFits c d (derived s alias) = Below d (λ k. SelectFits c k s)
+  pub table_marks : ℕ → TableTree → Kinds → List Mark
+  table_marks n (named name alias) ts = []
+  table_marks n (derived s alias) ts = opened n (table_onto (derived s alias) ts) (λ k. select_marks k s (m.RightBracket ▸ given_onto alias ts))
 
-  pub JoinFits : ℕ → ℕ → JoinTree → Type 0
-  JoinFits c d (comma table) = TableFits c d table
-  JoinFits c d (cross table) = TableFits c d table
-  JoinFits c d (inner with_inner table on) = TableFits c d table × Fits c d on
+  pub join_marks : ℕ → JoinTree → Kinds → List Mark
+  join_marks n (comma table) ts = table_marks n table ts
+  join_marks n (cross table) ts = table_marks n table ts
+  join_marks n (inner with_inner table on) ts = table_marks n table (m.On ▸ onto on ts) ++ marks n on ts
 
-  pub JoinsFit : ℕ → ℕ → Joins → Type 0
-  JoinsFit c d no_joins = Unit {0}
-  JoinsFit c d (more_joins join joins) = JoinFits c d join × JoinsFit c d joins
+  pub joins_marks : ℕ → Joins → Kinds → List Mark
+  joins_marks n no_joins ts = []
+  joins_marks n (more_joins join joins) ts = join_marks n join (joins_onto joins ts) ++ joins_marks n joins ts
 
-  pub SelectFits : ℕ → ℕ → SelectTree → Type 0
-  SelectFits c d (select parts first joins) =
-      Each (ItemFits c d) parts.items × TableFits c d first × JoinsFit c d joins × OptionFits c d parts.tail.filter × Each (λ w. Below d (λ k. WindowFits c k w.1)) parts.tail.windows × KeysFit c d parts.tail.order
+  pub select_marks : ℕ → SelectTree → Kinds → List Mark
+  select_marks n (select parts first joins) ts =
+      items_marks n parts.items (m.From ▸ table_onto first (joins_onto joins (tail_onto parts.tail ts)))
+      ++ (table_marks n first (joins_onto joins (tail_onto parts.tail ts))
+      ++ (joins_marks n joins (tail_onto parts.tail ts)
+      ++ tail_marks n parts.tail ts))
 
-abbrev pub QueryFits : ℕ → ℕ → QueryTree → Type 0
-QueryFits c d (query s semicolon) = SelectFits c d s
+-- the tokens of a query that have a weight
+abbrev pub query_marks : QueryTree → List Mark
+query_marks (query s semicolon) = select_marks 0 s (end_onto semicolon)
+
+-- ---- limits
 
 -- the most operators of an unbracketed chain of one height (this project's choice)
 abbrev pub most_operators : ℕ
@@ -93,5 +134,24 @@ most_operators = 200
 abbrev pub most_levels : ℕ
 most_levels = 32
 
+abbrev pub IsWithin : Weight → Type 0
+IsWithin (level n) = n ≤ most_levels
+IsWithin (operator n) = n ≤ most_operators
+
+-- one level, or one operator of a chain, too many
+abbrev pub IsPast : Weight → Type 0
+IsPast (level n) = n ≡ suc most_levels
+IsPast (operator n) = n ≡ suc most_operators
+
+-- Each token of the query is within the limits.
 abbrev pub KeepsLimits : QueryTree → Type 0
-KeepsLimits q = QueryFits most_operators most_levels q
+KeepsLimits q = Each (λ (mark : Mark). IsWithin mark.weight) (query_marks q)
+
+-- the token at the front of these is past a limit
+abbrev pub IsPastAt : Kinds → Mark → Type 0
+IsPastAt rest mark = IsPast mark.weight × (mark.from ≡ rest)
+
+-- At that place of the tokens a limit is passed: a well-levelled query begins with the same tokens, up to and with the one
+-- at the place, and in it this token opens a 33rd level or is the 201st operator of its chain.
+abbrev pub PassesLimitAt : Kinds → ℕ → Type 0
+PassesLimitAt ts place = (front : Kinds) × (token : TokenKind) × (more : Kinds) × (tree : QueryTree) × (behind : Kinds) × (length front ≡ place) × (ts ≡ front ++ token ∷ more) × (spell tree ≡ front ++ token ∷ behind) × IsWellLevelled tree × One (IsPastAt (token ∷ behind)) (query_marks tree)

@@ -1,5 +1,5 @@
 -- Queries as pure data, without where they lie in memory.
-use Rattle.std.specs.Prelude.{List, [], ◌∷◌, Bool, Option}
+use Rattle.std.specs.Prelude.{◌⊎◌, List, [], ◌∷◌, Bool, Option}
 use Rattle.wd_cursor.specs.declared.name.Name.{Name}
 use Rattle.wd_syntax.specs.declared.frame.Frame.{Frame}
 use Rattle.wd_syntax.specs.declared.expression.Operator.{Operator}
@@ -118,3 +118,8 @@ joins_of (a ∷ xs) = more_joins a (joins_of xs)
 abbrev pub Each : {A : Type 0} → (A → Type 0) → List A → Type 0
 Each P [] = Unit {0}
 Each P (a ∷ xs) = P a × Each P xs
+
+-- what holds of one
+abbrev pub One : {A : Type 0} → (A → Type 0) → List A → Type 0
+One P [] = ⊥
+One P (a ∷ xs) = P a ⊎ One P xs
