@@ -37,18 +37,47 @@ abbrev pub sign_terminal : Sign → Terminal
 sign_terminal s.Plus = m.Plus
 sign_terminal s.Minus = m.Minus
 
--- How loosely an operator binds: a primary expression has height 0, a sign 1, a test for NULL 5 and NOT 6.
+-- How loosely an expression binds, from 0: the lower a height, the tighter.
+abbrev pub primary_height : ℕ
+primary_height = 0
+
+abbrev pub sign_height : ℕ
+sign_height = 1
+
+abbrev pub product_height : ℕ
+product_height = 2
+
+abbrev pub sum_height : ℕ
+sum_height = 3
+
+abbrev pub comparison_height : ℕ
+comparison_height = 4
+
+-- a test for NULL
+abbrev pub test_height : ℕ
+test_height = 5
+
+-- NOT before an operand
+abbrev pub negation_height : ℕ
+negation_height = 6
+
+abbrev pub conjunction_height : ℕ
+conjunction_height = 7
+
+abbrev pub disjunction_height : ℕ
+disjunction_height = 8
+
 abbrev pub operator_height : Operator → ℕ
-operator_height o.Or = 8
-operator_height o.And = 7
-operator_height o.Equal = 4
-operator_height o.NotEqual = 4
-operator_height o.Less = 4
-operator_height o.LessOrEqual = 4
-operator_height o.Greater = 4
-operator_height o.GreaterOrEqual = 4
-operator_height o.Add = 3
-operator_height o.Subtract = 3
-operator_height o.Multiply = 2
-operator_height o.Divide = 2
-operator_height o.Remainder = 2
+operator_height o.Or = disjunction_height
+operator_height o.And = conjunction_height
+operator_height o.Equal = comparison_height
+operator_height o.NotEqual = comparison_height
+operator_height o.Less = comparison_height
+operator_height o.LessOrEqual = comparison_height
+operator_height o.Greater = comparison_height
+operator_height o.GreaterOrEqual = comparison_height
+operator_height o.Add = sum_height
+operator_height o.Subtract = sum_height
+operator_height o.Multiply = product_height
+operator_height o.Divide = product_height
+operator_height o.Remainder = product_height
