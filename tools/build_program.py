@@ -4,11 +4,11 @@
     python3 tools/build_program.py
 
 Proved is a crate whose library or program stands in its out/ beside a mark of the very files, kit and libraries below that it was
-made of, or that 'rt ci' has kept on this machine for the same. The others are proved from nothing; what stands above a library
-loads its statements alone, and no test is proved. Nothing is added to what 'rt ci' keeps. A line on standard error for each crate
-says how many functions are done of all. Ends with status 1 where a crate isn't proved.
+made of. The others are proved from nothing; what stands above a library loads its statements alone, and no test is proved. A line
+on standard error for each crate says how many functions are done of all. Ends with status 1 where a crate isn't proved.
 """
 
+import hashlib
 import os
 import sys
 import tempfile
@@ -20,35 +20,50 @@ PROGRAM = "wdcheck"
 FUNCTION = rb"(?m)^ *(?:pub(?:\([a-z]+\))? )?(?:const )?fn \w"
 
 
+def sum_of(files, folder):
+    """A sum of the files' names below the folder and of what they hold."""
+    found = hashlib.sha256()
+    for path in sorted(files):
+        with open(path, "rb") as file:
+            found.update(repr((os.path.relpath(path, folder), file.read())).encode())
+    return found.hexdigest()
+
+
 class Made:
     """What stands in the crates' out/ folders, with the marks of what it was made of."""
 
-    def __init__(self, crates):
-        self.kept = rt.Kept(crates)
+    def __init__(self):
+        with open(f"{rt.rtlib.KIT}/KIT-ID", encoding="utf-8") as file:
+            self.kit = file.read()
+        self.outputs = {}
 
-    def mark(self, crate, key):
-        """The text that stands beside what was made: the sum of all that it was made of, and that of the files themselves."""
-        self.kept.is_built(crate)
-        files = [f"{crate.folder}/out/{name}" for name in self.kept.made(crate, False)]
-        own = [rt.rtlib.sum_of(file) for file in files] if crate.is_program else self.kept.rlibs[crate.name]
-        return f"{key}\n{own}\n"
+    def output(self, crate):
+        """The sum of the crate's library or program, and none where it isn't there."""
+        if crate.name not in self.outputs:
+            path = f"{crate.folder}/out/{crate.name}" if crate.is_program else crate.rlib
+            files = [f"{at}/{name}" for at, _, names in os.walk(path) for name in names] if os.path.isdir(path) else [path]
+            self.outputs[crate.name] = sum_of(files, crate.folder) if os.path.exists(path) else None
+        return self.outputs[crate.name]
+
+    def sources(self, crate):
+        """The sum of all that the crate is made of: its files, the kit, the libraries below it by name and content."""
+        below = sorted((it.name, self.output(it)) for it in crate.below())
+        words = repr((self.kit, sorted(crate.of_kit), below, sum_of(rt.rtlib.files_of(crate.folder), crate.folder)))
+        return hashlib.sha256(words.encode()).hexdigest()
 
     def stands(self, crate):
-        """Whether the crate is proved already: it stands in its out/, or was kept."""
-        key, path = self.kept.key(crate), f"{crate.folder}/out/built"
-        if rt.rtlib.text_of(path) == self.mark(crate, key) and self.kept.is_whole(crate, False, self.kept.made(crate, False)):
+        """Whether the crate is proved already; else what stands there is taken away."""
+        if rt.rtlib.text_of(f"{crate.folder}/out/built") == f"{self.sources(crate)}\n{self.output(crate)}\n":
             return True
-        # What stands there may be a second name of a kept file, into which nothing may be written.
-        for name in ("rlib", "built", *self.kept.made(crate, False)):
+        for name in ("built", "rlib", crate.name):
             rt.clear(f"{crate.folder}/out/{name}")
-        if not self.kept.give(crate, False, key):
-            return False
-        self.note(crate, key)
-        return True
+        return False
 
-    def note(self, crate, key):
+    def note(self, crate, sources):
+        """Marks what has just been made of these sources."""
+        self.outputs.pop(crate.name, None)
         with open(f"{crate.folder}/out/built", "w", encoding="utf-8") as file:
-            file.write(self.mark(crate, key))
+            file.write(f"{sources}\n{self.output(crate)}\n")
 
 
 class Progress:
@@ -72,16 +87,14 @@ def prove(crate, given, jobs, made, progress):
     if made.stands(crate):
         progress.tell(crate, "is proved already")
         return True
-    key = made.kept.key(crate)
+    sources = made.sources(crate)
     with tempfile.TemporaryFile("w+", errors="replace") as crate.out:
         status = crate.ci(["--jobs", str(jobs)], False)
         crate.out.seek(0)
         said = crate.out.read() if status else ""
     # What was changed meanwhile is proved again by the next run.
-    if not status and made.kept.key(crate) == key and made.kept.is_untouched(crate):
-        made.note(crate, key)
-    elif not status:
-        made.kept.is_built(crate)
+    if not status and made.sources(crate) == sources:
+        made.note(crate, sources)
     progress.tell(crate, "NOT PROVED" if status else "proved", not status, said)
     return not status
 
@@ -94,7 +107,7 @@ def main():
     program = next(crate for crate in rt.rtlib.crates_below(TOP) if crate.name == PROGRAM)
     crates = [*program.below(), program]
     held = rt.rtlib.lock(crates)
-    made, progress = Made(crates), Progress(crates)
+    made, progress = Made(), Progress(crates)
     tasks = {}
     for crate in crates:
         waits = [(below.name, "proof") for below in crate.below()]
