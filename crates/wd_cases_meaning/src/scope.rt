@@ -6,7 +6,7 @@ use wd_cases::Failure;
 use wd_operand::{Meaning, ResolveError};
 use wd_plan::ValueKind;
 use wd_schema::{Schema, Table};
-use wd_scope::{Calls, Context, KnownWindow, MOST_COLUMNS, Scope, ScopeColumn, all_defined};
+use wd_scope::{Calls, Context, KnownWindow, MOST_COLUMNS, Place, Scope, ScopeColumn, all_defined};
 use wd_syntax::{Expr, Select};
 use wd_value::{ColumnType, Text};
 
@@ -90,13 +90,16 @@ fn meaning_shown(alloc: Global, meaning: Result<Meaning, ResolveError>) -> Resul
 /// `plain EXPRESSION`: what it means where no window call may stand.
 pub fn plain(alloc: Global, scope: &Scope, select: &Select) -> Result<String, Failure> {
     let tree = first_expression(select).ok_or(Failure::NoCase)?;
-    meaning_shown(alloc, wd_scope::plain(alloc, scope, tree))
+    meaning_shown(alloc, wd_scope::plain(alloc, scope, Place::SortKey, tree))
 }
 
 /// `condition EXPRESSION`
 pub fn condition(alloc: Global, scope: &Scope, select: &Select) -> Result<String, Failure> {
     let tree = first_expression(select).ok_or(Failure::NoCase)?;
-    written(alloc, &wd_scope::condition(alloc, scope, tree)?)
+    written(
+        alloc,
+        &wd_scope::condition(alloc, scope, Place::Where, tree)?,
+    )
 }
 
 /// `written_number EXPRESSION`
@@ -114,7 +117,7 @@ fn in_list(
     let context = Context {
         scope,
         windows: &[],
-        calls_allowed: true,
+        place: Place::SelectList,
     };
     wd_scope::resolved(alloc, &context, tree, calls)
 }

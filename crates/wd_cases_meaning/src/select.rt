@@ -4,7 +4,7 @@ use crate::tree::written;
 use std::alloc::{AllocError, Global};
 use wd_cases::Failure;
 use wd_plan::{Expr, Plan};
-use wd_scope::{Calls, Context, Scope};
+use wd_scope::{Calls, Context, Place, Scope};
 use wd_select::{
     Cut, Output, Shown, Sorted, add_all_met, cut_meant, deduplicated, filtered, item_meant,
     keys_sorted, limited, without_hidden,
@@ -29,7 +29,7 @@ fn listed(
     let context = Context {
         scope,
         windows: &[],
-        calls_allowed: true,
+        place: Place::SelectList,
     };
     Ok(item_meant(alloc, &context, item, calls)?)
 }

@@ -18,6 +18,7 @@ use Rattle.wd_scope.specs.Resolving.{condition}
 use Rattle.wd_scope.specs.Scopes.{ScopeRule, beside}
 use Rattle.wd_scope.specs.Scopes as scopes
 use Rattle.wd_scope.proofs.Typing.{and_both, bound, ok_is}
+use Rattle.wd_scope.specs.declared.context.Place.TheVariants as place
 use Rattle.wd_scope.proofs.TypedPlain.{condition_is}
 use Rattle.wd_select.specs.declared.output.OutputColumn.{OutputColumn}
 use Rattle.wd_select.specs.Steps.{Lowered}
@@ -161,18 +162,18 @@ cross_is tables from part next h is e =
     subst (IsFrom tables) (ok_is _ _ p.2) (subst (λ (q : JoinedTables). IsFrom tables (joined_to from None q)) a.0 (joined_is tables from None part h is a.1 refl))
 
 -- a condition over both sides
-on_is : (tables : List TableRule) (left right : JoinedTables) (on : Tree) (e : Expression) → IsPart tables (joined None left right) → condition (joined None left right).scope on ≡ Ok e → may_join (kinds_of tables (Join (Some e) left.plan right.plan)) (Some e) ≡ true
+on_is : (tables : List TableRule) (left right : JoinedTables) (on : Tree) (e : Expression) → IsPart tables (joined None left right) → condition place.On (joined None left right).scope on ≡ Ok e → may_join (kinds_of tables (Join (Some e) left.plan right.plan)) (Some e) ≡ true
 on_is tables left right on e h is =
-    let typed = over_plan tables (Join None left.plan right.plan) (beside left.scope right.scope) e Truth h (condition_is (beside left.scope right.scope) on e is) in
+    let typed = over_plan tables (Join None left.plan right.plan) (beside left.scope right.scope) e Truth h (condition_is place.On (beside left.scope right.scope) on e refl is) in
     and_both _ _ typed.is (rw typed.has refl)
 
 inner_is : (tables : List TableRule) (from : FromSoFar) (on : Tree) (part : JoinedTables) (next : FromSoFar) → IsFrom tables from → IsPart tables part → joined_on from on part ≡ Ok next → IsFrom tables next
 inner_is tables from on part next h is e =
-    let p = bound (next_admitted from part) (λ (q : JoinedTables). condition (joined None from.current q).scope on >>= λ x. Ok (joined_to from (Some x) q)) next e in
+    let p = bound (next_admitted from part) (λ (q : JoinedTables). condition place.On (joined None from.current q).scope on >>= λ x. Ok (joined_to from (Some x) q)) next e in
     let a = admitted_is (scope_so_far from) part p.0 p.1 in
     let there : IsPart tables p.0 = subst (IsPart tables) a.0 is in
     let few : length (beside (scope_so_far from) p.0.scope).columns ≤ 1024 = subst (λ (q : JoinedTables). length (beside (scope_so_far from) q.scope).columns ≤ 1024) a.0 a.1 in
-    let x = bound (condition (joined None from.current p.0).scope on) (λ y. Ok (joined_to from (Some y) p.0)) next p.2 in
+    let x = bound (condition place.On (joined None from.current p.0).scope on) (λ y. Ok (joined_to from (Some y) p.0)) next p.2 in
     let whole = part_join tables None from.current p.0 h.current_is there (current_few from.before from.current p.0 few) refl in
     subst (IsFrom tables) (ok_is _ _ x.2) (joined_is tables from (Some x.0) p.0 h there few (on_is tables from.current p.0 on x.0 whole x.1))
 

@@ -26,6 +26,7 @@ use Rattle.wd_scope.specs.Windows.{KnownMeaning}
 use Rattle.wd_scope.specs.Typed.{AreCalls, AreKnown, AreTyped, kinds_met}
 use Rattle.wd_scope.proofs.Typing.{bound, kept, ok_is}
 use Rattle.wd_scope.proofs.TypedMet.{more_calls}
+use Rattle.wd_scope.specs.declared.context.Place.TheVariants as place
 use Rattle.wd_scope.proofs.TypedPlain.{all_defined_is, condition_is}
 use Rattle.wd_resolve.specs.Selected.{JoinedTables}
 use Rattle.wd_select.specs.Outputs.{Listing, OutputMeaning, call_expressions, expressions_of, is_wide, list_meant}
@@ -188,15 +189,15 @@ shown_sorted_is tables plan scope distinct list order limits l h is e =
 selected_is : (tables : List TableRule) (scope : ScopeRule) (plan : PlanTree) (windows : List KnownMeaning) (parts : Parts) (l : Lowered) → HasKinds tables plan (scope_kinds scope) → AreKnown (kinds_met scope []) windows
     → selected scope plan windows parts ≡ Ok l → IsLowered tables l
 selected_is tables scope plan windows parts l h known e =
-    let c : ContextRule = record { scope = scope; windows = windows; calls_allowed = true } in
+    let c : ContextRule = record { scope = scope; windows = windows; place = place.SelectList } in
     let list = bound (list_meant c parts.items) (λ (x : Listing). shown_sorted (shown_by scope (is_distinct parts.quantifier) x) x.inputs parts.tail.order parts.tail.limits plan) l e in
     shown_sorted_is tables plan scope (is_distinct parts.quantifier) list.0 parts.tail.order parts.tail.limits l h (list_is c parts.items list.0 known list.1) list.2
 
 filtered_is : (tables : List TableRule) (scope : ScopeRule) (filter : Option Tree) (plan next : PlanTree) → HasKinds tables plan (scope_kinds scope) → filtered scope filter plan ≡ Ok next → HasKinds tables next (scope_kinds scope)
 filtered_is tables scope None plan next h e = subst (λ p. HasKinds tables p (scope_kinds scope)) (ok_is _ _ e) h
 filtered_is tables scope (Some a) plan next h e =
-    let x = bound (condition scope a) (λ y. Ok (Filter y plan)) next e in
-    subst (λ p. HasKinds tables p (scope_kinds scope)) (ok_is _ _ x.2) (filter_is tables x.0 plan (scope_kinds scope) h (over_plan tables plan scope x.0 Truth h (condition_is scope a x.0 x.1)))
+    let x = bound (condition place.Where scope a) (λ y. Ok (Filter y plan)) next e in
+    subst (λ p. HasKinds tables p (scope_kinds scope)) (ok_is _ _ x.2) (filter_is tables x.0 plan (scope_kinds scope) h (over_plan tables plan scope x.0 Truth h (condition_is place.Where scope a x.0 refl x.1)))
 
 pub behind_from_is : (tables : List TableRule) (from : JoinedTables) (parts : Parts) (l : Lowered) → HasKinds tables from.plan (scope_kinds from.scope)
     → behind_from from parts ≡ Ok l → IsLowered tables l

@@ -22,6 +22,7 @@ use Rattle.wd_scope.specs.Windows.{sort_key}
 use Rattle.wd_scope.specs.Typed.{AreCalls, AreTyped, IsOfKind, kinds_met}
 use Rattle.wd_scope.proofs.Typing.{both, bound, ok_is, settled_is, typed_kept}
 use Rattle.wd_scope.proofs.TypedMet.{all_on, all_push, more_calls}
+use Rattle.wd_scope.specs.declared.context.Place.TheVariants as place
 use Rattle.wd_scope.proofs.TypedPlain.{plain_is}
 use Rattle.wd_select.specs.Outputs.{OutputMeaning, call_expressions, expressions_of, inputs_with, is_wide}
 use Rattle.wd_select.specs.Sorting.{IsNarrow, KeyPlace, Shown, Sorted, expression_place, first_named, hidden, is_named, key_place, key_sorted, keys_sorted, literal_place, named_place, names_only, or_expression, ordinal, output, sorted_place, signed_place, unless_number, unless_other, with_hidden, with_key}
@@ -50,8 +51,8 @@ place_is s number e k (o ∷ outputs) is many = by (same_expression e o.expressi
 
 expression_place_is : (s : Shown) (a : Tree) (p : KeyPlace) → expression_place s a ≡ Ok p → IsPlace s p
 expression_place_is s a p h =
-    let x = bound (plain s.scope a) (λ (y : Operand). Ok (sorted_place 0 (settled y) s.outputs)) p h in
-    subst (IsPlace s) (ok_is _ _ x.2) (place_is s 0 (settled x.0) (operands.kind_of x.0) s.outputs (settled_is (kinds_met s.scope []) x.0 (plain_is s.scope a x.0 x.1)) (omega arith))
+    let x = bound (plain place.SortKey s.scope a) (λ (y : Operand). Ok (sorted_place 0 (settled y) s.outputs)) p h in
+    subst (IsPlace s) (ok_is _ _ x.2) (place_is s 0 (settled x.0) (operands.kind_of x.0) s.outputs (settled_is (kinds_met s.scope []) x.0 (plain_is place.SortKey s.scope a x.0 refl x.1)) (omega arith))
 
 first_named_is : (s : Shown) (number : ℕ) (name : List ℕ) (outputs : List OutputMeaning) (o : Option KeyPlace) → number + length outputs ≡ length s.outputs → first_named number name outputs ≡ Ok o → MayBePlace s o
 first_named_is s number name [] o many h = subst (MayBePlace s) (ok_is _ _ h) tt

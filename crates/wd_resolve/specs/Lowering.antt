@@ -11,6 +11,7 @@ use Rattle.wd_plan.specs.Expressions.{Expression}
 use Rattle.wd_plan.specs.Plans.{PlanTree}
 use Rattle.wd_operand.specs.Causes.{Meant, ◌>>=◌}
 use Rattle.wd_scope.specs.Resolving.{condition, all_defined}
+use Rattle.wd_scope.specs.declared.context.Place.TheVariants as place
 use Rattle.wd_scope.specs.Scopes.{ScopeRule}
 use Rattle.wd_scope.specs.Windows.{KnownMeaning}
 use Rattle.wd_resolve.specs.Selected.{JoinedTables, FromSoFar, called, named_table, derived_table, joined, together, first_admitted, next_admitted}
@@ -42,7 +43,7 @@ shown_sorted s inputs order limits plan =
 -- what is left of a select after its FROM and its WINDOW: the select list, ORDER BY and the limits, from left to right
 abbrev pub selected : ScopeRule → PlanTree → List KnownMeaning → Parts → Meant Lowered
 selected scope plan windows parts =
-    list_meant (record { scope = scope; windows = windows; calls_allowed = true }) parts.items >>= λ list.
+    list_meant (record { scope = scope; windows = windows; place = place.SelectList }) parts.items >>= λ list.
     shown_sorted (shown_by scope (is_distinct parts.quantifier) list) list.inputs parts.tail.order parts.tail.limits plan
 
 -- a select after its FROM: WHERE, WINDOW, and the rest
@@ -65,7 +66,7 @@ crossed from part = next_admitted from part >>= λ p. Ok (joined_to from None p)
 
 -- ON sees the tables back to the last comma
 abbrev pub joined_on : FromSoFar → Tree → JoinedTables → Meant FromSoFar
-joined_on from on part = next_admitted from part >>= λ p. condition (joined None from.current p).scope on >>= λ e. Ok (joined_to from (Some e) p)
+joined_on from on part = next_admitted from part >>= λ p. condition place.On (joined None from.current p).scope on >>= λ e. Ok (joined_to from (Some e) p)
 
 abbrev mutual
   -- the plan of a select, and its columns

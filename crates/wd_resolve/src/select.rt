@@ -30,7 +30,7 @@ use std::alloc::Global;
 use wd_operand::{Cause, ResolveError};
 use wd_plan::{Expr, Plan};
 use wd_schema::Schema;
-use wd_scope::{Calls, Context, KnownWindow, MOST_COLUMNS, Scope, all_defined};
+use wd_scope::{Calls, Context, KnownWindow, MOST_COLUMNS, Place, Scope, all_defined};
 use wd_select::{
     Cut, Output, OutputColumn, Shown, Sorted, add_all_met, cut_meant, deduplicated, filtered,
     is_wide, item_meant, keys_sorted, limited, mapped, without_hidden,
@@ -147,7 +147,7 @@ fn selected(
     let context = Context {
         scope,
         windows,
-        calls_allowed: true,
+        place: Place::SelectList,
     };
     let listed = list_meant(alloc, &context, &select.items)?;
     let distinct = is_distinct(select.quantifier);

@@ -19,7 +19,7 @@ use std::alloc::Global;
 use wd_operand::{Cause, ResolveError};
 use wd_plan::{Expr, Plan, kind_of_type};
 use wd_schema::{Schema, Table};
-use wd_scope::{MOST_COLUMNS, Scope, ScopeColumn, condition};
+use wd_scope::{MOST_COLUMNS, Place, Scope, ScopeColumn, condition};
 use wd_select::OutputColumn;
 use wd_value::{OutOfMemory, Text};
 
@@ -333,7 +333,7 @@ pub fn joined_on(
     admit(&from, &part)?;
     let FromSoFar { before, current } = from;
     let scope = beside(current.scope, part.scope)?;
-    let condition = condition(alloc, &scope, on)?;
+    let condition = condition(alloc, &scope, Place::On, on)?;
     let plan = Plan::Join {
         left: Box::new(alloc, current.plan)?,
         right: Box::new(alloc, part.plan)?,

@@ -14,31 +14,33 @@ use Rattle.wd_operand.specs.Causes.{Meant, ◌>>=◌}
 use Rattle.wd_scope.specs.Calls.{CallMeaning, applied, function_named, met}
 use Rattle.wd_operand.specs.Operands.{Operand, combined, negated, literal, case_of, settled}
 use Rattle.wd_operand.specs.Operands as operands
-use Rattle.wd_scope.specs.Resolving.{ContextRule, Met, all_resolved, alone, arguments_in, arms_resolved, called, else_resolved, key_meant, keys_resolved, over_meant, resolved, sign_met, where_allowed, window_resolved, within_call, without_call, written_number}
+use Rattle.wd_scope.specs.Resolving.{ContextRule, Met, all_resolved, alone, arguments_in, arms_resolved, called, else_resolved, key_meant, keys_resolved, over_meant, resolved, sign_met, where_allowed, window_resolved, moved_to, without_call, written_number}
 use Rattle.wd_scope.specs.Scopes.{ScopeRule, carries, column_named, the_one, unless_other}
 use Rattle.wd_scope.specs.Windows.{KeyMeaning, KnownMeaning, WindowMeaning, base_named, window_meant, window_named}
 use Rattle.wd_scope.specs.Typed.{AreKeys, AreKnown, AreTyped, IsCall, IsMet, IsOfKind, IsOperand, IsWindow, kinds_met}
 use Rattle.wd_scope.proofs.Typing.{AreArms, Extends, bound, case_is, combined_is, literal_is, negated_is, ok_is, operand_kept, settled_is, signed_is, signed_number_is, tested_is}
 use Rattle.wd_scope.proofs.TypedCalls.{AreArguments, IsBase, applied_is, window_is}
 use Rattle.wd_scope.proofs.TypedMet.{all_push, column_is, met_is, more_calls}
+use Rattle.wd_scope.specs.declared.context.Place.TheVariants as place
 use Rattle.wd_scope.specs.declared.scope.ScopeColumn.{ScopeColumn}
+use Rattle.wd_scope.specs.Places.{allows_window_calls}
 
 -- ---- where no calls may stand, none are met
 
-allowed : (c : ContextRule) (m : Meant WindowMeaning) (w : WindowMeaning) → c.calls_allowed ≡ false → where_allowed c m ≡ Ok w → ⊥
-allowed c m w e h = by c.calls_allowed e h
+allowed : (c : ContextRule) (m : Meant WindowMeaning) (w : WindowMeaning) → allows_window_calls c.place ≡ false → where_allowed c m ≡ Ok w → ⊥
+allowed c m w e h = by (allows_window_calls c.place) e h
   where
     by : (b : Bool) → b ≡ false → cond b m (Err CallNotAllowed) ≡ Ok w → ⊥
     by true e h = cc
     by false e h = cc
 
-not_over : (c : ContextRule) (over : OverTree) (w : WindowMeaning) → c.calls_allowed ≡ false → over_meant c over ≡ Ok w → ⊥
+not_over : (c : ContextRule) (over : OverTree) (w : WindowMeaning) → allows_window_calls c.place ≡ false → over_meant c over ≡ Ok w → ⊥
 not_over c no_over w e h = cc
 not_over c (over_name name) w e h = allowed c (window_named c.windows name.text) w e h
 not_over c (over_window v) w e h = allowed c (window_resolved c v) w e h
 
 -- the arguments of a call with a window
-within : (c : ContextRule) (over : OverTree) (w : WindowMeaning) → over_meant c over ≡ Ok w → arguments_in c over ≡ within_call c
+within : (c : ContextRule) (over : OverTree) (w : WindowMeaning) → over_meant c over ≡ Ok w → arguments_in c over ≡ moved_to place.Argument c
 within c no_over w h = cc
 within c (over_name name) w h = refl
 within c (over_window v) w h = refl
@@ -51,7 +53,7 @@ kept_sign sign (Some n) m calls x k h = kept_calls (operands.signed_number sign 
 kept_sign sign None m calls x k h = let a = bound m (λ (y : Met). without_call (operands.signed sign y.0) y.1) x h in kept_calls (operands.signed sign a.0.0) a.0.1 x a.2 ∙ k a.0 a.1
 
 mutual
-  pub no_calls : (c : ContextRule) (a : Tree) (calls : List CallMeaning) (x : Met) → c.calls_allowed ≡ false → resolved c a calls ≡ Ok x → x.1 ≡ calls
+  pub no_calls : (c : ContextRule) (a : Tree) (calls : List CallMeaning) (x : Met) → allows_window_calls c.place ≡ false → resolved c a calls ≡ Ok x → x.1 ≡ calls
   no_calls c (Constant y) calls x e h = kept_calls (literal y) calls x h
   no_calls c (Column name) calls x e h = kept_calls (column_named c.scope None name.text) calls x h
   no_calls c (Qualified table name) calls x e h = kept_calls (column_named c.scope (Some table.text) name.text) calls x h
@@ -77,14 +79,14 @@ mutual
       let y = bound (resolved c a calls) (λ z. without_call (negated z.0) z.1) x h in
       kept_calls (negated y.0.0) y.0.1 x y.2 ∙ no_calls c a calls y.0 e y.1
 
-  no_calls_arms : (c : ContextRule) (arms : Arms) (xs : List (Operand × Operand)) (calls : List CallMeaning) (x : List (Operand × Operand) × List CallMeaning) → c.calls_allowed ≡ false → arms_resolved c arms xs calls ≡ Ok x → x.1 ≡ calls
+  no_calls_arms : (c : ContextRule) (arms : Arms) (xs : List (Operand × Operand)) (calls : List CallMeaning) (x : List (Operand × Operand) × List CallMeaning) → allows_window_calls c.place ≡ false → arms_resolved c arms xs calls ≡ Ok x → x.1 ≡ calls
   no_calls_arms c no_arms xs calls x e h = sym (ap (λ (z : List (Operand × Operand) × List CallMeaning). z.1) (ok_is _ _ h))
   no_calls_arms c (more_arms when gives arms) xs calls x e h =
       let y = bound (resolved c when calls) (λ z. resolved c gives z.1 >>= λ w. arms_resolved c arms (xs ++ (z.0, w.0) ∷ []) w.1) x h in
       let z = bound (resolved c gives y.0.1) (λ w. arms_resolved c arms (xs ++ (y.0.0, w.0) ∷ []) w.1) x y.2 in
       no_calls_arms c arms (xs ++ (y.0.0, z.0.0) ∷ []) z.0.1 x e z.2 ∙ no_calls c gives y.0.1 z.0 e z.1 ∙ no_calls c when calls y.0 e y.1
 
-  no_calls_else : (c : ContextRule) (other : Otherwise) (calls : List CallMeaning) (x : Met) → c.calls_allowed ≡ false → else_resolved c other calls ≡ Ok x → x.1 ≡ calls
+  no_calls_else : (c : ContextRule) (other : Otherwise) (calls : List CallMeaning) (x : Met) → allows_window_calls c.place ≡ false → else_resolved c other calls ≡ Ok x → x.1 ≡ calls
   no_calls_else c no_else calls x e h = sym (ap (λ (z : Met). z.1) (ok_is _ _ h))
   no_calls_else c (or_else a) calls x e h = no_calls c a calls x e h
 
@@ -130,7 +132,7 @@ called_is c f arguments w calls x xs win all is =
 
 -- the window where calls may stand
 where_is : (c : ContextRule) (m : Meant WindowMeaning) (w : WindowMeaning) → where_allowed c m ≡ Ok w → m ≡ Ok w
-where_is c m w h = by c.calls_allowed h
+where_is c m w h = by (allows_window_calls c.place) h
   where
     by : (b : Bool) → cond b m (Err CallNotAllowed) ≡ Ok w → m ≡ Ok w
     by true h = h
@@ -221,7 +223,7 @@ mutual
       let xs = bound (all_resolved (arguments_in c over) arguments []) (λ ys. over_meant c over >>= λ v. called c f (Some ys) v calls) x h in
       let w = bound (over_meant c over) (λ v. called c f (Some xs.0) v calls) x xs.2 in
       let ys = subst (λ d. all_resolved d arguments [] ≡ Ok xs.0) (within c over w.0 w.1) xs.1 in
-      called_is c f (Some xs.0) w.0 calls x (all_is (within_call c) arguments [] xs.0 refl known tt ys) (over_is c over w.0 known w.1) all w.2
+      called_is c f (Some xs.0) w.0 calls x (all_is (moved_to place.Argument c) arguments [] xs.0 refl known tt ys) (over_is c over w.0 known w.1) all w.2
   resolved_is c (Case arms other) calls x known all h =
       let xs = bound (arms_resolved c arms [] calls) (λ ys. else_resolved c other ys.1 >>= λ y. without_call (case_of ys.0 y.0) y.1) x h in
       let y = bound (else_resolved c other xs.0.1) (λ z. without_call (case_of xs.0.0 z.0) z.1) x xs.2 in
@@ -250,7 +252,7 @@ mutual
       let l = resolved_is c a calls y.0 known all y.1 in
       without_is c.scope calls y.0.1 (negated y.0.0) x y.2 (λ o e. after_one c.scope calls y.0 o l (negated_is (kinds_met c.scope y.0.1) y.0.0 o l.operand e))
 
-  all_is : (c : ContextRule) (trees : Trees) (xs ys : List Operand) → c.calls_allowed ≡ false → AreKnown (kinds_met c.scope []) c.windows → AllByRecursion (IsOperand (kinds_met c.scope [])) xs → all_resolved c trees xs ≡ Ok ys → AllByRecursion (IsOperand (kinds_met c.scope [])) ys
+  all_is : (c : ContextRule) (trees : Trees) (xs ys : List Operand) → allows_window_calls c.place ≡ false → AreKnown (kinds_met c.scope []) c.windows → AllByRecursion (IsOperand (kinds_met c.scope [])) xs → all_resolved c trees xs ≡ Ok ys → AllByRecursion (IsOperand (kinds_met c.scope [])) ys
   all_is c no_trees xs ys none known h e = subst (AllByRecursion (IsOperand (kinds_met c.scope []))) (ok_is _ _ e) h
   all_is c (more_trees a trees) xs ys none known h e =
       let x = bound (alone (resolved c a [])) (λ y. all_resolved c trees (xs ++ y ∷ [])) ys e in
@@ -273,12 +275,12 @@ mutual
   else_is c no_else calls x known all e = subst (IsMet c.scope calls) (ok_is _ _ e) (record { more = []; after = sym (append-nil calls); calls_are = all; operand = tt })
   else_is c (or_else a) calls x known all e = resolved_is c a calls x known all e
 
-  keys_are : (c : ContextRule) (keys : Keys) (xs ys : List KeyMeaning) → AreKnown (kinds_met c.scope []) c.windows → AreKeys (kinds_met c.scope []) xs → keys_resolved c keys xs ≡ Ok ys → AreKeys (kinds_met c.scope []) ys
-  keys_are c no_keys xs ys known h e = subst (AreKeys (kinds_met c.scope [])) (ok_is _ _ e) h
-  keys_are c (more_keys a direction place keys) xs ys known h e =
-      let x = bound (alone (resolved (within_call c) a [])) (λ y. keys_resolved c keys (xs ++ key_meant y direction place ∷ [])) ys e in
-      let one = inside_is c.scope (resolved (within_call c) a []) x.0 (λ y g. resolved_is (within_call c) a [] y known tt g) (λ y g. no_calls (within_call c) a [] y refl g) x.1 in
-      keys_are c keys (xs ++ key_meant x.0 direction place ∷ []) ys known (all_push (λ (key : KeyMeaning). IsOfKind (kinds_met c.scope []) key.expression key.kind) xs (key_meant x.0 direction place) h (settled_is (kinds_met c.scope []) x.0 one)) x.2
+  keys_are : (c : ContextRule) (keys : Keys) (xs ys : List KeyMeaning) → allows_window_calls c.place ≡ false → AreKnown (kinds_met c.scope []) c.windows → AreKeys (kinds_met c.scope []) xs → keys_resolved c keys xs ≡ Ok ys → AreKeys (kinds_met c.scope []) ys
+  keys_are c no_keys xs ys none known h e = subst (AreKeys (kinds_met c.scope [])) (ok_is _ _ e) h
+  keys_are c (more_keys a direction nulls keys) xs ys none known h e =
+      let x = bound (alone (resolved c a [])) (λ y. keys_resolved c keys (xs ++ key_meant y direction nulls ∷ [])) ys e in
+      let one = inside_is c.scope (resolved c a []) x.0 (λ y g. resolved_is c a [] y known tt g) (λ y g. no_calls c a [] y none g) x.1 in
+      keys_are c keys (xs ++ key_meant x.0 direction nulls ∷ []) ys none known (all_push (λ (key : KeyMeaning). IsOfKind (kinds_met c.scope []) key.expression key.kind) xs (key_meant x.0 direction nulls) h (settled_is (kinds_met c.scope []) x.0 one)) x.2
 
   over_is : (c : ContextRule) (over : OverTree) (w : WindowMeaning) → AreKnown (kinds_met c.scope []) c.windows → over_meant c over ≡ Ok w → IsWindow (kinds_met c.scope []) w
   over_is c no_over w known e = cc
@@ -288,7 +290,7 @@ mutual
   pub window_resolved_is : (c : ContextRule) (v : WindowTree) (w : WindowMeaning) → AreKnown (kinds_met c.scope []) c.windows → window_resolved c v ≡ Ok w → IsWindow (kinds_met c.scope []) w
   window_resolved_is c (window base partition order frame) w known e =
       let name = option_map (λ (n : Name). n.text) base in
-      let b = bound (base_named c.windows name) (λ copied. all_resolved (within_call c) partition [] >>= λ xs. keys_resolved c order [] >>= λ ks. window_meant copied (map settled xs) ks frame) w e in
-      let xs = bound (all_resolved (within_call c) partition []) (λ ys. keys_resolved c order [] >>= λ ks. window_meant b.0 (map settled ys) ks frame) w b.2 in
-      let ks = bound (keys_resolved c order []) (λ zs. window_meant b.0 (map settled xs.0) zs frame) w xs.2 in
-      window_is (kinds_met c.scope []) b.0 (map settled xs.0) ks.0 frame w (base_is (kinds_met c.scope []) c.windows name b.0 known b.1) (all_settled (kinds_met c.scope []) xs.0 (all_is (within_call c) partition [] xs.0 refl known tt xs.1)) (keys_are c order [] ks.0 known tt ks.1) ks.2
+      let b = bound (base_named c.windows name) (λ copied. all_resolved (moved_to place.Window c) partition [] >>= λ xs. keys_resolved (moved_to place.Window c) order [] >>= λ ks. window_meant copied (map settled xs) ks frame) w e in
+      let xs = bound (all_resolved (moved_to place.Window c) partition []) (λ ys. keys_resolved (moved_to place.Window c) order [] >>= λ ks. window_meant b.0 (map settled ys) ks frame) w b.2 in
+      let ks = bound (keys_resolved (moved_to place.Window c) order []) (λ zs. window_meant b.0 (map settled xs.0) zs frame) w xs.2 in
+      window_is (kinds_met c.scope []) b.0 (map settled xs.0) ks.0 frame w (base_is (kinds_met c.scope []) c.windows name b.0 known b.1) (all_settled (kinds_met c.scope []) xs.0 (all_is (moved_to place.Window c) partition [] xs.0 refl known tt xs.1)) (keys_are (moved_to place.Window c) order [] ks.0 refl known tt ks.1) ks.2

@@ -1,5 +1,5 @@
 -- What the expressions of a query mean over the columns in scope, with the window calls that they meet.
-use Rattle.std.specs.Prelude.{ℕ, Bool, false, List, [], ◌∷◌, ◌++◌, map, length, Option, Some, None, option_map, Ok, Err, if◌then◌else◌}
+use Rattle.std.specs.Prelude.{ℕ, Bool, List, [], ◌∷◌, ◌++◌, map, length, Option, Some, None, option_map, Ok, Err, if◌then◌else◌}
 use Rattle.wd_cursor.specs.declared.name.Name.{Name}
 use Rattle.std.specs.List.{list_any}
 use Rattle.std.specs.Str.{bytes_eq}
@@ -13,30 +13,33 @@ use Rattle.wd_plan.specs.declared.expression.ValueKind.TheVariants.{Truth}
 use Rattle.wd_plan.specs.Expressions.{Expression}
 use Rattle.wd_operand.specs.declared.cause.Cause.TheVariants.{WrongCall, CallNotAllowed, UnknownWindow}
 use Rattle.wd_scope.specs.declared.context.Context.{Context}
+use Rattle.wd_scope.specs.declared.context.Place.{Place}
+use Rattle.wd_scope.specs.declared.context.Place.TheVariants as place
+use Rattle.wd_scope.specs.Places.{allows_window_calls}
 use Rattle.wd_operand.specs.Causes.{Meant, ◌>>=◌}
 use Rattle.wd_scope.specs.Scopes.{ScopeRule, scope_of, column_named}
 use Rattle.wd_operand.specs.Operands.{Operand, bare_null, of_kind, settled, kind_of, literal, signed_number, signed, negated, tested, combined, case_of}
 use Rattle.wd_scope.specs.Windows.{KeyMeaning, WindowMeaning, KnownMeaning, known_of, sort_key, window_meant, window_named, base_named}
 use Rattle.wd_scope.specs.Calls.{CallMeaning, function_named, applied, met}
 
--- what an expression is read in: the columns in scope, the windows that have names, and whether window calls may stand there
+-- what an expression is read in: the columns in scope, the windows that have names, and the place where it stands
 pub record ContextRule : Type 0 where
   pub scope : ScopeRule
   pub windows : List KnownMeaning
-  pub calls_allowed : Bool
+  pub place : Place
 
 abbrev pub context_of : Context → ContextRule
-context_of c = record { scope = scope_of c.scope.now; windows = map known_of c.windows.now; calls_allowed = c.calls_allowed }
+context_of c = record { scope = scope_of c.scope.now; windows = map known_of c.windows.now; place = c.place }
 
--- the arguments of a window call and the expressions of a window have no window calls of their own
-abbrev pub within_call : ContextRule → ContextRule
-within_call c = record { scope = c.scope; windows = c.windows; calls_allowed = false }
+-- the same scope and windows, at another place
+abbrev pub moved_to : Place → ContextRule → ContextRule
+moved_to place c = record { scope = c.scope; windows = c.windows; place = place }
 
 -- what the arguments of a call are read in; those of a call without OVER stand where it stands
 abbrev pub arguments_in : ContextRule → OverTree → ContextRule
 arguments_in c no_over = c
-arguments_in c (over_name name) = within_call c
-arguments_in c (over_window w) = within_call c
+arguments_in c (over_name name) = moved_to place.Argument c
+arguments_in c (over_window w) = moved_to place.Argument c
 
 -- an operand, and the calls met up to and with it
 abbrev pub Met : Type 0
@@ -70,7 +73,7 @@ key_meant x direction place = record { expression = settled x; kind = kind_of x;
 
 -- what stands in OVER, where window calls may stand
 abbrev pub where_allowed : ContextRule → Meant WindowMeaning → Meant WindowMeaning
-where_allowed c w = if c.calls_allowed then w else Err CallNotAllowed
+where_allowed c w = if allows_window_calls c.place then w else Err CallNotAllowed
 
 abbrev mutual
   -- what an expression means, after the calls that were met before it
@@ -105,7 +108,7 @@ abbrev mutual
   -- the expressions that a window sorts by, after those before them
   pub keys_resolved : ContextRule → Keys → List KeyMeaning → Meant (List KeyMeaning)
   keys_resolved c no_keys ks = Ok ks
-  keys_resolved c (more_keys a direction place keys) ks = alone (resolved (within_call c) a []) >>= λ x. keys_resolved c keys (ks ++ key_meant x direction place ∷ [])
+  keys_resolved c (more_keys a direction place keys) ks = alone (resolved c a []) >>= λ x. keys_resolved c keys (ks ++ key_meant x direction place ∷ [])
 
   -- the window of a call; a function without OVER is none, and OVER is looked at only where window calls may stand
   pub over_meant : ContextRule → OverTree → Meant WindowMeaning
@@ -115,11 +118,7 @@ abbrev mutual
 
   -- a window: the one that it copies, its partition, its order, and then its frame
   pub window_resolved : ContextRule → WindowTree → Meant WindowMeaning
-  window_resolved c (window base partition order frame) = base_named c.windows (option_map (λ (n : Name). n.text) base) >>= λ copied. all_resolved (within_call c) partition [] >>= λ xs. keys_resolved c order [] >>= λ ks. window_meant copied (map settled xs) ks frame
-
--- an expression in which no window calls stand
-abbrev pub inside : ContextRule → Tree → Meant Operand
-inside c a = alone (resolved (within_call c) a [])
+  window_resolved c (window base partition order frame) = base_named c.windows (option_map (λ (n : Name). n.text) base) >>= λ copied. all_resolved (moved_to place.Window c) partition [] >>= λ xs. keys_resolved (moved_to place.Window c) order [] >>= λ ks. window_meant copied (map settled xs) ks frame
 
 abbrev pub all_settled : List Operand → Meant (List Expression)
 all_settled xs = Ok (map settled xs)
@@ -152,12 +151,12 @@ tests_resolved c a nots calls = resolved c a calls >>= λ x. without_call (tests
 -- ---- expressions outside the select list, where no window calls stand
 
 -- an expression over the columns in scope
-abbrev pub plain : ScopeRule → Tree → Meant Operand
-plain scope a = resolved (record { scope = scope; windows = []; calls_allowed = false }) a [] >>= λ x. Ok x.0
+abbrev pub plain : Place → ScopeRule → Tree → Meant Operand
+plain place scope a = alone (resolved (record { scope = scope; windows = []; place = place }) a [])
 
 -- the condition of WHERE and of ON
-abbrev pub condition : ScopeRule → Tree → Meant Expression
-condition scope a = plain scope a >>= λ x. of_kind Truth x
+abbrev pub condition : Place → ScopeRule → Tree → Meant Expression
+condition place scope a = plain place scope a >>= λ x. of_kind Truth x
 
 -- ---- the WINDOW clause
 
@@ -167,7 +166,7 @@ is_known windows name = list_any (λ known. bytes_eq known.name name) windows
 
 -- a window of the WINDOW clause, which may copy the ones before it
 abbrev pub defined : ScopeRule → List KnownMeaning → Name → WindowTree → Meant KnownMeaning
-defined scope windows name w = if is_known windows name.text then Err UnknownWindow else window_resolved (record { scope = scope; windows = windows; calls_allowed = false }) w >>= λ meaning. Ok (record { name = name.text; window = meaning })
+defined scope windows name w = if is_known windows name.text then Err UnknownWindow else window_resolved (record { scope = scope; windows = windows; place = place.Window }) w >>= λ meaning. Ok (record { name = name.text; window = meaning })
 
 -- the windows of the WINDOW clause, after those before them: each is checked, also where no call uses it
 abbrev pub all_defined : ScopeRule → List KnownMeaning → List (Name × WindowTree) → Meant (List KnownMeaning)

@@ -13,7 +13,7 @@ ghost use Rattle.wd_scope.specs.Scopes.{scope_of};
 ghost use Rattle.wd_scope.specs.Windows.{key_of, window_of, known_of};
 
 use crate::call::{Calls, WindowCall};
-use crate::context::Context;
+use crate::context::{Context, Place};
 use crate::function::applied;
 use crate::scope::Scope;
 use crate::window::{
@@ -29,14 +29,14 @@ use wd_syntax as written;
 use wd_syntax::{Arm, Link, Literal, Name, NamedWindow, Over, Sign, SortKey};
 
 impl Context<'_> {
-    /// The context of a window call's arguments and of a window's expressions, in which no window calls stand.
-    fn within_call(&self) -> Context<'_>
-        ensures { context_of result ≡ spec.within_call (context_of self.now) }
+    /// The same scope and windows, at another place.
+    fn moved_to(&self, place: Place) -> Context<'_>
+        ensures { context_of result ≡ spec.moved_to place (context_of self.now) }
     {
         Context {
             scope: self.scope,
             windows: self.windows,
-            calls_allowed: false,
+            place,
         }
     }
 
@@ -45,12 +45,8 @@ impl Context<'_> {
         ensures { context_of result ≡ spec.arguments_in (context_of self.now) (view_over_option over.now) }
     {
         match over {
-            None => Context {
-                scope: self.scope,
-                windows: self.windows,
-                calls_allowed: self.calls_allowed,
-            },
-            Some(_) => self.within_call(),
+            None => self.moved_to(self.place),
+            Some(_) => self.moved_to(Place::Argument),
         }
     }
 }
@@ -249,18 +245,6 @@ fn alone(
     resolved(alloc, context, tree, &mut calls)
 }
 
-/// An expression in which no window calls stand.
-#[cycle(resolve)]
-fn without_calls(
-    alloc: Global,
-    context: &Context<'_>,
-    tree: &written::Expr,
-) -> Result<Meaning, ResolveError>
-    ensures { Gives operand_of result (spec.inside (context_of context.now) (view tree.now)) }
-{
-    alone(alloc, &context.within_call(), tree)
-}
-
 /// The conditions and results of a CASE.
 #[cycle(resolve)]
 fn arms_resolved(
@@ -307,7 +291,7 @@ fn keys_resolved(
 {
     let mut order = Vec::new(alloc);
     for key in keys {
-        let operand = without_calls(alloc, context, &key.expr)?;
+        let operand = alone(alloc, context, &key.expr)?;
         order.push(order_key(operand, key))?;
     }
     Ok(order)
@@ -336,7 +320,7 @@ fn over_meant(
     let Some(over) = over else {
         return Err(ResolveError::Refused(Cause::WrongCall));
     };
-    if !context.calls_allowed {
+    if !context.place.allows_window_calls() {
         return Err(ResolveError::Refused(Cause::CallNotAllowed));
     }
     match &**over {
@@ -361,8 +345,9 @@ fn window_resolved(
         frame,
     } = window;
     let base = base_named(context.windows, base)?;
-    let partition = all_resolved(alloc, &context.within_call(), partition)?;
-    let order = keys_resolved(alloc, context, order)?;
+    let inside = context.moved_to(Place::Window);
+    let partition = all_resolved(alloc, &inside, partition)?;
+    let order = keys_resolved(alloc, &inside, order)?;
     let partition = settled_all(alloc, partition)?;
     window_meant(alloc, base, partition, order, *frame)
 }
@@ -379,23 +364,32 @@ fn settled_all(alloc: Global, operands: Vec<Meaning>) -> Result<Vec<Expr>, Resol
 }
 
 /// An expression outside the select list, where no window calls stand.
-pub fn plain(alloc: Global, scope: &Scope, tree: &written::Expr) -> Result<Meaning, ResolveError>
-    ensures { Gives operand_of result (spec.plain (scope_of scope.now) (view tree.now)) }
+pub fn plain(
+    alloc: Global,
+    scope: &Scope,
+    place: Place,
+    tree: &written::Expr,
+) -> Result<Meaning, ResolveError>
+    ensures { Gives operand_of result (spec.plain place (scope_of scope.now) (view tree.now)) }
 {
     let context = Context {
         scope,
         windows: &[],
-        calls_allowed: false,
+        place,
     };
-    let mut calls = Calls::new(alloc);
-    resolved(alloc, &context, tree, &mut calls)
+    alone(alloc, &context, tree)
 }
 
 /// The condition of WHERE and of ON.
-pub fn condition(alloc: Global, scope: &Scope, tree: &written::Expr) -> Result<Expr, ResolveError>
-    ensures { Gives expression_of result (spec.condition (scope_of scope.now) (view tree.now)) }
+pub fn condition(
+    alloc: Global,
+    scope: &Scope,
+    place: Place,
+    tree: &written::Expr,
+) -> Result<Expr, ResolveError>
+    ensures { Gives expression_of result (spec.condition place (scope_of scope.now) (view tree.now)) }
 {
-    let operand = plain(alloc, scope, tree)?;
+    let operand = plain(alloc, scope, place, tree)?;
     Ok(Box::into_inner(operand.of_kind(alloc, ValueKind::Truth)?))
 }
 
@@ -425,7 +419,7 @@ fn defined(
     let context = Context {
         scope,
         windows,
-        calls_allowed: false,
+        place: Place::Window,
     };
     let meaning = window_resolved(alloc, &context, &window.window)?;
     Ok(KnownWindow {

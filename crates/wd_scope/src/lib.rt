@@ -12,7 +12,7 @@ mod scope;
 mod window;
 
 pub use call::{AppliedFunction, Calls, WindowCall};
-pub use context::Context;
+pub use context::{Context, Place};
 pub use expression::{all_defined, condition, plain, resolved, written_number};
 pub use scope::{MOST_COLUMNS, Scope, ScopeColumn};
 pub use window::{KnownWindow, OrderKey, Window, sort_key};

@@ -19,6 +19,7 @@ use Rattle.wd_operand.specs.declared.cause.Cause.TheVariants.{Ambiguous, WrongSo
 use Rattle.wd_operand.specs.Causes.{Meant, ◌>>=◌}
 use Rattle.wd_plan.specs.Equality.{same_expression}
 use Rattle.wd_operand.specs.Operands.{number, settled}
+use Rattle.wd_scope.specs.declared.context.Place.TheVariants as place
 use Rattle.wd_scope.specs.Scopes.{ScopeRule, scope_of}
 use Rattle.wd_scope.specs.Windows.{sort_key}
 use Rattle.wd_scope.specs.Calls.{CallMeaning, calls_of}
@@ -57,7 +58,7 @@ sorted_place number e (o ∷ outputs) = if same_expression e o.expression then o
 
 -- the expression of a key over the columns of FROM
 abbrev pub expression_place : Shown → Tree → Meant KeyPlace
-expression_place s a = plain s.scope a >>= λ x. Ok (sorted_place 0 (settled x) s.outputs)
+expression_place s a = plain place.SortKey s.scope a >>= λ x. Ok (sorted_place 0 (settled x) s.outputs)
 
 -- each output of that name has the expression
 abbrev pub names_only : List ℕ → Expression → List OutputMeaning → Bool

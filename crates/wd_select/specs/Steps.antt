@@ -25,6 +25,7 @@ use Rattle.wd_plan.specs.declared.function.FunctionName.TheVariants.{RowNumber, 
 use Rattle.wd_operand.specs.Causes.{Meant, ◌>>=◌}
 use Rattle.wd_scope.specs.Calls.{CallMeaning}
 use Rattle.wd_scope.specs.Resolving.{condition}
+use Rattle.wd_scope.specs.declared.context.Place.TheVariants as place
 use Rattle.wd_scope.specs.Scopes.{ScopeRule}
 use Rattle.wd_scope.specs.Windows.{KeyMeaning}
 use Rattle.wd_select.specs.declared.output.OutputColumn.{OutputColumn}
@@ -119,7 +120,7 @@ above width calls inputs (Case branch a b c) = Case branch (above width calls in
 -- WHERE is a Filter
 abbrev pub filtered : ScopeRule → Option Tree → PlanTree → Meant PlanTree
 filtered scope None plan = Ok plan
-filtered scope (Some a) plan = condition scope a >>= λ e. Ok (Filter e plan)
+filtered scope (Some a) plan = condition place.Where scope a >>= λ e. Ok (Filter e plan)
 
 -- a Window over a Map of the distinct expressions that are met
 abbrev pub windowed : List Expression → List CallMeaning → PlanTree → PlanTree

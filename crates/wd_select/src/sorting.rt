@@ -18,7 +18,7 @@ use crate::shown::{KeyPlace, Shown, Sorted};
 use std::alloc::Global;
 use wd_operand::{Cause, ResolveError, number};
 use wd_plan::Expr;
-use wd_scope::{Calls, MOST_COLUMNS, Scope, plain, sort_key, written_number};
+use wd_scope::{Calls, MOST_COLUMNS, Place, Scope, plain, sort_key, written_number};
 use wd_syntax as written;
 use wd_syntax::{Literal, Name, SortKey};
 use wd_value::SortColumn;
@@ -69,7 +69,7 @@ fn expression_place(
 ) -> Result<KeyPlace, ResolveError>
     ensures { Gives place_shown result (spec.expression_place (shown_of shown.now) (view tree.now)) }
 {
-    let operand = plain(alloc, shown.scope, tree)?;
+    let operand = plain(alloc, shown.scope, Place::SortKey, tree)?;
     Ok(sorted_place(operand.settled(), shown.outputs))
 }
 

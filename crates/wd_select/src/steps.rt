@@ -22,7 +22,7 @@ use wd_plan::{
     Aggregate, Call, Class, Direction, Expr, FrameFunction, FrameRow, Function, FunctionName,
     Limit, Plan, Ranking, Shift, Window,
 };
-use wd_scope::{AppliedFunction, Calls, OrderKey, Scope, WindowCall, condition};
+use wd_scope::{AppliedFunction, Calls, OrderKey, Place, Scope, WindowCall, condition};
 use wd_syntax as written;
 use wd_value::{OutOfMemory, SortColumn, Value};
 
@@ -45,7 +45,7 @@ pub fn filtered(
     match filter {
         None => Ok(plan),
         Some(tree) => {
-            let condition = condition(alloc, scope, tree)?;
+            let condition = condition(alloc, scope, Place::Where, tree)?;
             Ok(Plan::Filter {
                 input: Box::new(alloc, plan)?,
                 condition,

@@ -4,10 +4,11 @@ use Rattle.wd_syntax.specs.declared.expression.Expr.TheViews.{out-Window}
 use Rattle.wd_syntax.specs.Tree.{Call, Case, window, trees_of, arms_of, keys_of}
 use Rattle.wd_syntax.specs.View.{view, view_link, view_arm, view_key, view_window, view_over_option, view_else_option, chained, tested}
 use Rattle.wd_syntax.proofs.Rows.{view_call, view_case, view_chain}
+use Rattle.wd_scope.specs.declared.context.Place.TheVariants as Place
 use Rattle.wd_scope.specs.Calls.{calls_of}
 use Rattle.wd_plan.specs.Expressions.{expression_of}
 use Rattle.wd_operand.specs.Operands.{operand_of, settled}
-use Rattle.wd_scope.specs.Resolving.{context_of, resolved, all_resolved, arguments_in, arms_resolved, keys_resolved, window_resolved, within_call, chain_resolved, tests_resolved}
+use Rattle.wd_scope.specs.Resolving.{context_of, resolved, all_resolved, arguments_in, arms_resolved, keys_resolved, window_resolved, moved_to, chain_resolved, tests_resolved}
 use Rattle.wd_operand.proofs.Cases.{fails_too}
 use Rattle.wd_scope.proofs.Chains.{chain_means, tests_mean}
 use Rattle.wd_scope.proofs.Rolled.{view_window_out, settled_as}
@@ -77,7 +78,7 @@ window_resolved-returns-in_err-partition t c =
     let keys = keys_of (map view_key w.order.items) in
     let shown : view_window c.args.window.now ≡ window w.base trees keys w.frame = view_window_out c.args.window.now ∙ ap (λ xs. window w.base (trees_of (map view xs)) keys w.frame) (sym c.deref.ensures.value) in
     let p = err_from_is_err_and c.from_residual-in_err-partition.result c.from_residual-in_err-partition.ensures.1 in
-    rw (p.1, p.2) (rw shown (fails_too c.in_err-partition.field-0.0 (all_resolved (context_of c.within_call.result) trees []) (window_resolved context (window w.base trees keys w.frame)) c.in_err-partition.ensures (λ cause h. (let g : all_resolved (within_call context) trees [] ≡ Err cause = ap (λ d. all_resolved d trees []) (sym c.within_call.ensures) ∙ h in rw c.in_ok-base.ensures (rw g refl)))))
+    rw (p.1, p.2) (rw shown (fails_too c.in_err-partition.field-0.0 (all_resolved (context_of c.moved_to-inside.result) trees []) (window_resolved context (window w.base trees keys w.frame)) c.in_err-partition.ensures (λ cause h. (let g : all_resolved (moved_to Place.Window context) trees [] ≡ Err cause = ap (λ d. all_resolved d trees []) (sym c.moved_to-inside.ensures) ∙ h in rw c.in_ok-base.ensures (rw g refl)))))
 
 pub window_resolved-returns-in_err-order : goal.window_resolved-returns-in_err-order
 window_resolved-returns-in_err-order t c =
@@ -87,7 +88,7 @@ window_resolved-returns-in_err-order t c =
     let keys = keys_of (map view_key c.deref-2.result.now) in
     let shown : view_window c.args.window.now ≡ window w.base trees keys w.frame = view_window_out c.args.window.now ∙ ap (λ xs. window w.base (trees_of (map view xs)) (keys_of (map view_key w.order.items)) w.frame) (sym c.deref.ensures.value) ∙ ap (λ ks. window w.base trees (keys_of (map view_key ks)) w.frame) (sym c.deref-2.ensures.value) in
     let p = err_from_is_err_and c.from_residual-in_err-order.result c.from_residual-in_err-order.ensures.1 in
-    rw (p.1, p.2) (rw shown (fails_too c.in_err-order.field-0.0 (keys_resolved context keys []) (window_resolved context (window w.base trees keys w.frame)) c.in_err-order.ensures (λ cause h. (let g = ap (λ d. all_resolved d trees []) (sym c.within_call.ensures) ∙ c.in_ok-partition.ensures in rw c.in_ok-base.ensures (rw g (rw h refl))))))
+    rw (p.1, p.2) (rw shown (fails_too c.in_err-order.field-0.0 (keys_resolved (context_of c.moved_to-inside.result) keys []) (window_resolved context (window w.base trees keys w.frame)) c.in_err-order.ensures (λ cause h. (let g = ap (λ d. all_resolved d trees []) (sym c.moved_to-inside.ensures) ∙ c.in_ok-partition.ensures in let k = ap (λ d. keys_resolved d keys []) (sym c.moved_to-inside.ensures) ∙ h in rw c.in_ok-base.ensures (rw g (rw k refl))))))
 
 pub window_resolved-returns : goal.window_resolved-returns
 window_resolved-returns t c =
@@ -97,8 +98,9 @@ window_resolved-returns t c =
     let keys = keys_of (map view_key c.deref-2.result.now) in
     let shown : view_window c.args.window.now ≡ window w.base trees keys w.frame = view_window_out c.args.window.now ∙ ap (λ xs. window w.base (trees_of (map view xs)) (keys_of (map view_key w.order.items)) w.frame) (sym c.deref.ensures.value) ∙ ap (λ ks. window w.base trees (keys_of (map view_key ks)) w.frame) (sym c.deref-2.ensures.value) in
     let given : map settled (map operand_of c.in_ok-partition.partition.items) ≡ map expression_of c.in_ok-partition-2.partition.items = settled_as (map operand_of c.in_ok-partition.partition.items) (map expression_of c.in_ok-partition-2.partition.items) c.in_ok-partition-2.ensures in
-    let g = ap (λ d. all_resolved d trees []) (sym c.within_call.ensures) ∙ c.in_ok-partition.ensures in
-    rw shown (rw c.in_ok-base.ensures (rw g (rw c.in_ok-order.ensures (rw given c.window_meant.ensures))))
+    let g = ap (λ d. all_resolved d trees []) (sym c.moved_to-inside.ensures) ∙ c.in_ok-partition.ensures in
+    let k = ap (λ d. keys_resolved d keys []) (sym c.moved_to-inside.ensures) ∙ c.in_ok-order.ensures in
+    rw shown (rw c.in_ok-base.ensures (rw g (rw k (rw given c.window_meant.ensures))))
 
 pub resolved-returns-in-Tests : goal.resolved-returns-in-Tests
 resolved-returns-in-Tests t c =
