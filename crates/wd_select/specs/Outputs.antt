@@ -15,7 +15,7 @@ use Rattle.wd_plan.specs.Equality.{same_expression}
 use Rattle.wd_operand.specs.Operands.{Operand, settled, kind_of}
 use Rattle.wd_scope.specs.Scopes.{ScopeRule, has_table}
 use Rattle.wd_scope.specs.Windows.{KeyMeaning}
-use Rattle.wd_scope.specs.Calls.{CallMeaning}
+use Rattle.wd_scope.specs.Calls.{AggregateMeaning, count_rows, count_of, sum_of, least_of, greatest_of, FunctionMeaning, ranking, away, value_at, aggregate, CallMeaning}
 use Rattle.wd_scope.specs.Resolving.{ContextRule, resolved}
 use Rattle.wd_select.specs.declared.output.Output.{Output}
 
@@ -89,9 +89,20 @@ item_meant c (shown a alias) calls = resolved c a calls >>= λ x. Ok (output_mea
 
 -- ---- what the Map below a Window shows
 
-abbrev pub argument_of : Option Expression → List Expression
-argument_of None = []
-argument_of (Some e) = e ∷ []
+-- the value argument of an aggregate; COUNT of a star has none
+abbrev pub aggregated : AggregateMeaning → List Expression
+aggregated count_rows = []
+aggregated (count_of a) = a.expression ∷ []
+aggregated (sum_of a) = a.expression ∷ []
+aggregated (least_of a) = a.expression ∷ []
+aggregated (greatest_of a) = a.expression ∷ []
+
+-- the value argument of a function; a ranking function has none
+abbrev pub argument_of : FunctionMeaning → List Expression
+argument_of (ranking r) = []
+argument_of (away direction a n default) = a.expression ∷ []
+argument_of (value_at row a) = a.expression ∷ []
+argument_of (aggregate a) = aggregated a
 
 abbrev pub sorted_by : KeyMeaning → Expression
 sorted_by key = key.expression
@@ -99,7 +110,7 @@ sorted_by key = key.expression
 -- the expressions of a call: its value argument, then its partition, then its order
 abbrev pub call_expressions : Option CallMeaning → List Expression
 call_expressions None = []
-call_expressions (Some call) = argument_of call.function.argument ++ call.window.partition ++ map sorted_by call.window.order
+call_expressions (Some call) = argument_of call.function ++ call.window.partition ++ map sorted_by call.window.order
 
 -- the expressions met in an expression over the columns of FROM and the calls after them: a column outside a call, and those of
 -- each call, from left to right
