@@ -2,7 +2,7 @@
 use Rattle.std.specs.Prelude.{ℕ, ◌+◌, ◌-◌, Bool, true, false, not, ◌&&◌, ◌||◌, codes, List, [], ◌∷◌, ◌++◌, map, length, nat_lt, Option, Some, None, Ok, Err, slice_get, if◌then◌else◌}
 use Rattle.std.specs.List.{list_any}
 use Rattle.std.specs.Str.{bytes_eq}
-use Rattle.wd_syntax.specs.declared.expression.Sign.TheVariants.{Plus, Minus}
+use Rattle.wd_syntax.specs.declared.expression.Sign.TheVariants.{Plus}
 use Rattle.wd_syntax.specs.declared.query.Alias.{Alias}
 use Rattle.wd_syntax.specs.Tree as tree
 use Rattle.wd_syntax.specs.Tree.{Tree, ItemTree, all_columns, all_of, shown}
@@ -40,12 +40,7 @@ name_of (tree.CallAll f over) = f.text
 name_of (tree.Call f arguments over) = f.text
 name_of (tree.Bracket a) = name_of a
 name_of (tree.Signed Plus a) = name_of a
-name_of (tree.Signed Minus a) = codes "?column?"
-name_of (tree.Constant x) = codes "?column?"
-name_of (tree.Case arms other) = codes "?column?"
-name_of (tree.Binary operator a b) = codes "?column?"
-name_of (tree.IsNull a not) = codes "?column?"
-name_of (tree.Negated a) = codes "?column?"
+name_of a = codes "?column?"
 
 abbrev pub name_shown : Tree → Option Alias → List ℕ
 name_shown a None = name_of a
@@ -56,9 +51,6 @@ name_shown a (Some alias) = alias.name.text
 -- a column of FROM as an output
 abbrev pub column_meant : ℕ → ScopeColumn → OutputMeaning
 column_meant number column = record { name = column.name; expression = Column number; kind = column.kind }
-
-abbrev pub column_output : ℕ → ScopeColumn → Meant OutputMeaning
-column_output number column = Ok (column_meant number column)
 
 -- the columns that pass a test, where columns are counted from a number on
 abbrev pub columns_shown : ℕ → (ScopeColumn → Bool) → List ScopeColumn → List OutputMeaning
@@ -71,19 +63,19 @@ is_of None column = true
 is_of (Some table) column = bytes_eq column.table table
 
 -- the columns of all tables of FROM, or of one
-abbrev pub columns_of : ScopeRule → Option (List ℕ) → Meant (List OutputMeaning)
-columns_of scope table = Ok (columns_shown 0 (is_of table) scope.columns)
+abbrev pub columns_of : ScopeRule → Option (List ℕ) → List OutputMeaning
+columns_of scope table = columns_shown 0 (is_of table) scope.columns
 
 -- the columns of one table of FROM
 abbrev pub table_shown : ScopeRule → List ℕ → Meant (List OutputMeaning)
-table_shown scope table = if has_table scope table then columns_of scope (Some table) else Err UnknownTable
+table_shown scope table = if has_table scope table then Ok (columns_of scope (Some table)) else Err UnknownTable
 
 abbrev pub output_meant : List ℕ → Operand → OutputMeaning
 output_meant name x = record { name = name; expression = settled x; kind = kind_of x }
 
 -- the outputs of a member of the select list, and the calls then met
 abbrev pub item_meant : ContextRule → ItemTree → List CallMeaning → Meant (List OutputMeaning × List CallMeaning)
-item_meant c all_columns calls = columns_of c.scope None >>= λ outputs. Ok (outputs, calls)
+item_meant c all_columns calls = Ok (columns_of c.scope None, calls)
 item_meant c (all_of table) calls = table_shown c.scope table.text >>= λ outputs. Ok (outputs, calls)
 item_meant c (shown a alias) calls = resolved c a calls >>= λ x. Ok (output_meant (name_shown a alias) x.0 ∷ [], x.1)
 
