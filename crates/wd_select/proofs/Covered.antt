@@ -4,7 +4,6 @@ use Rattle.std.specs.List.{AllByRecursion, list_any}
 use Rattle.std.proofs.lemmas.Bool.{le-ltb}
 use denote.Enum.Bare.{true_same}
 use Rattle.wd_value.proofs.SameLaws.{same-Decides}
-use Rattle.wd_plan.specs.declared.expression.ValueKind.{ValueKind}
 use Rattle.wd_plan.specs.contracts.expression.ArithmeticOp.{the_type as operation}
 use Rattle.wd_plan.specs.contracts.expression.ComparisonOp.{the_type as comparison}
 use Rattle.wd_plan.specs.contracts.expression.Branch.{the_type as branches}

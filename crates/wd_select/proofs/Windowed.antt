@@ -6,7 +6,6 @@ use Rattle.std.proofs.lemmas.List.{length-map}
 use Rattle.std.proofs.lemmas.Option.{slice_get-map, slice_get_within}
 use Rattle.std.specs.Cmp.{booleans_Decides}
 use lib.Pointwise.{pointwise, pointwise_decides}
-use Rattle.wd_value.specs.declared.value.Value.{Value}
 use Rattle.wd_schema.specs.Tables.{TableRule}
 use Rattle.wd_plan.specs.declared.expression.ValueKind.{ValueKind}
 use Rattle.wd_plan.specs.declared.expression.ValueKind.TheVariants.{Number, Truth}
@@ -144,11 +143,8 @@ module _ (tables : List TableRule) (plan : PlanTree) (scope : ScopeRule) (calls 
   -- the input of an expression
   place : (e : Expression) (k : ValueKind) → IsOfKind Read e k → IsAmong inputs e → (input_number inputs e < length inputs) × (Shown (input_number inputs e) ≡ Some k)
   place e k is among =
-      let f = first_is same_expression same_expression-is 0 e inputs among in
-      let same : f.0 ≡ input_number inputs e = omega (arith, f.1) in
-      let there : Shown f.0 ≡ Some k = rw f.2 (kept Read Below extended is).has in
-      let within = slice_get_within inputs f.0 e f.2 in
-      (omega (arith, f.1), subst (λ n. Shown n ≡ Some k) same there)
+      let f = first_is same_expression same_expression-is e inputs among in
+      (slice_get_within inputs (input_number inputs e) e f, rw f (kept Read Below extended is).has)
 
   input_kind : (e : Expression) (k : ValueKind) → IsOfKind Read e k → IsAmong inputs e → Shown (input_number inputs e) ≡ Some k
   input_kind e k is among = (place e k is among).1
@@ -222,9 +218,7 @@ module _ (tables : List TableRule) (plan : PlanTree) (scope : ScopeRule) (calls 
 
   call_is : (call : CallMeaning) → IsCall Read call → IsFed inputs call → list_any (same_class (class_over inputs call)) classes ≡ true → is_call Shown classes (call_over inputs classes call) ≡ true
   call_is call h g among =
-      let f = first_is same_class same_class-is 0 (class_over inputs call) classes among in
-      let same : f.0 ≡ (call_over inputs classes call).class = omega (arith, f.1) in
-      call_at Shown classes (call_over inputs classes call) (class_over inputs call) (subst (λ n. slice_get classes n ≡ Some (class_over inputs call)) same f.2)
+      call_at Shown classes (call_over inputs classes call) (class_over inputs call) (first_is same_class same_class-is (class_over inputs call) classes among)
       (takes_is call.function h.function g.argument)
       h.window.bounds
       (framed call.window.frame.mode call.window.frame.start call.window.frame.end call.window.frame.exclusion call.window.order h.window.order g.order h.window.frame)

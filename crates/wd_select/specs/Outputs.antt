@@ -1,6 +1,6 @@
 -- The select list: its outputs, their names, and what the plan shows for them (SQL, query specification; PG, SELECT List).
-use Rattle.std.specs.Prelude.{ℕ, ◌+◌, ◌-◌, Bool, true, false, not, ◌&&◌, ◌||◌, codes, List, [], ◌∷◌, ◌++◌, map, length, nat_lt, Option, Some, None, Ok, Err, slice_get, if◌then◌else◌}
-use Rattle.std.specs.List.{list_any}
+use Rattle.std.specs.Prelude.{ℕ, ◌+◌, ◌-◌, Bool, true, false, ◌&&◌, ◌||◌, codes, List, [], ◌∷◌, ◌++◌, map, length, nat_lt, Option, Some, None, Ok, Err, slice_get, if◌then◌else◌}
+use Rattle.std.specs.List.{list_any, position_or_len}
 use Rattle.std.specs.Str.{bytes_eq}
 use Rattle.wd_syntax.specs.declared.expression.Sign.TheVariants.{Plus}
 use Rattle.wd_syntax.specs.declared.query.Alias.{Alias}
@@ -133,14 +133,9 @@ abbrev pub inputs_with_all : ℕ → List CallMeaning → List Expression → Li
 inputs_with_all width calls inputs [] = inputs
 inputs_with_all width calls inputs (e ∷ es) = inputs_with_all width calls (inputs_with width calls inputs e) es
 
--- the number of the first element that passes a test, counted from a number on; where none passes, the number after the last
-abbrev pub first_number : {A : Type 0} → ℕ → (A → Bool) → List A → ℕ
-first_number n test [] = n
-first_number n test (x ∷ xs) = if test x then n else first_number (n + 1) test xs
-
--- the number of an expression among the inputs
+-- the number of an expression among the inputs, and their number where it is none
 abbrev pub input_number : List Expression → Expression → ℕ
-input_number inputs e = first_number 0 (same_expression e) inputs
+input_number inputs e = position_or_len (same_expression e) inputs
 
 -- ---- the widths of nodes
 

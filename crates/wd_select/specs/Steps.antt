@@ -1,7 +1,7 @@
 -- The steps of a plan above FROM: the windows of a select list, and what is shown, sorted and cut (SQL, query specification, query
 -- expression; PG, SELECT).
 use Rattle.std.specs.Prelude.{ℕ, ◌+◌, ◌-◌, Bool, true, false, ◌&&◌, List, [], ◌∷◌, ◌++◌, map, length, nat_eq, nat_lt, Option, Some, None, Ok, if◌then◌else◌}
-use Rattle.std.specs.List.{range_with_len}
+use Rattle.std.specs.List.{position_or_len, range_with_len}
 use Rattle.std.specs.Bool.{beq}
 use lib.Pointwise.{pointwise}
 use Rattle.wd_syntax.specs.Tree.{Tree}
@@ -21,7 +21,7 @@ use Rattle.wd_scope.specs.declared.context.Place.TheVariants as place
 use Rattle.wd_scope.specs.Scopes.{ScopeRule}
 use Rattle.wd_scope.specs.Windows.{KeyMeaning}
 use Rattle.wd_select.specs.declared.output.OutputColumn.{OutputColumn}
-use Rattle.wd_select.specs.Outputs.{OutputMeaning, expressions_of, first_number, input_number, with_new}
+use Rattle.wd_select.specs.Outputs.{OutputMeaning, expressions_of, input_number, with_new}
 use Rattle.wd_select.specs.Sorting.{Sorted, Cut}
 
 -- ---- the windows of a select list
@@ -66,7 +66,7 @@ classes_over inputs calls = with_new same_class [] (map (class_over inputs) call
 
 abbrev pub call_over : List Expression → List ClassRule → CallMeaning → Call
 call_over inputs classes call = record {
-  class = first_number 0 (same_class (class_over inputs call)) classes;
+  class = position_or_len (same_class (class_over inputs call)) classes;
   function = function_over inputs call.function;
   frame = call.window.frame;
 }

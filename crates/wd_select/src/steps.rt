@@ -1,7 +1,7 @@
 //! The steps of a plan above FROM.
 
 ghost use Rattle.std.specs.Prelude.{◌≡◌, ◌+◌, ◌≤◌, false, nat_eq, [], ◌∷◌, map, length, vec_len, option_map, IfOk};
-ghost use Rattle.std.specs.List.{list_any};
+ghost use Rattle.std.specs.List.{list_any, position_or_len};
 ghost use lib.Pointwise.{pointwise};
 ghost use Rattle.wd_plan.specs.Expressions.{expression_of};
 ghost use Rattle.wd_plan.specs.Plans.{class_of, plan_of};
@@ -191,7 +191,7 @@ fn same_class(a: &Class, b: &Class) -> bool
 
 /// The number of the first class that equals another, and the number of classes where none does.
 fn class_number(classes: &[Class], class: &Class) -> usize
-    ensures number { result ≡ outputs_spec.first_number 0 (spec.same_class (class_of class.now)) (map class_of classes.now) }
+    ensures number { result ≡ position_or_len (spec.same_class (class_of class.now)) (map class_of classes.now) }
     ensures within { result ≤ length classes.now }
 {
     for (number, other) in classes.iter().enumerate() {
