@@ -33,10 +33,6 @@ abbrev pub operand_of : Meaning → Operand
 operand_of code.Null = bare_null
 operand_of (code.Typed a kind) = typed (expression_of a.value) kind
 
--- an expression of a kind
-abbrev pub meant : Expression → ValueKind → Meant Operand
-meant a kind = Ok (typed a kind)
-
 -- ---- the kind that a place asks for
 
 -- an operand in a place that asks for a kind: a bare NULL takes it, and another has it
@@ -108,40 +104,25 @@ null_test false a = e.IsNull a
 abbrev pub tested : Bool → Operand → Operand
 tested not a = typed (null_test not (settled a)) Truth
 
-abbrev pub test_meant : Bool → Operand → Meant Operand
-test_meant not a = Ok (tested not a)
-
 -- the kind that an operator asks of both operands: a comparison takes two sides of one kind
 abbrev pub asked_by : Operator → Operand → Operand → ValueKind
 asked_by o.Or a b = Truth
 asked_by o.And a b = Truth
-asked_by o.Equal a b = asked_by_both a b
-asked_by o.NotEqual a b = asked_by_both a b
-asked_by o.Less a b = asked_by_both a b
-asked_by o.LessOrEqual a b = asked_by_both a b
-asked_by o.Greater a b = asked_by_both a b
-asked_by o.GreaterOrEqual a b = asked_by_both a b
 asked_by o.Add a b = Number
 asked_by o.Subtract a b = Number
 asked_by o.Multiply a b = Number
 asked_by o.Divide a b = Number
 asked_by o.Remainder a b = Number
+asked_by operator a b = asked_by_both a b
 
 -- the kind of an operator's values
 abbrev pub given_by : Operator → ValueKind
-given_by o.Or = Truth
-given_by o.And = Truth
-given_by o.Equal = Truth
-given_by o.NotEqual = Truth
-given_by o.Less = Truth
-given_by o.LessOrEqual = Truth
-given_by o.Greater = Truth
-given_by o.GreaterOrEqual = Truth
 given_by o.Add = Number
 given_by o.Subtract = Number
 given_by o.Multiply = Number
 given_by o.Divide = Number
 given_by o.Remainder = Number
+given_by operator = Truth
 
 -- an operator over two expressions
 abbrev pub over_both : Operator → Expression → Expression → Expression
@@ -171,9 +152,6 @@ combined operator a b = do
 -- a condition and a result
 abbrev pub arm_of : CaseArm → Operand × Operand
 arm_of arm = (operand_of arm.when, operand_of arm.gives)
-
-abbrev pub rest_meant : Expression → Meant Expression
-rest_meant rest = Ok rest
 
 -- WHEN a truth value THEN a result of this kind, before the rest; each of them may be of a wrong type only
 abbrev pub arm_over : Branch → ValueKind → Operand × Operand → Meant Expression → Meant Expression

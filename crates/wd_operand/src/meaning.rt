@@ -1,6 +1,6 @@
 //! Operands: expressions with the kind of their values.
 
-ghost use Rattle.std.specs.Prelude.{◌≡◌};
+ghost use Rattle.std.specs.Prelude.{◌≡◌, Ok};
 ghost use Rattle.wd_plan.specs.Expressions.{expression_of};
 ghost use Rattle.wd_operand.specs.Causes.{Gives};
 ghost use Rattle.wd_operand.specs.Operands.{operand_of};
@@ -55,7 +55,7 @@ impl Meaning {
 
     /// The operand of an expression.
     pub fn typed(alloc: Global, expression: Expr, kind: ValueKind) -> Result<Meaning, ResolveError>
-        ensures { Gives operand_of result (spec.meant (expression_of expression) kind) }
+        ensures { Gives operand_of result (Ok (spec.typed (expression_of expression) kind)) }
     {
         Ok(Meaning::Typed(Box::new(alloc, expression)?, kind))
     }

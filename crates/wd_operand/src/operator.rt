@@ -1,6 +1,6 @@
 //! Operators over operands, and CASE.
 
-ghost use Rattle.std.specs.Prelude.{◌≡◌, map};
+ghost use Rattle.std.specs.Prelude.{◌≡◌, Ok, map};
 ghost use Rattle.wd_plan.specs.Expressions.{expression_of};
 ghost use Rattle.wd_operand.specs.Causes.{Gives};
 ghost use Rattle.wd_operand.specs.Operands.{operand_of};
@@ -32,7 +32,7 @@ pub fn negated(alloc: Global, operand: Meaning) -> Result<Meaning, ResolveError>
 
 /// A test for NULL: IS NULL, or IS NOT NULL where `not`.
 pub fn tested(alloc: Global, not: bool, operand: Meaning) -> Result<Meaning, ResolveError>
-    ensures { Gives operand_of result (spec.test_meant not (operand_of operand)) }
+    ensures { Gives operand_of result (Ok (spec.tested not (operand_of operand))) }
 {
     let inner = Box::new(alloc, operand.settled())?;
     let test = if not {
@@ -169,7 +169,7 @@ fn arm_over(
     arm: CaseArm,
     rest: Box<Expr>,
 ) -> Result<Box<Expr>, ResolveError>
-    ensures { Gives (λ e. expression_of e.value) result (spec.arm_over branch kind (spec.arm_of arm) (spec.rest_meant (expression_of rest.value))) }
+    ensures { Gives (λ e. expression_of e.value) result (spec.arm_over branch kind (spec.arm_of arm) (Ok (expression_of rest.value))) }
 {
     let CaseArm { when, gives } = arm;
     let when = when.of_kind(alloc, ValueKind::Truth)?;
@@ -184,7 +184,7 @@ fn arms_over(
     arms: Vec<CaseArm>,
     rest: Box<Expr>,
 ) -> Result<Box<Expr>, ResolveError>
-    ensures { Gives (λ e. expression_of e.value) result (spec.arms_over Branch.First kind (map spec.arm_of arms.items) (spec.rest_meant (expression_of rest.value))) }
+    ensures { Gives (λ e. expression_of e.value) result (spec.arms_over Branch.First kind (map spec.arm_of arms.items) (Ok (expression_of rest.value))) }
 {
     let mut arms = arms;
     let mut rest = rest;

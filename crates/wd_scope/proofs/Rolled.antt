@@ -8,7 +8,6 @@ use Rattle.wd_syntax.proofs.Rows.{view_window_is}
 use Rattle.wd_plan.specs.Expressions.{Expression}
 use Rattle.wd_operand.specs.Causes.{Meant}
 use Rattle.wd_operand.specs.Operands.{Operand, settled}
-use Rattle.wd_scope.specs.Resolving.{all_settled}
 
 pub view_window_out : (w : Window) → view_window w ≡ window (out-Window w).base (trees_of (map view (out-Window w).partition.items)) (keys_of (map view_key (out-Window w).order.items)) (out-Window w).frame
 view_window_out w = ap view_window (sym (roll-out-Window w)) ∙ view_window_is (out-Window w).base (out-Window w).partition (out-Window w).order (out-Window w).frame
@@ -17,5 +16,5 @@ abbrev listed_or_none : Meant (List Expression) → List Expression
 listed_or_none (Ok es) = es
 listed_or_none (Err cause) = []
 
-pub settled_as : (xs : List Operand) (es : List Expression) → all_settled xs ≡ Ok es → map settled xs ≡ es
+pub settled_as : (xs : List Operand) (es : List Expression) → ◌≡◌ {A = Meant (List Expression)} (Ok (map settled xs)) (Ok es) → map settled xs ≡ es
 settled_as xs es h = ap listed_or_none h

@@ -18,7 +18,7 @@ use Rattle.wd_operand.specs.declared.cause.Cause.TheVariants.{Types, TooMany}
 use Rattle.wd_operand.specs.Causes.{Meant, ◌>>=◌}
 use Rattle.wd_operand.specs.Operands.{Operand, bare_null, typed, of_kind, settled, asked_by, given_by, over_both, combined, negated, sign_over, literal, arms_over, case_kind, case_of}
 use Rattle.wd_operand.specs.Operands as operands
-use Rattle.wd_scope.specs.Calls.{CallMeaning, applied, function_named, met, met_at, most_calls, number_among}
+use Rattle.wd_scope.specs.Calls.{CallMeaning, applied, function_named, kind_of_function, met, met_at, most_calls, number_among}
 use Rattle.wd_scope.specs.Resolving.{ContextRule, Met, all_resolved, arguments_in, arms_resolved, called, else_resolved, over_meant, resolved, sign_met, without_call, written_number}
 use Rattle.wd_scope.specs.Scopes.{column_named}
 use Rattle.wd_scope.specs.Windows.{WindowMeaning}
@@ -125,10 +125,10 @@ without_shows width calls after m x h f = let a = bound m (λ (y : Operand). Ok 
 met_shows : (width : ℕ) (call : CallMeaning) (calls : List CallMeaning) (x : Met) → met width call calls ≡ Ok x → ShowsNew width calls x
 met_shows width call calls x h = by (number_among 0 call calls) h
   where
-    pushed : ShowsNew width calls (typed (e.Column (width + length calls)) call.function.kind, calls ++ call ∷ [])
+    pushed : ShowsNew width calls (typed (e.Column (width + length calls)) (kind_of_function call.function), calls ++ call ∷ [])
     pushed n above below = let long = length-append calls (call ∷ []) in omega arith
 
-    new : (b : Bool) → cond b (Ok (typed (e.Column (width + length calls)) call.function.kind, calls ++ call ∷ [])) (Err TooMany) ≡ Ok x → ShowsNew width calls x
+    new : (b : Bool) → cond b (Ok (typed (e.Column (width + length calls)) (kind_of_function call.function), calls ++ call ∷ [])) (Err TooMany) ≡ Ok x → ShowsNew width calls x
     new true is = subst (ShowsNew width calls) (ok_is _ _ is) pushed
     new false is = cc
 

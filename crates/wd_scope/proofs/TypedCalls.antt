@@ -13,14 +13,18 @@ use Rattle.wd_plan.specs.Fits.{Kinds, are_bounds, has_extremes, has_offset, is_o
 use Rattle.wd_syntax.specs.declared.frame.Frame.{Frame as WrittenFrame}
 use Rattle.wd_operand.specs.declared.cause.Cause.{Cause}
 use Rattle.wd_operand.specs.declared.cause.Cause.TheVariants.{WrongCall, FrameBounds, RangeOffset, GroupsWithoutOrder, WindowCopy}
+use Rattle.wd_plan.specs.declared.function.Direction.{Direction}
+use Rattle.wd_plan.specs.declared.function.Direction.TheVariants as way
+use Rattle.wd_plan.specs.declared.function.FrameRow.TheVariants.{Nth}
+use Rattle.wd_plan.specs.declared.function.Ranking.TheVariants as rank
 use Rattle.wd_plan.specs.declared.function.FunctionName.{FunctionName}
 use Rattle.wd_plan.specs.declared.function.FunctionName.TheVariants.{RowNumber, Rank, DenseRank, Ntile, Lag, Lead, FirstValue, LastValue, NthValue, Count, Sum, Min, Max}
 use Rattle.wd_operand.specs.Causes.{Meant, ◌>>=◌}
-use Rattle.wd_scope.specs.Calls.{FunctionMeaning, applied, counting, default_of, extreme, numbers, over_arguments, over_none, over_one, over_star, over_three, over_two, shifted, showing, totalling, whole}
+use Rattle.wd_scope.specs.Calls.{ArgumentMeaning, AggregateMeaning, sum_of, least_of, greatest_of, FunctionMeaning, ranking, away, value_at, aggregate, aggregate_over, applied, argument, default_of, numbers, ordered, over_arguments, over_none, over_one, over_star, over_three, over_two, shifted, whole}
 use Rattle.wd_operand.specs.Operands.{Operand, bare_null, typed}
 use Rattle.wd_operand.specs.Operands as operands
 use Rattle.wd_scope.specs.Windows.{KeyMeaning, WindowMeaning, copied, frame_meant, frame_over, framed_by_mode, is_empty, is_one_number, order_copied, window_meant}
-use Rattle.wd_scope.specs.Typed.{AreKeys, AreTyped, IsFunction, IsOfKind, IsOperand, IsWindow, is_framed}
+use Rattle.wd_scope.specs.Typed.{AreKeys, AreTyped, IsAggregate, IsArgument, IsFunction, IsOperand, IsWindow, is_framed}
 use Rattle.wd_scope.proofs.Typing.{bound, ok_is, same_kind-is, settled_is}
 
 -- what a test lets through
@@ -67,14 +71,16 @@ module _ (kinds : Kinds) where
   default_is kind (typed (IsNotNull a) other) v h is = cc
   default_is kind (typed (Case branch a b c) other) v h is = cc
 
-  numbers_is : (x : Operand) (e : Expression) → IsOperand kinds x → numbers x ≡ Ok e → IsOfKind kinds e Number
-  numbers_is bare_null e h is = subst (λ f. IsOfKind kinds f Number) (ok_is _ _ is) (record { is = refl; has = refl })
-  numbers_is (typed a Number) e h is = subst (λ f. IsOfKind kinds f Number) (ok_is _ _ is) h
-  numbers_is (typed a Text) e h is = cc
-  numbers_is (typed a Truth) e h is = cc
+  numbers_is : (x : Operand) (a : ArgumentMeaning) → IsOperand kinds x → numbers x ≡ Ok a → IsArgument kinds a × (a.kind ≡ Number)
+  numbers_is bare_null a h is = subst (λ b. IsArgument kinds b × (b.kind ≡ Number)) (ok_is _ _ is) (record { is = refl; has = refl }, refl)
+  numbers_is (typed e Number) a h is = subst (λ b. IsArgument kinds b × (b.kind ≡ Number)) (ok_is _ _ is) (h, refl)
+  numbers_is (typed e Text) a h is = cc
+  numbers_is (typed e Truth) a h is = cc
 
-  extreme_is : (name : FunctionName) (x : Operand) (f : FunctionMeaning) → IsOperand kinds x → extreme name x ≡ Ok f → (showing name x 0 Null ≡ f) × (has_extremes (Some (operands.kind_of x)) ≡ true)
-  extreme_is name x f h is = let p = passed (has_extremes (Some (operands.kind_of x))) (showing name x 0 Null) f WrongCall is in (p.1, p.0)
+  ordered_is : (x : Operand) (a : ArgumentMeaning) → IsOperand kinds x → ordered x ≡ Ok a → IsArgument kinds a × (has_extremes (Some a.kind) ≡ true)
+  ordered_is x a h is =
+      let p = passed (has_extremes (Some (operands.kind_of x))) (argument x) a WrongCall is in
+      subst (λ b. IsArgument kinds b × (has_extremes (Some b.kind) ≡ true)) p.1 (settled_is kinds x h, p.0)
 
   null_is : (kind : ValueKind) → is_of_kind kind Null ≡ true
   null_is Number = refl
@@ -85,67 +91,46 @@ module _ (kinds : Kinds) where
   none_is RowNumber f is = subst (IsFunction kinds) (ok_is _ _ is) refl
   none_is Rank f is = subst (IsFunction kinds) (ok_is _ _ is) refl
   none_is DenseRank f is = subst (IsFunction kinds) (ok_is _ _ is) refl
-  none_is Ntile f is = cc
-  none_is Lag f is = cc
-  none_is Lead f is = cc
-  none_is FirstValue f is = cc
-  none_is LastValue f is = cc
-  none_is NthValue f is = cc
-  none_is Count f is = cc
-  none_is Sum f is = cc
-  none_is Min f is = cc
-  none_is Max f is = cc
+  none_is name f is = cc
+
+  aggregate_is : (name : FunctionName) (x : Operand) (a : AggregateMeaning) → IsOperand kinds x → aggregate_over name x ≡ Ok a → IsAggregate kinds a
+  aggregate_is Count x a h is = subst (IsAggregate kinds) (ok_is _ _ is) (settled_is kinds x h)
+  aggregate_is Sum x a h is = let n = bound (numbers x) (λ b. Ok (sum_of b)) a is in subst (IsAggregate kinds) (ok_is _ _ n.2) (numbers_is x n.0 h n.1)
+  aggregate_is Min x a h is = let n = bound (ordered x) (λ b. Ok (least_of b)) a is in subst (IsAggregate kinds) (ok_is _ _ n.2) (ordered_is x n.0 h n.1)
+  aggregate_is Max x a h is = let n = bound (ordered x) (λ b. Ok (greatest_of b)) a is in subst (IsAggregate kinds) (ok_is _ _ n.2) (ordered_is x n.0 h n.1)
+  aggregate_is name x a h is = cc
+
+  with_aggregate : (m : Meant AggregateMeaning) (f : FunctionMeaning) → ((a : AggregateMeaning) → m ≡ Ok a → IsAggregate kinds a) → (m >>= λ a. Ok (aggregate a)) ≡ Ok f → IsFunction kinds f
+  with_aggregate m f h is = let a = bound m (λ b. Ok (aggregate b)) f is in subst (IsFunction kinds) (ok_is _ _ a.2) (h a.0 a.1)
 
   one_is : (name : FunctionName) (x : Operand) (f : FunctionMeaning) → IsOperand kinds x → over_one name x ≡ Ok f → IsFunction kinds f
-  one_is Ntile x f h is = let n = bound (whole 1 x) (λ buckets. Ok (counting Ntile buckets)) f is in subst (IsFunction kinds) (ok_is _ _ n.2) (whole_least 1 x n.0 n.1, refl)
+  one_is Ntile x f h is = let n = bound (whole 1 x) (λ buckets. Ok (ranking (rank.Ntile buckets))) f is in subst (IsFunction kinds) (ok_is _ _ n.2) (whole_least 1 x n.0 n.1)
   one_is Lag x f h is = subst (IsFunction kinds) (ok_is _ _ is) (settled_is kinds x h, null_is (operands.kind_of x))
   one_is Lead x f h is = subst (IsFunction kinds) (ok_is _ _ is) (settled_is kinds x h, null_is (operands.kind_of x))
-  one_is FirstValue x f h is = subst (IsFunction kinds) (ok_is _ _ is) (settled_is kinds x h)
-  one_is LastValue x f h is = subst (IsFunction kinds) (ok_is _ _ is) (settled_is kinds x h)
-  one_is Count x f h is = subst (IsFunction kinds) (ok_is _ _ is) ((settled_is kinds x h).is, refl)
-  one_is Sum x f h is = let n = bound (numbers x) (λ e. Ok (totalling Sum e)) f is in subst (IsFunction kinds) (ok_is _ _ n.2) (numbers_is x n.0 h n.1, refl)
-  one_is Min x f h is = let p = extreme_is Min x f h is in subst (IsFunction kinds) p.0 (settled_is kinds x h, p.1)
-  one_is Max x f h is = let p = extreme_is Max x f h is in subst (IsFunction kinds) p.0 (settled_is kinds x h, p.1)
+  one_is FirstValue x f h is = subst (IsFunction kinds) (ok_is _ _ is) (settled_is kinds x h, refl)
+  one_is LastValue x f h is = subst (IsFunction kinds) (ok_is _ _ is) (settled_is kinds x h, refl)
   one_is RowNumber x f h is = cc
   one_is Rank x f h is = cc
   one_is DenseRank x f h is = cc
   one_is NthValue x f h is = cc
+  one_is name x f h is = with_aggregate (aggregate_over name x) f (λ a. aggregate_is name x a h) is
 
-  shifted_is : (name : FunctionName) (x k d : Operand) (f : FunctionMeaning) → IsOperand kinds d → shifted name x k d ≡ Ok f → (n : ℕ) × (v : Value) × (showing name x n v ≡ f) × (is_of_kind (operands.kind_of x) v ≡ true)
-  shifted_is name x k d f h is =
-      let n = bound (whole 0 k) (λ m. default_of (operands.kind_of x) d >>= λ default. Ok (showing name x m default)) f is in
-      let v = bound (default_of (operands.kind_of x) d) (λ default. Ok (showing name x n.0 default)) f n.2 in
-      (n.0, v.0, ok_is _ _ v.2, default_is (operands.kind_of x) d v.0 h v.1)
+  shifted_is : (direction : Direction) (x k d : Operand) (f : FunctionMeaning) → IsOperand kinds x → IsOperand kinds d → shifted direction x k d ≡ Ok f → IsFunction kinds f
+  shifted_is direction x k d f h g is =
+      let n = bound (whole 0 k) (λ m. default_of (operands.kind_of x) d >>= λ default. Ok (away direction (argument x) m default)) f is in
+      let v = bound (default_of (operands.kind_of x) d) (λ default. Ok (away direction (argument x) n.0 default)) f n.2 in
+      subst (IsFunction kinds) (ok_is _ _ v.2) (settled_is kinds x h, default_is (operands.kind_of x) d v.0 g v.1)
 
   two_is : (name : FunctionName) (x y : Operand) (f : FunctionMeaning) → IsOperand kinds x → over_two name x y ≡ Ok f → IsFunction kinds f
-  two_is Lag x k f h is = let s = shifted_is Lag x k bare_null f tt is in subst (IsFunction kinds) s.2 (settled_is kinds x h, s.3)
-  two_is Lead x k f h is = let s = shifted_is Lead x k bare_null f tt is in subst (IsFunction kinds) s.2 (settled_is kinds x h, s.3)
-  two_is NthValue x n f h is = let m = bound (whole 1 n) (λ k. Ok (showing NthValue x k Null)) f is in subst (IsFunction kinds) (ok_is _ _ m.2) (settled_is kinds x h, whole_least 1 n m.0 m.1)
-  two_is RowNumber x y f h is = cc
-  two_is Rank x y f h is = cc
-  two_is DenseRank x y f h is = cc
-  two_is Ntile x y f h is = cc
-  two_is FirstValue x y f h is = cc
-  two_is LastValue x y f h is = cc
-  two_is Count x y f h is = cc
-  two_is Sum x y f h is = cc
-  two_is Min x y f h is = cc
-  two_is Max x y f h is = cc
+  two_is Lag x k f h is = shifted_is way.Lag x k bare_null f h tt is
+  two_is Lead x k f h is = shifted_is way.Lead x k bare_null f h tt is
+  two_is NthValue x n f h is = let m = bound (whole 1 n) (λ k. Ok (value_at (Nth k) (argument x))) f is in subst (IsFunction kinds) (ok_is _ _ m.2) (settled_is kinds x h, whole_least 1 n m.0 m.1)
+  two_is name x y f h is = cc
 
   three_is : (name : FunctionName) (x y z : Operand) (f : FunctionMeaning) → IsOperand kinds x → IsOperand kinds z → over_three name x y z ≡ Ok f → IsFunction kinds f
-  three_is Lag x k d f h g is = let s = shifted_is Lag x k d f g is in subst (IsFunction kinds) s.2 (settled_is kinds x h, s.3)
-  three_is Lead x k d f h g is = let s = shifted_is Lead x k d f g is in subst (IsFunction kinds) s.2 (settled_is kinds x h, s.3)
-  three_is RowNumber x y z f h g is = cc
-  three_is Rank x y z f h g is = cc
-  three_is DenseRank x y z f h g is = cc
-  three_is Ntile x y z f h g is = cc
-  three_is FirstValue x y z f h g is = cc
-  three_is LastValue x y z f h g is = cc
-  three_is NthValue x y z f h g is = cc
-  three_is Count x y z f h g is = cc
-  three_is Sum x y z f h g is = cc
-  three_is Min x y z f h g is = cc
-  three_is Max x y z f h g is = cc
+  three_is Lag x k d f h g is = shifted_is way.Lag x k d f h g is
+  three_is Lead x k d f h g is = shifted_is way.Lead x k d f h g is
+  three_is name x y z f h g is = cc
 
   pub arguments_is : (name : FunctionName) (xs : List Operand) (f : FunctionMeaning) → AllByRecursion (IsOperand kinds) xs → over_arguments name xs ≡ Ok f → IsFunction kinds f
   arguments_is name [] f h is = none_is name f is
@@ -155,19 +140,8 @@ module _ (kinds : Kinds) where
   arguments_is name (x ∷ y ∷ z ∷ u ∷ others) f h is = cc
 
   star_is : (name : FunctionName) (f : FunctionMeaning) → over_star name ≡ Ok f → IsFunction kinds f
-  star_is Count f is = subst (IsFunction kinds) (ok_is _ _ is) refl
-  star_is RowNumber f is = cc
-  star_is Rank f is = cc
-  star_is DenseRank f is = cc
-  star_is Ntile f is = cc
-  star_is Lag f is = cc
-  star_is Lead f is = cc
-  star_is FirstValue f is = cc
-  star_is LastValue f is = cc
-  star_is NthValue f is = cc
-  star_is Sum f is = cc
-  star_is Min f is = cc
-  star_is Max f is = cc
+  star_is Count f is = subst (IsFunction kinds) (ok_is _ _ is) tt
+  star_is name f is = cc
 
   abbrev pub AreArguments : Option (List Operand) → Type 0
   AreArguments None = Unit {0}

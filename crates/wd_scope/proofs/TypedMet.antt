@@ -8,7 +8,7 @@ use Rattle.wd_plan.specs.Expressions.{Column}
 use Rattle.wd_plan.specs.Fits.{Kinds}
 use Rattle.wd_operand.specs.declared.cause.Cause.TheVariants.{TooMany}
 use Rattle.wd_scope.specs.declared.scope.ScopeColumn.{ScopeColumn}
-use Rattle.wd_scope.specs.Calls.{CallMeaning, met, met_at, most_calls, number_among, same_call}
+use Rattle.wd_scope.specs.Calls.{CallMeaning, kind_of_function, met, met_at, most_calls, number_among, same_call}
 use Rattle.wd_operand.specs.Operands.{Operand, typed}
 use Rattle.wd_scope.specs.Scopes.{ScopeRule}
 use Rattle.wd_scope.specs.Typed.{IsCall, IsMet, IsOfKind, kinds_met}
@@ -46,7 +46,7 @@ mapped_get f None p k h e = cc
 mapped_get f (Some x) p k h e = rw (h x refl) e
 
 kind_of_call : CallMeaning → ValueKind
-kind_of_call call = call.function.kind
+kind_of_call call = kind_of_function call.function
 
 pub more_calls : (scope : ScopeRule) (calls more : List CallMeaning) → Extends (kinds_met scope calls) (kinds_met scope (calls ++ more))
 more_calls scope calls more c kind h = by (nat_lt c (length scope.columns)) refl h
@@ -58,13 +58,13 @@ more_calls scope calls more c kind h = by (nat_lt c (length scope.columns)) refl
     left = option_map (λ (column : ScopeColumn). column.kind) (slice_get scope.columns c)
 
     by : (b : Bool) → nat_lt c (length scope.columns) ≡ b
-        → cond b (option_map (λ (column : ScopeColumn). column.kind) (slice_get scope.columns c)) (option_map (λ (call : CallMeaning). call.function.kind) (slice_get calls (c - length scope.columns))) ≡ Some kind
+        → cond b (option_map (λ (column : ScopeColumn). column.kind) (slice_get scope.columns c)) (option_map (λ (call : CallMeaning). kind_of_function call.function) (slice_get calls (c - length scope.columns))) ≡ Some kind
         → kinds_met scope (calls ++ more) c ≡ Some kind
     by true e h = rw e h
-    by false e h = rw e (mapped_get (λ (call : CallMeaning). call.function.kind) (slice_get calls (c - length scope.columns)) (slice_get (calls ++ more) (c - length scope.columns)) kind (λ x g. get_kept calls more (c - length scope.columns) x g) h)
+    by false e h = rw e (mapped_get (λ (call : CallMeaning). (kind_of_function call.function)) (slice_get calls (c - length scope.columns)) (slice_get (calls ++ more) (c - length scope.columns)) kind (λ x g. get_kept calls more (c - length scope.columns) x g) h)
 
 -- the kind of the call with a number
-call_kind : (scope : ScopeRule) (calls : List CallMeaning) (n : ℕ) (call : CallMeaning) → slice_get calls n ≡ Some call → kinds_met scope calls (length scope.columns + n) ≡ Some call.function.kind
+call_kind : (scope : ScopeRule) (calls : List CallMeaning) (n : ℕ) (call : CallMeaning) → slice_get calls n ≡ Some call → kinds_met scope calls (length scope.columns + n) ≡ Some (kind_of_function call.function)
 call_kind scope calls n call h =
     let behind = le-ltb (length scope.columns + n) (length scope.columns) (omega arith) in
     let number : (length scope.columns + n) - length scope.columns ≡ n = omega arith in
@@ -90,7 +90,7 @@ among k call (other ∷ calls) n h = by (same_call call other) refl h (among (k 
 pub met_is : (scope : ScopeRule) (call : CallMeaning) (calls : List CallMeaning) (x : Operand × List CallMeaning) → IsCall (kinds_met scope []) call → AllByRecursion (IsCall (kinds_met scope [])) calls → met (length scope.columns) call calls ≡ Ok x → IsMet scope calls x
 met_is scope call calls x fits all is = by (number_among 0 call calls) refl is
   where
-    found : (n : ℕ) → number_among 0 call calls ≡ Some n → IsMet scope calls (typed (Column (length scope.columns + n)) call.function.kind, calls)
+    found : (n : ℕ) → number_among 0 call calls ≡ Some n → IsMet scope calls (typed (Column (length scope.columns + n)) (kind_of_function call.function), calls)
     found n e =
         let p = among 0 call calls n e in
         let there : slice_get calls n ≡ Some p.2 = subst (λ k. slice_get calls k ≡ Some p.2) (omega (arith, p.1)) p.3 in
@@ -100,18 +100,18 @@ met_is scope call calls x fits all is = by (number_among 0 call calls) refl is
           more = [];
           after = sym (append-nil calls);
           calls_are = all;
-          operand = column_is (kinds_met scope calls) (length scope.columns + n) call.function.kind (call_kind scope calls n p.2 there ∙ ap Some (sym kind));
+          operand = column_is (kinds_met scope calls) (length scope.columns + n) (kind_of_function call.function) (call_kind scope calls n p.2 there ∙ ap Some (sym kind));
         }
 
-    pushed : IsMet scope calls (typed (Column (length scope.columns + length calls)) call.function.kind, calls ++ call ∷ [])
+    pushed : IsMet scope calls (typed (Column (length scope.columns + length calls)) (kind_of_function call.function), calls ++ call ∷ [])
     pushed = record {
       more = call ∷ [];
       after = refl;
       calls_are = all_push (IsCall (kinds_met scope [])) calls call all fits;
-      operand = column_is (kinds_met scope (calls ++ call ∷ [])) (length scope.columns + length calls) call.function.kind (call_kind scope (calls ++ call ∷ []) (length calls) call (get_pushed calls call));
+      operand = column_is (kinds_met scope (calls ++ call ∷ [])) (length scope.columns + length calls) (kind_of_function call.function) (call_kind scope (calls ++ call ∷ []) (length calls) call (get_pushed calls call));
     }
 
-    new : (b : Bool) → cond b (Ok (typed (Column (length scope.columns + length calls)) call.function.kind, calls ++ call ∷ [])) (Err TooMany) ≡ Ok x → IsMet scope calls x
+    new : (b : Bool) → cond b (Ok (typed (Column (length scope.columns + length calls)) (kind_of_function call.function), calls ++ call ∷ [])) (Err TooMany) ≡ Ok x → IsMet scope calls x
     new true is = subst (IsMet scope calls) (ok_is _ _ is) pushed
     new false is = cc
 

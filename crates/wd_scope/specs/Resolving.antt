@@ -120,9 +120,6 @@ abbrev mutual
   pub window_resolved : ContextRule → WindowTree → Meant WindowMeaning
   window_resolved c (window base partition order frame) = base_named c.windows (option_map (λ (n : Name). n.text) base) >>= λ copied. all_resolved (moved_to place.Window c) partition [] >>= λ xs. keys_resolved (moved_to place.Window c) order [] >>= λ ks. window_meant copied (map settled xs) ks frame
 
-abbrev pub all_settled : List Operand → Meant (List Expression)
-all_settled xs = Ok (map settled xs)
-
 -- operators and their right operands, over what stands left of them
 abbrev pub chain_met : ContextRule → List (Operator × Tree) → Operand → List CallMeaning → Meant Met
 chain_met c [] x calls = Ok (x, calls)

@@ -1,18 +1,15 @@
 -- That what is meant is typed: an operand has the kind that it says, over the columns in scope and the calls after them.
-use Rattle.std.specs.Prelude.{◌≡◌, ◌⊎◌, ℕ, ◌+◌, ◌-◌, ◌<◌, ◌≤◌, Bool, true, not, ◌||◌, List, [], ◌++◌, length, nat_lt, nat_le, Option, Some, None, option_map, slice_get, if◌then◌else◌, ⊤}
+use Rattle.std.specs.Prelude.{◌≡◌, ◌⊎◌, ℕ, ◌+◌, ◌-◌, ◌<◌, ◌≤◌, Bool, true, not, ◌||◌, List, [], ◌++◌, length, nat_lt, Some, option_map, slice_get, if◌then◌else◌, ⊤}
 use Rattle.std.specs.List.{AllByRecursion}
-use Rattle.wd_value.specs.declared.value.Value.{Value}
 use Rattle.wd_plan.specs.declared.expression.ValueKind.TheVariants.{Number}
 use Rattle.wd_plan.specs.declared.window.Frame.{Frame}
 use Rattle.wd_plan.specs.declared.window.FrameMode.{FrameMode}
 use Rattle.wd_plan.specs.declared.window.FrameMode.TheVariants as mode
 use Rattle.wd_plan.specs.declared.expression.ValueKind.{ValueKind}
 use Rattle.wd_plan.specs.Expressions.{Expression, Column, Literal, Negate, Arithmetic, Compare, Not, And, Or, IsNull, IsNotNull, Case}
-use Rattle.wd_plan.specs.Fits.{Kinds, are_bounds, has_extremes, has_offset, is_of_kind, is_typed, kind_of}
-use Rattle.wd_plan.specs.declared.function.FunctionName.{FunctionName}
-use Rattle.wd_plan.specs.declared.function.FunctionName.TheVariants.{RowNumber, Rank, DenseRank, Ntile, Lag, Lead, FirstValue, LastValue, NthValue, Count, Sum, Min, Max}
+use Rattle.wd_plan.specs.Fits.{Kinds, are_bounds, has_extremes, has_offset, is_frame_row, is_of_kind, is_ranking, is_typed, kind_of}
 use Rattle.wd_scope.specs.declared.scope.ScopeColumn.{ScopeColumn}
-use Rattle.wd_scope.specs.Calls.{CallMeaning, FunctionMeaning}
+use Rattle.wd_scope.specs.Calls.{ArgumentMeaning, AggregateMeaning, count_rows, count_of, sum_of, least_of, greatest_of, FunctionMeaning, ranking, away, value_at, aggregate, CallMeaning, kind_of_function}
 use Rattle.wd_scope.specs.Resolving.{Met}
 use Rattle.wd_scope.specs.Windows.{KeyMeaning, KnownMeaning, WindowMeaning, is_empty, is_one_number}
 use Rattle.wd_operand.specs.Operands.{Operand, bare_null, typed, settled}
@@ -22,7 +19,7 @@ use Rattle.wd_scope.specs.Scopes.{ScopeRule}
 abbrev pub kinds_met : ScopeRule → List CallMeaning → Kinds
 kinds_met scope calls c =
     if nat_lt c (length scope.columns) then option_map (λ (column : ScopeColumn). column.kind) (slice_get scope.columns c)
-    else option_map (λ (call : CallMeaning). call.function.kind) (slice_get calls (c - length scope.columns))
+    else option_map (λ (call : CallMeaning). kind_of_function call.function) (slice_get calls (c - length scope.columns))
 
 -- an expression that is typed and has this kind, over columns of these kinds
 pub record IsOfKind (kinds : Kinds) (e : Expression) (kind : ValueKind) : Type 0 where
@@ -55,26 +52,23 @@ pub record IsWindow (kinds : Kinds) (w : WindowMeaning) : Type 0 where
   pub bounds : are_bounds w.frame.start w.frame.end ≡ true
   pub frame : is_framed w.frame.mode w.order w.frame ≡ true
 
--- a function over columns of these kinds: what it takes, and the kind of its values
-abbrev pub IsFunctionOver : Kinds → FunctionName → Option Expression → ℕ → Value → ValueKind → Type 0
-IsFunctionOver kinds RowNumber None n default kind = kind ≡ Number
-IsFunctionOver kinds Rank None n default kind = kind ≡ Number
-IsFunctionOver kinds DenseRank None n default kind = kind ≡ Number
-IsFunctionOver kinds Ntile None n default kind = (nat_le 1 n ≡ true) × (kind ≡ Number)
-IsFunctionOver kinds Lag (Some e) n default kind = IsOfKind kinds e kind × (is_of_kind kind default ≡ true)
-IsFunctionOver kinds Lead (Some e) n default kind = IsOfKind kinds e kind × (is_of_kind kind default ≡ true)
-IsFunctionOver kinds FirstValue (Some e) n default kind = IsOfKind kinds e kind
-IsFunctionOver kinds LastValue (Some e) n default kind = IsOfKind kinds e kind
-IsFunctionOver kinds NthValue (Some e) n default kind = IsOfKind kinds e kind × (nat_le 1 n ≡ true)
-IsFunctionOver kinds Count None n default kind = kind ≡ Number
-IsFunctionOver kinds Count (Some e) n default kind = (is_typed kinds e ≡ true) × (kind ≡ Number)
-IsFunctionOver kinds Sum (Some e) n default kind = IsOfKind kinds e Number × (kind ≡ Number)
-IsFunctionOver kinds Min (Some e) n default kind = IsOfKind kinds e kind × (has_extremes (Some kind) ≡ true)
-IsFunctionOver kinds Max (Some e) n default kind = IsOfKind kinds e kind × (has_extremes (Some kind) ≡ true)
-IsFunctionOver kinds name argument n default kind = ⊥
+abbrev pub IsArgument : Kinds → ArgumentMeaning → Type 0
+IsArgument kinds a = IsOfKind kinds a.expression a.kind
 
+-- an aggregate over columns of these kinds
+abbrev pub IsAggregate : Kinds → AggregateMeaning → Type 0
+IsAggregate kinds count_rows = ⊤
+IsAggregate kinds (count_of a) = IsArgument kinds a
+IsAggregate kinds (sum_of a) = IsArgument kinds a × (a.kind ≡ Number)
+IsAggregate kinds (least_of a) = IsArgument kinds a × (has_extremes (Some a.kind) ≡ true)
+IsAggregate kinds (greatest_of a) = IsArgument kinds a × (has_extremes (Some a.kind) ≡ true)
+
+-- a function over columns of these kinds
 abbrev pub IsFunction : Kinds → FunctionMeaning → Type 0
-IsFunction kinds f = IsFunctionOver kinds f.name f.argument f.number f.default f.kind
+IsFunction kinds (ranking r) = is_ranking r ≡ true
+IsFunction kinds (away direction a n default) = IsArgument kinds a × (is_of_kind a.kind default ≡ true)
+IsFunction kinds (value_at row a) = IsArgument kinds a × (is_frame_row row ≡ true)
+IsFunction kinds (aggregate a) = IsAggregate kinds a
 
 pub record IsCall (kinds : Kinds) (call : CallMeaning) : Type 0 where
   pub function : IsFunction kinds call.function

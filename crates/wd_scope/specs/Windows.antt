@@ -144,10 +144,6 @@ window_meant base partition order written = do
   checked ← frame_over lists.1 frame
   Ok (record { partition = lists.0; order = lists.1; frame = checked; framed = is_some written })
 
--- a window used whole
-abbrev pub whole_window : WindowMeaning → Meant WindowMeaning
-whole_window w = Ok w
-
 -- ---- the windows of a WINDOW clause
 
 pub record KnownMeaning : Type 0 where

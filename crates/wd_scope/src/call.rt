@@ -3,21 +3,42 @@
 ghost use Rattle.std.specs.Prelude.{◌≤◌, vec_len};
 
 use crate::window::Window;
-use wd_plan::{Expr, FunctionName, ValueKind};
+use wd_plan::{Direction, Expr, FrameRow, Ranking, ValueKind};
 use wd_value::Value;
+
+/// An expression that a function reads, and the kind of its values.
+#[derive(Drop)]
+pub struct ValueArgument {
+    pub expression: Expr,
+    pub kind: ValueKind,
+}
+
+/// What goes by the rows alone, in whatever order they stand.
+#[derive(Drop)]
+pub enum AppliedAggregate {
+    /// COUNT(*).
+    CountRows,
+    Count(ValueArgument),
+    /// Of whole numbers.
+    Sum(ValueArgument),
+    Min(ValueArgument),
+    Max(ValueArgument),
+}
 
 /// A function over its arguments.
 #[derive(Drop)]
-pub struct AppliedFunction {
-    pub name: FunctionName,
-    /// The value argument. COUNT(*) has none.
-    pub argument: Option<Expr>,
-    /// The whole number that NTILE, LAG, LEAD and NTH_VALUE take; else 0.
-    pub number: u64,
-    /// The default of LAG and LEAD; else NULL.
-    pub default: Value,
-    /// The kind of its values.
-    pub kind: ValueKind,
+pub enum AppliedFunction {
+    Ranking(Ranking),
+    /// The value of the argument so many rows away, and a default where there is no such row.
+    Shift {
+        direction: Direction,
+        argument: ValueArgument,
+        offset: u64,
+        default: Value,
+    },
+    /// The value of the argument at one row of the frame.
+    ValueAt(FrameRow, ValueArgument),
+    Aggregate(AppliedAggregate),
 }
 
 /// A window call.

@@ -1,12 +1,12 @@
 //! What expressions and windows mean over the columns in scope.
 
-ghost use Rattle.std.specs.Prelude.{◌≡◌, [], map, option_map, Some, None};
+ghost use Rattle.std.specs.Prelude.{◌≡◌, [], map, option_map, Some, None, Ok};
 ghost use Rattle.wd_plan.specs.Expressions.{expression_of};
 ghost use Rattle.wd_syntax.specs.View.{view, view_link, view_window, view_over_option, view_else_option, view_arm, view_key, view_named_window};
 ghost use Rattle.wd_syntax.specs.Tree.{trees_of, arms_of, keys_of};
 ghost use Rattle.wd_operand.specs.Causes.{Gives};
 ghost use Rattle.wd_scope.specs.Calls.{calls_of, operands_of};
-ghost use Rattle.wd_operand.specs.Operands.{operand_of, arm_of};
+ghost use Rattle.wd_operand.specs.Operands.{operand_of, arm_of, settled};
 ghost use Rattle.wd_scope.specs.Resolving.{context_of};
 ghost use Rattle.wd_scope.specs.Resolving as spec;
 ghost use Rattle.wd_scope.specs.Scopes.{scope_of};
@@ -354,7 +354,7 @@ fn window_resolved(
 
 /// The expressions in places that ask for no kind.
 fn settled_all(alloc: Global, operands: Vec<Meaning>) -> Result<Vec<Expr>, ResolveError>
-    ensures { Gives (λ v. map expression_of v.items) result (spec.all_settled (map operand_of operands.items)) }
+    ensures { Gives (λ v. map expression_of v.items) result (Ok (map settled (map operand_of operands.items))) }
 {
     let mut expressions = Vec::with_capacity(alloc, operands.len())?;
     for operand in operands {

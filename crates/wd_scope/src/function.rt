@@ -1,21 +1,47 @@
 //! Functions over their arguments.
 
 ghost use Rattle.std.specs.Prelude.{◌≡◌, Some, map, option_map};
-ghost use Rattle.wd_plan.specs.Expressions.{expression_of};
 ghost use Rattle.wd_plan.specs.Fits.{has_extremes};
 ghost use Rattle.wd_operand.specs.Causes.{Gives};
-ghost use Rattle.wd_scope.specs.Calls.{function_of};
+ghost use Rattle.wd_scope.specs.Calls.{aggregate_of, argument_of, function_of};
 ghost use Rattle.wd_scope.specs.Calls as spec;
 ghost use Rattle.wd_operand.specs.Operands.{operand_of};
 
-use crate::call::AppliedFunction;
+use crate::call::{AppliedAggregate, AppliedFunction, ValueArgument};
 use std::alloc::Global;
 use wd_operand::{Cause, Meaning, ResolveError};
-use wd_plan::{Expr, FunctionName, ValueKind, same_kind};
+use wd_plan::{Direction, Expr, FrameRow, FunctionName, Ranking, ValueKind, same_kind};
 use wd_value::Value;
 
 /// How far LAG and LEAD go where they do not say.
 const ONE_ROW: u64 = 1;
+
+impl AppliedAggregate {
+    /// The kind of its values.
+    fn kind(&self) -> ValueKind
+        ensures { result ≡ spec.kind_of_aggregate (aggregate_of self.now) }
+    {
+        match self {
+            AppliedAggregate::CountRows | AppliedAggregate::Count(_) | AppliedAggregate::Sum(_) =>
+                ValueKind::Number,
+            AppliedAggregate::Min(argument) | AppliedAggregate::Max(argument) => argument.kind,
+        }
+    }
+}
+
+impl AppliedFunction {
+    /// The kind of its values.
+    pub(crate) fn kind(&self) -> ValueKind
+        ensures { result ≡ spec.kind_of_function (function_of self.now) }
+    {
+        match self {
+            AppliedFunction::Ranking(_) => ValueKind::Number,
+            AppliedFunction::Shift { argument, .. } => argument.kind,
+            AppliedFunction::ValueAt(_, argument) => argument.kind,
+            AppliedFunction::Aggregate(aggregate) => aggregate.kind(),
+        }
+    }
+}
 
 /// A function of a name that is folded, as unquoted names are.
 fn function_named(name: &str) -> Option<FunctionName>
@@ -79,15 +105,30 @@ fn default_of(alloc: Global, kind: ValueKind, operand: &Meaning) -> Result<Value
     }
 }
 
-/// Whole numbers, as a bare NULL is one; else 405.
-fn numbers(operand: Meaning) -> Result<Expr, ResolveError>
-    ensures { Gives expression_of result (spec.numbers (operand_of operand)) }
+/// An operand as a value argument.
+fn argument(operand: Meaning) -> ValueArgument
+    ensures { argument_of result ≡ spec.argument (operand_of operand) }
 {
-    match operand {
-        Meaning::Null => Ok(Expr::Literal(Value::Null, ValueKind::Number)),
-        Meaning::Typed(expression, ValueKind::Number) => Ok(Box::into_inner(expression)),
-        Meaning::Typed(_, _) => Err(ResolveError::Refused(Cause::WrongCall)),
+    let kind = operand.kind();
+    ValueArgument {
+        expression: operand.settled(),
+        kind,
     }
+}
+
+/// A value argument of whole numbers, as a bare NULL is one; else 405.
+fn numbers(operand: Meaning) -> Result<ValueArgument, ResolveError>
+    ensures { Gives argument_of result (spec.numbers (operand_of operand)) }
+{
+    let expression = match operand {
+        Meaning::Null => Expr::Literal(Value::Null, ValueKind::Number),
+        Meaning::Typed(expression, ValueKind::Number) => Box::into_inner(expression),
+        Meaning::Typed(_, _) => return Err(ResolveError::Refused(Cause::WrongCall)),
+    };
+    Ok(ValueArgument {
+        expression,
+        kind: ValueKind::Number,
+    })
 }
 
 /// Whether MIN and MAX are there for the values.
@@ -100,52 +141,12 @@ fn is_ordered(kind: ValueKind) -> bool
     }
 }
 
-/// A function of whole numbers as values, without a value argument.
-fn counting(name: FunctionName, number: u64) -> AppliedFunction
-    ensures { function_of result ≡ spec.counting name number }
+/// A value argument that MIN and MAX take; else 405.
+fn ordered(operand: Meaning) -> Result<ValueArgument, ResolveError>
+    ensures { Gives argument_of result (spec.ordered (operand_of operand)) }
 {
-    AppliedFunction {
-        name,
-        argument: None,
-        number,
-        default: Value::Null,
-        kind: ValueKind::Number,
-    }
-}
-
-/// A function of whole numbers as values, over an argument.
-fn totalling(name: FunctionName, argument: Expr) -> AppliedFunction
-    ensures { function_of result ≡ spec.totalling name (expression_of argument) }
-{
-    AppliedFunction {
-        name,
-        argument: Some(argument),
-        number: 0,
-        default: Value::Null,
-        kind: ValueKind::Number,
-    }
-}
-
-/// A function that shows values of its argument.
-fn showing(name: FunctionName, x: Meaning, number: u64, default: Value) -> AppliedFunction
-    ensures { function_of result ≡ spec.showing name (operand_of x) number default }
-{
-    let kind = x.kind();
-    AppliedFunction {
-        name,
-        argument: Some(x.settled()),
-        number,
-        default,
-        kind,
-    }
-}
-
-/// MIN and MAX.
-fn extreme(name: FunctionName, x: Meaning) -> Result<AppliedFunction, ResolveError>
-    ensures { Gives function_of result (spec.extreme name (operand_of x)) }
-{
-    if is_ordered(x.kind()) {
-        Ok(showing(name, x, 0, Value::Null))
+    if is_ordered(operand.kind()) {
+        Ok(argument(operand))
     } else {
         Err(ResolveError::Refused(Cause::WrongCall))
     }
@@ -156,31 +157,56 @@ fn nth(x: Meaning, n: Meaning) -> Result<AppliedFunction, ResolveError>
     ensures { Gives function_of result (spec.nth (operand_of x) (operand_of n)) }
 {
     let number = whole(1, &n)?;
-    Ok(showing(FunctionName::NthValue, x, number, Value::Null))
+    Ok(AppliedFunction::ValueAt(FrameRow::Nth(number), argument(x)))
 }
 
-/// LAG and LEAD, with how far and the default.
+/// LAG and LEAD, by how far and with the default.
+fn away(direction: Direction, x: Meaning, offset: u64, default: Value) -> AppliedFunction
+    ensures { function_of result ≡ spec.away direction (spec.argument (operand_of x)) offset default }
+{
+    AppliedFunction::Shift {
+        direction,
+        argument: argument(x),
+        offset,
+        default,
+    }
+}
+
+/// LAG and LEAD with literals that say how far and the default.
 fn shifted(
     alloc: Global,
-    name: FunctionName,
+    direction: Direction,
     x: Meaning,
     k: Meaning,
     d: Meaning,
 ) -> Result<AppliedFunction, ResolveError>
-    ensures { Gives function_of result (spec.shifted name (operand_of x) (operand_of k) (operand_of d)) }
+    ensures { Gives function_of result (spec.shifted direction (operand_of x) (operand_of k) (operand_of d)) }
 {
-    let number = whole(0, &k)?;
+    let offset = whole(0, &k)?;
     let default = default_of(alloc, x.kind(), &d)?;
-    Ok(showing(name, x, number, default))
+    Ok(away(direction, x, offset, default))
 }
 
 fn over_none(name: FunctionName) -> Result<AppliedFunction, ResolveError>
     ensures { Gives function_of result (spec.over_none name) }
 {
     match name {
-        FunctionName::RowNumber | FunctionName::Rank | FunctionName::DenseRank => {
-            Ok(counting(name, 0))
-        }
+        FunctionName::RowNumber => Ok(AppliedFunction::Ranking(Ranking::RowNumber)),
+        FunctionName::Rank => Ok(AppliedFunction::Ranking(Ranking::Rank)),
+        FunctionName::DenseRank => Ok(AppliedFunction::Ranking(Ranking::DenseRank)),
+        _ => Err(ResolveError::Refused(Cause::WrongCall)),
+    }
+}
+
+/// An aggregate over its argument.
+fn aggregate_over(name: FunctionName, x: Meaning) -> Result<AppliedAggregate, ResolveError>
+    ensures { Gives aggregate_of result (spec.aggregate_over name (operand_of x)) }
+{
+    match name {
+        FunctionName::Count => Ok(AppliedAggregate::Count(argument(x))),
+        FunctionName::Sum => Ok(AppliedAggregate::Sum(numbers(x)?)),
+        FunctionName::Min => Ok(AppliedAggregate::Min(ordered(x)?)),
+        FunctionName::Max => Ok(AppliedAggregate::Max(ordered(x)?)),
         _ => Err(ResolveError::Refused(Cause::WrongCall)),
     }
 }
@@ -189,12 +215,14 @@ fn over_one(name: FunctionName, x: Meaning) -> Result<AppliedFunction, ResolveEr
     ensures { Gives function_of result (spec.over_one name (operand_of x)) }
 {
     match name {
-        FunctionName::Ntile => Ok(counting(name, whole(1, &x)?)),
-        FunctionName::Lag | FunctionName::Lead => Ok(showing(name, x, ONE_ROW, Value::Null)),
-        FunctionName::FirstValue | FunctionName::LastValue => Ok(showing(name, x, 0, Value::Null)),
-        FunctionName::Count => Ok(totalling(name, x.settled())),
-        FunctionName::Sum => Ok(totalling(name, numbers(x)?)),
-        FunctionName::Min | FunctionName::Max => extreme(name, x),
+        FunctionName::Ntile => Ok(AppliedFunction::Ranking(Ranking::Ntile(whole(1, &x)?))),
+        FunctionName::Lag => Ok(away(Direction::Lag, x, ONE_ROW, Value::Null)),
+        FunctionName::Lead => Ok(away(Direction::Lead, x, ONE_ROW, Value::Null)),
+        FunctionName::FirstValue => Ok(AppliedFunction::ValueAt(FrameRow::First, argument(x))),
+        FunctionName::LastValue => Ok(AppliedFunction::ValueAt(FrameRow::Last, argument(x))),
+        FunctionName::Count | FunctionName::Sum | FunctionName::Min | FunctionName::Max => {
+            Ok(AppliedFunction::Aggregate(aggregate_over(name, x)?))
+        }
         FunctionName::RowNumber
         | FunctionName::Rank
         | FunctionName::DenseRank
@@ -211,7 +239,8 @@ fn over_two(
     ensures { Gives function_of result (spec.over_two name (operand_of x) (operand_of y)) }
 {
     match name {
-        FunctionName::Lag | FunctionName::Lead => shifted(alloc, name, x, y, Meaning::Null),
+        FunctionName::Lag => shifted(alloc, Direction::Lag, x, y, Meaning::Null),
+        FunctionName::Lead => shifted(alloc, Direction::Lead, x, y, Meaning::Null),
         FunctionName::NthValue => nth(x, y),
         _ => Err(ResolveError::Refused(Cause::WrongCall)),
     }
@@ -227,7 +256,8 @@ fn over_three(
     ensures { Gives function_of result (spec.over_three name (operand_of x) (operand_of y) (operand_of z)) }
 {
     match name {
-        FunctionName::Lag | FunctionName::Lead => shifted(alloc, name, x, y, z),
+        FunctionName::Lag => shifted(alloc, Direction::Lag, x, y, z),
+        FunctionName::Lead => shifted(alloc, Direction::Lead, x, y, z),
         _ => Err(ResolveError::Refused(Cause::WrongCall)),
     }
 }
@@ -259,10 +289,9 @@ fn over_arguments(
 fn over_star(name: FunctionName) -> Result<AppliedFunction, ResolveError>
     ensures { Gives function_of result (spec.over_star name) }
 {
-    if name.signature().star {
-        Ok(counting(name, 0))
-    } else {
-        Err(ResolveError::Refused(Cause::WrongCall))
+    match name {
+        FunctionName::Count => Ok(AppliedFunction::Aggregate(AppliedAggregate::CountRows)),
+        _ => Err(ResolveError::Refused(Cause::WrongCall)),
     }
 }
 

@@ -11,7 +11,7 @@ mod same;
 mod scope;
 mod window;
 
-pub use call::{AppliedFunction, Calls, WindowCall};
+pub use call::{AppliedAggregate, AppliedFunction, Calls, ValueArgument, WindowCall};
 pub use context::{Context, Place};
 pub use expression::{all_defined, condition, plain, resolved, written_number};
 pub use scope::{MOST_COLUMNS, Scope, ScopeColumn};

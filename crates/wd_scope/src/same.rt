@@ -1,29 +1,63 @@
 //! When two window calls are equal, and the distinct calls of a select list.
 
-ghost use Rattle.std.specs.Prelude.{◌≡◌, ◌<◌, ◌≤◌, [], map, option_map, length, vec_len, IfSome};
+ghost use Rattle.std.specs.Prelude.{◌≡◌, ◌<◌, ◌≤◌, [], map, length, vec_len, IfSome};
 ghost use Rattle.std.specs.List.{list_all};
 ghost use lib.Pointwise.{pointwise};
 ghost use Rattle.wd_plan.specs.Expressions.{expression_of};
 ghost use Rattle.wd_operand.specs.Causes.{Gives};
-ghost use Rattle.wd_scope.specs.Calls.{call_of, function_of};
+ghost use Rattle.wd_scope.specs.Calls.{aggregate_of, argument_of, call_of, function_of};
 ghost use Rattle.wd_scope.specs.Calls as spec;
 ghost use Rattle.wd_plan.specs.Equality as equality;
 ghost use Rattle.wd_operand.specs.Operands.{operand_of};
 ghost use Rattle.wd_scope.specs.Windows.{key_of, window_of};
 
-use crate::call::{AppliedFunction, Calls, MOST_CALLS, WindowCall};
+use crate::call::{
+    AppliedAggregate, AppliedFunction, Calls, MOST_CALLS, ValueArgument, WindowCall,
+};
 use crate::window::{OrderKey, Window};
 use std::alloc::Global;
 use wd_operand::{Cause, Meaning, ResolveError};
-use wd_plan::{Bound, Expr, Frame};
+use wd_plan::{Bound, Expr, Frame, FrameRow, Ranking};
 use wd_value::same;
 
-fn same_argument(a: &Option<Expr>, b: &Option<Expr>) -> bool
-    ensures { result ≡ spec.same_argument (option_map expression_of a.now) (option_map expression_of b.now) }
+fn same_argument(a: &ValueArgument, b: &ValueArgument) -> bool
+    ensures { result ≡ spec.same_argument (argument_of a.now) (argument_of b.now) }
+{
+    a.expression.same(&b.expression)
+}
+
+fn same_ranking(r: Ranking, q: Ranking) -> bool
+    ensures { result ≡ spec.same_ranking r q }
+{
+    match (r, q) {
+        (Ranking::RowNumber, Ranking::RowNumber) => true,
+        (Ranking::Rank, Ranking::Rank) => true,
+        (Ranking::DenseRank, Ranking::DenseRank) => true,
+        (Ranking::Ntile(m), Ranking::Ntile(n)) => m == n,
+        _ => false,
+    }
+}
+
+fn same_row(r: FrameRow, q: FrameRow) -> bool
+    ensures { result ≡ spec.same_row r q }
+{
+    match (r, q) {
+        (FrameRow::First, FrameRow::First) => true,
+        (FrameRow::Last, FrameRow::Last) => true,
+        (FrameRow::Nth(m), FrameRow::Nth(n)) => m == n,
+        _ => false,
+    }
+}
+
+fn same_aggregate(a: &AppliedAggregate, b: &AppliedAggregate) -> bool
+    ensures { result ≡ spec.same_aggregate (aggregate_of a.now) (aggregate_of b.now) }
 {
     match (a, b) {
-        (None, None) => true,
-        (Some(a), Some(b)) => a.same(b),
+        (AppliedAggregate::CountRows, AppliedAggregate::CountRows) => true,
+        (AppliedAggregate::Count(x), AppliedAggregate::Count(y)) => same_argument(x, y),
+        (AppliedAggregate::Sum(x), AppliedAggregate::Sum(y)) => same_argument(x, y),
+        (AppliedAggregate::Min(x), AppliedAggregate::Min(y)) => same_argument(x, y),
+        (AppliedAggregate::Max(x), AppliedAggregate::Max(y)) => same_argument(x, y),
         _ => false,
     }
 }
@@ -31,9 +65,28 @@ fn same_argument(a: &Option<Expr>, b: &Option<Expr>) -> bool
 fn same_function(f: &AppliedFunction, g: &AppliedFunction) -> bool
     ensures { result ≡ spec.same_function (function_of f.now) (function_of g.now) }
 {
-    f.name == g.name
-        && (f.number == g.number
-            && (same(&f.default, &g.default) && same_argument(&f.argument, &g.argument)))
+    match (f, g) {
+        (AppliedFunction::Ranking(r), AppliedFunction::Ranking(q)) => same_ranking(*r, *q),
+        (
+            AppliedFunction::Shift {
+                direction,
+                argument,
+                offset,
+                default,
+            },
+            AppliedFunction::Shift {
+                direction: other,
+                argument: b,
+                offset: n,
+                default: w,
+            },
+        ) => *direction == *other
+            && (*offset == *n && (same(default, w) && same_argument(argument, b))),
+        (AppliedFunction::ValueAt(r, a), AppliedFunction::ValueAt(q, b)) => same_row(*r, *q)
+            && same_argument(a, b),
+        (AppliedFunction::Aggregate(a), AppliedFunction::Aggregate(b)) => same_aggregate(a, b),
+        _ => false,
+    }
 }
 
 fn same_key(k: &OrderKey, l: &OrderKey) -> bool
@@ -132,7 +185,7 @@ impl Calls {
         requires { width ≤ 1024 }
         ensures { Gives (λ m. (operand_of m, spec.calls_of self.new)) result (spec.added width (call_of call) (spec.calls_of self.old)) }
     {
-        let kind = call.function.kind;
+        let kind = call.function.kind();
         let number = self.list.len();
         if number >= MOST_CALLS {
             return Err(ResolveError::Refused(Cause::TooMany));
@@ -154,7 +207,7 @@ impl Calls {
         match self.call_number(&call) {
             Some(number) => {
                 let column = Expr::Column(width + number as u16);
-                Meaning::typed(alloc, column, call.function.kind)
+                Meaning::typed(alloc, column, call.function.kind())
             }
             None => self.add(alloc, width, call),
         }

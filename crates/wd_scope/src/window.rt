@@ -1,6 +1,6 @@
 //! Windows: their partition and order, their frame, and what they copy.
 
-ghost use Rattle.std.specs.Prelude.{◌≡◌, map, option_map};
+ghost use Rattle.std.specs.Prelude.{◌≡◌, Ok, map, option_map};
 ghost use Rattle.wd_plan.specs.Expressions.{expression_of};
 ghost use Rattle.wd_plan.specs.Fits as fits;
 ghost use Rattle.wd_operand.specs.Causes.{Gives};
@@ -51,7 +51,7 @@ const DEFAULT_FRAME: Frame = Frame {
 impl Window {
     /// The same window; the lists are shared.
     pub fn share(&self) -> Result<Window, ResolveError>
-        ensures { Gives window_of result (spec.whole_window (window_of self.now)) }
+        ensures { Gives window_of result (Ok (window_of self.now)) }
     {
         Ok(Window {
             partition: self.partition.clone()?,

@@ -1,9 +1,9 @@
 -- What stands among the elements met first.
-use Rattle.std.proofs.Common.{◌≡◌, ◌∙◌, sym, ap, refl, ℕ, suc, ◌+◌, Bool, true, false, cond, ◌||◌, List, [], ◌∷◌, ◌++◌, Some, slice_get, arith}
-use Rattle.std.specs.List.{AllByRecursion, list_any, list_all}
+use Rattle.std.proofs.Common.{◌≡◌, ◌∙◌, sym, ap, refl, subst, ℕ, suc, not, ◌+◌, Bool, true, false, cond, ◌||◌, List, [], ◌∷◌, ◌++◌, Some, slice_get, arith}
+use Rattle.std.specs.List.{AllByRecursion, list_any, list_all, position_or_len}
 use Rattle.std.proofs.lemmas.Bool.{false≢true, or_left, or_right}
 use Rattle.std.proofs.lemmas.List.Folds.{list_any-append}
-use Rattle.wd_select.specs.Outputs.{first_number, with_new}
+use Rattle.wd_select.specs.Outputs.{with_new}
 use Rattle.wd_scope.proofs.TypedMet.{all_push}
 use Rattle.wd_scope.proofs.Typing.{and_both}
 
@@ -21,15 +21,17 @@ all_true t (x ∷ xs) h = and_both _ _ h.0 (all_true t xs h.1)
 
 module _ {A : Type 0} (same : A → A → Bool) where
   -- an element that is there, by its number
-  pub first_is : ((x y : A) → same x y ≡ true → x ≡ y) → (k : ℕ) (x : A) (xs : List A) → list_any (same x) xs ≡ true → (m : ℕ) × (first_number k (same x) xs ≡ k + m) × (slice_get xs m ≡ Some x)
-  first_is is k x [] h = absurd (false≢true h)
-  first_is is k x (y ∷ ys) h = by (same x y) refl h (first_is is (k + 1) x ys)
+  pub first_is : ((x y : A) → same x y ≡ true → x ≡ y) → (x : A) (xs : List A) → list_any (same x) xs ≡ true → slice_get xs (position_or_len (same x) xs) ≡ Some x
+  first_is is x [] h = absurd (false≢true h)
+  first_is is x (y ∷ ys) h = by (same x y) refl h (first_is is x ys)
     where
-      by : (b : Bool) → same x y ≡ b → (b || list_any (same x) ys) ≡ true
-          → (list_any (same x) ys ≡ true → (m : ℕ) × (first_number (k + 1) (same x) ys ≡ (k + 1) + m) × (slice_get ys m ≡ Some x))
-          → (m : ℕ) × (cond b k (first_number (k + 1) (same x) ys) ≡ k + m) × (slice_get (y ∷ ys) m ≡ Some x)
-      by true e h later = (0, omega arith, ap Some (sym (is x y e)))
-      by false e h later = let found = later h in (suc found.0, found.1 ∙ omega arith, found.2)
+      n : ℕ
+      n = position_or_len (same x) ys
+
+      by : (b : Bool) → same x y ≡ b → (b || list_any (same x) ys) ≡ true → (list_any (same x) ys ≡ true → slice_get ys n ≡ Some x)
+          → slice_get (y ∷ ys) (cond (not b) (1 + n) 0) ≡ Some x
+      by true e h later = ap Some (sym (is x y e))
+      by false e h later = let next : suc n ≡ 1 + n = omega arith in subst (λ k. slice_get (y ∷ ys) k ≡ Some x) next (later h)
 
   grown : (x y : A) (b : Bool) (seen : List A) → list_any (same x) seen ≡ true → list_any (same x) (cond b seen (seen ++ y ∷ [])) ≡ true
   grown x y true seen h = h

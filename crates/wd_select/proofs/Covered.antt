@@ -3,25 +3,21 @@ use Rattle.std.proofs.Common.{◌≡◌, refl, subst, ℕ, ◌+◌, ◌-◌, inl
 use Rattle.std.specs.List.{AllByRecursion, list_any}
 use Rattle.std.proofs.lemmas.Bool.{le-ltb}
 use denote.Enum.Bare.{true_same}
-use Rattle.wd_value.specs.declared.value.Value.{Value}
 use Rattle.wd_value.proofs.SameLaws.{same-Decides}
-use Rattle.wd_plan.specs.declared.expression.ValueKind.{ValueKind}
 use Rattle.wd_plan.specs.contracts.expression.ArithmeticOp.{the_type as operation}
 use Rattle.wd_plan.specs.contracts.expression.ComparisonOp.{the_type as comparison}
 use Rattle.wd_plan.specs.contracts.expression.Branch.{the_type as branches}
 use Rattle.wd_plan.specs.Expressions.{Expression, Column, Literal, Negate, Arithmetic, Compare, Not, And, Or, IsNull, IsNotNull, Case}
 use Rattle.wd_plan.specs.Fits.{Kinds, is_typed}
 use Rattle.wd_plan.specs.Equality.{same_expression}
-use Rattle.wd_plan.specs.declared.function.FunctionName.{FunctionName}
-use Rattle.wd_plan.specs.declared.function.FunctionName.TheVariants.{Lag, Lead, FirstValue, LastValue, NthValue, Count, Sum, Min, Max}
 use Rattle.wd_scope.specs.declared.scope.ScopeColumn.{ScopeColumn}
-use Rattle.wd_scope.specs.Calls.{CallMeaning}
+use Rattle.wd_scope.specs.Calls.{AggregateMeaning, count_rows, count_of, sum_of, least_of, greatest_of, FunctionMeaning, ranking, away, value_at, aggregate, CallMeaning, kind_of_function}
 use Rattle.wd_scope.specs.Scopes.{ScopeRule}
 use Rattle.wd_scope.specs.Windows.{KeyMeaning}
-use Rattle.wd_scope.specs.Typed.{AreCalls, AreKeys, AreTyped, IsCall, IsFunctionOver, Shows, kinds_met}
+use Rattle.wd_scope.specs.Typed.{AreCalls, AreKeys, AreTyped, IsAggregate, IsCall, IsFunction, Shows, kinds_met}
 use Rattle.wd_scope.proofs.Typing.{and_both, both, same_kind-itself}
 use Rattle.wd_scope.proofs.TypedMet.{all_get, all_on}
-use Rattle.wd_select.specs.Outputs.{argument_of, call_expressions, inputs_with, inputs_with_all, met_in, sorted_by}
+use Rattle.wd_select.specs.Outputs.{aggregated, argument_of, call_expressions, inputs_with, inputs_with_all, met_in, sorted_by}
 use Rattle.wd_select.proofs.Among.{all_append, all_split, all_there, all_with_new, still_there}
 
 pub same_expression-itself : (x : Expression) → same_expression x x ≡ true
@@ -144,18 +140,18 @@ module _ (width : ℕ) (calls : List CallMeaning) (inputs : List Expression) whe
 -- ---- what is met is typed
 
 module _ (kinds : Kinds) where
-  argument_typed : (name : FunctionName) (argument : Option Expression) (n : ℕ) (default : Value) (kind : ValueKind) → IsFunctionOver kinds name argument n default kind → AreTyped kinds (argument_of argument)
-  argument_typed name None n default kind h = tt
-  argument_typed Lag (Some e) n default kind h = (h.0.is, tt)
-  argument_typed Lead (Some e) n default kind h = (h.0.is, tt)
-  argument_typed FirstValue (Some e) n default kind h = (h.is, tt)
-  argument_typed LastValue (Some e) n default kind h = (h.is, tt)
-  argument_typed NthValue (Some e) n default kind h = (h.0.is, tt)
-  argument_typed Count (Some e) n default kind h = (h.0, tt)
-  argument_typed Sum (Some e) n default kind h = (h.0.is, tt)
-  argument_typed Min (Some e) n default kind h = (h.0.is, tt)
-  argument_typed Max (Some e) n default kind h = (h.0.is, tt)
-  argument_typed name (Some e) n default kind h = absurd h
+  aggregated_typed : (a : AggregateMeaning) → IsAggregate kinds a → AreTyped kinds (aggregated a)
+  aggregated_typed count_rows h = tt
+  aggregated_typed (count_of a) h = (h.is, tt)
+  aggregated_typed (sum_of a) h = (h.0.is, tt)
+  aggregated_typed (least_of a) h = (h.0.is, tt)
+  aggregated_typed (greatest_of a) h = (h.0.is, tt)
+
+  argument_typed : (f : FunctionMeaning) → IsFunction kinds f → AreTyped kinds (argument_of f)
+  argument_typed (ranking r) h = tt
+  argument_typed (away direction a n default) h = (h.0.is, tt)
+  argument_typed (value_at row a) h = (h.0.is, tt)
+  argument_typed (aggregate a) h = aggregated_typed a h
 
   keys_typed : (keys : List KeyMeaning) → AreKeys kinds keys → AreTyped kinds (map sorted_by keys)
   keys_typed [] h = tt
@@ -164,8 +160,8 @@ module _ (kinds : Kinds) where
   call_typed : (call : CallMeaning) → IsCall kinds call → AreTyped kinds (call_expressions (Some call))
   call_typed call h =
       let typed = λ (e : Expression). is_typed kinds e ≡ true in
-      let argument = argument_typed call.function.name call.function.argument call.function.number call.function.default call.function.kind h.function in
-      all_append typed (argument_of call.function.argument ++ call.window.partition) (map sorted_by call.window.order) (all_append typed (argument_of call.function.argument) call.window.partition argument h.window.partition) (keys_typed call.window.order h.window.order)
+      let argument = argument_typed call.function h.function in
+      all_append typed (argument_of call.function ++ call.window.partition) (map sorted_by call.window.order) (all_append typed (argument_of call.function) call.window.partition argument h.window.partition) (keys_typed call.window.order h.window.order)
 
 module _ (scope : ScopeRule) (calls : List CallMeaning) (all : AreCalls scope calls) where
   column_typed : (c : ℕ) → is_some (kinds_met scope calls c) ≡ true → AreTyped (kinds_met scope []) (met_in (length scope.columns) calls (Column c))
@@ -179,7 +175,7 @@ module _ (scope : ScopeRule) (calls : List CallMeaning) (all : AreCalls scope ca
       behind (Some call) e = call_typed (kinds_met scope []) call (all_get (IsCall (kinds_met scope [])) calls number call all e)
 
       by : (b : Bool) → nat_lt c (length scope.columns) ≡ b
-          → is_some (cond b (option_map (λ (column : ScopeColumn). column.kind) (slice_get scope.columns c)) (option_map (λ (call : CallMeaning). call.function.kind) (slice_get calls (c - length scope.columns)))) ≡ true
+          → is_some (cond b (option_map (λ (column : ScopeColumn). column.kind) (slice_get scope.columns c)) (option_map (λ (call : CallMeaning). kind_of_function call.function) (slice_get calls (c - length scope.columns)))) ≡ true
           → AreTyped (kinds_met scope []) (cond b (Column c ∷ []) (call_expressions (slice_get calls (c - length scope.columns))))
       by true e h = (rw e h, tt)
       by false e h = behind (slice_get calls (c - length scope.columns)) refl

@@ -50,14 +50,14 @@ columns_are scope n test before (column ∷ columns) split at = by (test column)
     by true rest = (column_is (kinds_met scope []) n column.kind (rw (lt-ltb n (length scope.columns) within) (rw there refl)), rest)
     by false rest = rest
 
-columns_of_is : (scope : ScopeRule) (table : Option (List ℕ)) (outputs : List OutputMeaning) → columns_of scope table ≡ Ok outputs → AreOutputs (kinds_met scope []) outputs
-columns_of_is scope table outputs h = subst (AreOutputs (kinds_met scope [])) (ok_is _ _ h) (columns_are scope 0 (is_of table) [] scope.columns refl refl)
+columns_of_is : (scope : ScopeRule) (table : Option (List ℕ)) → AreOutputs (kinds_met scope []) (columns_of scope table)
+columns_of_is scope table = columns_are scope 0 (is_of table) [] scope.columns refl refl
 
 table_shown_is : (scope : ScopeRule) (table : List ℕ) (outputs : List OutputMeaning) → table_shown scope table ≡ Ok outputs → AreOutputs (kinds_met scope []) outputs
 table_shown_is scope table outputs h = by (has_table scope table) h
   where
-    by : (b : Bool) → cond b (columns_of scope (Some table)) (Err UnknownTable) ≡ Ok outputs → AreOutputs (kinds_met scope []) outputs
-    by true h = columns_of_is scope (Some table) outputs h
+    by : (b : Bool) → cond b (Ok (columns_of scope (Some table))) (Err UnknownTable) ≡ Ok outputs → AreOutputs (kinds_met scope []) outputs
+    by true h = subst (AreOutputs (kinds_met scope [])) (ok_is _ _ h) (columns_of_is scope (Some table))
     by false h = cc
 
 -- the column of this number stands in some output
@@ -85,8 +85,7 @@ plain_item scope calls outputs x all are h = subst (IsItem scope calls) (ok_is _
 
 item_is : (c : ContextRule) (item : ItemTree) (calls : List CallMeaning) (x : List OutputMeaning × List CallMeaning) → AreKnown (kinds_met c.scope []) c.windows → AreCalls c.scope calls → item_meant c item calls ≡ Ok x → IsItem c.scope calls x
 item_is c all_columns calls x known all h =
-    let o = bound (columns_of c.scope None) (λ (outputs : List OutputMeaning). Ok (outputs, calls)) x h in
-    plain_item c.scope calls o.0 x all (columns_of_is c.scope None o.0 o.1) o.2
+    plain_item c.scope calls (columns_of c.scope None) x all (columns_of_is c.scope None) h
 item_is c (all_of table) calls x known all h =
     let o = bound (table_shown c.scope table.text) (λ (outputs : List OutputMeaning). Ok (outputs, calls)) x h in
     plain_item c.scope calls o.0 x all (table_shown_is c.scope table.text o.0 o.1) o.2

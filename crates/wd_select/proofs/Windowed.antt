@@ -6,7 +6,6 @@ use Rattle.std.proofs.lemmas.List.{length-map}
 use Rattle.std.proofs.lemmas.Option.{slice_get-map, slice_get_within}
 use Rattle.std.specs.Cmp.{booleans_Decides}
 use lib.Pointwise.{pointwise, pointwise_decides}
-use Rattle.wd_value.specs.declared.value.Value.{Value}
 use Rattle.wd_schema.specs.Tables.{TableRule}
 use Rattle.wd_plan.specs.declared.expression.ValueKind.{ValueKind}
 use Rattle.wd_plan.specs.declared.expression.ValueKind.TheVariants.{Number, Truth}
@@ -17,22 +16,25 @@ use Rattle.wd_plan.specs.declared.window.Exclusion.{Exclusion}
 use Rattle.wd_plan.specs.declared.window.FrameMode.{FrameMode}
 use Rattle.wd_plan.specs.declared.window.FrameMode.TheVariants as mode
 use Rattle.wd_plan.specs.Expressions.{Expression, Column, Literal, Negate, Arithmetic, Compare, Not, And, Or, IsNull, IsNotNull, Case}
-use Rattle.wd_plan.specs.Fits.{Kinds, are_alike, are_bounds, fits, has_class, has_columns, has_keys, has_keys_for, has_offset, is_call, is_kind, is_typed, kind_of, kind_of_function, kinds_of, takes}
+use Rattle.wd_plan.specs.Fits.{Kinds, are_alike, are_bounds, fits, has_class, has_columns, has_keys, has_keys_for, has_offset, is_call, is_kind, is_typed, kind_of, kinds_of, takes}
 use Rattle.wd_plan.specs.Fits as fits_spec
 use Rattle.wd_plan.specs.Plans.{ClassRule, PlanTree, Map, Window}
 use Rattle.wd_plan.specs.Equality.{same_expression}
-use Rattle.wd_plan.specs.declared.function.FunctionName.{FunctionName}
-use Rattle.wd_plan.specs.declared.function.FunctionName.TheVariants.{RowNumber, Rank, DenseRank, Ntile, Lag, Lead, FirstValue, LastValue, NthValue, Count, Sum, Min, Max}
+use Rattle.wd_plan.specs.declared.function.Direction.TheVariants as way
+use Rattle.wd_plan.specs.declared.function.FrameFunction.TheVariants as of_frame
+use Rattle.wd_plan.specs.declared.function.FrameRow.TheVariants.{First, Last, Nth}
+use Rattle.wd_plan.specs.declared.function.Function.TheVariants.{OfFrame}
+use Rattle.wd_plan.specs.declared.function.Ranking.TheVariants as rank
 use Rattle.wd_scope.specs.declared.scope.ScopeColumn.{ScopeColumn}
-use Rattle.wd_scope.specs.Calls.{CallMeaning}
+use Rattle.wd_scope.specs.Calls.{AggregateMeaning, count_rows, count_of, sum_of, least_of, greatest_of, FunctionMeaning, ranking, away, value_at, aggregate, CallMeaning, kind_of_aggregate, kind_of_function}
 use Rattle.wd_scope.specs.Scopes.{ScopeRule}
 use Rattle.wd_scope.specs.Windows.{KeyMeaning, is_empty, is_one_number}
-use Rattle.wd_scope.specs.Typed.{AreCalls, AreKeys, AreTyped, IsCall, IsFunctionOver, IsOfKind, is_framed, kinds_met}
+use Rattle.wd_scope.specs.Typed.{AreCalls, AreKeys, AreTyped, IsAggregate, IsCall, IsFunction, IsOfKind, is_framed, kinds_met}
 use Rattle.wd_scope.proofs.Typing.{Extends, and_both, both, kept, typed_kept}
 use Rattle.wd_scope.proofs.TypedMet.{all_get, column_is}
 use Rattle.wd_scope.proofs.Equal.{same_expression-is}
-use Rattle.wd_select.specs.Outputs.{argument_of, call_expressions, input_number, sorted_by}
-use Rattle.wd_select.specs.Steps.{above, call_over, class_over, classes_over, column_above, function_over, order_item, same_class, same_item, window_over}
+use Rattle.wd_select.specs.Outputs.{aggregated, argument_of, call_expressions, input_number, sorted_by}
+use Rattle.wd_select.specs.Steps.{above, aggregate_over, call_over, class_over, classes_over, column_above, function_over, order_item, same_class, same_item, window_over}
 use Rattle.wd_select.proofs.Among.{all_split, all_there, all_true, all_with_new, first_is}
 use Rattle.wd_select.proofs.Covered.{AreAmong, Covers, IsAmong}
 use Rattle.wd_select.proofs.PlanKinds.{AreOfKinds, HasKinds, scope_is, scope_kinds}
@@ -99,14 +101,14 @@ call_at kinds classes call class e t b k = rw e (and_both _ _ t (and_both _ _ b 
 
 -- the expressions of a call among the inputs
 record IsFed (inputs : List Expression) (call : CallMeaning) : Type 0 where
-  argument : AreAmong inputs (argument_of call.function.argument)
+  argument : AreAmong inputs (argument_of call.function)
   partition : AreAmong inputs call.window.partition
   order : AreAmong inputs (map sorted_by call.window.order)
 
 fed : (inputs : List Expression) (call : CallMeaning) → AreAmong inputs (call_expressions (Some call)) → IsFed inputs call
 fed inputs call h =
-    let p = all_split (IsAmong inputs) (argument_of call.function.argument ++ call.window.partition) (map sorted_by call.window.order) h in
-    let q = all_split (IsAmong inputs) (argument_of call.function.argument) call.window.partition p.0 in
+    let p = all_split (IsAmong inputs) (argument_of call.function ++ call.window.partition) (map sorted_by call.window.order) h in
+    let q = all_split (IsAmong inputs) (argument_of call.function) call.window.partition p.0 in
     record { argument = q.0; partition = q.1; order = p.1 }
 
 -- ---- the Window over a plan
@@ -141,11 +143,8 @@ module _ (tables : List TableRule) (plan : PlanTree) (scope : ScopeRule) (calls 
   -- the input of an expression
   place : (e : Expression) (k : ValueKind) → IsOfKind Read e k → IsAmong inputs e → (input_number inputs e < length inputs) × (Shown (input_number inputs e) ≡ Some k)
   place e k is among =
-      let f = first_is same_expression same_expression-is 0 e inputs among in
-      let same : f.0 ≡ input_number inputs e = omega (arith, f.1) in
-      let there : Shown f.0 ≡ Some k = rw f.2 (kept Read Below extended is).has in
-      let within = slice_get_within inputs f.0 e f.2 in
-      (omega (arith, f.1), subst (λ n. Shown n ≡ Some k) same there)
+      let f = first_is same_expression same_expression-is e inputs among in
+      (slice_get_within inputs (input_number inputs e) e f, rw f (kept Read Below extended is).has)
 
   input_kind : (e : Expression) (k : ValueKind) → IsOfKind Read e k → IsAmong inputs e → Shown (input_number inputs e) ≡ Some k
   input_kind e k is among = (place e k is among).1
@@ -164,41 +163,43 @@ module _ (tables : List TableRule) (plan : PlanTree) (scope : ScopeRule) (calls 
   class_is : (call : CallMeaning) → IsCall Read call → IsFed inputs call → has_class Shown (class_over inputs call) ≡ true
   class_is call h g = and_both _ _ (columns_are call.window.partition h.window.partition g.partition) (keys_are call.window.order h.window.order g.order)
 
-  takes_is : (name : FunctionName) (argument : Option Expression) (n : ℕ) (default : Value) (kind : ValueKind) → IsFunctionOver Read name argument n default kind → AreAmong inputs (argument_of argument)
-      → takes Shown (function_over name (option_map (input_number inputs) argument) n default) ≡ true
-  takes_is RowNumber None n default kind h g = refl
-  takes_is Rank None n default kind h g = refl
-  takes_is DenseRank None n default kind h g = refl
-  takes_is Ntile None n default kind h g = h.0
-  takes_is Lag (Some e) n default kind h g = rw (input_kind e kind h.0 g.0) h.1
-  takes_is Lead (Some e) n default kind h g = rw (input_kind e kind h.0 g.0) h.1
-  takes_is FirstValue (Some e) n default kind h g = rw (input_kind e kind h g.0) refl
-  takes_is LastValue (Some e) n default kind h g = rw (input_kind e kind h g.0) refl
-  takes_is NthValue (Some e) n default kind h g = and_both _ _ (rw (input_kind e kind h.0 g.0) refl) h.1
-  takes_is Count None n default kind h g = refl
-  takes_is Count (Some e) n default kind h g = and_true _ (input_some e h.0 g.0)
-  takes_is Sum (Some e) n default kind h g = rw (input_kind e Number h.0 g.0) refl
-  takes_is Min (Some e) n default kind h g = rw (input_kind e kind h.0 g.0) (and_true _ h.1)
-  takes_is Max (Some e) n default kind h g = rw (input_kind e kind h.0 g.0) (and_true _ h.1)
-  takes_is name argument n default kind h g = absurd h
+  takes_aggregate : (a : AggregateMeaning) → IsAggregate Read a → AreAmong inputs (aggregated a) → takes Shown (OfFrame (of_frame.Aggregate (aggregate_over inputs a))) ≡ true
+  takes_aggregate count_rows h g = refl
+  takes_aggregate (count_of a) h g = and_true _ (input_some a.expression h.is g.0)
+  takes_aggregate (sum_of a) h g = rw (input_kind a.expression a.kind h.0 g.0) (rw h.1 refl)
+  takes_aggregate (least_of a) h g = rw (input_kind a.expression a.kind h.0 g.0) (and_true _ h.1)
+  takes_aggregate (greatest_of a) h g = rw (input_kind a.expression a.kind h.0 g.0) (and_true _ h.1)
 
-  gives : (name : FunctionName) (argument : Option Expression) (n : ℕ) (default : Value) (kind : ValueKind) → IsFunctionOver Read name argument n default kind → AreAmong inputs (argument_of argument)
-      → kind_of_function Shown (function_over name (option_map (input_number inputs) argument) n default) ≡ Some kind
-  gives RowNumber None n default kind h g = ap Some (sym h)
-  gives Rank None n default kind h g = ap Some (sym h)
-  gives DenseRank None n default kind h g = ap Some (sym h)
-  gives Ntile None n default kind h g = ap Some (sym h.1)
-  gives Lag (Some e) n default kind h g = input_kind e kind h.0 g.0
-  gives Lead (Some e) n default kind h g = input_kind e kind h.0 g.0
-  gives FirstValue (Some e) n default kind h g = input_kind e kind h g.0
-  gives LastValue (Some e) n default kind h g = input_kind e kind h g.0
-  gives NthValue (Some e) n default kind h g = input_kind e kind h.0 g.0
-  gives Count None n default kind h g = ap Some (sym h)
-  gives Count (Some e) n default kind h g = ap Some (sym h.1)
-  gives Sum (Some e) n default kind h g = ap Some (sym h.1)
-  gives Min (Some e) n default kind h g = input_kind e kind h.0 g.0
-  gives Max (Some e) n default kind h g = input_kind e kind h.0 g.0
-  gives name argument n default kind h g = absurd h
+  takes_is : (f : FunctionMeaning) → IsFunction Read f → AreAmong inputs (argument_of f) → takes Shown (function_over inputs f) ≡ true
+  takes_is (ranking rank.RowNumber) h g = refl
+  takes_is (ranking rank.Rank) h g = refl
+  takes_is (ranking rank.DenseRank) h g = refl
+  takes_is (ranking (rank.Ntile n)) h g = h
+  takes_is (away way.Lag a n default) h g = rw (input_kind a.expression a.kind h.0 g.0) h.1
+  takes_is (away way.Lead a n default) h g = rw (input_kind a.expression a.kind h.0 g.0) h.1
+  takes_is (value_at First a) h g = rw (input_kind a.expression a.kind h.0 g.0) refl
+  takes_is (value_at Last a) h g = rw (input_kind a.expression a.kind h.0 g.0) refl
+  takes_is (value_at (Nth n) a) h g = and_both _ _ (rw (input_kind a.expression a.kind h.0 g.0) refl) h.1
+  takes_is (aggregate a) h g = takes_aggregate a h g
+
+  gives_aggregate : (a : AggregateMeaning) → IsAggregate Read a → AreAmong inputs (aggregated a) → fits_spec.kind_of_function Shown (OfFrame (of_frame.Aggregate (aggregate_over inputs a))) ≡ Some (kind_of_aggregate a)
+  gives_aggregate count_rows h g = refl
+  gives_aggregate (count_of a) h g = refl
+  gives_aggregate (sum_of a) h g = refl
+  gives_aggregate (least_of a) h g = input_kind a.expression a.kind h.0 g.0
+  gives_aggregate (greatest_of a) h g = input_kind a.expression a.kind h.0 g.0
+
+  gives : (f : FunctionMeaning) → IsFunction Read f → AreAmong inputs (argument_of f) → fits_spec.kind_of_function Shown (function_over inputs f) ≡ Some (kind_of_function f)
+  gives (ranking rank.RowNumber) h g = refl
+  gives (ranking rank.Rank) h g = refl
+  gives (ranking rank.DenseRank) h g = refl
+  gives (ranking (rank.Ntile n)) h g = refl
+  gives (away way.Lag a n default) h g = input_kind a.expression a.kind h.0 g.0
+  gives (away way.Lead a n default) h g = input_kind a.expression a.kind h.0 g.0
+  gives (value_at First a) h g = input_kind a.expression a.kind h.0 g.0
+  gives (value_at Last a) h g = input_kind a.expression a.kind h.0 g.0
+  gives (value_at (Nth n) a) h g = input_kind a.expression a.kind h.0 g.0
+  gives (aggregate a) h g = gives_aggregate a h g
 
   one_number : (order : List KeyMeaning) → AreKeys Read order → AreAmong inputs (map sorted_by order) → is_one_number order ≡ true → fits_spec.is_one_number Shown (map (order_item inputs) order) ≡ true
   one_number [] h g one = absurd (false≢true one)
@@ -217,10 +218,8 @@ module _ (tables : List TableRule) (plan : PlanTree) (scope : ScopeRule) (calls 
 
   call_is : (call : CallMeaning) → IsCall Read call → IsFed inputs call → list_any (same_class (class_over inputs call)) classes ≡ true → is_call Shown classes (call_over inputs classes call) ≡ true
   call_is call h g among =
-      let f = first_is same_class same_class-is 0 (class_over inputs call) classes among in
-      let same : f.0 ≡ (call_over inputs classes call).class = omega (arith, f.1) in
-      call_at Shown classes (call_over inputs classes call) (class_over inputs call) (subst (λ n. slice_get classes n ≡ Some (class_over inputs call)) same f.2)
-      (takes_is call.function.name call.function.argument call.function.number call.function.default call.function.kind h.function g.argument)
+      call_at Shown classes (call_over inputs classes call) (class_over inputs call) (first_is same_class same_class-is (class_over inputs call) classes among)
+      (takes_is call.function h.function g.argument)
       h.window.bounds
       (framed call.window.frame.mode call.window.frame.start call.window.frame.end call.window.frame.exclusion call.window.order h.window.order g.order h.window.frame)
 
@@ -253,19 +252,19 @@ module _ (tables : List TableRule) (plan : PlanTree) (scope : ScopeRule) (calls 
   input_above : (e : Expression) (k : ValueKind) → IsOfKind Read e k → IsAmong inputs e → Over (input_number inputs e) ≡ Some k
   input_above e k is among = let p = place e k is among in rw (lt-ltb (input_number inputs e) (length inputs) p.0) p.1
 
-  call_above : (n : ℕ) (call : CallMeaning) → slice_get calls n ≡ Some call → Over (length inputs + n) ≡ Some call.function.kind
+  call_above : (n : ℕ) (call : CallMeaning) → slice_get calls n ≡ Some call → Over (length inputs + n) ≡ Some (kind_of_function call.function)
   call_above n call e =
       let is = all_get (IsCall Read) calls n call ground.calls_are e in
       let among = fed inputs call (all_get (λ c. AreAmong inputs (call_expressions (Some c))) calls n call ground.among e) in
       let behind = le-ltb (length inputs + n) (length inputs) (omega arith) in
       let number : (length inputs + n) - length inputs ≡ n = omega arith in
       let there : slice_get (map (call_over inputs classes) calls) n ≡ Some (call_over inputs classes call) = slice_get-map (call_over inputs classes) calls n ∙ ap (option_map (call_over inputs classes)) e in
-      rw behind (rw number (rw there (gives call.function.name call.function.argument call.function.number call.function.default call.function.kind is.function among.argument)))
+      rw behind (rw number (rw there (gives call.function is.function among.argument)))
 
   column_raised : (c : ℕ) (k : ValueKind) → kinds_met scope calls c ≡ Some k → (nat_lt c (length scope.columns) ≡ true → IsAmong inputs (Column c)) → Over (column_above (length scope.columns) (length calls) inputs c) ≡ Some k
   column_raised c k h among = by (nat_lt c (length scope.columns)) refl h
     where
-      of_call : (o : Option CallMeaning) → slice_get calls (c - length scope.columns) ≡ o → option_map (λ (call : CallMeaning). call.function.kind) o ≡ Some k
+      of_call : (o : Option CallMeaning) → slice_get calls (c - length scope.columns) ≡ o → option_map (λ (call : CallMeaning). kind_of_function call.function) o ≡ Some k
           → Over (cond (nat_lt (c - length scope.columns) (length calls)) (length inputs + (c - length scope.columns)) c) ≡ Some k
       of_call None e g = cc
       of_call (Some call) e g =
@@ -273,7 +272,7 @@ module _ (tables : List TableRule) (plan : PlanTree) (scope : ScopeRule) (calls 
           rw (lt-ltb (c - length scope.columns) (length calls) within) (call_above (c - length scope.columns) call e ∙ g)
 
       by : (b : Bool) → nat_lt c (length scope.columns) ≡ b
-          → cond b (option_map (λ (column : ScopeColumn). column.kind) (slice_get scope.columns c)) (option_map (λ (call : CallMeaning). call.function.kind) (slice_get calls (c - length scope.columns))) ≡ Some k
+          → cond b (option_map (λ (column : ScopeColumn). column.kind) (slice_get scope.columns c)) (option_map (λ (call : CallMeaning). kind_of_function call.function) (slice_get calls (c - length scope.columns))) ≡ Some k
           → Over (cond b (input_number inputs (Column c)) (cond (nat_lt (c - length scope.columns) (length calls)) (length inputs + (c - length scope.columns)) c)) ≡ Some k
       by true e g = input_above (Column c) k (column_is Read c k (rw e g)) (among e)
       by false e g = of_call (slice_get calls (c - length scope.columns)) refl g

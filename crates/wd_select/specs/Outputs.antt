@@ -1,8 +1,8 @@
 -- The select list: its outputs, their names, and what the plan shows for them (SQL, query specification; PG, SELECT List).
-use Rattle.std.specs.Prelude.{ℕ, ◌+◌, ◌-◌, Bool, true, false, not, ◌&&◌, ◌||◌, codes, List, [], ◌∷◌, ◌++◌, map, length, nat_lt, Option, Some, None, Ok, Err, slice_get, if◌then◌else◌}
-use Rattle.std.specs.List.{list_any}
+use Rattle.std.specs.Prelude.{ℕ, ◌+◌, ◌-◌, Bool, true, false, ◌&&◌, ◌||◌, codes, List, [], ◌∷◌, ◌++◌, map, length, nat_lt, Option, Some, None, Ok, Err, slice_get, if◌then◌else◌}
+use Rattle.std.specs.List.{list_any, position_or_len}
 use Rattle.std.specs.Str.{bytes_eq}
-use Rattle.wd_syntax.specs.declared.expression.Sign.TheVariants.{Plus, Minus}
+use Rattle.wd_syntax.specs.declared.expression.Sign.TheVariants.{Plus}
 use Rattle.wd_syntax.specs.declared.query.Alias.{Alias}
 use Rattle.wd_syntax.specs.Tree as tree
 use Rattle.wd_syntax.specs.Tree.{Tree, ItemTree, all_columns, all_of, shown}
@@ -15,7 +15,7 @@ use Rattle.wd_plan.specs.Equality.{same_expression}
 use Rattle.wd_operand.specs.Operands.{Operand, settled, kind_of}
 use Rattle.wd_scope.specs.Scopes.{ScopeRule, has_table}
 use Rattle.wd_scope.specs.Windows.{KeyMeaning}
-use Rattle.wd_scope.specs.Calls.{CallMeaning}
+use Rattle.wd_scope.specs.Calls.{AggregateMeaning, count_rows, count_of, sum_of, least_of, greatest_of, FunctionMeaning, ranking, away, value_at, aggregate, CallMeaning}
 use Rattle.wd_scope.specs.Resolving.{ContextRule, resolved}
 use Rattle.wd_select.specs.declared.output.Output.{Output}
 
@@ -40,12 +40,7 @@ name_of (tree.CallAll f over) = f.text
 name_of (tree.Call f arguments over) = f.text
 name_of (tree.Bracket a) = name_of a
 name_of (tree.Signed Plus a) = name_of a
-name_of (tree.Signed Minus a) = codes "?column?"
-name_of (tree.Constant x) = codes "?column?"
-name_of (tree.Case arms other) = codes "?column?"
-name_of (tree.Binary operator a b) = codes "?column?"
-name_of (tree.IsNull a not) = codes "?column?"
-name_of (tree.Negated a) = codes "?column?"
+name_of a = codes "?column?"
 
 abbrev pub name_shown : Tree → Option Alias → List ℕ
 name_shown a None = name_of a
@@ -56,9 +51,6 @@ name_shown a (Some alias) = alias.name.text
 -- a column of FROM as an output
 abbrev pub column_meant : ℕ → ScopeColumn → OutputMeaning
 column_meant number column = record { name = column.name; expression = Column number; kind = column.kind }
-
-abbrev pub column_output : ℕ → ScopeColumn → Meant OutputMeaning
-column_output number column = Ok (column_meant number column)
 
 -- the columns that pass a test, where columns are counted from a number on
 abbrev pub columns_shown : ℕ → (ScopeColumn → Bool) → List ScopeColumn → List OutputMeaning
@@ -71,27 +63,38 @@ is_of None column = true
 is_of (Some table) column = bytes_eq column.table table
 
 -- the columns of all tables of FROM, or of one
-abbrev pub columns_of : ScopeRule → Option (List ℕ) → Meant (List OutputMeaning)
-columns_of scope table = Ok (columns_shown 0 (is_of table) scope.columns)
+abbrev pub columns_of : ScopeRule → Option (List ℕ) → List OutputMeaning
+columns_of scope table = columns_shown 0 (is_of table) scope.columns
 
 -- the columns of one table of FROM
 abbrev pub table_shown : ScopeRule → List ℕ → Meant (List OutputMeaning)
-table_shown scope table = if has_table scope table then columns_of scope (Some table) else Err UnknownTable
+table_shown scope table = if has_table scope table then Ok (columns_of scope (Some table)) else Err UnknownTable
 
 abbrev pub output_meant : List ℕ → Operand → OutputMeaning
 output_meant name x = record { name = name; expression = settled x; kind = kind_of x }
 
 -- the outputs of a member of the select list, and the calls then met
 abbrev pub item_meant : ContextRule → ItemTree → List CallMeaning → Meant (List OutputMeaning × List CallMeaning)
-item_meant c all_columns calls = columns_of c.scope None >>= λ outputs. Ok (outputs, calls)
+item_meant c all_columns calls = Ok (columns_of c.scope None, calls)
 item_meant c (all_of table) calls = table_shown c.scope table.text >>= λ outputs. Ok (outputs, calls)
 item_meant c (shown a alias) calls = resolved c a calls >>= λ x. Ok (output_meant (name_shown a alias) x.0 ∷ [], x.1)
 
 -- ---- what the Map below a Window shows
 
-abbrev pub argument_of : Option Expression → List Expression
-argument_of None = []
-argument_of (Some e) = e ∷ []
+-- the value argument of an aggregate; COUNT of a star has none
+abbrev pub aggregated : AggregateMeaning → List Expression
+aggregated count_rows = []
+aggregated (count_of a) = a.expression ∷ []
+aggregated (sum_of a) = a.expression ∷ []
+aggregated (least_of a) = a.expression ∷ []
+aggregated (greatest_of a) = a.expression ∷ []
+
+-- the value argument of a function; a ranking function has none
+abbrev pub argument_of : FunctionMeaning → List Expression
+argument_of (ranking r) = []
+argument_of (away direction a n default) = a.expression ∷ []
+argument_of (value_at row a) = a.expression ∷ []
+argument_of (aggregate a) = aggregated a
 
 abbrev pub sorted_by : KeyMeaning → Expression
 sorted_by key = key.expression
@@ -99,7 +102,7 @@ sorted_by key = key.expression
 -- the expressions of a call: its value argument, then its partition, then its order
 abbrev pub call_expressions : Option CallMeaning → List Expression
 call_expressions None = []
-call_expressions (Some call) = argument_of call.function.argument ++ call.window.partition ++ map sorted_by call.window.order
+call_expressions (Some call) = argument_of call.function ++ call.window.partition ++ map sorted_by call.window.order
 
 -- the expressions met in an expression over the columns of FROM and the calls after them: a column outside a call, and those of
 -- each call, from left to right
@@ -130,14 +133,9 @@ abbrev pub inputs_with_all : ℕ → List CallMeaning → List Expression → Li
 inputs_with_all width calls inputs [] = inputs
 inputs_with_all width calls inputs (e ∷ es) = inputs_with_all width calls (inputs_with width calls inputs e) es
 
--- the number of the first element that passes a test, counted from a number on; where none passes, the number after the last
-abbrev pub first_number : {A : Type 0} → ℕ → (A → Bool) → List A → ℕ
-first_number n test [] = n
-first_number n test (x ∷ xs) = if test x then n else first_number (n + 1) test xs
-
--- the number of an expression among the inputs
+-- the number of an expression among the inputs, and their number where it is none
 abbrev pub input_number : List Expression → Expression → ℕ
-input_number inputs e = first_number 0 (same_expression e) inputs
+input_number inputs e = position_or_len (same_expression e) inputs
 
 -- ---- the widths of nodes
 

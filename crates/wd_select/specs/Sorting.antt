@@ -92,9 +92,7 @@ ordinal outputs n = if nat_le 1 n && nat_le n (length outputs) then Ok (output (
 -- a bare number is an ordinal, and no other bare literal may stand here (own)
 abbrev pub literal_place : List OutputMeaning → Literal → Meant KeyPlace
 literal_place outputs (l.Number n) = number n >>= λ m. ordinal outputs m
-literal_place outputs (l.Text text) = Err WrongSortKey
-literal_place outputs (l.Truth b) = Err WrongSortKey
-literal_place outputs l.Null = Err WrongSortKey
+literal_place outputs literal = Err WrongSortKey
 
 -- a signed number is a literal too, and else a place stays
 abbrev pub unless_number : Option ℕ → KeyPlace → Meant KeyPlace
@@ -111,13 +109,7 @@ key_place s (tree.Bracket a) = key_place s a
 key_place s (tree.Column name) = named_place s name (tree.Column name)
 key_place s (tree.Constant x) = literal_place s.outputs x
 key_place s (tree.Signed sign a) = signed_place (written_number a) (expression_place s (tree.Signed sign a))
-key_place s (tree.Qualified table name) = expression_place s (tree.Qualified table name)
-key_place s (tree.CallAll f over) = expression_place s (tree.CallAll f over)
-key_place s (tree.Call f arguments over) = expression_place s (tree.Call f arguments over)
-key_place s (tree.Case arms other) = expression_place s (tree.Case arms other)
-key_place s (tree.Binary operator a b) = expression_place s (tree.Binary operator a b)
-key_place s (tree.IsNull a not) = expression_place s (tree.IsNull a not)
-key_place s (tree.Negated a) = expression_place s (tree.Negated a)
+key_place s a = expression_place s a
 
 -- the sort keys over the outputs and the hidden columns after them, the expressions that are hidden there, and the distinct
 -- expressions met so far

@@ -1,71 +1,49 @@
 -- The steps of a plan above FROM: the windows of a select list, and what is shown, sorted and cut (SQL, query specification, query
 -- expression; PG, SELECT).
-use Rattle.std.specs.Prelude.{ℕ, ◌+◌, ◌-◌, Bool, true, false, ◌&&◌, List, [], ◌∷◌, ◌++◌, map, length, nat_eq, nat_lt, Option, Some, None, option_map, Ok, if◌then◌else◌}
-use Rattle.std.specs.List.{range_with_len}
+use Rattle.std.specs.Prelude.{ℕ, ◌+◌, ◌-◌, Bool, true, false, ◌&&◌, List, [], ◌∷◌, ◌++◌, map, length, nat_eq, nat_lt, Option, Some, None, Ok, if◌then◌else◌}
+use Rattle.std.specs.List.{position_or_len, range_with_len}
 use Rattle.std.specs.Bool.{beq}
 use lib.Pointwise.{pointwise}
-use Rattle.wd_value.specs.declared.value.Value.{Value}
 use Rattle.wd_syntax.specs.Tree.{Tree}
 use Rattle.wd_value.specs.declared.order.SortColumn.{SortColumn}
 use Rattle.wd_plan.specs.declared.window.Call.{Call}
 use Rattle.wd_plan.specs.declared.function.Aggregate.{Aggregate}
 use Rattle.wd_plan.specs.declared.function.Aggregate.TheVariants as of_rows
-use Rattle.wd_plan.specs.declared.function.Direction.{Direction}
-use Rattle.wd_plan.specs.declared.function.Direction.TheVariants as way
 use Rattle.wd_plan.specs.declared.function.FrameFunction.TheVariants as of_frame
-use Rattle.wd_plan.specs.declared.function.FrameRow.{FrameRow}
-use Rattle.wd_plan.specs.declared.function.FrameRow.TheVariants.{First, Last, Nth}
 use Rattle.wd_plan.specs.declared.function.Function.{Function}
 use Rattle.wd_plan.specs.declared.function.Function.TheVariants.{Ranking as Ranked, Shift as Shifted, OfFrame}
-use Rattle.wd_plan.specs.declared.function.Ranking.TheVariants as rank
 use Rattle.wd_plan.specs.Expressions.{Expression, Column, Literal, Negate, Arithmetic, Compare, Not, And, Or, IsNull, IsNotNull, Case}
 use Rattle.wd_plan.specs.Plans.{ClassRule, WindowRule, PlanTree, Filter, Map, Window, Distinct, Limit}
-use Rattle.wd_plan.specs.declared.function.FunctionName.{FunctionName}
-use Rattle.wd_plan.specs.declared.function.FunctionName.TheVariants.{RowNumber, Rank, DenseRank, Ntile, Lag, Lead, FirstValue, LastValue, NthValue, Count, Sum, Min, Max}
 use Rattle.wd_operand.specs.Causes.{Meant, ◌>>=◌}
-use Rattle.wd_scope.specs.Calls.{CallMeaning}
+use Rattle.wd_scope.specs.Calls.{ArgumentMeaning, AggregateMeaning, count_rows, count_of, sum_of, least_of, greatest_of, FunctionMeaning, ranking, away, value_at, aggregate, CallMeaning}
 use Rattle.wd_scope.specs.Resolving.{condition}
 use Rattle.wd_scope.specs.declared.context.Place.TheVariants as place
 use Rattle.wd_scope.specs.Scopes.{ScopeRule}
 use Rattle.wd_scope.specs.Windows.{KeyMeaning}
 use Rattle.wd_select.specs.declared.output.OutputColumn.{OutputColumn}
-use Rattle.wd_select.specs.Outputs.{OutputMeaning, expressions_of, first_number, input_number, with_new}
+use Rattle.wd_select.specs.Outputs.{OutputMeaning, expressions_of, input_number, with_new}
 use Rattle.wd_select.specs.Sorting.{Sorted, Cut}
 
 -- ---- the windows of a select list
 
--- a value argument; where a function has none, no column is read
-abbrev pub column_or_first : Option ℕ → ℕ
-column_or_first None = 0
-column_or_first (Some column) = column
+-- the column of a value argument among the inputs
+abbrev pub argument_over : List Expression → ArgumentMeaning → ℕ
+argument_over inputs a = input_number inputs a.expression
 
--- the value of a column so many rows away
-abbrev pub away : Direction → ℕ → ℕ → Value → Function
-away direction column n default = Shifted (record { direction = direction; argument = column; offset = n; default = default })
+-- the aggregate of a plan, over the column of its argument
+abbrev pub aggregate_over : List Expression → AggregateMeaning → Aggregate
+aggregate_over inputs count_rows = of_rows.CountRows
+aggregate_over inputs (count_of a) = of_rows.Count (argument_over inputs a)
+aggregate_over inputs (sum_of a) = of_rows.Sum (argument_over inputs a)
+aggregate_over inputs (least_of a) = of_rows.Min (argument_over inputs a)
+aggregate_over inputs (greatest_of a) = of_rows.Max (argument_over inputs a)
 
--- the value of a column at one row of the frame
-abbrev pub value_at : FrameRow → ℕ → Function
-value_at row column = OfFrame (of_frame.ValueAt row column)
-
-abbrev pub aggregate : Aggregate → Function
-aggregate a = OfFrame (of_frame.Aggregate a)
-
--- the function of a plan, over the column of its value argument
-abbrev pub function_over : FunctionName → Option ℕ → ℕ → Value → Function
-function_over RowNumber argument n default = Ranked rank.RowNumber
-function_over Rank argument n default = Ranked rank.Rank
-function_over DenseRank argument n default = Ranked rank.DenseRank
-function_over Ntile argument n default = Ranked (rank.Ntile n)
-function_over Lag argument n default = away way.Lag (column_or_first argument) n default
-function_over Lead argument n default = away way.Lead (column_or_first argument) n default
-function_over FirstValue argument n default = value_at First (column_or_first argument)
-function_over LastValue argument n default = value_at Last (column_or_first argument)
-function_over NthValue argument n default = value_at (Nth n) (column_or_first argument)
-function_over Count None n default = aggregate of_rows.CountRows
-function_over Count (Some argument) n default = aggregate (of_rows.Count argument)
-function_over Sum argument n default = aggregate (of_rows.Sum (column_or_first argument))
-function_over Min argument n default = aggregate (of_rows.Min (column_or_first argument))
-function_over Max argument n default = aggregate (of_rows.Max (column_or_first argument))
+-- the function of a plan, over the column of its argument
+abbrev pub function_over : List Expression → FunctionMeaning → Function
+function_over inputs (ranking r) = Ranked r
+function_over inputs (away direction a n default) = Shifted (record { direction = direction; argument = argument_over inputs a; offset = n; default = default })
+function_over inputs (value_at row a) = OfFrame (of_frame.ValueAt row (argument_over inputs a))
+function_over inputs (aggregate a) = OfFrame (of_frame.Aggregate (aggregate_over inputs a))
 
 -- the column of a sort key among the inputs
 abbrev pub order_item : List Expression → KeyMeaning → SortColumn
@@ -88,8 +66,8 @@ classes_over inputs calls = with_new same_class [] (map (class_over inputs) call
 
 abbrev pub call_over : List Expression → List ClassRule → CallMeaning → Call
 call_over inputs classes call = record {
-  class = first_number 0 (same_class (class_over inputs call)) classes;
-  function = function_over call.function.name (option_map (input_number inputs) call.function.argument) call.function.number call.function.default;
+  class = position_or_len (same_class (class_over inputs call)) classes;
+  function = function_over inputs call.function;
   frame = call.window.frame;
 }
 

@@ -1,18 +1,18 @@
 //! The distinct expressions that the Map below a Window shows.
 
-ghost use Rattle.std.specs.Prelude.{◌≡◌, ◌≤◌, [], ◌∷◌, map, length, option_map, IfOk};
+ghost use Rattle.std.specs.Prelude.{◌≡◌, ◌≤◌, [], ◌∷◌, map, length, IfOk};
 ghost use Rattle.std.specs.List.{list_any};
 ghost use Rattle.wd_plan.specs.Expressions.{expression_of, Column};
 ghost use Rattle.wd_plan.specs.Equality as equality;
-ghost use Rattle.wd_scope.specs.Calls.{call_of, calls_of};
+ghost use Rattle.wd_scope.specs.Calls.{aggregate_of, call_of, calls_of, function_of};
 ghost use Rattle.wd_scope.specs.Windows.{key_of};
-ghost use Rattle.wd_select.specs.Outputs.{output_of, expressions_of, with_new, call_expressions, argument_of, sorted_by, inputs_with, inputs_with_all};
+ghost use Rattle.wd_select.specs.Outputs.{output_of, expressions_of, with_new, call_expressions, aggregated, argument_of, sorted_by, inputs_with, inputs_with_all};
 ghost use Rattle.wd_select.specs.Outputs as spec;
 
 use crate::output::Output;
 use std::alloc::Global;
 use wd_plan::Expr;
-use wd_scope::{Calls, OrderKey, WindowCall};
+use wd_scope::{AppliedAggregate, AppliedFunction, Calls, OrderKey, WindowCall};
 use wd_value::OutOfMemory;
 
 /// Whether an expression is among others.
@@ -38,17 +38,36 @@ fn add_input(alloc: Global, inputs: &mut Vec<Expr>, expression: &Expr) -> Result
     Ok(())
 }
 
-/// Adds a value argument, where there is one.
+/// Adds the value argument of an aggregate, where it has one.
+fn add_aggregated(
+    alloc: Global,
+    inputs: &mut Vec<Expr>,
+    aggregate: &AppliedAggregate,
+) -> Result<(), OutOfMemory>
+    ensures { IfOk result (λ u. map expression_of inputs.new.items ≡ with_new equality.same_expression (map expression_of inputs.old.items) (aggregated (aggregate_of aggregate.now))) }
+{
+    match aggregate {
+        AppliedAggregate::CountRows => Ok(()),
+        AppliedAggregate::Count(argument)
+        | AppliedAggregate::Sum(argument)
+        | AppliedAggregate::Min(argument)
+        | AppliedAggregate::Max(argument) => add_input(alloc, inputs, &argument.expression),
+    }
+}
+
+/// Adds the value argument of a function, where it has one.
 fn add_argument(
     alloc: Global,
     inputs: &mut Vec<Expr>,
-    argument: &Option<Expr>,
+    function: &AppliedFunction,
 ) -> Result<(), OutOfMemory>
-    ensures { IfOk result (λ u. map expression_of inputs.new.items ≡ with_new equality.same_expression (map expression_of inputs.old.items) (argument_of (option_map expression_of argument.now))) }
+    ensures { IfOk result (λ u. map expression_of inputs.new.items ≡ with_new equality.same_expression (map expression_of inputs.old.items) (argument_of (function_of function.now))) }
 {
-    match argument {
-        Some(argument) => add_input(alloc, inputs, argument),
-        None => Ok(()),
+    match function {
+        AppliedFunction::Ranking(_) => Ok(()),
+        AppliedFunction::Shift { argument, .. } => add_input(alloc, inputs, &argument.expression),
+        AppliedFunction::ValueAt(_, argument) => add_input(alloc, inputs, &argument.expression),
+        AppliedFunction::Aggregate(aggregate) => add_aggregated(alloc, inputs, aggregate),
     }
 }
 
@@ -81,7 +100,7 @@ fn add_order(alloc: Global, inputs: &mut Vec<Expr>, keys: &[OrderKey]) -> Result
 fn add_call(alloc: Global, inputs: &mut Vec<Expr>, call: &WindowCall) -> Result<(), OutOfMemory>
     ensures { IfOk result (λ u. map expression_of inputs.new.items ≡ with_new equality.same_expression (map expression_of inputs.old.items) (call_expressions (Some (call_of call.now)))) }
 {
-    add_argument(alloc, inputs, &call.function.argument)?;
+    add_argument(alloc, inputs, &call.function)?;
     add_partition(alloc, inputs, &call.window.partition)?;
     add_order(alloc, inputs, &call.window.order)
 }

@@ -1,6 +1,6 @@
 //! The select list: its outputs, and what they are called.
 
-ghost use Rattle.std.specs.Prelude.{◌≡◌, map, option_map};
+ghost use Rattle.std.specs.Prelude.{◌≡◌, Ok, map, option_map};
 ghost use Rattle.wd_syntax.specs.View.{view, view_item};
 ghost use Rattle.wd_syntax.specs.Tree.{shown};
 ghost use Rattle.wd_operand.specs.Causes.{Gives};
@@ -68,7 +68,7 @@ fn is_of(table: Option<&Text>, column: &ScopeColumn) -> bool
 
 /// A column of FROM as an output.
 fn column_output(alloc: Global, number: u16, column: &ScopeColumn) -> Result<Output, ResolveError>
-    ensures { Gives output_of result (spec.column_output number column.now) }
+    ensures { Gives output_of result (Ok (spec.column_meant number column.now)) }
 {
     Ok(Output {
         name: column.name.copy(alloc)?,
@@ -83,7 +83,7 @@ fn columns_of(
     scope: &Scope,
     table: Option<&Text>,
 ) -> Result<Vec<Output>, ResolveError>
-    ensures { Gives (λ v. map output_of v.items) result (spec.columns_of (scope_of scope.now) (option_map (λ t. t.now) table.entry)) }
+    ensures { Gives (λ v. map output_of v.items) result (Ok (spec.columns_of (scope_of scope.now) (option_map (λ t. t.now) table.entry))) }
 {
     let mut outputs = Vec::new(alloc);
     for (number, column) in scope.columns.iter().enumerate() {

@@ -1,13 +1,13 @@
 //! The steps of a plan above FROM.
 
 ghost use Rattle.std.specs.Prelude.{◌≡◌, ◌+◌, ◌≤◌, false, nat_eq, [], ◌∷◌, map, length, vec_len, option_map, IfOk};
-ghost use Rattle.std.specs.List.{list_any};
+ghost use Rattle.std.specs.List.{list_any, position_or_len};
 ghost use lib.Pointwise.{pointwise};
 ghost use Rattle.wd_plan.specs.Expressions.{expression_of};
 ghost use Rattle.wd_plan.specs.Plans.{class_of, plan_of};
 ghost use Rattle.wd_syntax.specs.View.{view_option};
 ghost use Rattle.wd_operand.specs.Causes.{Gives};
-ghost use Rattle.wd_scope.specs.Calls.{call_of, calls_of};
+ghost use Rattle.wd_scope.specs.Calls.{aggregate_of, argument_of, call_of, calls_of, function_of};
 ghost use Rattle.wd_scope.specs.Scopes.{scope_of};
 ghost use Rattle.wd_scope.specs.Windows.{key_of};
 ghost use Rattle.wd_select.specs.Cuts.{cut_of};
@@ -18,13 +18,13 @@ use crate::inputs::input_number;
 use crate::limits::Cut;
 use std::alloc::Global;
 use wd_operand::ResolveError;
-use wd_plan::{
-    Aggregate, Call, Class, Direction, Expr, FrameFunction, FrameRow, Function, FunctionName,
-    Limit, Plan, Ranking, Shift, Window,
+use wd_plan::{Aggregate, Call, Class, Expr, FrameFunction, Function, Limit, Plan, Shift, Window};
+use wd_scope::{
+    AppliedAggregate, AppliedFunction, Calls, OrderKey, Place, Scope, ValueArgument, WindowCall,
+    condition,
 };
-use wd_scope::{AppliedFunction, Calls, OrderKey, Place, Scope, WindowCall, condition};
 use wd_syntax as written;
-use wd_value::{OutOfMemory, SortColumn, Value};
+use wd_value::{OutOfMemory, SortColumn};
 
 /// All rows.
 const NO_CUT: Cut = Cut {
@@ -54,71 +54,54 @@ pub fn filtered(
     }
 }
 
-/// The column of a value argument; where there is none, no column is read.
-fn column_or_first(inputs: &[Expr], argument: &Option<Expr>) -> u16
+/// The column of a value argument among the inputs.
+fn argument_over(argument: &ValueArgument, inputs: &[Expr]) -> u16
     requires { length inputs.now ≤ 1024 }
-    ensures { result ≡ spec.column_or_first (option_map (outputs_spec.input_number (map expression_of inputs.now)) (option_map expression_of argument.now)) }
+    ensures { result ≡ spec.argument_over (map expression_of inputs.now) (argument_of argument.now) }
 {
-    match argument {
-        Some(argument) => input_number(inputs, argument) as u16,
-        None => 0,
+    input_number(inputs, &argument.expression) as u16
+}
+
+/// The aggregate of a plan, over the column of its argument.
+fn aggregate_over(aggregate: &AppliedAggregate, inputs: &[Expr]) -> Aggregate
+    requires { length inputs.now ≤ 1024 }
+    ensures { result ≡ spec.aggregate_over (map expression_of inputs.now) (aggregate_of aggregate.now) }
+{
+    match aggregate {
+        AppliedAggregate::CountRows => Aggregate::CountRows,
+        AppliedAggregate::Count(argument) => Aggregate::Count(argument_over(argument, inputs)),
+        AppliedAggregate::Sum(argument) => Aggregate::Sum(argument_over(argument, inputs)),
+        AppliedAggregate::Min(argument) => Aggregate::Min(argument_over(argument, inputs)),
+        AppliedAggregate::Max(argument) => Aggregate::Max(argument_over(argument, inputs)),
     }
 }
 
-/// The function of a plan, over the column of its value argument.
+/// The function of a plan, over the column of its argument.
 fn function_over(function: AppliedFunction, inputs: &[Expr]) -> Function
     requires { length inputs.now ≤ 1024 }
-    ensures { result ≡ spec.function_over function.name (option_map (outputs_spec.input_number (map expression_of inputs.now)) (option_map expression_of function.argument)) function.number function.default }
+    ensures { result ≡ spec.function_over (map expression_of inputs.now) (function_of function) }
 {
-    let AppliedFunction {
-        name,
-        argument,
-        number,
-        default,
-        kind: _,
-    } = function;
-    let column = column_or_first(inputs, &argument);
-    match name {
-        FunctionName::RowNumber => Function::Ranking(Ranking::RowNumber),
-        FunctionName::Rank => Function::Ranking(Ranking::Rank),
-        FunctionName::DenseRank => Function::Ranking(Ranking::DenseRank),
-        FunctionName::Ntile => Function::Ranking(Ranking::Ntile(number)),
-        FunctionName::Lag => away(Direction::Lag, column, number, default),
-        FunctionName::Lead => away(Direction::Lead, column, number, default),
-        FunctionName::FirstValue => value_at(FrameRow::First, column),
-        FunctionName::LastValue => value_at(FrameRow::Last, column),
-        FunctionName::NthValue => value_at(FrameRow::Nth(number), column),
-        FunctionName::Count => match argument {
-            None => aggregate(Aggregate::CountRows),
-            Some(_) => aggregate(Aggregate::Count(column)),
-        },
-        FunctionName::Sum => aggregate(Aggregate::Sum(column)),
-        FunctionName::Min => aggregate(Aggregate::Min(column)),
-        FunctionName::Max => aggregate(Aggregate::Max(column)),
+    match function {
+        AppliedFunction::Ranking(ranking) => Function::Ranking(ranking),
+        AppliedFunction::Shift {
+            direction,
+            argument,
+            offset,
+            default,
+        } => Function::Shift(Shift {
+            direction,
+            argument: argument_over(&argument, inputs),
+            offset,
+            default,
+        }),
+        AppliedFunction::ValueAt(row, argument) => Function::OfFrame(FrameFunction::ValueAt(
+            row,
+            argument_over(&argument, inputs),
+        )),
+        AppliedFunction::Aggregate(aggregate) => Function::OfFrame(FrameFunction::Aggregate(
+            aggregate_over(&aggregate, inputs),
+        )),
     }
-}
-
-fn away(direction: Direction, argument: u16, offset: u64, default: Value) -> Function
-    ensures { result ≡ spec.away direction argument offset default }
-{
-    Function::Shift(Shift {
-        direction,
-        argument,
-        offset,
-        default,
-    })
-}
-
-fn value_at(row: FrameRow, column: u16) -> Function
-    ensures { result ≡ spec.value_at row column }
-{
-    Function::OfFrame(FrameFunction::ValueAt(row, column))
-}
-
-fn aggregate(aggregate: Aggregate) -> Function
-    ensures { result ≡ spec.aggregate aggregate }
-{
-    Function::OfFrame(FrameFunction::Aggregate(aggregate))
 }
 
 /// The columns of a partition among the inputs.
@@ -208,7 +191,7 @@ fn same_class(a: &Class, b: &Class) -> bool
 
 /// The number of the first class that equals another, and the number of classes where none does.
 fn class_number(classes: &[Class], class: &Class) -> usize
-    ensures number { result ≡ outputs_spec.first_number 0 (spec.same_class (class_of class.now)) (map class_of classes.now) }
+    ensures number { result ≡ position_or_len (spec.same_class (class_of class.now)) (map class_of classes.now) }
     ensures within { result ≤ length classes.now }
 {
     for (number, other) in classes.iter().enumerate() {
