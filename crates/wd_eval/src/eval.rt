@@ -35,7 +35,7 @@ pub fn eval_with(
 {
     let mut made = Vec::new(alloc);
     let chosen = Orderings::Chosen(&choice.orderings);
-    let evaluated = evaluate(alloc, plan, instance, chosen, 0, &mut made)?;
+    let evaluated = evaluate(alloc, plan, instance, chosen, 0, &mut made, 0)?;
     if evaluated.next < choice.orderings.len() {
         return Err(EvalError::NotValid(evaluated.next as u64));
     }
@@ -76,7 +76,7 @@ pub fn tied_choice(
 {
     let mut orderings = Vec::new(alloc);
     let sorted = Orderings::Sorted(flipped);
-    evaluate(alloc, plan, instance, sorted, 0, &mut orderings)?;
+    evaluate(alloc, plan, instance, sorted, 0, &mut orderings, 0)?;
     Ok(Choice { orderings })
 }
 
@@ -113,7 +113,7 @@ pub fn eval_tied(
 {
     let mut orderings = Vec::new(alloc);
     let sorted = Orderings::Sorted(flipped);
-    let evaluated = evaluate(alloc, plan, instance, sorted, 0, &mut orderings)?;
+    let evaluated = evaluate(alloc, plan, instance, sorted, 0, &mut orderings, 0)?;
     let outcome = outcome_from(alloc, instance, evaluated.outcome)?;
     let choice = Choice { orderings };
     Ok(TiedOutcome { choice, outcome })

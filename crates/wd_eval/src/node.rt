@@ -23,7 +23,8 @@ pub(crate) struct Evaluated {
 
 /// The plan's outcome under the orderings from `first` on, which are those of its nodes in
 /// postorder. Those of a choice are judged, a node's before the number of its rows; sorted ones are
-/// put after those that were made before, of which there are `first`.
+/// put after those that were made before, of which there are `first`. Rows that a Map makes at the
+/// top have memory for `room` values more.
 pub(crate) fn evaluate(
     alloc: Global,
     plan: &Plan,
@@ -31,6 +32,7 @@ pub(crate) fn evaluate(
     orderings: Orderings,
     first: usize,
     made: &mut Vec<Vec<u64>>,
+    room: usize,
 ) -> Result<Evaluated, EvalError>
     requires at { IsAt orderings first made.old.items }
     requires named { EachNamesClasses (plan_of plan.now) }
@@ -49,8 +51,8 @@ pub(crate) fn evaluate(
             right,
             condition,
         } => {
-            let left = evaluate(alloc, left, instance, orderings, first, made)?;
-            let right = evaluate(alloc, right, instance, orderings, left.next, made)?;
+            let left = evaluate(alloc, left, instance, orderings, first, made, 0)?;
+            let right = evaluate(alloc, right, instance, orderings, left.next, made, 0)?;
             let outcome = joined(alloc, instance, condition, left.outcome, right.outcome)?;
             Ok(Evaluated {
                 outcome,
@@ -58,7 +60,7 @@ pub(crate) fn evaluate(
             })
         }
         Plan::Filter { input, condition } => {
-            let below = evaluate(alloc, input, instance, orderings, first, made)?;
+            let below = evaluate(alloc, input, instance, orderings, first, made, 0)?;
             let outcome = filtered(alloc, instance, condition, below.outcome)?;
             Ok(Evaluated {
                 outcome: Produced::Made(outcome),
@@ -66,15 +68,16 @@ pub(crate) fn evaluate(
             })
         }
         Plan::Map { input, outputs } => {
-            let below = evaluate(alloc, input, instance, orderings, first, made)?;
-            let outcome = mapped(alloc, instance, outputs, below.outcome)?;
+            let below = evaluate(alloc, input, instance, orderings, first, made, 0)?;
+            let outcome = mapped(alloc, instance, outputs, below.outcome, room)?;
             Ok(Evaluated {
                 outcome: Produced::Made(outcome),
                 next: below.next,
             })
         }
         Plan::Window { input, window } => {
-            let below = evaluate(alloc, input, instance, orderings, first, made)?;
+            let calls = window.calls.len();
+            let below = evaluate(alloc, input, instance, orderings, first, made, calls)?;
             let Evaluated { outcome, next } = below;
             let outcome = extended(alloc, instance, window, outcome, orderings, next, made)?;
             Ok(Evaluated {
@@ -83,7 +86,7 @@ pub(crate) fn evaluate(
             })
         }
         Plan::Distinct { input } => {
-            let below = evaluate(alloc, input, instance, orderings, first, made)?;
+            let below = evaluate(alloc, input, instance, orderings, first, made, 0)?;
             let outcome = distinct(alloc, instance, below.outcome)?;
             Ok(Evaluated {
                 outcome: Produced::Made(outcome),
@@ -91,7 +94,7 @@ pub(crate) fn evaluate(
             })
         }
         Plan::Limit { input, limit } => {
-            let below = evaluate(alloc, input, instance, orderings, first, made)?;
+            let below = evaluate(alloc, input, instance, orderings, first, made, 0)?;
             let Evaluated { outcome, next } = below;
             let outcome = limited(alloc, instance, limit, outcome, orderings, next, made)?;
             Ok(Evaluated {

@@ -15,7 +15,10 @@ use crate::pairs::{has_more, narrowed};
 use crate::produced::{Given, Produced, gathered, outcome_from, owned, shown, table_in};
 use std::alloc::Global;
 use wd_plan::{Expr, Outcome};
-use wd_steps::{copy_filtered, distinct_rows, filter_pairs, filter_rows, join_rows, map_rows};
+use wd_steps::{
+    copy_filtered, distinct_rows, filter_pairs, filter_rows, join_rows, map_own_rows,
+    map_rows_with_room,
+};
 use wd_value::{OutOfMemory, Row};
 
 /// The largest number of rows of a step.
@@ -128,19 +131,23 @@ fn pairs_where(
     }
 }
 
-/// The values of the outputs over each row of the input.
+/// The values of the outputs over each row of the input. Where a new row is made, it has memory for
+/// so many values more.
 pub(crate) fn mapped(
     alloc: Global,
     instance: &[Vec<Row>],
     outputs: &[Expr],
     input: Produced,
+    room: usize,
 ) -> Result<Outcome, OutOfMemory>
     ensures { IfOk result (λ o. outcome_of o ≡ and_then (produced_of (instance_of instance.now) input) (spec.map_outcome (map expression_of outputs.now))) }
 {
-    let input = gathered(alloc, instance, input)?;
-    match shown(&input, instance) {
-        Ok(rows) => map_rows(alloc, outputs, rows),
-        Err(fault) => Ok(Outcome::Fault(fault)),
+    match gathered(alloc, instance, input)? {
+        Given::Table(table) => {
+            map_rows_with_room(alloc, outputs, table_in(instance, table), room)
+        }
+        Given::Made(Outcome::Rows(rows)) => map_own_rows(alloc, outputs, rows),
+        Given::Made(Outcome::Fault(fault)) => Ok(Outcome::Fault(fault)),
     }
 }
 

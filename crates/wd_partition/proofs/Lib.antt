@@ -6,3 +6,4 @@ pub mod Stepping
 pub mod Filling
 pub mod Numbering
 pub mod Assembly
+pub mod Coding

@@ -1,6 +1,7 @@
 -- How neighbours stand to one another among the positions sorted by partition.
 use Rattle.std.specs.Prelude.{Bool, true, false, ◌+◌, ◌≡◌, ℕ, zero, suc, ◌<◌, List, length, slice_index, slice_index_or, Option, Some, None}
 use Rattle.std.specs.declared.cmp.Ordering.{Ordering}
+use Rattle.std.specs.Ordering.{nat_cmp}
 use Rattle.std.specs.declared.cmp.Ordering.TheVariants.{Less, Equal, Greater}
 use Rattle.wd_partition.specs.declared.steps.Step.{Step}
 use Rattle.wd_partition.specs.declared.steps.Step.TheVariants.{Partition, Group, Peer}
@@ -38,3 +39,7 @@ abbrev pub group_after : Step → ℕ → ℕ
 group_after Partition group = 0
 group_after Group group = group + 1
 group_after Peer group = group
+
+-- positions compare by the numbers in their place; past the last there is 0
+abbrev pub compare_codes : List ℕ → ℕ → ℕ → Ordering
+compare_codes codes p q = nat_cmp (slice_index codes p) (slice_index codes q)

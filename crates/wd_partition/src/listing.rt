@@ -9,7 +9,7 @@ ghost use Rattle.wd_sort.specs.Sorting.{IsStableSortOf};
 ghost use Rattle.wd_value.specs.Rows.{rows_of};
 
 use crate::members::{Partitions, partitions_of};
-use crate::ordering::{arranged, grouped, sorted_ordering};
+use crate::ordering::{grouped, sorted_arrangement};
 use std::alloc::Global;
 use wd_value::{OutOfMemory, Row, SortColumn};
 
@@ -58,8 +58,8 @@ pub fn sorted_partitions(
     ensures stable { IfOk result (λ s. IsStableSortOf (columns.sort_columns (class_by partition.now keys.now)) (rows_of rows.now) (columns.given_positions flipped (length rows.now)) s.ordering.items) }
     ensures partitions { IfOk result (λ s. ArePartitions (class_by partition.now keys.now) numbers (rows_of rows.now) s.ordering.items s.partitions) }
 {
-    let ordering = sorted_ordering(alloc, rows, partition, keys, flipped)?;
-    let arrangement = arranged(alloc, rows, partition, keys, &ordering)?;
+    let arrangement = sorted_arrangement(alloc, rows, partition, keys, flipped)?;
+    let ordering = arrangement.positions.to_vec(alloc)?;
     let partitions = partitions_of(alloc, rows, partition, keys, arrangement, numbers)?;
     Ok(SortedPartitions {
         ordering,

@@ -1,6 +1,6 @@
 //! Orderings of rows under a class: the sorted one, and the test of a given one.
 
-ghost use Rattle.std.specs.Prelude.{◌≡◌, ◌↔◌, IfOk, IsSorted, IsTrue, MatchOption, length};
+ghost use Rattle.std.specs.Prelude.{◌≡◌, ◌↔◌, ◌++◌, IfOk, IfSome, IsSorted, IsTrue, MatchOption, length};
 ghost use Rattle.wd_partition.specs.Columns as columns_of_class;
 ghost use Rattle.wd_partition.specs.Columns.{class_by};
 ghost use Rattle.wd_partition.specs.Orderings.{AreGrouped};
@@ -11,10 +11,13 @@ ghost use Rattle.wd_value.specs.Rows.{rows_of};
 
 use crate::columns::{partition_columns, sort_columns};
 use crate::once::has_each_once;
-use crate::steps::{Step, sorted_steps, steps_of};
+use crate::steps::{Step, coded_steps, sorted_steps, steps_of};
 use std::alloc::Global;
-use wd_sort::{all_positions, sorted_from};
+use wd_sort::{all_positions, row_coding, sorted_by_coding, sorted_from};
 use wd_value::{OutOfMemory, Row, SortColumn};
+
+/// Fewer rows are sorted as they are: to find numbers for them would take longer.
+const FEW: usize = 32;
 
 /// Positions sorted by partition, and the step to each.
 #[derive(Drop)]
@@ -111,4 +114,54 @@ pub fn arranged(
     let steps = sorted_steps(alloc, rows, &by_partition, keys, ordering)?;
     let positions = ordering.to_vec(alloc)?;
     Ok(Arrangement { positions, steps })
+}
+
+/// The sorted ordering of rows under a class, with the step to each of its positions.
+pub fn sorted_arrangement(
+    alloc: Global,
+    rows: &[Row],
+    partition: &[u16],
+    keys: &[SortColumn],
+    flipped: bool,
+) -> Result<Arrangement, OutOfMemory>
+    ensures stable { IfOk result (λ v. IsStableSortOf (columns_of_class.sort_columns (class_by partition.now keys.now)) (rows_of rows.now) (columns_of_class.given_positions flipped (length rows.now)) v.positions.items) }
+    ensures steps { IfOk result (λ v. AreSteps (compare_rows_at (columns_of_class.partition_columns partition.now) (rows_of rows.now)) (compare_rows_at keys.now (rows_of rows.now)) v.positions.items v.steps.items) }
+{
+    if rows.len() >= FEW {
+        let by_partition = partition_columns(alloc, partition)?;
+        let coded = coded_arrangement(alloc, rows, &by_partition, keys, flipped)?;
+        if let Some(arrangement) = coded {
+            return Ok(arrangement);
+        }
+    }
+    let ordering = sorted_ordering(alloc, rows, partition, keys, flipped)?;
+    let arrangement = arranged(alloc, rows, partition, keys, &ordering)?;
+    Ok(arrangement)
+}
+
+/// The same by numbers in the place of rows, which are found once for both; none where the rows have
+/// none.
+fn coded_arrangement(
+    alloc: Global,
+    rows: &[Row],
+    by_partition: &[SortColumn],
+    keys: &[SortColumn],
+    flipped: bool,
+) -> Result<Option<Arrangement>, OutOfMemory>
+    ensures stable { IfOk result (λ o. IfSome o (λ v. IsStableSortOf (by_partition.now ++ keys.now) (rows_of rows.now) (columns_of_class.given_positions flipped (length rows.now)) v.positions.items)) }
+    ensures steps { IfOk result (λ o. IfSome o (λ v. AreSteps (compare_rows_at by_partition.now (rows_of rows.now)) (compare_rows_at keys.now (rows_of rows.now)) v.positions.items v.steps.items)) }
+{
+    let Some(partitions) = row_coding(alloc, rows, by_partition)? else {
+        return Ok(None);
+    };
+    let Some(within) = row_coding(alloc, rows, keys)? else {
+        return Ok(None);
+    };
+    let given = given_positions(alloc, rows.len(), flipped)?;
+    let sorted = sorted_by_coding(alloc, &within, &given)?;
+    let positions = sorted_by_coding(alloc, &partitions, &sorted)?;
+    match coded_steps(alloc, &partitions.codes, &within.codes, &positions)? {
+        Some(steps) => Ok(Some(Arrangement { positions, steps })),
+        None => Ok(None),
+    }
 }

@@ -1,8 +1,8 @@
 //! How neighbours stand to one another among the positions sorted by partition.
 
-ghost use Rattle.std.specs.Prelude.{◌≡◌, ◌++◌, ◌<◌, IfOk, IsSorted, MatchOption, Some, length};
+ghost use Rattle.std.specs.Prelude.{◌≡◌, ◌++◌, ◌<◌, IfOk, IfSome, IsSorted, MatchOption, Some, length, slice_index};
 ghost use Rattle.wd_partition.specs.Steps as spec;
-ghost use Rattle.wd_partition.specs.Steps.{AreSteps};
+ghost use Rattle.wd_partition.specs.Steps.{AreSteps, compare_codes};
 ghost use Rattle.wd_sort.specs.Sorting as sorting;
 ghost use Rattle.wd_value.specs.Rows.{rows_of};
 
@@ -85,6 +85,56 @@ fn key_step(order: Ordering) -> Option<Step>
         Ordering::Less => Some(Step::Group),
         Ordering::Equal => Some(Step::Peer),
         Ordering::Greater => None,
+    }
+}
+
+/// The step to each of the positions, by numbers that compare as the rows do, by partition and by the
+/// keys; none where the keys fall.
+pub fn coded_steps(
+    alloc: Global,
+    by_partition: &[u64],
+    by_keys: &[u64],
+    positions: &[u64],
+) -> Result<Option<Vec<Step>>, OutOfMemory>
+    ensures { IfOk result (λ o. IfSome o (λ v. AreSteps (compare_codes by_partition.now) (compare_codes by_keys.now) positions.now v.items)) }
+{
+    let mut steps = Vec::with_capacity(alloc, positions.len())?;
+    for i in 0..positions.len() {
+        match coded_step(by_partition, by_keys, positions, i) {
+            Some(step) => steps.push(step)?,
+            None => return Ok(None),
+        }
+    }
+    Ok(Some(steps))
+}
+
+/// The step to the position at place `i`, and none where the keys fall.
+fn coded_step(by_partition: &[u64], by_keys: &[u64], positions: &[u64], i: usize) -> Option<Step>
+    requires { i < length positions.now }
+    ensures { result ≡ spec.step_to (compare_codes by_partition.now) (compare_codes by_keys.now) positions.now i }
+{
+    if i == 0 {
+        return Some(Step::Partition);
+    }
+    match compare_codes_at(by_partition, positions[i - 1], positions[i]) {
+        Ordering::Equal => key_step(compare_codes_at(by_keys, positions[i - 1], positions[i])),
+        _ => Some(Step::Partition),
+    }
+}
+
+/// The numbers at two positions; past the last there is 0.
+fn compare_codes_at(codes: &[u64], p: u64, q: u64) -> Ordering
+    ensures { result ≡ compare_codes codes.now p q }
+{
+    code_at(codes, p).cmp(&code_at(codes, q))
+}
+
+fn code_at(codes: &[u64], position: u64) -> u64
+    ensures { result ≡ slice_index codes.now position }
+{
+    match codes.get(position as usize) {
+        Some(code) => *code,
+        None => 0,
     }
 }
 

@@ -7,3 +7,4 @@ pub mod Ranking
 pub mod Knowing
 pub mod Codings
 pub mod TwoSorts
+pub mod AllCodings

@@ -2,3 +2,4 @@ pub mod Sorting
 pub mod Codes
 pub mod Ranks
 pub mod Known
+pub mod AllCodes

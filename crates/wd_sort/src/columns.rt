@@ -13,9 +13,9 @@ use wd_value::{OutOfMemory, Row, SortColumn};
 
 /// The codes by the columns from `start` on.
 #[derive(Drop)]
-struct Last {
-    start: usize,
-    coding: Coding,
+pub struct Last {
+    pub start: usize,
+    pub coding: Coding,
 }
 
 /// As `sorted_from`: by the codes of as many of the last columns as fit one number, and then stably
@@ -45,7 +45,7 @@ pub fn sorted_by_columns(
 
 /// The codes by the last columns, as many as fit one number of 64 bits; none where the last one has
 /// none.
-fn last_coding(
+pub fn last_coding(
     alloc: Global,
     rows: &[Row],
     columns: &[SortColumn],

@@ -1,6 +1,7 @@
 //! The positions of rows, sorted by columns.
 #![tactic(auto)]
 
+mod all;
 mod codes;
 mod coding;
 mod columns;
@@ -11,5 +12,7 @@ mod rows;
 mod sort;
 mod whole;
 
+pub use all::{row_coding, sorted_by_coding};
+pub use coding::Coding;
 pub use rows::{compare_rows_at, row_in};
 pub use sort::{all_positions, is_sorted, sorted_from, sorted_positions};

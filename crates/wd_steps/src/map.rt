@@ -19,10 +19,22 @@ use wd_value::{Fault, OutOfMemory, Row, Value};
 pub fn map_rows(alloc: Global, outputs: &[Expr], rows: &[Row]) -> Result<Outcome, OutOfMemory>
     ensures { IfOk result (λ o. outcome_of o ≡ spec.map_outcome (map expression_of outputs.now) (rows_of rows.now)) }
 {
+    map_rows_with_room(alloc, outputs, rows, 0)
+}
+
+/// The same, where each row has memory for so many values more.
+pub fn map_rows_with_room(
+    alloc: Global,
+    outputs: &[Expr],
+    rows: &[Row],
+    room: usize,
+) -> Result<Outcome, OutOfMemory>
+    ensures { IfOk result (λ o. outcome_of o ≡ spec.map_outcome (map expression_of outputs.now) (rows_of rows.now)) }
+{
     let mut mapped = Vec::with_capacity(alloc, rows.len())?;
     let mut fault = None;
     for row in rows {
-        match mapped_row(alloc, outputs, row)? {
+        match mapped_row(alloc, outputs, row, room)? {
             Ok(row) => mapped.push(row)?,
             Err(found) => fault = Some(with_fault(fault, found)),
         }
@@ -35,10 +47,11 @@ fn mapped_row(
     alloc: Global,
     outputs: &[Expr],
     row: &[Value],
+    room: usize,
 ) -> Result<Result<Row, Fault>, OutOfMemory>
     ensures { IfOk result (λ r. row_of r ≡ all_ok (map (λ output. expressions.value_of output row.now) (map expression_of outputs.now))) }
 {
-    let mut values = Vec::with_capacity(alloc, outputs.len())?;
+    let mut values = Vec::with_capacity(alloc, outputs.len().saturating_add(room))?;
     let mut fault = None;
     for output in outputs {
         match value_of(alloc, output, row)? {

@@ -7,7 +7,7 @@ use Rattle.wd_value.specs.Rows.{Row, rows_of}
 use Rattle.wd_plan.specs.Expressions.{expression_of, value_of}
 use Rattle.wd_plan.specs.Faults.{all_ok}
 use Rattle.wd_steps.proofs.Results.{map-map_more, IsGathered-more_ok, IsGathered-more_err}
-use Rattle.wd_steps.proofs.map.map_rows.Goals as goal
+use Rattle.wd_steps.proofs.map.map_rows_with_room.Goals as goal
 
 pub loop-row-preserved : goal.loop-row-preserved
 loop-row-preserved c =
