@@ -24,11 +24,21 @@ pub fn given_at(alloc: Global, texts: &Certificates, text: &str) -> Result<Strin
     let (first, second) = text.split_once('|').unwrap_or((text, ""));
     let first = facts_of(alloc, first)?;
     let second = facts_of(alloc, second)?;
+    given_of_node(alloc, texts, number.parse()?, &first, &second)
+}
+
+fn given_of_node(
+    alloc: Global,
+    texts: &Certificates,
+    number: u32,
+    first: &[Given],
+    second: &[Given],
+) -> Result<String, Failure> {
     let planned = planned(alloc, texts)?;
-    let plan = node_at(&planned.resolved.plan, number.parse()?).ok_or(Failure::NoCase)?;
-    let mut out = String::new(alloc);
-    push_given_of(alloc, plan, &planned.schema, &first, &second, &mut out)?;
-    Ok(out)
+    match node_at(&planned.resolved.plan, number) {
+        Some(plan) => given_of(alloc, plan, &planned.schema, first, second),
+        None => Err(Failure::NoCase),
+    }
 }
 
 /// The node of a plan with a number in postorder.
@@ -54,32 +64,32 @@ fn node_at(plan: &Plan, number: u32) -> Option<&Plan> {
     }
 }
 
-fn push_given_of(
+fn given_of(
     alloc: Global,
     plan: &Plan,
     schema: &Schema,
     first: &[Given],
     second: &[Given],
-    out: &mut String,
-) -> Result<(), Failure> {
+) -> Result<String, Failure> {
     if plan.fits(schema) && are_of_children(plan, first, second) {
-        push_given(alloc, plan, schema, first, second, out)
+        given_shown(alloc, plan, schema, first, second)
     } else {
         Err(Failure::NoCase)
     }
 }
 
-fn push_given(
+fn given_shown(
     alloc: Global,
     plan: &Plan,
     schema: &Schema,
     first: &[Given],
     second: &[Given],
-    out: &mut String,
-) -> Result<(), Failure>
+) -> Result<String, Failure>
     requires fits { spec.fits (schema_of schema.now) (plan_of plan.now) ≡ true }
     requires named { AreOfChildren (plan_of plan.now) (map fact_of first.now) (map fact_of second.now) }
 {
     let facts = given(alloc, plan, schema, &[first, second])?;
-    push_facts(out, &facts)
+    let mut out = String::new(alloc);
+    push_facts(&mut out, &facts)?;
+    Ok(out)
 }

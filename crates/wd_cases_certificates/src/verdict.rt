@@ -13,7 +13,9 @@ use std::alloc::Global;
 use wd_accept::{VerifyError, VerifyOrigin, verify};
 use wd_cases::{Failure, unescaped};
 use wd_certificate::Certificate;
+use wd_plan::Plan;
 use wd_query::{PlannedQuery, TextError, read_texts};
+use wd_schema::Schema;
 use wd_verify::verify_plan;
 
 /// The plan of the query.
@@ -33,8 +35,12 @@ fn refused_text(error: &TextError) -> Failure {
 /// The nodes of the query's plan.
 pub fn nodes(alloc: Global, given: &Certificates) -> Result<String, Failure> {
     let planned = planned(alloc, given)?;
+    nodes_of(alloc, &planned.resolved.plan)
+}
+
+fn nodes_of(alloc: Global, plan: &Plan) -> Result<String, Failure> {
     let mut out = String::new(alloc);
-    push_nodes(&mut out, &planned.resolved.plan)?;
+    push_nodes(&mut out, plan)?;
     Ok(out)
 }
 
@@ -92,7 +98,18 @@ fn verdict_of_plan(
     certificate: &Certificate,
 ) -> Result<String, Failure> {
     let planned = planned(alloc, given)?;
-    match verify_plan(alloc, &planned.resolved.plan, &planned.schema, certificate) {
+    verdict_on(alloc, &planned.resolved.plan, &planned.schema, certificate)
+}
+
+fn verdict_on(
+    alloc: Global,
+    plan: &Plan,
+    schema: &Schema,
+    certificate: &Certificate,
+) -> Result<String, Failure>
+    requires { fits (schema_of schema.now) (plan_of plan.now) ≡ true }
+{
+    match verify_plan(alloc, plan, schema, certificate) {
         Ok(()) => Ok(String::from_str(alloc, "accepted")?),
         Err(error) => Ok(failure_of(&error).shown(alloc)?),
     }
