@@ -157,8 +157,8 @@ fn coded_arrangement(
     let Some(within) = row_coding(alloc, rows, keys)? else {
         return Ok(None);
     };
-    let given = given_positions(alloc, rows.len(), flipped)?;
-    let sorted = sorted_by_coding(alloc, &within, &given)?;
+    let all = given_positions(alloc, rows.len(), flipped)?;
+    let sorted = sorted_by_coding(alloc, &within, &all)?;
     let positions = sorted_by_coding(alloc, &partitions, &sorted)?;
     match coded_steps(alloc, &partitions.codes, &within.codes, &positions)? {
         Some(steps) => Ok(Some(Arrangement { positions, steps })),

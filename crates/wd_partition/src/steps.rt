@@ -118,7 +118,7 @@ fn coded_step(by_partition: &[u64], by_keys: &[u64], positions: &[u64], i: usize
     }
     match compare_codes_at(by_partition, positions[i - 1], positions[i]) {
         Ordering::Equal => key_step(compare_codes_at(by_keys, positions[i - 1], positions[i])),
-        _ => Some(Step::Partition),
+        Ordering::Less | Ordering::Greater => Some(Step::Partition),
     }
 }
 
