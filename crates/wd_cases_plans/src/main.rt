@@ -18,5 +18,6 @@ use std::io;
 use wd_cases::{Comments, answer_lines};
 
 fn main(rt: HostRuntime) -> io::Result<()> {
-    answer_lines(&rt, &mut PlanCases::new(rt.alloc()), Comments::LeftOut)
+    let mut cases = PlanCases::new(rt.alloc());
+    answer_lines(&rt, &mut cases, Comments::LeftOut)
 }

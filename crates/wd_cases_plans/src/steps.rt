@@ -20,13 +20,47 @@ pub fn expression_answer(
 ) -> Result<(), Failure> {
     let expression = state.stacks.expressions.first().ok_or(Failure::NoCase)?;
     match name {
-        "value_of" => push_value_or_fault(out, &value_of(alloc, expression, state.row())?),
         "has_arithmetic" => push_truth(out, has_arithmetic(expression)),
-        "is_true" => push_is_true(out, &value_of(alloc, expression, state.row())?),
-        "filter_rows" => push_outcome(out, &filtered(alloc, expression, state.rows())?),
-        "copy_filtered" => push_outcome(out, &copy_filtered(alloc, expression, state.rows())?),
+        "value_of" | "is_true" => push_value_of(alloc, expression, state.row(), name, out),
+        "filter_rows" => push_filtered(alloc, expression, state.rows(), out),
+        "copy_filtered" => push_copies(alloc, expression, state.rows(), out),
         _ => Err(Failure::NoCase),
     }
+}
+
+fn push_value_of(
+    alloc: Global,
+    expression: &Expr,
+    row: &[Value],
+    name: &str,
+    out: &mut String,
+) -> Result<(), Failure> {
+    let value = value_of(alloc, expression, row)?;
+    if name == "is_true" {
+        push_is_true(out, &value)
+    } else {
+        push_value_or_fault(out, &value)
+    }
+}
+
+fn push_filtered(
+    alloc: Global,
+    condition: &Expr,
+    rows: &[Row],
+    out: &mut String,
+) -> Result<(), Failure> {
+    let kept = filtered(alloc, condition, rows)?;
+    push_outcome(out, &kept)
+}
+
+fn push_copies(
+    alloc: Global,
+    condition: &Expr,
+    rows: &[Row],
+    out: &mut String,
+) -> Result<(), Failure> {
+    let kept = copy_filtered(alloc, condition, rows)?;
+    push_outcome(out, &kept)
 }
 
 /// Whether a value is true; a fault is written as it is.
