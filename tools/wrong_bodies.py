@@ -9,13 +9,12 @@ A file wrong-bodies/CRATE/NAME.edit has the line 'fn: PATH' (the function, as th
 edit leaves true. A line 'right:' stands first in an edit that changes nothing that a contract says: it must still be
 proved. Such edits show that a refusal is no accident of the run.
 
-All edits of a crate are put into one copy of it, and one check of the edited functions alone judges them. A further edit
-of one function is made in a second function beside it, which has the same contract, the edited body, and the same written
-proof under its name; where that can't be, it goes into a further check. The functions that they call stand there by their contracts: their proofs, which the gate has checked, are
+All edits of a crate are put into one copy of it, at most one for a function, and one check of those functions alone
+judges them. The functions that they call stand there by their contracts: their proofs, which the gate has checked, are
 left open in the copy. An edit is refused where the check says of its own function that it 'did not prove' a goal of it,
 or that the written proof of a goal of it no longer holds. That a function which it calls isn't proved is no refusal,
 nor is a written proof that names what the edit took away. What a run leaves unclear goes into a further run with fewer
-edits, each in its own function. An edit of a definition (a file of specs/) stands in a run of its own; it is refused where the law that it names
+edits. An edit of a definition (a file of specs/) stands in a run of its own; it is refused where the law that it names
 is not proved any more.
 
 With --after-gate the libraries are those that 'rt ci' left in a clean clone; else they are built where they changed.
@@ -35,9 +34,7 @@ import tempfile
 from rt_module import TOP, rt
 
 EDITS = f"{TOP}/wrong-bodies"
-# An edit is judged in its own function, or as its nth twin where `twin` is not 0.
-Edit = collections.namedtuple("Edit", "crate name function right of_definition path twin", defaults=[0])
-Twin = collections.namedtuple("Twin", "path text proofs")
+Edit = collections.namedtuple("Edit", "crate name function right of_definition path")
 
 
 def read_edit(crate, path):
@@ -49,65 +46,6 @@ def read_edit(crate, path):
     return Edit(crate, name, function[1] if function else None, text.startswith("right:"), of_definition, path)
 
 
-def judged_name(edit):
-    return f"{edit.function}_twin{edit.twin}" if edit.twin else edit.function
-
-
-def text_of(path):
-    with open(path, encoding="utf-8") as file:
-        return file.read()
-
-
-def twin_of(crate, edit):
-    """The edited function under another name, with its written proof; None where the edit can't be told of the function alone."""
-    texts, why = rt.read_edit(edit.path, crate.folder)
-    folder = f"proofs/{edit.function.replace('::', '/')}"
-    sources = [path for path in texts or {} if not path.startswith(f"{folder}/")]
-    if why or len(sources) != 1 or not sources[0].startswith("src/"):
-        return None
-    path = sources[0]
-    before, after = text_of(f"{crate.folder}/{path}"), texts[path]
-    module = module_of(path)
-    old, new = (spans_of(text, module).get(edit.function) for text in (before, after))
-    if not old or not new or before[: old[0]] != after[: new[0]] or before[old[1] :] != after[new[1] :]:
-        return None
-    name = judged_name(edit).split("::")[-1]
-    text = re.sub(rf"\bfn {edit.function.split('::')[-1]}\b", f"fn {name}", after[new[0] : new[1]], count=1)
-    proofs = proofs_of_twin(crate, edit, folder, texts)
-    return None if proofs is None else Twin(path, text, proofs)
-
-
-def proofs_of_twin(crate, edit, folder, texts):
-    """The texts of the function's written proof, which name the twin in its place; None where another file names the proof's parts."""
-    dotted = edit.function.replace("::", ".")
-    own = rf"\bRattle\.{crate.name}\.(proofs|specs\.contracts)\.{re.escape(dotted)}\b(?!-)"
-    proofs = {}
-    for file in rt.rtlib.files_of(crate.folder):
-        path = os.path.relpath(file, crate.folder)
-        if not path.endswith(".antt") or path.startswith("out/"):
-            continue
-        is_own = path.startswith(f"{folder}/")
-        text = texts.get(path) or text_of(file)
-        if path == f"{folder}/Proof.antt" or not is_own and re.search(own, text):
-            return None
-        if is_own:
-            text = re.sub(own, rf"Rattle.{crate.name}.\1.{judged_name(edit).replace('::', '.')}", text)
-            if re.search(rf"\.{re.escape(dotted)}\.|\bfn\.", text):
-                return None
-            proofs[f"proofs/{judged_name(edit).replace('::', '/')}/{path.removeprefix(f'{folder}/')}"] = text
-    return proofs
-
-
-def write_twin(edit, twin, room):
-    """Puts the twin behind its function, whose own text may be another edit's, and its proof beside that of the function."""
-    text = text_of(f"{room}/{twin.path}")
-    _, end = spans_of(text, module_of(twin.path))[edit.function]
-    for path, text in {twin.path: f"{text[:end]}\n{twin.text}{text[end:]}", **twin.proofs}.items():
-        os.makedirs(os.path.dirname(f"{room}/{path}"), exist_ok=True)
-        with open(f"{room}/{path}", "w", encoding="utf-8") as file:
-            file.write(text)
-
-
 def copy_with(crate, edits, room):
     """Copies the crate into the folder with these edits in it, and returns those that can't be applied, with the reason."""
     for part in rt.rtlib.PARTS:
@@ -115,8 +53,6 @@ def copy_with(crate, edits, room):
             shutil.copytree(f"{crate.folder}/{part}", f"{room}/{part}")
     bad = {}
     for edit in edits:
-        if edit.twin:
-            continue
         texts, why = rt.read_edit(edit.path, room)
         if why or not edit.function:
             bad[edit] = why or "it names no function"
@@ -124,9 +60,6 @@ def copy_with(crate, edits, room):
         for path, text in texts.items():
             with open(f"{room}/{path}", "w", encoding="utf-8") as file:
                 file.write(text)
-    for edit in edits:
-        if edit.twin:
-            write_twin(edit, twin_of(crate, edit), room)
     return bad
 
 
@@ -139,46 +72,36 @@ pub {name}_spec : {{M : Type 1}} → statement M
 """
 
 
-def module_of(path):
-    """The path of the module that a file of src/ is."""
-    return "::".join(part for part in path.removeprefix("src/").removesuffix(".rt").split("/") if part not in ("lib", "main", "mod"))
-
-
-def spans_of(text, module):
-    """The functions of a source file whose proofs can be left open, each with its start and its end: none that calls itself or
-    stands in a cycle of calls, no method of a trait or of another file's type, none that is generic over a type."""
-    spans = {}
+def functions_in(text, module):
+    """The paths of the functions of a source file whose proofs can be left open: none that calls itself or stands in a cycle
+    of calls, no method of a trait or of another file's type, none that is generic over a type."""
     for found in FUNCTION.finditer(text):
         before = text[: found.start()]
         attributes = before[before.rstrip().rfind("\n\n") + 1 :] if before.strip() else ""
-        end = text.find(f"\n{found['indent']}}}", found.end())
-        body = text[found.end() : end]
+        body = text[found.end() : text.find(f"\n{found['indent']}}}", found.end())]
         is_recursive = "#[cycle(" in attributes[attributes.rfind("}") + 1 :] or re.search(rf"\b{found['name']}\(", body)
         is_generic = found["generic"] and not re.fullmatch(r"<('\w+,? ?)+>", found["generic"])
         if is_recursive or is_generic:
             continue
-        span = before.rfind("\n\n") + 2, end + len(f"\n{found['indent']}}}\n")
         if not found["indent"]:
-            spans[f"{module}::{found['name']}" if module else found["name"]] = span
+            yield f"{module}::{found['name']}" if module else found["name"]
             continue
         owner = list(INHERENT.finditer(before))
         if owner and "\n}" not in before[owner[-1].end() :] and re.search(rf"\b(struct|enum) {owner[-1]['type']}\b", text):
-            # The first function of a block stands right below the block's head, or below its ghost items.
-            start = max(span[0], owner[-1].end() + 1)
-            spans[f"{module}::{owner[-1]['type']}::{found['name']}"] = start, span[1]
-    return spans
+            yield f"{module}::{owner[-1]['type']}::{found['name']}"
 
 
 def leave_proofs_open(crate, edits, room):
     """Takes the proof of each function that no edit changes as open, so that the edited ones are judged by its contract."""
-    edited = {judged_name(edit) for edit in edits}
+    edited = {edit.function for edit in edits}
     for file in rt.rtlib.files_of(room):
-        path = os.path.relpath(file, room)
-        if not path.endswith(".rt") or not path.startswith("src/"):
+        path = os.path.relpath(file, f"{room}/src")
+        if not path.endswith(".rt") or path.startswith(".."):
             continue
-        for function in spans_of(text_of(file), module_of(path)):
-            if function in edited:
-                continue
+        module = "::".join(part for part in path.removesuffix(".rt").split("/") if part not in ("lib", "main", "mod"))
+        with open(file, encoding="utf-8") as source:
+            functions = [it for it in functions_in(source.read(), module) if it not in edited]
+        for function in functions:
             folder = f"{room}/proofs/{function.replace('::', '/')}"
             shutil.rmtree(folder, ignore_errors=True)
             os.makedirs(folder)
@@ -190,7 +113,7 @@ def check(crate, edits, log, kept):
     """Checks the edited functions in one copy of the crate; returns the lines that are said, and the edits that can't be applied."""
     with tempfile.TemporaryDirectory(prefix="wrong-bodies-") as room:
         bad = copy_with(crate, edits, room)
-        names = sorted({f"{crate.name}::{judged_name(edit)}" for edit in edits if edit not in bad})
+        names = sorted({f"{crate.name}::{edit.function}" for edit in edits if edit not in bad})
         if not names:
             return [], bad
         leave_proofs_open(crate, edits, room)
@@ -212,7 +135,7 @@ LOST_NAME = re.compile(r"has no field|is not in scope|has no `|was not admitted"
 
 def lost_goals(edit, lines):
     """The goals of the edit's function whose written proof no longer holds."""
-    module, _, name = judged_name(edit).rpartition("::")
+    module, _, name = edit.function.rpartition("::")
     folder = f"{module.replace('::', '/')}/" if module else ""
     own, cycle = (f"{folder}{name}/", f"{folder}+{name}/"), f"{folder}+"
     goals = []
@@ -226,7 +149,7 @@ def lost_goals(edit, lines):
 
 def verdict(edit, lines):
     """Whether the check refused the edit's own function, and what it said; None where that can't be told."""
-    start = f"fn {edit.crate}::{judged_name(edit)}: "
+    start = f"fn {edit.crate}::{edit.function}: "
     said = next((line.removeprefix(start) for line in lines if line.startswith(start)), None)
     if said and (said == "no holes" or said.startswith("depends on a hole in")):
         return False, "proved"
@@ -241,25 +164,21 @@ def verdict(edit, lines):
     return None, said or told or (lines[-1] if lines else "nothing was said")
 
 
-def rounds(crate, edits, with_twins=True):
-    """The edits in groups. A group has one edit of a function in place, and further ones as its twins."""
+def rounds(edits):
+    """The edits in groups, at most one of a function in each."""
     groups = []
     for edit in edits:
-        for group in groups:
-            twin = edit._replace(twin=sum(edit.function == it.function for it in group))
-            if edit.of_definition or any(it.of_definition for it in group):
-                continue
-            if not twin.twin or with_twins and twin_of(crate, twin):
-                group.append(twin)
-                break
-        else:
-            groups.append([edit._replace(twin=0)])
+        fits = lambda group: not edit.of_definition and all(edit.function != it.function and not it.of_definition for it in group)
+        group = next(filter(fits, groups), None)
+        if group is None:
+            groups.append(group := [])
+        group.append(edit)
     return groups
 
 
 def judge(crate, edits, logs):
     """For each edit whether it is as it must be; it is said of each what the check said."""
-    groups = rounds(crate, edits)
+    groups = rounds(edits)
     if len(groups) == 1:
         return judge_groups(crate, groups, logs, None)
     # The later checks go on from what the first one proved.
@@ -282,8 +201,7 @@ def judge_groups(crate, groups, logs, kept):
             judged.append(refused is (not edit.right))
             print(f"{edit.crate}/{edit.name}: {word}: {edit.function}: {said[:200]}", flush=True)
         if unclear:
-            alone = [[edit._replace(twin=0)] for edit in unclear]
-            groups += rounds(crate, unclear, with_twins=False) if len(unclear) < len(group) else alone
+            groups += [unclear] if len(unclear) < len(group) else [[edit] for edit in unclear]
     return judged
 
 
