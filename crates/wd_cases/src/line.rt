@@ -9,22 +9,15 @@ pub trait Cases {
     fn answer(&mut self, alloc: Global, word: &str, text: &str) -> Result<String, Failure>;
 }
 
-/// What becomes of lines without a case, which are empty or begin with `#`.
-#[derive(Clone, Copy)]
-pub enum Comments {
-    Printed,
-    LeftOut,
-}
-
-/// Prints the lines of standard input, each case with what it gives.
+/// Prints the lines of standard input, each case with what it gives. A line without a case, which
+/// is empty or begins with `#`, is printed as it is.
 pub fn answer_lines<C: Cases>(
     rt: &(impl Input + Print + AllocGlobal),
     cases: &mut C,
-    comments: Comments,
 ) -> io::Result<()> {
     for line in rt.lines(rt.alloc()) {
         let line = line?;
-        answer_line(rt, cases, comments, line.as_str())?;
+        answer_line(rt, cases, line.as_str())?;
     }
     Ok(())
 }
@@ -32,17 +25,15 @@ pub fn answer_lines<C: Cases>(
 fn answer_line<C: Cases>(
     rt: &(impl Print + AllocGlobal),
     cases: &mut C,
-    comments: Comments,
     line: &str,
 ) -> io::Result<()> {
-    match (case_in(line), comments) {
-        (Some((word, text)), _) => {
+    match case_in(line) {
+        Some((word, text)) => {
             let found = shown(rt.alloc(), cases.answer(rt.alloc(), word, text))?;
             let found = or_nothing(found.as_str());
             println!(rt; "{line} => {found}")
         }
-        (None, Comments::Printed) => println!(rt; "{line}"),
-        (None, Comments::LeftOut) => Ok(()),
+        None => println!(rt; "{line}"),
     }
 }
 

@@ -6,15 +6,15 @@ use wd_cases::{Cases, Failure, NamedTexts, SchemaText, unescaped};
 /// The text of a schema, which an earlier line gave, though it may be a wrong one; queries are over its tables, and over the data
 /// of tables that lines since then gave.
 #[derive(Drop)]
-pub struct Queries {
+pub struct AnalysisCases {
     schema: SchemaText,
     data: NamedTexts,
 }
 
-impl Queries {
+impl AnalysisCases {
     /// The schema without tables, and no data.
-    pub fn new(alloc: Global) -> Queries {
-        Queries {
+    pub fn new(alloc: Global) -> AnalysisCases {
+        AnalysisCases {
             schema: SchemaText::new(alloc),
             data: NamedTexts::new(alloc),
         }
@@ -47,7 +47,7 @@ impl Queries {
     }
 }
 
-impl Cases for Queries {
+impl Cases for AnalysisCases {
     fn answer(&mut self, alloc: Global, word: &str, text: &str) -> Result<String, Failure> {
         match word {
             "schema" => self.set_schema(alloc, text),

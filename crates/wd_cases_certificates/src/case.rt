@@ -5,15 +5,15 @@ use wd_cases::{Cases, Failure, SchemaText, unescaped};
 
 /// The texts of a schema and a query, which earlier lines gave.
 #[derive(Drop)]
-pub struct Certificates {
+pub struct CertificateCases {
     pub schema: SchemaText,
     pub query: Vec<u8>,
 }
 
-impl Certificates {
+impl CertificateCases {
     /// The schema without tables, and no query.
-    pub fn new(alloc: Global) -> Certificates {
-        Certificates {
+    pub fn new(alloc: Global) -> CertificateCases {
+        CertificateCases {
             schema: SchemaText::new(alloc),
             query: Vec::new(alloc),
         }
@@ -26,7 +26,7 @@ impl Certificates {
     }
 }
 
-impl Cases for Certificates {
+impl Cases for CertificateCases {
     fn answer(&mut self, alloc: Global, word: &str, text: &str) -> Result<String, Failure> {
         match word {
             "certificate" => text::certificate(alloc, text),

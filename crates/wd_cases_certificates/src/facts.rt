@@ -7,7 +7,7 @@ ghost use Rattle.wd_plan.specs.Fits as spec;
 ghost use Rattle.wd_plan.specs.Plans.{plan_of};
 ghost use Rattle.wd_schema.specs.Schemas.{schema_of};
 
-use crate::case::Certificates;
+use crate::case::CertificateCases;
 use crate::notation::facts_of;
 use crate::plain::are_of_children;
 use crate::shown::push_facts;
@@ -19,7 +19,7 @@ use wd_plan::Plan;
 use wd_schema::Schema;
 
 /// `given NODE FACTS`: the given facts of the node with a number, whose child keeps these; at a Join `FACTS | FACTS`.
-pub fn given_at(alloc: Global, texts: &Certificates, text: &str) -> Result<String, Failure> {
+pub fn given_at(alloc: Global, texts: &CertificateCases, text: &str) -> Result<String, Failure> {
     let (number, text) = text.split_once(' ').unwrap_or((text, ""));
     let (first, second) = text.split_once('|').unwrap_or((text, ""));
     let first = facts_of(alloc, first)?;
@@ -29,7 +29,7 @@ pub fn given_at(alloc: Global, texts: &Certificates, text: &str) -> Result<Strin
 
 fn given_of_node(
     alloc: Global,
-    texts: &Certificates,
+    texts: &CertificateCases,
     number: u32,
     first: &[Given],
     second: &[Given],

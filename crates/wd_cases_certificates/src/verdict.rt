@@ -5,7 +5,7 @@ ghost use Rattle.wd_plan.specs.Fits.{fits};
 ghost use Rattle.wd_plan.specs.Plans.{plan_of};
 ghost use Rattle.wd_schema.specs.Schemas.{schema_of};
 
-use crate::case::Certificates;
+use crate::case::CertificateCases;
 use crate::notation::certificate_of;
 use crate::refusal::failure_of;
 use crate::shown::push_nodes;
@@ -19,7 +19,7 @@ use wd_schema::Schema;
 use wd_verify::verify_plan;
 
 /// The plan of the query.
-pub fn planned(alloc: Global, given: &Certificates) -> Result<PlannedQuery, Failure>
+pub fn planned(alloc: Global, given: &CertificateCases) -> Result<PlannedQuery, Failure>
     ensures { IfOk result (λ p. fits (schema_of p.schema) (plan_of p.resolved.plan) ≡ true) }
 {
     match read_texts(alloc, &given.schema.bytes, &given.query) {
@@ -33,7 +33,7 @@ fn refused_text(error: &TextError) -> Failure {
 }
 
 /// The nodes of the query's plan.
-pub fn nodes(alloc: Global, given: &Certificates) -> Result<String, Failure> {
+pub fn nodes(alloc: Global, given: &CertificateCases) -> Result<String, Failure> {
     let planned = planned(alloc, given)?;
     nodes_of(alloc, &planned.resolved.plan)
 }
@@ -45,7 +45,7 @@ fn nodes_of(alloc: Global, plan: &Plan) -> Result<String, Failure> {
 }
 
 /// `verify TEXT`: whether a certificate's text is accepted for the texts of the schema and the query.
-pub fn verify_text(alloc: Global, given: &Certificates, text: &str) -> Result<String, Failure> {
+pub fn verify_text(alloc: Global, given: &CertificateCases, text: &str) -> Result<String, Failure> {
     let text = unescaped(alloc, text)?;
     match verify(alloc, &given.schema.bytes, &given.query, &text) {
         Ok(_) => Ok(String::from_str(alloc, "accepted")?),
@@ -72,7 +72,7 @@ fn origin_of(error: &VerifyError) -> &'static str {
 }
 
 /// `why TEXT`: the refusal of a certificate's text with its message.
-pub fn why(alloc: Global, given: &Certificates, text: &str) -> Result<String, Failure> {
+pub fn why(alloc: Global, given: &CertificateCases, text: &str) -> Result<String, Failure> {
     let text = unescaped(alloc, text)?;
     match verify(alloc, &given.schema.bytes, &given.query, &text) {
         Ok(accepted) => Ok(format!(in alloc; "{accepted:?}")?),
@@ -81,7 +81,7 @@ pub fn why(alloc: Global, given: &Certificates, text: &str) -> Result<String, Fa
 }
 
 /// `verdict ENTRIES`: whether a certificate is accepted for the query's plan, and, where it differs, also as a text.
-pub fn verdict(alloc: Global, given: &Certificates, text: &str) -> Result<String, Failure> {
+pub fn verdict(alloc: Global, given: &CertificateCases, text: &str) -> Result<String, Failure> {
     let certificate = certificate_of(alloc, text)?;
     let of_plan = verdict_of_plan(alloc, given, &certificate)?;
     let of_text = verdict_of_text(alloc, given, &certificate)?;
@@ -94,7 +94,7 @@ pub fn verdict(alloc: Global, given: &Certificates, text: &str) -> Result<String
 
 fn verdict_of_plan(
     alloc: Global,
-    given: &Certificates,
+    given: &CertificateCases,
     certificate: &Certificate,
 ) -> Result<String, Failure> {
     let planned = planned(alloc, given)?;
@@ -117,7 +117,7 @@ fn verdict_on(
 
 fn verdict_of_text(
     alloc: Global,
-    given: &Certificates,
+    given: &CertificateCases,
     certificate: &Certificate,
 ) -> Result<String, Failure> {
     let text = certificate.to_json(alloc)?;

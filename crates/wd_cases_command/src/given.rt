@@ -5,14 +5,14 @@ use std::alloc::Global;
 use wd_cases::{Cases, Failure, NamedTexts};
 
 #[derive(Drop)]
-pub struct Given {
+pub struct CommandCases {
     files: NamedTexts,
 }
 
-impl Given {
+impl CommandCases {
     /// No files.
-    pub fn new(alloc: Global) -> Given {
-        Given {
+    pub fn new(alloc: Global) -> CommandCases {
+        CommandCases {
             files: NamedTexts::new(alloc),
         }
     }
@@ -24,7 +24,7 @@ impl Given {
     }
 }
 
-impl Cases for Given {
+impl Cases for CommandCases {
     fn answer(&mut self, alloc: Global, word: &str, text: &str) -> Result<String, Failure> {
         match word {
             "file" => self.set_files(alloc, text),

@@ -6,20 +6,20 @@ use wd_lex::Token;
 
 /// What earlier lines gave.
 #[derive(Drop)]
-pub struct Given {
+pub struct ReadingCases {
     schema: SchemaText,
 }
 
-impl Given {
+impl ReadingCases {
     /// The schema without tables.
-    pub fn new(alloc: Global) -> Given {
-        Given {
+    pub fn new(alloc: Global) -> ReadingCases {
+        ReadingCases {
             schema: SchemaText::new(alloc),
         }
     }
 }
 
-impl Cases for Given {
+impl Cases for ReadingCases {
     fn answer(&mut self, alloc: Global, word: &str, text: &str) -> Result<String, Failure> {
         match word {
             "tokens" => token::tokens(alloc, text),

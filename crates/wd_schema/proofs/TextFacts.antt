@@ -17,7 +17,6 @@ use Rattle.wd_schema.specs.declared.schema.Schema.{Schema}
 use Rattle.wd_statements.specs.Grammar.{Begins, spell_schema}
 use Rattle.wd_statements.specs.Written.{SchemaTree, TableTree, name_text}
 use Rattle.wd_statements.proofs.SchemaLaws.{one_tree, schema_statements}
-use Rattle.wd_schema.proofs.WellFormedFacts.{well_formed}
 
 -- ---- what the first tables keep
 
@@ -112,7 +111,3 @@ gives_by text (Err refusal) declares cause tables d = refusal_is refusal (HasCau
 pub refused_by : (text : List ℕ) (result : Result Schema SchemaError) → IfOk result (λ schema. Declares text (schema_of schema)) → OnOk result ((refusal : SchemaError) → HasCause text refusal → ⊥)
 refused_by text (Ok schema) declares = λ refusal. meaning_or_cause text (schema_of schema) refusal declares
 refused_by text (Err refusal) declares = tt
-
-pub well_formed_by : (text : List ℕ) (result : Result Schema SchemaError) → IfOk result (λ schema. Declares text (schema_of schema)) → IfOk result (λ schema. IsWellFormed (schema_of schema))
-well_formed_by text (Ok schema) declares = well_formed text (schema_of schema) declares
-well_formed_by text (Err refusal) declares = tt

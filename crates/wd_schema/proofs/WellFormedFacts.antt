@@ -9,11 +9,10 @@ use Rattle.std.proofs.lemmas.Option.{get_or_from_slice_get}
 use Rattle.std.proofs.lemmas.Slice.Eq.{bytes_eq-Decides}
 use Rattle.std.specs.List.{list_any, position_or_len, All, AllPairs, Contains}
 use Rattle.std.specs.Str.{bytes_eq}
+use Rattle.wd_schema.specs.declared.error.SchemaError.{SchemaError}
 use Rattle.wd_schema.specs.declared.error.SchemaError.TheVariants.{TableTwice, ColumnTwice, UnknownColumn, SecondPrimaryKey, KeyColumnTwice, TooMany}
 use Rattle.wd_schema.specs.declared.table.Column.{Column as TableColumn}
-use Rattle.wd_schema.specs.Declares.{ColumnsDiffer, HasOnePrimary, IsSmall, KeyColumnsDiffer, KeysNameColumns, SaidKey, column_declared, column_names, column_number, columns_of, is_in_primary, is_primary, key_declared, keys_of, says_not_null, table_declared}
-use Rattle.wd_schema.specs.Tables.{TableRule}
-use Rattle.wd_schema.specs.Texts.{Declares}
+use Rattle.wd_schema.specs.Declares.{AllKeep, ColumnsDiffer, HasOnePrimary, IsSmall, KeyColumnsDiffer, KeysNameColumns, SaidKey, column_declared, column_names, column_number, columns_of, is_in_primary, is_primary, key_declared, keys_of, says_not_null, table_declared}
 use Rattle.wd_schema.specs.WellFormed.{IsKeyOf, IsNotNull, IsWellFormed, IsWellFormedTable}
 use Rattle.wd_cursor.specs.declared.name.Name.{Name}
 use Rattle.wd_statements.specs.Written.{ColumnTree, TableTree, name_text}
@@ -107,12 +106,10 @@ well_formed_table table differ known one once small =
       one_primary = rw fold-map one;
     }
 
-pub well_formed : (text : List ℕ) (tables : List TableRule) → Declares text tables → IsWellFormed tables
-well_formed text tables d =
-    let trees = d.tree.tables in
-    subst IsWellFormed (sym d.are) (record {
-      few = rw length-map (d.kept TooMany).0;
-      names = pairs_image (λ a b. a.name ≢ b.name) table_declared trees (d.kept TableTwice);
-      each = All-map IsWellFormedTable table_declared trees
-          (λ i e lt. well_formed_table (get_or trees i e) (d.kept ColumnTwice i e lt) (d.kept UnknownColumn i e lt) (d.kept SecondPrimaryKey i e lt) (d.kept KeyColumnTwice i e lt) ((d.kept TooMany).1 i e lt));
-    })
+pub well_formed : (trees : List TableTree) → ((refusal : SchemaError) → AllKeep refusal trees) → IsWellFormed (map table_declared trees)
+well_formed trees kept = record {
+  few = rw length-map (kept TooMany).0;
+  names = pairs_image (λ a b. a.name ≢ b.name) table_declared trees (kept TableTwice);
+  each = All-map IsWellFormedTable table_declared trees
+      (λ i e lt. well_formed_table (get_or trees i e) (kept ColumnTwice i e lt) (kept UnknownColumn i e lt) (kept SecondPrimaryKey i e lt) (kept KeyColumnTwice i e lt) ((kept TooMany).1 i e lt));
+}

@@ -1,7 +1,9 @@
 //! Schemas.
 
-ghost use Rattle.std.specs.Prelude.{◌≡◌, All};
+ghost use Rattle.std.specs.Prelude.{◌≡◌, map, All};
 ghost use Rattle.std.specs.String.{string_bytes};
+ghost use Rattle.wd_schema.specs.Tables as spec;
+ghost use Rattle.wd_schema.specs.WellFormed.{IsWellFormed};
 
 use crate::table::Table;
 use indexmap::IndexMap;
@@ -13,6 +15,9 @@ pub struct Schema {
 
     // Each table stands under its own name.
     ghost named: { All (λ entry. string_bytes entry.0 ≡ entry.1.name) tables.entries },
+
+    // At most 64 tables of at most 256 columns and 64 keys each; keys name columns.
+    ghost well_formed: { IsWellFormed (map (λ entry. spec.table_of entry.1) tables.entries) },
 }
 
 impl Schema {

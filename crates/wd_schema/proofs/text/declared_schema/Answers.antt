@@ -7,8 +7,10 @@ use Rattle.std.specs.Str.{bytes_eq}
 use Rattle.std.specs.String.{string_bytes}
 use Rattle.wd_schema.specs.Declares.{AllKeep, Keeps, table_declared}
 use Rattle.wd_schema.specs.Tables.{table_of}
+use Rattle.wd_schema.specs.WellFormed.{IsWellFormed}
 use Rattle.wd_statements.specs.Written.{TableTree, name_text, table_tree}
 use Rattle.wd_schema.proofs.SchemaFacts.{found_name, insert_new, keeps_at, keeps_more, map_push_both, named_by, table_repeats}
+use Rattle.wd_schema.proofs.WellFormedFacts.{well_formed}
 use Rattle.wd_schema.proofs.text.declared_schema.Goals as goal
 
 pub returns-then-contains_key-clause-refused : goal.returns-then-contains_key-clause-refused
@@ -61,4 +63,9 @@ loop-t-preserved c =
     }
 
 pub invariant_of-result : goal.invariant_of-result
-invariant_of-result c = record { named = named_by c.loop-t.schema.entries (map table_tree (take c.loop-t.t c.args.tables.now)) c.loop-t.invariant.names c.loop-t.invariant.tables }
+invariant_of-result c =
+    let trees : List TableTree = map table_tree (take c.loop-t.t c.args.tables.now) in
+    record {
+      named = named_by c.loop-t.schema.entries trees c.loop-t.invariant.names c.loop-t.invariant.tables;
+      well_formed = subst IsWellFormed (sym c.loop-t.invariant.tables) (well_formed trees c.loop-t.invariant.kept);
+    }

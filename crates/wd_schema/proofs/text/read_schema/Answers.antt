@@ -1,8 +1,5 @@
-use Rattle.wd_schema.proofs.TextFacts.{gives_by, refused_by, well_formed_by}
+use Rattle.wd_schema.proofs.TextFacts.{gives_by, refused_by}
 use Rattle.wd_schema.proofs.text.read_schema.Goals as goal
-
-pub returns-clause-well_formed : goal.returns-clause-well_formed
-returns-clause-well_formed c = well_formed_by c.args.text.now c.answer.result c.answer.ensures.schema
 
 pub returns-clause-declared : goal.returns-clause-declared
 returns-clause-declared c = gives_by c.args.text.now c.answer.result c.answer.ensures.schema c.answer.ensures.cause

@@ -10,10 +10,4 @@ mod statement;
 mod token;
 mod tree;
 
-use case::Given;
-use std::io;
-use wd_cases::{Comments, answer_lines};
-
-fn main(rt: HostRuntime) -> io::Result<()> {
-    answer_lines(&rt, &mut Given::new(rt.alloc()), Comments::Printed)
-}
+pub use case::ReadingCases;

@@ -11,10 +11,4 @@ mod scope;
 mod select;
 mod tree;
 
-use given::Given;
-use std::io;
-use wd_cases::{Comments, answer_lines};
-
-fn main(rt: HostRuntime) -> io::Result<()> {
-    answer_lines(&rt, &mut Given::new(rt.alloc()), Comments::Printed)
-}
+pub use given::Given as MeaningCases;

@@ -14,11 +14,4 @@ mod shown;
 mod text;
 mod verdict;
 
-use case::Certificates;
-use std::io;
-use wd_cases::{Comments, answer_lines};
-
-fn main(rt: HostRuntime) -> io::Result<()> {
-    let mut cases = Certificates::new(rt.alloc());
-    answer_lines(&rt, &mut cases, Comments::Printed)
-}
+pub use case::CertificateCases;

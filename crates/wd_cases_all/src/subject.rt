@@ -1,0 +1,27 @@
+use wd_cases::Failure;
+
+/// What cases are about: the library that answers them.
+#[derive(Clone, Copy)]
+pub enum Subject {
+    Reading,
+    Meaning,
+    Plans,
+    Certificates,
+    Analysis,
+    Command,
+}
+
+impl Subject {
+    /// The subject of this name.
+    pub fn named(name: &str) -> Result<Subject, Failure> {
+        match name {
+            "reading" => Ok(Subject::Reading),
+            "meaning" => Ok(Subject::Meaning),
+            "plans" => Ok(Subject::Plans),
+            "certificates" => Ok(Subject::Certificates),
+            "analysis" => Ok(Subject::Analysis),
+            "command" => Ok(Subject::Command),
+            _ => Err(Failure::NoCase),
+        }
+    }
+}
