@@ -19,7 +19,7 @@ pub enum VerifyError {
 }
 
 /// Which of its inputs a refusal is about.
-#[derive(Clone, Copy, Debug, PartialEq, Eq)]
+#[derive(Clone, Copy)]
 pub enum VerifyOrigin {
     Schema,
     Query,

@@ -16,7 +16,7 @@ use wd_schema::Schema;
 use wd_verify::verify_plan;
 
 /// What `verify` answers for a certificate that is valid.
-#[derive(Clone, Copy, Debug, PartialEq, Eq)]
+#[derive(Clone, Copy, Debug)]
 pub struct Accepted;
 
 /// Whether a certificate's text spells a certificate that is valid for the plan of a schema's text and a query's text. Where it

@@ -7,7 +7,7 @@ use crate::decided::Lack;
 use wd_certificate::{Certificate, Rule};
 
 /// Why a call or a limit is open.
-#[derive(Clone, Copy, PartialEq, Eq, Debug)]
+#[derive(Clone, Copy)]
 pub struct Reason {
     /// The node's number in postorder.
     pub node: u64,
@@ -17,7 +17,7 @@ pub struct Reason {
 }
 
 /// The rules of calls and of limits.
-#[derive(Clone, Copy, PartialEq, Eq, Debug)]
+#[derive(Clone, Copy)]
 pub enum RuleName {
     Peers,
     Unique,
@@ -43,7 +43,7 @@ impl RuleName {
 }
 
 /// The rule that justifies a call or a limit.
-#[derive(Clone, Copy, PartialEq, Eq, Debug)]
+#[derive(Clone, Copy)]
 pub struct Mark {
     /// The node's number in postorder.
     pub node: u64,
@@ -53,7 +53,7 @@ pub struct Mark {
 }
 
 /// What is found of a plan.
-#[derive(Debug, Drop)]
+#[derive(Drop)]
 pub enum Analysis {
     /// Each call and each limit is justified.
     Certified(Certificate),

@@ -16,7 +16,7 @@ use wd_plan::{Call, FrameFunction, Function, Window};
 use wd_value::OutOfMemory;
 
 /// Why no rule justifies a call or a limit.
-#[derive(Clone, Copy, PartialEq, Eq, Debug)]
+#[derive(Clone, Copy)]
 pub enum Lack {
     /// The keys give every column, but another class of the node has the rule `exchange`.
     SecondClass,

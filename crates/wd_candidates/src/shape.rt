@@ -4,7 +4,7 @@ ghost use Rattle.std.specs.Prelude.{◌≡◌};
 ghost use Rattle.wd_candidates.specs.Candidates as spec;
 
 /// How the columns of a candidate's tables are filled, but for those that a condition fixes.
-#[derive(Clone, Copy, PartialEq, Eq, Debug)]
+#[derive(Clone, Copy)]
 pub enum Style {
     /// Tied columns are NULL where they may be, else the first value of their type; the others differ from row to row.
     TiedNull,
@@ -15,7 +15,7 @@ pub enum Style {
 }
 
 /// How many rows each table of a candidate has, and how its columns are filled.
-#[derive(Clone, Copy, PartialEq, Eq, Debug)]
+#[derive(Clone, Copy)]
 pub struct Shape {
     pub rows: u32,
     pub style: Style,

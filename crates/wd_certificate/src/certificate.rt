@@ -3,7 +3,7 @@
 //! certificate against a plan.
 
 /// What a kept fact gives.
-#[derive(Clone, Copy, PartialEq, Eq, Debug)]
+#[derive(Clone, Copy)]
 pub enum Target {
     /// A column of the node's output.
     Column(u64),
@@ -12,7 +12,7 @@ pub enum Target {
 }
 
 /// A derivation by dependency steps.
-#[derive(Debug, Drop)]
+#[derive(Drop)]
 pub struct Trace {
     /// The columns from which it starts.
     pub from: Vec<u64>,
@@ -22,7 +22,7 @@ pub struct Trace {
 }
 
 /// A fact that a node keeps, which is given at the node above.
-#[derive(Debug, Drop)]
+#[derive(Drop)]
 pub struct Kept {
     /// What the trace's columns give.
     pub to: Vec<Target>,
@@ -31,7 +31,7 @@ pub struct Kept {
 }
 
 /// The rule that justifies a window call, with the number of its trace among the node's.
-#[derive(Clone, Copy, PartialEq, Eq, Debug)]
+#[derive(Clone, Copy)]
 pub enum Rule {
     /// Rows that tie have one value.
     Peers,
@@ -44,7 +44,7 @@ pub enum Rule {
 }
 
 /// What a certificate says of one node of a plan.
-#[derive(Debug, Drop)]
+#[derive(Drop)]
 pub struct Node {
     /// A rule for each call of a Window; empty at another node.
     pub calls: Vec<Rule>,
@@ -56,7 +56,7 @@ pub struct Node {
 }
 
 /// A certificate of version 1: what justifies each call and each limit of a plan.
-#[derive(Debug, Drop)]
+#[derive(Drop)]
 pub struct Certificate {
     /// The plan's nodes in postorder.
     pub nodes: Vec<Node>,

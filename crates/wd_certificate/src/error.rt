@@ -9,7 +9,7 @@ use wd_value::OutOfMemory;
 
 /// A certificate's refusal: 501 to 503 of its text alone, 504 to 510 of what it says of a plan.
 /// A node is named by its number in postorder, from 0.
-#[derive(Clone, Copy, Debug, PartialEq, Eq, Error)]
+#[derive(Clone, Copy, Debug, Error)]
 pub enum CertError {
     /// 501: the text is no JSON in UTF-8, or nests more than 127 deep.
     #[error("not JSON")]

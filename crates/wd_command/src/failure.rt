@@ -20,7 +20,7 @@ use wd_run::RunError;
 use wd_value::{Fault, OutOfMemory, Text};
 
 /// Why the program ends without its output.
-#[derive(Debug, Drop)]
+#[derive(Drop)]
 pub enum Failure<'a> {
     /// The words are no command.
     CommandLine(clap::Error),
@@ -37,7 +37,7 @@ pub enum Failure<'a> {
 }
 
 /// What a refusal says.
-#[derive(Debug, Drop)]
+#[derive(Drop)]
 pub struct Refusal {
     pub input: Input,
     pub number: u32,
@@ -46,7 +46,7 @@ pub struct Refusal {
 }
 
 /// The input that a refusal is about.
-#[derive(Debug, Drop)]
+#[derive(Drop)]
 pub enum Input {
     Schema,
     Query,

@@ -9,7 +9,7 @@ use std::io::Read;
 use std::{fs, io, rt};
 
 /// Why a file was not handed over.
-#[derive(Clone, Copy, PartialEq, Eq, Debug)]
+#[derive(Clone, Copy)]
 pub enum ReadFault {
     /// There is no such file, it can't be read, or it has more than `MOST_BYTES` bytes.
     Failed,

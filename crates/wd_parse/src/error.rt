@@ -7,7 +7,7 @@ use thiserror::Error;
 
 /// A refusal of tokens. A place is the number of the refused token, from 0, or the number of tokens where more of them
 /// are wanted.
-#[derive(Clone, Copy, Debug, PartialEq, Eq, Error)]
+#[derive(Clone, Copy, Debug, Error)]
 pub enum ParseError {
     /// 201: the first token that no query continues.
     #[error("unexpected token at {place}")]

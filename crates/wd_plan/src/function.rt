@@ -6,7 +6,7 @@ ghost use Rattle.wd_plan.specs.Functions as spec;
 use wd_value::Value;
 
 /// The window functions by their names (SQL, window function; PG, Window Functions).
-#[derive(Clone, Copy, PartialEq, Eq, Debug)]
+#[derive(Clone, Copy, PartialEq, Eq)]
 pub enum FunctionName {
     RowNumber,
     Rank,
@@ -88,7 +88,7 @@ pub enum Function {
 }
 
 /// What a value argument has to be.
-#[derive(Clone, Copy, PartialEq, Eq, Debug)]
+#[derive(Clone, Copy)]
 pub enum Argument {
     /// The function takes none.
     Nothing,
@@ -100,14 +100,14 @@ pub enum Argument {
 }
 
 /// The kind of a function's values.
-#[derive(Clone, Copy, PartialEq, Eq, Debug)]
+#[derive(Clone, Copy)]
 pub enum ResultKind {
     Number,
     OfArgument,
 }
 
 /// Whether a function has one value for rows that are peers, whatever order they stand in.
-#[derive(Clone, Copy, PartialEq, Eq, Debug)]
+#[derive(Clone, Copy)]
 pub enum ByPeers {
     Never,
     Always,
@@ -116,7 +116,7 @@ pub enum ByPeers {
 }
 
 /// What a function takes and gives.
-#[derive(Clone, Copy, PartialEq, Eq, Debug)]
+#[derive(Clone, Copy)]
 pub struct Signature {
     /// The least number of arguments.
     pub fewest: u8,

@@ -10,7 +10,7 @@ use wd_value::OutOfMemory;
 use wd_witness::WitnessTextError;
 
 /// Why a witness's text is refused for a plan.
-#[derive(Clone, Copy, Debug, PartialEq, Eq, Error)]
+#[derive(Clone, Copy, Debug, Error)]
 pub enum Refusal {
     /// 601: the text spells no witness over tables of the schema.
     #[error(transparent)]
@@ -44,7 +44,7 @@ pub enum WitnessError {
 }
 
 /// Which of its inputs a refusal is about, or the evaluation.
-#[derive(Clone, Copy, Debug, PartialEq, Eq)]
+#[derive(Clone, Copy)]
 pub enum WitnessOrigin {
     Schema,
     Query,

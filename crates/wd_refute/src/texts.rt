@@ -10,7 +10,7 @@ use std::alloc::Global;
 use wd_query::read_texts;
 
 /// What `refute` answers for a witness that is true.
-#[derive(Clone, Copy, Debug, PartialEq, Eq)]
+#[derive(Clone, Copy)]
 pub struct Refuted;
 
 /// Whether a witness's text spells a true witness of the plan of a schema's text and a query's text: its tables meet the schema,

@@ -25,7 +25,7 @@ const MOST_COLUMNS: usize = 256;
 const MOST_KEYS: usize = 64;
 
 /// Where something stands in a table's declaration: in which of its elements, and at which part of it.
-#[derive(Clone, Copy, PartialEq, Eq)]
+#[derive(Clone, Copy)]
 pub struct ElementPlace {
     pub element: usize,
     pub part: usize,
@@ -393,7 +393,7 @@ fn column_twice(columns: &[Text], elements: &[Element]) -> Option<ElementPlace>
 }
 
 /// A refusal, and where its cause stands.
-#[derive(Clone, Copy, PartialEq, Eq)]
+#[derive(Clone, Copy)]
 struct PlacedError {
     place: ElementPlace,
     error: SchemaError,

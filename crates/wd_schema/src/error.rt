@@ -9,7 +9,7 @@ use thiserror::Error;
 use wd_lex::LexError;
 
 /// A schema's refusal. The first in the text is answered.
-#[derive(Clone, Copy, Debug, PartialEq, Eq, Error)]
+#[derive(Clone, Copy, Debug, Error)]
 pub enum SchemaError {
     /// 101 to 107: the text has no tokens.
     #[error(transparent)]

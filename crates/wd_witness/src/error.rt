@@ -8,7 +8,7 @@ use thiserror::Error;
 use wd_value::OutOfMemory;
 
 /// A witness's refusal: 601 of its text and of the tables that it names.
-#[derive(Clone, Copy, Debug, PartialEq, Eq, Error)]
+#[derive(Clone, Copy, Debug, Error)]
 pub enum WitnessTextError {
     /// 601: the text is no JSON in UTF-8, or nests more than 127 deep.
     #[error("not JSON")]
