@@ -17,7 +17,7 @@ use Rattle.wd_parse.proofs.CompleteQuery.{selects_are}
 use Rattle.wd_cursor.specs.declared.refusal.Refusal.{Refusal}
 use Rattle.wd_cursor.specs.declared.refusal.Refusal.TheVariants as r
 use Rattle.wd_cursor.specs.Given.{Fails}
-use Rattle.wd_parse.specs.Given.{IsLoopHeight}
+use Rattle.wd_parse.specs.Given.{IsChainHeight}
 
 -- tokens and what they say are as many
 pub length_kinds : (tokens : List Token) → length (kinds_of tokens) ≡ length tokens
@@ -32,7 +32,7 @@ read_suc (suc (suc (suc zero))) d ts le n0 n3 n4 n5 = absurd (n3 refl)
 read_suc (suc (suc (suc (suc zero)))) d ts le n0 n3 n4 n5 = absurd (n4 refl)
 read_suc (suc (suc (suc (suc (suc g))))) d ts le n0 n3 n4 n5 = operand_first 200 (suc (suc (suc (suc (suc g))))) d ts n0 n5
 
-pub read_chain : (h d : ℕ) (ts : Kinds) → IsLoopHeight h → read 200 d h ts ≡ read 200 d (h - 1) ts >>= λ a. links (read 200 d (h - 1)) h 200 a.0 a.1
+pub read_chain : (h d : ℕ) (ts : Kinds) → IsChainHeight h → read 200 d h ts ≡ read 200 d (h - 1) ts >>= λ a. links (read 200 d (h - 1)) h 200 a.0 a.1
 read_chain zero d ts h = absurd (omega arith)
 read_chain (suc g) d ts h = let e : suc g - 1 ≡ g = omega arith in rw e (read_suc g d ts (omega arith) (omega arith) (omega arith) (omega arith) (omega arith))
 

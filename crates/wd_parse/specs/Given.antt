@@ -23,9 +23,9 @@ MakesDeeper (Err r.OutOfMemory) depth left = ⊥
 MakesDeeper (Err (r.Unexpected n)) depth left = ⊥
 MakesDeeper (Err (r.PastLimit n)) depth left = (deeper_of most_operators depth ≡ None) × (inside_of most_operators depth ≡ None) × (n ≡ left)
 
--- the heights of chains
-abbrev pub IsLoopHeight : ℕ → Type 0
-IsLoopHeight h = (h ≤ 8) × (1 < h) × (h ≢ 4) × (h ≢ 5) × (h ≢ 6)
+-- the heights of chains: neither a primary expression, a sign, a comparison, a test for NULL nor NOT
+abbrev pub IsChainHeight : ℕ → Type 0
+IsChainHeight h = (h ≤ 8) × (1 < h) × (h ≢ 4) × (h ≢ 5) × (h ≢ 6)
 
 -- the arguments of a call, or `*`
 abbrev pub view_arguments : Option (Vec Expr Global) → Option (List Tree)

@@ -36,7 +36,8 @@ use Rattle.wd_syntax.specs.declared.query.Count.TheVariants as c
 use Rattle.wd_syntax.specs.declared.query.Limits.{Limits}
 use Rattle.wd_syntax.specs.declared.query.Limits.TheVariants.{OffsetFirst, CountFirst}
 use Rattle.wd_cursor.specs.Tokens.{Kinds}
-use Rattle.wd_syntax.specs.Tokens.{operator_height}
+use Rattle.wd_syntax.specs.declared.expression.Height.TheVariants as height
+use Rattle.wd_syntax.specs.Tokens.{operator_height, rank, whole_height}
 use Rattle.wd_cursor.specs.Tokens.{Kinds}
 use Rattle.wd_cursor.specs.Cursor.{Fault, Unexpected, Limit, ◌>>=◌, Reads, Parser, Chance, choose, eat, some_or_unexpected, expect, eat_word, expect_word, with_rest, eat_name, name_at, number_at, many, list_at, try, optional}
 use Rattle.wd_syntax.specs.Tree.{Tree, Constant, Column, Qualified, CallAll, Call, Case, Bracket, Signed, Binary, IsNull, Negated, Otherwise, no_else, or_else, OverTree, no_over, over_name, over_window, WindowTree, window, ItemTree, all_columns, all_of, shown, TableTree, named, derived, JoinTree, comma, cross, inner, SelectTree, select, QueryTree, query, Key, trees_of, arms_of, keys_of, joins_of}
@@ -209,12 +210,12 @@ Deeper = Option (ℕ → Parser Tree)
 unfoldable pub over_at : Deeper → Parser OverTree
 over_at deeper ts =
     choose (eat m.Over ts)
-    (λ r. choose (eat m.LeftBracket r) (λ q. enter (length r) deeper (λ p. window_at (p 8) q >>= λ w. Ok (over_window w.0, w.1))) (name_at r >>= λ n. Ok (over_name n.0, n.1)))
+    (λ r. choose (eat m.LeftBracket r) (λ q. enter (length r) deeper (λ p. window_at (p whole_height) q >>= λ w. Ok (over_window w.0, w.1))) (name_at r >>= λ n. Ok (over_name n.0, n.1)))
     (Ok (no_over, ts))
 
 -- after the opening bracket
 unfoldable pub call_at : Deeper → Name → Parser Tree
-call_at deeper f ts = enter (suc (length ts)) deeper (λ p. arguments_at (p 8) ts) >>= λ bs. over_at deeper bs.1 >>= λ over. Ok (call_of f bs.0 over.0, over.1)
+call_at deeper f ts = enter (suc (length ts)) deeper (λ p. arguments_at (p whole_height) ts) >>= λ bs. over_at deeper bs.1 >>= λ over. Ok (call_of f bs.0 over.0, over.1)
 
 unfoldable pub named_at : Deeper → Name → Parser Tree
 named_at deeper a ts =
@@ -240,8 +241,8 @@ abbrev pub primary_by_terminal : Deeper → Terminal → Parser Tree
 primary_by_terminal deeper m.True ts = Ok (Constant (l.Truth true), ts)
 primary_by_terminal deeper m.False ts = Ok (Constant (l.Truth false), ts)
 primary_by_terminal deeper m.Null ts = Ok (Constant l.Null, ts)
-primary_by_terminal deeper m.LeftBracket ts = enter (suc (length ts)) deeper (λ p. bracket_at (p 8) ts)
-primary_by_terminal deeper m.Case ts = enter (suc (length ts)) deeper (λ p. case_at (p 8) ts)
+primary_by_terminal deeper m.LeftBracket ts = enter (suc (length ts)) deeper (λ p. bracket_at (p whole_height) ts)
+primary_by_terminal deeper m.Case ts = enter (suc (length ts)) deeper (λ p. case_at (p whole_height) ts)
 primary_by_terminal deeper _ ts = Err (Unexpected (suc (length ts)))
 
 unfoldable pub primary : Deeper → Parser Tree
@@ -254,7 +255,7 @@ primary deeper (t.Terminal x ∷ ts) = primary_by_terminal deeper x ts
 
 abbrev pub signed_by : Option (Sign × Kinds) → Deeper → Parser Tree → Parser Tree
 signed_by None deeper tighter ts = tighter ts
-signed_by (Some x) deeper tighter ts = enter (length ts) deeper (λ p. p 1 x.1 >>= λ a. Ok (Signed x.0 a.0, a.1))
+signed_by (Some x) deeper tighter ts = enter (length ts) deeper (λ p. p (rank height.Sign) x.1 >>= λ a. Ok (Signed x.0 a.0, a.1))
 
 -- what a height does after its first operand
 abbrev pub goes_on : ℕ → Parser Tree → ℕ → Tree → Parser Tree
@@ -265,7 +266,7 @@ goes_on h operand n = links operand (suc h) n
 -- one height above what is read tighter
 abbrev pub step : ℕ → Deeper → ℕ → Parser Tree → Parser Tree
 step limit deeper zero tighter ts = signed_by (sign_at ts) deeper tighter ts
-step limit deeper (suc (suc (suc (suc (suc zero))))) tighter ts = choose (eat m.Not ts) (λ r. enter (length ts) deeper (λ p. p 6 r >>= λ a. Ok (Negated a.0, a.1))) (tighter ts)
+step limit deeper (suc (suc (suc (suc (suc zero))))) tighter ts = choose (eat m.Not ts) (λ r. enter (length ts) deeper (λ p. p (rank height.Negation) r >>= λ a. Ok (Negated a.0, a.1))) (tighter ts)
 step limit deeper h tighter ts = tighter ts >>= λ a. goes_on h tighter limit a.0 a.1
 
 -- an expression no looser than the height
@@ -323,7 +324,7 @@ unfoldable pub filter_at : Parser Tree → Parser (Option Tree)
 filter_at item ts = choose (eat m.Where ts) (λ r. item r >>= λ a. Ok (Some a.0, a.1)) (Ok (None, ts))
 
 unfoldable pub named_window_at : Deeper → Parser (Name × WindowTree)
-named_window_at deeper ts = name_at ts >>= λ n. expect m.As n.1 >>= λ r. expect m.LeftBracket r >>= λ q. enter (length r) deeper (λ p. window_at (p 8) q) >>= λ w. Ok ((n.0, w.0), w.1)
+named_window_at deeper ts = name_at ts >>= λ n. expect m.As n.1 >>= λ r. expect m.LeftBracket r >>= λ q. enter (length r) deeper (λ p. window_at (p whole_height) q) >>= λ w. Ok ((n.0, w.0), w.1)
 
 unfoldable pub windows_at : Deeper → Parser (List (Name × WindowTree))
 windows_at deeper ts = choose (eat m.Window ts) (λ r. list_at m.Comma (named_window_at deeper) r) (Ok ([], ts))
@@ -398,10 +399,10 @@ from_at inside item ts = table_at inside ts >>= λ first. many (join_at inside i
 
 unfoldable pub select_at : ℕ → ℕ → Inner → Parser SelectTree
 select_at limit depth inside ts =
-    expect m.Select ts >>= λ r. list_at m.Comma (item_at (read limit depth 8)) (quantifier_at r).1 >>= λ items.
-    expect m.From items.1 >>= λ q. from_at inside (read limit depth 8) q >>= λ tables.
-    filter_at (read limit depth 8) tables.1 >>= λ filter. windows_at (deeper_of limit depth) filter.1 >>= λ windows.
-    order_at (read limit depth 8) windows.1 >>= λ order. limits_at order.1 >>= λ limits.
+    expect m.Select ts >>= λ r. list_at m.Comma (item_at (read limit depth whole_height)) (quantifier_at r).1 >>= λ items.
+    expect m.From items.1 >>= λ q. from_at inside (read limit depth whole_height) q >>= λ tables.
+    filter_at (read limit depth whole_height) tables.1 >>= λ filter. windows_at (deeper_of limit depth) filter.1 >>= λ windows.
+    order_at (read limit depth whole_height) windows.1 >>= λ order. limits_at order.1 >>= λ limits.
     Ok (select (record { quantifier = (quantifier_at r).0; items = items.0; tail = record { filter = filter.0; windows = windows.0; order = keys_of order.0; limits = limits.0 } }) tables.0.0 (joins_of tables.0.1), limits.1)
 
 -- a select with so many levels left

@@ -1,31 +1,30 @@
 //! Expressions and windows.
-//!
-//! A height says how loosely an expression binds: 0 a primary expression, 1 a sign, 2 `* / %`, 3 `+ -`, 4 a comparison,
-//! 5 a test for NULL, 6 NOT, 7 AND, 8 OR.
 
-ghost use Rattle.std.specs.Prelude.{◌≡◌, ◌≤◌, ◌-◌, map};
+ghost use Rattle.std.specs.Prelude.{◌≡◌, ◌-◌, map};
 ghost use Rattle.wd_lex.specs.Lexed.{kinds_of};
 ghost use Rattle.wd_lex.specs.declared.token.Terminal.TheVariants as m;
+ghost use Rattle.wd_syntax.specs.declared.expression.Height.TheVariants as heights;
 ghost use Rattle.wd_syntax.specs.Limits.{most_operators};
+ghost use Rattle.wd_syntax.specs.Tokens.{rank, whole_height};
 ghost use Rattle.wd_syntax.specs.Tree.{Tree, trees_of, arms_of, keys_of, window};
 ghost use Rattle.wd_syntax.specs.View.{view, view_link, chained, tested, view_arm, view_key, view_window, view_over_option, view_else_option};
 ghost use Rattle.wd_parse.specs.Reading.{read, levels, deeper_of, links, compared, tests, null_at, primary, primary_by_terminal, named_at, bracket_at, call_of, call_at, arguments_at, over_at, case_at, arm_at, else_at, key_at, partition_at, order_at, base_at, window_at};
 ghost use Rattle.wd_cursor.specs.Cursor.{list_at};
 ghost use Rattle.wd_cursor.specs.Given.{Gives, MayRead};
-ghost use Rattle.wd_parse.specs.Given.{MakesDeeper, IsLoopHeight, view_arguments};
+ghost use Rattle.wd_parse.specs.Given.{MakesDeeper, IsChainHeight, view_arguments};
 
 use crate::frame::{direction_at, frame_at, nulls_at};
-use crate::operator::{operator_at, sign_at};
+use crate::operator::{operator_at, sign_at, tighter};
 use std::alloc::Global;
 use wd_cursor::{Refusal, eat, eat_name, expect, name_at};
 use wd_lex::{Terminal, Token, TokenKind};
-use wd_syntax::{Arm, Expr, Frame, Link, Literal, Name, Over, SortKey, Window};
+use wd_syntax::{Arm, Expr, Frame, Height, Link, Literal, Name, Over, SortKey, Window};
 
 /// The most operators of one chain.
 const MAX_OPERATORS: u32 = 200;
 
 /// The height of a whole expression.
-pub const WHOLE: u8 = 8;
+pub const WHOLE: Height = Height::Disjunction;
 
 /// One level fewer, if one is left for the first of the `left` last tokens to open.
 #[tactic(auto, unfolding(crate::specs::Reading::deeper_of))]
@@ -43,20 +42,22 @@ pub fn deeper(depth: u8, left: usize) -> Result<u8, Refusal>
 #[cycle(expr)]
 pub fn at(
     alloc: Global,
-    height: u8,
+    height: Height,
     depth: u8,
     tokens: &[Token],
 ) -> Result<(Box<Expr>, &[Token]), Refusal>
-    requires { height ≤ 8 }
-    ensures { Gives (λ x. (view x.0.value, kinds_of x.1.now)) result (read most_operators depth height (kinds_of tokens.now)) }
+    ensures { Gives (λ x. (view x.0.value, kinds_of x.1.now)) result (read most_operators depth (rank height) (kinds_of tokens.now)) }
 {
     match height {
-        0 => primary(alloc, depth, tokens),
-        1 => signed(alloc, depth, tokens),
-        4 => comparison(alloc, depth, tokens),
-        5 => tested(alloc, depth, tokens),
-        6 => negated(alloc, depth, tokens),
-        _ => chain(alloc, height, depth, tokens),
+        Height::Primary => primary(alloc, depth, tokens),
+        Height::Sign => signed(alloc, depth, tokens),
+        Height::Product => chain(alloc, Height::Product, depth, tokens),
+        Height::Sum => chain(alloc, Height::Sum, depth, tokens),
+        Height::Comparison => comparison(alloc, depth, tokens),
+        Height::Test => tested(alloc, depth, tokens),
+        Height::Negation => negated(alloc, depth, tokens),
+        Height::Conjunction => chain(alloc, Height::Conjunction, depth, tokens),
+        Height::Disjunction => chain(alloc, Height::Disjunction, depth, tokens),
     }
 }
 
@@ -65,14 +66,14 @@ pub fn at(
 #[cycle(expr)]
 fn chain(
     alloc: Global,
-    height: u8,
+    height: Height,
     depth: u8,
     tokens: &[Token],
 ) -> Result<(Box<Expr>, &[Token]), Refusal>
-    requires { IsLoopHeight height }
-    ensures { Gives (λ x. (view x.0.value, kinds_of x.1.now)) result (read most_operators depth height (kinds_of tokens.now)) }
+    requires { IsChainHeight (rank height) }
+    ensures { Gives (λ x. (view x.0.value, kinds_of x.1.now)) result (read most_operators depth (rank height) (kinds_of tokens.now)) }
 {
-    let (first, rest) = at(alloc, height - 1, depth, tokens)?;
+    let (first, rest) = at(alloc, tighter(height), depth, tokens)?;
     links(alloc, height, depth, first, rest)
 }
 
@@ -98,13 +99,13 @@ fn chain_of(alloc: Global, first: Box<Expr>, links: Vec<Link>) -> Result<Box<Exp
 #[cycle(expr)]
 fn links(
     alloc: Global,
-    height: u8,
+    height: Height,
     depth: u8,
     first: Box<Expr>,
     tokens: &[Token],
 ) -> Result<(Box<Expr>, &[Token]), Refusal>
-    requires { IsLoopHeight height }
-    ensures { Gives (λ x. (view x.0.value, kinds_of x.1.now)) result (links (read most_operators depth (height - 1)) height most_operators (view first.value) (kinds_of tokens.now)) }
+    requires { IsChainHeight (rank height) }
+    ensures { Gives (λ x. (view x.0.value, kinds_of x.1.now)) result (links (read most_operators depth (rank height - 1)) (rank height) most_operators (view first.value) (kinds_of tokens.now)) }
 {
     let mut items = Vec::new(alloc);
     let mut rest = tokens;
@@ -112,7 +113,7 @@ fn links(
         let Some((operator, after)) = operator_at(rest, height) else {
             return Ok((chain_of(alloc, first, items)?, rest));
         };
-        let (right, after) = at(alloc, height - 1, depth, after)?;
+        let (right, after) = at(alloc, tighter(height), depth, after)?;
         items.push(Link {
             operator,
             operand: Box::into_inner(right),
@@ -129,12 +130,12 @@ fn links(
 #[tactic(auto, unfolding(crate::specs::Reading::levels, crate::specs::Reading::compared))]
 #[cycle(expr)]
 fn comparison(alloc: Global, depth: u8, tokens: &[Token]) -> Result<(Box<Expr>, &[Token]), Refusal>
-    ensures { Gives (λ x. (view x.0.value, kinds_of x.1.now)) result (read most_operators depth 4 (kinds_of tokens.now)) }
+    ensures { Gives (λ x. (view x.0.value, kinds_of x.1.now)) result (read most_operators depth (rank heights.Comparison) (kinds_of tokens.now)) }
 {
-    let (left, rest) = at(alloc, 3, depth, tokens)?;
-    match operator_at(rest, 4) {
+    let (left, rest) = at(alloc, Height::Sum, depth, tokens)?;
+    match operator_at(rest, Height::Comparison) {
         Some((operator, rest)) => {
-            let (right, rest) = at(alloc, 3, depth, rest)?;
+            let (right, rest) = at(alloc, Height::Sum, depth, rest)?;
             Ok((Box::new(alloc, Expr::Compare(operator, left, right))?, rest))
         }
         None => Ok((left, rest)),
@@ -144,9 +145,9 @@ fn comparison(alloc: Global, depth: u8, tokens: &[Token]) -> Result<(Box<Expr>, 
 #[tactic(auto, unfolding(crate::specs::Reading::levels))]
 #[cycle(expr)]
 fn tested(alloc: Global, depth: u8, tokens: &[Token]) -> Result<(Box<Expr>, &[Token]), Refusal>
-    ensures { Gives (λ x. (view x.0.value, kinds_of x.1.now)) result (read most_operators depth 5 (kinds_of tokens.now)) }
+    ensures { Gives (λ x. (view x.0.value, kinds_of x.1.now)) result (read most_operators depth (rank heights.Test) (kinds_of tokens.now)) }
 {
-    let (operand, rest) = at(alloc, 4, depth, tokens)?;
+    let (operand, rest) = at(alloc, Height::Comparison, depth, tokens)?;
     tests(alloc, operand, rest)
 }
 
@@ -199,30 +200,30 @@ fn tests(
 #[tactic(auto, unfolding(crate::specs::Reading::levels), using(crate::proofs::Loops::length_kinds))]
 #[cycle(expr)]
 fn negated(alloc: Global, depth: u8, tokens: &[Token]) -> Result<(Box<Expr>, &[Token]), Refusal>
-    ensures { Gives (λ x. (view x.0.value, kinds_of x.1.now)) result (read most_operators depth 6 (kinds_of tokens.now)) }
+    ensures { Gives (λ x. (view x.0.value, kinds_of x.1.now)) result (read most_operators depth (rank heights.Negation) (kinds_of tokens.now)) }
 {
     match eat(tokens, Terminal::Not) {
         Some(rest) => {
             let inside = deeper(depth, tokens.len())?;
-            let (operand, rest) = at(alloc, 6, inside, rest)?;
+            let (operand, rest) = at(alloc, Height::Negation, inside, rest)?;
             Ok((Box::new(alloc, Expr::Not(operand))?, rest))
         }
-        None => at(alloc, 5, depth, tokens),
+        None => at(alloc, Height::Test, depth, tokens),
     }
 }
 
 #[tactic(auto, unfolding(crate::specs::Reading::levels), using(crate::proofs::Loops::length_kinds))]
 #[cycle(expr)]
 fn signed(alloc: Global, depth: u8, tokens: &[Token]) -> Result<(Box<Expr>, &[Token]), Refusal>
-    ensures { Gives (λ x. (view x.0.value, kinds_of x.1.now)) result (read most_operators depth 1 (kinds_of tokens.now)) }
+    ensures { Gives (λ x. (view x.0.value, kinds_of x.1.now)) result (read most_operators depth (rank heights.Sign) (kinds_of tokens.now)) }
 {
     match sign_at(tokens) {
         Some((sign, rest)) => {
             let inside = deeper(depth, tokens.len())?;
-            let (operand, rest) = at(alloc, 1, inside, rest)?;
+            let (operand, rest) = at(alloc, Height::Sign, inside, rest)?;
             Ok((Box::new(alloc, Expr::Signed(sign, operand))?, rest))
         }
-        None => at(alloc, 0, depth, tokens),
+        None => at(alloc, Height::Primary, depth, tokens),
     }
 }
 
@@ -296,7 +297,7 @@ fn led_by(
 #[tactic(auto, unfolding(crate::specs::Reading::bracket_at))]
 #[cycle(expr)]
 fn bracket(alloc: Global, depth: u8, tokens: &[Token]) -> Result<(Box<Expr>, &[Token]), Refusal>
-    ensures { Gives (λ x. (view x.0.value, kinds_of x.1.now)) result (bracket_at (read most_operators depth 8) (kinds_of tokens.now)) }
+    ensures { Gives (λ x. (view x.0.value, kinds_of x.1.now)) result (bracket_at (read most_operators depth whole_height) (kinds_of tokens.now)) }
 {
     let (inside, rest) = at(alloc, WHOLE, depth, tokens)?;
     let rest = expect(rest, Terminal::RightBracket)?;
@@ -381,7 +382,7 @@ fn arguments(
     depth: u8,
     tokens: &[Token],
 ) -> Result<(Option<Vec<Expr>>, &[Token]), Refusal>
-    ensures { Gives (λ x. (view_arguments x.0, kinds_of x.1.now)) result (arguments_at (read most_operators depth 8) (kinds_of tokens.now)) }
+    ensures { Gives (λ x. (view_arguments x.0, kinds_of x.1.now)) result (arguments_at (read most_operators depth whole_height) (kinds_of tokens.now)) }
 {
     if let Some(rest) = eat(tokens, Terminal::Star) {
         let rest = expect(rest, Terminal::RightBracket)?;
@@ -425,7 +426,7 @@ fn over(
 #[tactic(auto, unfolding(wd_cursor::specs::Cursor::list_at))]
 #[cycle(expr)]
 fn list(alloc: Global, depth: u8, tokens: &[Token]) -> Result<(Vec<Expr>, &[Token]), Refusal>
-    ensures { Gives (λ x. (map view x.0.items, kinds_of x.1.now)) result (list_at m.Comma (read most_operators depth 8) (kinds_of tokens.now)) }
+    ensures { Gives (λ x. (map view x.0.items, kinds_of x.1.now)) result (list_at m.Comma (read most_operators depth whole_height) (kinds_of tokens.now)) }
 {
     let (first, mut rest) = at(alloc, WHOLE, depth, tokens)?;
     let mut items = Vec::new(alloc);
@@ -445,7 +446,7 @@ fn list(alloc: Global, depth: u8, tokens: &[Token]) -> Result<(Vec<Expr>, &[Toke
 #[tactic(auto, unfolding(crate::specs::Reading::arm_at))]
 #[cycle(expr)]
 fn arm(alloc: Global, depth: u8, tokens: &[Token]) -> Result<(Arm, &[Token]), Refusal>
-    ensures { Gives (λ x. (view_arm x.0, kinds_of x.1.now)) result (arm_at (read most_operators depth 8) (kinds_of tokens.now)) }
+    ensures { Gives (λ x. (view_arm x.0, kinds_of x.1.now)) result (arm_at (read most_operators depth whole_height) (kinds_of tokens.now)) }
 {
     let (when, rest) = at(alloc, WHOLE, depth, tokens)?;
     let rest = expect(rest, Terminal::Then)?;
@@ -463,7 +464,7 @@ fn arm(alloc: Global, depth: u8, tokens: &[Token]) -> Result<(Arm, &[Token]), Re
 #[tactic(auto, unfolding(wd_cursor::specs::Cursor::list_at))]
 #[cycle(expr)]
 fn arms(alloc: Global, depth: u8, tokens: &[Token]) -> Result<(Vec<Arm>, &[Token]), Refusal>
-    ensures { Gives (λ x. (map view_arm x.0.items, kinds_of x.1.now)) result (list_at m.When (arm_at (read most_operators depth 8)) (kinds_of tokens.now)) }
+    ensures { Gives (λ x. (map view_arm x.0.items, kinds_of x.1.now)) result (list_at m.When (arm_at (read most_operators depth whole_height)) (kinds_of tokens.now)) }
 {
     let (first, mut rest) = arm(alloc, depth, tokens)?;
     let mut items = Vec::new(alloc);
@@ -487,7 +488,7 @@ fn otherwise(
     depth: u8,
     tokens: &[Token],
 ) -> Result<(Option<Box<Expr>>, &[Token]), Refusal>
-    ensures { Gives (λ x. (view_else_option x.0, kinds_of x.1.now)) result (else_at (read most_operators depth 8) (kinds_of tokens.now)) }
+    ensures { Gives (λ x. (view_else_option x.0, kinds_of x.1.now)) result (else_at (read most_operators depth whole_height) (kinds_of tokens.now)) }
 {
     match eat(tokens, Terminal::Else) {
         Some(rest) => {
@@ -502,7 +503,7 @@ fn otherwise(
 #[tactic(auto, unfolding(crate::specs::Reading::case_at))]
 #[cycle(expr)]
 fn case(alloc: Global, depth: u8, tokens: &[Token]) -> Result<(Box<Expr>, &[Token]), Refusal>
-    ensures { Gives (λ x. (view x.0.value, kinds_of x.1.now)) result (case_at (read most_operators depth 8) (kinds_of tokens.now)) }
+    ensures { Gives (λ x. (view x.0.value, kinds_of x.1.now)) result (case_at (read most_operators depth whole_height) (kinds_of tokens.now)) }
 {
     let rest = expect(tokens, Terminal::When)?;
     let (arms, rest) = arms(alloc, depth, rest)?;
@@ -515,7 +516,7 @@ fn case(alloc: Global, depth: u8, tokens: &[Token]) -> Result<(Box<Expr>, &[Toke
 #[tactic(auto, unfolding(crate::specs::Reading::key_at))]
 #[cycle(expr)]
 fn key(alloc: Global, depth: u8, tokens: &[Token]) -> Result<(SortKey, &[Token]), Refusal>
-    ensures { Gives (λ x. (view_key x.0, kinds_of x.1.now)) result (key_at (read most_operators depth 8) (kinds_of tokens.now)) }
+    ensures { Gives (λ x. (view_key x.0, kinds_of x.1.now)) result (key_at (read most_operators depth whole_height) (kinds_of tokens.now)) }
 {
     let (expr, rest) = at(alloc, WHOLE, depth, tokens)?;
     let (direction, rest) = direction_at(rest);
@@ -534,7 +535,7 @@ fn key(alloc: Global, depth: u8, tokens: &[Token]) -> Result<(SortKey, &[Token])
 #[tactic(auto, unfolding(wd_cursor::specs::Cursor::list_at))]
 #[cycle(expr)]
 fn keys(alloc: Global, depth: u8, tokens: &[Token]) -> Result<(Vec<SortKey>, &[Token]), Refusal>
-    ensures { Gives (λ x. (map view_key x.0.items, kinds_of x.1.now)) result (list_at m.Comma (key_at (read most_operators depth 8)) (kinds_of tokens.now)) }
+    ensures { Gives (λ x. (map view_key x.0.items, kinds_of x.1.now)) result (list_at m.Comma (key_at (read most_operators depth whole_height)) (kinds_of tokens.now)) }
 {
     let (first, mut rest) = key(alloc, depth, tokens)?;
     let mut items = Vec::new(alloc);
@@ -558,7 +559,7 @@ pub fn order(
     depth: u8,
     tokens: &[Token],
 ) -> Result<(Vec<SortKey>, &[Token]), Refusal>
-    ensures { Gives (λ x. (map view_key x.0.items, kinds_of x.1.now)) result (order_at (read most_operators depth 8) (kinds_of tokens.now)) }
+    ensures { Gives (λ x. (map view_key x.0.items, kinds_of x.1.now)) result (order_at (read most_operators depth whole_height) (kinds_of tokens.now)) }
 {
     match eat(tokens, Terminal::Order) {
         Some(rest) => {
@@ -573,7 +574,7 @@ pub fn order(
 #[tactic(auto, unfolding(crate::specs::Reading::partition_at))]
 #[cycle(expr)]
 fn partition(alloc: Global, depth: u8, tokens: &[Token]) -> Result<(Vec<Expr>, &[Token]), Refusal>
-    ensures { Gives (λ x. (map view x.0.items, kinds_of x.1.now)) result (partition_at (read most_operators depth 8) (kinds_of tokens.now)) }
+    ensures { Gives (λ x. (map view x.0.items, kinds_of x.1.now)) result (partition_at (read most_operators depth whole_height) (kinds_of tokens.now)) }
 {
     match eat(tokens, Terminal::Partition) {
         Some(rest) => {
@@ -599,7 +600,7 @@ fn base_at(alloc: Global, tokens: &[Token]) -> Result<(Option<Name>, &[Token]), 
 #[tactic(auto, unfolding(crate::specs::Reading::window_at))]
 #[cycle(expr)]
 pub fn window(alloc: Global, depth: u8, tokens: &[Token]) -> Result<(Window, &[Token]), Refusal>
-    ensures { Gives (λ x. (view_window x.0, kinds_of x.1.now)) result (window_at (read most_operators depth 8) (kinds_of tokens.now)) }
+    ensures { Gives (λ x. (view_window x.0, kinds_of x.1.now)) result (window_at (read most_operators depth whole_height) (kinds_of tokens.now)) }
 {
     let (base, rest) = base_at(alloc, tokens)?;
     let (partition, rest) = partition(alloc, depth, rest)?;

@@ -1,13 +1,13 @@
 //! Operators and signs.
 
-ghost use Rattle.std.specs.Prelude.{◌≡◌};
+ghost use Rattle.std.specs.Prelude.{◌≡◌, ◌-◌};
 ghost use Rattle.wd_lex.specs.Lexed.{kinds_of};
 ghost use Rattle.wd_cursor.specs.Given.{Finds};
-ghost use Rattle.wd_syntax.specs.Tokens.{operator_height};
+ghost use Rattle.wd_syntax.specs.Tokens as spec;
 ghost use Rattle.wd_parse.specs.Reading.{operator_of, operator_at, sign_at};
 
 use wd_lex::{Terminal, Token, TokenKind};
-use wd_syntax::{Operator, Sign};
+use wd_syntax::{Height, Operator, Sign};
 
 fn operator_of(terminal: Terminal) -> Option<Operator>
     ensures { result ≡ operator_of terminal }
@@ -31,27 +31,60 @@ fn operator_of(terminal: Terminal) -> Option<Operator>
 }
 
 /// How loosely an operator binds.
-fn operator_height(operator: Operator) -> u8
-    ensures { result ≡ operator_height operator }
+fn binding(operator: Operator) -> Height
+    ensures { result ≡ spec.binding operator }
 {
     match operator {
-        Operator::Or => 8,
-        Operator::And => 7,
+        Operator::Or => Height::Disjunction,
+        Operator::And => Height::Conjunction,
         Operator::Equal
         | Operator::NotEqual
         | Operator::Less
         | Operator::LessOrEqual
         | Operator::Greater
-        | Operator::GreaterOrEqual => 4,
-        Operator::Add | Operator::Subtract => 3,
-        Operator::Multiply | Operator::Divide | Operator::Remainder => 2,
+        | Operator::GreaterOrEqual => Height::Comparison,
+        Operator::Add | Operator::Subtract => Height::Sum,
+        Operator::Multiply | Operator::Divide | Operator::Remainder => Height::Product,
     }
 }
 
-/// An operator of that height, where one stands first: 2 `* / %`, 3 `+ -`, 4 a comparison, 7 AND, 8 OR.
+/// The height as a number: the lower, the tighter.
+fn rank(height: Height) -> u8
+    ensures { result ≡ spec.rank height }
+{
+    match height {
+        Height::Primary => 0,
+        Height::Sign => 1,
+        Height::Product => 2,
+        Height::Sum => 3,
+        Height::Comparison => 4,
+        Height::Test => 5,
+        Height::Negation => 6,
+        Height::Conjunction => 7,
+        Height::Disjunction => 8,
+    }
+}
+
+/// The next height that binds tighter; a primary expression's own.
+pub fn tighter(height: Height) -> Height
+    ensures { spec.rank result ≡ spec.rank height - 1 }
+{
+    match height {
+        Height::Primary | Height::Sign => Height::Primary,
+        Height::Product => Height::Sign,
+        Height::Sum => Height::Product,
+        Height::Comparison => Height::Sum,
+        Height::Test => Height::Comparison,
+        Height::Negation => Height::Test,
+        Height::Conjunction => Height::Negation,
+        Height::Disjunction => Height::Conjunction,
+    }
+}
+
+/// An operator of that height, where one stands first.
 #[tactic(auto, unfolding(crate::specs::Reading::operator_at))]
-pub fn operator_at(tokens: &[Token], height: u8) -> Option<(Operator, &[Token])>
-    ensures { Finds (λ x. (x.0, kinds_of x.1.now)) result (operator_at height (kinds_of tokens.now)) }
+pub fn operator_at(tokens: &[Token], height: Height) -> Option<(Operator, &[Token])>
+    ensures { Finds (λ x. (x.0, kinds_of x.1.now)) result (operator_at (spec.rank height) (kinds_of tokens.now)) }
 {
     match tokens {
         [
@@ -62,7 +95,7 @@ pub fn operator_at(tokens: &[Token], height: u8) -> Option<(Operator, &[Token])>
             rest @ ..,
         ] => match operator_of(*first) {
             Some(operator) => {
-                if operator_height(operator) == height {
+                if rank(binding(operator)) == rank(height) {
                     Some((operator, rest))
                 } else {
                     None

@@ -3,6 +3,7 @@
 ghost use Rattle.std.specs.Prelude.{◌≡◌, length, map};
 ghost use Rattle.wd_lex.specs.Lexed.{kinds_of};
 ghost use Rattle.wd_syntax.specs.Limits.{most_levels, most_operators};
+ghost use Rattle.wd_syntax.specs.Tokens.{whole_height};
 ghost use Rattle.wd_syntax.specs.Tree.{derived, query};
 ghost use Rattle.wd_syntax.specs.View.{view_item, view_named_window, view_option, view_table, view_joined, view_select, view_query};
 ghost use Rattle.wd_parse.specs.Reading.{read, deeper_of, inside_of, selects, quantifier_at, given_at, alias_at, star_at, filter_at, windows_at, table_at, inner_at, join_at, from_at, if_last, whole};
@@ -119,6 +120,7 @@ struct Items {
 
 impl Reader for Items {
     ghost use Rattle.wd_syntax.specs.Tree.{ItemTree};
+    ghost use Rattle.wd_syntax.specs.Tokens.{whole_height};
     ghost use Rattle.wd_syntax.specs.Limits.{most_operators};
     ghost use Rattle.wd_syntax.specs.View.{view_item};
     ghost use Rattle.wd_parse.specs.Reading.{read, item_at};
@@ -129,7 +131,7 @@ impl Reader for Items {
 
     ghost tree = { view_item };
 
-    ghost item = { λ items. item_at (read most_operators items.depth 8) };
+    ghost item = { λ items. item_at (read most_operators items.depth whole_height) };
 
     #[tactic(auto, unfolding(crate::specs::Reading::item_at))]
     fn read<'t>(&self, alloc: Global, tokens: &'t [Token]) -> Result<(Item, &'t [Token]), Refusal> {
@@ -148,7 +150,7 @@ impl Reader for Items {
 /// `[WHERE expr]`
 #[tactic(auto, unfolding(crate::specs::Reading::filter_at))]
 fn filter(alloc: Global, depth: u8, tokens: &[Token]) -> Result<(Option<Expr>, &[Token]), Refusal>
-    ensures { Gives (λ x. (view_option x.0, kinds_of x.1.now)) result (filter_at (read most_operators depth 8) (kinds_of tokens.now)) }
+    ensures { Gives (λ x. (view_option x.0, kinds_of x.1.now)) result (filter_at (read most_operators depth whole_height) (kinds_of tokens.now)) }
 {
     match eat(tokens, Terminal::Where) {
         Some(rest) => {
@@ -248,7 +250,7 @@ fn inner(
     with_inner: bool,
     tokens: &[Token],
 ) -> Result<(Joined, &[Token]), Refusal>
-    ensures { Gives (λ x. (view_joined x.0, kinds_of x.1.now)) result (inner_at (inside_of most_operators depth) (read most_operators depth 8) with_inner (kinds_of tokens.now)) }
+    ensures { Gives (λ x. (view_joined x.0, kinds_of x.1.now)) result (inner_at (inside_of most_operators depth) (read most_operators depth whole_height) with_inner (kinds_of tokens.now)) }
 {
     let (table, rest) = table(alloc, depth, tokens)?;
     let rest = expect(rest, Terminal::On)?;
@@ -260,7 +262,7 @@ fn inner(
 #[tactic(auto, unfolding(crate::specs::Reading::join_at))]
 #[cycle(select)]
 fn joined(alloc: Global, depth: u8, tokens: &[Token]) -> Result<Option<(Joined, &[Token])>, Refusal>
-    ensures { MayGive (λ x. (view_joined x.0, kinds_of x.1.now)) result (join_at (inside_of most_operators depth) (read most_operators depth 8) (kinds_of tokens.now)) }
+    ensures { MayGive (λ x. (view_joined x.0, kinds_of x.1.now)) result (join_at (inside_of most_operators depth) (read most_operators depth whole_height) (kinds_of tokens.now)) }
 {
     if let Some(rest) = eat(tokens, Terminal::Comma) {
         let (table, rest) = table(alloc, depth, rest)?;
@@ -288,7 +290,7 @@ fn joined(alloc: Global, depth: u8, tokens: &[Token]) -> Result<Option<(Joined, 
 /// The tables after the first.
 #[cycle(select)]
 fn joins(alloc: Global, depth: u8, tokens: &[Token]) -> Result<(Vec<Joined>, &[Token]), Refusal>
-    ensures { Gives (λ x. (map view_joined x.0.items, kinds_of x.1.now)) result (many (join_at (inside_of most_operators depth) (read most_operators depth 8)) (length (kinds_of tokens.now)) (kinds_of tokens.now)) }
+    ensures { Gives (λ x. (map view_joined x.0.items, kinds_of x.1.now)) result (many (join_at (inside_of most_operators depth) (read most_operators depth whole_height)) (length (kinds_of tokens.now)) (kinds_of tokens.now)) }
 {
     let mut items = Vec::new(alloc);
     let mut rest = tokens;
@@ -306,7 +308,7 @@ fn joins(alloc: Global, depth: u8, tokens: &[Token]) -> Result<(Vec<Joined>, &[T
 #[tactic(auto, unfolding(crate::specs::Reading::from_at))]
 #[cycle(select)]
 fn from(alloc: Global, depth: u8, tokens: &[Token]) -> Result<(From, &[Token]), Refusal>
-    ensures { Gives (λ x. (view_from x.0, kinds_of x.1.now)) result (from_at (inside_of most_operators depth) (read most_operators depth 8) (kinds_of tokens.now)) }
+    ensures { Gives (λ x. (view_from x.0, kinds_of x.1.now)) result (from_at (inside_of most_operators depth) (read most_operators depth whole_height) (kinds_of tokens.now)) }
 {
     let (first, rest) = table(alloc, depth, tokens)?;
     let (joined, rest) = joins(alloc, depth, rest)?;

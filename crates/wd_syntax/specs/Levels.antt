@@ -1,19 +1,24 @@
 -- Well-levelled trees: each operand binds at least as tightly as its place asks, and no list that needs a member is empty.
 use Rattle.std.specs.Prelude.{ℕ, ◌≤◌, ◌<◌, ◌==◌, if◌then◌else◌, List, [], ◌∷◌, Option, Some, None}
 use Rattle.wd_syntax.specs.declared.expression.Operator.{Operator}
-use Rattle.wd_syntax.specs.Tokens.{primary_height, sign_height, sum_height, comparison_height, test_height, negation_height, operator_height}
+use Rattle.wd_syntax.specs.declared.expression.Height.{Height}
+use Rattle.wd_syntax.specs.declared.expression.Height.TheVariants as h
+use Rattle.wd_syntax.specs.Tokens.{binding, operator_height, rank}
 use Rattle.wd_syntax.specs.Tree.{Tree, Constant, Column, Qualified, CallAll, Call, Case, Bracket, Signed, Binary, IsNull, Negated, Trees, no_trees, more_trees, Arms, no_arms, more_arms, Otherwise, no_else, or_else, OverTree, no_over, over_name, over_window, WindowTree, window, Keys, no_keys, more_keys, ItemTree, all_columns, all_of, shown, TableTree, named, derived, JoinTree, comma, cross, inner, Joins, no_joins, more_joins, SelectTree, select, QueryTree, query, Each}
 
+abbrev pub height_of : Tree → Height
+height_of (Signed s a) = h.Sign
+height_of (Binary o a b) = binding o
+height_of (IsNull a not) = h.Test
+height_of (Negated a) = h.Negation
+height_of _ = h.Primary
+
 abbrev pub height : Tree → ℕ
-height (Signed s a) = sign_height
-height (Binary o a b) = operator_height o
-height (IsNull a not) = test_height
-height (Negated a) = negation_height
-height _ = primary_height
+height a = rank (height_of a)
 
 -- the loosest that may stand on the left: a chain goes on, a comparison does not
 abbrev pub left_height : Operator → ℕ
-left_height o = if operator_height o == comparison_height then sum_height else operator_height o
+left_height o = if operator_height o == rank h.Comparison then rank h.Sum else operator_height o
 
 abbrev pub IsSomeArm : Arms → Type 0
 IsSomeArm no_arms = ⊥
@@ -28,10 +33,10 @@ abbrev mutual
   IsLevelled (Call f bs over) = AreLevelled bs × OverLevelled over
   IsLevelled (Case arms other) = IsSomeArm arms × ArmsLevelled arms × ElseLevelled other
   IsLevelled (Bracket a) = IsLevelled a
-  IsLevelled (Signed s a) = IsLevelled a × (height a ≤ sign_height)
+  IsLevelled (Signed s a) = IsLevelled a × (height a ≤ rank h.Sign)
   IsLevelled (Binary o a b) = IsLevelled a × (height a ≤ left_height o) × IsLevelled b × (height b < operator_height o)
-  IsLevelled (IsNull a not) = IsLevelled a × (height a ≤ test_height)
-  IsLevelled (Negated a) = IsLevelled a × (height a ≤ negation_height)
+  IsLevelled (IsNull a not) = IsLevelled a × (height a ≤ rank h.Test)
+  IsLevelled (Negated a) = IsLevelled a × (height a ≤ rank h.Negation)
 
   pub AreLevelled : Trees → Type 0
   AreLevelled no_trees = Unit {0}

@@ -5,7 +5,8 @@ use Rattle.wd_lex.specs.declared.token.Terminal.TheVariants as m
 use Rattle.wd_lex.specs.declared.token.TokenKind.{TokenKind}
 use Rattle.wd_cursor.specs.declared.name.Name.{Name}
 use Rattle.wd_cursor.specs.Tokens.{Kinds, ◌▸◌}
-use Rattle.wd_syntax.specs.Tokens.{operator_terminal, test_height, operator_height}
+use Rattle.wd_syntax.specs.declared.expression.Height.TheVariants.{Test}
+use Rattle.wd_syntax.specs.Tokens.{operator_terminal, operator_height, rank}
 use Rattle.wd_syntax.specs.Tree.{Tree, Constant, Column, Qualified, CallAll, Call, Case, Bracket, Signed, Binary, IsNull, Negated, Trees, no_trees, more_trees, Arms, no_arms, more_arms, Otherwise, no_else, or_else, OverTree, no_over, over_name, over_window, WindowTree, window, Keys, no_keys, more_keys, ItemTree, all_columns, all_of, shown, Tail, TableTree, named, derived, JoinTree, comma, cross, inner, Joins, no_joins, more_joins, SelectTree, select, QueryTree, query, Each, One}
 use Rattle.wd_syntax.specs.Spelling.{frame_onto, direction_onto, nulls_onto, not_onto, onto, list_onto, more_onto, arms_onto, else_onto, over_onto, window_onto, order_onto, more_keys_onto, given_onto, alias_onto, more_items_onto, more_windows_onto, windows_onto, limits_onto, tail_onto, table_onto, joins_onto, end_onto, spell}
 use Rattle.wd_syntax.specs.Levels.{IsWellLevelled}
@@ -27,7 +28,7 @@ opened n from within = record { weight = level (suc n); from = from } ∷ within
 -- the operators of that height on the left of a chain
 abbrev pub operators : ℕ → Tree → ℕ
 operators h (Binary o a b) = if operator_height o == h then suc (operators h a) else 0
-operators h (IsNull a not) = if test_height == h then suc (operators h a) else 0
+operators h (IsNull a not) = if rank Test == h then suc (operators h a) else 0
 operators h _ = 0
 
 -- the last operator of a chain of that height
@@ -46,7 +47,7 @@ abbrev mutual
   marks n (Bracket a) ts = opened n (onto (Bracket a) ts) (λ k. marks k a (m.RightBracket ▸ ts))
   marks n (Signed s a) ts = opened n (onto (Signed s a) ts) (λ k. marks k a ts)
   marks n (Binary o a b) ts = marks n a (operator_terminal o ▸ onto b ts) ++ linked (operator_height o) (Binary o a b) (operator_terminal o ▸ onto b ts) ∷ marks n b ts
-  marks n (IsNull a not) ts = marks n a (m.Is ▸ not_onto not (m.Null ▸ ts)) ++ linked test_height (IsNull a not) (m.Is ▸ not_onto not (m.Null ▸ ts)) ∷ []
+  marks n (IsNull a not) ts = marks n a (m.Is ▸ not_onto not (m.Null ▸ ts)) ++ linked (rank Test) (IsNull a not) (m.Is ▸ not_onto not (m.Null ▸ ts)) ∷ []
   marks n (Negated a) ts = opened n (onto (Negated a) ts) (λ k. marks k a ts)
 
   pub list_marks : ℕ → Trees → Kinds → List Mark

@@ -6,6 +6,8 @@ use Rattle.wd_lex.specs.declared.token.TokenKind.{TokenKind}
 use Rattle.wd_lex.specs.declared.token.TokenKind.TheVariants as t
 use Rattle.wd_syntax.specs.declared.expression.Operator.{Operator}
 use Rattle.wd_syntax.specs.declared.expression.Operator.TheVariants as o
+use Rattle.wd_syntax.specs.declared.expression.Height.{Height}
+use Rattle.wd_syntax.specs.declared.expression.Height.TheVariants as h
 use Rattle.wd_syntax.specs.declared.expression.Sign.{Sign}
 use Rattle.wd_syntax.specs.declared.expression.Sign.TheVariants as s
 use Rattle.wd_syntax.specs.declared.expression.Literal.{Literal}
@@ -37,47 +39,38 @@ abbrev pub sign_terminal : Sign → Terminal
 sign_terminal s.Plus = m.Plus
 sign_terminal s.Minus = m.Minus
 
--- How loosely an expression binds, from 0: the lower a height, the tighter.
-abbrev pub primary_height : ℕ
-primary_height = 0
+-- ---- how loosely expressions bind
 
-abbrev pub sign_height : ℕ
-sign_height = 1
+-- heights as numbers: the lower, the tighter
+abbrev pub rank : Height → ℕ
+rank h.Primary = 0
+rank h.Sign = 1
+rank h.Product = 2
+rank h.Sum = 3
+rank h.Comparison = 4
+rank h.Test = 5
+rank h.Negation = 6
+rank h.Conjunction = 7
+rank h.Disjunction = 8
 
-abbrev pub product_height : ℕ
-product_height = 2
+-- a whole expression may bind as loosely as any
+abbrev pub whole_height : ℕ
+whole_height = rank h.Disjunction
 
-abbrev pub sum_height : ℕ
-sum_height = 3
-
-abbrev pub comparison_height : ℕ
-comparison_height = 4
-
--- a test for NULL
-abbrev pub test_height : ℕ
-test_height = 5
-
--- NOT before an operand
-abbrev pub negation_height : ℕ
-negation_height = 6
-
-abbrev pub conjunction_height : ℕ
-conjunction_height = 7
-
-abbrev pub disjunction_height : ℕ
-disjunction_height = 8
+abbrev pub binding : Operator → Height
+binding o.Or = h.Disjunction
+binding o.And = h.Conjunction
+binding o.Equal = h.Comparison
+binding o.NotEqual = h.Comparison
+binding o.Less = h.Comparison
+binding o.LessOrEqual = h.Comparison
+binding o.Greater = h.Comparison
+binding o.GreaterOrEqual = h.Comparison
+binding o.Add = h.Sum
+binding o.Subtract = h.Sum
+binding o.Multiply = h.Product
+binding o.Divide = h.Product
+binding o.Remainder = h.Product
 
 abbrev pub operator_height : Operator → ℕ
-operator_height o.Or = disjunction_height
-operator_height o.And = conjunction_height
-operator_height o.Equal = comparison_height
-operator_height o.NotEqual = comparison_height
-operator_height o.Less = comparison_height
-operator_height o.LessOrEqual = comparison_height
-operator_height o.Greater = comparison_height
-operator_height o.GreaterOrEqual = comparison_height
-operator_height o.Add = sum_height
-operator_height o.Subtract = sum_height
-operator_height o.Multiply = product_height
-operator_height o.Divide = product_height
-operator_height o.Remainder = product_height
+operator_height o = rank (binding o)

@@ -22,6 +22,27 @@ pub enum Operator {
     Remainder,
 }
 
+/// How loosely an expression binds, from the tightest on.
+#[derive(Clone, Copy)]
+pub enum Height {
+    /// A literal, a name, a call, a CASE, or what stands between brackets.
+    Primary,
+    Sign,
+    /// `* / %`
+    Product,
+    /// `+ -`
+    Sum,
+    Comparison,
+    /// A test for NULL.
+    Test,
+    /// NOT before an operand.
+    Negation,
+    /// AND
+    Conjunction,
+    /// OR
+    Disjunction,
+}
+
 #[derive(Clone, Copy, Debug, PartialEq, Eq)]
 pub enum Sign {
     Plus,

@@ -6,7 +6,8 @@ mod frame;
 mod query;
 
 pub use expression::{
-    Arm, Expr, Link, Literal, NullsPlace, Operator, Over, Sign, SortDirection, SortKey, Window,
+    Arm, Expr, Height, Link, Literal, NullsPlace, Operator, Over, Sign, SortDirection, SortKey,
+    Window,
 };
 pub use frame::{Bound, Exclusion, Extent, Frame, FrameMode};
 pub use query::{

@@ -1,6 +1,7 @@
 use Rattle.std.proofs.Common.{◌-◌, length, map, refl}
 use Rattle.std.proofs.lemmas.Result.{err_from_is_err_and}
 use Rattle.wd_lex.specs.Lexed.{kinds_of}
+use Rattle.wd_syntax.specs.Tokens.{rank}
 use Rattle.wd_lex.specs.declared.token.Terminal.TheVariants as m
 use Rattle.wd_syntax.specs.View.{view, view_link, chained, view_arm, view_key}
 use Rattle.wd_parse.specs.Reading.{read, links, arm_at, key_at}
@@ -12,15 +13,15 @@ use Rattle.wd_parse.proofs.expr.+expr.Goals as goal
 pub links-returns-in_err-right : goal.links-returns-in_err-right
 links-returns-in_err-right t c =
     let p = err_from_is_err_and c.from_residual-in_err-right.result c.from_residual-in_err-right.ensures.1 in
-    rw (p.1, p.2) (links_fail c.in_err-right.field-0.0 (read 200 c.args.depth (c.args.height - 1)) c.args.height c.loop.counter (chained (view c.args.first.value) (map view_link c.loop.items.items)) (kinds_of c.loop.rest.now) c.in-Some.operator (kinds_of c.in-Some.after.now) (links (read 200 c.args.depth (c.args.height - 1)) c.args.height 200 (view c.args.first.value) (kinds_of c.args.tokens.now)) c.loop-test.true c.in-Some.ensures c.in_err-right.ensures c.loop.invariant)
+    rw (p.1, p.2) (links_fail c.in_err-right.field-0.0 (read 200 c.args.depth (rank c.args.height - 1)) (rank c.args.height) c.loop.counter (chained (view c.args.first.value) (map view_link c.loop.items.items)) (kinds_of c.loop.rest.now) c.in-Some.operator (kinds_of c.in-Some.after.now) (links (read 200 c.args.depth (rank c.args.height - 1)) (rank c.args.height) 200 (view c.args.first.value) (kinds_of c.args.tokens.now)) c.loop-test.true c.in-Some.ensures (rw c.tighter.ensures at c.in_err-right.ensures) c.loop.invariant)
 
 pub links-loop-preserved : goal.links-loop-preserved
 links-loop-preserved t c =
-    rw c.in_ok-push.ensures.items (links_more (read 200 c.args.depth (c.args.height - 1)) c.args.height c.loop.counter (view c.args.first.value) c.loop.items.items (record { operator = c.in-Some.operator; operand = c.into_inner.result }) (kinds_of c.loop.rest.now) (kinds_of c.in-Some.after.now) (kinds_of c.in_ok-right.after.now) (links (read 200 c.args.depth (c.args.height - 1)) c.args.height 200 (view c.args.first.value) (kinds_of c.args.tokens.now)) c.loop-test.true c.in-Some.ensures (rw c.into_inner.ensures c.in_ok-right.ensures) c.loop.invariant)
+    rw c.in_ok-push.ensures.items (links_more (read 200 c.args.depth (rank c.args.height - 1)) (rank c.args.height) c.loop.counter (view c.args.first.value) c.loop.items.items (record { operator = c.in-Some.operator; operand = c.into_inner.result }) (kinds_of c.loop.rest.now) (kinds_of c.in-Some.after.now) (kinds_of c.in_ok-right.after.now) (links (read 200 c.args.depth (rank c.args.height - 1)) (rank c.args.height) 200 (view c.args.first.value) (kinds_of c.args.tokens.now)) c.loop-test.true c.in-Some.ensures (rw c.into_inner.ensures (rw c.tighter.ensures at c.in_ok-right.ensures)) c.loop.invariant)
 
 pub links-returns-in-Some-operator_at : goal.links-returns-in-Some-operator_at
 links-returns-in-Some-operator_at t c =
-    links_full (read 200 c.args.depth (c.args.height - 1)) c.args.height c.loop.counter (chained (view c.args.first.value) (map view_link c.loop.items.items)) (kinds_of c.loop.rest.now) (c.in-Some-operator_at.field-0.0, kinds_of c.in-Some-operator_at.field-0.1.now) (length c.loop.rest.now) (links (read 200 c.args.depth (c.args.height - 1)) c.args.height 200 (view c.args.first.value) (kinds_of c.args.tokens.now)) (length_kinds c.loop.rest.now) c.loop-test.false c.in-Some-operator_at.ensures c.loop.invariant
+    links_full (read 200 c.args.depth (rank c.args.height - 1)) (rank c.args.height) c.loop.counter (chained (view c.args.first.value) (map view_link c.loop.items.items)) (kinds_of c.loop.rest.now) (c.in-Some-operator_at.field-0.0, kinds_of c.in-Some-operator_at.field-0.1.now) (length c.loop.rest.now) (links (read 200 c.args.depth (rank c.args.height - 1)) (rank c.args.height) 200 (view c.args.first.value) (kinds_of c.args.tokens.now)) (length_kinds c.loop.rest.now) c.loop-test.false c.in-Some-operator_at.ensures c.loop.invariant
 
 pub list-returns-in_default : goal.list-returns-in_default
 list-returns-in_default t c =

@@ -1,5 +1,6 @@
 use Rattle.std.proofs.Common.{◌≡◌, ◌-◌, ◌+◌, ◌*◌, map}
 use Rattle.wd_lex.specs.Lexed.{kinds_of}
+use Rattle.wd_syntax.specs.Tokens.{rank}
 use Rattle.wd_lex.specs.declared.token.Terminal.TheVariants as m
 use Rattle.wd_syntax.specs.View.{view, view_link, chained, view_arm, view_key}
 use Rattle.wd_parse.specs.Reading.{read, links, arm_at, key_at}
@@ -9,13 +10,13 @@ use Rattle.wd_parse.proofs.expr.+expr.Given as goal
 
 -- A level is worth 60, a height 3, and a helper stands between its caller and what it calls.
 abbrev pub decreases-at : goal.decreases-at
-decreases-at l = 60 * l.depth + 3 * l.height + 20
+decreases-at l = 60 * l.depth + 3 * rank l.height + 20
 
 abbrev pub decreases-chain : goal.decreases-chain
-decreases-chain l = 60 * l.depth + 3 * l.height + 19
+decreases-chain l = 60 * l.depth + 3 * rank l.height + 19
 
 abbrev pub decreases-links : goal.decreases-links
-decreases-links l = 60 * l.depth + 3 * l.height + 18
+decreases-links l = 60 * l.depth + 3 * rank l.height + 18
 
 abbrev pub decreases-comparison : goal.decreases-comparison
 decreases-comparison l = 60 * l.depth + 31
@@ -82,7 +83,7 @@ decreases-window l = 60 * l.depth + 48
 
 -- what is still read, from what was read so far, is what was to be read
 abbrev pub invariant-links-loop : goal.invariant-links-loop
-invariant-links-loop l = links (read 200 l.depth (l.height - 1)) l.height (200 - l.counter) (chained (view l.first.value) (map view_link l.items.items)) (kinds_of l.rest) ≡ links (read 200 l.depth (l.height - 1)) l.height 200 (view l.fn.first.value) (kinds_of l.fn.tokens)
+invariant-links-loop l = links (read 200 l.depth (rank l.height - 1)) (rank l.height) (200 - l.counter) (chained (view l.first.value) (map view_link l.items.items)) (kinds_of l.rest) ≡ links (read 200 l.depth (rank l.height - 1)) (rank l.height) 200 (view l.fn.first.value) (kinds_of l.fn.tokens)
 
 abbrev pub invariant-list-loop : goal.invariant-list-loop
 invariant-list-loop l = with_front (map view l.items.items) (many (after m.Comma (read 200 l.depth 8)) (l.end - l.counter) (kinds_of l.rest)) ≡ list_at m.Comma (read 200 l.depth 8) (kinds_of l.fn.tokens)
