@@ -176,7 +176,7 @@ links operand h (suc n) a ts = link (operator_at h ts) operand a ts (λ b. links
 
 -- one comparison at most
 unfoldable pub compared : Parser Tree → Tree → Parser Tree
-compared operand a ts = link (operator_at 4 ts) operand a ts (λ b r. Ok (b, r))
+compared operand a ts = link (operator_at (rank height.Comparison) ts) operand a ts (λ b r. Ok (b, r))
 
 -- [NOT] NULL
 unfoldable pub null_at : Parser Bool
