@@ -7,7 +7,7 @@ use Rattle.wd_operand.specs.Causes.{Meant, ◌>>=◌}
 use Rattle.wd_operand.specs.Operands.{Operand, combined}
 use Rattle.wd_operand.specs.Operands as operands
 use Rattle.wd_scope.specs.Leaves.{SelectLeaf}
-use Rattle.wd_scope.specs.Resolving.{ContextRule, resolved, chain_meant, tests_meant}
+use Rattle.wd_scope.specs.Resolving.{ContextRule, resolved, chain_meant, tests_meant, tests_resolved}
 
 -- a meaning goes on as itself
 bind_whole : {A : Type 0} (m : Meant A) → m ≡ (m >>= λ x. Ok x)
@@ -18,7 +18,7 @@ bind_assoc : {A B C : Type 0} (m : Meant A) (f : A → Meant B) (g : B → Meant
 bind_assoc (Ok x) f g = refl
 bind_assoc (Err cause) f g = refl
 
-pub tests_mean : (c : ContextRule) (a : Tree) (nots : List Bool) → resolved c (tested a nots) ≡ (resolved c a >>= λ x. Ok (tests_meant nots x))
+pub tests_mean : (c : ContextRule) (a : Tree) (nots : List Bool) → resolved c (tested a nots) ≡ tests_resolved c a nots
 tests_mean c a [] = bind_whole (resolved c a)
 tests_mean c a (not ∷ nots) = tests_mean c (IsNull a not) nots ∙ bind_assoc (resolved c a) (λ x. Ok (operands.tested not x)) (λ x. Ok (tests_meant nots x))
 

@@ -1,5 +1,5 @@
 -- An expression whose leaves stand at columns of their kinds is of its kind, and typed, over these columns.
-use Rattle.std.proofs.Common.{◌≡◌, refl, ℕ, Option}
+use Rattle.std.proofs.Common.{◌≡◌, refl, ℕ, ◌++◌, Option}
 use Rattle.std.specs.List.{AllByRecursion}
 use Rattle.wd_plan.specs.declared.expression.ValueKind.{ValueKind}
 use Rattle.wd_plan.specs.Fits.{Kinds, is_typed, kind_of}
@@ -25,7 +25,7 @@ module _ {L : Type 0} (kinds : L → Option ValueKind) (at : L → ℕ) (others 
   seated_kind (Or a b) h = refl
   seated_kind (IsNull a) h = refl
   seated_kind (IsNotNull a) h = refl
-  seated_kind (Case branch a b c) h = seated_kind b (all_left IsSeated (leaves b) (leaves c) (all_right IsSeated (leaves a) _ h))
+  seated_kind (Case branch a b c) h = seated_kind b (all_right IsSeated (leaves a) (leaves b) (all_left IsSeated (leaves a ++ leaves b) (leaves c) h))
 
   pub seated_typed : (f : Formula L) → AreSeated f → is_typed others (seated at f) ≡ is_typed_over kinds f
   seated_typed (Leaf l) h = rw h.0 refl
@@ -39,8 +39,8 @@ module _ {L : Type 0} (kinds : L → Option ValueKind) (at : L → ℕ) (others 
   seated_typed (IsNull a) h = seated_typed a h
   seated_typed (IsNotNull a) h = seated_typed a h
   seated_typed (Case branch a b c) h =
-      let p = all_left IsSeated (leaves a) _ h in
-      let s = all_right IsSeated (leaves a) _ h in
-      let q = all_left IsSeated (leaves b) (leaves c) s in
-      let r = all_right IsSeated (leaves b) (leaves c) s in
+      let s = all_left IsSeated (leaves a ++ leaves b) (leaves c) h in
+      let p = all_left IsSeated (leaves a) (leaves b) s in
+      let q = all_right IsSeated (leaves a) (leaves b) s in
+      let r = all_right IsSeated (leaves a ++ leaves b) (leaves c) h in
       rw (seated_typed a p, seated_kind a p, seated_typed b q, seated_kind b q, seated_typed c r, seated_kind c r) refl

@@ -19,7 +19,7 @@ use Rattle.wd_operand.specs.Formulas.{Leaf, Literal, Negate, Arithmetic, Compare
 use Rattle.wd_operand.specs.Operands.{Operand, bare_null, settled, typed}
 use Rattle.wd_operand.specs.Operands as operands
 use Rattle.wd_scope.specs.Calls.{ArgumentMeaning, AggregateMeaning, count_of, sum_of, least_of, greatest_of, FunctionMeaning, ranking, away, value_at, aggregate}
-use Rattle.wd_scope.specs.Functions.{aggregate_over, applied, argument, default_of, numbers, ordered, over_arguments, over_none, over_one, over_star, over_three, over_two, shifted, whole}
+use Rattle.wd_scope.specs.Functions.{aggregate_over, applied, argument, default_of, numbers, ordered, over_argument, over_arguments, over_none, over_one, over_star, over_three, over_two, shifted, whole}
 use Rattle.wd_scope.specs.Leaves.{SelectLeaf, over_columns}
 use Rattle.wd_scope.specs.Scopes.{ScopeRule}
 use Rattle.wd_scope.specs.Typed.{IsAggregate, IsArgument, IsFunction, IsOperand, kinds_in}
@@ -77,6 +77,12 @@ module _ (scope : ScopeRule) where
       let e = bound (over_columns (settled x)) (λ e. Ok (record { expression = e; kind = operands.kind_of x })) a is in
       subst (λ (b : ArgumentMeaning). IsArgument kinds b × (b.kind ≡ operands.kind_of x)) (ok_is _ _ e.2) (over_columns_is scope (settled x) (operands.kind_of x) e.0 (settled_is scope x h) e.1, refl)
 
+  over_argument_is : (function : ArgumentMeaning → FunctionMeaning) (x : Operand SelectLeaf) (f : FunctionMeaning) → IsOperand scope x → ((a : ArgumentMeaning) → IsArgument kinds a → a.kind ≡ operands.kind_of x → IsFunction kinds (function a)) → over_argument function x ≡ Ok f → IsFunction kinds f
+  over_argument_is function x f h fits is =
+      let a = bound (argument x) (λ a. Ok (function a)) f is in
+      let g = argument_is x a.0 h a.1 in
+      subst (IsFunction kinds) (ok_is _ _ a.2) (fits a.0 g.0 g.1)
+
   numbers_is : (x : Operand SelectLeaf) (a : ArgumentMeaning) → IsOperand scope x → numbers x ≡ Ok a → IsArgument kinds a × (a.kind ≡ Number)
   numbers_is bare_null a h is = subst (λ (b : ArgumentMeaning). IsArgument kinds b × (b.kind ≡ Number)) (ok_is _ _ is) (record { is = refl; has = refl }, refl)
   numbers_is (typed e Number) a h is = argument_is (typed e Number) a h is
@@ -112,10 +118,10 @@ module _ (scope : ScopeRule) where
 
   one_is : (name : FunctionName) (x : Operand SelectLeaf) (f : FunctionMeaning) → IsOperand scope x → over_one name x ≡ Ok f → IsFunction kinds f
   one_is Ntile x f h is = let n = bound (whole 1 x) (λ buckets. Ok (ranking (rank.Ntile buckets))) f is in subst (IsFunction kinds) (ok_is _ _ n.2) (whole_least 1 x n.0 n.1)
-  one_is Lag x f h is = let a = bound (argument x) (λ a. Ok (away way.Lag a 1 Null)) f is in subst (IsFunction kinds) (ok_is _ _ a.2) ((argument_is x a.0 h a.1).0, null_is a.0.kind)
-  one_is Lead x f h is = let a = bound (argument x) (λ a. Ok (away way.Lead a 1 Null)) f is in subst (IsFunction kinds) (ok_is _ _ a.2) ((argument_is x a.0 h a.1).0, null_is a.0.kind)
-  one_is FirstValue x f h is = let a = bound (argument x) (λ a. Ok (value_at First a)) f is in subst (IsFunction kinds) (ok_is _ _ a.2) ((argument_is x a.0 h a.1).0, refl)
-  one_is LastValue x f h is = let a = bound (argument x) (λ a. Ok (value_at Last a)) f is in subst (IsFunction kinds) (ok_is _ _ a.2) ((argument_is x a.0 h a.1).0, refl)
+  one_is Lag x f h is = over_argument_is (λ a. away way.Lag a 1 Null) x f h (λ a g same. (g, null_is a.kind)) is
+  one_is Lead x f h is = over_argument_is (λ a. away way.Lead a 1 Null) x f h (λ a g same. (g, null_is a.kind)) is
+  one_is FirstValue x f h is = over_argument_is (value_at First) x f h (λ a g same. (g, refl)) is
+  one_is LastValue x f h is = over_argument_is (value_at Last) x f h (λ a g same. (g, refl)) is
   one_is RowNumber x f h is = cc
   one_is Rank x f h is = cc
   one_is DenseRank x f h is = cc
@@ -124,19 +130,16 @@ module _ (scope : ScopeRule) where
 
   shifted_is : (direction : Direction) (x k d : Operand SelectLeaf) (f : FunctionMeaning) → IsOperand scope x → IsOperand scope d → shifted direction x k d ≡ Ok f → IsFunction kinds f
   shifted_is direction x k d f h g is =
-      let n = bound (whole 0 k) (λ m. default_of (operands.kind_of x) d >>= λ default. argument x >>= λ a. Ok (away direction a m default)) f is in
-      let v = bound (default_of (operands.kind_of x) d) (λ default. argument x >>= λ a. Ok (away direction a n.0 default)) f n.2 in
-      let a = bound (argument x) (λ a. Ok (away direction a n.0 v.0)) f v.2 in
-      let r = argument_is x a.0 h a.1 in
-      subst (IsFunction kinds) (ok_is _ _ a.2) (r.0, rw r.1 (default_is (operands.kind_of x) d v.0 g v.1))
+      let n = bound (whole 0 k) (λ m. default_of (operands.kind_of x) d >>= λ default. over_argument (λ a. away direction a m default) x) f is in
+      let v = bound (default_of (operands.kind_of x) d) (λ default. over_argument (λ a. away direction a n.0 default) x) f n.2 in
+      over_argument_is (λ a. away direction a n.0 v.0) x f h (λ a i same. (i, rw same (default_is (operands.kind_of x) d v.0 g v.1))) v.2
 
   two_is : (name : FunctionName) (x y : Operand SelectLeaf) (f : FunctionMeaning) → IsOperand scope x → over_two name x y ≡ Ok f → IsFunction kinds f
   two_is Lag x k f h is = shifted_is way.Lag x k bare_null f h tt is
   two_is Lead x k f h is = shifted_is way.Lead x k bare_null f h tt is
   two_is NthValue x n f h is =
-      let m = bound (whole 1 n) (λ k. argument x >>= λ a. Ok (value_at (Nth k) a)) f is in
-      let a = bound (argument x) (λ a. Ok (value_at (Nth m.0) a)) f m.2 in
-      subst (IsFunction kinds) (ok_is _ _ a.2) ((argument_is x a.0 h a.1).0, whole_least 1 n m.0 m.1)
+      let m = bound (whole 1 n) (λ k. over_argument (value_at (Nth k)) x) f is in
+      over_argument_is (value_at (Nth m.0)) x f h (λ a g same. (g, whole_least 1 n m.0 m.1)) m.2
   two_is name x y f h is = cc
 
   three_is : (name : FunctionName) (x y z : Operand SelectLeaf) (f : FunctionMeaning) → IsOperand scope x → IsOperand scope z → over_three name x y z ≡ Ok f → IsFunction kinds f

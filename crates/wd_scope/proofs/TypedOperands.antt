@@ -121,7 +121,7 @@ module _ (scope : ScopeRule) where
       let when = asked Truth arm.0 w.0 h.0 w.1 in
       let gives = asked kind arm.1 t.0 h.1 t.1 in
       let otherwise = arms_is Later kind arms rest o.0 h.2 g o.1 in
-      subst (λ f. IsFormula scope f kind) (ok_is _ _ t.2) (record { is = and_both _ _ (side when) (and_both _ _ (and_both _ _ gives.is otherwise.is) (alike gives otherwise)); has = gives.has; leaves_are = all_append (IsLeaf scope) _ _ when.leaves_are (sides gives otherwise) })
+      subst (λ f. IsFormula scope f kind) (ok_is _ _ t.2) (record { is = and_both _ _ (side when) (and_both _ _ (and_both _ _ gives.is otherwise.is) (alike gives otherwise)); has = gives.has; leaves_are = all_append (IsLeaf scope) (leaves w.0 ++ leaves t.0) (leaves o.0) (sides when gives) otherwise.leaves_are })
 
   pub case_is : (arms : List (Operand SelectLeaf × Operand SelectLeaf)) (other z : Operand SelectLeaf) → AreArms arms → IsOperand scope other → case_of arms other ≡ Ok z → IsOperand scope z
   case_is arms other z h g is =

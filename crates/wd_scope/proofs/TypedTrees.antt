@@ -97,6 +97,17 @@ sign_is scope sign None m x k h = let y = bound m (λ z. operands.signed sign z)
 
 -- ---- trees
 
+-- the arguments of a call are read in its scope and windows
+known_within : (c : ContextRule) (over : OverTree) → AreKnown (kinds_in c.scope) c.windows → AreKnown (kinds_in (arguments_in c over).scope) (arguments_in c over).windows
+known_within c no_over h = h
+known_within c (over_name name) h = h
+known_within c (over_window v) h = h
+
+all_within : (c : ContextRule) (over : OverTree) (xs : List (Operand SelectLeaf)) → AllByRecursion (IsOperand (arguments_in c over).scope) xs → AllByRecursion (IsOperand c.scope) xs
+all_within c no_over xs h = h
+all_within c (over_name name) xs h = h
+all_within c (over_window v) xs h = h
+
 mutual
   pub resolved_is : (c : ContextRule) (a : Tree) (x : Operand SelectLeaf) → AreKnown (kinds_in c.scope) c.windows → resolved c a ≡ Ok x → IsOperand c.scope x
   resolved_is c (Constant y) x known h = literal_is c.scope y x h
@@ -108,7 +119,7 @@ mutual
   resolved_is c (Call f arguments over) x known h =
       let xs = bound (all_resolved (arguments_in c over) arguments) (λ ys. over_meant c over >>= λ v. called f (Some ys) v) x h in
       let w = bound (over_meant c over) (λ v. called f (Some xs.0) v) x xs.2 in
-      called_is c.scope f (Some xs.0) w.0 x (arguments_are c over arguments xs.0 known xs.1) (over_is c over w.0 known w.1) w.2
+      called_is c.scope f (Some xs.0) w.0 x (all_within c over xs.0 (all_is (arguments_in c over) arguments xs.0 (known_within c over known) xs.1)) (over_is c over w.0 known w.1) w.2
   resolved_is c (Case arms other) x known h =
       let xs = bound (arms_resolved c arms) (λ ys. else_resolved c other >>= λ y. case_of ys y) x h in
       let y = bound (else_resolved c other) (λ z. case_of xs.0 z) x xs.2 in
@@ -125,11 +136,6 @@ mutual
   resolved_is c (Negated a) x known h =
       let y = bound (resolved c a) (λ z. negated z) x h in
       negated_is c.scope y.0 x (resolved_is c a y.0 known y.1) y.2
-
-  arguments_are : (c : ContextRule) (over : OverTree) (trees : Trees) (xs : List (Operand SelectLeaf)) → AreKnown (kinds_in c.scope) c.windows → all_resolved (arguments_in c over) trees ≡ Ok xs → AllByRecursion (IsOperand c.scope) xs
-  arguments_are c no_over trees xs known h = all_is c trees xs known h
-  arguments_are c (over_name name) trees xs known h = all_is (moved_to place.Argument c) trees xs known h
-  arguments_are c (over_window v) trees xs known h = all_is (moved_to place.Argument c) trees xs known h
 
   all_is : (c : ContextRule) (trees : Trees) (xs : List (Operand SelectLeaf)) → AreKnown (kinds_in c.scope) c.windows → all_resolved c trees ≡ Ok xs → AllByRecursion (IsOperand c.scope) xs
   all_is c no_trees xs known h = subst (AllByRecursion (IsOperand c.scope)) (ok_is _ _ h) tt

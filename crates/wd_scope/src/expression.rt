@@ -4,7 +4,7 @@ ghost use Rattle.std.specs.Prelude.{◌≡◌, [], map, option_map, Some, None, 
 ghost use Rattle.wd_plan.specs.Expressions.{expression_of};
 ghost use Rattle.wd_syntax.specs.View.{view, view_link, view_window, view_over_option, view_else_option, view_arm, view_key, view_named_window};
 ghost use Rattle.wd_syntax.specs.Tree.{trees_of, arms_of, keys_of};
-ghost use Rattle.wd_operand.specs.Causes.{Gives, ◌>>=◌};
+ghost use Rattle.wd_operand.specs.Causes.{Gives};
 ghost use Rattle.wd_scope.specs.Leaves.{operand_of, operands_of, arm_of};
 ghost use Rattle.wd_scope.specs.Resolving.{context_of};
 ghost use Rattle.wd_scope.specs.Resolving as spec;
@@ -160,7 +160,7 @@ fn tests_resolved(
     inner: &written::Expr,
     tests: &[bool],
 ) -> Result<Meaning<SelectLeaf>, ResolveError>
-    ensures { Gives operand_of result (spec.resolved (context_of context.now) (view inner.now) >>= λ x. Ok (spec.tests_meant tests.now x)) }
+    ensures { Gives operand_of result (spec.tests_resolved (context_of context.now) (view inner.now) tests.now) }
 {
     let inner = resolved(alloc, context, inner)?;
     tests_over(alloc, inner, tests)

@@ -1,8 +1,8 @@
 //! Functions over their arguments.
 
-ghost use Rattle.std.specs.Prelude.{◌≡◌, Ok, Some, map, option_map};
+ghost use Rattle.std.specs.Prelude.{◌≡◌, Some, map, option_map};
 ghost use Rattle.wd_plan.specs.Fits.{has_extremes};
-ghost use Rattle.wd_operand.specs.Causes.{Gives, ◌>>=◌};
+ghost use Rattle.wd_operand.specs.Causes.{Gives};
 ghost use Rattle.wd_scope.specs.Calls.{aggregate_of, argument_of, function_of};
 ghost use Rattle.wd_scope.specs.Calls as calls;
 ghost use Rattle.wd_scope.specs.Functions as spec;
@@ -158,7 +158,7 @@ fn value_at(
     row: FrameRow,
     x: &Meaning<SelectLeaf>,
 ) -> Result<AppliedFunction, ResolveError>
-    ensures { Gives function_of result (spec.argument (operand_of x.now) >>= λ a. Ok (calls.value_at row a)) }
+    ensures { Gives function_of result (spec.over_argument (calls.value_at row) (operand_of x.now)) }
 {
     Ok(AppliedFunction::ValueAt(row, argument(alloc, x)?))
 }
@@ -179,7 +179,7 @@ fn away(
     offset: u64,
     default: Value,
 ) -> Result<AppliedFunction, ResolveError>
-    ensures { Gives function_of result (spec.argument (operand_of x.now) >>= λ a. Ok (calls.away direction a offset default)) }
+    ensures { Gives function_of result (spec.over_argument (λ a. calls.away direction a offset default) (operand_of x.now)) }
 {
     Ok(AppliedFunction::Shift {
         direction,

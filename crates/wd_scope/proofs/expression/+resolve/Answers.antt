@@ -8,7 +8,7 @@ use Rattle.wd_scope.specs.declared.context.Place.TheVariants as Place
 use Rattle.wd_plan.specs.Expressions.{expression_of}
 use Rattle.wd_operand.specs.Causes.{◌>>=◌}
 use Rattle.wd_scope.specs.Leaves.{operand_of}
-use Rattle.wd_scope.specs.Resolving.{context_of, resolved, all_resolved, arguments_in, arms_resolved, keys_resolved, window_resolved, moved_to, chain_meant, tests_meant}
+use Rattle.wd_scope.specs.Resolving.{context_of, resolved, all_resolved, arguments_in, arms_resolved, keys_resolved, window_resolved, moved_to, chain_meant, tests_resolved}
 use Rattle.wd_operand.proofs.Cases.{fails_too}
 use Rattle.wd_scope.proofs.Chains.{chain_means, tests_mean}
 use Rattle.wd_scope.proofs.Rolled.{view_window_out}
@@ -102,5 +102,5 @@ resolved-returns-in-Tests t c =
     let context = context_of c.args.context.now in
     let tests = c.in-Tests.tests in
     let shown : view c.args.tree.now ≡ tested (view c.deref-in-Tests.result.now) c.deref-in-Tests-2.result.now = ap view c.in-Tests.is ∙ ap (λ a. tested (view a) tests.items) (sym c.deref-in-Tests.ensures) ∙ ap (tested (view c.deref-in-Tests.result.now)) (sym c.deref-in-Tests-2.ensures.value) in
-    let whole : resolved context (view c.args.tree.now) ≡ (resolved context (view c.deref-in-Tests.result.now) >>= λ x. Ok (tests_meant c.deref-in-Tests-2.result.now x)) = ap (resolved context) shown ∙ tests_mean context (view c.deref-in-Tests.result.now) c.deref-in-Tests-2.result.now in
+    let whole : resolved context (view c.args.tree.now) ≡ tests_resolved context (view c.deref-in-Tests.result.now) c.deref-in-Tests-2.result.now = ap (resolved context) shown ∙ tests_mean context (view c.deref-in-Tests.result.now) c.deref-in-Tests-2.result.now in
     rw whole c.tests_resolved.ensures
