@@ -8,7 +8,7 @@ use Rattle.wd_scope.specs.declared.context.Place.TheVariants as Place
 use Rattle.wd_plan.specs.Expressions.{expression_of}
 use Rattle.wd_operand.specs.Causes.{◌>>=◌}
 use Rattle.wd_scope.specs.Leaves.{operand_of}
-use Rattle.wd_scope.specs.Resolving.{context_of, resolved, all_resolved, arguments_in, arms_resolved, keys_resolved, window_resolved, moved_to, chain_meant, tests_resolved}
+use Rattle.wd_scope.specs.Resolving.{context_of, resolved, all_resolved, all_settled, arguments_in, arms_resolved, keys_resolved, window_resolved, moved_to, chain_meant, tests_resolved}
 use Rattle.wd_operand.proofs.Cases.{fails_too}
 use Rattle.wd_scope.proofs.Chains.{chain_means, tests_mean}
 use Rattle.wd_scope.proofs.Rolled.{view_window_out}
@@ -76,24 +76,39 @@ window_resolved-returns-in_err-operands t c =
     let p = err_from_is_err_and c.from_residual-in_err-operands.result c.from_residual-in_err-operands.ensures.1 in
     rw (p.1, p.2) (rw shown (fails_too c.in_err-operands.field-0.0 (all_resolved (context_of c.moved_to-inside.result) trees) (window_resolved context (window w.base trees keys w.frame)) c.in_err-operands.ensures (λ cause h. (let g : all_resolved (moved_to Place.Window context) trees ≡ Err cause = ap (λ d. all_resolved d trees) (sym c.moved_to-inside.ensures) ∙ h in rw c.in_ok-base.ensures (rw g refl)))))
 
+pub window_resolved-returns-in_err-partition : goal.window_resolved-returns-in_err-partition
+window_resolved-returns-in_err-partition t c =
+    let context = context_of c.args.context.now in
+    let w = out-Window c.args.window.now in
+    let trees = trees_of (map view c.deref.result.now) in
+    let keys = keys_of (map view_key w.order.items) in
+    let xs = map operand_of c.deref-2.result.now in
+    let shown : view_window c.args.window.now ≡ window w.base trees keys w.frame = view_window_out c.args.window.now ∙ ap (λ ts. window w.base (trees_of (map view ts)) keys w.frame) (sym c.deref.ensures.value) in
+    let g : all_resolved (moved_to Place.Window context) trees ≡ Ok xs = ap (λ d. all_resolved d trees) (sym c.moved_to-inside.ensures) ∙ c.in_ok-operands.ensures ∙ ap (λ ys. Ok (map operand_of ys)) (sym c.deref-2.ensures.value) in
+    let p = err_from_is_err_and c.from_residual-in_err-partition.result c.from_residual-in_err-partition.ensures.1 in
+    rw (p.1, p.2) (rw shown (fails_too c.in_err-partition.field-0.0 (all_settled xs) (window_resolved context (window w.base trees keys w.frame)) c.in_err-partition.ensures (λ cause h. rw c.in_ok-base.ensures (rw g (rw h refl)))))
+
 pub window_resolved-returns-in_err-order : goal.window_resolved-returns-in_err-order
 window_resolved-returns-in_err-order t c =
     let context = context_of c.args.context.now in
     let w = out-Window c.args.window.now in
     let trees = trees_of (map view c.deref.result.now) in
-    let keys = keys_of (map view_key c.deref-2.result.now) in
-    let shown : view_window c.args.window.now ≡ window w.base trees keys w.frame = view_window_out c.args.window.now ∙ ap (λ xs. window w.base (trees_of (map view xs)) (keys_of (map view_key w.order.items)) w.frame) (sym c.deref.ensures.value) ∙ ap (λ ks. window w.base trees (keys_of (map view_key ks)) w.frame) (sym c.deref-2.ensures.value) in
+    let keys = keys_of (map view_key c.deref-3.result.now) in
+    let xs = map operand_of c.deref-2.result.now in
+    let shown : view_window c.args.window.now ≡ window w.base trees keys w.frame = view_window_out c.args.window.now ∙ ap (λ ts. window w.base (trees_of (map view ts)) (keys_of (map view_key w.order.items)) w.frame) (sym c.deref.ensures.value) ∙ ap (λ ks. window w.base trees (keys_of (map view_key ks)) w.frame) (sym c.deref-3.ensures.value) in
+    let g : all_resolved (moved_to Place.Window context) trees ≡ Ok xs = ap (λ d. all_resolved d trees) (sym c.moved_to-inside.ensures) ∙ c.in_ok-operands.ensures ∙ ap (λ ys. Ok (map operand_of ys)) (sym c.deref-2.ensures.value) in
     let p = err_from_is_err_and c.from_residual-in_err-order.result c.from_residual-in_err-order.ensures.1 in
-    rw (p.1, p.2) (rw shown (fails_too c.in_err-order.field-0.0 (keys_resolved (context_of c.moved_to-inside.result) keys) (window_resolved context (window w.base trees keys w.frame)) c.in_err-order.ensures (λ cause h. (let g = ap (λ d. all_resolved d trees) (sym c.moved_to-inside.ensures) ∙ c.in_ok-operands.ensures in let k = ap (λ d. keys_resolved d keys) (sym c.moved_to-inside.ensures) ∙ h in rw c.in_ok-base.ensures (rw g (rw c.in_ok-partition.ensures (rw k refl)))))))
+    rw (p.1, p.2) (rw shown (fails_too c.in_err-order.field-0.0 (keys_resolved (context_of c.moved_to-inside.result) keys) (window_resolved context (window w.base trees keys w.frame)) c.in_err-order.ensures (λ cause h. (let k = ap (λ d. keys_resolved d keys) (sym c.moved_to-inside.ensures) ∙ h in rw c.in_ok-base.ensures (rw g (rw c.in_ok-partition.ensures (rw k refl)))))))
 
 pub window_resolved-returns : goal.window_resolved-returns
 window_resolved-returns t c =
     let context = context_of c.args.context.now in
     let w = out-Window c.args.window.now in
     let trees = trees_of (map view c.deref.result.now) in
-    let keys = keys_of (map view_key c.deref-2.result.now) in
-    let shown : view_window c.args.window.now ≡ window w.base trees keys w.frame = view_window_out c.args.window.now ∙ ap (λ xs. window w.base (trees_of (map view xs)) (keys_of (map view_key w.order.items)) w.frame) (sym c.deref.ensures.value) ∙ ap (λ ks. window w.base trees (keys_of (map view_key ks)) w.frame) (sym c.deref-2.ensures.value) in
-    let g = ap (λ d. all_resolved d trees) (sym c.moved_to-inside.ensures) ∙ c.in_ok-operands.ensures in
+    let keys = keys_of (map view_key c.deref-3.result.now) in
+    let xs = map operand_of c.deref-2.result.now in
+    let shown : view_window c.args.window.now ≡ window w.base trees keys w.frame = view_window_out c.args.window.now ∙ ap (λ ts. window w.base (trees_of (map view ts)) (keys_of (map view_key w.order.items)) w.frame) (sym c.deref.ensures.value) ∙ ap (λ ks. window w.base trees (keys_of (map view_key ks)) w.frame) (sym c.deref-3.ensures.value) in
+    let g : all_resolved (moved_to Place.Window context) trees ≡ Ok xs = ap (λ d. all_resolved d trees) (sym c.moved_to-inside.ensures) ∙ c.in_ok-operands.ensures ∙ ap (λ ys. Ok (map operand_of ys)) (sym c.deref-2.ensures.value) in
     let k = ap (λ d. keys_resolved d keys) (sym c.moved_to-inside.ensures) ∙ c.in_ok-order.ensures in
     rw shown (rw c.in_ok-base.ensures (rw g (rw c.in_ok-partition.ensures (rw k c.window_meant.ensures))))
 
