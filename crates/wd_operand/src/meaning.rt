@@ -55,7 +55,11 @@ impl<L: Leaf> Meaning<L> {
     }
 
     /// The operand of an expression.
-    pub fn typed(alloc: Global, expression: Formula<L>, kind: ValueKind) -> Result<Meaning<L>, ResolveError>
+    pub fn typed(
+        alloc: Global,
+        expression: Formula<L>,
+        kind: ValueKind,
+    ) -> Result<Meaning<L>, ResolveError>
         ensures { Gives (operand_of L.shown) result (Ok (spec.typed (formula_of L.shown expression) kind)) }
     {
         Ok(Meaning::Typed(Box::new(alloc, expression)?, kind))

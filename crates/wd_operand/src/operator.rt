@@ -14,7 +14,11 @@ use wd_plan::{ArithmeticOp, Branch, ComparisonOp, ValueKind};
 use wd_syntax::{Operator, Sign};
 
 /// A sign over an operand; a plus leaves no node.
-pub fn signed<L: Leaf>(alloc: Global, sign: Sign, operand: Meaning<L>) -> Result<Meaning<L>, ResolveError>
+pub fn signed<L: Leaf>(
+    alloc: Global,
+    sign: Sign,
+    operand: Meaning<L>,
+) -> Result<Meaning<L>, ResolveError>
     ensures { Gives (operand_of L.shown) result (spec.signed sign (operand_of L.shown operand)) }
 {
     let inner = operand.of_kind(alloc, ValueKind::Number)?;
@@ -32,7 +36,11 @@ pub fn negated<L: Leaf>(alloc: Global, operand: Meaning<L>) -> Result<Meaning<L>
 }
 
 /// A test for NULL: IS NULL, or IS NOT NULL where `not`.
-pub fn tested<L: Leaf>(alloc: Global, not: bool, operand: Meaning<L>) -> Result<Meaning<L>, ResolveError>
+pub fn tested<L: Leaf>(
+    alloc: Global,
+    not: bool,
+    operand: Meaning<L>,
+) -> Result<Meaning<L>, ResolveError>
     ensures { Gives (operand_of L.shown) result (Ok (spec.tested not (operand_of L.shown operand))) }
 {
     let inner = Box::new(alloc, operand.settled())?;
@@ -200,7 +208,11 @@ fn arms_over<L: Leaf>(
 }
 
 /// A CASE over its parts: each condition is a truth value, and the results are of one kind.
-pub fn case_of<L: Leaf>(alloc: Global, arms: Vec<CaseArm<L>>, other: Meaning<L>) -> Result<Meaning<L>, ResolveError>
+pub fn case_of<L: Leaf>(
+    alloc: Global,
+    arms: Vec<CaseArm<L>>,
+    other: Meaning<L>,
+) -> Result<Meaning<L>, ResolveError>
     ensures { Gives (operand_of L.shown) result (spec.case_of (map (spec.arm_of L.shown) arms.items) (operand_of L.shown other)) }
 {
     let kind = case_kind(&arms, &other);

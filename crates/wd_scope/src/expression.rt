@@ -185,7 +185,11 @@ fn chain_resolved(
 }
 
 /// Tests for NULL, one after another.
-fn tests_over(alloc: Global, operand: Meaning<SelectLeaf>, tests: &[bool]) -> Result<Meaning<SelectLeaf>, ResolveError>
+fn tests_over(
+    alloc: Global,
+    operand: Meaning<SelectLeaf>,
+    tests: &[bool],
+) -> Result<Meaning<SelectLeaf>, ResolveError>
     ensures { Gives operand_of result (Ok (spec.tests_meant tests.now (operand_of operand))) }
 {
     let mut operand = operand;
@@ -336,10 +340,7 @@ fn window_resolved(
 }
 
 /// The expressions in places that ask for no kind; 406 where a window call stands in one.
-fn all_settled(
-    alloc: Global,
-    operands: &[Meaning<SelectLeaf>],
-) -> Result<Vec<Expr>, ResolveError>
+fn all_settled(alloc: Global, operands: &[Meaning<SelectLeaf>]) -> Result<Vec<Expr>, ResolveError>
     ensures { Gives (λ v. map expression_of v.items) result (spec.all_settled (map operand_of operands.now)) }
 {
     let mut expressions = Vec::with_capacity(alloc, operands.len())?;

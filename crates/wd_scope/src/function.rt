@@ -91,7 +91,11 @@ fn at_least(least: u64, n: i64) -> Result<u64, ResolveError>
 }
 
 /// The value of a default: a literal of the kind, which a bare NULL takes.
-fn default_of(alloc: Global, kind: ValueKind, operand: &Meaning<SelectLeaf>) -> Result<Value, ResolveError>
+fn default_of(
+    alloc: Global,
+    kind: ValueKind,
+    operand: &Meaning<SelectLeaf>,
+) -> Result<Value, ResolveError>
     ensures { Gives (λ v. v) result (spec.default_of kind (operand_of operand.now)) }
 {
     let Meaning::Typed(expression, _) = operand else {
@@ -164,7 +168,11 @@ fn value_at(
 }
 
 /// NTH_VALUE, with the number of the row from 1.
-fn nth(alloc: Global, x: &Meaning<SelectLeaf>, n: &Meaning<SelectLeaf>) -> Result<AppliedFunction, ResolveError>
+fn nth(
+    alloc: Global,
+    x: &Meaning<SelectLeaf>,
+    n: &Meaning<SelectLeaf>,
+) -> Result<AppliedFunction, ResolveError>
     ensures { Gives function_of result (spec.nth (operand_of x.now) (operand_of n.now)) }
 {
     let number = whole(1, n)?;
@@ -216,7 +224,11 @@ fn over_none(name: FunctionName) -> Result<AppliedFunction, ResolveError>
 }
 
 /// An aggregate over its argument.
-fn aggregate_over(alloc: Global, name: FunctionName, x: &Meaning<SelectLeaf>) -> Result<AppliedAggregate, ResolveError>
+fn aggregate_over(
+    alloc: Global,
+    name: FunctionName,
+    x: &Meaning<SelectLeaf>,
+) -> Result<AppliedAggregate, ResolveError>
     ensures { Gives aggregate_of result (spec.aggregate_over name (operand_of x.now)) }
 {
     match name {
@@ -228,7 +240,11 @@ fn aggregate_over(alloc: Global, name: FunctionName, x: &Meaning<SelectLeaf>) ->
     }
 }
 
-fn over_one(alloc: Global, name: FunctionName, x: &Meaning<SelectLeaf>) -> Result<AppliedFunction, ResolveError>
+fn over_one(
+    alloc: Global,
+    name: FunctionName,
+    x: &Meaning<SelectLeaf>,
+) -> Result<AppliedFunction, ResolveError>
     ensures { Gives function_of result (spec.over_one name (operand_of x.now)) }
 {
     match name {

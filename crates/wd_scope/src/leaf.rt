@@ -75,7 +75,10 @@ fn boxed_over_columns(
         Formula::Negate(a) => boxed(alloc, Expr::Negate(boxed_over_columns(alloc, a)?)),
         Formula::Arithmetic(op, a, b) => {
             let a = boxed_over_columns(alloc, a)?;
-            boxed(alloc, Expr::Arithmetic(*op, a, boxed_over_columns(alloc, b)?))
+            boxed(
+                alloc,
+                Expr::Arithmetic(*op, a, boxed_over_columns(alloc, b)?),
+            )
         }
         Formula::Compare(op, a, b) => {
             let a = boxed_over_columns(alloc, a)?;
@@ -95,7 +98,10 @@ fn boxed_over_columns(
         Formula::Case(branch, a, b, c) => {
             let a = boxed_over_columns(alloc, a)?;
             let b = boxed_over_columns(alloc, b)?;
-            boxed(alloc, Expr::Case(*branch, a, b, boxed_over_columns(alloc, c)?))
+            boxed(
+                alloc,
+                Expr::Case(*branch, a, b, boxed_over_columns(alloc, c)?),
+            )
         }
     }
 }
