@@ -7,7 +7,8 @@ use Rattle.wd_operand.specs.Causes.{Meant, ◌>>=◌}
 use Rattle.wd_operand.specs.Operands.{Operand, combined}
 use Rattle.wd_operand.specs.Operands as operands
 use Rattle.wd_scope.specs.Leaves.{SelectLeaf}
-use Rattle.wd_scope.specs.Resolving.{ContextRule, resolved, chain_meant, tests_meant, tests_resolved}
+use Rattle.wd_scope.specs.Parts.{chain_meant, tests_meant, tests_resolved}
+use Rattle.wd_scope.specs.Resolving.{ContextRule, resolved}
 
 -- a meaning goes on as itself
 bind_whole : {A : Type 0} (m : Meant A) → m ≡ (m >>= λ x. Ok x)

@@ -6,5 +6,6 @@ pub mod Functions
 pub mod Names
 pub mod Places
 pub mod Resolving
+pub mod Parts
 pub mod Typed
 pub mod Laws

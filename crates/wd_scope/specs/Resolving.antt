@@ -5,7 +5,6 @@ use Rattle.wd_cursor.specs.declared.name.Name.{Name}
 use Rattle.std.specs.List.{list_any}
 use Rattle.std.specs.Str.{bytes_eq}
 use Rattle.wd_syntax.specs.declared.expression.Literal.TheVariants as l
-use Rattle.wd_syntax.specs.declared.expression.Operator.{Operator}
 use Rattle.wd_syntax.specs.declared.expression.Sign.{Sign}
 use Rattle.wd_syntax.specs.declared.expression.SortDirection.{SortDirection}
 use Rattle.wd_syntax.specs.declared.expression.NullsPlace.{NullsPlace}
@@ -71,7 +70,10 @@ key_meant x direction place = do
 -- expressions in places that ask for no kind
 abbrev pub all_settled : List (Operand SelectLeaf) → Meant (List Expression)
 all_settled [] = Ok []
-all_settled (x ∷ xs) = over_columns (settled x) >>= λ e. all_settled xs >>= λ es. Ok (e ∷ es)
+all_settled (x ∷ xs) = do
+  e ← over_columns (settled x)
+  es ← all_settled xs
+  Ok (e ∷ es)
 
 -- what stands in OVER, where window calls may stand
 abbrev pub where_allowed : ContextRule → Meant WindowMeaning → Meant WindowMeaning
@@ -84,23 +86,39 @@ abbrev mutual
   resolved c (Column name) = column_named c.scope None name.text
   resolved c (Qualified table name) = column_named c.scope (Some table.text) name.text
   resolved c (CallAll f over) = over_meant c over >>= λ w. called f None w
-  resolved c (Call f arguments over) = all_resolved (arguments_in c over) arguments >>= λ xs. over_meant c over >>= λ w. called f (Some xs) w
-  resolved c (Case arms other) = arms_resolved c arms >>= λ xs. else_resolved c other >>= λ y. case_of xs y
+  resolved c (Call f arguments over) = do
+    xs ← all_resolved (arguments_in c over) arguments
+    w ← over_meant c over
+    called f (Some xs) w
+  resolved c (Case arms other) = do
+    xs ← arms_resolved c arms
+    y ← else_resolved c other
+    case_of xs y
   resolved c (Bracket a) = resolved c a
   resolved c (Signed sign a) = sign_meant sign (written_number a) (resolved c a)
-  resolved c (Binary operator a b) = resolved c a >>= λ x. resolved c b >>= λ y. combined operator x y
+  resolved c (Binary operator a b) = do
+    x ← resolved c a
+    y ← resolved c b
+    combined operator x y
   resolved c (IsNull a not) = resolved c a >>= λ x. Ok (tested not x)
   resolved c (Negated a) = resolved c a >>= λ x. negated x
 
   -- the arguments of a call, and the expressions of a partition
   pub all_resolved : ContextRule → Trees → Meant (List (Operand SelectLeaf))
   all_resolved c no_trees = Ok []
-  all_resolved c (more_trees a trees) = resolved c a >>= λ x. all_resolved c trees >>= λ xs. Ok (x ∷ xs)
+  all_resolved c (more_trees a trees) = do
+    x ← resolved c a
+    xs ← all_resolved c trees
+    Ok (x ∷ xs)
 
   -- the conditions and results of a CASE
   pub arms_resolved : ContextRule → Arms → Meant (List (Operand SelectLeaf × Operand SelectLeaf))
   arms_resolved c no_arms = Ok []
-  arms_resolved c (more_arms when gives arms) = resolved c when >>= λ x. resolved c gives >>= λ y. arms_resolved c arms >>= λ xs. Ok ((x, y) ∷ xs)
+  arms_resolved c (more_arms when gives arms) = do
+    x ← resolved c when
+    y ← resolved c gives
+    xs ← arms_resolved c arms
+    Ok ((x, y) ∷ xs)
 
   -- without ELSE a CASE ends in NULL
   pub else_resolved : ContextRule → Otherwise → Meant (Operand SelectLeaf)
@@ -110,7 +128,11 @@ abbrev mutual
   -- the expressions that a window sorts by
   pub keys_resolved : ContextRule → Keys → Meant (List KeyMeaning)
   keys_resolved c no_keys = Ok []
-  keys_resolved c (more_keys a direction place keys) = resolved c a >>= λ x. key_meant x direction place >>= λ k. keys_resolved c keys >>= λ ks. Ok (k ∷ ks)
+  keys_resolved c (more_keys a direction place keys) = do
+    x ← resolved c a
+    k ← key_meant x direction place
+    ks ← keys_resolved c keys
+    Ok (k ∷ ks)
 
   -- the window of a call; a function without OVER is none, and OVER is looked at only where window calls may stand
   pub over_meant : ContextRule → OverTree → Meant WindowMeaning
@@ -127,30 +149,9 @@ abbrev mutual
     keys ← keys_resolved (moved_to place.Window c) order
     window_meant copied parts keys frame
 
--- operators and their right operands, over what stands left of them
-abbrev pub chain_meant : ContextRule → List (Operator × Tree) → Operand SelectLeaf → Meant (Operand SelectLeaf)
-chain_meant c [] x = Ok x
-chain_meant c (link ∷ links) x = resolved c link.1 >>= λ y. combined link.0 x y >>= λ z. chain_meant c links z
+-- ---- expressions outside the select list
 
--- a call after its arguments: its window, and then itself
-abbrev pub call_over : ContextRule → Name → Option (List (Operand SelectLeaf)) → OverTree → Meant (Operand SelectLeaf)
-call_over c f arguments over = over_meant c over >>= λ w. called f arguments w
-
--- a CASE after its arms: its end, and then itself
-abbrev pub case_ended : ContextRule → List (Operand SelectLeaf × Operand SelectLeaf) → Otherwise → Meant (Operand SelectLeaf)
-case_ended c arms other = else_resolved c other >>= λ y. case_of arms y
-
--- tests for NULL, one after another
-abbrev pub tests_meant : List Bool → Operand SelectLeaf → Operand SelectLeaf
-tests_meant [] x = x
-tests_meant (not ∷ nots) x = tests_meant nots (tested not x)
-
-abbrev pub tests_resolved : ContextRule → Tree → List Bool → Meant (Operand SelectLeaf)
-tests_resolved c a nots = resolved c a >>= λ x. Ok (tests_meant nots x)
-
--- ---- expressions outside the select list, where no window calls stand
-
--- an expression where no windows have names
+-- an expression in a place where no windows have names
 abbrev pub plain : Place → ScopeRule → Tree → Meant (Operand SelectLeaf)
 plain place scope a = resolved (record { scope = scope; windows = []; place = place }) a
 

@@ -6,6 +6,7 @@ ghost use Rattle.wd_syntax.specs.View.{view, view_link, view_window, view_over_o
 ghost use Rattle.wd_syntax.specs.Tree.{trees_of, arms_of, keys_of};
 ghost use Rattle.wd_operand.specs.Causes.{Gives};
 ghost use Rattle.wd_scope.specs.Leaves.{operand_of, operands_of, arm_of};
+ghost use Rattle.wd_scope.specs.Parts as parts;
 ghost use Rattle.wd_scope.specs.Resolving.{context_of};
 ghost use Rattle.wd_scope.specs.Resolving as spec;
 ghost use Rattle.wd_scope.specs.Scopes.{scope_of};
@@ -132,7 +133,7 @@ fn call_over(
     arguments: Option<Vec<Meaning<SelectLeaf>>>,
     over: &Option<Box<Over>>,
 ) -> Result<Meaning<SelectLeaf>, ResolveError>
-    ensures { Gives operand_of result (spec.call_over (context_of context.now) name.now (option_map operands_of arguments) (view_over_option over.now)) }
+    ensures { Gives operand_of result (parts.call_over (context_of context.now) name.now (option_map operands_of arguments) (view_over_option over.now)) }
 {
     let window = over_meant(alloc, context, over)?;
     called(alloc, name, arguments, window)
@@ -146,7 +147,7 @@ fn case_ended(
     arms: Vec<CaseArm<SelectLeaf>>,
     other: &Option<Box<written::Expr>>,
 ) -> Result<Meaning<SelectLeaf>, ResolveError>
-    ensures { Gives operand_of result (spec.case_ended (context_of context.now) (map arm_of arms.items) (view_else_option other.now)) }
+    ensures { Gives operand_of result (parts.case_ended (context_of context.now) (map arm_of arms.items) (view_else_option other.now)) }
 {
     let other = else_resolved(alloc, context, other)?;
     case_of(alloc, arms, other)
@@ -160,7 +161,7 @@ fn tests_resolved(
     inner: &written::Expr,
     tests: &[bool],
 ) -> Result<Meaning<SelectLeaf>, ResolveError>
-    ensures { Gives operand_of result (spec.tests_resolved (context_of context.now) (view inner.now) tests.now) }
+    ensures { Gives operand_of result (parts.tests_resolved (context_of context.now) (view inner.now) tests.now) }
 {
     let inner = resolved(alloc, context, inner)?;
     tests_over(alloc, inner, tests)
@@ -174,7 +175,7 @@ fn chain_resolved(
     first: Meaning<SelectLeaf>,
     links: &[Link],
 ) -> Result<Meaning<SelectLeaf>, ResolveError>
-    ensures { Gives operand_of result (spec.chain_meant (context_of context.now) (map view_link links.now) (operand_of first)) }
+    ensures { Gives operand_of result (parts.chain_meant (context_of context.now) (map view_link links.now) (operand_of first)) }
 {
     let mut left = first;
     for link in links {
@@ -190,7 +191,7 @@ fn tests_over(
     operand: Meaning<SelectLeaf>,
     tests: &[bool],
 ) -> Result<Meaning<SelectLeaf>, ResolveError>
-    ensures { Gives operand_of result (Ok (spec.tests_meant tests.now (operand_of operand))) }
+    ensures { Gives operand_of result (Ok (parts.tests_meant tests.now (operand_of operand))) }
 {
     let mut operand = operand;
     for not in tests {
@@ -350,7 +351,7 @@ fn all_settled(alloc: Global, operands: &[Meaning<SelectLeaf>]) -> Result<Vec<Ex
     Ok(expressions)
 }
 
-/// An expression where no windows have names.
+/// An expression in a place where no windows have names.
 pub fn plain(
     alloc: Global,
     scope: &Scope,

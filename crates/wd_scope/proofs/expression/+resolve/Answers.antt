@@ -8,7 +8,8 @@ use Rattle.wd_scope.specs.declared.context.Place.TheVariants as Place
 use Rattle.wd_plan.specs.Expressions.{expression_of}
 use Rattle.wd_operand.specs.Causes.{◌>>=◌}
 use Rattle.wd_scope.specs.Leaves.{operand_of}
-use Rattle.wd_scope.specs.Resolving.{context_of, resolved, all_resolved, all_settled, arguments_in, arms_resolved, keys_resolved, window_resolved, moved_to, chain_meant, tests_resolved}
+use Rattle.wd_scope.specs.Parts.{chain_meant, tests_resolved}
+use Rattle.wd_scope.specs.Resolving.{context_of, resolved, all_resolved, all_settled, arguments_in, arms_resolved, keys_resolved, window_resolved, moved_to}
 use Rattle.wd_operand.proofs.Cases.{fails_too}
 use Rattle.wd_scope.proofs.Chains.{chain_means, tests_mean}
 use Rattle.wd_scope.proofs.Rolled.{view_window_out}

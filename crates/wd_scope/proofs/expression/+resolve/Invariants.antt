@@ -2,7 +2,8 @@ use Rattle.std.proofs.Common.{◌≡◌, map, drop}
 use Rattle.wd_syntax.specs.View.{view, view_link, view_arm, view_key}
 use Rattle.wd_syntax.specs.Tree.{trees_of, arms_of, keys_of}
 use Rattle.wd_scope.specs.Leaves.{operand_of, arm_of}
-use Rattle.wd_scope.specs.Resolving.{context_of, all_resolved, arms_resolved, chain_meant, keys_resolved}
+use Rattle.wd_scope.specs.Parts.{chain_meant}
+use Rattle.wd_scope.specs.Resolving.{context_of, all_resolved, arms_resolved, keys_resolved}
 use Rattle.wd_scope.specs.Windows.{key_of}
 use Rattle.wd_scope.proofs.Prefixed.{prefixed}
 use Rattle.wd_scope.proofs.expression.+resolve.Given as goal

@@ -1,6 +1,6 @@
 use Rattle.std.proofs.Common.{◌≡◌, drop}
 use Rattle.wd_scope.specs.Leaves.{operand_of}
-use Rattle.wd_scope.specs.Resolving.{tests_meant}
+use Rattle.wd_scope.specs.Parts.{tests_meant}
 use Rattle.wd_scope.proofs.expression.tests_over.Given as goal
 
 abbrev pub invariant-loop-not : goal.invariant-loop-not
