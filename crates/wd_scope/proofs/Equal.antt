@@ -1,5 +1,5 @@
 -- Expressions and calls that are the same are equal, or of one kind.
-use Rattle.std.proofs.Common.{◌≡◌, ◌∙◌, sym, ap, refl, subst, nat_eq, true, Option, Some, rules}
+use Rattle.std.proofs.Common.{◌≡◌, ◌∙◌, sym, ap, refl, subst, nat_eq, true, rules}
 use Rattle.std.proofs.lemmas.Bool.{false≢true, eqb-true}
 use denote.Enum.Bare.{same_true, sameb}
 use Rattle.wd_value.specs.Values.{same as same_value}

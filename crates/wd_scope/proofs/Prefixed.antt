@@ -1,7 +1,6 @@
 -- What is meant, after what was meant before it.
 use Rattle.std.proofs.Common.{◌≡◌, sym, refl, ap, List, [], ◌∷◌, ◌++◌, Ok, Err}
-use Rattle.std.proofs.lemmas.List.{append_assoc, append-nil}
-use Rattle.wd_operand.specs.declared.cause.Cause.{Cause}
+use Rattle.std.proofs.lemmas.List.{append_assoc}
 use Rattle.wd_operand.specs.Causes.{Meant, ◌>>=◌}
 
 abbrev pub prefixed : {A : Type 0} → List A → Meant (List A) → Meant (List A)

@@ -1,5 +1,5 @@
 -- Operators over operands that are typed.
-use Rattle.std.proofs.Common.{◌≡◌, sym, refl, subst, ℕ, ℤ, pos, neg_ℤ, ◌^◌, nat_le, Bool, true, false, cond, ◌&&◌, List, [], ◌∷◌, ◌++◌, Some, Ok, Err}
+use Rattle.std.proofs.Common.{◌≡◌, sym, refl, subst, ℕ, ℤ, pos, neg_ℤ, ◌^◌, nat_le, Bool, true, false, cond, ◌&&◌, List, [], ◌∷◌, ◌++◌, Ok, Err}
 use Rattle.std.specs.List.{AllByRecursion}
 use Rattle.wd_plan.specs.declared.expression.ValueKind.{ValueKind}
 use Rattle.wd_plan.specs.declared.expression.ValueKind.TheVariants.{Number, Truth}
@@ -14,7 +14,7 @@ use Rattle.wd_syntax.specs.declared.expression.Sign.{Sign}
 use Rattle.wd_syntax.specs.declared.expression.Sign.TheVariants as s
 use Rattle.wd_syntax.specs.declared.expression.Literal.{Literal as Written}
 use Rattle.wd_syntax.specs.declared.expression.Literal.TheVariants as l
-use Rattle.wd_operand.specs.Formulas.{Formula, Literal, Negate, Arithmetic, Compare, Not, And, Or, IsNull, IsNotNull, Case, is_typed_over, kind_over, leaves}
+use Rattle.wd_operand.specs.Formulas.{Formula, Not, Case, is_typed_over, kind_over, leaves}
 use Rattle.wd_operand.specs.Operands.{Operand, bare_null, typed, of_kind, settled, asked_by, given_by, over_both, combined, negated, sign_over, signed, int_literal, unsigned_number, number, literal, signed_number, arms_over, case_kind, case_of}
 use Rattle.wd_operand.specs.Operands as operands
 use Rattle.wd_scope.specs.Leaves.{SelectLeaf}

@@ -7,7 +7,7 @@ use Rattle.wd_syntax.specs.Tree.{Tree, WindowTree}
 use Rattle.wd_operand.specs.declared.cause.Cause.TheVariants.{UnknownWindow}
 use Rattle.wd_operand.specs.Causes.{◌>>=◌}
 use Rattle.wd_operand.specs.Operands.{Operand, of_kind}
-use Rattle.wd_scope.specs.Resolving.{ContextRule, all_defined, condition, defined, is_known, plain, resolved, window_resolved}
+use Rattle.wd_scope.specs.Resolving.{ContextRule, all_defined, condition, defined, is_known, plain, window_resolved}
 use Rattle.wd_scope.specs.declared.context.Place.{Place}
 use Rattle.wd_scope.specs.declared.context.Place.TheVariants as place
 use Rattle.wd_scope.specs.Leaves.{SelectLeaf, over_columns}

@@ -1,5 +1,5 @@
 -- What a tree means is typed.
-use Rattle.std.proofs.Common.{◌≡◌, sym, refl, subst, ℕ, Bool, true, false, cond, List, [], ◌∷◌, Option, Some, None, option_map, is_some, slice_get, Ok, Err}
+use Rattle.std.proofs.Common.{◌≡◌, refl, subst, ℕ, Bool, true, false, cond, List, [], ◌∷◌, Option, Some, None, option_map, slice_get, Ok, Err}
 use Rattle.std.specs.List.{AllByRecursion, filter, position_or_len}
 use Rattle.std.specs.Str.{bytes_eq}
 use Rattle.wd_plan.specs.Expressions.{Expression}
@@ -14,14 +14,14 @@ use Rattle.wd_operand.specs.Causes.{Meant, ◌>>=◌}
 use Rattle.wd_operand.specs.Formulas.{Leaf}
 use Rattle.wd_operand.specs.Operands.{Operand, typed, combined, negated, literal, case_of, settled}
 use Rattle.wd_operand.specs.Operands as operands
-use Rattle.wd_scope.specs.Calls.{FunctionMeaning, kind_of_function}
+use Rattle.wd_scope.specs.Calls.{kind_of_function}
 use Rattle.wd_scope.specs.Functions.{applied, function_named}
 use Rattle.wd_scope.specs.Leaves.{SelectLeaf, call, column, over_columns}
 use Rattle.wd_scope.specs.Names.{column_named, only_at}
 use Rattle.wd_scope.specs.Resolving.{ContextRule, all_resolved, all_settled, arguments_in, arms_resolved, called, else_resolved, key_meant, keys_resolved, over_meant, resolved, sign_meant, where_allowed, window_resolved, moved_to, written_number}
 use Rattle.wd_scope.specs.Scopes.{ScopeRule, carries}
 use Rattle.wd_scope.specs.Windows.{KeyMeaning, KnownMeaning, WindowMeaning, base_named, sort_key, window_meant, window_named}
-use Rattle.wd_scope.specs.Typed.{AreKeys, AreKnown, AreTyped, IsCall, IsFormula, IsLeaf, IsOfKind, IsOperand, IsWindow, kind_at, kinds_in}
+use Rattle.wd_scope.specs.Typed.{AreKeys, AreKnown, AreTyped, IsFormula, IsOfKind, IsOperand, IsWindow, kinds_in}
 use Rattle.wd_scope.proofs.Naming.{first_passing}
 use Rattle.wd_scope.proofs.OverColumns.{over_columns_is}
 use Rattle.wd_scope.proofs.Typing.{bound, ok_is}

@@ -1,5 +1,5 @@
 -- The columns that names stand for (SQL, identifier chain; PG, Column References).
-use Rattle.std.specs.Prelude.{ℕ, Bool, List, [], ◌∷◌, Option, Ok, Err}
+use Rattle.std.specs.Prelude.{ℕ, List, [], ◌∷◌, Option, Ok, Err}
 use Rattle.std.specs.List.{filter, position_or_len}
 use Rattle.wd_operand.specs.declared.cause.Cause.TheVariants.{UnknownColumn, Ambiguous}
 use Rattle.wd_operand.specs.Causes.{Meant}

@@ -5,7 +5,6 @@ use Rattle.wd_syntax.specs.Tree.{Call, Case, window, trees_of, arms_of, keys_of}
 use Rattle.wd_syntax.specs.View.{view, view_link, view_arm, view_key, view_window, view_over_option, view_else_option, chained, tested}
 use Rattle.wd_syntax.proofs.Rows.{view_call, view_case, view_chain}
 use Rattle.wd_scope.specs.declared.context.Place.TheVariants as Place
-use Rattle.wd_plan.specs.Expressions.{expression_of}
 use Rattle.wd_operand.specs.Causes.{◌>>=◌}
 use Rattle.wd_scope.specs.Leaves.{operand_of}
 use Rattle.wd_scope.specs.Parts.{chain_meant, tests_resolved}

@@ -7,7 +7,7 @@ use Rattle.wd_operand.specs.Operands.{typed}
 use Rattle.wd_scope.specs.Leaves.{column}
 use Rattle.wd_scope.specs.Names.{column_named}
 use Rattle.wd_scope.specs.Scopes.{carries, scope_of}
-use Rattle.wd_scope.proofs.Naming.{named_at, passed_by}
+use Rattle.wd_scope.proofs.Naming.{named_at}
 use Rattle.wd_scope.proofs.scope.Scope.column.Goals as goal
 
 pub returns-then-carries : goal.returns-then-carries
