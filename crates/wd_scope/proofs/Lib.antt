@@ -2,7 +2,7 @@ mod Texts
 mod Naming
 mod Written
 mod Chains
-pub mod Prefixed
+mod Prefixed
 pub mod Rolled
 pub mod Lists
 pub mod Typing
