@@ -1,7 +1,11 @@
 pub mod Scopes
 pub mod Windows
 pub mod Calls
+pub mod Leaves
+pub mod Functions
+pub mod Names
 pub mod Places
 pub mod Resolving
+pub mod Parts
 pub mod Typed
 pub mod Laws

@@ -4,12 +4,14 @@ ghost use Rattle.std.specs.Prelude.{◌≡◌, Some, map, option_map};
 ghost use Rattle.wd_plan.specs.Fits.{has_extremes};
 ghost use Rattle.wd_operand.specs.Causes.{Gives};
 ghost use Rattle.wd_scope.specs.Calls.{aggregate_of, argument_of, function_of};
-ghost use Rattle.wd_scope.specs.Calls as spec;
-ghost use Rattle.wd_operand.specs.Operands.{operand_of};
+ghost use Rattle.wd_scope.specs.Calls as calls;
+ghost use Rattle.wd_scope.specs.Functions as spec;
+ghost use Rattle.wd_scope.specs.Leaves.{operand_of, operands_of};
 
 use crate::call::{AppliedAggregate, AppliedFunction, ValueArgument};
+use crate::leaf::{SelectLeaf, settled_over_columns};
 use std::alloc::Global;
-use wd_operand::{Cause, Meaning, ResolveError};
+use wd_operand::{Cause, Formula, Meaning, ResolveError};
 use wd_plan::{Direction, Expr, FrameRow, FunctionName, Ranking, ValueKind, same_kind};
 use wd_value::Value;
 
@@ -19,7 +21,7 @@ const ONE_ROW: u64 = 1;
 impl AppliedAggregate {
     /// The kind of its values.
     fn kind(&self) -> ValueKind
-        ensures { result ≡ spec.kind_of_aggregate (aggregate_of self.now) }
+        ensures { result ≡ calls.kind_of_aggregate (aggregate_of self.now) }
     {
         match self {
             AppliedAggregate::CountRows | AppliedAggregate::Count(_) | AppliedAggregate::Sum(_) =>
@@ -32,7 +34,7 @@ impl AppliedAggregate {
 impl AppliedFunction {
     /// The kind of its values.
     pub(crate) fn kind(&self) -> ValueKind
-        ensures { result ≡ spec.kind_of_function (function_of self.now) }
+        ensures { result ≡ calls.kind_of_function (function_of self.now) }
     {
         match self {
             AppliedFunction::Ranking(_) => ValueKind::Number,
@@ -66,14 +68,14 @@ fn function_named(name: &str) -> Option<FunctionName>
 }
 
 /// A literal whole number of at least so much; else 405.
-fn whole(least: u64, operand: &Meaning) -> Result<u64, ResolveError>
+fn whole(least: u64, operand: &Meaning<SelectLeaf>) -> Result<u64, ResolveError>
     ensures { Gives (λ n. n) result (spec.whole least (operand_of operand.now)) }
 {
     let Meaning::Typed(expression, _) = operand else {
         return Err(ResolveError::Refused(Cause::WrongCall));
     };
     match &**expression {
-        Expr::Literal(Value::Int(n), _) => at_least(least, *n),
+        Formula::Literal(Value::Int(n), _) => at_least(least, *n),
         _ => Err(ResolveError::Refused(Cause::WrongCall)),
     }
 }
@@ -89,14 +91,18 @@ fn at_least(least: u64, n: i64) -> Result<u64, ResolveError>
 }
 
 /// The value of a default: a literal of the kind, which a bare NULL takes.
-fn default_of(alloc: Global, kind: ValueKind, operand: &Meaning) -> Result<Value, ResolveError>
+fn default_of(
+    alloc: Global,
+    kind: ValueKind,
+    operand: &Meaning<SelectLeaf>,
+) -> Result<Value, ResolveError>
     ensures { Gives (λ v. v) result (spec.default_of kind (operand_of operand.now)) }
 {
     let Meaning::Typed(expression, _) = operand else {
         return Ok(Value::Null);
     };
     match &**expression {
-        Expr::Literal(value, other) => if same_kind(kind, *other) {
+        Formula::Literal(value, other) => if same_kind(kind, *other) {
             Ok(value.copy(alloc)?)
         } else {
             Err(ResolveError::Refused(Cause::WrongCall))
@@ -105,30 +111,28 @@ fn default_of(alloc: Global, kind: ValueKind, operand: &Meaning) -> Result<Value
     }
 }
 
-/// An operand as a value argument.
-fn argument(operand: Meaning) -> ValueArgument
-    ensures { argument_of result ≡ spec.argument (operand_of operand) }
+/// An operand as a value argument; 406 where a window call stands in it.
+fn argument(alloc: Global, operand: &Meaning<SelectLeaf>) -> Result<ValueArgument, ResolveError>
+    ensures { Gives argument_of result (spec.argument (operand_of operand.now)) }
 {
-    let kind = operand.kind();
-    ValueArgument {
-        expression: operand.settled(),
-        kind,
-    }
+    Ok(ValueArgument {
+        expression: settled_over_columns(alloc, operand)?,
+        kind: operand.kind(),
+    })
 }
 
 /// A value argument of whole numbers, as a bare NULL is one; else 405.
-fn numbers(operand: Meaning) -> Result<ValueArgument, ResolveError>
-    ensures { Gives argument_of result (spec.numbers (operand_of operand)) }
+fn numbers(alloc: Global, operand: &Meaning<SelectLeaf>) -> Result<ValueArgument, ResolveError>
+    ensures { Gives argument_of result (spec.numbers (operand_of operand.now)) }
 {
-    let expression = match operand {
-        Meaning::Null => Expr::Literal(Value::Null, ValueKind::Number),
-        Meaning::Typed(expression, ValueKind::Number) => Box::into_inner(expression),
-        Meaning::Typed(_, _) => return Err(ResolveError::Refused(Cause::WrongCall)),
-    };
-    Ok(ValueArgument {
-        expression,
-        kind: ValueKind::Number,
-    })
+    match operand {
+        Meaning::Null => Ok(ValueArgument {
+            expression: Expr::Literal(Value::Null, ValueKind::Number),
+            kind: ValueKind::Number,
+        }),
+        Meaning::Typed(_, ValueKind::Number) => argument(alloc, operand),
+        Meaning::Typed(_, _) => Err(ResolveError::Refused(Cause::WrongCall)),
+    }
 }
 
 /// Whether MIN and MAX are there for the values.
@@ -142,49 +146,70 @@ fn is_ordered(kind: ValueKind) -> bool
 }
 
 /// A value argument that MIN and MAX take; else 405.
-fn ordered(operand: Meaning) -> Result<ValueArgument, ResolveError>
-    ensures { Gives argument_of result (spec.ordered (operand_of operand)) }
+fn ordered(alloc: Global, operand: &Meaning<SelectLeaf>) -> Result<ValueArgument, ResolveError>
+    ensures { Gives argument_of result (spec.ordered (operand_of operand.now)) }
 {
     if is_ordered(operand.kind()) {
-        Ok(argument(operand))
+        argument(alloc, operand)
     } else {
         Err(ResolveError::Refused(Cause::WrongCall))
     }
 }
 
-/// NTH_VALUE, with the number of the row from 1.
-fn nth(x: Meaning, n: Meaning) -> Result<AppliedFunction, ResolveError>
-    ensures { Gives function_of result (spec.nth (operand_of x) (operand_of n)) }
+/// The value of the argument at one row of the frame.
+fn value_at(
+    alloc: Global,
+    row: FrameRow,
+    x: &Meaning<SelectLeaf>,
+) -> Result<AppliedFunction, ResolveError>
+    ensures { Gives function_of result (spec.over_argument (calls.value_at row) (operand_of x.now)) }
 {
-    let number = whole(1, &n)?;
-    Ok(AppliedFunction::ValueAt(FrameRow::Nth(number), argument(x)))
+    Ok(AppliedFunction::ValueAt(row, argument(alloc, x)?))
+}
+
+/// NTH_VALUE, with the number of the row from 1.
+fn nth(
+    alloc: Global,
+    x: &Meaning<SelectLeaf>,
+    n: &Meaning<SelectLeaf>,
+) -> Result<AppliedFunction, ResolveError>
+    ensures { Gives function_of result (spec.nth (operand_of x.now) (operand_of n.now)) }
+{
+    let number = whole(1, n)?;
+    value_at(alloc, FrameRow::Nth(number), x)
 }
 
 /// LAG and LEAD, by how far and with the default.
-fn away(direction: Direction, x: Meaning, offset: u64, default: Value) -> AppliedFunction
-    ensures { function_of result ≡ spec.away direction (spec.argument (operand_of x)) offset default }
+fn away(
+    alloc: Global,
+    direction: Direction,
+    x: &Meaning<SelectLeaf>,
+    offset: u64,
+    default: Value,
+) -> Result<AppliedFunction, ResolveError>
+    ensures { Gives function_of result (spec.over_argument (λ a. calls.away direction a offset default) (operand_of x.now)) }
 {
-    AppliedFunction::Shift {
+    Ok(AppliedFunction::Shift {
         direction,
-        argument: argument(x),
+        argument: argument(alloc, x)?,
         offset,
         default,
-    }
+    })
 }
 
 /// LAG and LEAD with literals that say how far and the default.
 fn shifted(
     alloc: Global,
     direction: Direction,
-    x: Meaning,
-    k: Meaning,
-    d: Meaning,
+    x: &Meaning<SelectLeaf>,
+    k: &Meaning<SelectLeaf>,
+    d: &Meaning<SelectLeaf>,
 ) -> Result<AppliedFunction, ResolveError>
-    ensures { Gives function_of result (spec.shifted direction (operand_of x) (operand_of k) (operand_of d)) }
+    ensures { Gives function_of result (spec.shifted direction (operand_of x.now) (operand_of k.now) (operand_of d.now)) }
 {
-    let offset = whole(0, &k)?;
-    let default = default_of(alloc, x.kind(), &d)?;
-    Ok(away(direction, x, offset, default))
+    let offset = whole(0, k)?;
+    let default = default_of(alloc, x.kind(), d)?;
+    away(alloc, direction, x, offset, default)
 }
 
 fn over_none(name: FunctionName) -> Result<AppliedFunction, ResolveError>
@@ -199,29 +224,37 @@ fn over_none(name: FunctionName) -> Result<AppliedFunction, ResolveError>
 }
 
 /// An aggregate over its argument.
-fn aggregate_over(name: FunctionName, x: Meaning) -> Result<AppliedAggregate, ResolveError>
-    ensures { Gives aggregate_of result (spec.aggregate_over name (operand_of x)) }
+fn aggregate_over(
+    alloc: Global,
+    name: FunctionName,
+    x: &Meaning<SelectLeaf>,
+) -> Result<AppliedAggregate, ResolveError>
+    ensures { Gives aggregate_of result (spec.aggregate_over name (operand_of x.now)) }
 {
     match name {
-        FunctionName::Count => Ok(AppliedAggregate::Count(argument(x))),
-        FunctionName::Sum => Ok(AppliedAggregate::Sum(numbers(x)?)),
-        FunctionName::Min => Ok(AppliedAggregate::Min(ordered(x)?)),
-        FunctionName::Max => Ok(AppliedAggregate::Max(ordered(x)?)),
+        FunctionName::Count => Ok(AppliedAggregate::Count(argument(alloc, x)?)),
+        FunctionName::Sum => Ok(AppliedAggregate::Sum(numbers(alloc, x)?)),
+        FunctionName::Min => Ok(AppliedAggregate::Min(ordered(alloc, x)?)),
+        FunctionName::Max => Ok(AppliedAggregate::Max(ordered(alloc, x)?)),
         _ => Err(ResolveError::Refused(Cause::WrongCall)),
     }
 }
 
-fn over_one(name: FunctionName, x: Meaning) -> Result<AppliedFunction, ResolveError>
-    ensures { Gives function_of result (spec.over_one name (operand_of x)) }
+fn over_one(
+    alloc: Global,
+    name: FunctionName,
+    x: &Meaning<SelectLeaf>,
+) -> Result<AppliedFunction, ResolveError>
+    ensures { Gives function_of result (spec.over_one name (operand_of x.now)) }
 {
     match name {
-        FunctionName::Ntile => Ok(AppliedFunction::Ranking(Ranking::Ntile(whole(1, &x)?))),
-        FunctionName::Lag => Ok(away(Direction::Lag, x, ONE_ROW, Value::Null)),
-        FunctionName::Lead => Ok(away(Direction::Lead, x, ONE_ROW, Value::Null)),
-        FunctionName::FirstValue => Ok(AppliedFunction::ValueAt(FrameRow::First, argument(x))),
-        FunctionName::LastValue => Ok(AppliedFunction::ValueAt(FrameRow::Last, argument(x))),
+        FunctionName::Ntile => Ok(AppliedFunction::Ranking(Ranking::Ntile(whole(1, x)?))),
+        FunctionName::Lag => away(alloc, Direction::Lag, x, ONE_ROW, Value::Null),
+        FunctionName::Lead => away(alloc, Direction::Lead, x, ONE_ROW, Value::Null),
+        FunctionName::FirstValue => value_at(alloc, FrameRow::First, x),
+        FunctionName::LastValue => value_at(alloc, FrameRow::Last, x),
         FunctionName::Count | FunctionName::Sum | FunctionName::Min | FunctionName::Max => {
-            Ok(AppliedFunction::Aggregate(aggregate_over(name, x)?))
+            Ok(AppliedFunction::Aggregate(aggregate_over(alloc, name, x)?))
         }
         FunctionName::RowNumber
         | FunctionName::Rank
@@ -233,15 +266,15 @@ fn over_one(name: FunctionName, x: Meaning) -> Result<AppliedFunction, ResolveEr
 fn over_two(
     alloc: Global,
     name: FunctionName,
-    x: Meaning,
-    y: Meaning,
+    x: &Meaning<SelectLeaf>,
+    y: &Meaning<SelectLeaf>,
 ) -> Result<AppliedFunction, ResolveError>
-    ensures { Gives function_of result (spec.over_two name (operand_of x) (operand_of y)) }
+    ensures { Gives function_of result (spec.over_two name (operand_of x.now) (operand_of y.now)) }
 {
     match name {
-        FunctionName::Lag => shifted(alloc, Direction::Lag, x, y, Meaning::Null),
-        FunctionName::Lead => shifted(alloc, Direction::Lead, x, y, Meaning::Null),
-        FunctionName::NthValue => nth(x, y),
+        FunctionName::Lag => shifted(alloc, Direction::Lag, x, y, &Meaning::Null),
+        FunctionName::Lead => shifted(alloc, Direction::Lead, x, y, &Meaning::Null),
+        FunctionName::NthValue => nth(alloc, x, y),
         _ => Err(ResolveError::Refused(Cause::WrongCall)),
     }
 }
@@ -249,11 +282,11 @@ fn over_two(
 fn over_three(
     alloc: Global,
     name: FunctionName,
-    x: Meaning,
-    y: Meaning,
-    z: Meaning,
+    x: &Meaning<SelectLeaf>,
+    y: &Meaning<SelectLeaf>,
+    z: &Meaning<SelectLeaf>,
 ) -> Result<AppliedFunction, ResolveError>
-    ensures { Gives function_of result (spec.over_three name (operand_of x) (operand_of y) (operand_of z)) }
+    ensures { Gives function_of result (spec.over_three name (operand_of x.now) (operand_of y.now) (operand_of z.now)) }
 {
     match name {
         FunctionName::Lag => shifted(alloc, Direction::Lag, x, y, z),
@@ -265,24 +298,17 @@ fn over_three(
 fn over_arguments(
     alloc: Global,
     name: FunctionName,
-    arguments: Vec<Meaning>,
+    arguments: &[Meaning<SelectLeaf>],
 ) -> Result<AppliedFunction, ResolveError>
-    ensures { Gives function_of result (spec.over_arguments name (map operand_of arguments.items)) }
+    ensures { Gives function_of result (spec.over_arguments name (map operand_of arguments.now)) }
 {
-    let mut arguments = arguments.into_iter();
-    let Some(x) = arguments.next() else {
-        return over_none(name);
-    };
-    let Some(y) = arguments.next() else {
-        return over_one(name, x);
-    };
-    let Some(z) = arguments.next() else {
-        return over_two(alloc, name, x, y);
-    };
-    if arguments.next().is_some() {
-        return Err(ResolveError::Refused(Cause::WrongCall));
+    match arguments {
+        [] => over_none(name),
+        [x] => over_one(alloc, name, x),
+        [x, y] => over_two(alloc, name, x, y),
+        [x, y, z] => over_three(alloc, name, x, y, z),
+        _ => Err(ResolveError::Refused(Cause::WrongCall)),
     }
-    over_three(alloc, name, x, y, z)
 }
 
 /// COUNT(*) alone takes a star.
@@ -299,15 +325,15 @@ fn over_star(name: FunctionName) -> Result<AppliedFunction, ResolveError>
 pub(crate) fn applied(
     alloc: Global,
     name: &str,
-    arguments: Option<Vec<Meaning>>,
+    arguments: Option<Vec<Meaning<SelectLeaf>>>,
 ) -> Result<AppliedFunction, ResolveError>
-    ensures { Gives function_of result (spec.applied (spec.function_named name.now) (option_map spec.operands_of arguments)) }
+    ensures { Gives function_of result (spec.applied (spec.function_named name.now) (option_map operands_of arguments)) }
 {
     let Some(name) = function_named(name) else {
         return Err(ResolveError::Refused(Cause::WrongCall));
     };
     match arguments {
         None => over_star(name),
-        Some(arguments) => over_arguments(alloc, name, arguments),
+        Some(arguments) => over_arguments(alloc, name, &arguments),
     }
 }
