@@ -1,4 +1,5 @@
 pub mod Sizes
+pub mod Held
 pub mod Wrong
 pub mod Nodes
 pub mod Enough

@@ -33,7 +33,7 @@ or_right false b e = e
 neither : (a b : Bool) → a ≡ false → b ≡ false → (a || b) ≡ false
 neither a b h g = λ i. h i || g i
 
-module _ (instance : Instance) (choice : List (List ℕ)) (first : ℕ) where
+module _ (tables instance : Instance) (choice : List (List ℕ)) (first : ℕ) where
   abbrev rest : List (List ℕ)
   rest = drop first choice
 
@@ -46,7 +46,7 @@ module _ (instance : Instance) (choice : List (List ℕ)) (first : ℕ) where
 
   -- ---- Scan
 
-  pub scan_done : (table columns : ℕ) (o : Produced) → IsSmall (Ok (table_at instance table)) (produced_of instance o) → IsEvaluated (Scan table columns) instance choice first (record { outcome = o; next = first })
+  pub scan_done : (table columns : ℕ) (o : Produced) → IsSmall (Ok (table_at instance table)) (produced_of tables o) → IsEvaluated (Scan table columns) tables instance choice first (record { outcome = o; next = first })
   scan_done table columns o s = record { is = s.is; next = omega arith; served = record { present = omega arith; lawful = tt }; small = s.small; each = s.small }
 
   pub scan_stopped : (table columns : ℕ) (e : EvalError) → IsLarge (Ok (table_at instance table)) e → IsStopped (Scan table columns) instance choice first e
@@ -56,8 +56,8 @@ module _ (instance : Instance) (choice : List (List ℕ)) (first : ℕ) where
 
   -- ---- Filter, Map and Distinct
 
-  module _ (input : PlanTree) (below : Evaluated) (b : IsEvaluated input instance choice first below) (o : Outcome) where
-    pub filter_done : (condition : Expression) → outcome_of o ≡ and_then (produced_of instance below.outcome) (filter_outcome condition) → IsEvaluated (Filter condition input) instance choice first (record { outcome = Made o; next = below.next })
+  module _ (input : PlanTree) (below : Evaluated) (b : IsEvaluated input tables instance choice first below) (o : Outcome) where
+    pub filter_done : (condition : Expression) → outcome_of o ≡ and_then (produced_of tables below.outcome) (filter_outcome condition) → IsEvaluated (Filter condition input) tables instance choice first (record { outcome = Made o; next = below.next })
     filter_done condition is = record {
       is = is ∙ ap (λ r. and_then r (filter_outcome condition)) b.is;
       next = b.next;
@@ -66,7 +66,7 @@ module _ (instance : Instance) (choice : List (List ℕ)) (first : ℕ) where
       each = neither (has_large_step input instance rest) (is_large (Filter condition input) instance rest) b.each (fewer_filter most_rows condition (outcome input instance rest) b.small);
     }
 
-    pub map_done : (outputs : List Expression) → outcome_of o ≡ and_then (produced_of instance below.outcome) (map_outcome outputs) → IsEvaluated (Map outputs input) instance choice first (record { outcome = Made o; next = below.next })
+    pub map_done : (outputs : List Expression) → outcome_of o ≡ and_then (produced_of tables below.outcome) (map_outcome outputs) → IsEvaluated (Map outputs input) tables instance choice first (record { outcome = Made o; next = below.next })
     map_done outputs is = record {
       is = is ∙ ap (λ r. and_then r (map_outcome outputs)) b.is;
       next = b.next;
@@ -75,7 +75,7 @@ module _ (instance : Instance) (choice : List (List ℕ)) (first : ℕ) where
       each = neither (has_large_step input instance rest) (is_large (Map outputs input) instance rest) b.each (fewer_map most_rows outputs (outcome input instance rest) b.small);
     }
 
-    pub distinct_done : outcome_of o ≡ and_then (produced_of instance below.outcome) (λ rows. Ok (distinct rows)) → IsEvaluated (Distinct input) instance choice first (record { outcome = Made o; next = below.next })
+    pub distinct_done : outcome_of o ≡ and_then (produced_of tables below.outcome) (λ rows. Ok (distinct rows)) → IsEvaluated (Distinct input) tables instance choice first (record { outcome = Made o; next = below.next })
     distinct_done is = record {
       is = is ∙ ap (λ r. and_then r (λ rows. Ok (distinct rows))) b.is;
       next = b.next;
@@ -107,11 +107,11 @@ module _ (instance : Instance) (choice : List (List ℕ)) (first : ℕ) where
   abbrev IsLawfulWindow : WindowRule → RowsOrFault → List (List ℕ) → Type 0
   IsLawfulWindow w input orderings = AtRows input (λ rows. AreOrderings w rows orderings) (AllByRecursion (λ o. o ≡ []) orderings)
 
-  module _ (w : WindowRule) (input : PlanTree) (below : Evaluated) (within : first ≤ length choice) (b : IsEvaluated input instance choice first below) where
+  module _ (w : WindowRule) (input : PlanTree) (below : Evaluated) (within : first ≤ length choice) (b : IsEvaluated input tables instance choice first below) where
     own_is : take (length w.classes) (drop below.next choice) ≡ own_window w input
     own_is = ap (take (length w.classes)) (behind (ordering_count input) below.next b.next)
 
-    pub window_done : (o : Outcome) (next : ℕ) → IsExtended w (produced_of instance below.outcome) choice below.next o → next ≡ below.next + length w.classes → IsEvaluated (Window w input) instance choice first (record { outcome = Made o; next = next })
+    pub window_done : (o : Outcome) (next : ℕ) → IsExtended w (produced_of tables below.outcome) choice below.next o → next ≡ below.next + length w.classes → IsEvaluated (Window w input) tables instance choice first (record { outcome = Made o; next = next })
     window_done o next x e =
         let long = long_rest within in
         let there = x.served.present in
@@ -121,14 +121,14 @@ module _ (instance : Instance) (choice : List (List ℕ)) (first : ℕ) where
           next = omega arith;
           served = record {
             present = omega arith;
-            lawful = (b.served.lawful, subst (λ (r : RowsOrFault). IsLawfulWindow w r (own_window w input)) b.is (subst (IsLawfulWindow w (produced_of instance below.outcome)) own_is x.served.lawful));
+            lawful = (b.served.lawful, subst (λ (r : RowsOrFault). IsLawfulWindow w r (own_window w input)) b.is (subst (IsLawfulWindow w (produced_of tables below.outcome)) own_is x.served.lawful));
           };
           small = fewer_window most_rows w (own_window w input) (outcome input instance rest) b.small;
           each = neither (has_large_step input instance rest) (is_large (Window w input) instance rest) b.each (fewer_window most_rows w (own_window w input) (outcome input instance rest) b.small);
         }
 
-  pub window_stopped : (w : WindowRule) (input : PlanTree) (below : Evaluated) → IsEvaluated input instance choice first below → (e : EvalError)
-      → IsUnserved (IsLeast (IsWrongIn w (produced_of instance below.outcome) choice below.next)) e → IsStopped (Window w input) instance choice first e
+  pub window_stopped : (w : WindowRule) (input : PlanTree) (below : Evaluated) → IsEvaluated input tables instance choice first below → (e : EvalError)
+      → IsUnserved (IsLeast (IsWrongIn w (produced_of tables below.outcome) choice below.next)) e → IsStopped (Window w input) instance choice first e
   window_stopped w input below b (NotValid p) h =
       let own = subst (λ (n : ℕ). IsLeast (IsWrongIn w (outcome input instance rest) choice n) p) b.next (subst (λ (r : RowsOrFault). IsLeast (IsWrongIn w r choice below.next) p) b.is h) in (
         inr own.0,
@@ -156,14 +156,14 @@ module _ (instance : Instance) (choice : List (List ℕ)) (first : ℕ) where
   abbrev IsLawfulLimit : LimitRule → RowsOrFault → List ℕ → Type 0
   IsLawfulLimit limit input ordering = AtRows input (λ rows. IsOrdering (limit_class limit) rows ordering) (ordering ≡ [])
 
-  module _ (limit : LimitRule) (input : PlanTree) (below : Evaluated) (within : first ≤ length choice) (b : IsEvaluated input instance choice first below) where
+  module _ (limit : LimitRule) (input : PlanTree) (below : Evaluated) (within : first ≤ length choice) (b : IsEvaluated input tables instance choice first below) where
     own_at : ordering_at choice below.next ≡ ordering_at rest (ordering_count input)
     own_at = ap (ordering_at choice) b.next ∙ sym (get_or-drop first choice (ordering_count input) [])
 
-    lawful_here : IsLawfulLimit limit (produced_of instance below.outcome) (ordering_at choice below.next) → IsLawfulLimit limit (outcome input instance rest) (ordering_at rest (ordering_count input))
-    lawful_here h = subst (λ (r : RowsOrFault). IsLawfulLimit limit r (ordering_at rest (ordering_count input))) b.is (subst (IsLawfulLimit limit (produced_of instance below.outcome)) own_at h)
+    lawful_here : IsLawfulLimit limit (produced_of tables below.outcome) (ordering_at choice below.next) → IsLawfulLimit limit (outcome input instance rest) (ordering_at rest (ordering_count input))
+    lawful_here h = subst (λ (r : RowsOrFault). IsLawfulLimit limit r (ordering_at rest (ordering_count input))) b.is (subst (IsLawfulLimit limit (produced_of tables below.outcome)) own_at h)
 
-    pub limit_done : (o : Outcome) (next : ℕ) → IsCut limit (produced_of instance below.outcome) choice below.next o → next ≡ below.next + 1 → IsEvaluated (Limit limit input) instance choice first (record { outcome = Made o; next = next })
+    pub limit_done : (o : Outcome) (next : ℕ) → IsCut limit (produced_of tables below.outcome) choice below.next o → next ≡ below.next + 1 → IsEvaluated (Limit limit input) tables instance choice first (record { outcome = Made o; next = next })
     limit_done o next x e =
         let long = long_rest within in
         let there = x.served.present in
@@ -177,8 +177,8 @@ module _ (instance : Instance) (choice : List (List ℕ)) (first : ℕ) where
           each = neither (has_large_step input instance rest) (is_large (Limit limit input) instance rest) b.each (fewer_cut most_rows limit (ordering_at rest (ordering_count input)) (outcome input instance rest) lawful b.small);
         }
 
-  pub limit_stopped : (limit : LimitRule) (input : PlanTree) (below : Evaluated) → IsEvaluated input instance choice first below → (e : EvalError)
-      → IsUnserved (IsWrong (limit_class limit) (produced_of instance below.outcome) choice below.next) e → IsStopped (Limit limit input) instance choice first e
+  pub limit_stopped : (limit : LimitRule) (input : PlanTree) (below : Evaluated) → IsEvaluated input tables instance choice first below → (e : EvalError)
+      → IsUnserved (IsWrong (limit_class limit) (produced_of tables below.outcome) choice below.next) e → IsStopped (Limit limit input) instance choice first e
   limit_stopped limit input below b (NotValid p) h =
       let own = subst (λ (n : ℕ). IsWrong (limit_class limit) (outcome input instance rest) choice n p) b.next (subst (λ (r : RowsOrFault). IsWrong (limit_class limit) r choice below.next p) b.is h) in (
         inr own,
@@ -203,7 +203,7 @@ module _ (instance : Instance) (choice : List (List ℕ)) (first : ℕ) where
 
 -- ---- Join
 
-module _ (instance : Instance) (choice : List (List ℕ)) (first : ℕ) (condition : Option Expression) (left right : PlanTree) where
+module _ (tables instance : Instance) (choice : List (List ℕ)) (first : ℕ) (condition : Option Expression) (left right : PlanTree) where
   abbrev all : List (List ℕ)
   all = drop first choice
 
@@ -221,9 +221,9 @@ module _ (instance : Instance) (choice : List (List ℕ)) (first : ℕ) (conditi
   join_stopped_left TooManyRows h = or_left (has_large_step left instance all || has_large_step right instance on_right) (is_large (Join condition left right) instance all) (or_left (has_large_step left instance all) (has_large_step right instance on_right) h)
   join_stopped_left OutOfMemory h = tt
 
-  module _ (l : Evaluated) (a : IsEvaluated left instance choice first l) where
+  module _ (l : Evaluated) (a : IsEvaluated left tables instance choice first l) where
     right_is : drop l.next choice ≡ on_right
-    right_is = behind instance choice first (ordering_count left) l.next a.next
+    right_is = behind tables instance choice first (ordering_count left) l.next a.next
 
     pub join_stopped_right : (e : EvalError) → IsStopped right instance choice l.next e → IsStopped (Join condition left right) instance choice first e
     join_stopped_right (NotValid p) h =
@@ -239,17 +239,17 @@ module _ (instance : Instance) (choice : List (List ℕ)) (first : ℕ) (conditi
         or_left (has_large_step left instance all || has_large_step right instance on_right) (is_large (Join condition left right) instance all) (or_right (has_large_step left instance all) (has_large_step right instance on_right) large)
     join_stopped_right OutOfMemory h = tt
 
-    module _ (r : Evaluated) (b : IsEvaluated right instance choice l.next r) where
+    module _ (r : Evaluated) (b : IsEvaluated right tables instance choice l.next r) where
       abbrev below : RowsOrFault
-      below = join_over condition (produced_of instance l.outcome) (produced_of instance r.outcome)
+      below = join_over condition (produced_of tables l.outcome) (produced_of tables r.outcome)
 
       below_is : below ≡ outcome (Join condition left right) instance all
       below_is = λ i. join_over condition (a.is i) (right_outcome i)
         where
-          right_outcome : produced_of instance r.outcome ≡ outcome right instance on_right
+          right_outcome : produced_of tables r.outcome ≡ outcome right instance on_right
           right_outcome = b.is ∙ ap (outcome right instance) right_is
 
-      pub join_done : (o : Produced) → IsSmall below (produced_of instance o) → IsEvaluated (Join condition left right) instance choice first (record { outcome = o; next = r.next })
+      pub join_done : (o : Produced) → IsSmall below (produced_of tables o) → IsEvaluated (Join condition left right) tables instance choice first (record { outcome = o; next = r.next })
       join_done o s =
           let here = a.next in
           let there = b.next in

@@ -117,8 +117,8 @@ large-append instance (Window w input) choice more h = λ i. large-append instan
 large-append instance (Distinct input) choice more h = λ i. large-append instance input choice more h i || has_more_rows most_rows (outcome-append (Distinct input) instance choice more h i)
 large-append instance (Limit limit input) choice more h = λ i. large-append instance input choice more (omega arith) i || has_more_rows most_rows (outcome-append (Limit limit input) instance choice more h i)
 
-pub evaluated_append : (plan : PlanTree) (instance : Instance) (choice more : List (List ℕ)) (first : ℕ) (e : Evaluated) → first ≤ length choice → IsEvaluated plan instance choice first e → IsEvaluated plan instance (choice ++ more) first e
-evaluated_append plan instance choice more first e h b =
+pub evaluated_append : (plan : PlanTree) (tables instance : Instance) (choice more : List (List ℕ)) (first : ℕ) (e : Evaluated) → first ≤ length choice → IsEvaluated plan tables instance choice first e → IsEvaluated plan tables instance (choice ++ more) first e
+evaluated_append plan tables instance choice more first e h b =
     let cut_off = drop-append-le first choice more h in
     let there = b.served.present in
     let same : outcome plan instance (drop first (choice ++ more)) ≡ outcome plan instance (drop first choice) = ap (outcome plan instance) cut_off ∙ outcome-append plan instance (drop first choice) more there in
@@ -141,15 +141,15 @@ memory_untied plan instance flipped first (NotValid p) h = h
 memory_untied plan instance flipped first TooManyRows h = absurd h
 memory_untied plan instance flipped first OutOfMemory h = tt
 
-module _ (instance : Instance) (flipped : Option ℕ) (old : List (List ℕ)) where
+module _ (tables instance : Instance) (flipped : Option ℕ) (old : List (List ℕ)) where
   grown_long : (mid own : List (List ℕ)) → mid ≡ old ++ own → length old ≤ length mid
   grown_long mid own e = let long = ap length e ∙ length-append old own in omega arith
 
-  pub scan_tied : (table columns : ℕ) (o : Produced) → IsSmall (Ok (table_at instance table)) (produced_of instance o) → IsTied (Scan table columns) instance flipped old old o
+  pub scan_tied : (table columns : ℕ) (o : Produced) → IsSmall (Ok (table_at instance table)) (produced_of tables o) → IsTied (Scan table columns) tables instance flipped old old o
   scan_tied table columns o s = record {
     own = [];
     grown = sym (append-nil old);
-    evaluated = scan_done instance old (length old) table columns o s;
+    evaluated = scan_done tables instance old (length old) table columns o s;
     tied = tt;
   }
 
@@ -158,28 +158,28 @@ module _ (instance : Instance) (flipped : Option ℕ) (old : List (List ℕ)) wh
   scan_untied table columns TooManyRows h = λ choice long s. h
   scan_untied table columns OutOfMemory h = tt
 
-  module _ (input : PlanTree) (new : List (List ℕ)) (below : Produced) (b : IsTied input instance flipped old new below) (o : Outcome) where
-    pub filter_tied : (condition : Expression) → outcome_of o ≡ and_then (produced_of instance below) (filter_outcome condition) → IsTied (Filter condition input) instance flipped old new (Made o)
+  module _ (input : PlanTree) (new : List (List ℕ)) (below : Produced) (b : IsTied input tables instance flipped old new below) (o : Outcome) where
+    pub filter_tied : (condition : Expression) → outcome_of o ≡ and_then (produced_of tables below) (filter_outcome condition) → IsTied (Filter condition input) tables instance flipped old new (Made o)
     filter_tied condition is = record {
       own = b.own;
       grown = b.grown;
-      evaluated = filter_done instance new (length old) input (record { outcome = below; next = length new }) b.evaluated o condition is;
+      evaluated = filter_done tables instance new (length old) input (record { outcome = below; next = length new }) b.evaluated o condition is;
       tied = b.tied;
     }
 
-    pub map_tied : (outputs : List Expression) → outcome_of o ≡ and_then (produced_of instance below) (map_outcome outputs) → IsTied (Map outputs input) instance flipped old new (Made o)
+    pub map_tied : (outputs : List Expression) → outcome_of o ≡ and_then (produced_of tables below) (map_outcome outputs) → IsTied (Map outputs input) tables instance flipped old new (Made o)
     map_tied outputs is = record {
       own = b.own;
       grown = b.grown;
-      evaluated = map_done instance new (length old) input (record { outcome = below; next = length new }) b.evaluated o outputs is;
+      evaluated = map_done tables instance new (length old) input (record { outcome = below; next = length new }) b.evaluated o outputs is;
       tied = b.tied;
     }
 
-    pub distinct_tied : outcome_of o ≡ and_then (produced_of instance below) (λ rows. Ok (distinct rows)) → IsTied (Distinct input) instance flipped old new (Made o)
+    pub distinct_tied : outcome_of o ≡ and_then (produced_of tables below) (λ rows. Ok (distinct rows)) → IsTied (Distinct input) tables instance flipped old new (Made o)
     distinct_tied is = record {
       own = b.own;
       grown = b.grown;
-      evaluated = distinct_done instance new (length old) input (record { outcome = below; next = length new }) b.evaluated o is;
+      evaluated = distinct_done tables instance new (length old) input (record { outcome = below; next = length new }) b.evaluated o is;
       tied = b.tied;
     }
 
@@ -210,13 +210,13 @@ module _ (instance : Instance) (flipped : Option ℕ) (old : List (List ℕ)) wh
 
   -- ---- what stands after the orderings of a node below
 
-  module _ (plan : PlanTree) (mid own new : List (List ℕ)) (o : Produced) (b : IsTied plan instance flipped old mid o) (e : new ≡ mid ++ own) where
+  module _ (plan : PlanTree) (mid own new : List (List ℕ)) (o : Produced) (b : IsTied plan tables instance flipped old mid o) (e : new ≡ mid ++ own) where
     abbrev at_mid : Evaluated
     at_mid = record { outcome = o; next = length mid }
 
-    pub still : IsEvaluated plan instance new (length old) at_mid
-    still = subst (λ (ch : List (List ℕ)). IsEvaluated plan instance ch (length old) at_mid) (sym e)
-        (evaluated_append plan instance mid own (length old) at_mid (grown_long mid b.own b.grown) b.evaluated)
+    pub still : IsEvaluated plan tables instance new (length old) at_mid
+    still = subst (λ (ch : List (List ℕ)). IsEvaluated plan tables instance ch (length old) at_mid) (sym e)
+        (evaluated_append plan tables instance mid own (length old) at_mid (grown_long mid b.own b.grown) b.evaluated)
 
     rest : drop (length old) new ≡ drop (length old) mid ++ own
     rest = ap (drop (length old)) e ∙ drop-append-le (length old) mid own (grown_long mid b.own b.grown)
@@ -233,13 +233,13 @@ module _ (instance : Instance) (flipped : Option ℕ) (old : List (List ℕ)) wh
         ∙ ap (λ ch. get_or ch (length mid + k) []) e
         ∙ get_or-append-add mid own k []
 
-    pub below_is : produced_of instance o ≡ outcome plan instance (drop (length old) new)
+    pub below_is : produced_of tables o ≡ outcome plan instance (drop (length old) new)
     below_is = still.is
 
     pub grown_more : new ≡ old ++ (b.own ++ own)
     grown_more = e ∙ ap (λ ch. ch ++ own) b.grown ∙ append_assoc old b.own own
 
-  pub window_tied : (w : WindowRule) (input : PlanTree) (mid new : List (List ℕ)) (below : Produced) (o : Outcome) → IsTied input instance flipped old mid below → IsTiedWindow w (produced_of instance below) flipped mid new o → IsTied (Window w input) instance flipped old new (Made o)
+  pub window_tied : (w : WindowRule) (input : PlanTree) (mid new : List (List ℕ)) (below : Produced) (o : Outcome) → IsTied input tables instance flipped old mid below → IsTiedWindow w (produced_of tables below) flipped mid new o → IsTied (Window w input) tables instance flipped old new (Made o)
   window_tied w input mid new below o b x =
       let own = x.put.own in
       let e = x.put.grown in
@@ -252,18 +252,18 @@ module _ (instance : Instance) (flipped : Option ℕ) (old : List (List ℕ)) wh
       record {
         own = b.own ++ own;
         grown = grown_more input mid own new below b e;
-        evaluated = window_done instance new (length old) w input (record { outcome = below; next = length mid }) (omega arith) (still input mid own new below b e) o (length new) x.extended (omega arith);
+        evaluated = window_done tables instance new (length old) w input (record { outcome = below; next = length mid }) (omega arith) (still input mid own new below b e) o (length new) x.extended (omega arith);
         tied = (
           still_tied input mid own new below b e,
           λ k l. (
               let number : length mid + k ≡ length old + ordering_count input + k = omega arith in
               subst (IsSortedOver (class_at w k) (is_flipped flipped (length old + ordering_count input + k)) (outcome input instance (drop (length old) new))) (sym (put_at input mid own new below b e k))
               (subst (λ (r : RowsOrFault). IsSortedOver (class_at w k) (is_flipped flipped (length old + ordering_count input + k)) r (ordering_at own k)) (below_is input mid own new below b e)
-              (subst (λ (n : ℕ). IsSortedOver (class_at w k) (is_flipped flipped n) (produced_of instance below) (ordering_at own k)) number (sorted.each k l)))),
+              (subst (λ (n : ℕ). IsSortedOver (class_at w k) (is_flipped flipped n) (produced_of tables below) (ordering_at own k)) number (sorted.each k l)))),
         );
       }
 
-  pub limit_tied : (limit : LimitRule) (input : PlanTree) (mid new : List (List ℕ)) (below : Produced) (o : Outcome) → IsTied input instance flipped old mid below → IsTiedLimit limit (produced_of instance below) flipped mid new o → IsTied (Limit limit input) instance flipped old new (Made o)
+  pub limit_tied : (limit : LimitRule) (input : PlanTree) (mid new : List (List ℕ)) (below : Produced) (o : Outcome) → IsTied input tables instance flipped old mid below → IsTiedLimit limit (produced_of tables below) flipped mid new o → IsTied (Limit limit input) tables instance flipped old new (Made o)
   limit_tied limit input mid new below o b x =
       let own = x.own ∷ [] in
       let e = x.grown in
@@ -276,12 +276,12 @@ module _ (instance : Instance) (flipped : Option ℕ) (old : List (List ℕ)) wh
       record {
         own = b.own ++ own;
         grown = grown_more input mid own new below b e;
-        evaluated = limit_done instance new (length old) limit input (record { outcome = below; next = length mid }) (omega arith) (still input mid own new below b e) o (length new) x.is (omega arith);
+        evaluated = limit_done tables instance new (length old) limit input (record { outcome = below; next = length mid }) (omega arith) (still input mid own new below b e) o (length new) x.is (omega arith);
         tied = (
           still_tied input mid own new below b e,
           subst (IsSortedOver (limit_class limit) (is_flipped flipped (length old + ordering_count input)) (outcome input instance (drop (length old) new))) (sym at)
               (subst (λ (r : RowsOrFault). IsSortedOver (limit_class limit) (is_flipped flipped (length old + ordering_count input)) r x.own) (below_is input mid own new below b e)
-              (subst (λ (n : ℕ). IsSortedOver (limit_class limit) (is_flipped flipped n) (produced_of instance below) x.own) number x.sorted)),
+              (subst (λ (n : ℕ). IsSortedOver (limit_class limit) (is_flipped flipped n) (produced_of tables below) x.own) number x.sorted)),
         );
       }
 
@@ -296,7 +296,7 @@ module _ (instance : Instance) (flipped : Option ℕ) (old : List (List ℕ)) wh
         or_left (on_left || on_right) (is_large (Join condition left right) instance choice) (or_left on_left on_right (h choice (omega arith) s.0)))
     join_untied_left OutOfMemory h = tt
 
-    module _ (mid : List (List ℕ)) (lo : Produced) (l : IsTied left instance flipped old mid lo) where
+    module _ (mid : List (List ℕ)) (lo : Produced) (l : IsTied left tables instance flipped old mid lo) where
       pub join_untied_right : (e : EvalError) → IsUntied right instance flipped (length mid) e → IsUntied (Join condition left right) instance flipped (length old) e
       join_untied_right (NotValid p) h = h
       join_untied_right TooManyRows h = λ choice long s. (
@@ -308,7 +308,7 @@ module _ (instance : Instance) (flipped : Option ℕ) (old : List (List ℕ)) wh
           (or_right on_left on_right (h (drop n choice) (omega arith) (subst (λ (k : ℕ). AreTied right instance flipped k (drop n choice)) (sym l.evaluated.next) s.1))))
       join_untied_right OutOfMemory h = tt
 
-      module _ (new : List (List ℕ)) (ro : Produced) (r : IsTied right instance flipped mid new ro) where
+      module _ (new : List (List ℕ)) (ro : Produced) (r : IsTied right tables instance flipped mid new ro) where
         right_rest : drop (ordering_count left) (drop (length old) new) ≡ drop (length mid) new
         right_rest = drop-drop (ordering_count left) (length old) new ∙ ap (λ k. drop k new) (sym l.evaluated.next)
 
@@ -318,33 +318,33 @@ module _ (instance : Instance) (flipped : Option ℕ) (old : List (List ℕ)) wh
         both_tied : AreTied (Join condition left right) instance flipped (length old) (drop (length old) new)
         both_tied = (still_tied left mid r.own new lo l r.grown, right_tied)
 
-        pub join_tied : (o : Produced) → IsSmall (join_over condition (produced_of instance lo) (produced_of instance ro)) (produced_of instance o) → IsTied (Join condition left right) instance flipped old new o
+        pub join_tied : (o : Produced) → IsSmall (join_over condition (produced_of tables lo) (produced_of tables ro)) (produced_of tables o) → IsTied (Join condition left right) tables instance flipped old new o
         join_tied o s = record {
           own = l.own ++ r.own;
           grown = grown_more left mid r.own new lo l r.grown;
-          evaluated = join_done instance new (length old) condition left right (record { outcome = lo; next = length mid }) (still left mid r.own new lo l r.grown) (record { outcome = ro; next = length new }) r.evaluated o s;
+          evaluated = join_done tables instance new (length old) condition left right (record { outcome = lo; next = length mid }) (still left mid r.own new lo l r.grown) (record { outcome = ro; next = length new }) r.evaluated o s;
           tied = both_tied;
         }
 
-        large_here : has_more_rows most_rows (join_over condition (produced_of instance lo) (produced_of instance ro)) ≡ true → (choice : List (List ℕ)) → ordering_count left + ordering_count right ≤ length choice → AreTied (Join condition left right) instance flipped (length old) choice → is_large (Join condition left right) instance choice ≡ true
+        large_here : has_more_rows most_rows (join_over condition (produced_of tables lo) (produced_of tables ro)) ≡ true → (choice : List (List ℕ)) → ordering_count left + ordering_count right ≤ length choice → AreTied (Join condition left right) instance flipped (length old) choice → is_large (Join condition left right) instance choice ≡ true
         large_here h choice long s =
             let next = l.evaluated.next in
             let last = r.evaluated.next in
             let size = length-drop (length old) new in
             let enough : ordering_count left + ordering_count right ≤ length (drop (length old) new) = omega arith in
             let same : outcome (Join condition left right) instance choice ≡ outcome (Join condition left right) instance (drop (length old) new) = one_outcome instance flipped (Join condition left right) (length old) choice (drop (length old) new) long enough s both_tied in
-            let on_left : produced_of instance lo ≡ outcome left instance (drop (length old) new) = below_is left mid r.own new lo l r.grown in
-            let on_right : produced_of instance ro ≡ outcome right instance (drop (ordering_count left) (drop (length old) new)) = r.evaluated.is ∙ ap (outcome right instance) (sym right_rest) in
+            let on_left : produced_of tables lo ≡ outcome left instance (drop (length old) new) = below_is left mid r.own new lo l r.grown in
+            let on_right : produced_of tables ro ≡ outcome right instance (drop (ordering_count left) (drop (length old) new)) = r.evaluated.is ∙ ap (outcome right instance) (sym right_rest) in
             ap (has_more_rows most_rows) same ∙ (λ i. has_more_rows most_rows (join_over condition (sym on_left i) (sym on_right i))) ∙ h
 
-        pub join_untied : (e : EvalError) → IsLarge (join_over condition (produced_of instance lo) (produced_of instance ro)) e → IsUntied (Join condition left right) instance flipped (length old) e
+        pub join_untied : (e : EvalError) → IsLarge (join_over condition (produced_of tables lo) (produced_of tables ro)) e → IsUntied (Join condition left right) instance flipped (length old) e
         join_untied (NotValid p) h = absurd h
         join_untied TooManyRows h = λ choice long s. or_right (has_large_step left instance choice || has_large_step right instance (drop (ordering_count left) choice)) (is_large (Join condition left right) instance choice) (large_here h choice long s)
         join_untied OutOfMemory h = tt
 
 -- ---- whole plans
 
-module _ (plan : PlanTree) (instance : Instance) (flipped : Option ℕ) (new : List (List ℕ)) (g : Produced) (t : IsTied plan instance flipped [] new g) where
+module _ (plan : PlanTree) (tables instance : Instance) (flipped : Option ℕ) (new : List (List ℕ)) (g : Produced) (t : IsTied plan tables instance flipped [] new g) where
   pub tied_valid : IsValidTiedChoice plan instance flipped new
   tied_valid = record {
     tied = record { number = t.evaluated.next ∙ omega arith; tied = t.tied };
@@ -352,5 +352,5 @@ module _ (plan : PlanTree) (instance : Instance) (flipped : Option ℕ) (new : L
     small = t.evaluated.each;
   }
 
-  pub tied_outcome : (o : Outcome) → outcome_of o ≡ produced_of instance g → IsOutcome plan instance new o
+  pub tied_outcome : (o : Outcome) → outcome_of o ≡ produced_of tables g → IsOutcome plan instance new o
   tied_outcome o e = record { valid = tied_valid.valid; small = t.evaluated.each; is = e ∙ t.evaluated.is }

@@ -62,9 +62,9 @@ within_choice choice first h = let long = length-map choice (λ v. v.items) in o
 behind_made : (made : List (Vec ℕ Global)) (first : ℕ) → first ≡ length made → first ≡ length (orderings_of made)
 behind_made made first e = e ∙ sym (length-map made (λ v. v.items))
 
-module _ (instance : Instance) (first : ℕ) (old new : List (Vec ℕ Global)) where
+module _ (tables instance : Instance) (first : ℕ) (old new : List (Vec ℕ Global)) where
   -- behind a node
-  pub at_next : (orderings : Orderings) (plan : PlanTree) (e : Evaluated) → IsAt orderings first old → IsWalked plan instance orderings first old new e → IsAt orderings e.next new
+  pub at_next : (orderings : Orderings) (plan : PlanTree) (e : Evaluated) → IsAt orderings first old → IsWalked plan tables instance orderings first old new e → IsAt orderings e.next new
   at_next (Chosen choice) plan e at b =
       let next = b.next in
       let there = b.served.present in
@@ -73,11 +73,11 @@ module _ (instance : Instance) (first : ℕ) (old new : List (Vec ℕ Global)) w
       omega arith
   at_next (Sorted flipped) plan e at b = b.0
 
-  pub few_below : (orderings : Orderings) (plan : PlanTree) (e : Evaluated) → IsWalked plan instance orderings first old new e → AreFew (2 ^ 32 - 1) (produced_of instance e.outcome)
+  pub few_below : (orderings : Orderings) (plan : PlanTree) (e : Evaluated) → IsWalked plan tables instance orderings first old new e → AreFew (2 ^ 32 - 1) (produced_of tables e.outcome)
   few_below (Chosen choice) plan e b = subst (AreFew (2 ^ 32 - 1)) (sym b.is) (few_from (outcome plan instance (drop first (orderings_of choice.now))) b.small)
   few_below (Sorted flipped) plan e b = subst (AreFew (2 ^ 32 - 1)) (sym b.1.evaluated.is) (few_from (outcome plan instance (drop (length (orderings_of old)) (orderings_of new))) b.1.evaluated.small)
 
-module _ (instance : Instance) (first : ℕ) (old : List (Vec ℕ Global)) where
+module _ (tables instance : Instance) (first : ℕ) (old : List (Vec ℕ Global)) where
   -- a node stops where one below it does
   pub halted_below : (orderings : Orderings) (plan above : PlanTree) (e : EvalError) → IsAt orderings first old
       → ((choice : List (List ℕ)) → IsStopped plan instance choice first e → IsStopped above instance choice first e)
@@ -91,13 +91,13 @@ module _ (instance : Instance) (first : ℕ) (old : List (Vec ℕ Global)) where
 
   -- ---- Scan
 
-  pub scan_walked : (orderings : Orderings) (table columns : ℕ) (o : Produced) → IsAt orderings first old → IsSmall (Ok (table_at instance table)) (produced_of instance o)
-      → IsWalked (Scan table columns) instance orderings first old old (record { outcome = o; next = first })
-  scan_walked (Chosen choice) table columns o at s = scan_done instance (orderings_of choice.now) first table columns o s
-  scan_walked (Sorted flipped) table columns o at s = (at, scan_tied instance flipped (orderings_of old) table columns o s)
+  pub scan_walked : (orderings : Orderings) (table columns : ℕ) (o : Produced) → IsAt orderings first old → IsSmall (Ok (table_at instance table)) (produced_of tables o)
+      → IsWalked (Scan table columns) tables instance orderings first old old (record { outcome = o; next = first })
+  scan_walked (Chosen choice) table columns o at s = scan_done tables instance (orderings_of choice.now) first table columns o s
+  scan_walked (Sorted flipped) table columns o at s = (at, scan_tied tables instance flipped (orderings_of old) table columns o s)
 
   pub scan_halted : (orderings : Orderings) (table columns : ℕ) (e : EvalError) → IsLarge (Ok (table_at instance table)) e → IsHalted (Scan table columns) instance orderings first e
-  scan_halted (Chosen choice) table columns e h = from_stopped (Scan table columns) instance first choice e (scan_stopped instance (orderings_of choice.now) first table columns e h)
+  scan_halted (Chosen choice) table columns e h = from_stopped (Scan table columns) instance first choice e (scan_stopped tables instance (orderings_of choice.now) first table columns e h)
   scan_halted (Sorted flipped) table columns (NotValid p) h = absurd h
   scan_halted (Sorted flipped) table columns TooManyRows h = λ choice long s. h
   scan_halted (Sorted flipped) table columns OutOfMemory h = tt
@@ -105,81 +105,81 @@ module _ (instance : Instance) (first : ℕ) (old : List (Vec ℕ Global)) where
   -- ---- Filter, Map and Distinct
 
   module _ (input : PlanTree) (new : List (Vec ℕ Global)) (below : Evaluated) (o : Outcome) where
-    pub filter_walked : (orderings : Orderings) (condition : Expression) → IsWalked input instance orderings first old new below → outcome_of o ≡ and_then (produced_of instance below.outcome) (filter_outcome condition)
-        → IsWalked (Filter condition input) instance orderings first old new (record { outcome = Made o; next = below.next })
-    filter_walked (Chosen choice) condition b is = filter_done instance (orderings_of choice.now) first input below b o condition is
-    filter_walked (Sorted flipped) condition b is = (b.0, filter_tied instance flipped (orderings_of old) input (orderings_of new) below.outcome b.1 o condition is)
+    pub filter_walked : (orderings : Orderings) (condition : Expression) → IsWalked input tables instance orderings first old new below → outcome_of o ≡ and_then (produced_of tables below.outcome) (filter_outcome condition)
+        → IsWalked (Filter condition input) tables instance orderings first old new (record { outcome = Made o; next = below.next })
+    filter_walked (Chosen choice) condition b is = filter_done tables instance (orderings_of choice.now) first input below b o condition is
+    filter_walked (Sorted flipped) condition b is = (b.0, filter_tied tables instance flipped (orderings_of old) input (orderings_of new) below.outcome b.1 o condition is)
 
-    pub map_walked : (orderings : Orderings) (outputs : List Expression) → IsWalked input instance orderings first old new below → outcome_of o ≡ and_then (produced_of instance below.outcome) (map_outcome outputs)
-        → IsWalked (Map outputs input) instance orderings first old new (record { outcome = Made o; next = below.next })
-    map_walked (Chosen choice) outputs b is = map_done instance (orderings_of choice.now) first input below b o outputs is
-    map_walked (Sorted flipped) outputs b is = (b.0, map_tied instance flipped (orderings_of old) input (orderings_of new) below.outcome b.1 o outputs is)
+    pub map_walked : (orderings : Orderings) (outputs : List Expression) → IsWalked input tables instance orderings first old new below → outcome_of o ≡ and_then (produced_of tables below.outcome) (map_outcome outputs)
+        → IsWalked (Map outputs input) tables instance orderings first old new (record { outcome = Made o; next = below.next })
+    map_walked (Chosen choice) outputs b is = map_done tables instance (orderings_of choice.now) first input below b o outputs is
+    map_walked (Sorted flipped) outputs b is = (b.0, map_tied tables instance flipped (orderings_of old) input (orderings_of new) below.outcome b.1 o outputs is)
 
-    pub distinct_walked : (orderings : Orderings) → IsWalked input instance orderings first old new below → outcome_of o ≡ and_then (produced_of instance below.outcome) (λ rows. Ok (distinct rows))
-        → IsWalked (Distinct input) instance orderings first old new (record { outcome = Made o; next = below.next })
-    distinct_walked (Chosen choice) b is = distinct_done instance (orderings_of choice.now) first input below b o is
-    distinct_walked (Sorted flipped) b is = (b.0, distinct_tied instance flipped (orderings_of old) input (orderings_of new) below.outcome b.1 o is)
+    pub distinct_walked : (orderings : Orderings) → IsWalked input tables instance orderings first old new below → outcome_of o ≡ and_then (produced_of tables below.outcome) (λ rows. Ok (distinct rows))
+        → IsWalked (Distinct input) tables instance orderings first old new (record { outcome = Made o; next = below.next })
+    distinct_walked (Chosen choice) b is = distinct_done tables instance (orderings_of choice.now) first input below b o is
+    distinct_walked (Sorted flipped) b is = (b.0, distinct_tied tables instance flipped (orderings_of old) input (orderings_of new) below.outcome b.1 o is)
 
   -- ---- Window and Limit
 
   module _ (input : PlanTree) (mid : List (Vec ℕ Global)) (below : Evaluated) (new : List (Vec ℕ Global)) where
-    pub window_walked : (orderings : Orderings) (w : WindowRule) (o : Outcome) (next : ℕ) → IsAt orderings first old → IsWalked input instance orderings first old mid below
-        → IsWindowStep w (produced_of instance below.outcome) orderings below.next mid new (Ok o) → next ≡ below.next + length w.classes
-        → IsWalked (Window w input) instance orderings first old new (record { outcome = Made o; next = next })
-    window_walked (Chosen choice) w o next at b x e = window_done instance (orderings_of choice.now) first w input below (within_choice choice.now first at) b o next x.ok e
+    pub window_walked : (orderings : Orderings) (w : WindowRule) (o : Outcome) (next : ℕ) → IsAt orderings first old → IsWalked input tables instance orderings first old mid below
+        → IsWindowStep w (produced_of tables below.outcome) orderings below.next mid new (Ok o) → next ≡ below.next + length w.classes
+        → IsWalked (Window w input) tables instance orderings first old new (record { outcome = Made o; next = next })
+    window_walked (Chosen choice) w o next at b x e = window_done tables instance (orderings_of choice.now) first w input below (within_choice choice.now first at) b o next x.ok e
     window_walked (Sorted flipped) w o next at b x e =
         let here = behind_made mid below.next b.0 in
         let long = ap length x.ok.put.grown ∙ length-append (orderings_of mid) x.ok.put.own in
         let size = x.ok.put.sorted.long in
         let all = length-map new (λ v. v.items) in
-        (omega arith, window_tied instance flipped (orderings_of old) w input (orderings_of mid) (orderings_of new) below.outcome o b.1 x.ok)
+        (omega arith, window_tied tables instance flipped (orderings_of old) w input (orderings_of mid) (orderings_of new) below.outcome o b.1 x.ok)
 
-    pub window_halted : (orderings : Orderings) (w : WindowRule) (e : EvalError) → IsWalked input instance orderings first old mid below
-        → IsWindowStep w (produced_of instance below.outcome) orderings below.next mid new (Err e) → IsHalted (Window w input) instance orderings first e
-    window_halted (Chosen choice) w e b x = from_stopped (Window w input) instance first choice e (window_stopped instance (orderings_of choice.now) first w input below b e x.refused)
+    pub window_halted : (orderings : Orderings) (w : WindowRule) (e : EvalError) → IsWalked input tables instance orderings first old mid below
+        → IsWindowStep w (produced_of tables below.outcome) orderings below.next mid new (Err e) → IsHalted (Window w input) instance orderings first e
+    window_halted (Chosen choice) w e b x = from_stopped (Window w input) instance first choice e (window_stopped tables instance (orderings_of choice.now) first w input below b e x.refused)
     window_halted (Sorted flipped) w e b x = from_untied (Window w input) instance first flipped e (memory_untied (Window w input) instance flipped first e x.refused)
 
-    pub limit_walked : (orderings : Orderings) (limit : LimitRule) (o : Outcome) (next : ℕ) → IsAt orderings first old → IsWalked input instance orderings first old mid below
-        → IsLimitStep limit (produced_of instance below.outcome) orderings below.next mid new (Ok o) → next ≡ below.next + 1
-        → IsWalked (Limit limit input) instance orderings first old new (record { outcome = Made o; next = next })
-    limit_walked (Chosen choice) limit o next at b x e = limit_done instance (orderings_of choice.now) first limit input below (within_choice choice.now first at) b o next x.ok e
+    pub limit_walked : (orderings : Orderings) (limit : LimitRule) (o : Outcome) (next : ℕ) → IsAt orderings first old → IsWalked input tables instance orderings first old mid below
+        → IsLimitStep limit (produced_of tables below.outcome) orderings below.next mid new (Ok o) → next ≡ below.next + 1
+        → IsWalked (Limit limit input) tables instance orderings first old new (record { outcome = Made o; next = next })
+    limit_walked (Chosen choice) limit o next at b x e = limit_done tables instance (orderings_of choice.now) first limit input below (within_choice choice.now first at) b o next x.ok e
     limit_walked (Sorted flipped) limit o next at b x e =
         let here = behind_made mid below.next b.0 in
         let long = ap length x.ok.grown ∙ length-append (orderings_of mid) (x.ok.own ∷ []) in
         let all = length-map new (λ v. v.items) in
-        (omega arith, limit_tied instance flipped (orderings_of old) limit input (orderings_of mid) (orderings_of new) below.outcome o b.1 x.ok)
+        (omega arith, limit_tied tables instance flipped (orderings_of old) limit input (orderings_of mid) (orderings_of new) below.outcome o b.1 x.ok)
 
-    pub limit_halted : (orderings : Orderings) (limit : LimitRule) (e : EvalError) → IsWalked input instance orderings first old mid below
-        → IsLimitStep limit (produced_of instance below.outcome) orderings below.next mid new (Err e) → IsHalted (Limit limit input) instance orderings first e
-    limit_halted (Chosen choice) limit e b x = from_stopped (Limit limit input) instance first choice e (limit_stopped instance (orderings_of choice.now) first limit input below b e x.refused)
+    pub limit_halted : (orderings : Orderings) (limit : LimitRule) (e : EvalError) → IsWalked input tables instance orderings first old mid below
+        → IsLimitStep limit (produced_of tables below.outcome) orderings below.next mid new (Err e) → IsHalted (Limit limit input) instance orderings first e
+    limit_halted (Chosen choice) limit e b x = from_stopped (Limit limit input) instance first choice e (limit_stopped tables instance (orderings_of choice.now) first limit input below b e x.refused)
     limit_halted (Sorted flipped) limit e b x = from_untied (Limit limit input) instance first flipped e (memory_untied (Limit limit input) instance flipped first e x.refused)
 
   -- ---- Join
 
   module _ (condition : Option Expression) (left right : PlanTree) (mid : List (Vec ℕ Global)) (l : Evaluated) where
-    pub join_halted_right : (orderings : Orderings) (e : EvalError) → IsAt orderings first old → IsWalked left instance orderings first old mid l → IsHalted right instance orderings l.next e → IsHalted (Join condition left right) instance orderings first e
-    join_halted_right (Chosen choice) e at a h = from_stopped (Join condition left right) instance first choice e (join_stopped_right instance (orderings_of choice.now) first condition left right l a e (to_stopped right instance l.next choice e h))
+    pub join_halted_right : (orderings : Orderings) (e : EvalError) → IsAt orderings first old → IsWalked left tables instance orderings first old mid l → IsHalted right instance orderings l.next e → IsHalted (Join condition left right) instance orderings first e
+    join_halted_right (Chosen choice) e at a h = from_stopped (Join condition left right) instance first choice e (join_stopped_right tables instance (orderings_of choice.now) first condition left right l a e (to_stopped right instance l.next choice e h))
     join_halted_right (Sorted flipped) e at a h =
         let here = behind_made old first at in
         let there = behind_made mid l.next a.0 in
         from_untied (Join condition left right) instance first flipped e
         (subst (λ (n : ℕ). IsUntied (Join condition left right) instance flipped n e) (sym here)
-        (join_untied_right instance flipped (orderings_of old) condition left right (orderings_of mid) l.outcome a.1 e
+        (join_untied_right tables instance flipped (orderings_of old) condition left right (orderings_of mid) l.outcome a.1 e
         (subst (λ (n : ℕ). IsUntied right instance flipped n e) there (to_untied right instance l.next flipped e h))))
 
     module _ (new : List (Vec ℕ Global)) (r : Evaluated) where
-      pub join_walked : (orderings : Orderings) (o : Produced) → IsWalked left instance orderings first old mid l → IsWalked right instance orderings l.next mid new r
-          → IsSmall (join_over condition (produced_of instance l.outcome) (produced_of instance r.outcome)) (produced_of instance o) → IsWalked (Join condition left right) instance orderings first old new (record { outcome = o; next = r.next })
-      join_walked (Chosen choice) o a b s = join_done instance (orderings_of choice.now) first condition left right l a r b o s
-      join_walked (Sorted flipped) o a b s = (b.0, join_tied instance flipped (orderings_of old) condition left right (orderings_of mid) l.outcome a.1 (orderings_of new) r.outcome b.1 o s)
+      pub join_walked : (orderings : Orderings) (o : Produced) → IsWalked left tables instance orderings first old mid l → IsWalked right tables instance orderings l.next mid new r
+          → IsSmall (join_over condition (produced_of tables l.outcome) (produced_of tables r.outcome)) (produced_of tables o) → IsWalked (Join condition left right) tables instance orderings first old new (record { outcome = o; next = r.next })
+      join_walked (Chosen choice) o a b s = join_done tables instance (orderings_of choice.now) first condition left right l a r b o s
+      join_walked (Sorted flipped) o a b s = (b.0, join_tied tables instance flipped (orderings_of old) condition left right (orderings_of mid) l.outcome a.1 (orderings_of new) r.outcome b.1 o s)
 
-      pub join_halted : (orderings : Orderings) (e : EvalError) → IsAt orderings first old → IsWalked left instance orderings first old mid l → IsWalked right instance orderings l.next mid new r
-          → IsLarge (join_over condition (produced_of instance l.outcome) (produced_of instance r.outcome)) e → IsHalted (Join condition left right) instance orderings first e
-      join_halted (Chosen choice) e at a b h = from_stopped (Join condition left right) instance first choice e (join_stopped instance (orderings_of choice.now) first condition left right l a r b e h)
+      pub join_halted : (orderings : Orderings) (e : EvalError) → IsAt orderings first old → IsWalked left tables instance orderings first old mid l → IsWalked right tables instance orderings l.next mid new r
+          → IsLarge (join_over condition (produced_of tables l.outcome) (produced_of tables r.outcome)) e → IsHalted (Join condition left right) instance orderings first e
+      join_halted (Chosen choice) e at a b h = from_stopped (Join condition left right) instance first choice e (join_stopped tables instance (orderings_of choice.now) first condition left right l a r b e h)
       join_halted (Sorted flipped) e at a b h =
           from_untied (Join condition left right) instance first flipped e
           (subst (λ (n : ℕ). IsUntied (Join condition left right) instance flipped n e) (sym (behind_made old first at))
-          (join_untied instance flipped (orderings_of old) condition left right (orderings_of mid) l.outcome a.1 (orderings_of new) r.outcome b.1 e h))
+          (join_untied tables instance flipped (orderings_of old) condition left right (orderings_of mid) l.outcome a.1 (orderings_of new) r.outcome b.1 e h))
 
 -- ---- out of memory
 

@@ -4,6 +4,7 @@ pub mod Steps
 pub mod Wrong
 pub mod Judged
 pub mod Nodes
+pub mod Held
 pub mod Enough
 pub mod Tied
 pub mod Ties

@@ -51,9 +51,10 @@ pub record IsServed (plan : PlanTree) (instance : Instance) (choice : List (List
   pub present : ordering_count plan ≤ length choice
   pub lawful : AreLawful plan instance choice
 
--- the plan's outcome under the orderings from `first` on, with the number of the next one; no step is too large
-pub record IsEvaluated (plan : PlanTree) (instance : Instance) (choice : List (List ℕ)) (first : ℕ) (e : Evaluated) : Type 0 where
-  pub is : produced_of instance e.outcome ≡ outcome plan instance (drop first choice)
+-- the plan's outcome over the instance under the orderings from `first` on, as these tables show it, with the number of the next
+-- one; no step is too large
+pub record IsEvaluated (plan : PlanTree) (tables instance : Instance) (choice : List (List ℕ)) (first : ℕ) (e : Evaluated) : Type 0 where
+  pub is : produced_of tables e.outcome ≡ outcome plan instance (drop first choice)
   pub next : e.next ≡ first + ordering_count plan
   pub served : IsServed plan instance (drop first choice)
   pub small : has_more_rows most_rows (outcome plan instance (drop first choice)) ≡ false

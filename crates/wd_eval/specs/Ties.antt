@@ -43,10 +43,10 @@ pub record IsTiedLimit (limit : LimitRule) (input : RowsOrFault) (flipped : Opti
   pub is : IsCut limit input new (length old) o
 
 -- the plan's sorted orderings were put after those that were there, and the outcome is that under them
-pub record IsTied (plan : PlanTree) (instance : Instance) (flipped : Option ℕ) (old new : List (List ℕ)) (o : Produced) : Type 0 where
+pub record IsTied (plan : PlanTree) (tables instance : Instance) (flipped : Option ℕ) (old new : List (List ℕ)) (o : Produced) : Type 0 where
   pub own : List (List ℕ)
   pub grown : new ≡ old ++ own
-  pub evaluated : IsEvaluated plan instance new (length old) (record { outcome = o; next = length new })
+  pub evaluated : IsEvaluated plan tables instance new (length old) (record { outcome = o; next = length new })
   pub tied : AreTied plan instance flipped (length old) (drop (length old) new)
 
 -- some step is too large under all sorted orderings

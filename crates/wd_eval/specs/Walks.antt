@@ -23,10 +23,10 @@ IsAt (Chosen choice) first made = first ≤ length choice.now
 IsAt (Sorted flipped) first made = first ≡ length made
 
 -- what a plan gives under the choice's orderings from the number `first` on, or under its sorted orderings, which are put after
--- those made before; with the number of the next ordering
-abbrev pub IsWalked : PlanTree → Instance → Orderings → ℕ → List (Vec ℕ Global) → List (Vec ℕ Global) → Evaluated → Type 0
-IsWalked plan instance (Chosen choice) first old new e = IsEvaluated plan instance (orderings_of choice.now) first e
-IsWalked plan instance (Sorted flipped) first old new e = (e.next ≡ length new) × IsTied plan instance flipped (orderings_of old) (orderings_of new) e.outcome
+-- those made before, as these tables show it; with the number of the next ordering
+abbrev pub IsWalked : PlanTree → Instance → Instance → Orderings → ℕ → List (Vec ℕ Global) → List (Vec ℕ Global) → Evaluated → Type 0
+IsWalked plan tables instance (Chosen choice) first old new e = IsEvaluated plan tables instance (orderings_of choice.now) first e
+IsWalked plan tables instance (Sorted flipped) first old new e = (e.next ≡ length new) × IsTied plan tables instance flipped (orderings_of old) (orderings_of new) e.outcome
 
 -- the place is that of the first wrong ordering of the choice; no sorted ordering is wrong
 abbrev pub IsWrongAt : PlanTree → Instance → Orderings → ℕ → ℕ → Type 0
@@ -45,8 +45,8 @@ IsHalted plan instance orderings first TooManyRows = IsTooLarge plan instance or
 IsHalted plan instance orderings first OutOfMemory = ⊤
 
 -- what it gives, or why it gives nothing
-pub record IsWalkedOrHalted (plan : PlanTree) (instance : Instance) (orderings : Orderings) (first : ℕ) (old new : List (Vec ℕ Global)) (r : Result Evaluated EvalError) : Type 0 where
-  pub ok : IfOk r (λ e. IsWalked plan instance orderings first old new e)
+pub record IsWalkedOrHalted (plan : PlanTree) (tables instance : Instance) (orderings : Orderings) (first : ℕ) (old new : List (Vec ℕ Global)) (r : Result Evaluated EvalError) : Type 0 where
+  pub ok : IfOk r (λ e. IsWalked plan tables instance orderings first old new e)
   pub refused : IfErr r (λ e. IsHalted plan instance orderings first e)
 
 -- ---- Windows and Limits over their inputs

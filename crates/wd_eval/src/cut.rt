@@ -1,6 +1,6 @@
 //! What a Limit keeps, under an ordering of a choice or under the sorted one.
 
-ghost use Rattle.std.specs.Prelude.{◌≡◌, ◌↔◌, [], IfOk, IsTrue, drop, length};
+ghost use Rattle.std.specs.Prelude.{◌≡◌, ◌↔◌, [], IfOk, IsTrue, length};
 ghost use Rattle.wd_eval.specs.Nodes.{IsCutOrUnserved, cut_over, given_of, produced_of};
 ghost use Rattle.wd_eval.specs.Tied.{IsSortedOver};
 ghost use Rattle.wd_eval.specs.Ties.{IsTiedLimit};
@@ -20,7 +20,7 @@ use crate::produced::{Given, Produced, gathered, shown, table_in};
 use std::alloc::Global;
 use wd_partition::{is_ordering, sorted_ordering};
 use wd_plan::{Limit, Outcome};
-use wd_steps::cut_rows;
+use wd_steps::{cut_rows, kept_positions};
 use wd_value::{OutOfMemory, Row};
 
 /// What the limit keeps of its input under the ordering with the number `first`, which has to be
@@ -111,7 +111,7 @@ fn cut_given(
     }
 }
 
-/// What the limit keeps of rows under an ordering of them. Where it has no count, these are moved.
+/// What the limit keeps of rows under an ordering of them. These are moved.
 fn cut_made(
     alloc: Global,
     limit: &Limit,
@@ -121,24 +121,9 @@ fn cut_made(
     requires { EachOnce (length (rows_of rows.items)) ordering.now }
     ensures { IfOk result (λ v. rows_of v.items ≡ cut (limit_of limit.now) (rows_at (rows_of rows.items) ordering.now)) }
 {
-    match limit.count {
-        Some(_) => {
-            let kept = cut_rows(alloc, limit, &rows, ordering)?;
-            Ok(kept)
-        }
-        None => {
-            let moved = moved_rows(alloc, rows, behind(ordering, limit.offset))?;
-            Ok(moved)
-        }
-    }
-}
-
-/// The positions behind the offset.
-fn behind(ordering: &[u64], offset: u64) -> &[u64]
-    ensures { result.now ≡ drop offset ordering.now }
-{
-    let start = (offset as usize).min(ordering.len());
-    &ordering[start..]
+    let kept = kept_positions(limit, &rows, ordering);
+    let moved = moved_rows(alloc, rows, kept)?;
+    Ok(moved)
 }
 
 /// The same under the sorted ordering, which is used as it is.

@@ -11,6 +11,7 @@ ghost use Rattle.wd_schema.specs.Schemas.{schema_of};
 ghost use Rattle.wd_value.specs.Rows.{instance_of};
 
 use crate::error::EvalError;
+use crate::handed::handed_over;
 use crate::node::evaluate;
 use crate::orderings::Orderings;
 use crate::produced::outcome_from;
@@ -35,7 +36,7 @@ pub fn eval_with(
 {
     let mut made = Vec::new(alloc);
     let chosen = Orderings::Chosen(&choice.orderings);
-    let evaluated = evaluate(alloc, plan, instance, chosen, 0, &mut made, 0)?;
+    let evaluated = evaluate(alloc, plan, instance, None, chosen, 0, &mut made, 0)?;
     if evaluated.next < choice.orderings.len() {
         return Err(EvalError::NotValid(evaluated.next as u64));
     }
@@ -76,7 +77,7 @@ pub fn tied_choice(
 {
     let mut orderings = Vec::new(alloc);
     let sorted = Orderings::Sorted(flipped);
-    evaluate(alloc, plan, instance, sorted, 0, &mut orderings, 0)?;
+    evaluate(alloc, plan, instance, None, sorted, 0, &mut orderings, 0)?;
     Ok(Choice { orderings })
 }
 
@@ -113,7 +114,7 @@ pub fn eval_tied(
 {
     let mut orderings = Vec::new(alloc);
     let sorted = Orderings::Sorted(flipped);
-    let evaluated = evaluate(alloc, plan, instance, sorted, 0, &mut orderings, 0)?;
+    let evaluated = evaluate(alloc, plan, instance, None, sorted, 0, &mut orderings, 0)?;
     let outcome = outcome_from(alloc, instance, evaluated.outcome)?;
     let choice = Choice { orderings };
     Ok(TiedOutcome { choice, outcome })
@@ -130,5 +131,25 @@ pub fn run_plan(
     ensures { IsRunOrRefused (plan_of plan.now) (instance_of instance.now.items) result }
 {
     let TiedOutcome { outcome, .. } = eval_tied(alloc, plan, schema, instance, None)?;
+    Ok(outcome)
+}
+
+/// What [`run_plan`] answers over an instance that is handed over: the rows of the first table that
+/// the plan scans are moved into the step above its Scan, where no other Scan reads them.
+pub fn run_moved(
+    alloc: Global,
+    plan: &Plan,
+    schema: &Schema,
+    instance: Instance,
+) -> Result<Outcome, EvalError>
+    requires { fits (schema_of schema.now) (plan_of plan.now) ≡ true }
+    ensures { IsRunOrRefused (plan_of plan.now) (instance_of instance.items) result }
+{
+    let mut tables = instance;
+    let handed = handed_over(alloc, plan, &mut tables);
+    let mut orderings = Vec::new(alloc);
+    let sorted = Orderings::Sorted(None);
+    let evaluated = evaluate(alloc, plan, &tables, handed, sorted, 0, &mut orderings, 0)?;
+    let outcome = outcome_from(alloc, &tables, evaluated.outcome)?;
     Ok(outcome)
 }

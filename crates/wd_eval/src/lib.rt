@@ -4,6 +4,7 @@
 mod cut;
 mod error;
 mod eval;
+mod handed;
 pub mod laws;
 mod moved;
 mod node;
@@ -15,5 +16,5 @@ mod window;
 
 pub use error::EvalError;
 pub use eval::{
-    TiedOutcome, check_choice, eval_tied, eval_with, first_choice, run_plan, tied_choice,
+    TiedOutcome, check_choice, eval_tied, eval_with, first_choice, run_moved, run_plan, tied_choice,
 };

@@ -1,8 +1,9 @@
 //! A plan under the orderings of its nodes, node by node.
 
+ghost use Rattle.wd_eval.specs.Held.{IsHeld, IsHeldForSome};
 ghost use Rattle.wd_eval.specs.Walks.{IsAt, IsWalkedOrHalted};
 ghost use Rattle.wd_plan.specs.Plans.{EachNamesClasses, plan_of};
-ghost use Rattle.wd_value.specs.Rows.{instance_of};
+ghost use Rattle.wd_value.specs.Rows.{Instance, instance_of};
 
 use crate::cut::limited;
 use crate::error::EvalError;
@@ -23,12 +24,14 @@ pub(crate) struct Evaluated {
 
 /// The plan's outcome under the orderings from `first` on, which are those of its nodes in
 /// postorder. Those of a choice are judged, a node's before the number of its rows; sorted ones are
-/// put after those that were made before, of which there are `first`. Rows that a Map makes at the
-/// top have memory for `room` values more.
+/// put after those that were made before, of which there are `first`. The plan's first Scan takes the
+/// rows that are handed over, where there are some; each other one reads the tables. Rows that a Map
+/// makes at the top have memory for `room` values more.
 pub(crate) fn evaluate(
     alloc: Global,
     plan: &Plan,
-    instance: &[Vec<Row>],
+    tables: &[Vec<Row>],
+    handed: Option<Vec<Row>>,
     orderings: Orderings,
     first: usize,
     made: &mut Vec<Vec<u64>>,
@@ -36,11 +39,12 @@ pub(crate) fn evaluate(
 ) -> Result<Evaluated, EvalError>
     requires at { IsAt orderings first made.old.items }
     requires named { EachNamesClasses (plan_of plan.now) }
-    ensures { IsWalkedOrHalted (plan_of plan.now) (instance_of instance.now) orderings.entry first made.old.items made.new.items result }
+    requires held { IsHeldForSome (plan_of plan.now) (instance_of tables.now) handed }
+    ensures { (instance : Instance) → IsHeld (plan_of plan.now) (instance_of tables.now) handed instance → IsWalkedOrHalted (plan_of plan.now) (instance_of tables.now) instance orderings.entry first made.old.items made.new.items result }
 {
     match plan {
         Plan::Scan { table, .. } => {
-            let outcome = scanned(instance, *table)?;
+            let outcome = scanned(tables, handed, *table)?;
             Ok(Evaluated {
                 outcome,
                 next: first,
@@ -51,25 +55,25 @@ pub(crate) fn evaluate(
             right,
             condition,
         } => {
-            let left = evaluate(alloc, left, instance, orderings, first, made, 0)?;
-            let right = evaluate(alloc, right, instance, orderings, left.next, made, 0)?;
-            let outcome = joined(alloc, instance, condition, left.outcome, right.outcome)?;
+            let left = evaluate(alloc, left, tables, handed, orderings, first, made, 0)?;
+            let right = evaluate(alloc, right, tables, None, orderings, left.next, made, 0)?;
+            let outcome = joined(alloc, tables, condition, left.outcome, right.outcome)?;
             Ok(Evaluated {
                 outcome,
                 next: right.next,
             })
         }
         Plan::Filter { input, condition } => {
-            let below = evaluate(alloc, input, instance, orderings, first, made, 0)?;
-            let outcome = filtered(alloc, instance, condition, below.outcome)?;
+            let below = evaluate(alloc, input, tables, handed, orderings, first, made, 0)?;
+            let outcome = filtered(alloc, tables, condition, below.outcome)?;
             Ok(Evaluated {
                 outcome: Produced::Made(outcome),
                 next: below.next,
             })
         }
         Plan::Map { input, outputs } => {
-            let below = evaluate(alloc, input, instance, orderings, first, made, 0)?;
-            let outcome = mapped(alloc, instance, outputs, below.outcome, room)?;
+            let below = evaluate(alloc, input, tables, handed, orderings, first, made, 0)?;
+            let outcome = mapped(alloc, tables, outputs, below.outcome, room)?;
             Ok(Evaluated {
                 outcome: Produced::Made(outcome),
                 next: below.next,
@@ -77,26 +81,26 @@ pub(crate) fn evaluate(
         }
         Plan::Window { input, window } => {
             let calls = window.calls.len();
-            let below = evaluate(alloc, input, instance, orderings, first, made, calls)?;
+            let below = evaluate(alloc, input, tables, handed, orderings, first, made, calls)?;
             let Evaluated { outcome, next } = below;
-            let outcome = extended(alloc, instance, window, outcome, orderings, next, made)?;
+            let outcome = extended(alloc, tables, window, outcome, orderings, next, made)?;
             Ok(Evaluated {
                 outcome: Produced::Made(outcome),
                 next: next + window.classes.len(),
             })
         }
         Plan::Distinct { input } => {
-            let below = evaluate(alloc, input, instance, orderings, first, made, 0)?;
-            let outcome = distinct(alloc, instance, below.outcome)?;
+            let below = evaluate(alloc, input, tables, handed, orderings, first, made, 0)?;
+            let outcome = distinct(alloc, tables, below.outcome)?;
             Ok(Evaluated {
                 outcome: Produced::Made(outcome),
                 next: below.next,
             })
         }
         Plan::Limit { input, limit } => {
-            let below = evaluate(alloc, input, instance, orderings, first, made, 0)?;
+            let below = evaluate(alloc, input, tables, handed, orderings, first, made, 0)?;
             let Evaluated { outcome, next } = below;
-            let outcome = limited(alloc, instance, limit, outcome, orderings, next, made)?;
+            let outcome = limited(alloc, tables, limit, outcome, orderings, next, made)?;
             Ok(Evaluated {
                 outcome: Produced::Made(outcome),
                 next: next + 1,

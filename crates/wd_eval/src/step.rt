@@ -1,6 +1,7 @@
 //! Each step of a plan over the outcomes below it, but for a Window and a Limit.
 
 ghost use Rattle.std.specs.Prelude.{◌≡◌, IfOk, map, None, Ok, Some};
+ghost use Rattle.wd_eval.specs.Held.{read_at};
 ghost use Rattle.wd_eval.specs.Nodes.{IsSmallOrLarge, given_of, join_over, joined_of, produced_of};
 ghost use Rattle.wd_eval.specs.Steps.{most_rows};
 ghost use Rattle.wd_plan.specs.Expressions.{expression_of};
@@ -8,7 +9,7 @@ ghost use Rattle.wd_plan.specs.Faults.{and_then};
 ghost use Rattle.wd_plan.specs.Outcomes as spec;
 ghost use Rattle.wd_plan.specs.Outcomes.{outcome_of};
 ghost use Rattle.wd_steps.specs.Joins.{has_more_rows};
-ghost use Rattle.wd_value.specs.Rows.{instance_of, table_at};
+ghost use Rattle.wd_value.specs.Rows.{instance_of};
 
 use crate::error::EvalError;
 use crate::pairs::{has_more, narrowed};
@@ -24,15 +25,23 @@ use wd_value::{OutOfMemory, Row};
 /// The largest number of rows of a step.
 const MOST_ROWS: u64 = 10_000_000;
 
-/// The instance's table with this number, or the error that it has too many rows.
-pub(crate) fn scanned(instance: &[Vec<Row>], table: u16) -> Result<Produced, EvalError>
-    ensures { IsSmallOrLarge (Ok (table_at (instance_of instance.now) table)) (produced_of (instance_of instance.now)) result }
+/// The rows that are handed over, and else the table with this number, or the error that these are
+/// too many rows.
+pub(crate) fn scanned(
+    tables: &[Vec<Row>],
+    handed: Option<Vec<Row>>,
+    table: u16,
+) -> Result<Produced, EvalError>
+    ensures { IsSmallOrLarge (Ok (read_at (instance_of tables.now) handed table)) (produced_of (instance_of tables.now)) result }
 {
-    let rows = table_in(instance, table);
-    if rows.len() as u64 > MOST_ROWS {
+    let read = match handed {
+        Some(rows) => Produced::Made(Outcome::Rows(rows)),
+        None => Produced::Table(table),
+    };
+    if has_more(tables, &read, MOST_ROWS) {
         return Err(EvalError::TooManyRows);
     }
-    Ok(Produced::Table(table))
+    Ok(read)
 }
 
 /// All pairs of a left and a right row for which the condition is true, or the error that there

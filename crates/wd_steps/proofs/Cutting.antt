@@ -1,10 +1,11 @@
 -- What a Limit keeps, as a front of the rows.
-use Rattle.std.proofs.Common.{◌≡◌, ℕ, zero, suc, ◌+◌, ◌-◌, ◌<◌, min, Bool, true, false, List, [], ◌∷◌, map, take, drop, take_while, length, get_or, refl, sym, ap, ◌∙◌, arith}
+use Rattle.std.proofs.Common.{◌≡◌, ℕ, zero, suc, ◌+◌, ◌-◌, ◌<◌, ◌≤◌, min, Bool, true, false, List, [], ◌∷◌, map, take, drop, take_while, length, get_or, refl, sym, ap, ◌∙◌, arith, length-drop}
 use Rattle.std.specs.List.{prefix_len}
-use Rattle.std.proofs.lemmas.List.{take-map, take_min, drop_min, length-map, length-take, get_or-map}
+use Rattle.std.proofs.lemmas.List.{take-map, take_min, drop_min, length-map, length-take, get_or-drop, get_or-map, get_or-take}
 use Rattle.wd_value.specs.Rows.{Row, row_at, rows_at}
 use Rattle.wd_value.specs.declared.order.SortColumn.{SortColumn}
 use Rattle.wd_plan.specs.Outcomes.{first_rows, peers}
+use Rattle.wd_steps.specs.Cuts.{IsStretchOf}
 
 drop-map : {X Y : Type 0} (f : X → Y) (n : ℕ) (xs : List X) → drop n (map f xs) ≡ map f (drop n xs)
 drop-map f zero xs = refl
@@ -76,3 +77,31 @@ module _ (keys : List SortColumn) (rows : List Row) (ordering : List ℕ) (n end
 pub rows_after : (rows : List Row) (ordering : List ℕ) (offset start : ℕ) → start ≡ min offset (length ordering) → rows_at rows (drop start ordering) ≡ drop offset (rows_at rows ordering)
 rows_after rows ordering offset start is =
     ap (λ k. rows_at rows (drop k ordering)) is ∙ ap (rows_at rows) (drop_min offset ordering) ∙ sym (drop-map (row_at rows) offset ordering)
+
+-- ---- a part of the ordering
+
+pub front_stretch : (n : ℕ) (xs : List ℕ) → IsStretchOf xs (take n xs)
+front_stretch n xs =
+    let long = length-take n xs in
+    record {
+      start = 0;
+      within = omega arith;
+      each = λ k h. (let here : k ≡ 0 + k = omega arith in get_or-take n xs k 0 (omega arith) ∙ ap (λ j. get_or xs j 0) here);
+    }
+
+pub whole_stretch : (xs : List ℕ) → IsStretchOf xs xs
+whole_stretch xs = record {
+  start = 0;
+  within = omega arith;
+  each = λ k h. (let here : k ≡ 0 + k = omega arith in ap (λ j. get_or xs j 0) here);
+}
+
+pub rest_stretch : (start : ℕ) (xs part : List ℕ) → start ≤ length xs → IsStretchOf (drop start xs) part → IsStretchOf xs part
+rest_stretch start xs part low p =
+    let long = length-drop start xs in
+    let within = p.within in
+    record {
+      start = start + p.start;
+      within = omega arith;
+      each = λ k h. (let here : start + (p.start + k) ≡ start + p.start + k = omega arith in p.each k h ∙ get_or-drop start xs (p.start + k) 0 ∙ ap (λ j. get_or xs j 0) here);
+    }

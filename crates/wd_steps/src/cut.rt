@@ -3,6 +3,7 @@
 ghost use Rattle.std.specs.Prelude.{◌≡◌, IfOk, length, take_while};
 ghost use Rattle.wd_plan.specs.Outcomes.{cut, first_rows, peers};
 ghost use Rattle.wd_plan.specs.Plans.{limit_of};
+ghost use Rattle.wd_steps.specs.Cuts.{IsStretchOf};
 ghost use Rattle.wd_value.specs.Rows.{rows_of, rows_at};
 
 use crate::peers::are_peers;
@@ -28,9 +29,10 @@ pub fn cut_rows(
     Ok(picked)
 }
 
-/// The part of the ordering that stands for the rows kept.
-fn kept_positions<'a>(limit: &Limit, rows: &[Row], ordering: &'a [u64]) -> &'a [u64]
-    ensures { rows_at (rows_of rows.now) result.now ≡ cut (limit_of limit.now) (rows_at (rows_of rows.now) ordering.now) }
+/// The part of the ordering that stands for the rows which `cut_rows` keeps.
+pub fn kept_positions<'a>(limit: &Limit, rows: &[Row], ordering: &'a [u64]) -> &'a [u64]
+    ensures kept { rows_at (rows_of rows.now) result.now ≡ cut (limit_of limit.now) (rows_at (rows_of rows.now) ordering.now) }
+    ensures part { IsStretchOf ordering.now result.now }
 {
     let start = (limit.offset as usize).min(ordering.len());
     let rest = &ordering[start..];
@@ -49,7 +51,8 @@ fn first_positions<'a>(
     rows: &[Row],
     ordering: &'a [u64],
 ) -> &'a [u64]
-    ensures { rows_at (rows_of rows.now) result.now ≡ first_rows keys.now ties count (rows_at (rows_of rows.now) ordering.now) }
+    ensures first { rows_at (rows_of rows.now) result.now ≡ first_rows keys.now ties count (rows_at (rows_of rows.now) ordering.now) }
+    ensures part { IsStretchOf ordering.now result.now }
 {
     let end = (count as usize).min(ordering.len());
     if !ties || end == 0 {

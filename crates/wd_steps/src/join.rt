@@ -15,9 +15,10 @@ ghost use Rattle.wd_value.specs.Rows.{rows_of};
 use crate::fault::{rows_or_fault, with_value};
 use crate::filter::passes;
 use crate::matching::{JoinColumns, matching_columns};
-use crate::pairs::{all_pairs, joined_row};
+use crate::pairs::{all_pairs, refilled};
 use crate::walk::{agreeing_rows, positions_in};
 use std::alloc::Global;
+use std::mem::replace;
 use wd_plan::{Expr, Outcome};
 use wd_scalar::{has_arithmetic, value_of};
 use wd_sort::row_in;
@@ -39,11 +40,13 @@ impl From<OutOfMemory> for JoinError {
     }
 }
 
-/// Rows of a join, and the least fault of its condition.
+/// Rows of a join, the least fault of its condition, and a row that was not kept, whose memory the
+/// next pair takes.
 #[derive(Drop)]
 struct Kept {
     rows: Vec<Row>,
     fault: Option<Fault>,
+    spare: Row,
 }
 
 impl Kept {
@@ -55,6 +58,7 @@ impl Kept {
         Kept {
             rows: Vec::new(alloc),
             fault: None,
+            spare: Vec::new(alloc),
         }
     }
 
@@ -70,10 +74,12 @@ impl Kept {
         ensures rows { OnOk result (rows_of self.new.rows.items ≡ joins.with_row most (spec.passes (value.value_of (expression_of condition.now) (first.now ++ second.now))) (rows_of self.old.rows.items) (first.now ++ second.now)) }
         ensures fault { OnOk result (self.new.fault ≡ with_result self.old.fault (value.value_of (expression_of condition.now) (first.now ++ second.now))) }
     {
-        let row = joined_row(alloc, first, second)?;
+        let spare = replace(&mut self.spare, Vec::new(alloc));
+        let row = refilled(alloc, spare, first, second)?;
         let value = value_of(alloc, condition, &row)?;
         self.fault = with_value(self.fault, &value);
-        keep_row(&mut self.rows, row, passes(&value), most)
+        self.spare = keep_row(alloc, &mut self.rows, row, passes(&value), most)?;
+        Ok(())
     }
 }
 
@@ -189,21 +195,29 @@ fn matching_where(
     Ok(kept)
 }
 
-/// Adds a row that passes where there are not more than `most` yet.
-fn keep_row(rows: &mut Vec<Row>, row: Row, passes: bool, most: u64) -> Result<(), OutOfMemory>
+/// Adds a row that passes where there are not more than `most` yet. Another one is given back.
+fn keep_row(
+    alloc: Global,
+    rows: &mut Vec<Row>,
+    row: Row,
+    passes: bool,
+    most: u64,
+) -> Result<Row, OutOfMemory>
     ensures { OnOk result (rows_of rows.new.items ≡ joins.with_row most passes (rows_of rows.old.items) row.items) }
 {
     if passes && rows.len() as u64 <= most {
         rows.push(row)?;
+        Ok(Vec::new(alloc))
+    } else {
+        Ok(row)
     }
-    Ok(())
 }
 
 /// The fault where there is one, else the rows where there are not more than `most`.
 fn outcome_within(kept: Kept, most: u64) -> Result<Outcome, JoinError>
     ensures { joins.result_of result ≡ joins.within most (rows_of kept.rows.items) kept.fault }
 {
-    let Kept { rows, fault } = kept;
+    let Kept { rows, fault, .. } = kept;
     match fault {
         Some(fault) => Ok(Outcome::Fault(fault)),
         None => if rows.len() as u64 > most {

@@ -255,3 +255,9 @@ module _ (w : WindowRule) (rows : List Row) (orderings : List (List ℕ)) where
 
     pub window_fault : (n : ℕ) (fault : Fault) → n ≡ length rows → least_fault (map (calls_at w rows orderings) (positions n)) ≡ Some fault → Err fault ≡ window_outcome w rows orderings
     window_fault n fault long some = window_from_values w rows orderings n (Err fault) long (sym (ap (λ o. unless o (values_among (map (calls_at w rows orderings) (positions n)))) some))
+
+-- a row in place of one with the same values
+pub same_row : (rows : List (Vec Value Global)) (i : ℕ) (old row : Vec Value Global) → old ≡ get_or rows i old → row.items ≡ old.items → rows_of (set rows i row) ≡ rows_of rows
+same_row [] i old row is same = refl
+same_row (r ∷ rows) zero old row is same = ap (λ values. values ∷ rows_of rows) (same ∙ ap items is)
+same_row (r ∷ rows) (suc i) old row is same = ap (λ rs. r.items ∷ rs) (same_row rows i old row is same)

@@ -69,11 +69,33 @@ fn with_fault_in(
 pub(crate) fn with_columns(rows: Vec<Row>, columns: Vec<Column>) -> Result<Vec<Row>, OutOfMemory>
     ensures { IfOk result (λ v. rows_of v.items ≡ spec.with_columns (rows_of rows.items) (columns_of columns.items)) }
 {
-    let mut extended = rows;
+    let roomy = with_room(rows, columns.len())?;
+    let mut extended = roomy;
     for column in columns {
         extended = with_column(extended, column)?;
     }
     Ok(extended)
+}
+
+/// The rows, each with memory for so many values more and not for others.
+fn with_room(rows: Vec<Row>, room: usize) -> Result<Vec<Row>, OutOfMemory>
+    ensures { IfOk result (λ v. rows_of v.items ≡ rows_of rows.items) }
+{
+    let mut roomy = rows;
+    for position in 0..roomy.len() {
+        reserve_at(&mut roomy, position, room)?;
+    }
+    Ok(roomy)
+}
+
+/// Reserves memory for so many values more in the row at a position.
+fn reserve_at(rows: &mut Vec<Row>, position: usize, room: usize) -> Result<(), OutOfMemory>
+    requires { position < length rows.old.items }
+    ensures long { OnOk result (length rows.new.items ≡ length rows.old.items) }
+    ensures same { OnOk result (rows_of rows.new.items ≡ rows_of rows.old.items) }
+{
+    rows[position].reserve_exact(room)?;
+    Ok(())
 }
 
 /// Each row with the value beside it after its own. The rows are extended in place.

@@ -1,4 +1,4 @@
-use Rattle.std.proofs.Common.{◌≡◌, ◌+◌, ◌∙◌, sym, ap, subst, map, length, rules, Ok}
+use Rattle.std.proofs.Common.{◌≡◌, ◌+◌, ◌∙◌, sym, ap, subst, map, length, rules, None, Ok}
 use Rattle.std.specs.Prelude.{option_map}
 use Rattle.std.proofs.lemmas.List.{length-map}
 use Rattle.std.proofs.lemmas.Result.{err_from_is_err_and}
@@ -8,6 +8,7 @@ use Rattle.wd_plan.specs.Faults.{and_then}
 use Rattle.wd_plan.specs.Outcomes.{distinct, filter_outcome, map_outcome, outcome_of}
 use Rattle.wd_plan.specs.Plans.{Filter, Map, Window, Distinct, Limit, Join, class_of, limit_of, plan_of, window_of}
 use Rattle.wd_window.specs.Windows.{orderings_of}
+use Rattle.wd_eval.specs.Held.{IsHeld}
 use Rattle.wd_eval.specs.Nodes.{produced_of}
 use Rattle.wd_eval.specs.Walks.{IsHalted, IsWalked}
 use Rattle.wd_eval.specs.declared.produced.Produced.TheVariants.{Made}
@@ -17,8 +18,11 @@ use Rattle.wd_eval.proofs.Walks.{halted_below, filter_walked, map_walked, distin
 use Rattle.wd_eval.proofs.node.+evaluate.Goals as goal
 
 pub returns-in_ok-outcome-in-Filter : goal.returns-in_ok-outcome-in-Filter
-returns-in_ok-outcome-in-Filter t c =
-    let instance = instance_of c.args.instance.now in
+returns-in_ok-outcome-in-Filter t c = λ instance held. (
+    let tables = instance_of c.args.tables.now in
+    let handed = c.args.handed in
+    let here = subst (λ p. IsHeld p tables handed instance) (ap plan_of c.in-Filter.is) held in
+    let below_held = subst (λ p. IsHeld (plan_of p) tables handed instance) (sym c.deref-in-Filter.ensures) here in
     let orderings = c.args.orderings in
     let first = c.args.first in
     let old = c.args.made.now.items in
@@ -26,16 +30,19 @@ returns-in_ok-outcome-in-Filter t c =
     let below = c.in_ok-below-in-Filter.below in
     let o = c.in_ok-outcome-in-Filter.outcome in
     let condition = expression_of c.in-Filter.condition in
-    let b = subst (λ p. IsWalked (plan_of p) instance orderings first old new below) c.deref-in-Filter.ensures c.in_ok-below-in-Filter.ensures.ok in
-    let is : outcome_of o ≡ and_then (produced_of instance below.outcome) (filter_outcome condition) = search rules in
+    let b = subst (λ p. IsWalked (plan_of p) tables instance orderings first old new below) c.deref-in-Filter.ensures (c.in_ok-below-in-Filter.ensures instance below_held).ok in
+    let is : outcome_of o ≡ and_then (produced_of tables below.outcome) (filter_outcome condition) = search rules in
     record {
-      ok = subst (λ p. IsWalked p instance orderings first old new (record { outcome = Made o; next = below.next })) (sym (ap plan_of c.in-Filter.is)) (filter_walked instance first old (plan_of c.in-Filter.input.value) new below o orderings condition b is);
+      ok = subst (λ p. IsWalked p tables instance orderings first old new (record { outcome = Made o; next = below.next })) (sym (ap plan_of c.in-Filter.is)) (filter_walked tables instance first old (plan_of c.in-Filter.input.value) new below o orderings condition b is);
       refused = tt;
-    }
+    })
 
 pub returns-in_err-below-in-Filter : goal.returns-in_err-below-in-Filter
-returns-in_err-below-in-Filter t c =
-    let instance = instance_of c.args.instance.now in
+returns-in_err-below-in-Filter t c = λ instance held. (
+    let tables = instance_of c.args.tables.now in
+    let handed = c.args.handed in
+    let here = subst (λ p. IsHeld p tables handed instance) (ap plan_of c.in-Filter.is) held in
+    let below_held = subst (λ p. IsHeld (plan_of p) tables handed instance) (sym c.deref-in-Filter.ensures) here in
     let orderings = c.args.orderings in
     let first = c.args.first in
     let old = c.args.made.now.items in
@@ -43,16 +50,19 @@ returns-in_err-below-in-Filter t c =
     let input = plan_of c.in-Filter.input.value in
     let e = c.in_err-below-in-Filter.field-0.0 in
     let err = err_from_is_err_and c.from_residual-in_err-below-in-Filter.result c.from_residual-in_err-below-in-Filter.ensures.1 in
-    let h = subst (λ p. IsHalted (plan_of p) instance orderings first e) c.deref-in-Filter.ensures c.in_err-below-in-Filter.ensures.refused in
+    let h = subst (λ p. IsHalted (plan_of p) instance orderings first e) c.deref-in-Filter.ensures (c.in_err-below-in-Filter.ensures instance below_held).refused in
     rw (err.1, err.2) (record {
       ok = tt;
       refused = subst (λ p. IsHalted p instance orderings first e) (sym (ap plan_of c.in-Filter.is))
-          (halted_below instance first old orderings input (Filter condition input) e c.requires.at (λ choice. filter_stopped instance choice first condition input e) (λ flipped. filter_untied instance flipped (orderings_of old) condition input e) h);
-    })
+          (halted_below tables instance first old orderings input (Filter condition input) e c.requires.at (λ choice. filter_stopped tables instance choice first condition input e) (λ flipped. filter_untied tables instance flipped (orderings_of old) condition input e) h);
+    }))
 
 pub returns-in_ok-outcome-in-Map : goal.returns-in_ok-outcome-in-Map
-returns-in_ok-outcome-in-Map t c =
-    let instance = instance_of c.args.instance.now in
+returns-in_ok-outcome-in-Map t c = λ instance held. (
+    let tables = instance_of c.args.tables.now in
+    let handed = c.args.handed in
+    let here = subst (λ p. IsHeld p tables handed instance) (ap plan_of c.in-Map.is) held in
+    let below_held = subst (λ p. IsHeld (plan_of p) tables handed instance) (sym c.deref-in-Map.ensures) here in
     let orderings = c.args.orderings in
     let first = c.args.first in
     let old = c.args.made.now.items in
@@ -60,16 +70,19 @@ returns-in_ok-outcome-in-Map t c =
     let below = c.in_ok-below-in-Map.below in
     let o = c.in_ok-outcome-in-Map.outcome in
     let outputs = map expression_of c.in-Map.outputs.items in
-    let b = subst (λ p. IsWalked (plan_of p) instance orderings first old new below) c.deref-in-Map.ensures c.in_ok-below-in-Map.ensures.ok in
-    let is : outcome_of o ≡ and_then (produced_of instance below.outcome) (map_outcome outputs) = search rules in
+    let b = subst (λ p. IsWalked (plan_of p) tables instance orderings first old new below) c.deref-in-Map.ensures (c.in_ok-below-in-Map.ensures instance below_held).ok in
+    let is : outcome_of o ≡ and_then (produced_of tables below.outcome) (map_outcome outputs) = search rules in
     record {
-      ok = subst (λ p. IsWalked p instance orderings first old new (record { outcome = Made o; next = below.next })) (sym (ap plan_of c.in-Map.is)) (map_walked instance first old (plan_of c.in-Map.input.value) new below o orderings outputs b is);
+      ok = subst (λ p. IsWalked p tables instance orderings first old new (record { outcome = Made o; next = below.next })) (sym (ap plan_of c.in-Map.is)) (map_walked tables instance first old (plan_of c.in-Map.input.value) new below o orderings outputs b is);
       refused = tt;
-    }
+    })
 
 pub returns-in_err-below-in-Map : goal.returns-in_err-below-in-Map
-returns-in_err-below-in-Map t c =
-    let instance = instance_of c.args.instance.now in
+returns-in_err-below-in-Map t c = λ instance held. (
+    let tables = instance_of c.args.tables.now in
+    let handed = c.args.handed in
+    let here = subst (λ p. IsHeld p tables handed instance) (ap plan_of c.in-Map.is) held in
+    let below_held = subst (λ p. IsHeld (plan_of p) tables handed instance) (sym c.deref-in-Map.ensures) here in
     let orderings = c.args.orderings in
     let first = c.args.first in
     let old = c.args.made.now.items in
@@ -77,48 +90,57 @@ returns-in_err-below-in-Map t c =
     let input = plan_of c.in-Map.input.value in
     let e = c.in_err-below-in-Map.field-0.0 in
     let err = err_from_is_err_and c.from_residual-in_err-below-in-Map.result c.from_residual-in_err-below-in-Map.ensures.1 in
-    let h = subst (λ p. IsHalted (plan_of p) instance orderings first e) c.deref-in-Map.ensures c.in_err-below-in-Map.ensures.refused in
+    let h = subst (λ p. IsHalted (plan_of p) instance orderings first e) c.deref-in-Map.ensures (c.in_err-below-in-Map.ensures instance below_held).refused in
     rw (err.1, err.2) (record {
       ok = tt;
       refused = subst (λ p. IsHalted p instance orderings first e) (sym (ap plan_of c.in-Map.is))
-          (halted_below instance first old orderings input (Map outputs input) e c.requires.at (λ choice. map_stopped instance choice first outputs input e) (λ flipped. map_untied instance flipped (orderings_of old) outputs input e) h);
-    })
+          (halted_below tables instance first old orderings input (Map outputs input) e c.requires.at (λ choice. map_stopped tables instance choice first outputs input e) (λ flipped. map_untied tables instance flipped (orderings_of old) outputs input e) h);
+    }))
 
 pub returns-in_ok-outcome-in-Distinct : goal.returns-in_ok-outcome-in-Distinct
-returns-in_ok-outcome-in-Distinct t c =
-    let instance = instance_of c.args.instance.now in
+returns-in_ok-outcome-in-Distinct t c = λ instance held. (
+    let tables = instance_of c.args.tables.now in
+    let handed = c.args.handed in
+    let here = subst (λ p. IsHeld p tables handed instance) (ap plan_of c.in-Distinct.is) held in
+    let below_held = subst (λ p. IsHeld (plan_of p) tables handed instance) (sym c.deref-in-Distinct.ensures) here in
     let orderings = c.args.orderings in
     let first = c.args.first in
     let old = c.args.made.now.items in
     let new = c.evaluate-in-Distinct.new.made.items in
     let below = c.in_ok-below-in-Distinct.below in
     let o = c.in_ok-outcome-in-Distinct.outcome in
-    let b = subst (λ p. IsWalked (plan_of p) instance orderings first old new below) c.deref-in-Distinct.ensures c.in_ok-below-in-Distinct.ensures.ok in
-    let is : outcome_of o ≡ and_then (produced_of instance below.outcome) (λ rows. Ok (distinct rows)) = search rules in
+    let b = subst (λ p. IsWalked (plan_of p) tables instance orderings first old new below) c.deref-in-Distinct.ensures (c.in_ok-below-in-Distinct.ensures instance below_held).ok in
+    let is : outcome_of o ≡ and_then (produced_of tables below.outcome) (λ rows. Ok (distinct rows)) = search rules in
     record {
-      ok = subst (λ p. IsWalked p instance orderings first old new (record { outcome = Made o; next = below.next })) (sym (ap plan_of c.in-Distinct.is)) (distinct_walked instance first old (plan_of c.in-Distinct.input.value) new below o orderings b is);
+      ok = subst (λ p. IsWalked p tables instance orderings first old new (record { outcome = Made o; next = below.next })) (sym (ap plan_of c.in-Distinct.is)) (distinct_walked tables instance first old (plan_of c.in-Distinct.input.value) new below o orderings b is);
       refused = tt;
-    }
+    })
 
 pub returns-in_err-below-in-Distinct : goal.returns-in_err-below-in-Distinct
-returns-in_err-below-in-Distinct t c =
-    let instance = instance_of c.args.instance.now in
+returns-in_err-below-in-Distinct t c = λ instance held. (
+    let tables = instance_of c.args.tables.now in
+    let handed = c.args.handed in
+    let here = subst (λ p. IsHeld p tables handed instance) (ap plan_of c.in-Distinct.is) held in
+    let below_held = subst (λ p. IsHeld (plan_of p) tables handed instance) (sym c.deref-in-Distinct.ensures) here in
     let orderings = c.args.orderings in
     let first = c.args.first in
     let old = c.args.made.now.items in
     let input = plan_of c.in-Distinct.input.value in
     let e = c.in_err-below-in-Distinct.field-0.0 in
     let err = err_from_is_err_and c.from_residual-in_err-below-in-Distinct.result c.from_residual-in_err-below-in-Distinct.ensures.1 in
-    let h = subst (λ p. IsHalted (plan_of p) instance orderings first e) c.deref-in-Distinct.ensures c.in_err-below-in-Distinct.ensures.refused in
+    let h = subst (λ p. IsHalted (plan_of p) instance orderings first e) c.deref-in-Distinct.ensures (c.in_err-below-in-Distinct.ensures instance below_held).refused in
     rw (err.1, err.2) (record {
       ok = tt;
       refused = subst (λ p. IsHalted p instance orderings first e) (sym (ap plan_of c.in-Distinct.is))
-          (halted_below instance first old orderings input (Distinct input) e c.requires.at (λ choice. distinct_stopped instance choice first input e) (λ flipped. distinct_untied instance flipped (orderings_of old) input e) h);
-    })
+          (halted_below tables instance first old orderings input (Distinct input) e c.requires.at (λ choice. distinct_stopped tables instance choice first input e) (λ flipped. distinct_untied tables instance flipped (orderings_of old) input e) h);
+    }))
 
 pub returns-in_ok-outcome-in-Window : goal.returns-in_ok-outcome-in-Window
-returns-in_ok-outcome-in-Window t c =
-    let instance = instance_of c.args.instance.now in
+returns-in_ok-outcome-in-Window t c = λ instance held. (
+    let tables = instance_of c.args.tables.now in
+    let handed = c.args.handed in
+    let here = subst (λ p. IsHeld p tables handed instance) (ap plan_of c.in-Window.is) held in
+    let below_held = subst (λ p. IsHeld (plan_of p) tables handed instance) (sym c.deref-in-Window.ensures) here in
     let orderings = c.args.orderings in
     let first = c.args.first in
     let old = c.args.made.now.items in
@@ -131,16 +153,19 @@ returns-in_ok-outcome-in-Window t c =
     let long : c.len.result ≡ length c.in-Window.window.classes.items = search rules in
     let next = below.next + c.len.result in
     let behind : next ≡ below.next + length w.classes = ap (λ n. below.next + n) (long ∙ sym (length-map c.in-Window.window.classes.items class_of)) in
-    let b = subst (λ p. IsWalked (plan_of p) instance orderings first old mid below) c.deref-in-Window.ensures c.in_ok-below-in-Window.ensures.ok in
+    let b = subst (λ p. IsWalked (plan_of p) tables instance orderings first old mid below) c.deref-in-Window.ensures (c.in_ok-below-in-Window.ensures instance below_held).ok in
     record {
-      ok = subst (λ p. IsWalked p instance orderings first old new (record { outcome = Made o; next = next })) (sym (ap plan_of c.in-Window.is))
-          (window_walked instance first old input mid below new orderings w o next c.requires.at b c.in_ok-outcome-in-Window.ensures behind);
+      ok = subst (λ p. IsWalked p tables instance orderings first old new (record { outcome = Made o; next = next })) (sym (ap plan_of c.in-Window.is))
+          (window_walked tables instance first old input mid below new orderings w o next c.requires.at b c.in_ok-outcome-in-Window.ensures behind);
       refused = tt;
-    }
+    })
 
 pub returns-in_err-below-in-Window : goal.returns-in_err-below-in-Window
-returns-in_err-below-in-Window t c =
-    let instance = instance_of c.args.instance.now in
+returns-in_err-below-in-Window t c = λ instance held. (
+    let tables = instance_of c.args.tables.now in
+    let handed = c.args.handed in
+    let here = subst (λ p. IsHeld p tables handed instance) (ap plan_of c.in-Window.is) held in
+    let below_held = subst (λ p. IsHeld (plan_of p) tables handed instance) (sym c.deref-in-Window.ensures) here in
     let orderings = c.args.orderings in
     let first = c.args.first in
     let old = c.args.made.now.items in
@@ -148,16 +173,19 @@ returns-in_err-below-in-Window t c =
     let input = plan_of c.in-Window.input.value in
     let e = c.in_err-below-in-Window.field-0.0 in
     let err = err_from_is_err_and c.from_residual-in_err-below-in-Window.result c.from_residual-in_err-below-in-Window.ensures.1 in
-    let h = subst (λ p. IsHalted (plan_of p) instance orderings first e) c.deref-in-Window.ensures c.in_err-below-in-Window.ensures.refused in
+    let h = subst (λ p. IsHalted (plan_of p) instance orderings first e) c.deref-in-Window.ensures (c.in_err-below-in-Window.ensures instance below_held).refused in
     rw (err.1, err.2) (record {
       ok = tt;
       refused = subst (λ p. IsHalted p instance orderings first e) (sym (ap plan_of c.in-Window.is))
-          (halted_below instance first old orderings input (Window w input) e c.requires.at (λ choice. window_stopped_below instance choice first w input e) (λ flipped. window_untied instance flipped (orderings_of old) w input e) h);
-    })
+          (halted_below tables instance first old orderings input (Window w input) e c.requires.at (λ choice. window_stopped_below tables instance choice first w input e) (λ flipped. window_untied tables instance flipped (orderings_of old) w input e) h);
+    }))
 
 pub returns-in_err-outcome-in-Window : goal.returns-in_err-outcome-in-Window
-returns-in_err-outcome-in-Window t c =
-    let instance = instance_of c.args.instance.now in
+returns-in_err-outcome-in-Window t c = λ instance held. (
+    let tables = instance_of c.args.tables.now in
+    let handed = c.args.handed in
+    let here = subst (λ p. IsHeld p tables handed instance) (ap plan_of c.in-Window.is) held in
+    let below_held = subst (λ p. IsHeld (plan_of p) tables handed instance) (sym c.deref-in-Window.ensures) here in
     let orderings = c.args.orderings in
     let first = c.args.first in
     let old = c.args.made.now.items in
@@ -168,12 +196,15 @@ returns-in_err-outcome-in-Window t c =
     let below = c.in_ok-below-in-Window.below in
     let e = c.in_err-outcome-in-Window.field-0.0 in
     let err = err_from_is_err_and c.from_residual-in_err-outcome-in-Window.result c.from_residual-in_err-outcome-in-Window.ensures.1 in
-    let b = subst (λ p. IsWalked (plan_of p) instance orderings first old mid below) c.deref-in-Window.ensures c.in_ok-below-in-Window.ensures.ok in
-    rw (err.1, err.2) (record { ok = tt; refused = subst (λ p. IsHalted p instance orderings first e) (sym (ap plan_of c.in-Window.is)) (window_halted instance first old input mid below new orderings w e b c.in_err-outcome-in-Window.ensures) })
+    let b = subst (λ p. IsWalked (plan_of p) tables instance orderings first old mid below) c.deref-in-Window.ensures (c.in_ok-below-in-Window.ensures instance below_held).ok in
+    rw (err.1, err.2) (record { ok = tt; refused = subst (λ p. IsHalted p instance orderings first e) (sym (ap plan_of c.in-Window.is)) (window_halted tables instance first old input mid below new orderings w e b c.in_err-outcome-in-Window.ensures) }))
 
 pub returns-in_ok-outcome-in-Limit : goal.returns-in_ok-outcome-in-Limit
-returns-in_ok-outcome-in-Limit t c =
-    let instance = instance_of c.args.instance.now in
+returns-in_ok-outcome-in-Limit t c = λ instance held. (
+    let tables = instance_of c.args.tables.now in
+    let handed = c.args.handed in
+    let here = subst (λ p. IsHeld p tables handed instance) (ap plan_of c.in-Limit.is) held in
+    let below_held = subst (λ p. IsHeld (plan_of p) tables handed instance) (sym c.deref-in-Limit.ensures) here in
     let orderings = c.args.orderings in
     let first = c.args.first in
     let old = c.args.made.now.items in
@@ -185,16 +216,19 @@ returns-in_ok-outcome-in-Limit t c =
     let input = plan_of c.in-Limit.input.value in
     let next = below.next + 1 in
     let behind : next ≡ below.next + 1 = (λ i. next) in
-    let b = subst (λ p. IsWalked (plan_of p) instance orderings first old mid below) c.deref-in-Limit.ensures c.in_ok-below-in-Limit.ensures.ok in
+    let b = subst (λ p. IsWalked (plan_of p) tables instance orderings first old mid below) c.deref-in-Limit.ensures (c.in_ok-below-in-Limit.ensures instance below_held).ok in
     record {
-      ok = subst (λ p. IsWalked p instance orderings first old new (record { outcome = Made o; next = next })) (sym (ap plan_of c.in-Limit.is))
-          (limit_walked instance first old input mid below new orderings limit o next c.requires.at b c.in_ok-outcome-in-Limit.ensures behind);
+      ok = subst (λ p. IsWalked p tables instance orderings first old new (record { outcome = Made o; next = next })) (sym (ap plan_of c.in-Limit.is))
+          (limit_walked tables instance first old input mid below new orderings limit o next c.requires.at b c.in_ok-outcome-in-Limit.ensures behind);
       refused = tt;
-    }
+    })
 
 pub returns-in_err-below-in-Limit : goal.returns-in_err-below-in-Limit
-returns-in_err-below-in-Limit t c =
-    let instance = instance_of c.args.instance.now in
+returns-in_err-below-in-Limit t c = λ instance held. (
+    let tables = instance_of c.args.tables.now in
+    let handed = c.args.handed in
+    let here = subst (λ p. IsHeld p tables handed instance) (ap plan_of c.in-Limit.is) held in
+    let below_held = subst (λ p. IsHeld (plan_of p) tables handed instance) (sym c.deref-in-Limit.ensures) here in
     let orderings = c.args.orderings in
     let first = c.args.first in
     let old = c.args.made.now.items in
@@ -202,16 +236,19 @@ returns-in_err-below-in-Limit t c =
     let input = plan_of c.in-Limit.input.value in
     let e = c.in_err-below-in-Limit.field-0.0 in
     let err = err_from_is_err_and c.from_residual-in_err-below-in-Limit.result c.from_residual-in_err-below-in-Limit.ensures.1 in
-    let h = subst (λ p. IsHalted (plan_of p) instance orderings first e) c.deref-in-Limit.ensures c.in_err-below-in-Limit.ensures.refused in
+    let h = subst (λ p. IsHalted (plan_of p) instance orderings first e) c.deref-in-Limit.ensures (c.in_err-below-in-Limit.ensures instance below_held).refused in
     rw (err.1, err.2) (record {
       ok = tt;
       refused = subst (λ p. IsHalted p instance orderings first e) (sym (ap plan_of c.in-Limit.is))
-          (halted_below instance first old orderings input (Limit limit input) e c.requires.at (λ choice. limit_stopped_below instance choice first limit input e) (λ flipped. limit_untied instance flipped (orderings_of old) limit input e) h);
-    })
+          (halted_below tables instance first old orderings input (Limit limit input) e c.requires.at (λ choice. limit_stopped_below tables instance choice first limit input e) (λ flipped. limit_untied tables instance flipped (orderings_of old) limit input e) h);
+    }))
 
 pub returns-in_err-outcome-in-Limit : goal.returns-in_err-outcome-in-Limit
-returns-in_err-outcome-in-Limit t c =
-    let instance = instance_of c.args.instance.now in
+returns-in_err-outcome-in-Limit t c = λ instance held. (
+    let tables = instance_of c.args.tables.now in
+    let handed = c.args.handed in
+    let here = subst (λ p. IsHeld p tables handed instance) (ap plan_of c.in-Limit.is) held in
+    let below_held = subst (λ p. IsHeld (plan_of p) tables handed instance) (sym c.deref-in-Limit.ensures) here in
     let orderings = c.args.orderings in
     let first = c.args.first in
     let old = c.args.made.now.items in
@@ -222,12 +259,15 @@ returns-in_err-outcome-in-Limit t c =
     let below = c.in_ok-below-in-Limit.below in
     let e = c.in_err-outcome-in-Limit.field-0.0 in
     let err = err_from_is_err_and c.from_residual-in_err-outcome-in-Limit.result c.from_residual-in_err-outcome-in-Limit.ensures.1 in
-    let b = subst (λ p. IsWalked (plan_of p) instance orderings first old mid below) c.deref-in-Limit.ensures c.in_ok-below-in-Limit.ensures.ok in
-    rw (err.1, err.2) (record { ok = tt; refused = subst (λ p. IsHalted p instance orderings first e) (sym (ap plan_of c.in-Limit.is)) (limit_halted instance first old input mid below new orderings limit e b c.in_err-outcome-in-Limit.ensures) })
+    let b = subst (λ p. IsWalked (plan_of p) tables instance orderings first old mid below) c.deref-in-Limit.ensures (c.in_ok-below-in-Limit.ensures instance below_held).ok in
+    rw (err.1, err.2) (record { ok = tt; refused = subst (λ p. IsHalted p instance orderings first e) (sym (ap plan_of c.in-Limit.is)) (limit_halted tables instance first old input mid below new orderings limit e b c.in_err-outcome-in-Limit.ensures) }))
 
 pub returns-in_err-left-in-Join : goal.returns-in_err-left-in-Join
-returns-in_err-left-in-Join t c =
-    let instance = instance_of c.args.instance.now in
+returns-in_err-left-in-Join t c = λ instance held. (
+    let tables = instance_of c.args.tables.now in
+    let handed = c.args.handed in
+    let here = subst (λ p. IsHeld p tables handed instance) (ap plan_of c.in-Join.is) held in
+    let left_held = subst (λ p. IsHeld (plan_of p) tables handed instance) (sym c.deref.ensures) here.0 in
     let orderings = c.args.orderings in
     let first = c.args.first in
     let old = c.args.made.now.items in
@@ -236,16 +276,20 @@ returns-in_err-left-in-Join t c =
     let condition = option_map expression_of c.in-Join.condition in
     let e = c.in_err-left-in-Join.field-0.0 in
     let err = err_from_is_err_and c.from_residual-in_err-left-in-Join.result c.from_residual-in_err-left-in-Join.ensures.1 in
-    let h = subst (λ p. IsHalted (plan_of p) instance orderings first e) c.deref.ensures c.in_err-left-in-Join.ensures.refused in
+    let h = subst (λ p. IsHalted (plan_of p) instance orderings first e) c.deref.ensures (c.in_err-left-in-Join.ensures instance left_held).refused in
     rw (err.1, err.2) (record {
       ok = tt;
       refused = subst (λ p. IsHalted p instance orderings first e) (sym (ap plan_of c.in-Join.is))
-          (halted_below instance first old orderings left (Join condition left right) e c.requires.at (λ choice. join_stopped_left instance choice first condition left right e) (λ flipped. join_untied_left instance flipped (orderings_of old) condition left right e) h);
-    })
+          (halted_below tables instance first old orderings left (Join condition left right) e c.requires.at (λ choice. join_stopped_left tables instance choice first condition left right e) (λ flipped. join_untied_left tables instance flipped (orderings_of old) condition left right e) h);
+    }))
 
 pub returns-in_err-right-in-Join : goal.returns-in_err-right-in-Join
-returns-in_err-right-in-Join t c =
-    let instance = instance_of c.args.instance.now in
+returns-in_err-right-in-Join t c = λ instance held. (
+    let tables = instance_of c.args.tables.now in
+    let handed = c.args.handed in
+    let here = subst (λ p. IsHeld p tables handed instance) (ap plan_of c.in-Join.is) held in
+    let left_held = subst (λ p. IsHeld (plan_of p) tables handed instance) (sym c.deref.ensures) here.0 in
+    let right_held = subst (λ p. IsHeld (plan_of p) tables None instance) (sym c.deref-in-Join.ensures) here.1 in
     let orderings = c.args.orderings in
     let first = c.args.first in
     let old = c.args.made.now.items in
@@ -256,13 +300,17 @@ returns-in_err-right-in-Join t c =
     let l = c.in_ok-left-in-Join.left in
     let e = c.in_err-right-in-Join.field-0.0 in
     let err = err_from_is_err_and c.from_residual-in_err-right-in-Join.result c.from_residual-in_err-right-in-Join.ensures.1 in
-    let a = subst (λ p. IsWalked (plan_of p) instance orderings first old mid l) c.deref.ensures c.in_ok-left-in-Join.ensures.ok in
-    let h = subst (λ p. IsHalted (plan_of p) instance orderings l.next e) c.deref-in-Join.ensures c.in_err-right-in-Join.ensures.refused in
-    rw (err.1, err.2) (record { ok = tt; refused = subst (λ p. IsHalted p instance orderings first e) (sym (ap plan_of c.in-Join.is)) (join_halted_right instance first old condition left right mid l orderings e c.requires.at a h) })
+    let a = subst (λ p. IsWalked (plan_of p) tables instance orderings first old mid l) c.deref.ensures (c.in_ok-left-in-Join.ensures instance left_held).ok in
+    let h = subst (λ p. IsHalted (plan_of p) instance orderings l.next e) c.deref-in-Join.ensures (c.in_err-right-in-Join.ensures instance right_held).refused in
+    rw (err.1, err.2) (record { ok = tt; refused = subst (λ p. IsHalted p instance orderings first e) (sym (ap plan_of c.in-Join.is)) (join_halted_right tables instance first old condition left right mid l orderings e c.requires.at a h) }))
 
 pub returns-in_ok-outcome-in-Join : goal.returns-in_ok-outcome-in-Join
-returns-in_ok-outcome-in-Join t c =
-    let instance = instance_of c.args.instance.now in
+returns-in_ok-outcome-in-Join t c = λ instance held. (
+    let tables = instance_of c.args.tables.now in
+    let handed = c.args.handed in
+    let here = subst (λ p. IsHeld p tables handed instance) (ap plan_of c.in-Join.is) held in
+    let left_held = subst (λ p. IsHeld (plan_of p) tables handed instance) (sym c.deref.ensures) here.0 in
+    let right_held = subst (λ p. IsHeld (plan_of p) tables None instance) (sym c.deref-in-Join.ensures) here.1 in
     let orderings = c.args.orderings in
     let first = c.args.first in
     let old = c.args.made.now.items in
@@ -274,17 +322,21 @@ returns-in_ok-outcome-in-Join t c =
     let l = c.in_ok-left-in-Join.left in
     let r = c.in_ok-right-in-Join.right in
     let o = c.in_ok-outcome-in-Join.outcome in
-    let a = subst (λ p. IsWalked (plan_of p) instance orderings first old mid l) c.deref.ensures c.in_ok-left-in-Join.ensures.ok in
-    let b = subst (λ p. IsWalked (plan_of p) instance orderings l.next mid new r) c.deref-in-Join.ensures c.in_ok-right-in-Join.ensures.ok in
+    let a = subst (λ p. IsWalked (plan_of p) tables instance orderings first old mid l) c.deref.ensures (c.in_ok-left-in-Join.ensures instance left_held).ok in
+    let b = subst (λ p. IsWalked (plan_of p) tables instance orderings l.next mid new r) c.deref-in-Join.ensures (c.in_ok-right-in-Join.ensures instance right_held).ok in
     record {
-      ok = subst (λ p. IsWalked p instance orderings first old new (record { outcome = o; next = r.next })) (sym (ap plan_of c.in-Join.is))
-          (join_walked instance first old condition left right mid l new r orderings o a b c.in_ok-outcome-in-Join.ensures.ok);
+      ok = subst (λ p. IsWalked p tables instance orderings first old new (record { outcome = o; next = r.next })) (sym (ap plan_of c.in-Join.is))
+          (join_walked tables instance first old condition left right mid l new r orderings o a b c.in_ok-outcome-in-Join.ensures.ok);
       refused = tt;
-    }
+    })
 
 pub returns-in_err-outcome-in-Join : goal.returns-in_err-outcome-in-Join
-returns-in_err-outcome-in-Join t c =
-    let instance = instance_of c.args.instance.now in
+returns-in_err-outcome-in-Join t c = λ instance held. (
+    let tables = instance_of c.args.tables.now in
+    let handed = c.args.handed in
+    let here = subst (λ p. IsHeld p tables handed instance) (ap plan_of c.in-Join.is) held in
+    let left_held = subst (λ p. IsHeld (plan_of p) tables handed instance) (sym c.deref.ensures) here.0 in
+    let right_held = subst (λ p. IsHeld (plan_of p) tables None instance) (sym c.deref-in-Join.ensures) here.1 in
     let orderings = c.args.orderings in
     let first = c.args.first in
     let old = c.args.made.now.items in
@@ -297,6 +349,6 @@ returns-in_err-outcome-in-Join t c =
     let r = c.in_ok-right-in-Join.right in
     let e = c.in_err-outcome-in-Join.field-0.0 in
     let err = err_from_is_err_and c.from_residual-in_err-outcome-in-Join.result c.from_residual-in_err-outcome-in-Join.ensures.1 in
-    let a = subst (λ p. IsWalked (plan_of p) instance orderings first old mid l) c.deref.ensures c.in_ok-left-in-Join.ensures.ok in
-    let b = subst (λ p. IsWalked (plan_of p) instance orderings l.next mid new r) c.deref-in-Join.ensures c.in_ok-right-in-Join.ensures.ok in
-    rw (err.1, err.2) (record { ok = tt; refused = subst (λ p. IsHalted p instance orderings first e) (sym (ap plan_of c.in-Join.is)) (join_halted instance first old condition left right mid l new r orderings e c.requires.at a b c.in_err-outcome-in-Join.ensures.refused) })
+    let a = subst (λ p. IsWalked (plan_of p) tables instance orderings first old mid l) c.deref.ensures (c.in_ok-left-in-Join.ensures instance left_held).ok in
+    let b = subst (λ p. IsWalked (plan_of p) tables instance orderings l.next mid new r) c.deref-in-Join.ensures (c.in_ok-right-in-Join.ensures instance right_held).ok in
+    rw (err.1, err.2) (record { ok = tt; refused = subst (λ p. IsHalted p instance orderings first e) (sym (ap plan_of c.in-Join.is)) (join_halted tables instance first old condition left right mid l new r orderings e c.requires.at a b c.in_err-outcome-in-Join.ensures.refused) }))
