@@ -3,6 +3,7 @@ mod Unnamed
 mod Keys
 pub mod PlanKinds
 pub mod Among
-pub mod Covered
+pub mod Reads
+pub mod Seated
 pub mod Windowed
 pub mod ListedOutputs
