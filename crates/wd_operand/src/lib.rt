@@ -1,12 +1,14 @@
-//! What literals and operators mean, and why a query has no plan.
+//! Expressions over leaves, what literals and operators mean, and why a query has no plan.
 #![tactic(auto)]
 
 mod cause;
+mod formula;
 mod literals;
 mod meaning;
 mod operator;
 
 pub use cause::{Cause, ResolveError};
+pub use formula::{Formula, Leaf};
 pub use literals::{literal, number, signed_number};
 pub use meaning::Meaning;
 pub use operator::{CaseArm, case_of, combined, negated, signed, tested};

@@ -5,9 +5,10 @@ ghost use Rattle.wd_operand.specs.Operands.{operand_of};
 ghost use Rattle.wd_operand.specs.Operands as spec;
 
 use crate::cause::{Cause, ResolveError};
+use crate::formula::{Formula, Leaf};
 use crate::meaning::Meaning;
 use std::alloc::Global;
-use wd_plan::{Expr, ValueKind};
+use wd_plan::ValueKind;
 use wd_syntax::{Literal, Sign};
 use wd_value::Value;
 
@@ -28,20 +29,20 @@ pub fn number(n: u64) -> Result<u64, ResolveError>
     }
 }
 
-fn number_literal(alloc: Global, n: u64) -> Result<Meaning, ResolveError>
-    ensures { Gives operand_of result (spec.unsigned_number n) }
+fn number_literal<L: Leaf>(alloc: Global, n: u64) -> Result<Meaning<L>, ResolveError>
+    ensures { Gives (operand_of L.shown) result (spec.unsigned_number n) }
 {
     let value = Value::Int(number(n)? as i64);
     Meaning::typed(
         alloc,
-        Expr::Literal(value, ValueKind::Number),
+        Formula::Literal(value, ValueKind::Number),
         ValueKind::Number,
     )
 }
 
 /// A literal; a bare NULL has no kind of its own.
-pub fn literal(alloc: Global, literal: &Literal) -> Result<Meaning, ResolveError>
-    ensures { Gives operand_of result (spec.literal literal.now) }
+pub fn literal<L: Leaf>(alloc: Global, literal: &Literal) -> Result<Meaning<L>, ResolveError>
+    ensures { Gives (operand_of L.shown) result (spec.literal literal.now) }
 {
     match literal {
         Literal::Number(n) => number_literal(alloc, *n),
@@ -49,7 +50,7 @@ pub fn literal(alloc: Global, literal: &Literal) -> Result<Meaning, ResolveError
             let value = Value::Text(text.copy(alloc)?);
             Meaning::typed(
                 alloc,
-                Expr::Literal(value, ValueKind::Text),
+                Formula::Literal(value, ValueKind::Text),
                 ValueKind::Text,
             )
         }
@@ -57,7 +58,7 @@ pub fn literal(alloc: Global, literal: &Literal) -> Result<Meaning, ResolveError
             let value = Value::Bool(*truth);
             Meaning::typed(
                 alloc,
-                Expr::Literal(value, ValueKind::Truth),
+                Formula::Literal(value, ValueKind::Truth),
                 ValueKind::Truth,
             )
         }
@@ -66,8 +67,8 @@ pub fn literal(alloc: Global, literal: &Literal) -> Result<Meaning, ResolveError
 }
 
 /// A number with a sign directly before it: 9223372036854775808 is allowed after a minus alone.
-pub fn signed_number(alloc: Global, sign: Sign, n: u64) -> Result<Meaning, ResolveError>
-    ensures { Gives operand_of result (spec.signed_number sign n) }
+pub fn signed_number<L: Leaf>(alloc: Global, sign: Sign, n: u64) -> Result<Meaning<L>, ResolveError>
+    ensures { Gives (operand_of L.shown) result (spec.signed_number sign n) }
 {
     match sign {
         Sign::Plus => number_literal(alloc, n),
@@ -81,9 +82,9 @@ pub fn signed_number(alloc: Global, sign: Sign, n: u64) -> Result<Meaning, Resol
     }
 }
 
-fn int_literal(alloc: Global, n: i64) -> Result<Meaning, ResolveError>
-    ensures { Gives operand_of result (spec.int_literal n) }
+fn int_literal<L: Leaf>(alloc: Global, n: i64) -> Result<Meaning<L>, ResolveError>
+    ensures { Gives (operand_of L.shown) result (spec.int_literal n) }
 {
-    let literal = Expr::Literal(Value::Int(n), ValueKind::Number);
+    let literal = Formula::Literal(Value::Int(n), ValueKind::Number);
     Meaning::typed(alloc, literal, ValueKind::Number)
 }

@@ -1,6 +1,9 @@
 pub mod Scopes
 pub mod Windows
 pub mod Calls
+pub mod Leaves
+pub mod Functions
+pub mod Names
 pub mod Places
 pub mod Resolving
 pub mod Typed

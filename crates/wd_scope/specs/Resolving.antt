@@ -1,5 +1,6 @@
--- What the expressions of a query mean over the columns in scope, with the window calls that they meet.
-use Rattle.std.specs.Prelude.{ℕ, Bool, List, [], ◌∷◌, ◌++◌, map, length, Option, Some, None, option_map, Ok, Err, if◌then◌else◌}
+-- What the expressions of a query mean over the columns in scope: a window call means its function over its arguments and its
+-- window.
+use Rattle.std.specs.Prelude.{ℕ, Bool, List, [], ◌∷◌, ◌++◌, map, Option, Some, None, option_map, Ok, Err, if◌then◌else◌}
 use Rattle.wd_cursor.specs.declared.name.Name.{Name}
 use Rattle.std.specs.List.{list_any}
 use Rattle.std.specs.Str.{bytes_eq}
@@ -17,10 +18,14 @@ use Rattle.wd_scope.specs.declared.context.Place.{Place}
 use Rattle.wd_scope.specs.declared.context.Place.TheVariants as place
 use Rattle.wd_scope.specs.Places.{allows_window_calls}
 use Rattle.wd_operand.specs.Causes.{Meant, ◌>>=◌}
-use Rattle.wd_scope.specs.Scopes.{ScopeRule, scope_of, column_named}
-use Rattle.wd_operand.specs.Operands.{Operand, bare_null, of_kind, settled, kind_of, literal, signed_number, signed, negated, tested, combined, case_of}
+use Rattle.wd_scope.specs.Scopes.{ScopeRule, scope_of}
+use Rattle.wd_scope.specs.Names.{column_named}
+use Rattle.wd_operand.specs.Formulas.{Leaf}
+use Rattle.wd_operand.specs.Operands.{Operand, bare_null, typed, of_kind, settled, kind_of, literal, signed_number, signed, negated, tested, combined, case_of}
 use Rattle.wd_scope.specs.Windows.{KeyMeaning, WindowMeaning, KnownMeaning, known_of, sort_key, window_meant, window_named, base_named}
-use Rattle.wd_scope.specs.Calls.{CallMeaning, function_named, applied, met}
+use Rattle.wd_scope.specs.Calls.{kind_of_function}
+use Rattle.wd_scope.specs.Functions.{applied, function_named}
+use Rattle.wd_scope.specs.Leaves.{SelectLeaf, call, over_columns}
 
 -- what an expression is read in: the columns in scope, the windows that have names, and the place where it stands
 pub record ContextRule : Type 0 where
@@ -41,74 +46,71 @@ arguments_in c no_over = c
 arguments_in c (over_name name) = moved_to place.Argument c
 arguments_in c (over_window w) = moved_to place.Argument c
 
--- an operand, and the calls met up to and with it
-abbrev pub Met : Type 0
-Met = Operand × List CallMeaning
-
--- an operand that meets no call
-abbrev pub without_call : Meant Operand → List CallMeaning → Meant Met
-without_call meant calls = meant >>= λ x. Ok (x, calls)
-
--- an operand where no calls are met
-abbrev pub alone : Meant Met → Meant Operand
-alone met = met >>= λ x. Ok x.0
-
 -- the number that a sign stands directly before
 abbrev pub written_number : Tree → Option ℕ
 written_number (Constant (l.Number n)) = Some n
 written_number a = None
 
--- a call, after its arguments and its window
-abbrev pub called : ContextRule → Name → Option (List Operand) → WindowMeaning → List CallMeaning → Meant Met
-called c f arguments w calls = applied (function_named f.text) arguments >>= λ function. met (length c.scope.columns) (record { function = function; window = w }) calls
+-- a call: its function over its arguments, and its window
+abbrev pub called : Name → Option (List (Operand SelectLeaf)) → WindowMeaning → Meant (Operand SelectLeaf)
+called f arguments w = do
+  function ← applied (function_named f.text) arguments
+  Ok (typed (Leaf (call (record { function = function; window = w }))) (kind_of_function function))
 
 -- a sign over an operand, or over the number that stands directly after it
-abbrev pub sign_met : Sign → Option ℕ → Meant Met → List CallMeaning → Meant Met
-sign_met sign (Some n) inner calls = without_call (signed_number sign n) calls
-sign_met sign None inner calls = inner >>= λ x. without_call (signed sign x.0) x.1
+abbrev pub sign_meant : Sign → Option ℕ → Meant (Operand SelectLeaf) → Meant (Operand SelectLeaf)
+sign_meant sign (Some n) inner = signed_number sign n
+sign_meant sign None inner = inner >>= λ x. signed sign x
 
 -- an expression to sort by
-abbrev pub key_meant : Operand → Option SortDirection → Option NullsPlace → KeyMeaning
-key_meant x direction place = record { expression = settled x; kind = kind_of x; key = sort_key direction place }
+abbrev pub key_meant : Operand SelectLeaf → Option SortDirection → Option NullsPlace → Meant KeyMeaning
+key_meant x direction place = do
+  expression ← over_columns (settled x)
+  Ok (record { expression = expression; kind = kind_of x; key = sort_key direction place })
+
+-- expressions in places that ask for no kind
+abbrev pub all_settled : List (Operand SelectLeaf) → Meant (List Expression)
+all_settled [] = Ok []
+all_settled (x ∷ xs) = over_columns (settled x) >>= λ e. all_settled xs >>= λ es. Ok (e ∷ es)
 
 -- what stands in OVER, where window calls may stand
 abbrev pub where_allowed : ContextRule → Meant WindowMeaning → Meant WindowMeaning
 where_allowed c w = if allows_window_calls c.place then w else Err CallNotAllowed
 
 abbrev mutual
-  -- what an expression means, after the calls that were met before it
-  pub resolved : ContextRule → Tree → List CallMeaning → Meant Met
-  resolved c (Constant x) calls = without_call (literal x) calls
-  resolved c (Column name) calls = without_call (column_named c.scope None name.text) calls
-  resolved c (Qualified table name) calls = without_call (column_named c.scope (Some table.text) name.text) calls
-  resolved c (CallAll f over) calls = over_meant c over >>= λ w. called c f None w calls
-  resolved c (Call f arguments over) calls = all_resolved (arguments_in c over) arguments [] >>= λ xs. over_meant c over >>= λ w. called c f (Some xs) w calls
-  resolved c (Case arms other) calls = arms_resolved c arms [] calls >>= λ xs. else_resolved c other xs.1 >>= λ y. without_call (case_of xs.0 y.0) y.1
-  resolved c (Bracket a) calls = resolved c a calls
-  resolved c (Signed sign a) calls = sign_met sign (written_number a) (resolved c a calls) calls
-  resolved c (Binary operator a b) calls = resolved c a calls >>= λ x. resolved c b x.1 >>= λ y. without_call (combined operator x.0 y.0) y.1
-  resolved c (IsNull a not) calls = resolved c a calls >>= λ x. Ok (tested not x.0, x.1)
-  resolved c (Negated a) calls = resolved c a calls >>= λ x. without_call (negated x.0) x.1
+  -- what an expression means
+  pub resolved : ContextRule → Tree → Meant (Operand SelectLeaf)
+  resolved c (Constant x) = literal x
+  resolved c (Column name) = column_named c.scope None name.text
+  resolved c (Qualified table name) = column_named c.scope (Some table.text) name.text
+  resolved c (CallAll f over) = over_meant c over >>= λ w. called f None w
+  resolved c (Call f arguments over) = all_resolved (arguments_in c over) arguments >>= λ xs. over_meant c over >>= λ w. called f (Some xs) w
+  resolved c (Case arms other) = arms_resolved c arms >>= λ xs. else_resolved c other >>= λ y. case_of xs y
+  resolved c (Bracket a) = resolved c a
+  resolved c (Signed sign a) = sign_meant sign (written_number a) (resolved c a)
+  resolved c (Binary operator a b) = resolved c a >>= λ x. resolved c b >>= λ y. combined operator x y
+  resolved c (IsNull a not) = resolved c a >>= λ x. Ok (tested not x)
+  resolved c (Negated a) = resolved c a >>= λ x. negated x
 
-  -- the arguments of a call, and the expressions of a partition, after those before them
-  pub all_resolved : ContextRule → Trees → List Operand → Meant (List Operand)
-  all_resolved c no_trees xs = Ok xs
-  all_resolved c (more_trees a trees) xs = alone (resolved c a []) >>= λ x. all_resolved c trees (xs ++ x ∷ [])
+  -- the arguments of a call, and the expressions of a partition
+  pub all_resolved : ContextRule → Trees → Meant (List (Operand SelectLeaf))
+  all_resolved c no_trees = Ok []
+  all_resolved c (more_trees a trees) = resolved c a >>= λ x. all_resolved c trees >>= λ xs. Ok (x ∷ xs)
 
-  -- the conditions and results of a CASE, after those before them
-  pub arms_resolved : ContextRule → Arms → List (Operand × Operand) → List CallMeaning → Meant (List (Operand × Operand) × List CallMeaning)
-  arms_resolved c no_arms xs calls = Ok (xs, calls)
-  arms_resolved c (more_arms when gives arms) xs calls = resolved c when calls >>= λ x. resolved c gives x.1 >>= λ y. arms_resolved c arms (xs ++ (x.0, y.0) ∷ []) y.1
+  -- the conditions and results of a CASE
+  pub arms_resolved : ContextRule → Arms → Meant (List (Operand SelectLeaf × Operand SelectLeaf))
+  arms_resolved c no_arms = Ok []
+  arms_resolved c (more_arms when gives arms) = resolved c when >>= λ x. resolved c gives >>= λ y. arms_resolved c arms >>= λ xs. Ok ((x, y) ∷ xs)
 
   -- without ELSE a CASE ends in NULL
-  pub else_resolved : ContextRule → Otherwise → List CallMeaning → Meant Met
-  else_resolved c no_else calls = Ok (bare_null, calls)
-  else_resolved c (or_else a) calls = resolved c a calls
+  pub else_resolved : ContextRule → Otherwise → Meant (Operand SelectLeaf)
+  else_resolved c no_else = Ok bare_null
+  else_resolved c (or_else a) = resolved c a
 
-  -- the expressions that a window sorts by, after those before them
-  pub keys_resolved : ContextRule → Keys → List KeyMeaning → Meant (List KeyMeaning)
-  keys_resolved c no_keys ks = Ok ks
-  keys_resolved c (more_keys a direction place keys) ks = alone (resolved c a []) >>= λ x. keys_resolved c keys (ks ++ key_meant x direction place ∷ [])
+  -- the expressions that a window sorts by
+  pub keys_resolved : ContextRule → Keys → Meant (List KeyMeaning)
+  keys_resolved c no_keys = Ok []
+  keys_resolved c (more_keys a direction place keys) = resolved c a >>= λ x. key_meant x direction place >>= λ k. keys_resolved c keys >>= λ ks. Ok (k ∷ ks)
 
   -- the window of a call; a function without OVER is none, and OVER is looked at only where window calls may stand
   pub over_meant : ContextRule → OverTree → Meant WindowMeaning
@@ -118,42 +120,43 @@ abbrev mutual
 
   -- a window: the one that it copies, its partition, its order, and then its frame
   pub window_resolved : ContextRule → WindowTree → Meant WindowMeaning
-  window_resolved c (window base partition order frame) = base_named c.windows (option_map (λ (n : Name). n.text) base) >>= λ copied. all_resolved (moved_to place.Window c) partition [] >>= λ xs. keys_resolved (moved_to place.Window c) order [] >>= λ ks. window_meant copied (map settled xs) ks frame
+  window_resolved c (window base partition order frame) = do
+    copied ← base_named c.windows (option_map (λ (n : Name). n.text) base)
+    xs ← all_resolved (moved_to place.Window c) partition
+    parts ← all_settled xs
+    keys ← keys_resolved (moved_to place.Window c) order
+    window_meant copied parts keys frame
 
 -- operators and their right operands, over what stands left of them
-abbrev pub chain_met : ContextRule → List (Operator × Tree) → Operand → List CallMeaning → Meant Met
-chain_met c [] x calls = Ok (x, calls)
-chain_met c (link ∷ links) x calls = resolved c link.1 calls >>= λ y. without_call (combined link.0 x y.0) y.1 >>= λ z. chain_met c links z.0 z.1
+abbrev pub chain_meant : ContextRule → List (Operator × Tree) → Operand SelectLeaf → Meant (Operand SelectLeaf)
+chain_meant c [] x = Ok x
+chain_meant c (link ∷ links) x = resolved c link.1 >>= λ y. combined link.0 x y >>= λ z. chain_meant c links z
 
 -- a call after its arguments: its window, and then itself
-abbrev pub call_over : ContextRule → Name → Option (List Operand) → OverTree → List CallMeaning → Meant Met
-call_over c f arguments over calls = over_meant c over >>= λ w. called c f arguments w calls
+abbrev pub call_over : ContextRule → Name → Option (List (Operand SelectLeaf)) → OverTree → Meant (Operand SelectLeaf)
+call_over c f arguments over = over_meant c over >>= λ w. called f arguments w
 
 -- a CASE after its arms: its end, and then itself
-abbrev pub case_ended : ContextRule → List (Operand × Operand) → Otherwise → List CallMeaning → Meant Met
-case_ended c arms other calls = else_resolved c other calls >>= λ y. without_call (case_of arms y.0) y.1
+abbrev pub case_ended : ContextRule → List (Operand SelectLeaf × Operand SelectLeaf) → Otherwise → Meant (Operand SelectLeaf)
+case_ended c arms other = else_resolved c other >>= λ y. case_of arms y
 
 -- tests for NULL, one after another
-abbrev pub tests_met : List Bool → Operand → Meant Operand
-tests_met [] x = Ok x
-tests_met (not ∷ nots) x = tests_met nots (tested not x)
-
--- a chain of operators, and tests of an operand, read from the left
-abbrev pub chain_resolved : ContextRule → Tree → List (Operator × Tree) → List CallMeaning → Meant Met
-chain_resolved c a links calls = resolved c a calls >>= λ x. chain_met c links x.0 x.1
-
-abbrev pub tests_resolved : ContextRule → Tree → List Bool → List CallMeaning → Meant Met
-tests_resolved c a nots calls = resolved c a calls >>= λ x. without_call (tests_met nots x.0) x.1
+abbrev pub tests_meant : List Bool → Operand SelectLeaf → Operand SelectLeaf
+tests_meant [] x = x
+tests_meant (not ∷ nots) x = tests_meant nots (tested not x)
 
 -- ---- expressions outside the select list, where no window calls stand
 
--- an expression over the columns in scope
-abbrev pub plain : Place → ScopeRule → Tree → Meant Operand
-plain place scope a = alone (resolved (record { scope = scope; windows = []; place = place }) a [])
+-- an expression where no windows have names
+abbrev pub plain : Place → ScopeRule → Tree → Meant (Operand SelectLeaf)
+plain place scope a = resolved (record { scope = scope; windows = []; place = place }) a
 
--- the condition of WHERE and of ON
+-- the condition of WHERE and of ON, a truth value over the columns in scope
 abbrev pub condition : Place → ScopeRule → Tree → Meant Expression
-condition place scope a = plain place scope a >>= λ x. of_kind Truth x
+condition place scope a = do
+  x ← plain place scope a
+  truth ← of_kind Truth x
+  over_columns truth
 
 -- ---- the WINDOW clause
 

@@ -1,34 +1,29 @@
--- That what is meant is typed: an operand has the kind that it says, over the columns in scope and the calls after them.
-use Rattle.std.specs.Prelude.{◌≡◌, ◌⊎◌, ℕ, ◌+◌, ◌-◌, ◌<◌, ◌≤◌, Bool, true, not, ◌||◌, List, [], ◌++◌, length, nat_lt, Some, option_map, slice_get, if◌then◌else◌, ⊤}
+-- That what is meant is typed: an operand has the kind that it says, over the columns in scope and its calls.
+use Rattle.std.specs.Prelude.{◌≡◌, Bool, true, not, ◌||◌, List, Option, Some, is_some, option_map, slice_get, ⊤}
 use Rattle.std.specs.List.{AllByRecursion}
+use Rattle.wd_plan.specs.declared.expression.ValueKind.{ValueKind}
 use Rattle.wd_plan.specs.declared.expression.ValueKind.TheVariants.{Number}
 use Rattle.wd_plan.specs.declared.window.Frame.{Frame}
 use Rattle.wd_plan.specs.declared.window.FrameMode.{FrameMode}
 use Rattle.wd_plan.specs.declared.window.FrameMode.TheVariants as mode
-use Rattle.wd_plan.specs.declared.expression.ValueKind.{ValueKind}
-use Rattle.wd_plan.specs.Expressions.{Expression, Column, Literal, Negate, Arithmetic, Compare, Not, And, Or, IsNull, IsNotNull, Case}
+use Rattle.wd_plan.specs.Expressions.{Expression}
 use Rattle.wd_plan.specs.Fits.{Kinds, are_bounds, has_extremes, has_offset, is_frame_row, is_of_kind, is_ranking, is_typed, kind_of}
+use Rattle.wd_operand.specs.Formulas.{Formula, is_typed_over, kind_over, leaves}
+use Rattle.wd_operand.specs.Operands.{Operand, bare_null, typed}
 use Rattle.wd_scope.specs.declared.scope.ScopeColumn.{ScopeColumn}
 use Rattle.wd_scope.specs.Calls.{ArgumentMeaning, AggregateMeaning, count_rows, count_of, sum_of, least_of, greatest_of, FunctionMeaning, ranking, away, value_at, aggregate, CallMeaning, kind_of_function}
-use Rattle.wd_scope.specs.Resolving.{Met}
-use Rattle.wd_scope.specs.Windows.{KeyMeaning, KnownMeaning, WindowMeaning, is_empty, is_one_number}
-use Rattle.wd_operand.specs.Operands.{Operand, bare_null, typed, settled}
+use Rattle.wd_scope.specs.Leaves.{SelectLeaf, column, call}
 use Rattle.wd_scope.specs.Scopes.{ScopeRule}
+use Rattle.wd_scope.specs.Windows.{KeyMeaning, KnownMeaning, WindowMeaning, is_empty, is_one_number}
 
--- the kinds of the columns in scope, and after them those of the calls met
-abbrev pub kinds_met : ScopeRule → List CallMeaning → Kinds
-kinds_met scope calls c =
-    if nat_lt c (length scope.columns) then option_map (λ (column : ScopeColumn). column.kind) (slice_get scope.columns c)
-    else option_map (λ (call : CallMeaning). kind_of_function call.function) (slice_get calls (c - length scope.columns))
+-- the kinds of the columns in scope
+abbrev pub kinds_in : ScopeRule → Kinds
+kinds_in scope c = option_map (λ (column : ScopeColumn). column.kind) (slice_get scope.columns c)
 
 -- an expression that is typed and has this kind, over columns of these kinds
 pub record IsOfKind (kinds : Kinds) (e : Expression) (kind : ValueKind) : Type 0 where
   pub is : is_typed kinds e ≡ true
   pub has : kind_of kinds e ≡ Some kind
-
-abbrev pub IsOperand : Kinds → Operand → Type 0
-IsOperand kinds bare_null = ⊤
-IsOperand kinds (typed e kind) = IsOfKind kinds e kind
 
 -- ---- windows and calls
 
@@ -78,33 +73,24 @@ pub record IsCall (kinds : Kinds) (call : CallMeaning) : Type 0 where
 abbrev pub AreKnown : Kinds → List KnownMeaning → Type 0
 AreKnown kinds windows = AllByRecursion (λ (known : KnownMeaning). IsWindow kinds known.window) windows
 
--- calls over the columns in scope
-abbrev pub AreCalls : ScopeRule → List CallMeaning → Type 0
-AreCalls scope calls = AllByRecursion (IsCall (kinds_met scope [])) calls
+-- ---- operands
 
--- ---- what is met
+-- the kind of a leaf: that of the column, or that of the values of the call's function
+abbrev pub kind_at : ScopeRule → SelectLeaf → Option ValueKind
+kind_at scope (column n) = kinds_in scope n
+kind_at scope (call c) = Some (kind_of_function c.function)
 
--- an operand that is typed over the columns in scope and the calls met up to and with it, which stand after the calls before it
-pub record IsMet (scope : ScopeRule) (calls : List CallMeaning) (x : Met) : Type 0 where
-  pub more : List CallMeaning
-  pub after : x.1 ≡ calls ++ more
-  pub calls_are : AreCalls scope x.1
-  pub operand : IsOperand (kinds_met scope x.1) x.0
+-- a column in scope, or a call over the columns in scope
+abbrev pub IsLeaf : ScopeRule → SelectLeaf → Type 0
+IsLeaf scope (column n) = is_some (kinds_in scope n) ≡ true
+IsLeaf scope (call c) = IsCall (kinds_in scope) c
 
--- the column of this number stands in an expression
-abbrev pub Shows : ℕ → Expression → Type 0
-Shows n (Column c) = c ≡ n
-Shows n (Literal v kind) = ⊥
-Shows n (Negate a) = Shows n a
-Shows n (Arithmetic op a b) = Shows n a ⊎ Shows n b
-Shows n (Compare op a b) = Shows n a ⊎ Shows n b
-Shows n (Not a) = Shows n a
-Shows n (And a b) = Shows n a ⊎ Shows n b
-Shows n (Or a b) = Shows n a ⊎ Shows n b
-Shows n (IsNull a) = Shows n a
-Shows n (IsNotNull a) = Shows n a
-Shows n (Case branch a b c) = Shows n a ⊎ (Shows n b ⊎ Shows n c)
+-- an expression that is typed and has this kind, over the columns in scope and calls over them
+pub record IsFormula (scope : ScopeRule) (f : Formula SelectLeaf) (kind : ValueKind) : Type 0 where
+  pub is : is_typed_over (kind_at scope) f ≡ true
+  pub has : kind_over (kind_at scope) f ≡ Some kind
+  pub leaves_are : AllByRecursion (IsLeaf scope) (leaves f)
 
--- the column of each call that is met after the calls before it stands in the operand, after so many columns of FROM
-abbrev pub ShowsNew : ℕ → List CallMeaning → Met → Type 0
-ShowsNew width calls x = (n : ℕ) → length calls ≤ n → n < length x.1 → Shows (width + n) (settled x.0)
+abbrev pub IsOperand : ScopeRule → Operand SelectLeaf → Type 0
+IsOperand scope bare_null = ⊤
+IsOperand scope (typed f kind) = IsFormula scope f kind

@@ -1,7 +1,5 @@
 //! Window calls: functions over their arguments, and over windows.
 
-ghost use Rattle.std.specs.Prelude.{◌≤◌, vec_len};
-
 use crate::window::Window;
 use wd_plan::{Direction, Expr, FrameRow, Ranking, ValueKind};
 use wd_value::Value;
@@ -46,15 +44,4 @@ pub enum AppliedFunction {
 pub struct WindowCall {
     pub function: AppliedFunction,
     pub window: Window,
-}
-
-/// The most window calls that have columns: a column's number has 16 bits, and up to 1,024 columns of FROM stand before those of
-/// the calls.
-pub(crate) const MOST_CALLS: usize = 64_512;
-
-/// The distinct window calls of a select list, as many as have columns.
-#[derive(Drop)]
-pub struct Calls {
-    pub list: Vec<WindowCall>,
-    pub ghost few: { vec_len list ≤ 64512 },
 }

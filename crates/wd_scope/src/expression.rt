@@ -4,24 +4,24 @@ ghost use Rattle.std.specs.Prelude.{◌≡◌, [], map, option_map, Some, None, 
 ghost use Rattle.wd_plan.specs.Expressions.{expression_of};
 ghost use Rattle.wd_syntax.specs.View.{view, view_link, view_window, view_over_option, view_else_option, view_arm, view_key, view_named_window};
 ghost use Rattle.wd_syntax.specs.Tree.{trees_of, arms_of, keys_of};
-ghost use Rattle.wd_operand.specs.Causes.{Gives};
-ghost use Rattle.wd_scope.specs.Calls.{calls_of, operands_of};
-ghost use Rattle.wd_operand.specs.Operands.{operand_of, arm_of, settled};
+ghost use Rattle.wd_operand.specs.Causes.{Gives, ◌>>=◌};
+ghost use Rattle.wd_scope.specs.Leaves.{operand_of, operands_of, arm_of};
 ghost use Rattle.wd_scope.specs.Resolving.{context_of};
 ghost use Rattle.wd_scope.specs.Resolving as spec;
 ghost use Rattle.wd_scope.specs.Scopes.{scope_of};
 ghost use Rattle.wd_scope.specs.Windows.{key_of, window_of, known_of};
 
-use crate::call::{Calls, WindowCall};
+use crate::call::WindowCall;
 use crate::context::{Context, Place};
 use crate::function::applied;
+use crate::leaf::{SelectLeaf, over_columns};
 use crate::scope::Scope;
 use crate::window::{
     KnownWindow, OrderKey, Window, base_named, sort_key, window_meant, window_named,
 };
 use std::alloc::Global;
 use wd_operand::{
-    CaseArm, Cause, Meaning, ResolveError, case_of, combined, literal, negated, signed,
+    CaseArm, Cause, Formula, Meaning, ResolveError, case_of, combined, literal, negated, signed,
     signed_number, tested,
 };
 use wd_plan::{Expr, ValueKind};
@@ -51,15 +51,14 @@ impl Context<'_> {
     }
 }
 
-/// What an expression means, after the calls that were met before it.
+/// What an expression means.
 #[cycle(resolve)]
 pub fn resolved(
     alloc: Global,
     context: &Context<'_>,
     tree: &written::Expr,
-    calls: &mut Calls,
-) -> Result<Meaning, ResolveError>
-    ensures { Gives (λ x. (operand_of x, calls_of calls.new)) result (spec.resolved (context_of context.now) (view tree.now) (calls_of calls.old)) }
+) -> Result<Meaning<SelectLeaf>, ResolveError>
+    ensures { Gives operand_of result (spec.resolved (context_of context.now) (view tree.now)) }
 {
     match tree {
         written::Expr::Literal(value) => literal(alloc, value),
@@ -69,36 +68,36 @@ pub fn resolved(
         }
         written::Expr::CallAll(name, over) => {
             let window = over_meant(alloc, context, over)?;
-            called(alloc, context, name, None, window, calls)
+            called(alloc, name, None, window)
         }
         written::Expr::Call(name, arguments, over) => {
             let arguments = all_resolved(alloc, &context.arguments_in(over), arguments)?;
-            call_over(alloc, context, name, Some(arguments), over, calls)
+            call_over(alloc, context, name, Some(arguments), over)
         }
         written::Expr::Case(arms, other) => {
-            let arms = arms_resolved(alloc, context, arms, calls)?;
-            case_ended(alloc, context, arms, other, calls)
+            let arms = arms_resolved(alloc, context, arms)?;
+            case_ended(alloc, context, arms, other)
         }
-        written::Expr::Bracket(inner) => resolved(alloc, context, inner, calls),
+        written::Expr::Bracket(inner) => resolved(alloc, context, inner),
         written::Expr::Signed(sign, inner) => match written_number(inner) {
             Some(number) => signed_number(alloc, *sign, number),
             None => {
-                let operand = resolved(alloc, context, inner, calls)?;
+                let operand = resolved(alloc, context, inner)?;
                 signed(alloc, *sign, operand)
             }
         },
         written::Expr::Compare(operator, left, right) => {
-            let left = resolved(alloc, context, left, calls)?;
-            let right = resolved(alloc, context, right, calls)?;
+            let left = resolved(alloc, context, left)?;
+            let right = resolved(alloc, context, right)?;
             combined(alloc, *operator, left, right)
         }
         written::Expr::Chain(first, links) => {
-            let first = resolved(alloc, context, first, calls)?;
-            chain_resolved(alloc, context, first, links, calls)
+            let first = resolved(alloc, context, first)?;
+            chain_resolved(alloc, context, first, links)
         }
-        written::Expr::Tests(inner, tests) => tests_resolved(alloc, context, inner, tests, calls),
+        written::Expr::Tests(inner, tests) => tests_resolved(alloc, context, inner, tests),
         written::Expr::Not(inner) => {
-            let inner = resolved(alloc, context, inner, calls)?;
+            let inner = resolved(alloc, context, inner)?;
             negated(alloc, inner)
         }
     }
@@ -130,14 +129,13 @@ fn call_over(
     alloc: Global,
     context: &Context<'_>,
     name: &Name,
-    arguments: Option<Vec<Meaning>>,
+    arguments: Option<Vec<Meaning<SelectLeaf>>>,
     over: &Option<Box<Over>>,
-    calls: &mut Calls,
-) -> Result<Meaning, ResolveError>
-    ensures { Gives (λ x. (operand_of x, calls_of calls.new)) result (spec.call_over (context_of context.now) name.now (option_map operands_of arguments) (view_over_option over.now) (calls_of calls.old)) }
+) -> Result<Meaning<SelectLeaf>, ResolveError>
+    ensures { Gives operand_of result (spec.call_over (context_of context.now) name.now (option_map operands_of arguments) (view_over_option over.now)) }
 {
     let window = over_meant(alloc, context, over)?;
-    called(alloc, context, name, arguments, window, calls)
+    called(alloc, name, arguments, window)
 }
 
 /// A CASE after its arms: its end, and then itself.
@@ -145,13 +143,12 @@ fn call_over(
 fn case_ended(
     alloc: Global,
     context: &Context<'_>,
-    arms: Vec<CaseArm>,
+    arms: Vec<CaseArm<SelectLeaf>>,
     other: &Option<Box<written::Expr>>,
-    calls: &mut Calls,
-) -> Result<Meaning, ResolveError>
-    ensures { Gives (λ x. (operand_of x, calls_of calls.new)) result (spec.case_ended (context_of context.now) (map arm_of arms.items) (view_else_option other.now) (calls_of calls.old)) }
+) -> Result<Meaning<SelectLeaf>, ResolveError>
+    ensures { Gives operand_of result (spec.case_ended (context_of context.now) (map arm_of arms.items) (view_else_option other.now)) }
 {
-    let other = else_resolved(alloc, context, other, calls)?;
+    let other = else_resolved(alloc, context, other)?;
     case_of(alloc, arms, other)
 }
 
@@ -162,11 +159,10 @@ fn tests_resolved(
     context: &Context<'_>,
     inner: &written::Expr,
     tests: &[bool],
-    calls: &mut Calls,
-) -> Result<Meaning, ResolveError>
-    ensures { Gives (λ x. (operand_of x, calls_of calls.new)) result (spec.tests_resolved (context_of context.now) (view inner.now) tests.now (calls_of calls.old)) }
+) -> Result<Meaning<SelectLeaf>, ResolveError>
+    ensures { Gives operand_of result (spec.resolved (context_of context.now) (view inner.now) >>= λ x. Ok (spec.tests_meant tests.now x)) }
 {
-    let inner = resolved(alloc, context, inner, calls)?;
+    let inner = resolved(alloc, context, inner)?;
     tests_over(alloc, inner, tests)
 }
 
@@ -175,23 +171,22 @@ fn tests_resolved(
 fn chain_resolved(
     alloc: Global,
     context: &Context<'_>,
-    first: Meaning,
+    first: Meaning<SelectLeaf>,
     links: &[Link],
-    calls: &mut Calls,
-) -> Result<Meaning, ResolveError>
-    ensures { Gives (λ x. (operand_of x, calls_of calls.new)) result (spec.chain_met (context_of context.now) (map view_link links.now) (operand_of first) (calls_of calls.old)) }
+) -> Result<Meaning<SelectLeaf>, ResolveError>
+    ensures { Gives operand_of result (spec.chain_meant (context_of context.now) (map view_link links.now) (operand_of first)) }
 {
     let mut left = first;
     for link in links {
-        let right = resolved(alloc, context, &link.operand, calls)?;
+        let right = resolved(alloc, context, &link.operand)?;
         left = combined(alloc, link.operator, left, right)?;
     }
     Ok(left)
 }
 
 /// Tests for NULL, one after another.
-fn tests_over(alloc: Global, operand: Meaning, tests: &[bool]) -> Result<Meaning, ResolveError>
-    ensures { Gives operand_of result (spec.tests_met tests.now (operand_of operand)) }
+fn tests_over(alloc: Global, operand: Meaning<SelectLeaf>, tests: &[bool]) -> Result<Meaning<SelectLeaf>, ResolveError>
+    ensures { Gives operand_of result (Ok (spec.tests_meant tests.now (operand_of operand))) }
 {
     let mut operand = operand;
     for not in tests {
@@ -203,17 +198,16 @@ fn tests_over(alloc: Global, operand: Meaning, tests: &[bool]) -> Result<Meaning
 /// A call, after its arguments and its window.
 fn called(
     alloc: Global,
-    context: &Context<'_>,
     name: &Name,
-    arguments: Option<Vec<Meaning>>,
+    arguments: Option<Vec<Meaning<SelectLeaf>>>,
     window: Window,
-    calls: &mut Calls,
-) -> Result<Meaning, ResolveError>
-    ensures { Gives (λ x. (operand_of x, calls_of calls.new)) result (spec.called (context_of context.now) name.now (option_map operands_of arguments) (window_of window) (calls_of calls.old)) }
+) -> Result<Meaning<SelectLeaf>, ResolveError>
+    ensures { Gives operand_of result (spec.called name.now (option_map operands_of arguments) (window_of window)) }
 {
     let function = applied(alloc, name.text.as_str(), arguments)?;
-    let width = context.scope.columns.len() as u16;
-    calls.meet(alloc, width, WindowCall { function, window })
+    let kind = function.kind();
+    let call = Box::new(alloc, WindowCall { function, window })?;
+    Meaning::typed(alloc, Formula::Leaf(SelectLeaf::Call(call)), kind)
 }
 
 /// The arguments of a call, and the expressions of a partition.
@@ -222,27 +216,14 @@ fn all_resolved(
     alloc: Global,
     context: &Context<'_>,
     trees: &[written::Expr],
-) -> Result<Vec<Meaning>, ResolveError>
-    ensures { Gives operands_of result (spec.all_resolved (context_of context.now) (trees_of (map view trees.now)) []) }
+) -> Result<Vec<Meaning<SelectLeaf>>, ResolveError>
+    ensures { Gives operands_of result (spec.all_resolved (context_of context.now) (trees_of (map view trees.now))) }
 {
     let mut operands = Vec::new(alloc);
     for tree in trees {
-        operands.push(alone(alloc, context, tree)?)?;
+        operands.push(resolved(alloc, context, tree)?)?;
     }
     Ok(operands)
-}
-
-/// An expression whose calls nothing else sees.
-#[cycle(resolve)]
-fn alone(
-    alloc: Global,
-    context: &Context<'_>,
-    tree: &written::Expr,
-) -> Result<Meaning, ResolveError>
-    ensures { Gives operand_of result (spec.alone (spec.resolved (context_of context.now) (view tree.now) [])) }
-{
-    let mut calls = Calls::new(alloc);
-    resolved(alloc, context, tree, &mut calls)
 }
 
 /// The conditions and results of a CASE.
@@ -251,14 +232,13 @@ fn arms_resolved(
     alloc: Global,
     context: &Context<'_>,
     arms: &[Arm],
-    calls: &mut Calls,
-) -> Result<Vec<CaseArm>, ResolveError>
-    ensures { Gives (λ v. (map arm_of v.items, calls_of calls.new)) result (spec.arms_resolved (context_of context.now) (arms_of (map view_arm arms.now)) [] (calls_of calls.old)) }
+) -> Result<Vec<CaseArm<SelectLeaf>>, ResolveError>
+    ensures { Gives (λ v. map arm_of v.items) result (spec.arms_resolved (context_of context.now) (arms_of (map view_arm arms.now))) }
 {
     let mut parts = Vec::new(alloc);
     for arm in arms {
-        let when = resolved(alloc, context, &arm.when, calls)?;
-        let gives = resolved(alloc, context, &arm.gives, calls)?;
+        let when = resolved(alloc, context, &arm.when)?;
+        let gives = resolved(alloc, context, &arm.gives)?;
         parts.push(CaseArm { when, gives })?;
     }
     Ok(parts)
@@ -270,13 +250,12 @@ fn else_resolved(
     alloc: Global,
     context: &Context<'_>,
     other: &Option<Box<written::Expr>>,
-    calls: &mut Calls,
-) -> Result<Meaning, ResolveError>
-    ensures { Gives (λ x. (operand_of x, calls_of calls.new)) result (spec.else_resolved (context_of context.now) (view_else_option other.now) (calls_of calls.old)) }
+) -> Result<Meaning<SelectLeaf>, ResolveError>
+    ensures { Gives operand_of result (spec.else_resolved (context_of context.now) (view_else_option other.now)) }
 {
     match other {
         None => Ok(Meaning::Null),
-        Some(tree) => resolved(alloc, context, tree, calls),
+        Some(tree) => resolved(alloc, context, tree),
     }
 }
 
@@ -287,25 +266,30 @@ fn keys_resolved(
     context: &Context<'_>,
     keys: &[SortKey],
 ) -> Result<Vec<OrderKey>, ResolveError>
-    ensures { Gives (λ v. map key_of v.items) result (spec.keys_resolved (context_of context.now) (keys_of (map view_key keys.now)) []) }
+    ensures { Gives (λ v. map key_of v.items) result (spec.keys_resolved (context_of context.now) (keys_of (map view_key keys.now))) }
 {
     let mut order = Vec::new(alloc);
     for key in keys {
-        let operand = alone(alloc, context, &key.expr)?;
-        order.push(order_key(operand, key))?;
+        let operand = resolved(alloc, context, &key.expr)?;
+        order.push(order_key(alloc, operand, key)?)?;
     }
     Ok(order)
 }
 
-fn order_key(operand: Meaning, written: &SortKey) -> OrderKey
-    ensures { key_of result ≡ spec.key_meant (operand_of operand) written.now.direction written.now.nulls }
+/// An expression to sort by.
+fn order_key(
+    alloc: Global,
+    operand: Meaning<SelectLeaf>,
+    written: &SortKey,
+) -> Result<OrderKey, ResolveError>
+    ensures { Gives key_of result (spec.key_meant (operand_of operand) written.now.direction written.now.nulls) }
 {
     let kind = operand.kind();
-    OrderKey {
-        expression: operand.settled(),
+    Ok(OrderKey {
+        expression: over_columns(alloc, &operand.settled())?,
         kind,
         key: sort_key(written.direction, written.nulls),
-    }
+    })
 }
 
 /// The window of a call: 405 without OVER, and 406 where no window calls may stand.
@@ -346,30 +330,33 @@ fn window_resolved(
     } = window;
     let base = base_named(context.windows, base)?;
     let inside = context.moved_to(Place::Window);
-    let partition = all_resolved(alloc, &inside, partition)?;
+    let operands = all_resolved(alloc, &inside, partition)?;
+    let partition = all_settled(alloc, operands)?;
     let order = keys_resolved(alloc, &inside, order)?;
-    let partition = settled_all(alloc, partition)?;
     window_meant(alloc, base, partition, order, *frame)
 }
 
-/// The expressions in places that ask for no kind.
-fn settled_all(alloc: Global, operands: Vec<Meaning>) -> Result<Vec<Expr>, ResolveError>
-    ensures { Gives (λ v. map expression_of v.items) result (Ok (map settled (map operand_of operands.items))) }
+/// The expressions in places that ask for no kind; 406 where a window call stands in one.
+fn all_settled(
+    alloc: Global,
+    operands: Vec<Meaning<SelectLeaf>>,
+) -> Result<Vec<Expr>, ResolveError>
+    ensures { Gives (λ v. map expression_of v.items) result (spec.all_settled (operands_of operands)) }
 {
     let mut expressions = Vec::with_capacity(alloc, operands.len())?;
     for operand in operands {
-        expressions.push(operand.settled())?;
+        expressions.push(over_columns(alloc, &operand.settled())?)?;
     }
     Ok(expressions)
 }
 
-/// An expression outside the select list, where no window calls stand.
+/// An expression where no windows have names.
 pub fn plain(
     alloc: Global,
     scope: &Scope,
     place: Place,
     tree: &written::Expr,
-) -> Result<Meaning, ResolveError>
+) -> Result<Meaning<SelectLeaf>, ResolveError>
     ensures { Gives operand_of result (spec.plain place (scope_of scope.now) (view tree.now)) }
 {
     let context = Context {
@@ -377,7 +364,7 @@ pub fn plain(
         windows: &[],
         place,
     };
-    alone(alloc, &context, tree)
+    resolved(alloc, &context, tree)
 }
 
 /// The condition of WHERE and of ON.
@@ -390,7 +377,8 @@ pub fn condition(
     ensures { Gives expression_of result (spec.condition place (scope_of scope.now) (view tree.now)) }
 {
     let operand = plain(alloc, scope, place, tree)?;
-    Ok(Box::into_inner(operand.of_kind(alloc, ValueKind::Truth)?))
+    let truth = operand.of_kind(alloc, ValueKind::Truth)?;
+    over_columns(alloc, &truth)
 }
 
 fn is_known(windows: &[KnownWindow], name: &Name) -> bool

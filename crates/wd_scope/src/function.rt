@@ -1,15 +1,17 @@
 //! Functions over their arguments.
 
-ghost use Rattle.std.specs.Prelude.{◌≡◌, Some, map, option_map};
+ghost use Rattle.std.specs.Prelude.{◌≡◌, Ok, Some, map, option_map};
 ghost use Rattle.wd_plan.specs.Fits.{has_extremes};
-ghost use Rattle.wd_operand.specs.Causes.{Gives};
+ghost use Rattle.wd_operand.specs.Causes.{Gives, ◌>>=◌};
 ghost use Rattle.wd_scope.specs.Calls.{aggregate_of, argument_of, function_of};
-ghost use Rattle.wd_scope.specs.Calls as spec;
-ghost use Rattle.wd_operand.specs.Operands.{operand_of};
+ghost use Rattle.wd_scope.specs.Calls as calls;
+ghost use Rattle.wd_scope.specs.Functions as spec;
+ghost use Rattle.wd_scope.specs.Leaves.{operand_of, operands_of};
 
 use crate::call::{AppliedAggregate, AppliedFunction, ValueArgument};
+use crate::leaf::{SelectLeaf, over_columns};
 use std::alloc::Global;
-use wd_operand::{Cause, Meaning, ResolveError};
+use wd_operand::{Cause, Formula, Meaning, ResolveError};
 use wd_plan::{Direction, Expr, FrameRow, FunctionName, Ranking, ValueKind, same_kind};
 use wd_value::Value;
 
@@ -19,7 +21,7 @@ const ONE_ROW: u64 = 1;
 impl AppliedAggregate {
     /// The kind of its values.
     fn kind(&self) -> ValueKind
-        ensures { result ≡ spec.kind_of_aggregate (aggregate_of self.now) }
+        ensures { result ≡ calls.kind_of_aggregate (aggregate_of self.now) }
     {
         match self {
             AppliedAggregate::CountRows | AppliedAggregate::Count(_) | AppliedAggregate::Sum(_) =>
@@ -32,7 +34,7 @@ impl AppliedAggregate {
 impl AppliedFunction {
     /// The kind of its values.
     pub(crate) fn kind(&self) -> ValueKind
-        ensures { result ≡ spec.kind_of_function (function_of self.now) }
+        ensures { result ≡ calls.kind_of_function (function_of self.now) }
     {
         match self {
             AppliedFunction::Ranking(_) => ValueKind::Number,
@@ -66,14 +68,14 @@ fn function_named(name: &str) -> Option<FunctionName>
 }
 
 /// A literal whole number of at least so much; else 405.
-fn whole(least: u64, operand: &Meaning) -> Result<u64, ResolveError>
+fn whole(least: u64, operand: &Meaning<SelectLeaf>) -> Result<u64, ResolveError>
     ensures { Gives (λ n. n) result (spec.whole least (operand_of operand.now)) }
 {
     let Meaning::Typed(expression, _) = operand else {
         return Err(ResolveError::Refused(Cause::WrongCall));
     };
     match &**expression {
-        Expr::Literal(Value::Int(n), _) => at_least(least, *n),
+        Formula::Literal(Value::Int(n), _) => at_least(least, *n),
         _ => Err(ResolveError::Refused(Cause::WrongCall)),
     }
 }
@@ -89,14 +91,14 @@ fn at_least(least: u64, n: i64) -> Result<u64, ResolveError>
 }
 
 /// The value of a default: a literal of the kind, which a bare NULL takes.
-fn default_of(alloc: Global, kind: ValueKind, operand: &Meaning) -> Result<Value, ResolveError>
+fn default_of(alloc: Global, kind: ValueKind, operand: &Meaning<SelectLeaf>) -> Result<Value, ResolveError>
     ensures { Gives (λ v. v) result (spec.default_of kind (operand_of operand.now)) }
 {
     let Meaning::Typed(expression, _) = operand else {
         return Ok(Value::Null);
     };
     match &**expression {
-        Expr::Literal(value, other) => if same_kind(kind, *other) {
+        Formula::Literal(value, other) => if same_kind(kind, *other) {
             Ok(value.copy(alloc)?)
         } else {
             Err(ResolveError::Refused(Cause::WrongCall))
@@ -105,30 +107,27 @@ fn default_of(alloc: Global, kind: ValueKind, operand: &Meaning) -> Result<Value
     }
 }
 
-/// An operand as a value argument.
-fn argument(operand: Meaning) -> ValueArgument
-    ensures { argument_of result ≡ spec.argument (operand_of operand) }
+/// An operand as a value argument; 406 where a window call stands in it.
+fn argument(alloc: Global, operand: Meaning<SelectLeaf>) -> Result<ValueArgument, ResolveError>
+    ensures { Gives argument_of result (spec.argument (operand_of operand)) }
 {
     let kind = operand.kind();
-    ValueArgument {
-        expression: operand.settled(),
-        kind,
-    }
+    let expression = over_columns(alloc, &operand.settled())?;
+    Ok(ValueArgument { expression, kind })
 }
 
 /// A value argument of whole numbers, as a bare NULL is one; else 405.
-fn numbers(operand: Meaning) -> Result<ValueArgument, ResolveError>
+fn numbers(alloc: Global, operand: Meaning<SelectLeaf>) -> Result<ValueArgument, ResolveError>
     ensures { Gives argument_of result (spec.numbers (operand_of operand)) }
 {
-    let expression = match operand {
-        Meaning::Null => Expr::Literal(Value::Null, ValueKind::Number),
-        Meaning::Typed(expression, ValueKind::Number) => Box::into_inner(expression),
-        Meaning::Typed(_, _) => return Err(ResolveError::Refused(Cause::WrongCall)),
-    };
-    Ok(ValueArgument {
-        expression,
-        kind: ValueKind::Number,
-    })
+    match &operand {
+        Meaning::Null => Ok(ValueArgument {
+            expression: Expr::Literal(Value::Null, ValueKind::Number),
+            kind: ValueKind::Number,
+        }),
+        Meaning::Typed(_, ValueKind::Number) => argument(alloc, operand),
+        Meaning::Typed(_, _) => Err(ResolveError::Refused(Cause::WrongCall)),
+    }
 }
 
 /// Whether MIN and MAX are there for the values.
@@ -142,49 +141,66 @@ fn is_ordered(kind: ValueKind) -> bool
 }
 
 /// A value argument that MIN and MAX take; else 405.
-fn ordered(operand: Meaning) -> Result<ValueArgument, ResolveError>
+fn ordered(alloc: Global, operand: Meaning<SelectLeaf>) -> Result<ValueArgument, ResolveError>
     ensures { Gives argument_of result (spec.ordered (operand_of operand)) }
 {
     if is_ordered(operand.kind()) {
-        Ok(argument(operand))
+        argument(alloc, operand)
     } else {
         Err(ResolveError::Refused(Cause::WrongCall))
     }
 }
 
+/// The value of the argument at one row of the frame.
+fn value_at(
+    alloc: Global,
+    row: FrameRow,
+    x: Meaning<SelectLeaf>,
+) -> Result<AppliedFunction, ResolveError>
+    ensures { Gives function_of result (spec.argument (operand_of x) >>= λ a. Ok (calls.value_at row a)) }
+{
+    Ok(AppliedFunction::ValueAt(row, argument(alloc, x)?))
+}
+
 /// NTH_VALUE, with the number of the row from 1.
-fn nth(x: Meaning, n: Meaning) -> Result<AppliedFunction, ResolveError>
+fn nth(alloc: Global, x: Meaning<SelectLeaf>, n: Meaning<SelectLeaf>) -> Result<AppliedFunction, ResolveError>
     ensures { Gives function_of result (spec.nth (operand_of x) (operand_of n)) }
 {
     let number = whole(1, &n)?;
-    Ok(AppliedFunction::ValueAt(FrameRow::Nth(number), argument(x)))
+    value_at(alloc, FrameRow::Nth(number), x)
 }
 
 /// LAG and LEAD, by how far and with the default.
-fn away(direction: Direction, x: Meaning, offset: u64, default: Value) -> AppliedFunction
-    ensures { function_of result ≡ spec.away direction (spec.argument (operand_of x)) offset default }
+fn away(
+    alloc: Global,
+    direction: Direction,
+    x: Meaning<SelectLeaf>,
+    offset: u64,
+    default: Value,
+) -> Result<AppliedFunction, ResolveError>
+    ensures { Gives function_of result (spec.argument (operand_of x) >>= λ a. Ok (calls.away direction a offset default)) }
 {
-    AppliedFunction::Shift {
+    Ok(AppliedFunction::Shift {
         direction,
-        argument: argument(x),
+        argument: argument(alloc, x)?,
         offset,
         default,
-    }
+    })
 }
 
 /// LAG and LEAD with literals that say how far and the default.
 fn shifted(
     alloc: Global,
     direction: Direction,
-    x: Meaning,
-    k: Meaning,
-    d: Meaning,
+    x: Meaning<SelectLeaf>,
+    k: Meaning<SelectLeaf>,
+    d: Meaning<SelectLeaf>,
 ) -> Result<AppliedFunction, ResolveError>
     ensures { Gives function_of result (spec.shifted direction (operand_of x) (operand_of k) (operand_of d)) }
 {
     let offset = whole(0, &k)?;
     let default = default_of(alloc, x.kind(), &d)?;
-    Ok(away(direction, x, offset, default))
+    away(alloc, direction, x, offset, default)
 }
 
 fn over_none(name: FunctionName) -> Result<AppliedFunction, ResolveError>
@@ -199,29 +215,29 @@ fn over_none(name: FunctionName) -> Result<AppliedFunction, ResolveError>
 }
 
 /// An aggregate over its argument.
-fn aggregate_over(name: FunctionName, x: Meaning) -> Result<AppliedAggregate, ResolveError>
+fn aggregate_over(alloc: Global, name: FunctionName, x: Meaning<SelectLeaf>) -> Result<AppliedAggregate, ResolveError>
     ensures { Gives aggregate_of result (spec.aggregate_over name (operand_of x)) }
 {
     match name {
-        FunctionName::Count => Ok(AppliedAggregate::Count(argument(x))),
-        FunctionName::Sum => Ok(AppliedAggregate::Sum(numbers(x)?)),
-        FunctionName::Min => Ok(AppliedAggregate::Min(ordered(x)?)),
-        FunctionName::Max => Ok(AppliedAggregate::Max(ordered(x)?)),
+        FunctionName::Count => Ok(AppliedAggregate::Count(argument(alloc, x)?)),
+        FunctionName::Sum => Ok(AppliedAggregate::Sum(numbers(alloc, x)?)),
+        FunctionName::Min => Ok(AppliedAggregate::Min(ordered(alloc, x)?)),
+        FunctionName::Max => Ok(AppliedAggregate::Max(ordered(alloc, x)?)),
         _ => Err(ResolveError::Refused(Cause::WrongCall)),
     }
 }
 
-fn over_one(name: FunctionName, x: Meaning) -> Result<AppliedFunction, ResolveError>
+fn over_one(alloc: Global, name: FunctionName, x: Meaning<SelectLeaf>) -> Result<AppliedFunction, ResolveError>
     ensures { Gives function_of result (spec.over_one name (operand_of x)) }
 {
     match name {
         FunctionName::Ntile => Ok(AppliedFunction::Ranking(Ranking::Ntile(whole(1, &x)?))),
-        FunctionName::Lag => Ok(away(Direction::Lag, x, ONE_ROW, Value::Null)),
-        FunctionName::Lead => Ok(away(Direction::Lead, x, ONE_ROW, Value::Null)),
-        FunctionName::FirstValue => Ok(AppliedFunction::ValueAt(FrameRow::First, argument(x))),
-        FunctionName::LastValue => Ok(AppliedFunction::ValueAt(FrameRow::Last, argument(x))),
+        FunctionName::Lag => away(alloc, Direction::Lag, x, ONE_ROW, Value::Null),
+        FunctionName::Lead => away(alloc, Direction::Lead, x, ONE_ROW, Value::Null),
+        FunctionName::FirstValue => value_at(alloc, FrameRow::First, x),
+        FunctionName::LastValue => value_at(alloc, FrameRow::Last, x),
         FunctionName::Count | FunctionName::Sum | FunctionName::Min | FunctionName::Max => {
-            Ok(AppliedFunction::Aggregate(aggregate_over(name, x)?))
+            Ok(AppliedFunction::Aggregate(aggregate_over(alloc, name, x)?))
         }
         FunctionName::RowNumber
         | FunctionName::Rank
@@ -233,15 +249,15 @@ fn over_one(name: FunctionName, x: Meaning) -> Result<AppliedFunction, ResolveEr
 fn over_two(
     alloc: Global,
     name: FunctionName,
-    x: Meaning,
-    y: Meaning,
+    x: Meaning<SelectLeaf>,
+    y: Meaning<SelectLeaf>,
 ) -> Result<AppliedFunction, ResolveError>
     ensures { Gives function_of result (spec.over_two name (operand_of x) (operand_of y)) }
 {
     match name {
         FunctionName::Lag => shifted(alloc, Direction::Lag, x, y, Meaning::Null),
         FunctionName::Lead => shifted(alloc, Direction::Lead, x, y, Meaning::Null),
-        FunctionName::NthValue => nth(x, y),
+        FunctionName::NthValue => nth(alloc, x, y),
         _ => Err(ResolveError::Refused(Cause::WrongCall)),
     }
 }
@@ -249,9 +265,9 @@ fn over_two(
 fn over_three(
     alloc: Global,
     name: FunctionName,
-    x: Meaning,
-    y: Meaning,
-    z: Meaning,
+    x: Meaning<SelectLeaf>,
+    y: Meaning<SelectLeaf>,
+    z: Meaning<SelectLeaf>,
 ) -> Result<AppliedFunction, ResolveError>
     ensures { Gives function_of result (spec.over_three name (operand_of x) (operand_of y) (operand_of z)) }
 {
@@ -265,7 +281,7 @@ fn over_three(
 fn over_arguments(
     alloc: Global,
     name: FunctionName,
-    arguments: Vec<Meaning>,
+    arguments: Vec<Meaning<SelectLeaf>>,
 ) -> Result<AppliedFunction, ResolveError>
     ensures { Gives function_of result (spec.over_arguments name (map operand_of arguments.items)) }
 {
@@ -274,7 +290,7 @@ fn over_arguments(
         return over_none(name);
     };
     let Some(y) = arguments.next() else {
-        return over_one(name, x);
+        return over_one(alloc, name, x);
     };
     let Some(z) = arguments.next() else {
         return over_two(alloc, name, x, y);
@@ -299,9 +315,9 @@ fn over_star(name: FunctionName) -> Result<AppliedFunction, ResolveError>
 pub(crate) fn applied(
     alloc: Global,
     name: &str,
-    arguments: Option<Vec<Meaning>>,
+    arguments: Option<Vec<Meaning<SelectLeaf>>>,
 ) -> Result<AppliedFunction, ResolveError>
-    ensures { Gives function_of result (spec.applied (spec.function_named name.now) (option_map spec.operands_of arguments)) }
+    ensures { Gives function_of result (spec.applied (spec.function_named name.now) (option_map operands_of arguments)) }
 {
     let Some(name) = function_named(name) else {
         return Err(ResolveError::Refused(Cause::WrongCall));

@@ -6,13 +6,15 @@ mod context;
 mod expression;
 mod function;
 pub mod laws;
+mod leaf;
 mod names;
 mod same;
 mod scope;
 mod window;
 
-pub use call::{AppliedAggregate, AppliedFunction, Calls, ValueArgument, WindowCall};
+pub use call::{AppliedAggregate, AppliedFunction, ValueArgument, WindowCall};
 pub use context::{Context, Place};
 pub use expression::{all_defined, condition, plain, resolved, written_number};
+pub use leaf::SelectLeaf;
 pub use scope::{MOST_COLUMNS, Scope, ScopeColumn};
 pub use window::{KnownWindow, OrderKey, Window, sort_key};

@@ -1,16 +1,20 @@
 //! Names, and the columns that they stand for.
 
-ghost use Rattle.std.specs.Prelude.{◌≡◌, option_map};
+ghost use Rattle.std.specs.Prelude.{◌≡◌, option_map, Ok, Err, if◌then◌else◌};
 ghost use Rattle.std.specs.List.{list_any};
 ghost use Rattle.wd_operand.specs.Causes.{Gives};
-ghost use Rattle.wd_operand.specs.Operands.{operand_of};
+ghost use Rattle.wd_operand.specs.Formulas.{Leaf};
+ghost use Rattle.wd_operand.specs.Operands.{typed};
+ghost use Rattle.wd_scope.specs.Leaves.{column, operand_of};
+ghost use Rattle.wd_scope.specs.Names.{column_named};
 ghost use Rattle.wd_scope.specs.Scopes.{scope_of};
 ghost use Rattle.wd_scope.specs.Scopes as spec;
 
+use crate::leaf::SelectLeaf;
 use crate::scope::{Scope, ScopeColumn};
 use std::alloc::Global;
-use wd_operand::{Cause, Meaning, ResolveError};
-use wd_plan::{Expr, ValueKind};
+use wd_operand::{Cause, Formula, Meaning, ResolveError};
+use wd_plan::ValueKind;
 use wd_value::Text;
 
 /// Whether a column has the name, and is of the table of the other name where one is said.
@@ -36,19 +40,20 @@ fn any_carries(table: Option<&Text>, name: &Text, columns: &[ScopeColumn]) -> bo
     false
 }
 
-/// The column of that number; 403 where another is meant too.
+/// The column at a position; 403 where another is meant too.
 fn unless_other(
     alloc: Global,
     other: bool,
-    number: u16,
+    position: u16,
     kind: ValueKind,
-) -> Result<Meaning, ResolveError>
-    ensures { Gives operand_of result (spec.unless_other other number kind) }
+) -> Result<Meaning<SelectLeaf>, ResolveError>
+    ensures { Gives operand_of result (if other then Err Cause.Ambiguous else Ok (typed (Leaf (column position)) kind)) }
 {
     if other {
         Err(ResolveError::Refused(Cause::Ambiguous))
     } else {
-        Meaning::typed(alloc, Expr::Column(number), kind)
+        let leaf = SelectLeaf::Column(position);
+        Meaning::typed(alloc, Formula::Leaf(leaf), kind)
     }
 }
 
@@ -59,8 +64,8 @@ impl Scope {
         alloc: Global,
         table: Option<&Text>,
         name: &Text,
-    ) -> Result<Meaning, ResolveError>
-        ensures { Gives operand_of result (spec.column_named (scope_of self.now) (option_map (λ t. t.now) table.entry) name.now) }
+    ) -> Result<Meaning<SelectLeaf>, ResolveError>
+        ensures { Gives operand_of result (column_named (scope_of self.now) (option_map (λ t. t.now) table.entry) name.now) }
     {
         for (number, column) in self.columns.iter().enumerate() {
             if carries(table, name, column) {

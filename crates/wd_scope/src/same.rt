@@ -1,22 +1,15 @@
-//! When two window calls are equal, and the distinct calls of a select list.
+//! When two window calls are equal.
 
-ghost use Rattle.std.specs.Prelude.{◌≡◌, ◌<◌, ◌≤◌, [], map, length, vec_len, IfSome};
-ghost use Rattle.std.specs.List.{list_all};
+ghost use Rattle.std.specs.Prelude.{◌≡◌, map};
 ghost use lib.Pointwise.{pointwise};
 ghost use Rattle.wd_plan.specs.Expressions.{expression_of};
-ghost use Rattle.wd_operand.specs.Causes.{Gives};
 ghost use Rattle.wd_scope.specs.Calls.{aggregate_of, argument_of, call_of, function_of};
 ghost use Rattle.wd_scope.specs.Calls as spec;
 ghost use Rattle.wd_plan.specs.Equality as equality;
-ghost use Rattle.wd_operand.specs.Operands.{operand_of};
 ghost use Rattle.wd_scope.specs.Windows.{key_of, window_of};
 
-use crate::call::{
-    AppliedAggregate, AppliedFunction, Calls, MOST_CALLS, ValueArgument, WindowCall,
-};
+use crate::call::{AppliedAggregate, AppliedFunction, ValueArgument, WindowCall};
 use crate::window::{OrderKey, Window};
-use std::alloc::Global;
-use wd_operand::{Cause, Meaning, ResolveError};
 use wd_plan::{Bound, Expr, Frame, FrameRow, Ranking};
 use wd_value::same;
 
@@ -151,65 +144,8 @@ fn same_window(v: &Window, w: &Window) -> bool
         && (same_order(&v.order, &w.order) && same_partition(&v.partition, &w.partition))
 }
 
-fn same_call(c: &WindowCall, d: &WindowCall) -> bool
+pub(crate) fn same_call(c: &WindowCall, d: &WindowCall) -> bool
     ensures { result ≡ spec.same_call (call_of c.now) (call_of d.now) }
 {
     same_function(&c.function, &d.function) && same_window(&c.window, &d.window)
-}
-
-impl Calls {
-    /// No calls.
-    pub fn new(alloc: Global) -> Calls
-        ensures { spec.calls_of result ≡ [] }
-    {
-        Calls {
-            list: Vec::new(alloc),
-        }
-    }
-
-    /// The number of a call that was met.
-    fn call_number(&self, call: &WindowCall) -> Option<usize>
-        ensures number { result ≡ spec.number_among 0 (call_of call.now) (spec.calls_of self.now) }
-        ensures within { IfSome result (λ n. n < vec_len self.now.list) }
-    {
-        for (number, known) in self.list.iter().enumerate() {
-            if same_call(call, known) {
-                return Some(number);
-            }
-        }
-        None
-    }
-
-    /// Takes up a new call; 415 where columns have no further number.
-    fn add(&mut self, alloc: Global, width: u16, call: WindowCall) -> Result<Meaning, ResolveError>
-        requires { width ≤ 1024 }
-        ensures { Gives (λ m. (operand_of m, spec.calls_of self.new)) result (spec.added width (call_of call) (spec.calls_of self.old)) }
-    {
-        let kind = call.function.kind();
-        let number = self.list.len();
-        if number >= MOST_CALLS {
-            return Err(ResolveError::Refused(Cause::TooMany));
-        }
-        self.list.push(call)?;
-        Meaning::typed(alloc, Expr::Column(width + number as u16), kind)
-    }
-
-    /// The column of a call after so many columns of FROM; a new call is taken up.
-    pub(crate) fn meet(
-        &mut self,
-        alloc: Global,
-        width: u16,
-        call: WindowCall,
-    ) -> Result<Meaning, ResolveError>
-        requires { width ≤ 1024 }
-        ensures { Gives (λ m. (operand_of m, spec.calls_of self.new)) result (spec.met width (call_of call) (spec.calls_of self.old)) }
-    {
-        match self.call_number(&call) {
-            Some(number) => {
-                let column = Expr::Column(width + number as u16);
-                Meaning::typed(alloc, column, call.function.kind())
-            }
-            None => self.add(alloc, width, call),
-        }
-    }
 }
