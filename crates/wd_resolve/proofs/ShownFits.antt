@@ -29,9 +29,9 @@ use Rattle.wd_select.specs.Listing.{are_wide}
 use Rattle.wd_select.specs.Outputs.{OutputMeaning, expressions_of, list_meant}
 use Rattle.wd_select.specs.Sorting.{Cut, Shown, Sorted, all_shown, count_meant, cut_meant, fetched, keys_sorted, offset_meant, tied, unsorted}
 use Rattle.wd_select.specs.Steps.{Lowered, columns_from, column_shown, deduplicated, filtered, limited, lowered_shown, mapped, without_hidden}
-use Rattle.wd_resolve.specs.Lowering.{behind_from, is_distinct, is_sorted, selected, shown_sorted}
+use Rattle.wd_resolve.specs.Lowering.{behind_from, is_distinct, is_sorted, selected, shown_by, shown_sorted}
 use Rattle.wd_select.proofs.PlanKinds.{AreWithin, HasKinds, distinct_is, filter_is, first_columns_is, limit_is, output_kinds, over_plan, scope_kinds}
-use Rattle.wd_select.proofs.Seated.{formulas_append, formulas_many}
+use Rattle.wd_select.proofs.SeatedFormulas.{formulas_append, formulas_many}
 use Rattle.wd_select.proofs.Windowed.{mapped_is}
 use Rattle.wd_select.proofs.ListedOutputs.{AreOutputs, IsListed, kinds_shown, list_is, outputs_formulas}
 use Rattle.wd_resolve.proofs.SortedShown.{HasSome, IsSorted, keys_sorted_is}
@@ -142,7 +142,7 @@ selected_is : (tables : List TableRule) (scope : ScopeRule) (plan : PlanTree) (w
     → selected scope plan windows parts ≡ Ok l → IsLowered tables l
 selected_is tables scope plan windows parts l h known e =
     let c : ContextRule = record { scope = scope; windows = windows; place = place.SelectList } in
-    let shown = λ (outputs : List OutputMeaning). record { scope = scope; distinct = is_distinct parts.quantifier; outputs = outputs } in
+    let shown = λ (outputs : List OutputMeaning). shown_by scope (is_distinct parts.quantifier) outputs in
     let list = bound (list_meant c parts.items) (λ (x : List OutputMeaning). shown_sorted (shown x) parts.tail.order parts.tail.limits plan) l e in
     shown_sorted_is tables plan (shown list.0) parts.tail.order parts.tail.limits l h (list_is c parts.items list.0 known list.1) list.2
 
@@ -150,7 +150,7 @@ filtered_is : (tables : List TableRule) (scope : ScopeRule) (filter : Option Tre
 filtered_is tables scope None plan next h e = subst (λ p. HasKinds tables p (scope_kinds scope)) (ok_is _ _ e) h
 filtered_is tables scope (Some a) plan next h e =
     let x = bound (condition place.Where scope a) (λ y. Ok (Filter y plan)) next e in
-    subst (λ p. HasKinds tables p (scope_kinds scope)) (ok_is _ _ x.2) (filter_is tables x.0 plan (scope_kinds scope) h (over_plan tables plan scope x.0 Truth h (condition_is place.Where scope a x.0 refl x.1)))
+    subst (λ p. HasKinds tables p (scope_kinds scope)) (ok_is _ _ x.2) (filter_is tables x.0 plan (scope_kinds scope) h (over_plan tables plan scope x.0 Truth h (condition_is place.Where scope a x.0 x.1)))
 
 pub behind_from_is : (tables : List TableRule) (from : JoinedTables) (parts : Parts) (l : Lowered) → HasKinds tables from.plan (scope_kinds from.scope)
     → behind_from from parts ≡ Ok l → IsLowered tables l

@@ -20,9 +20,9 @@ use Rattle.wd_scope.specs.Leaves.{SelectLeaf}
 use Rattle.wd_scope.specs.Resolving.{plain, written_number}
 use Rattle.wd_scope.specs.Windows.{sort_key}
 use Rattle.wd_scope.specs.Typed.{IsFormula}
-use Rattle.wd_scope.proofs.Equal.{some_is}
-use Rattle.wd_scope.proofs.Typing.{both, bound, ok_is, settled_is}
-use Rattle.wd_scope.proofs.TypedMet.{all_on, all_push}
+use Rattle.wd_scope.proofs.Typing.{both, bound, ok_is, some_is}
+use Rattle.wd_scope.proofs.TypedOperands.{settled_is}
+use Rattle.wd_scope.proofs.Lists.{all_on, all_push}
 use Rattle.wd_scope.specs.declared.context.Place.TheVariants as place
 use Rattle.wd_scope.proofs.TypedPlain.{plain_is}
 use Rattle.wd_select.specs.Listing.{are_wide}
@@ -30,7 +30,7 @@ use Rattle.wd_select.specs.Outputs.{OutputMeaning}
 use Rattle.wd_select.specs.Sorting.{IsNarrow, KeyPlace, Shown, Sorted, all_shown, are_one, expression_place, first_named, hidden, is_named, key_place, key_sorted, keys_sorted, literal_place, named_place, narrow_keys, or_expression, ordinal, output, output_or, shows, sorted_place, signed_place, unless_number, with_column, with_item, with_key}
 use Rattle.wd_resolve.specs.Lowering.{is_sorted}
 use Rattle.wd_select.proofs.PlanKinds.{AreWithin}
-use Rattle.wd_select.proofs.Seated.{AreFormulas, formulas_append}
+use Rattle.wd_select.proofs.SeatedFormulas.{AreFormulas, formulas_append}
 
 -- ---- places
 

@@ -15,7 +15,7 @@ use Rattle.wd_scope.specs.declared.context.Place.TheVariants as place
 use Rattle.wd_scope.specs.Scopes.{ScopeRule}
 use Rattle.wd_scope.specs.Windows.{KnownMeaning}
 use Rattle.wd_resolve.specs.Selected.{JoinedTables, FromSoFar, called, named_table, derived_table, joined, together, first_admitted, next_admitted}
-use Rattle.wd_select.specs.Outputs.{list_meant}
+use Rattle.wd_select.specs.Outputs.{OutputMeaning, list_meant}
 use Rattle.wd_select.specs.Sorting.{Shown, unsorted, keys_sorted, cut_meant}
 use Rattle.wd_select.specs.Steps.{Lowered, filtered, lowered_shown}
 
@@ -30,6 +30,9 @@ abbrev pub is_sorted : Keys → Bool
 is_sorted tree.no_keys = false
 is_sorted (tree.more_keys a direction nulls keys) = true
 
+abbrev pub shown_by : ScopeRule → Bool → List OutputMeaning → Shown
+shown_by scope distinct outputs = record { scope = scope; distinct = distinct; outputs = outputs }
+
 -- what a select shows, in its order and within its limits
 abbrev pub shown_sorted : Shown → Keys → Option Limits → PlanTree → Meant Lowered
 shown_sorted s order limits plan =
@@ -41,7 +44,7 @@ shown_sorted s order limits plan =
 abbrev pub selected : ScopeRule → PlanTree → List KnownMeaning → Parts → Meant Lowered
 selected scope plan windows parts =
     list_meant (record { scope = scope; windows = windows; place = place.SelectList }) parts.items >>= λ outputs.
-    shown_sorted (record { scope = scope; distinct = is_distinct parts.quantifier; outputs = outputs }) parts.tail.order parts.tail.limits plan
+    shown_sorted (shown_by scope (is_distinct parts.quantifier) outputs) parts.tail.order parts.tail.limits plan
 
 -- a select after its FROM: WHERE, WINDOW, and the rest
 abbrev pub behind_from : JoinedTables → Parts → Meant Lowered

@@ -60,13 +60,16 @@ abbrev pub scan_at : List TableRule → List ℕ → Option ℕ → Meant Joined
 scan_at tables name None = Err UnknownTable
 scan_at tables name (Some number) = if nat_lt number (2 ^ 16) then scan name number (slice_get tables number) else Err UnknownTable
 
+abbrev pub has_name : List ℕ → TableRule → Bool
+has_name name rule = bytes_eq rule.name name
+
 -- the table of that number has the name
 abbrev pub is_named : List TableRule → List ℕ → ℕ → Bool
-is_named tables name number = option_map_or (λ (rule : TableRule). bytes_eq rule.name name) (slice_get tables number) false
+is_named tables name number = option_map_or (has_name name) (slice_get tables number) false
 
 -- the number of the first table of that name
 abbrev pub table_number : List TableRule → List ℕ → Option ℕ
-table_number tables name = position (λ (rule : TableRule). bytes_eq rule.name name) tables
+table_number tables name = position (has_name name) tables
 
 -- the schema's table of a name, called by another name in FROM
 abbrev pub named_table : List TableRule → List ℕ → List ℕ → Meant JoinedTables

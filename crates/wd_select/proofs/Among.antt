@@ -1,10 +1,11 @@
 -- What stands among the elements met first.
-use Rattle.std.proofs.Common.{◌≡◌, ◌∙◌, sym, ap, refl, subst, ℕ, suc, not, ◌+◌, Bool, true, false, cond, ◌||◌, List, [], ◌∷◌, ◌++◌, Some, slice_get, arith}
+use Rattle.std.proofs.Common.{◌≡◌, ◌∙◌, sym, ap, refl, subst, ℕ, suc, not, ◌+◌, Bool, true, false, cond, ◌||◌, ◌<◌, ◌≤◌, List, [], ◌∷◌, ◌++◌, length, map, position, Some, None, slice_get, arith}
 use Rattle.std.specs.List.{AllByRecursion, list_any, list_all, position_or_len}
-use Rattle.std.proofs.lemmas.Bool.{false≢true, or_left, or_right}
+use Rattle.std.proofs.lemmas.Bool.{false≢true, le-ltb, lt-ltb, or_left, or_right}
+use Rattle.std.proofs.lemmas.List.{length-map}
 use Rattle.std.proofs.lemmas.List.Folds.{list_any-append}
 use Rattle.wd_select.specs.Listing.{with_new}
-use Rattle.wd_scope.proofs.TypedMet.{all_push}
+use Rattle.wd_scope.proofs.Lists.{all_push}
 use Rattle.wd_scope.proofs.Typing.{and_both}
 
 pub all_append : {A : Type 0} (P : A → Type 0) (xs ys : List A) → AllByRecursion P xs → AllByRecursion P ys → AllByRecursion P (xs ++ ys)
@@ -69,3 +70,19 @@ module _ {A : Type 0} (same : A → A → Bool) where
       by : (b : Bool) → AllByRecursion P (cond b seen (seen ++ x ∷ []))
       by true = h
       by false = all_push P seen x h g.0
+
+-- ---- the first that passes
+
+pub position_at : {A : Type 0} (t : A → Bool) (xs : List A) (n : ℕ) → n ≡ position_or_len t xs → n < length xs → position t xs ≡ Some n
+position_at t xs n e within =
+    let less : position_or_len t xs < length xs = omega (arith, e, within) in
+    ap (λ b. cond b (Some (position_or_len t xs)) None) (lt-ltb (position_or_len t xs) (length xs) less) ∙ ap Some (sym e)
+
+pub found_at : {A B : Type 0} (f : A → B) (t : B → Bool) (xs : List A) (n : ℕ) → n ≡ position_or_len t (map f xs) → n < length xs → position t (map f xs) ≡ Some n
+found_at f t xs n e within = let long = length-map xs f in position_at t (map f xs) n e (omega (arith, within, long))
+
+pub found_none : {A B : Type 0} (f : A → B) (t : B → Bool) (xs : List A) → length xs ≡ position_or_len t (map f xs) → position t (map f xs) ≡ None
+found_none f t xs e =
+    let long = length-map xs f in
+    let least : length (map f xs) ≤ position_or_len t (map f xs) = omega (arith, e, long) in
+    ap (λ b. cond b (Some (position_or_len t (map f xs))) None) (le-ltb (position_or_len t (map f xs)) (length (map f xs)) least)

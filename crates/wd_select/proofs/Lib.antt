@@ -1,9 +1,10 @@
 pub mod FirstMet
 mod Unnamed
 mod Keys
+mod Counted
 pub mod PlanKinds
 pub mod Among
-pub mod Reads
-pub mod Seated
+pub mod ReadBy
+pub mod SeatedFormulas
 pub mod Windowed
 pub mod ListedOutputs

@@ -3,7 +3,6 @@ use Rattle.std.proofs.Common.{◌≡◌, ◌∙◌, sym, ap, refl, subst, ℕ, B
 use Rattle.std.specs.List.{AllByRecursion, range_with_len}
 use Rattle.std.proofs.lemmas.List.{append_assoc, length_push}
 use Rattle.wd_plan.specs.declared.expression.ValueKind.{ValueKind}
-use Rattle.wd_operand.specs.Causes.{◌>>=◌}
 use Rattle.wd_operand.specs.declared.cause.Cause.TheVariants.{UnknownTable, TooMany}
 use Rattle.wd_operand.specs.Operands.{Operand}
 use Rattle.wd_syntax.specs.Tree.{ItemTree, all_columns, all_of, shown}
@@ -12,12 +11,13 @@ use Rattle.wd_scope.specs.Leaves.{SelectLeaf}
 use Rattle.wd_scope.specs.Resolving.{ContextRule, resolved}
 use Rattle.wd_scope.specs.Scopes.{ScopeRule, has_table}
 use Rattle.wd_scope.specs.Typed.{AreKnown, IsFormula, kinds_in}
-use Rattle.wd_scope.proofs.Typing.{bound, ok_is, settled_is}
+use Rattle.wd_scope.proofs.Typing.{bound, ok_is}
+use Rattle.wd_scope.proofs.TypedOperands.{settled_is}
 use Rattle.wd_scope.proofs.TypedTrees.{resolved_is}
 use Rattle.wd_select.specs.Listing.{are_wide}
-use Rattle.wd_select.specs.Outputs.{OutputMeaning, column_meant, columns_of, expressions_of, is_of, item_meant, list_meant, listed, name_shown, narrow, numbered, output_meant, table_shown}
+use Rattle.wd_select.specs.Outputs.{OutputMeaning, column_meant, columns_of, expressions_of, is_of, item_listed, item_meant, list_meant, listed, name_shown, narrow, numbered, output_meant, table_shown}
 use Rattle.wd_select.proofs.Among.{all_append}
-use Rattle.wd_select.proofs.Seated.{AreFormulas}
+use Rattle.wd_select.proofs.SeatedFormulas.{AreFormulas}
 
 -- each output has the kind that it says
 abbrev IsOutput : ScopeRule → OutputMeaning → Type 0
@@ -98,9 +98,9 @@ pub record IsListed (scope : ScopeRule) (outputs : List OutputMeaning) : Type 0 
 listed_is : (c : ContextRule) (items : List ItemTree) (outputs all : List OutputMeaning) → AreKnown (kinds_in c.scope) c.windows → IsListed c.scope outputs → listed c items outputs ≡ Ok all → IsListed c.scope all
 listed_is c [] outputs all known h e = subst (IsListed c.scope) (ok_is _ _ e) h
 listed_is c (item ∷ items) outputs all known h e =
-    let more = bound (item_meant c item) (λ (m : List OutputMeaning). narrow (outputs ++ m) >>= λ next. listed c items next) all e in
-    let next = bound (narrow (outputs ++ more.0)) (λ (n : List OutputMeaning). listed c items n) all more.2 in
-    let n = narrow_is (outputs ++ more.0) next.0 next.1 in
+    let next = bound (item_listed c item outputs) (λ (n : List OutputMeaning). listed c items n) all e in
+    let more = bound (item_meant c item) (λ (m : List OutputMeaning). narrow (outputs ++ m)) next.0 next.1 in
+    let n = narrow_is (outputs ++ more.0) next.0 more.2 in
     let whole : IsListed c.scope (outputs ++ more.0) = record { outputs_are = all_append (IsOutput c.scope) outputs more.0 h.outputs_are (item_is c item more.0 known more.1); narrow = n.1 } in
     listed_is c items next.0 all known (subst (IsListed c.scope) n.0 whole) next.2
 

@@ -15,7 +15,7 @@ use Rattle.wd_scope.specs.declared.scope.ScopeColumn.{ScopeColumn}
 use Rattle.wd_scope.specs.Scopes.{ScopeRule}
 use Rattle.wd_scope.specs.Typed.{IsOfKind, kinds_in}
 use Rattle.wd_scope.proofs.Typing.{and_both, kept}
-use Rattle.wd_scope.proofs.TypedMet.{column_is}
+use Rattle.wd_scope.proofs.Lists.{column_is}
 use Rattle.wd_select.specs.declared.output.OutputColumn.{OutputColumn}
 use Rattle.wd_select.specs.Steps.{columns_from}
 

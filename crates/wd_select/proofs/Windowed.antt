@@ -25,21 +25,22 @@ use Rattle.wd_plan.specs.declared.function.FrameFunction.TheVariants as of_frame
 use Rattle.wd_plan.specs.declared.function.FrameRow.TheVariants.{First, Last, Nth}
 use Rattle.wd_plan.specs.declared.function.Function.TheVariants.{OfFrame}
 use Rattle.wd_plan.specs.declared.function.Ranking.TheVariants as rank
-use Rattle.wd_operand.specs.Formulas.{Formula}
+use Rattle.wd_operand.specs.Formulas.{Formula, seated}
 use Rattle.wd_scope.specs.Calls.{AggregateMeaning, count_rows, count_of, sum_of, least_of, greatest_of, FunctionMeaning, ranking, away, value_at, aggregate, CallMeaning, kind_of_aggregate, kind_of_function, same_call}
 use Rattle.wd_scope.specs.Leaves.{SelectLeaf, column, call}
 use Rattle.wd_scope.specs.Scopes.{ScopeRule}
 use Rattle.wd_scope.specs.Windows.{KeyMeaning, is_empty, is_one_number}
-use Rattle.wd_scope.specs.Typed.{AreKeys, AreTyped, IsAggregate, IsCall, IsFunction, IsOfKind, is_framed, kinds_in, kind_at}
+use Rattle.wd_scope.specs.Typed.{AreKeys, AreTyped, IsAggregate, IsCall, IsFunction, IsLeaf, IsOfKind, is_framed, kind_at, kinds_in}
+use Rattle.wd_scope.proofs.Seated.{IsSeated}
 use Rattle.wd_scope.proofs.Typing.{Extends, and_both, both, kept, typed_kept}
-use Rattle.wd_scope.proofs.TypedMet.{all_get, all_on, column_is}
+use Rattle.wd_scope.proofs.Lists.{all_get, all_on, column_is}
 use Rattle.wd_scope.proofs.Equal.{same_call-kind, same_expression-is}
-use Rattle.wd_select.specs.Listing.{above, aggregated, all_leaves, alone, are_wide, argument_of, calls_among, calls_of, input_number, inputs_of, is_wide, place_above, place_alone, read_by, read_by_all, sorted_by, with_new}
-use Rattle.wd_select.specs.Steps.{aggregate_over, call_over, class_over, classes_over, function_over, mapped, mapped_over, order_item, same_class, same_item, window_over, windowed}
+use Rattle.wd_select.specs.Listing.{aggregated, all_leaves, are_wide, argument_of, calls_among, column_of, input_number, is_wide, needs_of, over, place_above, read_by, read_by_all, sorted_by, with_new}
+use Rattle.wd_select.specs.Steps.{aggregate_over, call_over, class_over, classes_over, function_over, mapped, order_item, same_class, same_item, window_over, windowed}
 use Rattle.wd_select.proofs.Among.{all_there, all_true, all_with_new, all_zip, first_is, first_there}
 use Rattle.wd_select.proofs.PlanKinds.{HasKinds, map_is, scope_is, scope_kinds}
-use Rattle.wd_select.proofs.Reads.{AreAmong, AreRead, IsAmong, IsFed, IsRead, all_read_typed, each_among, fed, of_calls, of_leaves, same_call-itself, same_expression-itself}
-use Rattle.wd_select.proofs.Seated.{AreFormulas, Stands, all_seated, formulas_many, formulas_read, some_there}
+use Rattle.wd_select.proofs.ReadBy.{AreAmong, AreLeaves, IsAmong, IsFed, all_read_typed, each_among, fed, of_calls, of_leaves, same_call-itself, same_expression-itself}
+use Rattle.wd_select.proofs.SeatedFormulas.{AreFormulas, all_seated, formulas_leaves, formulas_many}
 
 -- ---- classes that are the same are equal
 
@@ -73,6 +74,10 @@ same_class-itself a = and_both _ _ ((items_decide a.order a.order).1 refl) ((num
 
 -- ---- small facts
 
+some_there : {A : Type 0} (o : Option A) → is_some o ≡ true → (x : A) × (o ≡ Some x)
+some_there None h = absurd (false≢true h)
+some_there (Some x) h = (x, refl)
+
 -- what is typed has a kind
 typed_kind : (kinds : Kinds) (e : Expression) → is_typed kinds e ≡ true → (k : ValueKind) × (kind_of kinds e ≡ Some k)
 typed_kind kinds (Column c) h = some_there (kinds c) h
@@ -103,18 +108,18 @@ call_at kinds classes call class e t b k = rw e (and_both _ _ t (and_both _ _ b 
 -- too wide
 pub record IsGround (tables : List TableRule) (plan : PlanTree) (scope : ScopeRule) (formulas : List (Formula SelectLeaf)) : Type 0 where
   pub plan_is : HasKinds tables plan (scope_kinds scope)
-  pub leaves_are : AreRead scope (all_leaves formulas)
-  pub few : length (inputs_of formulas) + length (calls_of formulas) ≤ 1024
+  pub leaves_are : AreLeaves scope (all_leaves formulas)
+  pub few : length (needs_of formulas).inputs + length (needs_of formulas).calls ≤ 1024
 
 module _ (tables : List TableRule) (plan : PlanTree) (scope : ScopeRule) (formulas : List (Formula SelectLeaf)) (ground : IsGround tables plan scope formulas) where
   abbrev met : List SelectLeaf
   met = all_leaves formulas
 
   abbrev inputs : List Expression
-  inputs = inputs_of formulas
+  inputs = (needs_of formulas).inputs
 
   abbrev calls : List CallMeaning
-  calls = calls_of formulas
+  calls = (needs_of formulas).calls
 
   abbrev Read : Kinds
   Read = kinds_in scope
@@ -139,7 +144,7 @@ module _ (tables : List TableRule) (plan : PlanTree) (scope : ScopeRule) (formul
   fed_calls = all_with_new same_call (λ c. AreAmong inputs (read_by (call c))) [] (calls_among met) tt (of_calls (λ leaf. AreAmong inputs (read_by leaf)) met fed_leaves)
 
   calls_are : AllByRecursion (IsCall Read) calls
-  calls_are = all_with_new same_call (IsCall Read) [] (calls_among met) tt (of_calls (IsRead scope) met ground.leaves_are)
+  calls_are = all_with_new same_call (IsCall Read) [] (calls_among met) tt (of_calls (IsLeaf scope) met ground.leaves_are)
 
   inputs_are : AreTyped Read inputs
   inputs_are = all_with_new same_expression (λ e. is_typed Read e ≡ true) [] (read_by_all met) tt (all_read_typed scope met ground.leaves_are)
@@ -279,11 +284,11 @@ module _ (tables : List TableRule) (plan : PlanTree) (scope : ScopeRule) (formul
   IsThere (column n) = Unit {0}
   IsThere (call c) = list_any (same_call c) calls ≡ true
 
-  leaf_above : (leaf : SelectLeaf) → (IsRead scope leaf × AreAmong inputs (read_by leaf)) × IsThere leaf → Stands (kind_at scope) (place_above inputs calls) Over leaf
-  leaf_above (column n) h k g = input_above (Column n) k (column_is Read n k g) h.0.1.0
-  leaf_above (call c) h k g = met_above c h.0.0 h.1 ∙ g
+  leaf_above : (leaf : SelectLeaf) → (IsLeaf scope leaf × AreAmong inputs (read_by leaf)) × IsThere leaf → IsSeated (kind_at scope) (place_above inputs calls) Over leaf
+  leaf_above (column n) h = let k = some_there (Read n) h.0.0 in input_above (Column n) k.0 (column_is Read n k.0 k.1) h.0.1.0 ∙ sym k.1
+  leaf_above (call c) h = met_above c h.0.0 h.1
 
-  all_above : AllByRecursion (Stands (kind_at scope) (place_above inputs calls) Over) met
+  all_above : AllByRecursion (IsSeated (kind_at scope) (place_above inputs calls) Over) met
   all_above =
       let there = of_leaves IsThere met (λ n. tt) (all_there same_call same_call-itself [] (calls_among met)) in
       all_on met (all_zip met (all_zip met ground.leaves_are fed_leaves) there) leaf_above
@@ -291,27 +296,32 @@ module _ (tables : List TableRule) (plan : PlanTree) (scope : ScopeRule) (formul
 -- ---- the Map of what is shown
 
 -- without calls each column stands where FROM has it
-leaf_alone : (tables : List TableRule) (plan : PlanTree) (scope : ScopeRule) → HasKinds tables plan (scope_kinds scope) → (leaves : List SelectLeaf) → with_new same_call [] (calls_among leaves) ≡ [] → AllByRecursion (Stands (kind_at scope) place_alone (kinds_of tables plan)) leaves
-leaf_alone tables plan scope h leaves none =
+leaves_alone : (tables : List TableRule) (plan : PlanTree) (scope : ScopeRule) → HasKinds tables plan (scope_kinds scope) → (leaves : List SelectLeaf) → with_new same_call [] (calls_among leaves) ≡ [] → AllByRecursion (IsSeated (kind_at scope) column_of (kinds_of tables plan)) leaves
+leaves_alone tables plan scope h leaves none =
     let there = subst (λ cs. AllByRecursion (λ c. list_any (same_call c) cs ≡ true) (calls_among leaves)) none (all_there same_call same_call-itself [] (calls_among leaves)) in
-    of_leaves (Stands (kind_at scope) place_alone (kinds_of tables plan)) leaves (λ n k g. h.each n ∙ sym (scope_is scope n) ∙ g) (all_on (calls_among leaves) there (λ c e. absurd (false≢true e)))
+    of_leaves (IsSeated (kind_at scope) column_of (kinds_of tables plan)) leaves (λ n. h.each n ∙ sym (scope_is scope n)) (all_on (calls_among leaves) there (λ c e. absurd (false≢true e)))
 
 pub mapped_is : (tables : List TableRule) (plan : PlanTree) (scope : ScopeRule) (formulas : List (Formula SelectLeaf)) (ks : List ValueKind) → HasKinds tables plan (scope_kinds scope)
     → AreFormulas scope formulas ks → are_wide formulas ≡ false → HasKinds tables (mapped formulas plan) ks
-mapped_is tables plan scope formulas ks h are wide = by (calls_of formulas) refl wide
+mapped_is tables plan scope formulas ks h are wide = by (needs_of formulas).calls refl wide
   where
+    inputs : List Expression
+    inputs = (needs_of formulas).inputs
+
     many : length formulas ≡ length ks
     many = formulas_many scope formulas ks are
 
-    by : (calls : List CallMeaning) → calls_of formulas ≡ calls → is_wide (length formulas) (inputs_of formulas) calls ≡ false → HasKinds tables (mapped_over (inputs_of formulas) calls formulas plan) ks
+    by : (calls : List CallMeaning) → (needs_of formulas).calls ≡ calls → is_wide (length formulas) (record { calls = calls; inputs = (needs_of formulas).inputs }) ≡ false
+        → HasKinds tables (Map (map (over (record { calls = calls; inputs = (needs_of formulas).inputs })) formulas) (windowed (needs_of formulas).inputs calls plan)) ks
     by [] e wide =
         let few = ltb-false 1024 (length formulas) (or_parts _ _ wide).0 in
-        map_is tables plan (map alone formulas) ks h.fits_is (omega (arith, few, many)) (all_seated scope place_alone (kinds_of tables plan) formulas ks are (leaf_alone tables plan scope h (all_leaves formulas) e))
+        map_is tables plan (map (seated column_of) formulas) ks h.fits_is (omega (arith, few, many)) (all_seated scope column_of (kinds_of tables plan) formulas ks are (leaves_alone tables plan scope h (all_leaves formulas) e))
     by (c ∷ calls) e wide =
-        let p = or_parts (nat_lt 1024 (length formulas)) (nat_lt 1024 (length (inputs_of formulas) + length (c ∷ calls))) wide in
+        let p = or_parts (nat_lt 1024 (length formulas)) (nat_lt 1024 (length inputs + length (c ∷ calls))) wide in
         let few = ltb-false 1024 (length formulas) p.0 in
-        let narrow = ltb-false 1024 (length (inputs_of formulas) + length (c ∷ calls)) p.1 in
-        let ground : IsGround tables plan scope formulas = record { plan_is = h; leaves_are = formulas_read scope formulas ks are; few = subst (λ cs. length (inputs_of formulas) + length cs ≤ 1024) (sym e) narrow } in
-        let whole = map_is tables (windowed (inputs_of formulas) (calls_of formulas) plan) (map (above (inputs_of formulas) (calls_of formulas)) formulas) ks (window_fits tables plan scope formulas ground) (omega (arith, few, many))
-            (all_seated scope (place_above (inputs_of formulas) (calls_of formulas)) (kinds_of tables (windowed (inputs_of formulas) (calls_of formulas) plan)) formulas ks are (all_above tables plan scope formulas ground)) in
-        subst (λ cs. HasKinds tables (Map (map (above (inputs_of formulas) cs) formulas) (windowed (inputs_of formulas) cs plan)) ks) e whole
+        let narrow = ltb-false 1024 (length inputs + length (c ∷ calls)) p.1 in
+        let ground : IsGround tables plan scope formulas = record { plan_is = h; leaves_are = formulas_leaves scope formulas ks are; few = subst (λ cs. length inputs + length cs ≤ 1024) (sym e) narrow } in
+        let window = Window (window_over inputs (needs_of formulas).calls) (Map inputs plan) in
+        let whole = map_is tables window (map (seated (place_above inputs (needs_of formulas).calls)) formulas) ks (window_fits tables plan scope formulas ground) (omega (arith, few, many))
+            (all_seated scope (place_above inputs (needs_of formulas).calls) (kinds_of tables window) formulas ks are (all_above tables plan scope formulas ground)) in
+        subst (λ cs. HasKinds tables (Map (map (seated (place_above inputs cs)) formulas) (Window (window_over inputs cs) (Map inputs plan))) ks) e whole

@@ -2,12 +2,13 @@
 -- specification; PG, SELECT List).
 use Rattle.std.specs.Prelude.{ℕ, ◌+◌, Bool, true, false, ◌&&◌, ◌||◌, List, [], ◌∷◌, ◌++◌, map, length, nat_lt, if◌then◌else◌}
 use Rattle.std.specs.List.{list_any, position_or_len}
-use Rattle.wd_plan.specs.Expressions.{Expression, Column}
+use Rattle.wd_plan.specs.Expressions.{Expression, Column, expression_of}
 use Rattle.wd_plan.specs.Equality.{same_expression}
 use Rattle.wd_operand.specs.Formulas.{Formula, leaves, seated}
-use Rattle.wd_scope.specs.Calls.{AggregateMeaning, count_rows, count_of, sum_of, least_of, greatest_of, FunctionMeaning, ranking, away, value_at, aggregate, CallMeaning, same_call}
+use Rattle.wd_scope.specs.Calls.{AggregateMeaning, count_rows, count_of, sum_of, least_of, greatest_of, FunctionMeaning, ranking, away, value_at, aggregate, CallMeaning, call_of, same_call}
 use Rattle.wd_scope.specs.Leaves.{SelectLeaf, column, call}
 use Rattle.wd_scope.specs.Windows.{KeyMeaning}
+use Rattle.wd_select.specs.declared.needs.Needs.{Needs as CodeNeeds}
 
 -- ---- leaves
 
@@ -56,56 +57,65 @@ abbrev pub with_new : {A : Type 0} → (A → A → Bool) → List A → List A 
 with_new same seen [] = seen
 with_new same seen (x ∷ xs) = with_new same (if list_any (same x) seen then seen else seen ++ x ∷ []) xs
 
--- the distinct calls so far, and those among further leaves
-abbrev pub calls_with : List CallMeaning → List SelectLeaf → List CallMeaning
-calls_with calls more = with_new same_call calls (calls_among more)
+-- what expressions need of the rows below them: the distinct window calls, and the distinct expressions that the Map below a
+-- Window shows, in the order in which they are met
+pub record Needs : Type 0 where
+  pub calls : List CallMeaning
+  pub inputs : List Expression
 
--- the distinct expressions so far, and those that further leaves read
-abbrev pub inputs_with : List Expression → List SelectLeaf → List Expression
-inputs_with inputs more = with_new same_expression inputs (read_by_all more)
+-- what is needed so far, and what further leaves need
+abbrev pub needs_with : Needs → List SelectLeaf → Needs
+needs_with needs more = record { calls = with_new same_call needs.calls (calls_among more); inputs = with_new same_expression needs.inputs (read_by_all more) }
 
--- the distinct calls, in the order in which they are met
-abbrev pub calls_of : List (Formula SelectLeaf) → List CallMeaning
-calls_of formulas = calls_with [] (all_leaves formulas)
+abbrev pub needs_shown : CodeNeeds → Needs
+needs_shown needs = record { calls = map call_of needs.calls.items; inputs = map expression_of needs.inputs.items }
 
--- the distinct expressions that the Map below a Window shows, in the order in which they are met
-abbrev pub inputs_of : List (Formula SelectLeaf) → List Expression
-inputs_of formulas = inputs_with [] (all_leaves formulas)
+-- nothing is needed yet
+abbrev pub no_needs : Needs
+no_needs = record { calls = []; inputs = [] }
 
--- ---- above a Window
+abbrev pub needs_of : List (Formula SelectLeaf) → Needs
+needs_of formulas = needs_with no_needs (all_leaves formulas)
+
+-- ---- where leaves stand
 
 -- the number of an expression among the inputs, and their number where it is none
 abbrev pub input_number : List Expression → Expression → ℕ
 input_number inputs e = position_or_len (same_expression e) inputs
+
+-- the column of FROM that a leaf is; a call is none
+abbrev pub column_of : SelectLeaf → ℕ
+column_of (column n) = n
+column_of (call c) = 0
 
 -- the column of a Window where a leaf stands: among the inputs, or, of a call, behind them
 abbrev pub place_above : List Expression → List CallMeaning → SelectLeaf → ℕ
 place_above inputs calls (column n) = input_number inputs (Column n)
 place_above inputs calls (call c) = length inputs + position_or_len (same_call c) calls
 
--- an expression over the columns of a Window
-abbrev pub above : List Expression → List CallMeaning → Formula SelectLeaf → Expression
-above inputs calls f = seated (place_above inputs calls) f
+-- where a leaf stands below what a select shows: in the Window, or, where there are no calls, in FROM
+abbrev pub place_in : List Expression → List CallMeaning → SelectLeaf → ℕ
+place_in inputs [] leaf = column_of leaf
+place_in inputs (c ∷ calls) leaf = place_above inputs (c ∷ calls) leaf
 
--- where there are no calls, a column stands where FROM has it
-abbrev pub place_alone : SelectLeaf → ℕ
-place_alone (column n) = n
-place_alone (call c) = 0
-
--- an expression without calls, over the columns of FROM
-abbrev pub alone : Formula SelectLeaf → Expression
-alone f = seated place_alone f
+-- an expression over the columns below what a select shows
+abbrev pub over : Needs → Formula SelectLeaf → Expression
+over needs f = seated (place_in needs.inputs needs.calls) f
 
 -- ---- the widths of nodes
 
 abbrev pub has_calls : List CallMeaning → Bool
 has_calls [] = false
-has_calls (call ∷ calls) = true
+has_calls (c ∷ calls) = true
 
--- some node has more than 1,024 columns: the Map of so many expressions or, where there are calls, the Window below it (own)
-abbrev pub is_wide : ℕ → List Expression → List CallMeaning → Bool
-is_wide shown inputs calls = nat_lt 1024 shown || (has_calls calls && nat_lt 1024 (length inputs + length calls))
+-- the Window has more than 1,024 columns, where there are calls (own)
+abbrev pub is_window_wide : Needs → Bool
+is_window_wide needs = has_calls needs.calls && nat_lt 1024 (length needs.inputs + length needs.calls)
+
+-- some node has more than 1,024 columns: the Map of so many expressions, or the Window below it (own)
+abbrev pub is_wide : ℕ → Needs → Bool
+is_wide shown needs = nat_lt 1024 shown || is_window_wide needs
 
 -- some node is too wide for these expressions
 abbrev pub are_wide : List (Formula SelectLeaf) → Bool
-are_wide formulas = is_wide (length formulas) (inputs_of formulas) (calls_of formulas)
+are_wide formulas = is_wide (length formulas) (needs_of formulas)

@@ -60,8 +60,8 @@ column_meant x = record { name = x.1.name; expression = Leaf (column x.0); kind 
 
 -- a column of the table of that name, where one is said
 abbrev pub is_of : Option (List ℕ) → ScopeColumn → Bool
-is_of None column = true
-is_of (Some table) column = bytes_eq column.table table
+is_of None c = true
+is_of (Some table) c = bytes_eq c.table table
 
 -- the columns of all tables of FROM, or of one
 abbrev pub columns_of : ScopeRule → Option (List ℕ) → List OutputMeaning
@@ -86,10 +86,14 @@ item_meant c (shown a alias) = resolved c a >>= λ x. Ok (output_meant (name_sho
 abbrev pub narrow : List OutputMeaning → Meant (List OutputMeaning)
 narrow outputs = if are_wide (expressions_of outputs) then Err TooMany else Ok outputs
 
+-- a further member of a select list
+abbrev pub item_listed : ContextRule → ItemTree → List OutputMeaning → Meant (List OutputMeaning)
+item_listed c item outputs = item_meant c item >>= λ more. narrow (outputs ++ more)
+
 -- the outputs of a select list, after those before them
 abbrev pub listed : ContextRule → List ItemTree → List OutputMeaning → Meant (List OutputMeaning)
 listed c [] outputs = Ok outputs
-listed c (item ∷ items) outputs = item_meant c item >>= λ more. narrow (outputs ++ more) >>= λ next. listed c items next
+listed c (item ∷ items) outputs = item_listed c item outputs >>= λ next. listed c items next
 
 -- the outputs of a whole select list
 abbrev pub list_meant : ContextRule → List ItemTree → Meant (List OutputMeaning)

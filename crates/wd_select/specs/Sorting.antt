@@ -27,7 +27,7 @@ use Rattle.wd_select.specs.declared.shown.Shown.{Shown as CodeShown}
 use Rattle.wd_select.specs.declared.shown.KeyPlace.{KeyPlace as CodePlace}
 use Rattle.wd_select.specs.declared.shown.KeyPlace.TheVariants as code
 use Rattle.wd_select.specs.declared.shown.Sorted.{Sorted as CodeSorted}
-use Rattle.wd_select.specs.Listing.{are_wide}
+use Rattle.wd_select.specs.Listing.{are_wide, needs_of, needs_shown}
 use Rattle.wd_select.specs.Outputs.{OutputMeaning, expressions_of, output_of}
 
 -- what a select has before its ORDER BY: the columns of FROM, whether it is DISTINCT, and its outputs
@@ -160,6 +160,10 @@ keys_sorted s (more_keys a direction nulls keys) so_far = key_sorted s a (sort_k
 -- no node is too wide for the outputs and the sort keys so far
 abbrev pub IsNarrow : Shown → Sorted → Type 0
 IsNarrow s so_far = are_wide (all_shown s so_far) ≡ false
+
+-- what the outputs and the sort keys so far need is counted
+abbrev pub IsCounted : Shown → CodeSorted → Type 0
+IsCounted s so_far = needs_shown so_far.needs ≡ needs_of (all_shown s (sorted_of so_far))
 
 -- ---- limits of rows
 

@@ -23,7 +23,7 @@ use Rattle.wd_scope.specs.declared.context.Place.TheVariants as place
 use Rattle.wd_scope.specs.Scopes.{ScopeRule}
 use Rattle.wd_scope.specs.Windows.{KeyMeaning}
 use Rattle.wd_select.specs.declared.output.OutputColumn.{OutputColumn}
-use Rattle.wd_select.specs.Listing.{above, alone, calls_of, input_number, inputs_of, with_new}
+use Rattle.wd_select.specs.Listing.{Needs, input_number, needs_of, over, with_new}
 use Rattle.wd_select.specs.Outputs.{OutputMeaning}
 use Rattle.wd_select.specs.Sorting.{Shown, Sorted, Cut, all_shown}
 
@@ -86,16 +86,20 @@ filtered scope None plan = Ok plan
 filtered scope (Some a) plan = condition place.Where scope a >>= λ e. Ok (Filter e plan)
 
 -- a Window over a Map of the distinct expressions that are read
-abbrev pub windowed : List Expression → List CallMeaning → PlanTree → PlanTree
-windowed inputs calls plan = Window (window_over inputs calls) (Map inputs plan)
+abbrev pub window_on : List Expression → List CallMeaning → PlanTree → PlanTree
+window_on inputs calls plan = Window (window_over inputs calls) (Map inputs plan)
 
--- a Map of the expressions; with window calls over a Window, and this over a Map of the distinct expressions that they read
-abbrev pub mapped_over : List Expression → List CallMeaning → List (Formula SelectLeaf) → PlanTree → PlanTree
-mapped_over inputs [] formulas plan = Map (map alone formulas) plan
-mapped_over inputs (call ∷ calls) formulas plan = Map (map (above inputs (call ∷ calls)) formulas) (windowed inputs (call ∷ calls) plan)
+-- a Window, where there are window calls
+abbrev pub windowed : List Expression → List CallMeaning → PlanTree → PlanTree
+windowed inputs [] plan = plan
+windowed inputs (call ∷ calls) plan = window_on inputs (call ∷ calls) plan
+
+-- a Map of the expressions, over the Window where there is one
+abbrev pub mapped_over : Needs → List (Formula SelectLeaf) → PlanTree → PlanTree
+mapped_over needs formulas plan = Map (map (over needs) formulas) (windowed needs.inputs needs.calls plan)
 
 abbrev pub mapped : List (Formula SelectLeaf) → PlanTree → PlanTree
-mapped formulas plan = mapped_over (inputs_of formulas) (calls_of formulas) formulas plan
+mapped formulas plan = mapped_over (needs_of formulas) formulas plan
 
 -- DISTINCT is a Distinct
 abbrev pub deduplicated : Bool → PlanTree → PlanTree

@@ -1,5 +1,5 @@
 -- What leaves read is typed, and stands among the inputs.
-use Rattle.std.proofs.Common.{◌≡◌, refl, ℕ, Bool, true, List, [], ◌∷◌, ◌++◌, map, Some, is_some, eq-eqb}
+use Rattle.std.proofs.Common.{◌≡◌, refl, ℕ, Bool, true, List, [], ◌∷◌, ◌++◌, map, eq-eqb}
 use Rattle.std.specs.List.{AllByRecursion, list_any}
 use Rattle.std.specs.Cmp.{booleans_Decides}
 use denote.Enum.Bare.{true_same}
@@ -25,7 +25,7 @@ use Rattle.wd_scope.specs.Calls.{AggregateMeaning, count_rows, count_of, sum_of,
 use Rattle.wd_scope.specs.Leaves.{SelectLeaf, column, call}
 use Rattle.wd_scope.specs.Scopes.{ScopeRule}
 use Rattle.wd_scope.specs.Windows.{KeyMeaning}
-use Rattle.wd_scope.specs.Typed.{AreKeys, AreTyped, IsAggregate, IsCall, IsFunction, kinds_in}
+use Rattle.wd_scope.specs.Typed.{AreKeys, AreTyped, IsAggregate, IsCall, IsFunction, IsLeaf, kinds_in}
 use Rattle.wd_scope.proofs.Typing.{and_both, same_kind-itself}
 use Rattle.wd_select.specs.Listing.{aggregated, argument_of, calls_among, read_by, read_by_all, sorted_by}
 use Rattle.wd_select.proofs.Among.{all_append, all_split}
@@ -158,18 +158,13 @@ module _ (kinds : Kinds) where
       (append_typed (argument_of c.function) c.window.partition (argument_typed c.function h.function) h.window.partition)
       (keys_typed c.window.order h.window.order)
 
--- a column of FROM that is there, or a call over such columns
-abbrev pub IsRead : ScopeRule → SelectLeaf → Type 0
-IsRead scope (column n) = is_some (kinds_in scope n) ≡ true
-IsRead scope (call c) = IsCall (kinds_in scope) c
+abbrev pub AreLeaves : ScopeRule → List SelectLeaf → Type 0
+AreLeaves scope leaves = AllByRecursion (IsLeaf scope) leaves
 
-abbrev pub AreRead : ScopeRule → List SelectLeaf → Type 0
-AreRead scope leaves = AllByRecursion (IsRead scope) leaves
-
-read_typed : (scope : ScopeRule) (leaf : SelectLeaf) → IsRead scope leaf → AreTyped (kinds_in scope) (read_by leaf)
+read_typed : (scope : ScopeRule) (leaf : SelectLeaf) → IsLeaf scope leaf → AreTyped (kinds_in scope) (read_by leaf)
 read_typed scope (column n) h = (h, tt)
 read_typed scope (call c) h = call_typed (kinds_in scope) c h
 
-pub all_read_typed : (scope : ScopeRule) (leaves : List SelectLeaf) → AreRead scope leaves → AreTyped (kinds_in scope) (read_by_all leaves)
+pub all_read_typed : (scope : ScopeRule) (leaves : List SelectLeaf) → AreLeaves scope leaves → AreTyped (kinds_in scope) (read_by_all leaves)
 all_read_typed scope [] h = tt
 all_read_typed scope (leaf ∷ leaves) h = append_typed (kinds_in scope) (read_by leaf) (read_by_all leaves) (read_typed scope leaf h.0) (all_read_typed scope leaves h.1)
