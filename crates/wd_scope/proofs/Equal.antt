@@ -14,7 +14,7 @@ use Rattle.wd_plan.specs.Fits.{Kinds}
 use Rattle.wd_scope.specs.Calls.{ArgumentMeaning, AggregateMeaning, count_rows, count_of, sum_of, least_of, greatest_of, FunctionMeaning, ranking, away, value_at, aggregate, CallMeaning, kind_of_aggregate, kind_of_function, same_aggregate, same_argument, same_call, same_function, same_row}
 use Rattle.wd_plan.specs.Equality.{same_expression}
 use Rattle.wd_scope.specs.Typed.{IsAggregate, IsArgument, IsFunction, IsOfKind}
-use Rattle.wd_scope.proofs.Typing.{both, same_kind-is}
+use Rattle.wd_scope.proofs.Typing.{both, same_kind-is, some_is}
 
 pub same_expression-is : (x y : Expression) → same_expression x y ≡ true → x ≡ y
 same_expression-is (Column n) (Column m) h = ap Column (eqb-true n m h)
@@ -29,9 +29,6 @@ same_expression-is (IsNull x) (IsNull y) h = ap IsNull (same_expression-is x y h
 same_expression-is (IsNotNull x) (IsNotNull y) h = ap IsNotNull (same_expression-is x y h)
 same_expression-is (Case branch x y z) (Case other u v w) h = let o = both _ _ h in let p = both _ _ o.1 in let r = both _ _ p.1 in λ i. Case (same_true branches (search rules) branch other o.0 i) (same_expression-is x u p.0 i) (same_expression-is y v r.0 i) (same_expression-is z w r.1 i)
 same_expression-is x y h = absurd (false≢true h)
-
-pub some_is : {A : Type 0} (x y : A) → ◌≡◌ {A = Option A} (Some x) (Some y) → x ≡ y
-some_is x y h = cc
 
 module _ (kinds : Kinds) where
   one_kind : (e : Expression) (k l : ValueKind) → IsOfKind kinds e k → IsOfKind kinds e l → k ≡ l

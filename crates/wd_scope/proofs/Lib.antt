@@ -2,11 +2,15 @@ mod Texts
 mod Naming
 mod Written
 mod Chains
+mod Prefixed
 pub mod Rolled
+pub mod Lists
 pub mod Typing
+pub mod Seated
+pub mod TypedOperands
+pub mod OverColumns
 pub mod TypedCalls
+pub mod TypedWindows
 pub mod Equal
-pub mod TypedMet
 pub mod TypedTrees
-pub mod Shown
 pub mod TypedPlain

@@ -57,6 +57,10 @@ default_of kind (typed a other) = Err WrongCall
 abbrev pub argument : Operand SelectLeaf → Meant ArgumentMeaning
 argument x = over_columns (settled x) >>= λ e. Ok (record { expression = e; kind = kind_of x })
 
+-- a function over a value argument
+abbrev pub over_argument : (ArgumentMeaning → FunctionMeaning) → Operand SelectLeaf → Meant FunctionMeaning
+over_argument function x = argument x >>= λ a. Ok (function a)
+
 -- a value argument of whole numbers; a bare NULL is one here
 abbrev pub numbers : Operand SelectLeaf → Meant ArgumentMeaning
 numbers bare_null = Ok (record { expression = e.Literal Null Number; kind = Number })
@@ -69,11 +73,11 @@ ordered x = if has_extremes (Some (kind_of x)) then argument x else Err WrongCal
 
 -- NTH_VALUE, with the number of the row from 1
 abbrev pub nth : Operand SelectLeaf → Operand SelectLeaf → Meant FunctionMeaning
-nth x n = whole 1 n >>= λ m. argument x >>= λ a. Ok (value_at (Nth m) a)
+nth x n = whole 1 n >>= λ m. over_argument (value_at (Nth m)) x
 
 -- LAG and LEAD, with how far and the default
 abbrev pub shifted : Direction → Operand SelectLeaf → Operand SelectLeaf → Operand SelectLeaf → Meant FunctionMeaning
-shifted direction x k d = whole 0 k >>= λ n. default_of (kind_of x) d >>= λ default. argument x >>= λ a. Ok (away direction a n default)
+shifted direction x k d = whole 0 k >>= λ n. default_of (kind_of x) d >>= λ default. over_argument (λ a. away direction a n default) x
 
 abbrev pub over_none : FunctionName → Meant FunctionMeaning
 over_none RowNumber = Ok (ranking rank.RowNumber)
@@ -91,10 +95,10 @@ aggregate_over name x = Err WrongCall
 
 abbrev pub over_one : FunctionName → Operand SelectLeaf → Meant FunctionMeaning
 over_one Ntile n = whole 1 n >>= λ buckets. Ok (ranking (rank.Ntile buckets))
-over_one Lag x = argument x >>= λ a. Ok (away way.Lag a 1 Null)
-over_one Lead x = argument x >>= λ a. Ok (away way.Lead a 1 Null)
-over_one FirstValue x = argument x >>= λ a. Ok (value_at First a)
-over_one LastValue x = argument x >>= λ a. Ok (value_at Last a)
+over_one Lag x = over_argument (λ a. away way.Lag a 1 Null) x
+over_one Lead x = over_argument (λ a. away way.Lead a 1 Null) x
+over_one FirstValue x = over_argument (value_at First) x
+over_one LastValue x = over_argument (value_at Last) x
 over_one RowNumber x = Err WrongCall
 over_one Rank x = Err WrongCall
 over_one DenseRank x = Err WrongCall

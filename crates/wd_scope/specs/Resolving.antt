@@ -145,6 +145,9 @@ abbrev pub tests_meant : List Bool → Operand SelectLeaf → Operand SelectLeaf
 tests_meant [] x = x
 tests_meant (not ∷ nots) x = tests_meant nots (tested not x)
 
+abbrev pub tests_resolved : ContextRule → Tree → List Bool → Meant (Operand SelectLeaf)
+tests_resolved c a nots = resolved c a >>= λ x. Ok (tests_meant nots x)
+
 -- ---- expressions outside the select list, where no window calls stand
 
 -- an expression where no windows have names

@@ -4,7 +4,7 @@ ghost use Rattle.std.specs.Prelude.{◌≡◌, [], map, option_map, Some, None, 
 ghost use Rattle.wd_plan.specs.Expressions.{expression_of};
 ghost use Rattle.wd_syntax.specs.View.{view, view_link, view_window, view_over_option, view_else_option, view_arm, view_key, view_named_window};
 ghost use Rattle.wd_syntax.specs.Tree.{trees_of, arms_of, keys_of};
-ghost use Rattle.wd_operand.specs.Causes.{Gives, ◌>>=◌};
+ghost use Rattle.wd_operand.specs.Causes.{Gives};
 ghost use Rattle.wd_scope.specs.Leaves.{operand_of, operands_of, arm_of};
 ghost use Rattle.wd_scope.specs.Resolving.{context_of};
 ghost use Rattle.wd_scope.specs.Resolving as spec;
@@ -14,7 +14,7 @@ ghost use Rattle.wd_scope.specs.Windows.{key_of, window_of, known_of};
 use crate::call::WindowCall;
 use crate::context::{Context, Place};
 use crate::function::applied;
-use crate::leaf::{SelectLeaf, over_columns};
+use crate::leaf::{SelectLeaf, over_columns, settled_over_columns};
 use crate::scope::Scope;
 use crate::window::{
     KnownWindow, OrderKey, Window, base_named, sort_key, window_meant, window_named,
@@ -160,7 +160,7 @@ fn tests_resolved(
     inner: &written::Expr,
     tests: &[bool],
 ) -> Result<Meaning<SelectLeaf>, ResolveError>
-    ensures { Gives operand_of result (spec.resolved (context_of context.now) (view inner.now) >>= λ x. Ok (spec.tests_meant tests.now x)) }
+    ensures { Gives operand_of result (spec.tests_resolved (context_of context.now) (view inner.now) tests.now) }
 {
     let inner = resolved(alloc, context, inner)?;
     tests_over(alloc, inner, tests)
@@ -271,7 +271,7 @@ fn keys_resolved(
     let mut order = Vec::new(alloc);
     for key in keys {
         let operand = resolved(alloc, context, &key.expr)?;
-        order.push(order_key(alloc, operand, key)?)?;
+        order.push(order_key(alloc, &operand, key)?)?;
     }
     Ok(order)
 }
@@ -279,15 +279,14 @@ fn keys_resolved(
 /// An expression to sort by.
 fn order_key(
     alloc: Global,
-    operand: Meaning<SelectLeaf>,
+    operand: &Meaning<SelectLeaf>,
     written: &SortKey,
 ) -> Result<OrderKey, ResolveError>
-    ensures { Gives key_of result (spec.key_meant (operand_of operand) written.now.direction written.now.nulls) }
+    ensures { Gives key_of result (spec.key_meant (operand_of operand.now) written.now.direction written.now.nulls) }
 {
-    let kind = operand.kind();
     Ok(OrderKey {
-        expression: over_columns(alloc, &operand.settled())?,
-        kind,
+        expression: settled_over_columns(alloc, operand)?,
+        kind: operand.kind(),
         key: sort_key(written.direction, written.nulls),
     })
 }
@@ -331,7 +330,7 @@ fn window_resolved(
     let base = base_named(context.windows, base)?;
     let inside = context.moved_to(Place::Window);
     let operands = all_resolved(alloc, &inside, partition)?;
-    let partition = all_settled(alloc, operands)?;
+    let partition = all_settled(alloc, &operands)?;
     let order = keys_resolved(alloc, &inside, order)?;
     window_meant(alloc, base, partition, order, *frame)
 }
@@ -339,13 +338,13 @@ fn window_resolved(
 /// The expressions in places that ask for no kind; 406 where a window call stands in one.
 fn all_settled(
     alloc: Global,
-    operands: Vec<Meaning<SelectLeaf>>,
+    operands: &[Meaning<SelectLeaf>],
 ) -> Result<Vec<Expr>, ResolveError>
-    ensures { Gives (λ v. map expression_of v.items) result (spec.all_settled (operands_of operands)) }
+    ensures { Gives (λ v. map expression_of v.items) result (spec.all_settled (map operand_of operands.now)) }
 {
     let mut expressions = Vec::with_capacity(alloc, operands.len())?;
     for operand in operands {
-        expressions.push(over_columns(alloc, &operand.settled())?)?;
+        expressions.push(settled_over_columns(alloc, operand)?)?;
     }
     Ok(expressions)
 }

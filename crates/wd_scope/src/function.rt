@@ -1,15 +1,15 @@
 //! Functions over their arguments.
 
-ghost use Rattle.std.specs.Prelude.{◌≡◌, Ok, Some, map, option_map};
+ghost use Rattle.std.specs.Prelude.{◌≡◌, Some, map, option_map};
 ghost use Rattle.wd_plan.specs.Fits.{has_extremes};
-ghost use Rattle.wd_operand.specs.Causes.{Gives, ◌>>=◌};
+ghost use Rattle.wd_operand.specs.Causes.{Gives};
 ghost use Rattle.wd_scope.specs.Calls.{aggregate_of, argument_of, function_of};
 ghost use Rattle.wd_scope.specs.Calls as calls;
 ghost use Rattle.wd_scope.specs.Functions as spec;
 ghost use Rattle.wd_scope.specs.Leaves.{operand_of, operands_of};
 
 use crate::call::{AppliedAggregate, AppliedFunction, ValueArgument};
-use crate::leaf::{SelectLeaf, over_columns};
+use crate::leaf::{SelectLeaf, settled_over_columns};
 use std::alloc::Global;
 use wd_operand::{Cause, Formula, Meaning, ResolveError};
 use wd_plan::{Direction, Expr, FrameRow, FunctionName, Ranking, ValueKind, same_kind};
@@ -108,19 +108,20 @@ fn default_of(alloc: Global, kind: ValueKind, operand: &Meaning<SelectLeaf>) -> 
 }
 
 /// An operand as a value argument; 406 where a window call stands in it.
-fn argument(alloc: Global, operand: Meaning<SelectLeaf>) -> Result<ValueArgument, ResolveError>
-    ensures { Gives argument_of result (spec.argument (operand_of operand)) }
+fn argument(alloc: Global, operand: &Meaning<SelectLeaf>) -> Result<ValueArgument, ResolveError>
+    ensures { Gives argument_of result (spec.argument (operand_of operand.now)) }
 {
-    let kind = operand.kind();
-    let expression = over_columns(alloc, &operand.settled())?;
-    Ok(ValueArgument { expression, kind })
+    Ok(ValueArgument {
+        expression: settled_over_columns(alloc, operand)?,
+        kind: operand.kind(),
+    })
 }
 
 /// A value argument of whole numbers, as a bare NULL is one; else 405.
-fn numbers(alloc: Global, operand: Meaning<SelectLeaf>) -> Result<ValueArgument, ResolveError>
-    ensures { Gives argument_of result (spec.numbers (operand_of operand)) }
+fn numbers(alloc: Global, operand: &Meaning<SelectLeaf>) -> Result<ValueArgument, ResolveError>
+    ensures { Gives argument_of result (spec.numbers (operand_of operand.now)) }
 {
-    match &operand {
+    match operand {
         Meaning::Null => Ok(ValueArgument {
             expression: Expr::Literal(Value::Null, ValueKind::Number),
             kind: ValueKind::Number,
@@ -141,8 +142,8 @@ fn is_ordered(kind: ValueKind) -> bool
 }
 
 /// A value argument that MIN and MAX take; else 405.
-fn ordered(alloc: Global, operand: Meaning<SelectLeaf>) -> Result<ValueArgument, ResolveError>
-    ensures { Gives argument_of result (spec.ordered (operand_of operand)) }
+fn ordered(alloc: Global, operand: &Meaning<SelectLeaf>) -> Result<ValueArgument, ResolveError>
+    ensures { Gives argument_of result (spec.ordered (operand_of operand.now)) }
 {
     if is_ordered(operand.kind()) {
         argument(alloc, operand)
@@ -155,18 +156,18 @@ fn ordered(alloc: Global, operand: Meaning<SelectLeaf>) -> Result<ValueArgument,
 fn value_at(
     alloc: Global,
     row: FrameRow,
-    x: Meaning<SelectLeaf>,
+    x: &Meaning<SelectLeaf>,
 ) -> Result<AppliedFunction, ResolveError>
-    ensures { Gives function_of result (spec.argument (operand_of x) >>= λ a. Ok (calls.value_at row a)) }
+    ensures { Gives function_of result (spec.over_argument (calls.value_at row) (operand_of x.now)) }
 {
     Ok(AppliedFunction::ValueAt(row, argument(alloc, x)?))
 }
 
 /// NTH_VALUE, with the number of the row from 1.
-fn nth(alloc: Global, x: Meaning<SelectLeaf>, n: Meaning<SelectLeaf>) -> Result<AppliedFunction, ResolveError>
-    ensures { Gives function_of result (spec.nth (operand_of x) (operand_of n)) }
+fn nth(alloc: Global, x: &Meaning<SelectLeaf>, n: &Meaning<SelectLeaf>) -> Result<AppliedFunction, ResolveError>
+    ensures { Gives function_of result (spec.nth (operand_of x.now) (operand_of n.now)) }
 {
-    let number = whole(1, &n)?;
+    let number = whole(1, n)?;
     value_at(alloc, FrameRow::Nth(number), x)
 }
 
@@ -174,11 +175,11 @@ fn nth(alloc: Global, x: Meaning<SelectLeaf>, n: Meaning<SelectLeaf>) -> Result<
 fn away(
     alloc: Global,
     direction: Direction,
-    x: Meaning<SelectLeaf>,
+    x: &Meaning<SelectLeaf>,
     offset: u64,
     default: Value,
 ) -> Result<AppliedFunction, ResolveError>
-    ensures { Gives function_of result (spec.argument (operand_of x) >>= λ a. Ok (calls.away direction a offset default)) }
+    ensures { Gives function_of result (spec.over_argument (λ a. calls.away direction a offset default) (operand_of x.now)) }
 {
     Ok(AppliedFunction::Shift {
         direction,
@@ -192,14 +193,14 @@ fn away(
 fn shifted(
     alloc: Global,
     direction: Direction,
-    x: Meaning<SelectLeaf>,
-    k: Meaning<SelectLeaf>,
-    d: Meaning<SelectLeaf>,
+    x: &Meaning<SelectLeaf>,
+    k: &Meaning<SelectLeaf>,
+    d: &Meaning<SelectLeaf>,
 ) -> Result<AppliedFunction, ResolveError>
-    ensures { Gives function_of result (spec.shifted direction (operand_of x) (operand_of k) (operand_of d)) }
+    ensures { Gives function_of result (spec.shifted direction (operand_of x.now) (operand_of k.now) (operand_of d.now)) }
 {
-    let offset = whole(0, &k)?;
-    let default = default_of(alloc, x.kind(), &d)?;
+    let offset = whole(0, k)?;
+    let default = default_of(alloc, x.kind(), d)?;
     away(alloc, direction, x, offset, default)
 }
 
@@ -215,8 +216,8 @@ fn over_none(name: FunctionName) -> Result<AppliedFunction, ResolveError>
 }
 
 /// An aggregate over its argument.
-fn aggregate_over(alloc: Global, name: FunctionName, x: Meaning<SelectLeaf>) -> Result<AppliedAggregate, ResolveError>
-    ensures { Gives aggregate_of result (spec.aggregate_over name (operand_of x)) }
+fn aggregate_over(alloc: Global, name: FunctionName, x: &Meaning<SelectLeaf>) -> Result<AppliedAggregate, ResolveError>
+    ensures { Gives aggregate_of result (spec.aggregate_over name (operand_of x.now)) }
 {
     match name {
         FunctionName::Count => Ok(AppliedAggregate::Count(argument(alloc, x)?)),
@@ -227,11 +228,11 @@ fn aggregate_over(alloc: Global, name: FunctionName, x: Meaning<SelectLeaf>) -> 
     }
 }
 
-fn over_one(alloc: Global, name: FunctionName, x: Meaning<SelectLeaf>) -> Result<AppliedFunction, ResolveError>
-    ensures { Gives function_of result (spec.over_one name (operand_of x)) }
+fn over_one(alloc: Global, name: FunctionName, x: &Meaning<SelectLeaf>) -> Result<AppliedFunction, ResolveError>
+    ensures { Gives function_of result (spec.over_one name (operand_of x.now)) }
 {
     match name {
-        FunctionName::Ntile => Ok(AppliedFunction::Ranking(Ranking::Ntile(whole(1, &x)?))),
+        FunctionName::Ntile => Ok(AppliedFunction::Ranking(Ranking::Ntile(whole(1, x)?))),
         FunctionName::Lag => away(alloc, Direction::Lag, x, ONE_ROW, Value::Null),
         FunctionName::Lead => away(alloc, Direction::Lead, x, ONE_ROW, Value::Null),
         FunctionName::FirstValue => value_at(alloc, FrameRow::First, x),
@@ -249,14 +250,14 @@ fn over_one(alloc: Global, name: FunctionName, x: Meaning<SelectLeaf>) -> Result
 fn over_two(
     alloc: Global,
     name: FunctionName,
-    x: Meaning<SelectLeaf>,
-    y: Meaning<SelectLeaf>,
+    x: &Meaning<SelectLeaf>,
+    y: &Meaning<SelectLeaf>,
 ) -> Result<AppliedFunction, ResolveError>
-    ensures { Gives function_of result (spec.over_two name (operand_of x) (operand_of y)) }
+    ensures { Gives function_of result (spec.over_two name (operand_of x.now) (operand_of y.now)) }
 {
     match name {
-        FunctionName::Lag => shifted(alloc, Direction::Lag, x, y, Meaning::Null),
-        FunctionName::Lead => shifted(alloc, Direction::Lead, x, y, Meaning::Null),
+        FunctionName::Lag => shifted(alloc, Direction::Lag, x, y, &Meaning::Null),
+        FunctionName::Lead => shifted(alloc, Direction::Lead, x, y, &Meaning::Null),
         FunctionName::NthValue => nth(alloc, x, y),
         _ => Err(ResolveError::Refused(Cause::WrongCall)),
     }
@@ -265,11 +266,11 @@ fn over_two(
 fn over_three(
     alloc: Global,
     name: FunctionName,
-    x: Meaning<SelectLeaf>,
-    y: Meaning<SelectLeaf>,
-    z: Meaning<SelectLeaf>,
+    x: &Meaning<SelectLeaf>,
+    y: &Meaning<SelectLeaf>,
+    z: &Meaning<SelectLeaf>,
 ) -> Result<AppliedFunction, ResolveError>
-    ensures { Gives function_of result (spec.over_three name (operand_of x) (operand_of y) (operand_of z)) }
+    ensures { Gives function_of result (spec.over_three name (operand_of x.now) (operand_of y.now) (operand_of z.now)) }
 {
     match name {
         FunctionName::Lag => shifted(alloc, Direction::Lag, x, y, z),
@@ -281,24 +282,17 @@ fn over_three(
 fn over_arguments(
     alloc: Global,
     name: FunctionName,
-    arguments: Vec<Meaning<SelectLeaf>>,
+    arguments: &[Meaning<SelectLeaf>],
 ) -> Result<AppliedFunction, ResolveError>
-    ensures { Gives function_of result (spec.over_arguments name (map operand_of arguments.items)) }
+    ensures { Gives function_of result (spec.over_arguments name (map operand_of arguments.now)) }
 {
-    let mut arguments = arguments.into_iter();
-    let Some(x) = arguments.next() else {
-        return over_none(name);
-    };
-    let Some(y) = arguments.next() else {
-        return over_one(alloc, name, x);
-    };
-    let Some(z) = arguments.next() else {
-        return over_two(alloc, name, x, y);
-    };
-    if arguments.next().is_some() {
-        return Err(ResolveError::Refused(Cause::WrongCall));
+    match arguments {
+        [] => over_none(name),
+        [x] => over_one(alloc, name, x),
+        [x, y] => over_two(alloc, name, x, y),
+        [x, y, z] => over_three(alloc, name, x, y, z),
+        _ => Err(ResolveError::Refused(Cause::WrongCall)),
     }
-    over_three(alloc, name, x, y, z)
 }
 
 /// COUNT(*) alone takes a star.
@@ -324,6 +318,6 @@ pub(crate) fn applied(
     };
     match arguments {
         None => over_star(name),
-        Some(arguments) => over_arguments(alloc, name, arguments),
+        Some(arguments) => over_arguments(alloc, name, &arguments),
     }
 }

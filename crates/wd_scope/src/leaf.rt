@@ -3,14 +3,16 @@
 ghost use Rattle.std.specs.Prelude.{Ok};
 ghost use Rattle.wd_plan.specs.Expressions.{expression_of};
 ghost use Rattle.wd_operand.specs.Causes.{Gives};
-ghost use Rattle.wd_scope.specs.Leaves.{formula_of, leaf_of, same_leaf};
+ghost use Rattle.wd_operand.specs.Operands.{settled};
+ghost use Rattle.wd_scope.specs.Leaves.{formula_of, leaf_of, operand_of, same_leaf};
 ghost use Rattle.wd_scope.specs.Leaves as spec;
 
 use crate::call::WindowCall;
 use crate::same::same_call;
 use std::alloc::Global;
-use wd_operand::{Cause, Formula, Leaf, ResolveError};
-use wd_plan::Expr;
+use wd_operand::{Cause, Formula, Leaf, Meaning, ResolveError};
+use wd_plan::{Expr, ValueKind};
+use wd_value::Value;
 
 /// A column of FROM, by its number, or a window call.
 #[derive(Drop)]
@@ -32,6 +34,20 @@ impl Leaf for SelectLeaf {
             (SelectLeaf::Call(c), SelectLeaf::Call(d)) => same_call(c, d),
             _ => false,
         }
+    }
+}
+
+/// The expression of an operand in a place that asks for no kind, over the columns of FROM alone; 406 where a window call stands
+/// in it.
+pub(crate) fn settled_over_columns(
+    alloc: Global,
+    operand: &Meaning<SelectLeaf>,
+) -> Result<Expr, ResolveError>
+    ensures { Gives expression_of result (spec.over_columns (settled (operand_of operand.now))) }
+{
+    match operand {
+        Meaning::Null => Ok(Expr::Literal(Value::Null, ValueKind::Text)),
+        Meaning::Typed(formula, _) => over_columns(alloc, formula),
     }
 }
 
