@@ -9,6 +9,7 @@ mod refusal;
 mod run;
 mod scope;
 mod select;
+mod shown;
 mod tree;
 
 use given::Given;

@@ -1,16 +1,17 @@
 //! What a select list has listed.
 
-ghost use Rattle.std.specs.Prelude.{◌≡◌, false, map};
+ghost use Rattle.std.specs.Prelude.{◌≡◌, ◌≤◌, false, map, vec_len};
 ghost use Rattle.wd_select.specs.Listing.{are_wide, needs_of, needs_shown};
 ghost use Rattle.wd_select.specs.Outputs.{expressions_of, output_of};
 
 use wd_select::{Needs, Output};
 
-/// The outputs of a select list, and what they need of the rows below them; no node is too wide for them.
+/// The outputs of a select list, at most 1,024, and what they need of the rows below them; no node is too wide for them.
 #[derive(Drop)]
 pub struct Listed {
     pub outputs: Vec<Output>,
     pub needs: Needs,
+    pub ghost few: { vec_len outputs ≤ 1024 },
     pub ghost counted: { needs_shown needs ≡ needs_of (expressions_of (map output_of outputs.items)) },
     pub ghost narrow: { are_wide (expressions_of (map output_of outputs.items)) ≡ false },
 }

@@ -1,6 +1,6 @@
 //! Selects to plans.
 
-ghost use Rattle.std.specs.Prelude.{◌≡◌, ◌≤◌, [], map, vec_len, option_map, IfOk};
+ghost use Rattle.std.specs.Prelude.{◌≡◌, ◌≤◌, ◌++◌, [], map, vec_len, option_map, IfOk};
 ghost use Rattle.wd_plan.specs.Plans.{plan_of};
 ghost use Rattle.wd_schema.specs.Schemas.{schema_of};
 ghost use Rattle.wd_syntax.specs.Tree.{joins_of, keys_of};
@@ -11,6 +11,8 @@ ghost use Rattle.wd_scope.specs.Resolving.{context_of};
 ghost use Rattle.wd_scope.specs.Scopes.{scope_of};
 ghost use Rattle.wd_scope.specs.Windows.{known_of};
 ghost use Rattle.wd_select.specs.Cuts.{cut_of};
+ghost use Rattle.wd_select.specs.Listing.{needs_of, needs_shown};
+ghost use Rattle.wd_select.specs.Listing as listing;
 ghost use Rattle.wd_select.specs.Outputs.{output_of, expressions_of};
 ghost use Rattle.wd_select.specs.Outputs as outputs_spec;
 ghost use Rattle.wd_resolve.specs.Selected.{joined_of, from_of, lowered_of};
@@ -191,7 +193,6 @@ fn list_meant(alloc: Global, context: &Context<'_>, items: &[Item]) -> Result<Li
 }
 
 /// A further member of a select list: 415 after its other refusals.
-#[tactic(auto, using(crate::proofs::More::needs_more, crate::proofs::More::many_more))]
 fn item_listed(
     alloc: Global,
     context: &Context<'_>,
@@ -200,17 +201,50 @@ fn item_listed(
 ) -> Result<Listed, ResolveError>
     ensures { Gives (λ l. map output_of l.outputs.items) result (outputs_spec.item_listed (context_of context.now) (view_item item.now) (map output_of listed.outputs.items)) }
 {
+    let more = item_meant(alloc, context, item)?;
+    let (outputs, needs) = with_outputs(alloc, listed, more)?;
+    narrow(outputs, needs)
+}
+
+/// Further outputs, and what all need.
+#[tactic(auto, using(crate::proofs::More::needs_listed))]
+fn with_outputs(
+    alloc: Global,
+    listed: Listed,
+    more: Vec<Output>,
+) -> Result<(Vec<Output>, Needs), OutOfMemory>
+    ensures outputs { IfOk result (λ p. map output_of p.0.items ≡ map output_of listed.outputs.items ++ map output_of more.items) }
+    ensures counted { IfOk result (λ p. needs_shown p.1 ≡ needs_of (expressions_of (map output_of p.0.items))) }
+{
     let Listed {
         mut outputs,
         mut needs,
     } = listed;
-    let mut more = item_meant(alloc, context, item)?;
+    let mut more = more;
     needs.add_all(alloc, &more)?;
     outputs.append(&mut more)?;
-    if needs.is_wide(outputs.len()) {
-        return Err(ResolveError::Refused(Cause::TooMany));
+    Ok((outputs, needs))
+}
+
+/// Outputs for which no node is too wide; else 415.
+#[tactic(auto, using(crate::proofs::More::few_listed))]
+fn narrow(outputs: Vec<Output>, needs: Needs) -> Result<Listed, ResolveError>
+    requires { needs_shown needs ≡ needs_of (expressions_of (map output_of outputs.items)) }
+    ensures { Gives (λ l. map output_of l.outputs.items) result (outputs_spec.narrow (map output_of outputs.items)) }
+{
+    if are_wide(&outputs, &needs) {
+        Err(ResolveError::Refused(Cause::TooMany))
+    } else {
+        Ok(Listed { outputs, needs })
     }
-    Ok(Listed { outputs, needs })
+}
+
+/// Whether outputs make some node too wide.
+fn are_wide(outputs: &[Output], needs: &Needs) -> bool
+    requires { needs_shown needs.now ≡ needs_of (expressions_of (map output_of outputs.now)) }
+    ensures { result ≡ listing.are_wide (expressions_of (map output_of outputs.now)) }
+{
+    needs.is_wide(outputs.len())
 }
 
 /// Whether there are sort keys.
@@ -247,6 +281,7 @@ fn shown_sorted(
 }
 
 /// The plan of what a select shows, sorts by and cuts.
+#[tactic(auto, using(crate::proofs::More::narrow_below))]
 fn plan_shown(
     alloc: Global,
     scope: &Scope,

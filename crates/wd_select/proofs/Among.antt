@@ -20,9 +20,9 @@ pub all_true : {A : Type 0} (t : A → Bool) (xs : List A) → AllByRecursion (�
 all_true t [] h = refl
 all_true t (x ∷ xs) h = and_both _ _ h.0 (all_true t xs h.1)
 
-pub all_zip : {A : Type 0} {P Q : A → Type 0} (xs : List A) → AllByRecursion P xs → AllByRecursion Q xs → AllByRecursion (λ x. P x × Q x) xs
-all_zip [] h g = tt
-all_zip (x ∷ xs) h g = ((h.0, g.0), all_zip xs h.1 g.1)
+pub all_zip : {A : Type 0} (P Q : A → Type 0) (xs : List A) → AllByRecursion P xs → AllByRecursion Q xs → AllByRecursion (λ x. P x × Q x) xs
+all_zip P Q [] h g = tt
+all_zip P Q (x ∷ xs) h g = ((h.0, g.0), all_zip P Q xs h.1 g.1)
 
 -- the first element that passes is there, and passes
 pub first_there : {A : Type 0} (t : A → Bool) (xs : List A) → list_any t xs ≡ true → (x : A) × (slice_get xs (position_or_len t xs) ≡ Some x) × (t x ≡ true)

@@ -1,7 +1,7 @@
 pub mod FirstMet
 mod Unnamed
 mod Keys
-mod Counted
+pub mod Counted
 pub mod PlanKinds
 pub mod Among
 pub mod ReadBy

@@ -50,17 +50,17 @@ numbered_behind before (x ∷ xs) = (
 
 all_filter : {A : Type 0} (P : A → Type 0) (t : A → Bool) (xs : List A) → AllByRecursion P xs → AllByRecursion P (filter t xs)
 all_filter P t [] h = tt
-all_filter P t (x ∷ xs) h = by (t x)
+all_filter P t (x ∷ xs) h = by (t x) (all_filter P t xs h.1)
   where
-    by : (b : Bool) → AllByRecursion P (cond b (x ∷ filter t xs) (filter t xs))
-    by true = (h.0, all_filter P t xs h.1)
-    by false = all_filter P t xs h.1
+    by : (b : Bool) → AllByRecursion P (filter t xs) → AllByRecursion P (cond b (x ∷ filter t xs) (filter t xs))
+    by true rest = (h.0, rest)
+    by false rest = rest
 
 columns_are : (scope : ScopeRule) (columns : List (ℕ × ScopeColumn)) → AllByRecursion (λ (x : ℕ × ScopeColumn). slice_get scope.columns x.0 ≡ Some x.1) columns → AreOutputs scope (map column_meant columns)
 columns_are scope [] h = tt
 columns_are scope (x ∷ columns) h =
     let kind : kinds_in scope x.0 ≡ Some x.1.kind = rw h.0 refl in
-    (record { is = rw kind refl; has = kind; leaves_are = (tt, tt) }, columns_are scope columns h.1)
+    (record { is = rw kind refl; has = kind; leaves_are = (rw kind refl, tt) }, columns_are scope columns h.1)
 
 columns_of_is : (scope : ScopeRule) (table : Option (List ℕ)) → AreOutputs scope (columns_of scope table)
 columns_of_is scope table =

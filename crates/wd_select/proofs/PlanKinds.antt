@@ -3,7 +3,7 @@ use Rattle.std.proofs.Common.{◌≡◌, ◌∙◌, sym, ap, refl, subst, ℕ, z
 use Rattle.std.specs.List.{AllByRecursion, list_all}
 use Rattle.std.proofs.lemmas.Bool.{ltb-true, ltb-false, le-leb}
 use Rattle.std.proofs.lemmas.List.{length-append, length-map}
-use Rattle.std.proofs.lemmas.Option.{slice_get-map, slice_get_past}
+use Rattle.std.proofs.lemmas.Option.{slice_get-map}
 use Rattle.wd_plan.specs.declared.expression.ValueKind.{ValueKind}
 use Rattle.wd_plan.specs.declared.expression.ValueKind.TheVariants.{Truth}
 use Rattle.wd_value.specs.declared.order.SortColumn.{SortColumn}
@@ -14,8 +14,7 @@ use Rattle.wd_schema.specs.Tables.{TableRule}
 use Rattle.wd_scope.specs.declared.scope.ScopeColumn.{ScopeColumn}
 use Rattle.wd_scope.specs.Scopes.{ScopeRule}
 use Rattle.wd_scope.specs.Typed.{IsOfKind, kinds_in}
-use Rattle.wd_scope.proofs.Typing.{and_both, kept}
-use Rattle.wd_scope.proofs.Lists.{column_is}
+use Rattle.wd_scope.proofs.Typing.{and_both, column_is, kept}
 use Rattle.wd_select.specs.declared.output.OutputColumn.{OutputColumn}
 use Rattle.wd_select.specs.Steps.{columns_from}
 
@@ -36,11 +35,7 @@ output_kinds columns = map (λ (column : OutputColumn). column.kind) columns
 
 -- the kinds of the columns in scope are those that definitions read
 pub scope_is : (scope : ScopeRule) (c : ℕ) → kinds_in scope c ≡ slice_get (scope_kinds scope) c
-scope_is scope c = by (nat_lt c (length scope.columns)) refl
-  where
-    by : (b : Bool) → nat_lt c (length scope.columns) ≡ b → kinds_in scope c ≡ slice_get (scope_kinds scope) c
-    by true e = rw e (sym (slice_get-map (λ (column : ScopeColumn). column.kind) scope.columns c))
-    by false e = rw e (sym (slice_get_past (scope_kinds scope) c (let long = length-map scope.columns (λ (column : ScopeColumn). column.kind) in let behind = ltb-false c (length scope.columns) e in omega arith)))
+scope_is scope c = sym (slice_get-map (λ (column : ScopeColumn). column.kind) scope.columns c)
 
 -- an expression over a plan's columns is typed there
 pub over_plan : (tables : List TableRule) (plan : PlanTree) (scope : ScopeRule) (e : Expression) (kind : ValueKind) → HasKinds tables plan (scope_kinds scope) → IsOfKind (kinds_in scope) e kind → IsOfKind (kinds_of tables plan) e kind

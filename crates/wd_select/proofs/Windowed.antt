@@ -32,8 +32,8 @@ use Rattle.wd_scope.specs.Scopes.{ScopeRule}
 use Rattle.wd_scope.specs.Windows.{KeyMeaning, is_empty, is_one_number}
 use Rattle.wd_scope.specs.Typed.{AreKeys, AreTyped, IsAggregate, IsCall, IsFunction, IsLeaf, IsOfKind, is_framed, kind_at, kinds_in}
 use Rattle.wd_scope.proofs.Seated.{IsSeated}
-use Rattle.wd_scope.proofs.Typing.{Extends, and_both, both, kept, typed_kept}
-use Rattle.wd_scope.proofs.Lists.{all_get, all_on, column_is}
+use Rattle.wd_scope.proofs.Typing.{Extends, and_both, both, column_is, kept, typed_kept}
+use Rattle.wd_scope.proofs.Lists.{all_get, all_on}
 use Rattle.wd_scope.proofs.Equal.{same_call-kind, same_expression-is}
 use Rattle.wd_select.specs.Listing.{aggregated, all_leaves, are_wide, argument_of, calls_among, column_of, input_number, is_wide, needs_of, over, place_above, read_by, read_by_all, sorted_by, with_new}
 use Rattle.wd_select.specs.Steps.{aggregate_over, call_over, class_over, classes_over, function_over, mapped, order_item, same_class, same_item, window_over, windowed}
@@ -99,8 +99,8 @@ or_else_is false b c h f = f h
 and_true : (b : Bool) → b ≡ true → (b && true) ≡ true
 and_true b h = and_both b true h refl
 
-call_at : (kinds : Kinds) (classes : List ClassRule) (call : Call) (class : ClassRule) → slice_get classes call.class ≡ Some class → takes kinds call.function ≡ true → are_bounds call.frame.start call.frame.end ≡ true → has_keys_for kinds class.order call.frame ≡ true → is_call kinds classes call ≡ true
-call_at kinds classes call class e t b k = rw e (and_both _ _ t (and_both _ _ b k))
+call_at : (kinds : Kinds) (classes : List ClassRule) (c : Call) (class : ClassRule) → slice_get classes c.class ≡ Some class → takes kinds c.function ≡ true → are_bounds c.frame.start c.frame.end ≡ true → has_keys_for kinds class.order c.frame ≡ true → is_call kinds classes c ≡ true
+call_at kinds classes c class e t b k = rw e (and_both _ _ t (and_both _ _ b k))
 
 -- ---- the Window over a plan
 
@@ -291,7 +291,9 @@ module _ (tables : List TableRule) (plan : PlanTree) (scope : ScopeRule) (formul
   all_above : AllByRecursion (IsSeated (kind_at scope) (place_above inputs calls) Over) met
   all_above =
       let there = of_leaves IsThere met (λ n. tt) (all_there same_call same_call-itself [] (calls_among met)) in
-      all_on met (all_zip met (all_zip met ground.leaves_are fed_leaves) there) leaf_above
+      all_on met
+      (all_zip (λ leaf. IsLeaf scope leaf × AreAmong inputs (read_by leaf)) IsThere met (all_zip (IsLeaf scope) (λ leaf. AreAmong inputs (read_by leaf)) met ground.leaves_are fed_leaves) there)
+      leaf_above
 
 -- ---- the Map of what is shown
 

@@ -77,7 +77,7 @@ impl Needs {
     }
 
     /// Adds the leaves of outputs.
-    #[tactic(auto, using(crate::proofs::FirstMet::needs_append))]
+    #[tactic(auto, using(crate::proofs::FirstMet::calls_added, crate::proofs::FirstMet::inputs_added))]
     pub fn add_all(&mut self, alloc: Global, outputs: &[Output]) -> Result<(), OutOfMemory>
         ensures { IfOk result (λ u. needs_shown self.new ≡ needs_with (needs_shown self.old) (all_leaves (expressions_of (map output_of outputs.now)))) }
     {

@@ -1,15 +1,16 @@
 //! The final ORDER BY: each key is an output, or a hidden column after the outputs.
 
-ghost use Rattle.std.specs.Prelude.{◌≡◌, ◌≤◌, false, filter, map, length, IfOk};
+ghost use Rattle.std.specs.Prelude.{◌≡◌, ◌+◌, ◌≤◌, false, filter, map, length, vec_len, IfOk};
 ghost use Rattle.std.specs.List.{list_all, position_or_len};
 ghost use Rattle.wd_syntax.specs.Tree.{keys_of};
 ghost use Rattle.wd_syntax.specs.View.{view, view_key};
 ghost use Rattle.wd_operand.specs.Causes.{Gives};
 ghost use Rattle.wd_scope.specs.Leaves.{formula_of};
 ghost use Rattle.wd_scope.specs.Windows as windows;
-ghost use Rattle.wd_select.specs.Listing.{are_wide, needs_of, needs_shown};
+ghost use Rattle.wd_select.specs.Listing.{needs_of, needs_shown};
+ghost use Rattle.wd_select.specs.Listing as listing;
 ghost use Rattle.wd_select.specs.Outputs.{expressions_of, output_of};
-ghost use Rattle.wd_select.specs.Sorting.{shown_of, place_shown, sorted_of, IsCounted, IsNarrow};
+ghost use Rattle.wd_select.specs.Sorting.{all_shown, shown_of, place_shown, sorted_of, IsCounted, IsNarrow};
 ghost use Rattle.wd_select.specs.Sorting as spec;
 
 use crate::needs::Needs;
@@ -20,7 +21,7 @@ use wd_operand::{Cause, Formula, ResolveError, number};
 use wd_scope::{Place, SelectLeaf, plain, sort_key, written_number};
 use wd_syntax as written;
 use wd_syntax::{Literal, Name, SortKey};
-use wd_value::SortColumn;
+use wd_value::{OutOfMemory, SortColumn};
 
 /// Whether an output shows an expression.
 fn shows(formula: &Formula<SelectLeaf>, output: &Output) -> bool
@@ -219,8 +220,46 @@ fn with_output(
     })
 }
 
+/// A further hidden column, and a key by it.
+#[tactic(auto, using(crate::proofs::Counted::needs_pushed))]
+fn with_column(
+    alloc: Global,
+    sorted: Sorted,
+    shown: &Shown<'_>,
+    formula: Formula<SelectLeaf>,
+    key: wd_value::SortKey,
+) -> Result<Sorted, OutOfMemory>
+    requires few { length shown.now.outputs.now + vec_len sorted.hidden ≤ 1024 }
+    requires counted { IsCounted (shown_of shown.now) sorted }
+    ensures meant { IfOk result (λ s. sorted_of s ≡ spec.with_column (shown_of shown.now) (formula_of formula) key (sorted_of sorted)) }
+    ensures counted { IfOk result (λ s. IsCounted (shown_of shown.now) s) }
+{
+    let Sorted {
+        mut items,
+        mut hidden,
+        mut needs,
+    } = sorted;
+    let column = (shown.outputs.len() + hidden.len()) as u16;
+    needs.add(alloc, &formula)?;
+    hidden.push(formula)?;
+    items.push(SortColumn { column, key })?;
+    Ok(Sorted {
+        items,
+        hidden,
+        needs,
+    })
+}
+
+/// Whether the outputs and the sort keys make some node too wide.
+fn are_wide(shown: &Shown<'_>, sorted: &Sorted) -> bool
+    requires { IsCounted (shown_of shown.now) sorted.now }
+    ensures { result ≡ listing.are_wide (all_shown (shown_of shown.now) (sorted_of sorted.now)) }
+{
+    sorted.needs.is_wide(shown.outputs.len() + sorted.hidden.len())
+}
+
 /// A key by a new hidden column: 414 with DISTINCT, and 415 where it makes a node too wide.
-#[tactic(auto, using(crate::proofs::Counted::needs_column, crate::proofs::Counted::many_shown))]
+#[tactic(auto, using(crate::proofs::Counted::few_shown))]
 fn with_hidden(
     alloc: Global,
     sorted: Sorted,
@@ -237,26 +276,12 @@ fn with_hidden(
     if shown.distinct {
         return Err(ResolveError::Refused(Cause::ForeignSortKey));
     }
-    let Sorted {
-        mut items,
-        mut hidden,
-        mut needs,
-    } = sorted;
-    needs.add(alloc, &formula)?;
-    let column = shown.outputs.len() + hidden.len();
-    if needs.is_wide(column + 1) {
-        return Err(ResolveError::Refused(Cause::TooMany));
+    let next = with_column(alloc, sorted, shown, formula, key)?;
+    if are_wide(shown, &next) {
+        Err(ResolveError::Refused(Cause::TooMany))
+    } else {
+        Ok(next)
     }
-    hidden.push(formula)?;
-    items.push(SortColumn {
-        column: column as u16,
-        key,
-    })?;
-    Ok(Sorted {
-        items,
-        hidden,
-        needs,
-    })
 }
 
 /// A further key.
@@ -288,7 +313,7 @@ pub fn keys_sorted(
     needs: Needs,
 ) -> Result<Sorted, ResolveError>
     requires counted { needs_shown needs ≡ needs_of (expressions_of (shown_of shown.now).outputs) }
-    requires narrow { are_wide (expressions_of (shown_of shown.now).outputs) ≡ false }
+    requires narrow { listing.are_wide (expressions_of (shown_of shown.now).outputs) ≡ false }
     ensures meant { Gives sorted_of result (spec.keys_sorted (shown_of shown.now) (keys_of (map view_key keys.now)) spec.unsorted) }
     ensures counted { IfOk result (λ s. IsCounted (shown_of shown.now) s) }
     ensures narrow { IfOk result (λ s. IsNarrow (shown_of shown.now) (sorted_of s)) }
