@@ -76,9 +76,9 @@ fn in_scope(
     match word {
         "plain" => scope::plain(alloc, scope, select),
         "condition" => scope::condition(alloc, scope, select),
-        "resolved" => scope::resolved(alloc, scope, select, &mut given.calls),
+        "resolved" => scope::resolved(alloc, scope, select, &mut given.met),
         "windows" => scope::windows(alloc, scope, select),
-        "item" => select::item(alloc, scope, select, &mut given.calls),
+        "item" => select::item(alloc, scope, select, &mut given.met),
         "needed" => select::needed(alloc, scope, select, given),
         "sorted" => select::sorted(alloc, scope, select),
         "mapped" => select::mapped(alloc, scope, select),

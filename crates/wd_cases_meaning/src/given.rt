@@ -1,8 +1,7 @@
 //! What earlier lines gave: a schema, data of tables, and what was met over the schema since.
 use std::alloc::Global;
 use wd_cases::{Failure, NamedTexts, SchemaText};
-use wd_plan::Expr;
-use wd_scope::Calls;
+use wd_select::Needs;
 
 #[derive(Drop)]
 pub struct Given {
@@ -10,9 +9,9 @@ pub struct Given {
     /// The data under names, which may be tables'.
     pub data: NamedTexts,
     /// The window calls that were met.
-    pub calls: Calls,
-    /// The expressions that were needed.
-    pub inputs: Vec<Expr>,
+    pub met: Needs,
+    /// What was needed.
+    pub needs: Needs,
 }
 
 impl Given {
@@ -21,8 +20,8 @@ impl Given {
         Given {
             schema: SchemaText::new(alloc),
             data: NamedTexts::new(alloc),
-            calls: Calls::new(alloc),
-            inputs: Vec::new(alloc),
+            met: Needs::new(alloc),
+            needs: Needs::new(alloc),
         }
     }
 
@@ -41,7 +40,7 @@ impl Given {
 
     /// `met`: how many window calls were met.
     pub fn met(&self, alloc: Global) -> Result<String, Failure> {
-        let count = self.calls.list.len();
+        let count = self.met.calls.len();
         Ok(format!(in alloc; "met: {count}")?)
     }
 }

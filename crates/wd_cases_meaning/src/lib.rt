@@ -9,6 +9,7 @@ mod refusal;
 mod run;
 mod scope;
 mod select;
+mod shown;
 mod tree;
 
 pub use given::Given as MeaningCases;

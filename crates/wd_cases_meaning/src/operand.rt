@@ -1,14 +1,19 @@
 //! What wd_operand makes of operands. An operand is written as one to four words with a blank
 //! between two of them: a literal (`5`, `TRUE`, `NULL`) or a column with its kind (`#3:Text`), or a
 //! sign, an operator, a test or a CASE over such.
+use crate::shown;
 use crate::tree::written;
 use std::alloc::Global;
 use wd_cases::Failure;
 use wd_operand::{
-    CaseArm, Meaning, case_of, combined, literal, negated, signed, signed_number, tested,
+    CaseArm, Formula, case_of, combined, literal, negated, signed, signed_number, tested,
 };
 use wd_plan::{Expr, ValueKind, same_kind};
+use wd_scope::SelectLeaf;
+use wd_select::Needs;
 use wd_syntax::{Literal, Operator, Sign};
+
+type Meaning = wd_operand::Meaning<SelectLeaf>;
 
 fn kind_named(word: &str) -> Result<ValueKind, Failure> {
     match word {
@@ -28,7 +33,7 @@ fn column(alloc: Global, word: &str) -> Result<Meaning, Failure> {
     let (number, kind) = word.split_once(':').ok_or(Failure::NoCase)?;
     let number = number.parse::<u16>()?;
     let kind = kind_named(kind)?;
-    Ok(Meaning::typed(alloc, Expr::Column(number), kind)?)
+    Ok(Meaning::typed(alloc, Formula::Leaf(SelectLeaf::Column(number)), kind)?)
 }
 
 /// What a word stands for.
@@ -96,14 +101,14 @@ fn case(alloc: Global, when: &str, other: &str) -> Result<Meaning, Failure> {
     case_over(alloc, arms, otherwise)
 }
 
-fn arms(alloc: Global, when: Meaning, gives: &str) -> Result<Vec<CaseArm>, Failure> {
+fn arms(alloc: Global, when: Meaning, gives: &str) -> Result<Vec<CaseArm<SelectLeaf>>, Failure> {
     let gives = meaning(alloc, gives)?;
     let mut arms = Vec::new(alloc);
     arms.push(CaseArm { when, gives })?;
     Ok(arms)
 }
 
-fn case_over(alloc: Global, arms: Vec<CaseArm>, otherwise: &str) -> Result<Meaning, Failure> {
+fn case_over(alloc: Global, arms: Vec<CaseArm<SelectLeaf>>, otherwise: &str) -> Result<Meaning, Failure> {
     let otherwise = meaning(alloc, otherwise)?;
     Ok(case_of(alloc, arms, otherwise)?)
 }
@@ -120,15 +125,21 @@ fn meant(alloc: Global, text: &str) -> Result<Meaning, Failure> {
 }
 
 /// The expression that an operand means, of a kind where ` of_kind KIND` stands after it.
-fn expression_of(alloc: Global, text: &str) -> Result<Expr, Failure> {
+fn formula_of(alloc: Global, text: &str) -> Result<Formula<SelectLeaf>, Failure> {
     match text.split_once(" of_kind ") {
         Some((operand, kind)) => {
             let operand = meant(alloc, operand)?;
-            let expression = operand.of_kind(alloc, kind_named(kind)?)?;
-            Ok(Box::into_inner(expression))
+            let formula = operand.of_kind(alloc, kind_named(kind)?)?;
+            Ok(Box::into_inner(formula))
         }
         None => Ok(meant(alloc, text)?.settled()),
     }
+}
+
+/// The same over columns, of which it reads no others.
+fn expression_of(alloc: Global, text: &str) -> Result<Expr, Failure> {
+    let formula = formula_of(alloc, text)?;
+    shown::expression(alloc, 0, &mut Needs::new(alloc), &formula)
 }
 
 /// `number N`: the number where it fits 64 bits with a sign.
@@ -140,7 +151,7 @@ pub fn number(alloc: Global, text: &str) -> Result<String, Failure> {
 /// `operand OPERAND`
 pub fn operand(alloc: Global, text: &str) -> Result<String, Failure> {
     let meaning = meant(alloc, text)?;
-    written(alloc, &meaning)
+    shown::meaning(alloc, 0, &mut Needs::new(alloc), meaning)
 }
 
 /// `expression OPERAND [of_kind KIND]`

@@ -15,7 +15,6 @@ pub fn want_of_memory(call: &str) -> Result<String, Failure> {
 pub fn laws(alloc: Global) -> Result<String, Failure> {
     wd_scope::laws::meanings_are_typed();
     wd_scope::laws::windows_are_typed();
-    wd_scope::laws::met_calls_are_shown();
     wd_query::laws::one_plan();
     wd_resolve::laws::plans_fit();
     Ok(String::from_str(alloc, "hold")?)

@@ -1,12 +1,16 @@
 //! What expressions, windows and sort keys mean over the columns of the schema's tables.
 use crate::given::Given;
+use crate::shown;
 use crate::tree::{first_expression, written};
 use std::alloc::Global;
 use wd_cases::Failure;
 use wd_operand::{Meaning, ResolveError};
 use wd_plan::ValueKind;
 use wd_schema::{Schema, Table};
-use wd_scope::{Calls, Context, KnownWindow, MOST_COLUMNS, Place, Scope, ScopeColumn, all_defined};
+use wd_scope::{
+    Context, KnownWindow, MOST_COLUMNS, Place, Scope, ScopeColumn, SelectLeaf, all_defined,
+};
+use wd_select::Needs;
 use wd_syntax::{Expr, Select};
 use wd_value::{ColumnType, Text};
 
@@ -83,14 +87,11 @@ fn is_table(alloc: Global, scope: &Scope, text: &str) -> Result<String, Failure>
     written(alloc, &scope.has_table(&name))
 }
 
-fn meaning_shown(alloc: Global, meaning: Result<Meaning, ResolveError>) -> Result<String, Failure> {
-    written(alloc, &meaning?)
-}
-
 /// `plain EXPRESSION`: what it means where no window call may stand.
 pub fn plain(alloc: Global, scope: &Scope, select: &Select) -> Result<String, Failure> {
     let tree = first_expression(select).ok_or(Failure::NoCase)?;
-    meaning_shown(alloc, wd_scope::plain(alloc, scope, Place::SortKey, tree))
+    let meaning = wd_scope::plain(alloc, scope, Place::SortKey, tree)?;
+    shown::meaning(alloc, scope.columns.len(), &mut Needs::new(alloc), meaning)
 }
 
 /// `condition EXPRESSION`
@@ -112,14 +113,13 @@ fn in_list(
     alloc: Global,
     scope: &Scope,
     tree: &Expr,
-    calls: &mut Calls,
-) -> Result<Meaning, ResolveError> {
+) -> Result<Meaning<SelectLeaf>, ResolveError> {
     let context = Context {
         scope,
         windows: &[],
         place: Place::SelectList,
     };
-    wd_scope::resolved(alloc, &context, tree, calls)
+    wd_scope::resolved(alloc, &context, tree)
 }
 
 /// `resolved EXPRESSION`: what it means in a select list, after the calls that were met before it.
@@ -127,10 +127,11 @@ pub fn resolved(
     alloc: Global,
     scope: &Scope,
     select: &Select,
-    calls: &mut Calls,
+    met: &mut Needs,
 ) -> Result<String, Failure> {
     let tree = first_expression(select).ok_or(Failure::NoCase)?;
-    meaning_shown(alloc, in_list(alloc, scope, tree, calls))
+    let meaning = in_list(alloc, scope, tree)?;
+    shown::meaning(alloc, scope.columns.len(), met, meaning)
 }
 
 /// `windows WINDOW, ..`: the windows of a WINDOW clause.

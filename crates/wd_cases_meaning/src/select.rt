@@ -1,13 +1,15 @@
 //! The parts of a select, over the columns of the schema's tables.
 use crate::given::Given;
+use crate::shown;
 use crate::tree::written;
-use std::alloc::{AllocError, Global};
+use std::alloc::Global;
 use wd_cases::Failure;
+use wd_operand::Formula;
 use wd_plan::{Expr, Plan};
-use wd_scope::{Calls, Context, Place, Scope};
+use wd_scope::{Context, Place, Scope, SelectLeaf};
 use wd_select::{
-    Cut, Output, Shown, Sorted, add_all_met, cut_meant, deduplicated, filtered, item_meant,
-    keys_sorted, limited, without_hidden,
+    Cut, Needs, Output, Shown, Sorted, cut_meant, deduplicated, filtered, item_meant, keys_sorted,
+    limited, without_hidden,
 };
 use wd_syntax::{Item, Quantifier, Select};
 
@@ -20,32 +22,29 @@ fn scan(scope: &Scope) -> Plan {
 }
 
 /// The outputs of a member of the select list.
-fn listed(
-    alloc: Global,
-    scope: &Scope,
-    item: &Item,
-    calls: &mut Calls,
-) -> Result<Vec<Output>, Failure> {
+fn listed(alloc: Global, scope: &Scope, item: &Item) -> Result<Vec<Output>, Failure> {
     let context = Context {
         scope,
         windows: &[],
         place: Place::SelectList,
     };
-    Ok(item_meant(alloc, &context, item, calls)?)
+    Ok(item_meant(alloc, &context, item)?)
 }
 
-fn push_outputs(out: &mut String, outputs: &[Output]) -> Result<(), AllocError> {
+/// Each output's name and its expression; the calls in it that are new are met.
+fn outputs_shown(
+    alloc: Global,
+    width: usize,
+    met: &mut Needs,
+    outputs: &[Output],
+) -> Result<String, Failure> {
+    let mut out = String::new(alloc);
     for (place, output) in outputs.iter().enumerate() {
-        let (name, expression) = (output.name.as_str(), &output.expression);
+        let expression = shown::expression(alloc, width, met, &output.expression)?;
+        let name = output.name.as_str();
         out.push_str(if place > 0 { ", " } else { "" })?;
         write!(out, "{name} {expression:?}")?;
     }
-    Ok(())
-}
-
-fn outputs_shown(alloc: Global, outputs: &[Output]) -> Result<String, Failure> {
-    let mut out = String::new(alloc);
-    push_outputs(&mut out, outputs)?;
     Ok(out)
 }
 
@@ -54,23 +53,18 @@ pub fn item(
     alloc: Global,
     scope: &Scope,
     select: &Select,
-    calls: &mut Calls,
+    met: &mut Needs,
 ) -> Result<String, Failure> {
     let item = select.items.first().ok_or(Failure::NoCase)?;
-    let outputs = listed(alloc, scope, item, calls)?;
-    outputs_shown(alloc, &outputs)
+    let outputs = listed(alloc, scope, item)?;
+    outputs_shown(alloc, scope.columns.len(), met, &outputs)
 }
 
 /// The outputs of a select list.
-fn outputs_of(
-    alloc: Global,
-    scope: &Scope,
-    select: &Select,
-    calls: &mut Calls,
-) -> Result<Vec<Output>, Failure> {
+fn outputs_of(alloc: Global, scope: &Scope, select: &Select) -> Result<Vec<Output>, Failure> {
     let mut outputs = Vec::new(alloc);
     for item in &select.items {
-        for output in listed(alloc, scope, item, calls)? {
+        for output in listed(alloc, scope, item)? {
             outputs.push(output)?;
         }
     }
@@ -85,60 +79,52 @@ pub fn needed(
     select: &Select,
     given: &mut Given,
 ) -> Result<String, Failure> {
-    let outputs = outputs_of(alloc, scope, select, &mut given.calls)?;
-    add_needed(alloc, scope.columns.len(), &outputs, given)
+    let outputs = outputs_of(alloc, scope, select)?;
+    add_needed(alloc, &outputs, given)
 }
 
-fn add_needed(
-    alloc: Global,
-    width: usize,
-    outputs: &[Output],
-    given: &mut Given,
-) -> Result<String, Failure> {
-    add_all_met(alloc, &mut given.inputs, width, &given.calls, outputs)?;
-    written(alloc, &given.inputs)
+fn add_needed(alloc: Global, outputs: &[Output], given: &mut Given) -> Result<String, Failure> {
+    given.needs.add_all(alloc, outputs)?;
+    written(alloc, &given.needs.inputs)
 }
 
 /// `is_wide N`: whether so many outputs without a call are too many.
 pub fn is_wide(alloc: Global, text: &str) -> Result<String, Failure> {
     let count = text.parse::<usize>()?;
-    written(alloc, &wd_select::is_wide(count, &[], &Calls::new(alloc)))
+    written(alloc, &Needs::new(alloc).is_wide(count))
 }
 
 /// The sort keys of a query over its outputs. A select list that is too wide is no case.
+#[tactic(auto, using(wd_select::proofs::Counted::many_listed))]
 fn keys_over(
     alloc: Global,
     scope: &Scope,
     select: &Select,
     outputs: &[Output],
-    calls: &Calls,
 ) -> Result<Sorted, Failure> {
-    let mut inputs = Vec::new(alloc);
-    add_all_met(alloc, &mut inputs, scope.columns.len(), calls, outputs)?;
-    if wd_select::is_wide(outputs.len(), &inputs, calls) {
+    let mut needs = Needs::new(alloc);
+    needs.add_all(alloc, outputs)?;
+    if needs.is_wide(outputs.len()) {
         return Err(Failure::NoCase);
     }
     let shown = Shown {
         scope,
         distinct: false,
         outputs,
-        calls,
     };
-    Ok(keys_sorted(alloc, &shown, &select.order, inputs)?)
+    Ok(keys_sorted(alloc, &shown, &select.order, needs)?)
 }
 
-/// The outputs of a query, its calls and its sort keys.
+/// The outputs of a query and its sort keys.
 #[derive(Drop)]
 struct Parts {
     outputs: Vec<Output>,
-    calls: Calls,
     sorted: Sorted,
 }
 
 fn parts_of(alloc: Global, scope: &Scope, select: &Select) -> Result<Parts, Failure> {
-    let mut calls = Calls::new(alloc);
-    match outputs_of(alloc, scope, select, &mut calls) {
-        Ok(outputs) => parts_with(alloc, scope, select, outputs, calls),
+    match outputs_of(alloc, scope, select) {
+        Ok(outputs) => parts_with(alloc, scope, select, outputs),
         Err(failure) => Err(failure),
     }
 }
@@ -148,14 +134,9 @@ fn parts_with(
     scope: &Scope,
     select: &Select,
     outputs: Vec<Output>,
-    calls: Calls,
 ) -> Result<Parts, Failure> {
-    match keys_over(alloc, scope, select, &outputs, &calls) {
-        Ok(sorted) => Ok(Parts {
-            outputs,
-            calls,
-            sorted,
-        }),
+    match keys_over(alloc, scope, select, &outputs) {
+        Ok(sorted) => Ok(Parts { outputs, sorted }),
         Err(failure) => Err(failure),
     }
 }
@@ -164,45 +145,55 @@ fn parts_with(
 /// it needs.
 pub fn sorted(alloc: Global, scope: &Scope, select: &Select) -> Result<String, Failure> {
     let parts = parts_of(alloc, scope, select)?;
-    keys_shown(alloc, &parts.sorted)
+    keys_shown(alloc, scope.columns.len(), &parts.sorted)
 }
 
-fn keys_shown(alloc: Global, sorted: &Sorted) -> Result<String, Failure> {
-    let Sorted {
-        items,
-        hidden,
-        inputs,
-    } = sorted;
-    Ok(format!(in alloc; "{items:?} {hidden:?} {inputs:?}")?)
+fn keys_shown(alloc: Global, width: usize, sorted: &Sorted) -> Result<String, Failure> {
+    let hidden = hidden_shown(alloc, width, &sorted.hidden)?;
+    keys_written(alloc, sorted, &hidden)
 }
 
-/// The expressions of the outputs, and after them the hidden ones.
-fn expressions_of(
+fn hidden_shown(
     alloc: Global,
-    outputs: Vec<Output>,
-    hidden: Vec<Expr>,
+    width: usize,
+    hidden: &[Formula<SelectLeaf>],
 ) -> Result<Vec<Expr>, Failure> {
+    let mut needs = Needs::new(alloc);
     let mut expressions = Vec::new(alloc);
-    for output in outputs {
-        let Output { expression, .. } = output;
-        expressions.push(expression)?;
-    }
-    for expression in hidden {
-        expressions.push(expression)?;
+    for formula in hidden {
+        expressions.push(shown::expression(alloc, width, &mut needs, formula)?)?;
     }
     Ok(expressions)
 }
 
+fn keys_written(alloc: Global, sorted: &Sorted, hidden: &[Expr]) -> Result<String, Failure> {
+    let (items, inputs) = (&sorted.items, &sorted.needs.inputs);
+    Ok(format!(in alloc; "{items:?} {hidden:?} {inputs:?}")?)
+}
+
+/// The expressions of the outputs, and after them the hidden ones.
+fn formulas_of(
+    alloc: Global,
+    outputs: Vec<Output>,
+    hidden: Vec<Formula<SelectLeaf>>,
+) -> Result<Vec<Formula<SelectLeaf>>, Failure> {
+    let mut formulas = Vec::new(alloc);
+    for output in outputs {
+        let Output { expression, .. } = output;
+        formulas.push(expression)?;
+    }
+    for formula in hidden {
+        formulas.push(formula)?;
+    }
+    Ok(formulas)
+}
+
 /// The Map of a query's outputs and hidden columns over its calls and the first table.
 fn mapped_parts(alloc: Global, scope: &Scope, parts: Parts) -> Result<Plan, Failure> {
-    let Parts {
-        outputs,
-        calls,
-        sorted,
-    } = parts;
-    let Sorted { hidden, inputs, .. } = sorted;
-    match expressions_of(alloc, outputs, hidden) {
-        Ok(expressions) => mapped_over(alloc, scope, calls, inputs, expressions),
+    let Parts { outputs, sorted } = parts;
+    let Sorted { hidden, needs, .. } = sorted;
+    match formulas_of(alloc, outputs, hidden) {
+        Ok(formulas) => mapped_over(alloc, scope, needs, formulas),
         Err(failure) => Err(failure),
     }
 }
@@ -211,15 +202,13 @@ fn mapped_parts(alloc: Global, scope: &Scope, parts: Parts) -> Result<Plan, Fail
 fn mapped_over(
     alloc: Global,
     scope: &Scope,
-    calls: Calls,
-    inputs: Vec<Expr>,
-    expressions: Vec<Expr>,
+    needs: Needs,
+    formulas: Vec<Formula<SelectLeaf>>,
 ) -> Result<Plan, Failure> {
-    if wd_select::is_wide(expressions.len(), &inputs, &calls) {
+    if needs.is_wide(formulas.len()) {
         return Err(Failure::NoCase);
     }
-    let width = scope.columns.len();
-    Ok(wd_select::mapped(alloc, width, calls, inputs, expressions, scan(scope))?)
+    Ok(wd_select::mapped(alloc, needs, formulas, scan(scope))?)
 }
 
 /// `mapped QUERY`: its outputs and hidden columns over its calls and the first table.

@@ -1,13 +1,13 @@
 -- The tables and columns of scopes beside one another.
-use Rattle.std.proofs.Common.{◌≡◌, ◌∙◌, ap, refl, ℕ, zero, suc, ◌+◌, ◌^◌, ◌<◌, arith, Bool, List, [], ◌∷◌, ◌++◌, length, drop, length-append, false, ◌||◌, Some, None, Err, slice_get, if◌then◌else◌}
+use Rattle.std.proofs.Common.{◌≡◌, ◌∙◌, ap, refl, ℕ, zero, suc, ◌+◌, ◌^◌, ◌<◌, arith, Bool, true, false, cond, not, List, [], ◌∷◌, ◌++◌, length, drop, length-append, ◌||◌, Some, None, Err, slice_get, if◌then◌else◌}
 use Rattle.std.proofs.lemmas.Bool.{lt-ltb}
-use Rattle.std.specs.List.{list_any}
+use Rattle.std.specs.List.{list_any, position_or_len}
 use Rattle.std.specs.Str.{bytes_eq}
 use Rattle.std.proofs.lemmas.List.Folds.{list_any-append}
 use Rattle.wd_schema.specs.Tables.{TableRule}
 use Rattle.wd_scope.specs.Scopes.{ScopeRule, beside, has_table}
 use Rattle.wd_operand.specs.declared.cause.Cause.TheVariants.{UnknownTable}
-use Rattle.wd_resolve.specs.Selected.{number_named, is_named, scan, scan_at}
+use Rattle.wd_resolve.specs.Selected.{has_name, is_named, scan, scan_at}
 
 pub has_table_beside : (left right : ScopeRule) (name : List ℕ) → has_table (beside left right) name ≡ (has_table left name || has_table right name)
 has_table_beside left right name = list_any-append (bytes_eq name) left.tables right.tables
@@ -21,10 +21,14 @@ none_shared [] = refl
 none_shared (name ∷ names) = none_shared names
 
 -- the table of a number has the name, or it is looked for after it
-pub named_step : (k n : ℕ) (name : List ℕ) (tables : List TableRule) → n < length tables → number_named k name (drop n tables) ≡ (if is_named tables name n then Some k else number_named (k + 1) name (drop (suc n) tables))
-named_step k n name [] within = absurd (omega arith)
-named_step k zero name (rule ∷ tables) within = refl
-named_step k (suc n) name (rule ∷ tables) within = named_step k n name tables (omega arith)
+pub named_step : (n : ℕ) (name : List ℕ) (tables : List TableRule) → n < length tables → position_or_len (has_name name) (drop n tables) ≡ (if is_named tables name n then 0 else 1 + position_or_len (has_name name) (drop (suc n) tables))
+named_step n name [] within = absurd (omega arith)
+named_step zero name (rule ∷ tables) within = by (bytes_eq rule.name name)
+  where
+    by : (b : Bool) → cond (not b) (1 + position_or_len (has_name name) tables) 0 ≡ cond b 0 (1 + position_or_len (has_name name) tables)
+    by true = refl
+    by false = refl
+named_step (suc n) name (rule ∷ tables) within = named_step n name tables (omega arith)
 
 -- the table of a number that a plan can name
 pub scan_found : (tables : List TableRule) (name : List ℕ) (number : ℕ) (table : TableRule) → number < 2 ^ 16 → slice_get tables number ≡ Some table → scan_at tables name (Some number) ≡ scan name number (Some table)

@@ -164,7 +164,7 @@ cross_is tables from part next h is e =
 -- a condition over both sides
 on_is : (tables : List TableRule) (left right : JoinedTables) (on : Tree) (e : Expression) → IsPart tables (joined None left right) → condition place.On (joined None left right).scope on ≡ Ok e → may_join (kinds_of tables (Join (Some e) left.plan right.plan)) (Some e) ≡ true
 on_is tables left right on e h is =
-    let typed = over_plan tables (Join None left.plan right.plan) (beside left.scope right.scope) e Truth h (condition_is place.On (beside left.scope right.scope) on e refl is) in
+    let typed = over_plan tables (Join None left.plan right.plan) (beside left.scope right.scope) e Truth h (condition_is place.On (beside left.scope right.scope) on e is) in
     and_both _ _ typed.is (rw typed.has refl)
 
 inner_is : (tables : List TableRule) (from : FromSoFar) (on : Tree) (part : JoinedTables) (next : FromSoFar) → IsFrom tables from → IsPart tables part → joined_on from on part ≡ Ok next → IsFrom tables next

@@ -1,6 +1,6 @@
 pub mod Beside
 mod SomeKeys
-mod Crowded
+mod More
 pub mod SortedShown
 pub mod ShownFits
 pub mod FromFits

@@ -7,8 +7,6 @@ use Rattle.wd_schema.specs.Tables.{TableRule}
 use Rattle.wd_plan.specs.declared.expression.ValueKind.{ValueKind}
 use Rattle.wd_plan.specs.declared.expression.ValueKind.TheVariants.{Truth}
 use Rattle.wd_value.specs.declared.order.SortColumn.{SortColumn}
-use Rattle.wd_plan.specs.Expressions.{Expression}
-use Rattle.wd_plan.specs.Fits.{Kinds, kinds_of}
 use Rattle.wd_plan.specs.Plans.{PlanTree, Filter, Map}
 use Rattle.wd_cursor.specs.declared.name.Name.{Name}
 use Rattle.wd_syntax.specs.declared.query.Count.{Count}
@@ -19,57 +17,24 @@ use Rattle.wd_syntax.specs.declared.query.Quantifier.{Quantifier}
 use Rattle.wd_syntax.specs.Tree.{Tree, ItemTree, Keys, Parts}
 use Rattle.wd_operand.specs.Causes.{◌>>=◌}
 use Rattle.wd_operand.specs.Operands.{number}
-use Rattle.wd_scope.specs.Calls.{CallMeaning}
 use Rattle.wd_scope.specs.Resolving.{ContextRule, all_defined, condition}
 use Rattle.wd_scope.specs.Scopes.{ScopeRule}
 use Rattle.wd_scope.specs.Windows.{KnownMeaning}
-use Rattle.wd_scope.specs.Typed.{AreCalls, AreKnown, AreTyped, kinds_met}
-use Rattle.wd_scope.proofs.Typing.{bound, kept, ok_is}
-use Rattle.wd_scope.proofs.TypedMet.{more_calls}
+use Rattle.wd_scope.specs.Typed.{AreKnown, kinds_in}
+use Rattle.wd_scope.proofs.Typing.{bound, ok_is}
 use Rattle.wd_scope.specs.declared.context.Place.TheVariants as place
 use Rattle.wd_scope.proofs.TypedPlain.{all_defined_is, condition_is}
 use Rattle.wd_resolve.specs.Selected.{JoinedTables}
-use Rattle.wd_select.specs.Outputs.{Listing, OutputMeaning, call_expressions, expressions_of, is_wide, list_meant}
-use Rattle.wd_select.specs.Sorting.{Cut, Shown, Sorted, count_meant, cut_meant, fetched, keys_sorted, offset_meant, tied, unsorted}
-use Rattle.wd_select.specs.Steps.{Lowered, above, columns_from, column_shown, deduplicated, filtered, limited, lowered_shown, mapped, windowed, without_hidden}
+use Rattle.wd_select.specs.Listing.{are_wide}
+use Rattle.wd_select.specs.Outputs.{OutputMeaning, expressions_of, list_meant}
+use Rattle.wd_select.specs.Sorting.{Cut, Shown, Sorted, all_shown, count_meant, cut_meant, fetched, keys_sorted, offset_meant, tied, unsorted}
+use Rattle.wd_select.specs.Steps.{Lowered, columns_from, column_shown, deduplicated, filtered, limited, lowered_shown, mapped, without_hidden}
 use Rattle.wd_resolve.specs.Lowering.{behind_from, is_distinct, is_sorted, selected, shown_by, shown_sorted}
-use Rattle.wd_select.proofs.Among.{all_append}
-use Rattle.wd_select.proofs.Covered.{AreAmong, Covers}
-use Rattle.wd_select.proofs.PlanKinds.{AreOfKinds, AreWithin, HasKinds, are_append, as_many, distinct_is, filter_is, first_columns_is, limit_is, map_is, output_kinds, over_plan, scope_is, scope_kinds}
-use Rattle.wd_select.proofs.Windowed.{IsGround, all_raised, window_fits}
-use Rattle.wd_select.proofs.ListedOutputs.{AreOutputs, IsListed, list_is}
+use Rattle.wd_select.proofs.PlanKinds.{AreWithin, HasKinds, distinct_is, filter_is, first_columns_is, limit_is, output_kinds, over_plan, scope_kinds}
+use Rattle.wd_select.proofs.SeatedFormulas.{formulas_append, formulas_many}
+use Rattle.wd_select.proofs.Windowed.{mapped_is}
+use Rattle.wd_select.proofs.ListedOutputs.{AreOutputs, IsListed, kinds_shown, list_is, outputs_formulas}
 use Rattle.wd_resolve.proofs.SortedShown.{HasSome, IsSorted, keys_sorted_is}
-
--- ---- the Map of the outputs
-
-abbrev pub kinds_shown : List OutputMeaning → List ValueKind
-kinds_shown outputs = map (λ (o : OutputMeaning). o.kind) outputs
-
-outputs_are : (kinds : Kinds) (outputs : List OutputMeaning) → AreOutputs kinds outputs → AreOfKinds kinds (expressions_of outputs) (kinds_shown outputs)
-outputs_are kinds [] h = tt
-outputs_are kinds (o ∷ outputs) h = (h.0, outputs_are kinds outputs h.1)
-
-kinds_kept : (kinds others : Kinds) → ((c : ℕ) (k : ValueKind) → kinds c ≡ Some k → others c ≡ Some k) → (es : List Expression) (ks : List ValueKind) → AreOfKinds kinds es ks → AreOfKinds others es ks
-kinds_kept kinds others more [] [] h = tt
-kinds_kept kinds others more (e ∷ es) (k ∷ ks) h = (kept kinds others more h.0, kinds_kept kinds others more es ks h.1)
-kinds_kept kinds others more [] (k ∷ ks) h = absurd h
-kinds_kept kinds others more (e ∷ es) [] h = absurd h
-
-mapped_is : (tables : List TableRule) (plan : PlanTree) (scope : ScopeRule) (calls : List CallMeaning) (inputs es : List Expression) (ks : List ValueKind) → HasKinds tables plan (scope_kinds scope)
-    → AreTyped (kinds_met scope []) inputs → AreCalls scope calls → AllByRecursion (λ call. AreAmong inputs (call_expressions (Some call))) calls
-    → AreOfKinds (kinds_met scope calls) es ks → AllByRecursion (Covers (length scope.columns) inputs) es → is_wide (length es) inputs calls ≡ false
-    → HasKinds tables (mapped (length scope.columns) calls inputs es plan) ks
-mapped_is tables plan scope [] inputs es ks h typed all among are covered wide =
-    let few = ltb-false 1024 (length es) (or_parts _ _ wide).0 in
-    let many = as_many (kinds_met scope []) es ks are in
-    map_is tables plan es ks h.fits_is (omega arith) (kinds_kept (kinds_met scope []) (kinds_of tables plan) (λ c k g. h.each c ∙ sym (scope_is scope c) ∙ g) es ks are)
-mapped_is tables plan scope (call ∷ calls) inputs es ks h typed all among are covered wide =
-    let p = or_parts (nat_lt 1024 (length es)) (nat_lt 1024 (length inputs + length (call ∷ calls))) wide in
-    let few = ltb-false 1024 (length es) p.0 in
-    let narrow = ltb-false 1024 (length inputs + length (call ∷ calls)) p.1 in
-    let many = as_many (kinds_met scope (call ∷ calls)) es ks are in
-    let ground : IsGround tables plan scope (call ∷ calls) inputs = record { plan_is = h; inputs_are = typed; calls_are = all; among = among; few = narrow } in
-    map_is tables (windowed inputs (call ∷ calls) plan) (map (above (length scope.columns) (length (call ∷ calls)) inputs) es) ks (window_fits tables plan scope (call ∷ calls) inputs ground) (omega arith) (all_raised tables plan scope (call ∷ calls) inputs ground es ks are covered)
 
 -- ---- DISTINCT, limits and hidden sort keys
 
@@ -139,65 +104,53 @@ columns_shown_are : (outputs : List OutputMeaning) → kinds_shown outputs ≡ o
 columns_shown_are [] = refl
 columns_shown_are (o ∷ outputs) = ap (λ ks. o.kind ∷ ks) (columns_shown_are outputs)
 
-lowered_shown_is : (tables : List TableRule) (plan : PlanTree) (s : Shown) (sorted : Sorted) (order : Bool) (cut : Option Cut) → HasKinds tables plan (scope_kinds s.scope) → AreOutputs (kinds_met s.scope s.calls) s.outputs → AreCalls s.scope s.calls
-    → IsSorted s sorted → IsCut order cut → (order ≡ true → HasSome sorted.items) → IsLowered tables (lowered_shown (length s.scope.columns) s.distinct s.outputs s.calls sorted cut plan)
-lowered_shown_is tables plan s sorted order cut h outputs all is cuts some =
+lowered_shown_is : (tables : List TableRule) (plan : PlanTree) (s : Shown) (sorted : Sorted) (order : Bool) (cut : Option Cut) → HasKinds tables plan (scope_kinds s.scope) → AreOutputs s.scope s.outputs
+    → IsSorted s sorted → IsCut order cut → (order ≡ true → HasSome sorted.items) → IsLowered tables (lowered_shown s sorted cut plan)
+lowered_shown_is tables plan s sorted order cut h outputs is cuts some =
     let ks = kinds_shown s.outputs in
     let hs = is.kinds in
-    let es = expressions_of s.outputs ++ sorted.hidden in
-    let shown = outputs_are (kinds_met s.scope s.calls) s.outputs outputs in
-    let behind = kinds_kept (kinds_met s.scope []) (kinds_met s.scope s.calls) (more_calls s.scope [] s.calls) sorted.hidden hs is.hidden_are in
-    let are = are_append (kinds_met s.scope s.calls) (expressions_of s.outputs) sorted.hidden ks hs shown behind in
-    let covered = all_append (Covers (length s.scope.columns) sorted.inputs) (expressions_of s.outputs) sorted.hidden is.covered is.hidden_covered in
-    let shown_long : length (expressions_of s.outputs) ≡ length s.outputs = length-map s.outputs (λ (o : OutputMeaning). o.expression) in
+    let formulas = all_shown s sorted in
+    let are = formulas_append s.scope (expressions_of s.outputs) sorted.hidden ks hs (outputs_formulas s.scope s.outputs outputs) is.hidden_are in
     let kinds_long : length ks ≡ length s.outputs = length-map s.outputs (λ (o : OutputMeaning). o.kind) in
-    let hidden_long = as_many (kinds_met s.scope []) sorted.hidden hs is.hidden_are in
-    let es_long = length-append (expressions_of s.outputs) sorted.hidden in
+    let hidden_long = formulas_many s.scope sorted.hidden hs is.hidden_are in
     let all_long = length-append ks hs in
-    let count : length s.outputs + length sorted.hidden ≡ length es = omega arith in
     let whole : length s.outputs + length sorted.hidden ≡ length (ks ++ hs) = omega arith in
-    let narrow = subst (λ n. is_wide n sorted.inputs s.calls ≡ false) count is.narrow in
-    let map_step = mapped_is tables plan s.scope s.calls sorted.inputs es (ks ++ hs) h is.inputs_are all is.among are covered narrow in
-    let distinct_step = deduplicated_is tables s.distinct (mapped (length s.scope.columns) s.calls sorted.inputs es plan) (ks ++ hs) map_step in
-    let limit_step = limited_is tables order sorted.items cut (deduplicated s.distinct (mapped (length s.scope.columns) s.calls sorted.inputs es plan)) (ks ++ hs) distinct_step (subst (λ n. AreWithin n sorted.items) whole is.items_are) cuts some in
-    subst (HasKinds tables (lowered_shown (length s.scope.columns) s.distinct s.outputs s.calls sorted cut plan).plan) (columns_shown_are s.outputs)
-    (without_hidden_is tables (length s.outputs) (length sorted.hidden) (limited sorted.items cut (deduplicated s.distinct (mapped (length s.scope.columns) s.calls sorted.inputs es plan))) ks hs limit_step (sym kinds_long) hidden_long)
+    let map_step = mapped_is tables plan s.scope formulas (ks ++ hs) h are is.narrow in
+    let distinct_step = deduplicated_is tables s.distinct (mapped formulas plan) (ks ++ hs) map_step in
+    let limit_step = limited_is tables order sorted.items cut (deduplicated s.distinct (mapped formulas plan)) (ks ++ hs) distinct_step (subst (λ n. AreWithin n sorted.items) whole is.items_are) cuts some in
+    subst (HasKinds tables (lowered_shown s sorted cut plan).plan) (columns_shown_are s.outputs)
+    (without_hidden_is tables (length s.outputs) (length sorted.hidden) (limited sorted.items cut (deduplicated s.distinct (mapped formulas plan))) ks hs limit_step (sym kinds_long) hidden_long)
 
 -- no sort keys yet
-unsorted_is : (scope : ScopeRule) (distinct : Bool) (list : Listing) → IsListed scope list → IsSorted (shown_by scope distinct list) (unsorted list.inputs)
-unsorted_is scope distinct list h = record {
+unsorted_is : (s : Shown) → IsListed s.scope s.outputs → IsSorted s unsorted
+unsorted_is s h = record {
   items_are = tt;
   kinds = [];
   hidden_are = tt;
-  inputs_are = h.inputs_are;
-  covered = h.covered;
-  hidden_covered = tt;
-  among = h.among;
-  narrow = subst (λ n. is_wide n list.inputs list.calls ≡ false) (sym (add-zero (length list.outputs))) h.narrow;
+  narrow = subst (λ fs. are_wide fs ≡ false) (sym (append-nil (expressions_of s.outputs))) h.narrow;
 }
 
-shown_sorted_is : (tables : List TableRule) (plan : PlanTree) (scope : ScopeRule) (distinct : Bool) (list : Listing) (order : Keys) (limits : Option Limits) (l : Lowered) → HasKinds tables plan (scope_kinds scope) → IsListed scope list
-    → shown_sorted (shown_by scope distinct list) list.inputs order limits plan ≡ Ok l → IsLowered tables l
-shown_sorted_is tables plan scope distinct list order limits l h is e =
-    let s = shown_by scope distinct list in
-    let made = λ (sorted : Sorted) (cut : Option Cut). lowered_shown (length scope.columns) distinct list.outputs list.calls sorted cut plan in
-    let sorted = bound (keys_sorted s order (unsorted list.inputs)) (λ x. cut_meant (is_sorted order) limits >>= λ cut. Ok (made x cut)) l e in
-    let cut = bound (cut_meant (is_sorted order) limits) (λ x. Ok (made sorted.0 x)) l sorted.2 in
-    let keys = keys_sorted_is s is.calls_are order (unsorted list.inputs) sorted.0 (unsorted_is scope distinct list is) sorted.1 in
-    subst (IsLowered tables) (ok_is _ _ cut.2) (lowered_shown_is tables plan s sorted.0 (is_sorted order) cut.0 h is.outputs_are is.calls_are keys.0 (cut_is (is_sorted order) limits cut.0 cut.1) keys.2)
+shown_sorted_is : (tables : List TableRule) (plan : PlanTree) (s : Shown) (order : Keys) (limits : Option Limits) (l : Lowered) → HasKinds tables plan (scope_kinds s.scope) → IsListed s.scope s.outputs
+    → shown_sorted s order limits plan ≡ Ok l → IsLowered tables l
+shown_sorted_is tables plan s order limits l h is e =
+    let sorted = bound (keys_sorted s order unsorted) (λ x. cut_meant (is_sorted order) limits >>= λ cut. Ok (lowered_shown s x cut plan)) l e in
+    let cut = bound (cut_meant (is_sorted order) limits) (λ x. Ok (lowered_shown s sorted.0 x plan)) l sorted.2 in
+    let keys = keys_sorted_is s order unsorted sorted.0 (unsorted_is s is) sorted.1 in
+    subst (IsLowered tables) (ok_is _ _ cut.2) (lowered_shown_is tables plan s sorted.0 (is_sorted order) cut.0 h is.outputs_are keys.0 (cut_is (is_sorted order) limits cut.0 cut.1) keys.2)
 
-selected_is : (tables : List TableRule) (scope : ScopeRule) (plan : PlanTree) (windows : List KnownMeaning) (parts : Parts) (l : Lowered) → HasKinds tables plan (scope_kinds scope) → AreKnown (kinds_met scope []) windows
+selected_is : (tables : List TableRule) (scope : ScopeRule) (plan : PlanTree) (windows : List KnownMeaning) (parts : Parts) (l : Lowered) → HasKinds tables plan (scope_kinds scope) → AreKnown (kinds_in scope) windows
     → selected scope plan windows parts ≡ Ok l → IsLowered tables l
 selected_is tables scope plan windows parts l h known e =
     let c : ContextRule = record { scope = scope; windows = windows; place = place.SelectList } in
-    let list = bound (list_meant c parts.items) (λ (x : Listing). shown_sorted (shown_by scope (is_distinct parts.quantifier) x) x.inputs parts.tail.order parts.tail.limits plan) l e in
-    shown_sorted_is tables plan scope (is_distinct parts.quantifier) list.0 parts.tail.order parts.tail.limits l h (list_is c parts.items list.0 known list.1) list.2
+    let shown = λ (outputs : List OutputMeaning). shown_by scope (is_distinct parts.quantifier) outputs in
+    let list = bound (list_meant c parts.items) (λ (x : List OutputMeaning). shown_sorted (shown x) parts.tail.order parts.tail.limits plan) l e in
+    shown_sorted_is tables plan (shown list.0) parts.tail.order parts.tail.limits l h (list_is c parts.items list.0 known list.1) list.2
 
 filtered_is : (tables : List TableRule) (scope : ScopeRule) (filter : Option Tree) (plan next : PlanTree) → HasKinds tables plan (scope_kinds scope) → filtered scope filter plan ≡ Ok next → HasKinds tables next (scope_kinds scope)
 filtered_is tables scope None plan next h e = subst (λ p. HasKinds tables p (scope_kinds scope)) (ok_is _ _ e) h
 filtered_is tables scope (Some a) plan next h e =
     let x = bound (condition place.Where scope a) (λ y. Ok (Filter y plan)) next e in
-    subst (λ p. HasKinds tables p (scope_kinds scope)) (ok_is _ _ x.2) (filter_is tables x.0 plan (scope_kinds scope) h (over_plan tables plan scope x.0 Truth h (condition_is place.Where scope a x.0 refl x.1)))
+    subst (λ p. HasKinds tables p (scope_kinds scope)) (ok_is _ _ x.2) (filter_is tables x.0 plan (scope_kinds scope) h (over_plan tables plan scope x.0 Truth h (condition_is place.Where scope a x.0 x.1)))
 
 pub behind_from_is : (tables : List TableRule) (from : JoinedTables) (parts : Parts) (l : Lowered) → HasKinds tables from.plan (scope_kinds from.scope)
     → behind_from from parts ≡ Ok l → IsLowered tables l

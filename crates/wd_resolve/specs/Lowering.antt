@@ -1,6 +1,6 @@
 -- The plan of a query: its tables, its condition, its windows, its outputs, its order and its limits, one step over the other
 -- (SQL, query specification, query expression; PG, SELECT).
-use Rattle.std.specs.Prelude.{Bool, true, false, List, [], length, Option, Some, None, Ok}
+use Rattle.std.specs.Prelude.{Bool, true, false, List, [], Option, Some, None, Ok}
 use Rattle.wd_syntax.specs.declared.query.Quantifier.{Quantifier}
 use Rattle.wd_syntax.specs.declared.query.Quantifier.TheVariants.{All, Distinct as DistinctRows}
 use Rattle.wd_syntax.specs.declared.query.Limits.{Limits}
@@ -15,7 +15,7 @@ use Rattle.wd_scope.specs.declared.context.Place.TheVariants as place
 use Rattle.wd_scope.specs.Scopes.{ScopeRule}
 use Rattle.wd_scope.specs.Windows.{KnownMeaning}
 use Rattle.wd_resolve.specs.Selected.{JoinedTables, FromSoFar, called, named_table, derived_table, joined, together, first_admitted, next_admitted}
-use Rattle.wd_select.specs.Outputs.{Listing, list_meant}
+use Rattle.wd_select.specs.Outputs.{OutputMeaning, list_meant}
 use Rattle.wd_select.specs.Sorting.{Shown, unsorted, keys_sorted, cut_meant}
 use Rattle.wd_select.specs.Steps.{Lowered, filtered, lowered_shown}
 
@@ -30,21 +30,21 @@ abbrev pub is_sorted : Keys → Bool
 is_sorted tree.no_keys = false
 is_sorted (tree.more_keys a direction nulls keys) = true
 
-abbrev pub shown_by : ScopeRule → Bool → Listing → Shown
-shown_by scope distinct list = record { scope = scope; distinct = distinct; outputs = list.outputs; calls = list.calls }
+abbrev pub shown_by : ScopeRule → Bool → List OutputMeaning → Shown
+shown_by scope distinct outputs = record { scope = scope; distinct = distinct; outputs = outputs }
 
 -- what a select shows, in its order and within its limits
-abbrev pub shown_sorted : Shown → List Expression → Keys → Option Limits → PlanTree → Meant Lowered
-shown_sorted s inputs order limits plan =
-    keys_sorted s order (unsorted inputs) >>= λ sorted.
+abbrev pub shown_sorted : Shown → Keys → Option Limits → PlanTree → Meant Lowered
+shown_sorted s order limits plan =
+    keys_sorted s order unsorted >>= λ sorted.
     cut_meant (is_sorted order) limits >>= λ cut.
-    Ok (lowered_shown (length s.scope.columns) s.distinct s.outputs s.calls sorted cut plan)
+    Ok (lowered_shown s sorted cut plan)
 
 -- what is left of a select after its FROM and its WINDOW: the select list, ORDER BY and the limits, from left to right
 abbrev pub selected : ScopeRule → PlanTree → List KnownMeaning → Parts → Meant Lowered
 selected scope plan windows parts =
-    list_meant (record { scope = scope; windows = windows; place = place.SelectList }) parts.items >>= λ list.
-    shown_sorted (shown_by scope (is_distinct parts.quantifier) list) list.inputs parts.tail.order parts.tail.limits plan
+    list_meant (record { scope = scope; windows = windows; place = place.SelectList }) parts.items >>= λ outputs.
+    shown_sorted (shown_by scope (is_distinct parts.quantifier) outputs) parts.tail.order parts.tail.limits plan
 
 -- a select after its FROM: WHERE, WINDOW, and the rest
 abbrev pub behind_from : JoinedTables → Parts → Meant Lowered

@@ -1,5 +1,5 @@
 -- The tables of FROM, and what a select gives to the query around it.
-use Rattle.std.specs.Prelude.{ℕ, ◌+◌, ◌^◌, ◌||◌, List, [], ◌∷◌, ◌++◌, map, length, nat_lt, Bool, true, false, Option, Some, None, option_map, Ok, Err, slice_get, if◌then◌else◌}
+use Rattle.std.specs.Prelude.{ℕ, ◌+◌, ◌^◌, ◌||◌, List, [], ◌∷◌, ◌++◌, map, length, nat_lt, position, Bool, true, false, Option, Some, None, option_map, Ok, Err, slice_get, if◌then◌else◌}
 use Rattle.std.specs.List.{list_any}
 use Rattle.std.specs.Option.{option_map_or}
 use Rattle.std.specs.Str.{bytes_eq}
@@ -60,18 +60,16 @@ abbrev pub scan_at : List TableRule → List ℕ → Option ℕ → Meant Joined
 scan_at tables name None = Err UnknownTable
 scan_at tables name (Some number) = if nat_lt number (2 ^ 16) then scan name number (slice_get tables number) else Err UnknownTable
 
+abbrev pub has_name : List ℕ → TableRule → Bool
+has_name name rule = bytes_eq rule.name name
+
 -- the table of that number has the name
 abbrev pub is_named : List TableRule → List ℕ → ℕ → Bool
-is_named tables name number = option_map_or (λ (rule : TableRule). bytes_eq rule.name name) (slice_get tables number) false
+is_named tables name number = option_map_or (has_name name) (slice_get tables number) false
 
--- the number of the first table of that name, where tables are counted from a number on
-abbrev pub number_named : ℕ → List ℕ → List TableRule → Option ℕ
-number_named number name [] = None
-number_named number name (rule ∷ tables) = if bytes_eq rule.name name then Some number else number_named (number + 1) name tables
-
--- the number of the table of that name
+-- the number of the first table of that name
 abbrev pub table_number : List TableRule → List ℕ → Option ℕ
-table_number tables name = number_named 0 name tables
+table_number tables name = position (has_name name) tables
 
 -- the schema's table of a name, called by another name in FROM
 abbrev pub named_table : List TableRule → List ℕ → List ℕ → Meant JoinedTables

@@ -1,20 +1,17 @@
 //! What a select list has listed.
 
-ghost use Rattle.std.specs.Prelude.{◌≡◌, false, map, vec_len};
-ghost use Rattle.wd_plan.specs.Expressions.{expression_of};
-ghost use Rattle.wd_scope.specs.Calls.{calls_of};
-ghost use Rattle.wd_select.specs.Outputs as outputs_spec;
+ghost use Rattle.std.specs.Prelude.{◌≡◌, ◌≤◌, false, map, vec_len};
+ghost use Rattle.wd_select.specs.Listing.{are_wide, needs_of, needs_shown};
+ghost use Rattle.wd_select.specs.Outputs.{expressions_of, output_of};
 
-use wd_plan::Expr;
-use wd_scope::Calls;
-use wd_select::Output;
+use wd_select::{Needs, Output};
 
-/// The outputs of a select list, its window calls, and the distinct expressions that a Map below a Window would show; no node is
-/// too wide for them.
+/// The outputs of a select list, at most 1,024, and what they need of the rows below them; no node is too wide for them.
 #[derive(Drop)]
 pub struct Listed {
     pub outputs: Vec<Output>,
-    pub calls: Calls,
-    pub inputs: Vec<Expr>,
-    pub ghost narrow: { outputs_spec.is_wide (vec_len outputs) (map expression_of inputs.items) (calls_of calls) ≡ false },
+    pub needs: Needs,
+    pub ghost few: { vec_len outputs ≤ 1024 },
+    pub ghost counted: { needs_shown needs ≡ needs_of (expressions_of (map output_of outputs.items)) },
+    pub ghost narrow: { are_wide (expressions_of (map output_of outputs.items)) ≡ false },
 }

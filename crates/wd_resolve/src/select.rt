@@ -1,23 +1,23 @@
 //! Selects to plans.
 
-ghost use Rattle.std.specs.Prelude.{◌≡◌, ◌+◌, ◌≤◌, false, ◌++◌, map, length, vec_len, option_map, IfOk};
-ghost use Rattle.wd_plan.specs.Expressions.{expression_of};
+ghost use Rattle.std.specs.Prelude.{◌≡◌, ◌≤◌, ◌++◌, [], map, vec_len, option_map, IfOk};
 ghost use Rattle.wd_plan.specs.Plans.{plan_of};
 ghost use Rattle.wd_schema.specs.Schemas.{schema_of};
 ghost use Rattle.wd_syntax.specs.Tree.{joins_of, keys_of};
 ghost use Rattle.wd_syntax.specs.View.{view_item, view_joined, view_key, view_parts, view_select, view_table};
 ghost use Rattle.wd_operand.specs.Causes.{Gives};
-ghost use Rattle.wd_scope.specs.Calls.{calls_of};
+ghost use Rattle.wd_scope.specs.Leaves.{formula_of};
 ghost use Rattle.wd_scope.specs.Resolving.{context_of};
 ghost use Rattle.wd_scope.specs.Scopes.{scope_of};
 ghost use Rattle.wd_scope.specs.Windows.{known_of};
 ghost use Rattle.wd_select.specs.Cuts.{cut_of};
-ghost use Rattle.wd_resolve.specs.Listings.{listing_of};
-ghost use Rattle.wd_select.specs.Outputs.{output_of, is_wide, expressions_of};
+ghost use Rattle.wd_select.specs.Listing.{needs_of, needs_shown};
+ghost use Rattle.wd_select.specs.Listing as listing;
+ghost use Rattle.wd_select.specs.Outputs.{output_of, expressions_of};
 ghost use Rattle.wd_select.specs.Outputs as outputs_spec;
 ghost use Rattle.wd_resolve.specs.Selected.{joined_of, from_of, lowered_of};
 ghost use Rattle.wd_resolve.specs.Selected as parts_spec;
-ghost use Rattle.wd_select.specs.Sorting.{sorted_of};
+ghost use Rattle.wd_select.specs.Sorting.{sorted_of, shown_of, IsCounted, IsNarrow};
 ghost use Rattle.wd_select.specs.Steps as steps_spec;
 ghost use Rattle.wd_resolve.specs.Lowering as spec;
 
@@ -27,13 +27,13 @@ use crate::tables::{
     behind_comma, crossed, derived_table, first_admitted, joined_on, named_table, together,
 };
 use std::alloc::Global;
-use wd_operand::{Cause, ResolveError};
-use wd_plan::{Expr, Plan};
+use wd_operand::{Cause, Formula, ResolveError};
+use wd_plan::Plan;
 use wd_schema::Schema;
-use wd_scope::{Calls, Context, KnownWindow, MOST_COLUMNS, Place, Scope, all_defined};
+use wd_scope::{Context, KnownWindow, Place, Scope, SelectLeaf, all_defined};
 use wd_select::{
-    Cut, Output, OutputColumn, Shown, Sorted, add_all_met, cut_meant, deduplicated, filtered,
-    is_wide, item_meant, keys_sorted, limited, mapped, without_hidden,
+    Cut, Needs, Output, OutputColumn, Shown, Sorted, cut_meant, deduplicated, filtered, item_meant,
+    keys_sorted, limited, mapped, without_hidden,
 };
 use wd_syntax::{Alias, Item, Joined, Limits, Name, Quantifier, Select, SortKey, Table};
 use wd_value::{OutOfMemory, Text};
@@ -173,18 +173,17 @@ fn is_distinct(quantifier: Option<Quantifier>) -> bool
 
 /// No member of a select list yet.
 fn nothing_listed(alloc: Global) -> Listed
-    ensures { listing_of result ≡ outputs_spec.nothing_listed }
+    ensures { map output_of result.outputs.items ≡ [] }
 {
     Listed {
         outputs: Vec::new(alloc),
-        calls: Calls::new(alloc),
-        inputs: Vec::new(alloc),
+        needs: Needs::new(alloc),
     }
 }
 
 /// The outputs of the select list: 415 at a member that makes a node too wide.
 fn list_meant(alloc: Global, context: &Context<'_>, items: &[Item]) -> Result<Listed, ResolveError>
-    ensures { Gives listing_of result (outputs_spec.list_meant (context_of context.now) (map view_item items.now)) }
+    ensures { Gives (λ l. map output_of l.outputs.items) result (outputs_spec.list_meant (context_of context.now) (map view_item items.now)) }
 {
     let mut listed = nothing_listed(alloc);
     for item in items {
@@ -194,35 +193,58 @@ fn list_meant(alloc: Global, context: &Context<'_>, items: &[Item]) -> Result<Li
 }
 
 /// A further member of a select list: 415 after its other refusals.
-#[tactic(auto, using(crate::proofs::Crowded::crowded))]
 fn item_listed(
     alloc: Global,
     context: &Context<'_>,
     item: &Item,
     listed: Listed,
 ) -> Result<Listed, ResolveError>
-    ensures { Gives listing_of result (outputs_spec.item_listed (context_of context.now) (view_item item.now) (listing_of listed)) }
+    ensures { Gives (λ l. map output_of l.outputs.items) result (outputs_spec.item_listed (context_of context.now) (view_item item.now) (map output_of listed.outputs.items)) }
+{
+    let more = item_meant(alloc, context, item)?;
+    let (outputs, needs) = with_outputs(alloc, listed, more)?;
+    narrow(outputs, needs)
+}
+
+/// Further outputs, and what all need.
+#[tactic(auto, using(crate::proofs::More::needs_listed))]
+fn with_outputs(
+    alloc: Global,
+    listed: Listed,
+    more: Vec<Output>,
+) -> Result<(Vec<Output>, Needs), OutOfMemory>
+    ensures outputs { IfOk result (λ p. map output_of p.0.items ≡ map output_of listed.outputs.items ++ map output_of more.items) }
+    ensures counted { IfOk result (λ p. needs_shown p.1 ≡ needs_of (expressions_of (map output_of p.0.items))) }
 {
     let Listed {
         mut outputs,
-        mut calls,
-        mut inputs,
+        mut needs,
     } = listed;
-    let width = context.scope.columns.len();
-    let mut more = item_meant(alloc, context, item, &mut calls)?;
-    if calls.list.len() > MOST_COLUMNS {
-        return Err(ResolveError::Refused(Cause::TooMany));
-    }
-    add_all_met(alloc, &mut inputs, width, &calls, &more)?;
+    let mut more = more;
+    needs.add_all(alloc, &more)?;
     outputs.append(&mut more)?;
-    if is_wide(outputs.len(), &inputs, &calls) {
-        return Err(ResolveError::Refused(Cause::TooMany));
+    Ok((outputs, needs))
+}
+
+/// Outputs for which no node is too wide; else 415.
+#[tactic(auto, using(crate::proofs::More::few_listed))]
+fn narrow(outputs: Vec<Output>, needs: Needs) -> Result<Listed, ResolveError>
+    requires { needs_shown needs ≡ needs_of (expressions_of (map output_of outputs.items)) }
+    ensures { Gives (λ l. map output_of l.outputs.items) result (outputs_spec.narrow (map output_of outputs.items)) }
+{
+    if are_wide(&outputs, &needs) {
+        Err(ResolveError::Refused(Cause::TooMany))
+    } else {
+        Ok(Listed { outputs, needs })
     }
-    Ok(Listed {
-        outputs,
-        calls,
-        inputs,
-    })
+}
+
+/// Whether outputs make some node too wide.
+fn are_wide(outputs: &[Output], needs: &Needs) -> bool
+    requires { needs_shown needs.now ≡ needs_of (expressions_of (map output_of outputs.now)) }
+    ensures { result ≡ listing.are_wide (expressions_of (map output_of outputs.now)) }
+{
+    needs.is_wide(outputs.len())
 }
 
 /// Whether there are sort keys.
@@ -245,48 +267,44 @@ fn shown_sorted(
     limits: Option<Limits>,
     plan: Plan,
 ) -> Result<LoweredSelect, ResolveError>
-    ensures { Gives lowered_of result (spec.shown_sorted (spec.shown_by (scope_of scope.now) distinct (listing_of listed)) (map expression_of listed.inputs.items) (keys_of (map view_key order.now)) limits (plan_of plan)) }
+    ensures { Gives lowered_of result (spec.shown_sorted (spec.shown_by (scope_of scope.now) distinct (map output_of listed.outputs.items)) (keys_of (map view_key order.now)) limits (plan_of plan)) }
 {
-    let Listed {
-        outputs,
-        calls,
-        inputs,
-    } = listed;
+    let Listed { outputs, needs } = listed;
     let shown = Shown {
         scope,
         distinct,
         outputs: &outputs,
-        calls: &calls,
     };
-    let sorted = keys_sorted(alloc, &shown, order, inputs)?;
+    let sorted = keys_sorted(alloc, &shown, order, needs)?;
     let cut = cut_meant(is_sorted(order), limits)?;
-    let width = scope.columns.len();
-    Ok(plan_shown(alloc, width, distinct, outputs, calls, sorted, cut, plan)?)
+    Ok(plan_shown(alloc, scope, distinct, outputs, sorted, cut, plan)?)
 }
 
 /// The plan of what a select shows, sorts by and cuts.
+#[tactic(auto, using(crate::proofs::More::narrow_below))]
 fn plan_shown(
     alloc: Global,
-    width: usize,
+    scope: &Scope,
     distinct: bool,
     outputs: Vec<Output>,
-    calls: Calls,
     sorted: Sorted,
     cut: Option<Cut>,
     plan: Plan,
 ) -> Result<LoweredSelect, OutOfMemory>
-    requires { outputs_spec.is_wide (vec_len outputs + vec_len sorted.hidden) (map expression_of sorted.inputs.items) (calls_of calls) ≡ false }
-    ensures { IfOk result (λ l. lowered_of l ≡ steps_spec.lowered_shown width distinct (map output_of outputs.items) (calls_of calls) (sorted_of sorted) (option_map cut_of cut) (plan_of plan)) }
+    requires few { vec_len outputs ≤ 1024 }
+    requires counted { IsCounted (spec.shown_by (scope_of scope.now) distinct (map output_of outputs.items)) sorted }
+    requires narrow { IsNarrow (spec.shown_by (scope_of scope.now) distinct (map output_of outputs.items)) (sorted_of sorted) }
+    ensures { IfOk result (λ l. lowered_of l ≡ steps_spec.lowered_shown (spec.shown_by (scope_of scope.now) distinct (map output_of outputs.items)) (sorted_of sorted) (option_map cut_of cut) (plan_of plan)) }
 {
     let Sorted {
         items,
         mut hidden,
-        inputs,
+        needs,
     } = sorted;
     let hidden_count = hidden.len();
-    let (columns, mut expressions) = parts_of(alloc, outputs)?;
-    expressions.append(&mut hidden)?;
-    let plan = mapped(alloc, width, calls, inputs, expressions, plan)?;
+    let (columns, mut formulas) = parts_of(alloc, outputs)?;
+    formulas.append(&mut hidden)?;
+    let plan = mapped(alloc, needs, formulas, plan)?;
     let plan = deduplicated(alloc, distinct, plan)?;
     let plan = limited(alloc, items, cut, plan)?;
     let plan = without_hidden(alloc, columns.len(), hidden_count, plan)?;
@@ -297,13 +315,13 @@ fn plan_shown(
 fn parts_of(
     alloc: Global,
     outputs: Vec<Output>,
-) -> Result<(Vec<OutputColumn>, Vec<Expr>), OutOfMemory>
+) -> Result<(Vec<OutputColumn>, Vec<Formula<SelectLeaf>>), OutOfMemory>
     ensures columns { IfOk result (λ p. p.0.items ≡ map steps_spec.column_shown (map output_of outputs.items)) }
-    ensures expressions { IfOk result (λ p. map expression_of p.1.items ≡ expressions_of (map output_of outputs.items)) }
-    ensures as_many { IfOk result (λ p. (vec_len p.0 ≡ vec_len outputs) × (vec_len p.1 ≡ vec_len outputs)) }
+    ensures formulas { IfOk result (λ p. map formula_of p.1.items ≡ expressions_of (map output_of outputs.items)) }
+    ensures as_many { IfOk result (λ p. vec_len p.0 ≡ vec_len outputs) }
 {
     let mut columns = Vec::with_capacity(alloc, outputs.len())?;
-    let mut expressions = Vec::with_capacity(alloc, outputs.len())?;
+    let mut formulas = Vec::with_capacity(alloc, outputs.len())?;
     for output in outputs {
         let Output {
             name,
@@ -311,7 +329,7 @@ fn parts_of(
             kind,
         } = output;
         columns.push(OutputColumn { name, kind })?;
-        expressions.push(expression)?;
+        formulas.push(expression)?;
     }
-    Ok((columns, expressions))
+    Ok((columns, formulas))
 }

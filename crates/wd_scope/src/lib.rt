@@ -16,5 +16,6 @@ pub use call::{AppliedAggregate, AppliedFunction, ValueArgument, WindowCall};
 pub use context::{Context, Place};
 pub use expression::{all_defined, condition, plain, resolved, written_number};
 pub use leaf::SelectLeaf;
+pub use same::same_call;
 pub use scope::{MOST_COLUMNS, Scope, ScopeColumn};
 pub use window::{KnownWindow, OrderKey, Window, sort_key};

@@ -144,7 +144,7 @@ fn same_window(v: &Window, w: &Window) -> bool
         && (same_order(&v.order, &w.order) && same_partition(&v.partition, &w.partition))
 }
 
-pub(crate) fn same_call(c: &WindowCall, d: &WindowCall) -> bool
+pub fn same_call(c: &WindowCall, d: &WindowCall) -> bool
     ensures { result ≡ spec.same_call (call_of c.now) (call_of d.now) }
 {
     same_function(&c.function, &d.function) && same_window(&c.window, &d.window)

@@ -1,10 +1,11 @@
 -- What stands among the elements met first.
-use Rattle.std.proofs.Common.{◌≡◌, ◌∙◌, sym, ap, refl, subst, ℕ, suc, not, ◌+◌, Bool, true, false, cond, ◌||◌, List, [], ◌∷◌, ◌++◌, Some, slice_get, arith}
+use Rattle.std.proofs.Common.{◌≡◌, ◌∙◌, sym, ap, refl, subst, ℕ, suc, not, ◌+◌, Bool, true, false, cond, ◌||◌, ◌<◌, ◌≤◌, List, [], ◌∷◌, ◌++◌, length, map, position, Some, None, slice_get, arith}
 use Rattle.std.specs.List.{AllByRecursion, list_any, list_all, position_or_len}
-use Rattle.std.proofs.lemmas.Bool.{false≢true, or_left, or_right}
+use Rattle.std.proofs.lemmas.Bool.{false≢true, le-ltb, lt-ltb, or_left, or_right}
+use Rattle.std.proofs.lemmas.List.{length-map}
 use Rattle.std.proofs.lemmas.List.Folds.{list_any-append}
-use Rattle.wd_select.specs.Outputs.{with_new}
-use Rattle.wd_scope.proofs.TypedMet.{all_push}
+use Rattle.wd_select.specs.Listing.{with_new}
+use Rattle.wd_scope.proofs.Lists.{all_push}
 use Rattle.wd_scope.proofs.Typing.{and_both}
 
 pub all_append : {A : Type 0} (P : A → Type 0) (xs ys : List A) → AllByRecursion P xs → AllByRecursion P ys → AllByRecursion P (xs ++ ys)
@@ -19,19 +20,27 @@ pub all_true : {A : Type 0} (t : A → Bool) (xs : List A) → AllByRecursion (�
 all_true t [] h = refl
 all_true t (x ∷ xs) h = and_both _ _ h.0 (all_true t xs h.1)
 
+pub all_zip : {A : Type 0} (P Q : A → Type 0) (xs : List A) → AllByRecursion P xs → AllByRecursion Q xs → AllByRecursion (λ x. P x × Q x) xs
+all_zip P Q [] h g = tt
+all_zip P Q (x ∷ xs) h g = ((h.0, g.0), all_zip P Q xs h.1 g.1)
+
+-- the first element that passes is there, and passes
+pub first_there : {A : Type 0} (t : A → Bool) (xs : List A) → list_any t xs ≡ true → (x : A) × (slice_get xs (position_or_len t xs) ≡ Some x) × (t x ≡ true)
+first_there t [] h = absurd (false≢true h)
+first_there t (y ∷ ys) h = by (t y) refl h (first_there t ys)
+  where
+    n : ℕ
+    n = position_or_len t ys
+
+    by : (b : Bool) → t y ≡ b → (b || list_any t ys) ≡ true → (list_any t ys ≡ true → (x : _) × (slice_get ys n ≡ Some x) × (t x ≡ true))
+        → (x : _) × (slice_get (y ∷ ys) (cond (not b) (1 + n) 0) ≡ Some x) × (t x ≡ true)
+    by true e h later = (y, refl, e)
+    by false e h later = let found = later h in let next : suc n ≡ 1 + n = omega arith in (found.0, subst (λ k. slice_get (y ∷ ys) k ≡ Some found.0) next found.1, found.2)
+
 module _ {A : Type 0} (same : A → A → Bool) where
   -- an element that is there, by its number
   pub first_is : ((x y : A) → same x y ≡ true → x ≡ y) → (x : A) (xs : List A) → list_any (same x) xs ≡ true → slice_get xs (position_or_len (same x) xs) ≡ Some x
-  first_is is x [] h = absurd (false≢true h)
-  first_is is x (y ∷ ys) h = by (same x y) refl h (first_is is x ys)
-    where
-      n : ℕ
-      n = position_or_len (same x) ys
-
-      by : (b : Bool) → same x y ≡ b → (b || list_any (same x) ys) ≡ true → (list_any (same x) ys ≡ true → slice_get ys n ≡ Some x)
-          → slice_get (y ∷ ys) (cond (not b) (1 + n) 0) ≡ Some x
-      by true e h later = ap Some (sym (is x y e))
-      by false e h later = let next : suc n ≡ 1 + n = omega arith in subst (λ k. slice_get (y ∷ ys) k ≡ Some x) next (later h)
+  first_is is x xs h = let found = first_there (same x) xs h in found.1 ∙ ap Some (sym (is x found.0 found.2))
 
   grown : (x y : A) (b : Bool) (seen : List A) → list_any (same x) seen ≡ true → list_any (same x) (cond b seen (seen ++ y ∷ [])) ≡ true
   grown x y true seen h = h
@@ -61,3 +70,19 @@ module _ {A : Type 0} (same : A → A → Bool) where
       by : (b : Bool) → AllByRecursion P (cond b seen (seen ++ x ∷ []))
       by true = h
       by false = all_push P seen x h g.0
+
+-- ---- the first that passes
+
+pub position_at : {A : Type 0} (t : A → Bool) (xs : List A) (n : ℕ) → n ≡ position_or_len t xs → n < length xs → position t xs ≡ Some n
+position_at t xs n e within =
+    let less : position_or_len t xs < length xs = omega (arith, e, within) in
+    ap (λ b. cond b (Some (position_or_len t xs)) None) (lt-ltb (position_or_len t xs) (length xs) less) ∙ ap Some (sym e)
+
+pub found_at : {A B : Type 0} (f : A → B) (t : B → Bool) (xs : List A) (n : ℕ) → n ≡ position_or_len t (map f xs) → n < length xs → position t (map f xs) ≡ Some n
+found_at f t xs n e within = let long = length-map xs f in position_at t (map f xs) n e (omega (arith, within, long))
+
+pub found_none : {A B : Type 0} (f : A → B) (t : B → Bool) (xs : List A) → length xs ≡ position_or_len t (map f xs) → position t (map f xs) ≡ None
+found_none f t xs e =
+    let long = length-map xs f in
+    let least : length (map f xs) ≤ position_or_len t (map f xs) = omega (arith, e, long) in
+    ap (λ b. cond b (Some (position_or_len t (map f xs))) None) (le-ltb (position_or_len t (map f xs)) (length (map f xs)) least)

@@ -1,8 +1,10 @@
 pub mod FirstMet
 mod Unnamed
 mod Keys
+pub mod Counted
 pub mod PlanKinds
 pub mod Among
-pub mod Covered
+pub mod ReadBy
+pub mod SeatedFormulas
 pub mod Windowed
 pub mod ListedOutputs

@@ -3,7 +3,7 @@ use Rattle.std.proofs.Common.{◌≡◌, ◌∙◌, sym, ap, refl, subst, ℕ, z
 use Rattle.std.specs.List.{AllByRecursion, list_all}
 use Rattle.std.proofs.lemmas.Bool.{ltb-true, ltb-false, le-leb}
 use Rattle.std.proofs.lemmas.List.{length-append, length-map}
-use Rattle.std.proofs.lemmas.Option.{slice_get-map, slice_get_past}
+use Rattle.std.proofs.lemmas.Option.{slice_get-map}
 use Rattle.wd_plan.specs.declared.expression.ValueKind.{ValueKind}
 use Rattle.wd_plan.specs.declared.expression.ValueKind.TheVariants.{Truth}
 use Rattle.wd_value.specs.declared.order.SortColumn.{SortColumn}
@@ -13,9 +13,8 @@ use Rattle.wd_plan.specs.Plans.{LimitRule, PlanTree, Join, Filter, Map, Distinct
 use Rattle.wd_schema.specs.Tables.{TableRule}
 use Rattle.wd_scope.specs.declared.scope.ScopeColumn.{ScopeColumn}
 use Rattle.wd_scope.specs.Scopes.{ScopeRule}
-use Rattle.wd_scope.specs.Typed.{IsOfKind, kinds_met}
-use Rattle.wd_scope.proofs.Typing.{and_both, kept}
-use Rattle.wd_scope.proofs.TypedMet.{column_is}
+use Rattle.wd_scope.specs.Typed.{IsOfKind, kinds_in}
+use Rattle.wd_scope.proofs.Typing.{and_both, column_is, kept}
 use Rattle.wd_select.specs.declared.output.OutputColumn.{OutputColumn}
 use Rattle.wd_select.specs.Steps.{columns_from}
 
@@ -35,16 +34,12 @@ output_kinds columns = map (λ (column : OutputColumn). column.kind) columns
 -- ---- expressions over a plan
 
 -- the kinds of the columns in scope are those that definitions read
-pub scope_is : (scope : ScopeRule) (c : ℕ) → kinds_met scope [] c ≡ slice_get (scope_kinds scope) c
-scope_is scope c = by (nat_lt c (length scope.columns)) refl
-  where
-    by : (b : Bool) → nat_lt c (length scope.columns) ≡ b → kinds_met scope [] c ≡ slice_get (scope_kinds scope) c
-    by true e = rw e (sym (slice_get-map (λ (column : ScopeColumn). column.kind) scope.columns c))
-    by false e = rw e (sym (slice_get_past (scope_kinds scope) c (let long = length-map scope.columns (λ (column : ScopeColumn). column.kind) in let behind = ltb-false c (length scope.columns) e in omega arith)))
+pub scope_is : (scope : ScopeRule) (c : ℕ) → kinds_in scope c ≡ slice_get (scope_kinds scope) c
+scope_is scope c = sym (slice_get-map (λ (column : ScopeColumn). column.kind) scope.columns c)
 
 -- an expression over a plan's columns is typed there
-pub over_plan : (tables : List TableRule) (plan : PlanTree) (scope : ScopeRule) (e : Expression) (kind : ValueKind) → HasKinds tables plan (scope_kinds scope) → IsOfKind (kinds_met scope []) e kind → IsOfKind (kinds_of tables plan) e kind
-over_plan tables plan scope e kind h is = kept (kinds_met scope []) (kinds_of tables plan) (λ c k g. h.each c ∙ sym (scope_is scope c) ∙ g) is
+pub over_plan : (tables : List TableRule) (plan : PlanTree) (scope : ScopeRule) (e : Expression) (kind : ValueKind) → HasKinds tables plan (scope_kinds scope) → IsOfKind (kinds_in scope) e kind → IsOfKind (kinds_of tables plan) e kind
+over_plan tables plan scope e kind h is = kept (kinds_in scope) (kinds_of tables plan) (λ c k g. h.each c ∙ sym (scope_is scope c) ∙ g) is
 
 -- expressions, one of each kind
 abbrev pub AreOfKinds : Kinds → List Expression → List ValueKind → Type 0

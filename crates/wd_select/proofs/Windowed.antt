@@ -1,7 +1,7 @@
 -- The Window over the Map of the inputs fits, and what stands above it is typed.
 use Rattle.std.proofs.Common.{◌≡◌, ◌∙◌, sym, ap, refl, subst, ℕ, ◌+◌, ◌-◌, ◌<◌, ◌≤◌, Bool, true, false, cond, not, ◌&&◌, ◌||◌, List, [], ◌∷◌, ◌++◌, map, length, nat_lt, nat_eq, Option, Some, None, is_some, option_map, slice_get, arith, eq-eqb}
-use Rattle.std.specs.List.{AllByRecursion, list_any, list_all}
-use Rattle.std.proofs.lemmas.Bool.{false≢true, eqb-true, lt-ltb, le-ltb, le-leb}
+use Rattle.std.specs.List.{AllByRecursion, list_any, list_all, position_or_len}
+use Rattle.std.proofs.lemmas.Bool.{false≢true, eqb-true, lt-ltb, le-ltb, le-leb, ltb-false, or_parts}
 use Rattle.std.proofs.lemmas.List.{length-map}
 use Rattle.std.proofs.lemmas.Option.{slice_get-map, slice_get_within}
 use Rattle.std.specs.Cmp.{booleans_Decides}
@@ -25,19 +25,22 @@ use Rattle.wd_plan.specs.declared.function.FrameFunction.TheVariants as of_frame
 use Rattle.wd_plan.specs.declared.function.FrameRow.TheVariants.{First, Last, Nth}
 use Rattle.wd_plan.specs.declared.function.Function.TheVariants.{OfFrame}
 use Rattle.wd_plan.specs.declared.function.Ranking.TheVariants as rank
-use Rattle.wd_scope.specs.declared.scope.ScopeColumn.{ScopeColumn}
-use Rattle.wd_scope.specs.Calls.{AggregateMeaning, count_rows, count_of, sum_of, least_of, greatest_of, FunctionMeaning, ranking, away, value_at, aggregate, CallMeaning, kind_of_aggregate, kind_of_function}
+use Rattle.wd_operand.specs.Formulas.{Formula, seated}
+use Rattle.wd_scope.specs.Calls.{AggregateMeaning, count_rows, count_of, sum_of, least_of, greatest_of, FunctionMeaning, ranking, away, value_at, aggregate, CallMeaning, kind_of_aggregate, kind_of_function, same_call}
+use Rattle.wd_scope.specs.Leaves.{SelectLeaf, column, call}
 use Rattle.wd_scope.specs.Scopes.{ScopeRule}
 use Rattle.wd_scope.specs.Windows.{KeyMeaning, is_empty, is_one_number}
-use Rattle.wd_scope.specs.Typed.{AreCalls, AreKeys, AreTyped, IsAggregate, IsCall, IsFunction, IsOfKind, is_framed, kinds_met}
-use Rattle.wd_scope.proofs.Typing.{Extends, and_both, both, kept, typed_kept}
-use Rattle.wd_scope.proofs.TypedMet.{all_get, column_is}
-use Rattle.wd_scope.proofs.Equal.{same_expression-is}
-use Rattle.wd_select.specs.Outputs.{aggregated, argument_of, call_expressions, input_number, sorted_by}
-use Rattle.wd_select.specs.Steps.{above, aggregate_over, call_over, class_over, classes_over, column_above, function_over, order_item, same_class, same_item, window_over}
-use Rattle.wd_select.proofs.Among.{all_split, all_there, all_true, all_with_new, first_is}
-use Rattle.wd_select.proofs.Covered.{AreAmong, Covers, IsAmong}
-use Rattle.wd_select.proofs.PlanKinds.{AreOfKinds, HasKinds, scope_is, scope_kinds}
+use Rattle.wd_scope.specs.Typed.{AreKeys, AreTyped, IsAggregate, IsCall, IsFunction, IsLeaf, IsOfKind, is_framed, kind_at, kinds_in}
+use Rattle.wd_scope.proofs.Seated.{IsSeated}
+use Rattle.wd_scope.proofs.Typing.{Extends, and_both, both, column_is, kept, typed_kept}
+use Rattle.wd_scope.proofs.Lists.{all_get, all_on}
+use Rattle.wd_scope.proofs.Equal.{same_call-kind, same_expression-is}
+use Rattle.wd_select.specs.Listing.{aggregated, all_leaves, are_wide, argument_of, calls_among, column_of, input_number, is_wide, needs_of, over, place_above, read_by, read_by_all, sorted_by, with_new}
+use Rattle.wd_select.specs.Steps.{aggregate_over, call_over, class_over, classes_over, function_over, mapped, order_item, same_class, same_item, window_over, windowed}
+use Rattle.wd_select.proofs.Among.{all_there, all_true, all_with_new, all_zip, first_is, first_there}
+use Rattle.wd_select.proofs.PlanKinds.{HasKinds, map_is, scope_is, scope_kinds}
+use Rattle.wd_select.proofs.ReadBy.{AreAmong, AreLeaves, IsAmong, IsFed, all_read_typed, each_among, fed, of_calls, of_leaves, same_call-itself, same_expression-itself}
+use Rattle.wd_select.proofs.SeatedFormulas.{AreFormulas, all_seated, formulas_leaves, formulas_many}
 
 -- ---- classes that are the same are equal
 
@@ -96,34 +99,30 @@ or_else_is false b c h f = f h
 and_true : (b : Bool) → b ≡ true → (b && true) ≡ true
 and_true b h = and_both b true h refl
 
-call_at : (kinds : Kinds) (classes : List ClassRule) (call : Call) (class : ClassRule) → slice_get classes call.class ≡ Some class → takes kinds call.function ≡ true → are_bounds call.frame.start call.frame.end ≡ true → has_keys_for kinds class.order call.frame ≡ true → is_call kinds classes call ≡ true
-call_at kinds classes call class e t b k = rw e (and_both _ _ t (and_both _ _ b k))
-
--- the expressions of a call among the inputs
-record IsFed (inputs : List Expression) (call : CallMeaning) : Type 0 where
-  argument : AreAmong inputs (argument_of call.function)
-  partition : AreAmong inputs call.window.partition
-  order : AreAmong inputs (map sorted_by call.window.order)
-
-fed : (inputs : List Expression) (call : CallMeaning) → AreAmong inputs (call_expressions (Some call)) → IsFed inputs call
-fed inputs call h =
-    let p = all_split (IsAmong inputs) (argument_of call.function ++ call.window.partition) (map sorted_by call.window.order) h in
-    let q = all_split (IsAmong inputs) (argument_of call.function) call.window.partition p.0 in
-    record { argument = q.0; partition = q.1; order = p.1 }
+call_at : (kinds : Kinds) (classes : List ClassRule) (c : Call) (class : ClassRule) → slice_get classes c.class ≡ Some class → takes kinds c.function ≡ true → are_bounds c.frame.start c.frame.end ≡ true → has_keys_for kinds class.order c.frame ≡ true → is_call kinds classes c ≡ true
+call_at kinds classes c class e t b k = rw e (and_both _ _ t (and_both _ _ b k))
 
 -- ---- the Window over a plan
 
--- what the steps of a plan above FROM rest on
-pub record IsGround (tables : List TableRule) (plan : PlanTree) (scope : ScopeRule) (calls : List CallMeaning) (inputs : List Expression) : Type 0 where
+-- what the steps of a plan above FROM rest on: a plan of FROM, and expressions whose leaves are there, for which the Window is not
+-- too wide
+pub record IsGround (tables : List TableRule) (plan : PlanTree) (scope : ScopeRule) (formulas : List (Formula SelectLeaf)) : Type 0 where
   pub plan_is : HasKinds tables plan (scope_kinds scope)
-  pub inputs_are : AreTyped (kinds_met scope []) inputs
-  pub calls_are : AreCalls scope calls
-  pub among : AllByRecursion (λ call. AreAmong inputs (call_expressions (Some call))) calls
-  pub few : length inputs + length calls ≤ 1024
+  pub leaves_are : AreLeaves scope (all_leaves formulas)
+  pub few : length (needs_of formulas).inputs + length (needs_of formulas).calls ≤ 1024
 
-module _ (tables : List TableRule) (plan : PlanTree) (scope : ScopeRule) (calls : List CallMeaning) (inputs : List Expression) (ground : IsGround tables plan scope calls inputs) where
+module _ (tables : List TableRule) (plan : PlanTree) (scope : ScopeRule) (formulas : List (Formula SelectLeaf)) (ground : IsGround tables plan scope formulas) where
+  abbrev met : List SelectLeaf
+  met = all_leaves formulas
+
+  abbrev inputs : List Expression
+  inputs = (needs_of formulas).inputs
+
+  abbrev calls : List CallMeaning
+  calls = (needs_of formulas).calls
+
   abbrev Read : Kinds
-  Read = kinds_met scope []
+  Read = kinds_in scope
 
   abbrev Below : Kinds
   Below = kinds_of tables plan
@@ -136,6 +135,19 @@ module _ (tables : List TableRule) (plan : PlanTree) (scope : ScopeRule) (calls 
 
   abbrev Over : Kinds
   Over = kinds_of tables (Window (window_over inputs calls) (Map inputs plan))
+
+  -- what each leaf reads is among the inputs, and each call among the calls
+  fed_leaves : AllByRecursion (λ leaf. AreAmong inputs (read_by leaf)) met
+  fed_leaves = each_among inputs met (all_there same_expression same_expression-itself [] (read_by_all met))
+
+  fed_calls : AllByRecursion (λ c. AreAmong inputs (read_by (call c))) calls
+  fed_calls = all_with_new same_call (λ c. AreAmong inputs (read_by (call c))) [] (calls_among met) tt (of_calls (λ leaf. AreAmong inputs (read_by leaf)) met fed_leaves)
+
+  calls_are : AllByRecursion (IsCall Read) calls
+  calls_are = all_with_new same_call (IsCall Read) [] (calls_among met) tt (of_calls (IsLeaf scope) met ground.leaves_are)
+
+  inputs_are : AreTyped Read inputs
+  inputs_are = all_with_new same_expression (λ e. is_typed Read e ≡ true) [] (read_by_all met) tt (all_read_typed scope met ground.leaves_are)
 
   extended : Extends Read Below
   extended c k g = ground.plan_is.each c ∙ sym (scope_is scope c) ∙ g
@@ -160,8 +172,8 @@ module _ (tables : List TableRule) (plan : PlanTree) (scope : ScopeRule) (calls 
   keys_are [] h g = refl
   keys_are (key ∷ keys) h g = and_both _ _ (rw (input_kind key.expression key.kind h.0 g.0) refl) (keys_are keys h.1 g.1)
 
-  class_is : (call : CallMeaning) → IsCall Read call → IsFed inputs call → has_class Shown (class_over inputs call) ≡ true
-  class_is call h g = and_both _ _ (columns_are call.window.partition h.window.partition g.partition) (keys_are call.window.order h.window.order g.order)
+  class_is : (c : CallMeaning) → IsCall Read c → IsFed inputs c → has_class Shown (class_over inputs c) ≡ true
+  class_is c h g = and_both _ _ (columns_are c.window.partition h.window.partition g.partition) (keys_are c.window.order h.window.order g.order)
 
   takes_aggregate : (a : AggregateMeaning) → IsAggregate Read a → AreAmong inputs (aggregated a) → takes Shown (OfFrame (of_frame.Aggregate (aggregate_over inputs a))) ≡ true
   takes_aggregate count_rows h g = refl
@@ -216,21 +228,21 @@ module _ (tables : List TableRule) (plan : PlanTree) (scope : ScopeRule) (calls 
   framed mode.Range start end exclusion order h g f = or_else_is (not (has_offset start || has_offset end)) (is_one_number order) (fits_spec.is_one_number Shown (map (order_item inputs) order)) f (one_number order h g)
   framed mode.Groups start end exclusion order h g f = some_keys order f
 
-  call_is : (call : CallMeaning) → IsCall Read call → IsFed inputs call → list_any (same_class (class_over inputs call)) classes ≡ true → is_call Shown classes (call_over inputs classes call) ≡ true
-  call_is call h g among =
-      call_at Shown classes (call_over inputs classes call) (class_over inputs call) (first_is same_class same_class-is (class_over inputs call) classes among)
-      (takes_is call.function h.function g.argument)
+  call_is : (c : CallMeaning) → IsCall Read c → IsFed inputs c → list_any (same_class (class_over inputs c)) classes ≡ true → is_call Shown classes (call_over inputs classes c) ≡ true
+  call_is c h g among =
+      call_at Shown classes (call_over inputs classes c) (class_over inputs c) (first_is same_class same_class-is (class_over inputs c) classes among)
+      (takes_is c.function h.function g.argument)
       h.window.bounds
-      (framed call.window.frame.mode call.window.frame.start call.window.frame.end call.window.frame.exclusion call.window.order h.window.order g.order h.window.frame)
+      (framed c.window.frame.mode c.window.frame.start c.window.frame.end c.window.frame.exclusion c.window.order h.window.order g.order h.window.frame)
 
-  all_classes : (cs : List CallMeaning) → AreCalls scope cs → AllByRecursion (λ call. AreAmong inputs (call_expressions (Some call))) cs → AllByRecursion (λ class. has_class Shown class ≡ true) (map (class_over inputs) cs)
+  all_classes : (cs : List CallMeaning) → AllByRecursion (IsCall Read) cs → AllByRecursion (λ c. AreAmong inputs (read_by (call c))) cs → AllByRecursion (λ class. has_class Shown class ≡ true) (map (class_over inputs) cs)
   all_classes [] h g = tt
-  all_classes (call ∷ cs) h g = (class_is call h.0 (fed inputs call g.0), all_classes cs h.1 g.1)
+  all_classes (c ∷ cs) h g = (class_is c h.0 (fed inputs c g.0), all_classes cs h.1 g.1)
 
-  all_calls : (cs : List CallMeaning) → AreCalls scope cs → AllByRecursion (λ call. AreAmong inputs (call_expressions (Some call))) cs → AllByRecursion (λ class. list_any (same_class class) classes ≡ true) (map (class_over inputs) cs)
+  all_calls : (cs : List CallMeaning) → AllByRecursion (IsCall Read) cs → AllByRecursion (λ c. AreAmong inputs (read_by (call c))) cs → AllByRecursion (λ class. list_any (same_class class) classes ≡ true) (map (class_over inputs) cs)
       → list_all (is_call Shown classes) (map (call_over inputs classes) cs) ≡ true
   all_calls [] h g there = refl
-  all_calls (call ∷ cs) h g there = and_both _ _ (call_is call h.0 (fed inputs call g.0) there.0) (all_calls cs h.1 g.1 there.1)
+  all_calls (c ∷ cs) h g there = and_both _ _ (call_is c h.0 (fed inputs c g.0) there.0) (all_calls cs h.1 g.1 there.1)
 
   inputs_typed : (es : List Expression) → AreTyped Read es → list_all (is_typed Below) es ≡ true
   inputs_typed [] h = refl
@@ -241,104 +253,77 @@ module _ (tables : List TableRule) (plan : PlanTree) (scope : ScopeRule) (calls 
       let few = ground.few in
       let long = length-map calls (call_over inputs classes) in
       and_both _ _
-      (and_both _ _ ground.plan_is.fits_is (and_both _ _ (le-leb (length inputs) 1024 (omega arith)) (inputs_typed inputs ground.inputs_are)))
+      (and_both _ _ ground.plan_is.fits_is (and_both _ _ (le-leb (length inputs) 1024 (omega arith)) (inputs_typed inputs inputs_are)))
       (and_both _ _ (le-leb (length inputs + length (map (call_over inputs classes) calls)) 1024 (omega arith))
       (and_both _ _
-      (all_true (has_class Shown) classes (all_with_new same_class (λ class. has_class Shown class ≡ true) [] (map (class_over inputs) calls) tt (all_classes calls ground.calls_are ground.among)))
-      (all_calls calls ground.calls_are ground.among (all_there same_class same_class-itself [] (map (class_over inputs) calls)))))
+      (all_true (has_class Shown) classes (all_with_new same_class (λ class. has_class Shown class ≡ true) [] (map (class_over inputs) calls) tt (all_classes calls calls_are fed_calls)))
+      (all_calls calls calls_are fed_calls (all_there same_class same_class-itself [] (map (class_over inputs) calls)))))
 
   -- ---- above the Window
 
   input_above : (e : Expression) (k : ValueKind) → IsOfKind Read e k → IsAmong inputs e → Over (input_number inputs e) ≡ Some k
   input_above e k is among = let p = place e k is among in rw (lt-ltb (input_number inputs e) (length inputs) p.0) p.1
 
-  call_above : (n : ℕ) (call : CallMeaning) → slice_get calls n ≡ Some call → Over (length inputs + n) ≡ Some (kind_of_function call.function)
-  call_above n call e =
-      let is = all_get (IsCall Read) calls n call ground.calls_are e in
-      let among = fed inputs call (all_get (λ c. AreAmong inputs (call_expressions (Some c))) calls n call ground.among e) in
+  call_above : (n : ℕ) (c : CallMeaning) → slice_get calls n ≡ Some c → Over (length inputs + n) ≡ Some (kind_of_function c.function)
+  call_above n c e =
+      let is = all_get (IsCall Read) calls n c calls_are e in
+      let among = fed inputs c (all_get (λ d. AreAmong inputs (read_by (call d))) calls n c fed_calls e) in
       let behind = le-ltb (length inputs + n) (length inputs) (omega arith) in
       let number : (length inputs + n) - length inputs ≡ n = omega arith in
-      let there : slice_get (map (call_over inputs classes) calls) n ≡ Some (call_over inputs classes call) = slice_get-map (call_over inputs classes) calls n ∙ ap (option_map (call_over inputs classes)) e in
-      rw behind (rw number (rw there (gives call.function is.function among.argument)))
+      let there : slice_get (map (call_over inputs classes) calls) n ≡ Some (call_over inputs classes c) = slice_get-map (call_over inputs classes) calls n ∙ ap (option_map (call_over inputs classes)) e in
+      rw behind (rw number (rw there (gives c.function is.function among.argument)))
 
-  column_raised : (c : ℕ) (k : ValueKind) → kinds_met scope calls c ≡ Some k → (nat_lt c (length scope.columns) ≡ true → IsAmong inputs (Column c)) → Over (column_above (length scope.columns) (length calls) inputs c) ≡ Some k
-  column_raised c k h among = by (nat_lt c (length scope.columns)) refl h
-    where
-      of_call : (o : Option CallMeaning) → slice_get calls (c - length scope.columns) ≡ o → option_map (λ (call : CallMeaning). kind_of_function call.function) o ≡ Some k
-          → Over (cond (nat_lt (c - length scope.columns) (length calls)) (length inputs + (c - length scope.columns)) c) ≡ Some k
-      of_call None e g = cc
-      of_call (Some call) e g =
-          let within = slice_get_within calls (c - length scope.columns) call e in
-          rw (lt-ltb (c - length scope.columns) (length calls) within) (call_above (c - length scope.columns) call e ∙ g)
+  -- a call stands at the column of one that is the same, which has its kind
+  met_above : (c : CallMeaning) → IsCall Read c → list_any (same_call c) calls ≡ true → Over (length inputs + position_or_len (same_call c) calls) ≡ Some (kind_of_function c.function)
+  met_above c is there =
+      let found = first_there (same_call c) calls there in
+      let other = all_get (IsCall Read) calls (position_or_len (same_call c) calls) found.0 calls_are found.1 in
+      call_above (position_or_len (same_call c) calls) found.0 found.1 ∙ ap Some (sym (same_call-kind Read c found.0 found.2 is.function other.function))
 
-      by : (b : Bool) → nat_lt c (length scope.columns) ≡ b
-          → cond b (option_map (λ (column : ScopeColumn). column.kind) (slice_get scope.columns c)) (option_map (λ (call : CallMeaning). kind_of_function call.function) (slice_get calls (c - length scope.columns))) ≡ Some k
-          → Over (cond b (input_number inputs (Column c)) (cond (nat_lt (c - length scope.columns) (length calls)) (length inputs + (c - length scope.columns)) c)) ≡ Some k
-      by true e g = input_above (Column c) k (column_is Read c k (rw e g)) (among e)
-      by false e g = of_call (slice_get calls (c - length scope.columns)) refl g
+  abbrev IsThere : SelectLeaf → Type 0
+  IsThere (column n) = Unit {0}
+  IsThere (call c) = list_any (same_call c) calls ≡ true
 
-  abbrev up : Expression → Expression
-  up = above (length scope.columns) (length calls) inputs
+  leaf_above : (leaf : SelectLeaf) → (IsLeaf scope leaf × AreAmong inputs (read_by leaf)) × IsThere leaf → IsSeated (kind_at scope) (place_above inputs calls) Over leaf
+  leaf_above (column n) h = let k = some_there (Read n) h.0.0 in input_above (Column n) k.0 (column_is Read n k.0 k.1) h.0.1.0 ∙ sym k.1
+  leaf_above (call c) h = met_above c h.0.0 h.1
 
-  abbrev IsCovered : Expression → Type 0
-  IsCovered = Covers (length scope.columns) inputs
+  all_above : AllByRecursion (IsSeated (kind_at scope) (place_above inputs calls) Over) met
+  all_above =
+      let there = of_leaves IsThere met (λ n. tt) (all_there same_call same_call-itself [] (calls_among met)) in
+      all_on met
+      (all_zip (λ leaf. IsLeaf scope leaf × AreAmong inputs (read_by leaf)) IsThere met (all_zip (IsLeaf scope) (λ leaf. AreAmong inputs (read_by leaf)) met ground.leaves_are fed_leaves) there)
+      leaf_above
 
-  abbrev Met : Kinds
-  Met = kinds_met scope calls
+-- ---- the Map of what is shown
 
-  kind_raised : (e : Expression) (k : ValueKind) → kind_of Met e ≡ Some k → IsCovered e → kind_of Over (up e) ≡ Some k
-  kind_raised (Column c) k h g = column_raised c k h g
-  kind_raised (Literal v kind) k h g = h
-  kind_raised (Negate a) k h g = h
-  kind_raised (Arithmetic op a b) k h g = h
-  kind_raised (Compare op a b) k h g = h
-  kind_raised (Not a) k h g = h
-  kind_raised (And a b) k h g = h
-  kind_raised (Or a b) k h g = h
-  kind_raised (IsNull a) k h g = h
-  kind_raised (IsNotNull a) k h g = h
-  kind_raised (Case branch a b c) k h g = kind_raised b k h g.1
+-- without calls each column stands where FROM has it
+leaves_alone : (tables : List TableRule) (plan : PlanTree) (scope : ScopeRule) → HasKinds tables plan (scope_kinds scope) → (leaves : List SelectLeaf) → with_new same_call [] (calls_among leaves) ≡ [] → AllByRecursion (IsSeated (kind_at scope) column_of (kinds_of tables plan)) leaves
+leaves_alone tables plan scope h leaves none =
+    let there = subst (λ cs. AllByRecursion (λ c. list_any (same_call c) cs ≡ true) (calls_among leaves)) none (all_there same_call same_call-itself [] (calls_among leaves)) in
+    of_leaves (IsSeated (kind_at scope) column_of (kinds_of tables plan)) leaves (λ n. h.each n ∙ sym (scope_is scope n)) (all_on (calls_among leaves) there (λ c e. absurd (false≢true e)))
 
-  is_kind_raised : (k : ValueKind) (e : Expression) → is_kind k (kind_of Met e) ≡ true → IsCovered e → is_kind k (kind_of Over (up e)) ≡ true
-  is_kind_raised k e h g = by (kind_of Met e) refl h
-    where
-      by : (o : Option ValueKind) → kind_of Met e ≡ o → is_kind k o ≡ true → is_kind k (kind_of Over (up e)) ≡ true
-      by None is h = absurd (false≢true h)
-      by (Some j) is h = rw (kind_raised e j is g) h
+pub mapped_is : (tables : List TableRule) (plan : PlanTree) (scope : ScopeRule) (formulas : List (Formula SelectLeaf)) (ks : List ValueKind) → HasKinds tables plan (scope_kinds scope)
+    → AreFormulas scope formulas ks → are_wide formulas ≡ false → HasKinds tables (mapped formulas plan) ks
+mapped_is tables plan scope formulas ks h are wide = by (needs_of formulas).calls refl wide
+  where
+    inputs : List Expression
+    inputs = (needs_of formulas).inputs
 
-  alike_raised : (a b : Expression) → are_alike (kind_of Met a) (kind_of Met b) ≡ true → IsCovered a → IsCovered b → are_alike (kind_of Over (up a)) (kind_of Over (up b)) ≡ true
-  alike_raised a b h f g = by (kind_of Met a) refl h
-    where
-      by : (o : Option ValueKind) → kind_of Met a ≡ o → are_alike o (kind_of Met b) ≡ true → are_alike (kind_of Over (up a)) (kind_of Over (up b)) ≡ true
-      by None is h = absurd (false≢true h)
-      by (Some j) is h = rw (kind_raised a j is f) (is_kind_raised j b h g)
+    many : length formulas ≡ length ks
+    many = formulas_many scope formulas ks are
 
-  typed_raised : (e : Expression) → is_typed Met e ≡ true → IsCovered e → is_typed Over (up e) ≡ true
-  typed_raised (Column c) h g = let k = some_there (Met c) h in rw (column_raised c k.0 k.1 g) refl
-  typed_raised (Literal v kind) h g = h
-  typed_raised (Negate a) h g = let p = both _ _ h in and_both _ _ (typed_raised a p.0 g) (is_kind_raised Number a p.1 g)
-  typed_raised (Arithmetic op a b) h g =
-      let p = both _ _ h in let q = both _ _ p.0 in let r = both _ _ p.1 in
-      and_both _ _ (and_both _ _ (typed_raised a q.0 g.0) (is_kind_raised Number a q.1 g.0)) (and_both _ _ (typed_raised b r.0 g.1) (is_kind_raised Number b r.1 g.1))
-  typed_raised (Compare op a b) h g =
-      let p = both _ _ h in let q = both _ _ p.0 in
-      and_both _ _ (and_both _ _ (typed_raised a q.0 g.0) (typed_raised b q.1 g.1)) (alike_raised a b p.1 g.0 g.1)
-  typed_raised (Not a) h g = let p = both _ _ h in and_both _ _ (typed_raised a p.0 g) (is_kind_raised Truth a p.1 g)
-  typed_raised (And a b) h g =
-      let p = both _ _ h in let q = both _ _ p.0 in let r = both _ _ p.1 in
-      and_both _ _ (and_both _ _ (typed_raised a q.0 g.0) (is_kind_raised Truth a q.1 g.0)) (and_both _ _ (typed_raised b r.0 g.1) (is_kind_raised Truth b r.1 g.1))
-  typed_raised (Or a b) h g =
-      let p = both _ _ h in let q = both _ _ p.0 in let r = both _ _ p.1 in
-      and_both _ _ (and_both _ _ (typed_raised a q.0 g.0) (is_kind_raised Truth a q.1 g.0)) (and_both _ _ (typed_raised b r.0 g.1) (is_kind_raised Truth b r.1 g.1))
-  typed_raised (IsNull a) h g = typed_raised a h g
-  typed_raised (IsNotNull a) h g = typed_raised a h g
-  typed_raised (Case branch a b c) h g =
-      let p = both _ _ h in let q = both _ _ p.0 in let r = both _ _ p.1 in let s = both _ _ r.0 in
-      and_both _ _ (and_both _ _ (typed_raised a q.0 g.0) (is_kind_raised Truth a q.1 g.0)) (and_both _ _ (and_both _ _ (typed_raised b s.0 g.1) (typed_raised c s.1 g.2)) (alike_raised b c r.1 g.1 g.2))
-
-  pub all_raised : (es : List Expression) (ks : List ValueKind) → AreOfKinds (kinds_met scope calls) es ks → AllByRecursion (Covers (length scope.columns) inputs) es
-      → AreOfKinds (kinds_of tables (Window (window_over inputs calls) (Map inputs plan))) (map (above (length scope.columns) (length calls) inputs) es) ks
-  all_raised [] [] h g = tt
-  all_raised (e ∷ es) (k ∷ ks) h g = (record { is = typed_raised e h.0.is g.0; has = kind_raised e k h.0.has g.0 }, all_raised es ks h.1 g.1)
-  all_raised [] (k ∷ ks) h g = absurd h
-  all_raised (e ∷ es) [] h g = absurd h
+    by : (calls : List CallMeaning) → (needs_of formulas).calls ≡ calls → is_wide (length formulas) (record { calls = calls; inputs = (needs_of formulas).inputs }) ≡ false
+        → HasKinds tables (Map (map (over (record { calls = calls; inputs = (needs_of formulas).inputs })) formulas) (windowed (needs_of formulas).inputs calls plan)) ks
+    by [] e wide =
+        let few = ltb-false 1024 (length formulas) (or_parts _ _ wide).0 in
+        map_is tables plan (map (seated column_of) formulas) ks h.fits_is (omega (arith, few, many)) (all_seated scope column_of (kinds_of tables plan) formulas ks are (leaves_alone tables plan scope h (all_leaves formulas) e))
+    by (c ∷ calls) e wide =
+        let p = or_parts (nat_lt 1024 (length formulas)) (nat_lt 1024 (length inputs + length (c ∷ calls))) wide in
+        let few = ltb-false 1024 (length formulas) p.0 in
+        let narrow = ltb-false 1024 (length inputs + length (c ∷ calls)) p.1 in
+        let ground : IsGround tables plan scope formulas = record { plan_is = h; leaves_are = formulas_leaves scope formulas ks are; few = subst (λ cs. length inputs + length cs ≤ 1024) (sym e) narrow } in
+        let window = Window (window_over inputs (needs_of formulas).calls) (Map inputs plan) in
+        let whole = map_is tables window (map (seated (place_above inputs (needs_of formulas).calls)) formulas) ks (window_fits tables plan scope formulas ground) (omega (arith, few, many))
+            (all_seated scope (place_above inputs (needs_of formulas).calls) (kinds_of tables window) formulas ks are (all_above tables plan scope formulas ground)) in
+        subst (λ cs. HasKinds tables (Map (map (seated (place_above inputs cs)) formulas) (Window (window_over inputs cs) (Map inputs plan))) ks) e whole

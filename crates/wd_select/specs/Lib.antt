@@ -1,3 +1,4 @@
+pub mod Listing
 pub mod Outputs
 pub mod Sorting
 pub mod Cuts

@@ -1,5 +1,5 @@
 -- The final ORDER BY and the limits of rows (SQL, query expression; PG, Sorting Rows, LIMIT and OFFSET, SELECT: LIMIT Clause).
-use Rattle.std.specs.Prelude.{◌≡◌, ℕ, ◌+◌, ◌-◌, Bool, true, false, not, ◌&&◌, List, [], ◌∷◌, ◌++◌, map, length, nat_le, Option, Some, None, Ok, Err, if◌then◌else◌}
+use Rattle.std.specs.Prelude.{◌≡◌, ℕ, ◌+◌, ◌-◌, Bool, true, false, not, ◌&&◌, List, [], ◌∷◌, ◌++◌, map, length, filter, position, nat_le, Option, Some, None, Ok, Err, if◌then◌else◌}
 use Rattle.std.specs.List.{list_all}
 use Rattle.std.specs.Str.{bytes_eq}
 use Rattle.wd_value.specs.declared.order.SortKey.{SortKey}
@@ -14,76 +14,78 @@ use Rattle.wd_syntax.specs.declared.query.Limits.TheVariants.{OffsetFirst, Count
 use Rattle.wd_syntax.specs.Tree as tree
 use Rattle.wd_syntax.specs.Tree.{Tree, Keys, no_keys, more_keys}
 use Rattle.wd_value.specs.declared.order.SortColumn.{SortColumn}
-use Rattle.wd_plan.specs.Expressions.{Expression, expression_of}
 use Rattle.wd_operand.specs.declared.cause.Cause.TheVariants.{Ambiguous, WrongSortKey, TiesWithoutOrder, ForeignSortKey, TooMany}
 use Rattle.wd_operand.specs.Causes.{Meant, ◌>>=◌}
-use Rattle.wd_plan.specs.Equality.{same_expression}
+use Rattle.wd_operand.specs.Formulas.{Formula, same_formula}
 use Rattle.wd_operand.specs.Operands.{number, settled}
 use Rattle.wd_scope.specs.declared.context.Place.TheVariants as place
 use Rattle.wd_scope.specs.Scopes.{ScopeRule, scope_of}
 use Rattle.wd_scope.specs.Windows.{sort_key}
-use Rattle.wd_scope.specs.Calls.{CallMeaning, calls_of}
-use Rattle.wd_scope.specs.Resolving.{written_number, plain}
+use Rattle.wd_scope.specs.Leaves.{SelectLeaf, formula_of, same_leaf}
+use Rattle.wd_scope.specs.Resolving.{plain, written_number}
 use Rattle.wd_select.specs.declared.shown.Shown.{Shown as CodeShown}
 use Rattle.wd_select.specs.declared.shown.KeyPlace.{KeyPlace as CodePlace}
 use Rattle.wd_select.specs.declared.shown.KeyPlace.TheVariants as code
 use Rattle.wd_select.specs.declared.shown.Sorted.{Sorted as CodeSorted}
-use Rattle.wd_select.specs.Outputs.{OutputMeaning, output_of, inputs_with, is_wide}
+use Rattle.wd_select.specs.Listing.{are_wide, needs_of, needs_shown}
+use Rattle.wd_select.specs.Outputs.{OutputMeaning, expressions_of, output_of}
 
--- what a select has before its ORDER BY: the columns of FROM, whether it is DISTINCT, its outputs and its calls
+-- what a select has before its ORDER BY: the columns of FROM, whether it is DISTINCT, and its outputs
 pub record Shown : Type 0 where
   pub scope : ScopeRule
   pub distinct : Bool
   pub outputs : List OutputMeaning
-  pub calls : List CallMeaning
 
 abbrev pub shown_of : CodeShown → Shown
-shown_of s = record { scope = scope_of s.scope.now; distinct = s.distinct; outputs = map output_of s.outputs.now; calls = calls_of s.calls.now }
+shown_of s = record { scope = scope_of s.scope.now; distinct = s.distinct; outputs = map output_of s.outputs.now }
 
 -- ---- sort keys
 
 -- what is sorted by: the output of that number, or an expression that is no output
 pub data KeyPlace : Type 0 where
   output : ℕ → KeyPlace
-  hidden : Expression → KeyPlace
+  hidden : Formula SelectLeaf → KeyPlace
 
 abbrev pub place_shown : CodePlace → KeyPlace
 place_shown (code.Output number) = output number
-place_shown (code.Hidden e) = hidden (expression_of e)
+place_shown (code.Hidden f) = hidden (formula_of f)
 
--- an expression that equals an output is the first such, where outputs are counted from a number on
-abbrev pub sorted_place : ℕ → Expression → List OutputMeaning → KeyPlace
-sorted_place number e [] = hidden e
-sorted_place number e (o ∷ outputs) = if same_expression e o.expression then output number else sorted_place (number + 1) e outputs
+-- an output shows an expression
+abbrev pub shows : Formula SelectLeaf → OutputMeaning → Bool
+shows f o = same_formula same_leaf f o.expression
+
+-- the output of that number, or else the expression itself
+abbrev pub output_or : Formula SelectLeaf → Option ℕ → KeyPlace
+output_or f None = hidden f
+output_or f (Some number) = output number
+
+-- an expression that equals an output is the first such
+abbrev pub sorted_place : Formula SelectLeaf → List OutputMeaning → KeyPlace
+sorted_place f outputs = output_or f (position (shows f) outputs)
 
 -- the expression of a key over the columns of FROM
 abbrev pub expression_place : Shown → Tree → Meant KeyPlace
-expression_place s a = plain place.SortKey s.scope a >>= λ x. Ok (sorted_place 0 (settled x) s.outputs)
-
--- each output of that name has the expression
-abbrev pub names_only : List ℕ → Expression → List OutputMeaning → Bool
-names_only name e outputs = list_all (λ o. not (bytes_eq o.name name && not (same_expression e o.expression))) outputs
-
--- the output of that number, where no other of its name shows another expression
-abbrev pub unless_other : Bool → ℕ → Meant (Option KeyPlace)
-unless_other true number = Ok (Some (output number))
-unless_other false number = Err Ambiguous
+expression_place s a = plain place.SortKey s.scope a >>= λ x. Ok (sorted_place (settled x) s.outputs)
 
 abbrev pub is_named : List ℕ → OutputMeaning → Bool
 is_named name o = bytes_eq o.name name
 
--- the first output of a name, which no output of another expression may have, where outputs are counted from a number on
-abbrev pub first_named : ℕ → List ℕ → List OutputMeaning → Meant (Option KeyPlace)
-first_named number name [] = Ok None
-first_named number name (o ∷ outputs) = if is_named name o then unless_other (names_only name o.expression outputs) number else first_named (number + 1) name outputs
+-- outputs of one name show one expression
+abbrev pub are_one : List OutputMeaning → Bool
+are_one [] = true
+are_one (o ∷ others) = list_all (shows o.expression) others
 
-abbrev pub or_expression : Option KeyPlace → Meant KeyPlace → Meant KeyPlace
+-- the first output of a name, which no output of another expression may have
+abbrev pub first_named : List ℕ → List OutputMeaning → Meant (Option ℕ)
+first_named name outputs = if are_one (filter (is_named name) outputs) then Ok (position (is_named name) outputs) else Err Ambiguous
+
+abbrev pub or_expression : Option ℕ → Meant KeyPlace → Meant KeyPlace
 or_expression None other = other
-or_expression (Some place) other = Ok place
+or_expression (Some number) other = Ok (output number)
 
 -- a bare name that is an output's name means that output, and else a column of FROM
 abbrev pub named_place : Shown → Name → Tree → Meant KeyPlace
-named_place s name a = first_named 0 name.text s.outputs >>= λ place. or_expression place (expression_place s a)
+named_place s name a = first_named name.text s.outputs >>= λ number. or_expression number (expression_place s a)
 
 -- an ordinal counts outputs from 1
 abbrev pub ordinal : List OutputMeaning → ℕ → Meant KeyPlace
@@ -111,31 +113,41 @@ key_place s (tree.Constant x) = literal_place s.outputs x
 key_place s (tree.Signed sign a) = signed_place (written_number a) (expression_place s (tree.Signed sign a))
 key_place s a = expression_place s a
 
--- the sort keys over the outputs and the hidden columns after them, the expressions that are hidden there, and the distinct
--- expressions met so far
+-- the sort keys over the outputs and the hidden columns after them, and the expressions that are hidden there
 pub record Sorted : Type 0 where
   pub items : List SortColumn
-  pub hidden : List Expression
-  pub inputs : List Expression
+  pub hidden : List (Formula SelectLeaf)
 
 abbrev pub sorted_of : CodeSorted → Sorted
-sorted_of s = record { items = s.items.items; hidden = map expression_of s.hidden.items; inputs = map expression_of s.inputs.items }
+sorted_of s = record { items = s.items.items; hidden = map formula_of s.hidden.items }
 
 -- no sort keys yet
-abbrev pub unsorted : List Expression → Sorted
-unsorted inputs = record { items = []; hidden = []; inputs = inputs }
+abbrev pub unsorted : Sorted
+unsorted = record { items = []; hidden = [] }
 
--- a key by a new hidden column of that number; with DISTINCT each key is an output
-abbrev pub with_hidden : Shown → ℕ → Expression → SortKey → Sorted → List Expression → Meant Sorted
-with_hidden s column e key so_far inputs =
-    if s.distinct then Err ForeignSortKey
-    else (if is_wide (column + 1) inputs s.calls then Err TooMany
-    else Ok (record { items = so_far.items ++ record { column = column; key = key } ∷ []; hidden = so_far.hidden ++ e ∷ []; inputs = inputs }))
+-- what the Map shows: the outputs, and the hidden sort keys
+abbrev pub all_shown : Shown → Sorted → List (Formula SelectLeaf)
+all_shown s sorted = expressions_of s.outputs ++ sorted.hidden
 
--- a key by an output, or by a new hidden column; with DISTINCT each key is an output
+-- a further key by the column of that number
+abbrev pub with_item : ℕ → SortKey → Sorted → Sorted
+with_item number key so_far = record { items = so_far.items ++ record { column = number; key = key } ∷ []; hidden = so_far.hidden }
+
+-- a further key by a new hidden column, behind the outputs and the hidden columns before it
+abbrev pub with_column : Shown → Formula SelectLeaf → SortKey → Sorted → Sorted
+with_column s f key so_far = record {
+  items = so_far.items ++ record { column = length s.outputs + length so_far.hidden; key = key } ∷ [];
+  hidden = so_far.hidden ++ f ∷ [];
+}
+
+-- sort keys for which no node is too wide
+abbrev pub narrow_keys : Shown → Sorted → Meant Sorted
+narrow_keys s sorted = if are_wide (all_shown s sorted) then Err TooMany else Ok sorted
+
+-- a further key by an output, or by a new hidden column; with DISTINCT each key is an output
 abbrev pub with_key : Shown → KeyPlace → SortKey → Sorted → Meant Sorted
-with_key s (output number) key so_far = Ok (record { items = so_far.items ++ record { column = number; key = key } ∷ []; hidden = so_far.hidden; inputs = so_far.inputs })
-with_key s (hidden e) key so_far = with_hidden s (length s.outputs + length so_far.hidden) e key so_far (inputs_with (length s.scope.columns) s.calls so_far.inputs e)
+with_key s (output number) key so_far = Ok (with_item number key so_far)
+with_key s (hidden f) key so_far = if s.distinct then Err ForeignSortKey else narrow_keys s (with_column s f key so_far)
 
 -- a further key
 abbrev pub key_sorted : Shown → Tree → SortKey → Sorted → Meant Sorted
@@ -147,7 +159,11 @@ keys_sorted s (more_keys a direction nulls keys) so_far = key_sorted s a (sort_k
 
 -- no node is too wide for the outputs and the sort keys so far
 abbrev pub IsNarrow : Shown → Sorted → Type 0
-IsNarrow s so_far = is_wide (length s.outputs + length so_far.hidden) so_far.inputs s.calls ≡ false
+IsNarrow s so_far = are_wide (all_shown s so_far) ≡ false
+
+-- what the outputs and the sort keys so far need is counted
+abbrev pub IsCounted : Shown → CodeSorted → Type 0
+IsCounted s so_far = needs_shown so_far.needs ≡ needs_of (all_shown s (sorted_of so_far))
 
 -- ---- limits of rows
 

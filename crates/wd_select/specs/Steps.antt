@@ -1,6 +1,6 @@
 -- The steps of a plan above FROM: the windows of a select list, and what is shown, sorted and cut (SQL, query specification, query
 -- expression; PG, SELECT).
-use Rattle.std.specs.Prelude.{ℕ, ◌+◌, ◌-◌, Bool, true, false, ◌&&◌, List, [], ◌∷◌, ◌++◌, map, length, nat_eq, nat_lt, Option, Some, None, Ok, if◌then◌else◌}
+use Rattle.std.specs.Prelude.{ℕ, Bool, true, false, ◌&&◌, List, [], ◌∷◌, map, length, nat_eq, Option, Some, None, Ok, if◌then◌else◌}
 use Rattle.std.specs.List.{position_or_len, range_with_len}
 use Rattle.std.specs.Bool.{beq}
 use lib.Pointwise.{pointwise}
@@ -12,17 +12,20 @@ use Rattle.wd_plan.specs.declared.function.Aggregate.TheVariants as of_rows
 use Rattle.wd_plan.specs.declared.function.FrameFunction.TheVariants as of_frame
 use Rattle.wd_plan.specs.declared.function.Function.{Function}
 use Rattle.wd_plan.specs.declared.function.Function.TheVariants.{Ranking as Ranked, Shift as Shifted, OfFrame}
-use Rattle.wd_plan.specs.Expressions.{Expression, Column, Literal, Negate, Arithmetic, Compare, Not, And, Or, IsNull, IsNotNull, Case}
+use Rattle.wd_plan.specs.Expressions.{Expression, Column}
 use Rattle.wd_plan.specs.Plans.{ClassRule, WindowRule, PlanTree, Filter, Map, Window, Distinct, Limit}
 use Rattle.wd_operand.specs.Causes.{Meant, ◌>>=◌}
+use Rattle.wd_operand.specs.Formulas.{Formula}
 use Rattle.wd_scope.specs.Calls.{ArgumentMeaning, AggregateMeaning, count_rows, count_of, sum_of, least_of, greatest_of, FunctionMeaning, ranking, away, value_at, aggregate, CallMeaning}
+use Rattle.wd_scope.specs.Leaves.{SelectLeaf}
 use Rattle.wd_scope.specs.Resolving.{condition}
 use Rattle.wd_scope.specs.declared.context.Place.TheVariants as place
 use Rattle.wd_scope.specs.Scopes.{ScopeRule}
 use Rattle.wd_scope.specs.Windows.{KeyMeaning}
 use Rattle.wd_select.specs.declared.output.OutputColumn.{OutputColumn}
-use Rattle.wd_select.specs.Outputs.{OutputMeaning, expressions_of, input_number, with_new}
-use Rattle.wd_select.specs.Sorting.{Sorted, Cut}
+use Rattle.wd_select.specs.Listing.{Needs, input_number, needs_of, over, with_new}
+use Rattle.wd_select.specs.Outputs.{OutputMeaning}
+use Rattle.wd_select.specs.Sorting.{Shown, Sorted, Cut, all_shown}
 
 -- ---- the windows of a select list
 
@@ -75,24 +78,6 @@ call_over inputs classes call = record {
 abbrev pub window_over : List Expression → List CallMeaning → WindowRule
 window_over inputs calls = record { classes = classes_over inputs calls; calls = map (call_over inputs (classes_over inputs calls)) calls }
 
--- the column of the Window for a column of FROM, or for one of so many calls after these; there are no others
-abbrev pub column_above : ℕ → ℕ → List Expression → ℕ → ℕ
-column_above width calls inputs c = if nat_lt c width then input_number inputs (Column c) else (if nat_lt (c - width) calls then length inputs + (c - width) else c)
-
--- an expression over the columns of FROM and the calls, as one over the columns of the Window
-abbrev pub above : ℕ → ℕ → List Expression → Expression → Expression
-above width calls inputs (Column c) = Column (column_above width calls inputs c)
-above width calls inputs (Literal v kind) = Literal v kind
-above width calls inputs (Negate a) = Negate (above width calls inputs a)
-above width calls inputs (Arithmetic op a b) = Arithmetic op (above width calls inputs a) (above width calls inputs b)
-above width calls inputs (Compare op a b) = Compare op (above width calls inputs a) (above width calls inputs b)
-above width calls inputs (Not a) = Not (above width calls inputs a)
-above width calls inputs (And a b) = And (above width calls inputs a) (above width calls inputs b)
-above width calls inputs (Or a b) = Or (above width calls inputs a) (above width calls inputs b)
-above width calls inputs (IsNull a) = IsNull (above width calls inputs a)
-above width calls inputs (IsNotNull a) = IsNotNull (above width calls inputs a)
-above width calls inputs (Case branch a b c) = Case branch (above width calls inputs a) (above width calls inputs b) (above width calls inputs c)
-
 -- ---- the steps
 
 -- WHERE is a Filter
@@ -100,14 +85,21 @@ abbrev pub filtered : ScopeRule → Option Tree → PlanTree → Meant PlanTree
 filtered scope None plan = Ok plan
 filtered scope (Some a) plan = condition place.Where scope a >>= λ e. Ok (Filter e plan)
 
--- a Window over a Map of the distinct expressions that are met
-abbrev pub windowed : List Expression → List CallMeaning → PlanTree → PlanTree
-windowed inputs calls plan = Window (window_over inputs calls) (Map inputs plan)
+-- a Window over a Map of the distinct expressions that are read
+abbrev pub window_on : List Expression → List CallMeaning → PlanTree → PlanTree
+window_on inputs calls plan = Window (window_over inputs calls) (Map inputs plan)
 
--- a Map of the expressions; with window calls over a Window, and this over a Map of the distinct expressions that are met
-abbrev pub mapped : ℕ → List CallMeaning → List Expression → List Expression → PlanTree → PlanTree
-mapped width [] inputs expressions plan = Map expressions plan
-mapped width (call ∷ calls) inputs expressions plan = Map (map (above width (length (call ∷ calls)) inputs) expressions) (windowed inputs (call ∷ calls) plan)
+-- a Window, where there are window calls
+abbrev pub windowed : List Expression → List CallMeaning → PlanTree → PlanTree
+windowed inputs [] plan = plan
+windowed inputs (call ∷ calls) plan = window_on inputs (call ∷ calls) plan
+
+-- a Map of the expressions, over the Window where there is one
+abbrev pub mapped_over : Needs → List (Formula SelectLeaf) → PlanTree → PlanTree
+mapped_over needs formulas plan = Map (map (over needs) formulas) (windowed needs.inputs needs.calls plan)
+
+abbrev pub mapped : List (Formula SelectLeaf) → PlanTree → PlanTree
+mapped formulas plan = mapped_over (needs_of formulas) formulas plan
 
 -- DISTINCT is a Distinct
 abbrev pub deduplicated : Bool → PlanTree → PlanTree
@@ -137,12 +129,12 @@ pub record Lowered : Type 0 where
   pub columns : List OutputColumn
 
 -- the plan of what a select shows, sorts by and cuts, and its columns
-abbrev pub lowered_shown : ℕ → Bool → List OutputMeaning → List CallMeaning → Sorted → Option Cut → PlanTree → Lowered
-lowered_shown width distinct outputs calls sorted cut plan = record {
+abbrev pub lowered_shown : Shown → Sorted → Option Cut → PlanTree → Lowered
+lowered_shown s sorted cut plan = record {
   plan =
-      without_hidden (length outputs) (length sorted.hidden)
+      without_hidden (length s.outputs) (length sorted.hidden)
       (limited sorted.items cut
-      (deduplicated distinct
-      (mapped width calls sorted.inputs (expressions_of outputs ++ sorted.hidden) plan)));
-  columns = map column_shown outputs;
+      (deduplicated s.distinct
+      (mapped (all_shown s sorted) plan)));
+  columns = map column_shown s.outputs;
 }

@@ -1,6 +1,8 @@
 //! What a select shows, on the way to a plan.
 
-use wd_plan::{Expr, ValueKind};
+use wd_operand::Formula;
+use wd_plan::ValueKind;
+use wd_scope::SelectLeaf;
 use wd_value::Text;
 
 /// The name and the kind of an output.
@@ -10,10 +12,10 @@ pub struct OutputColumn {
     pub kind: ValueKind,
 }
 
-/// An output: its name, its expression over the columns of FROM and, after these, the calls, and the kind of its values.
+/// An output: its name, its expression over the columns of FROM and the window calls, and the kind of its values.
 #[derive(Drop)]
 pub struct Output {
     pub name: Text,
-    pub expression: Expr,
+    pub expression: Formula<SelectLeaf>,
     pub kind: ValueKind,
 }

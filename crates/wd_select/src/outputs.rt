@@ -4,7 +4,6 @@ ghost use Rattle.std.specs.Prelude.{◌≡◌, Ok, map, option_map};
 ghost use Rattle.wd_syntax.specs.View.{view, view_item};
 ghost use Rattle.wd_syntax.specs.Tree.{shown};
 ghost use Rattle.wd_operand.specs.Causes.{Gives};
-ghost use Rattle.wd_scope.specs.Calls.{calls_of};
 ghost use Rattle.wd_scope.specs.Resolving.{context_of};
 ghost use Rattle.wd_scope.specs.Scopes.{scope_of};
 ghost use Rattle.wd_select.specs.Outputs.{output_of};
@@ -12,9 +11,8 @@ ghost use Rattle.wd_select.specs.Outputs as spec;
 
 use crate::output::Output;
 use std::alloc::Global;
-use wd_operand::{Cause, ResolveError};
-use wd_plan::Expr;
-use wd_scope::{Calls, Context, Scope, ScopeColumn, resolved};
+use wd_operand::{Cause, Formula, ResolveError};
+use wd_scope::{Context, Scope, ScopeColumn, SelectLeaf, resolved};
 use wd_syntax as written;
 use wd_syntax::{Alias, Item, Sign};
 use wd_value::Text;
@@ -68,11 +66,11 @@ fn is_of(table: Option<&Text>, column: &ScopeColumn) -> bool
 
 /// A column of FROM as an output.
 fn column_output(alloc: Global, number: u16, column: &ScopeColumn) -> Result<Output, ResolveError>
-    ensures { Gives output_of result (Ok (spec.column_meant number column.now)) }
+    ensures { Gives output_of result (Ok (spec.column_meant (number, column.now))) }
 {
     Ok(Output {
         name: column.name.copy(alloc)?,
-        expression: Expr::Column(number),
+        expression: Formula::Leaf(SelectLeaf::Column(number)),
         kind: column.kind,
     })
 }
@@ -111,11 +109,10 @@ fn output_shown(
     context: &Context<'_>,
     tree: &written::Expr,
     alias: &Option<Alias>,
-    calls: &mut Calls,
 ) -> Result<Vec<Output>, ResolveError>
-    ensures { Gives (λ v. (map output_of v.items, calls_of calls.new)) result (spec.item_meant (context_of context.now) (shown (view tree.now) alias.now) (calls_of calls.old)) }
+    ensures { Gives (λ v. map output_of v.items) result (spec.item_meant (context_of context.now) (shown (view tree.now) alias.now)) }
 {
-    let operand = resolved(alloc, context, tree, calls)?;
+    let operand = resolved(alloc, context, tree)?;
     let kind = operand.kind();
     let mut outputs = Vec::with_capacity(alloc, 1)?;
     outputs.push(Output {
@@ -131,13 +128,12 @@ pub fn item_meant(
     alloc: Global,
     context: &Context<'_>,
     item: &Item,
-    calls: &mut Calls,
 ) -> Result<Vec<Output>, ResolveError>
-    ensures { Gives (λ v. (map output_of v.items, calls_of calls.new)) result (spec.item_meant (context_of context.now) (view_item item.now) (calls_of calls.old)) }
+    ensures { Gives (λ v. map output_of v.items) result (spec.item_meant (context_of context.now) (view_item item.now)) }
 {
     match item {
         Item::All => columns_of(alloc, context.scope, None),
         Item::AllOf(table) => table_shown(alloc, context.scope, &table.text),
-        Item::Expr(tree, alias) => output_shown(alloc, context, tree, alias, calls),
+        Item::Expr(tree, alias) => output_shown(alloc, context, tree, alias),
     }
 }

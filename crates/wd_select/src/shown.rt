@@ -2,18 +2,18 @@
 
 ghost use Rattle.std.specs.Prelude.{◌≤◌, length};
 
+use crate::needs::Needs;
 use crate::output::Output;
-use wd_plan::Expr;
-use wd_scope::{Calls, Scope};
+use wd_operand::Formula;
+use wd_scope::{Scope, SelectLeaf};
 use wd_value::SortColumn;
 
-/// What a select has before its ORDER BY: the columns of FROM, whether it is DISTINCT, its outputs, at most 1,024, and its calls.
+/// What a select has before its ORDER BY: the columns of FROM, whether it is DISTINCT, and its outputs, at most 1,024.
 #[derive(Clone, Copy)]
 pub struct Shown<'a> {
     pub scope: &'a Scope,
     pub distinct: bool,
     pub outputs: &'a [Output],
-    pub calls: &'a Calls,
     pub ghost narrow: { length outputs.now ≤ 1024 },
 }
 
@@ -21,14 +21,14 @@ pub struct Shown<'a> {
 #[derive(Drop)]
 pub enum KeyPlace {
     Output(u16),
-    Hidden(Expr),
+    Hidden(Formula<SelectLeaf>),
 }
 
-/// The sort keys over the outputs and the hidden columns after them, the expressions that are hidden there, and the distinct
-/// expressions that a Map below a Window would show.
+/// The sort keys over the outputs and the hidden columns after them, the expressions that are hidden there, and what the outputs
+/// and these need of the rows below them.
 #[derive(Drop)]
 pub struct Sorted {
     pub items: Vec<SortColumn>,
-    pub hidden: Vec<Expr>,
-    pub inputs: Vec<Expr>,
+    pub hidden: Vec<Formula<SelectLeaf>>,
+    pub needs: Needs,
 }

@@ -1,63 +1,58 @@
 //! The final ORDER BY: each key is an output, or a hidden column after the outputs.
 
-ghost use Rattle.std.specs.Prelude.{◌≡◌, ◌+◌, ◌<◌, ◌≤◌, false, map, length, nat_lt, vec_len, Option, Some, option_map, IfOk, MatchOption};
-ghost use Rattle.wd_plan.specs.Expressions.{expression_of};
+ghost use Rattle.std.specs.Prelude.{◌≡◌, ◌+◌, ◌≤◌, false, filter, map, length, vec_len, IfOk};
+ghost use Rattle.std.specs.List.{list_all, position_or_len};
 ghost use Rattle.wd_syntax.specs.Tree.{keys_of};
 ghost use Rattle.wd_syntax.specs.View.{view, view_key};
 ghost use Rattle.wd_operand.specs.Causes.{Gives};
-ghost use Rattle.wd_scope.specs.Calls.{calls_of};
+ghost use Rattle.wd_scope.specs.Leaves.{formula_of};
 ghost use Rattle.wd_scope.specs.Windows as windows;
-ghost use Rattle.wd_select.specs.Outputs.{output_of};
-ghost use Rattle.wd_select.specs.Outputs as outputs_spec;
-ghost use Rattle.wd_select.specs.Sorting.{shown_of, place_shown, sorted_of, IsNarrow};
+ghost use Rattle.wd_select.specs.Listing.{needs_of, needs_shown};
+ghost use Rattle.wd_select.specs.Listing as listing;
+ghost use Rattle.wd_select.specs.Outputs.{expressions_of, output_of};
+ghost use Rattle.wd_select.specs.Sorting.{all_shown, shown_of, place_shown, sorted_of, IsCounted, IsNarrow};
 ghost use Rattle.wd_select.specs.Sorting as spec;
 
-use crate::inputs::add_met;
+use crate::needs::Needs;
 use crate::output::Output;
 use crate::shown::{KeyPlace, Shown, Sorted};
 use std::alloc::Global;
-use wd_operand::{Cause, ResolveError, number};
-use wd_plan::Expr;
-use wd_scope::{Calls, MOST_COLUMNS, Place, Scope, plain, sort_key, written_number};
+use wd_operand::{Cause, Formula, ResolveError, number};
+use wd_scope::{Place, SelectLeaf, plain, sort_key, written_number};
 use wd_syntax as written;
 use wd_syntax::{Literal, Name, SortKey};
-use wd_value::SortColumn;
+use wd_value::{OutOfMemory, SortColumn};
 
-/// Whether so many inputs and calls are too many for a Window.
-fn are_too_many(inputs: usize, calls: usize) -> bool
-    ensures { result ≡ nat_lt 1024 (inputs + calls) }
+/// Whether an output shows an expression.
+fn shows(formula: &Formula<SelectLeaf>, output: &Output) -> bool
+    ensures { result ≡ spec.shows (formula_of formula.now) (output_of output.now) }
 {
-    calls > MOST_COLUMNS || inputs > MOST_COLUMNS - calls
+    formula.same(&output.expression)
 }
 
-/// Whether some node has more than 1,024 columns: the Map of so many expressions, or the Window below it.
-pub fn is_wide(shown: usize, inputs: &[Expr], calls: &Calls) -> bool
-    ensures { result ≡ outputs_spec.is_wide shown (map expression_of inputs.now) (calls_of calls.now) }
-{
-    shown > MOST_COLUMNS || !calls.list.is_empty() && are_too_many(inputs.len(), calls.list.len())
-}
-
-/// The number of the first output that shows an expression.
-fn output_number(expression: &Expr, outputs: &[Output]) -> Option<u16>
-    requires { length outputs.now ≤ 1024 }
-    ensures { MatchOption result (spec.sorted_place 0 (expression_of expression.now) (map output_of outputs.now) ≡ spec.hidden (expression_of expression.now)) (λ number. spec.sorted_place 0 (expression_of expression.now) (map output_of outputs.now) ≡ spec.output number) }
+/// The number of the first output that shows an expression, and the number of outputs where none does.
+fn output_number(formula: &Formula<SelectLeaf>, outputs: &[Output]) -> usize
+    ensures number { result ≡ position_or_len (spec.shows (formula_of formula.now)) (map output_of outputs.now) }
+    ensures within { result ≤ length outputs.now }
 {
     for (number, output) in outputs.iter().enumerate() {
-        if expression.same(&output.expression) {
-            return Some(number as u16);
+        if shows(formula, output) {
+            return number;
         }
     }
-    None
+    outputs.len()
 }
 
 /// An expression that equals an output is the first such.
-fn sorted_place(expression: Expr, outputs: &[Output]) -> KeyPlace
+fn sorted_place(formula: Formula<SelectLeaf>, outputs: &[Output]) -> KeyPlace
     requires { length outputs.now ≤ 1024 }
-    ensures { place_shown result ≡ spec.sorted_place 0 (expression_of expression) (map output_of outputs.now) }
+    ensures { place_shown result ≡ spec.sorted_place (formula_of formula) (map output_of outputs.now) }
 {
-    match output_number(&expression, outputs) {
-        Some(number) => KeyPlace::Output(number),
-        None => KeyPlace::Hidden(expression),
+    let number = output_number(&formula, outputs);
+    if number < outputs.len() {
+        KeyPlace::Output(number as u16)
+    } else {
+        KeyPlace::Hidden(formula)
     }
 }
 
@@ -73,44 +68,37 @@ fn expression_place(
     Ok(sorted_place(operand.settled(), shown.outputs))
 }
 
-/// Whether each output of that name has the expression.
-fn names_only(name: &Name, expression: &Expr, outputs: &[Output]) -> bool
-    ensures { result ≡ spec.names_only name.now.text (expression_of expression.now) (map output_of outputs.now) }
-{
-    for output in outputs {
-        if is_named(name, output) && !expression.same(&output.expression) {
-            return false;
-        }
-    }
-    true
-}
-
-/// The output of that number; 403 where another of its name shows another expression.
-fn unless_other(only: bool, number: u16) -> Result<Option<KeyPlace>, ResolveError>
-    ensures { Gives (λ place. option_map place_shown place) result (spec.unless_other only number) }
-{
-    if only {
-        Ok(Some(KeyPlace::Output(number)))
-    } else {
-        Err(ResolveError::Refused(Cause::Ambiguous))
-    }
-}
-
 fn is_named(name: &Name, output: &Output) -> bool
     ensures { result ≡ spec.is_named name.now.text (output_of output.now) }
 {
     output.name.as_str() == name.text.as_str()
 }
 
-/// The first output of a name; 403 where another has it and shows another expression.
-fn first_named(name: &Name, outputs: &[Output]) -> Result<Option<KeyPlace>, ResolveError>
+/// Whether each output of that name has the expression.
+fn names_only(name: &Name, formula: &Formula<SelectLeaf>, outputs: &[Output]) -> bool
+    ensures { result ≡ list_all (spec.shows (formula_of formula.now)) (filter (spec.is_named name.now.text) (map output_of outputs.now)) }
+{
+    for output in outputs {
+        if is_named(name, output) && !shows(formula, output) {
+            return false;
+        }
+    }
+    true
+}
+
+/// The number of the first output of a name; 403 where another has it and shows another expression.
+#[tactic(auto, using(crate::proofs::Among::found_at, crate::proofs::Among::found_none))]
+fn first_named(name: &Name, outputs: &[Output]) -> Result<Option<u16>, ResolveError>
     requires { length outputs.now ≤ 1024 }
-    ensures { Gives (λ place. option_map place_shown place) result (spec.first_named 0 name.now.text (map output_of outputs.now)) }
+    ensures { Gives (λ number. number) result (spec.first_named name.now.text (map output_of outputs.now)) }
 {
     for (number, output) in outputs.iter().enumerate() {
         if is_named(name, output) {
-            let only = names_only(name, &output.expression, &outputs[number + 1..]);
-            return unless_other(only, number as u16);
+            return if names_only(name, &output.expression, &outputs[number + 1..]) {
+                Ok(Some(number as u16))
+            } else {
+                Err(ResolveError::Refused(Cause::Ambiguous))
+            };
         }
     }
     Ok(None)
@@ -151,7 +139,7 @@ fn named_place(
     ensures { Gives place_shown result (spec.named_place (shown_of shown.now) name.now (view tree.now)) }
 {
     match first_named(name, shown.outputs)? {
-        Some(place) => Ok(place),
+        Some(number) => Ok(KeyPlace::Output(number)),
         None => expression_place(alloc, shown, tree),
     }
 }
@@ -213,59 +201,87 @@ fn with_output(
     column: u16,
     key: wd_value::SortKey,
 ) -> Result<Sorted, ResolveError>
-    requires { IsNarrow (shown_of shown.now) (sorted_of sorted) }
+    requires counted { IsCounted (shown_of shown.now) sorted }
+    requires narrow { IsNarrow (shown_of shown.now) (sorted_of sorted) }
     ensures meant { Gives sorted_of result (spec.with_key (shown_of shown.now) (spec.output column) key (sorted_of sorted)) }
+    ensures counted { IfOk result (λ s. IsCounted (shown_of shown.now) s) }
     ensures narrow { IfOk result (λ s. IsNarrow (shown_of shown.now) (sorted_of s)) }
 {
     let Sorted {
         mut items,
         hidden,
-        inputs,
+        needs,
     } = sorted;
     items.push(SortColumn { column, key })?;
     Ok(Sorted {
         items,
         hidden,
-        inputs,
+        needs,
     })
 }
 
+/// A further hidden column, and a key by it.
+#[tactic(auto, using(crate::proofs::Counted::needs_pushed))]
+fn with_column(
+    alloc: Global,
+    sorted: Sorted,
+    shown: &Shown<'_>,
+    formula: Formula<SelectLeaf>,
+    key: wd_value::SortKey,
+) -> Result<Sorted, OutOfMemory>
+    requires few { length shown.now.outputs.now + vec_len sorted.hidden ≤ 1024 }
+    requires counted { IsCounted (shown_of shown.now) sorted }
+    ensures meant { IfOk result (λ s. sorted_of s ≡ spec.with_column (shown_of shown.now) (formula_of formula) key (sorted_of sorted)) }
+    ensures counted { IfOk result (λ s. IsCounted (shown_of shown.now) s) }
+{
+    let Sorted {
+        mut items,
+        mut hidden,
+        mut needs,
+    } = sorted;
+    let column = (shown.outputs.len() + hidden.len()) as u16;
+    needs.add(alloc, &formula)?;
+    hidden.push(formula)?;
+    items.push(SortColumn { column, key })?;
+    Ok(Sorted {
+        items,
+        hidden,
+        needs,
+    })
+}
+
+/// Whether the outputs and the sort keys make some node too wide.
+fn are_wide(shown: &Shown<'_>, sorted: &Sorted) -> bool
+    requires { IsCounted (shown_of shown.now) sorted.now }
+    ensures { result ≡ listing.are_wide (all_shown (shown_of shown.now) (sorted_of sorted.now)) }
+{
+    sorted.needs.is_wide(shown.outputs.len() + sorted.hidden.len())
+}
+
 /// A key by a new hidden column: 414 with DISTINCT, and 415 where it makes a node too wide.
+#[tactic(auto, using(crate::proofs::Counted::few_shown))]
 fn with_hidden(
     alloc: Global,
     sorted: Sorted,
     shown: &Shown<'_>,
-    expression: Expr,
+    formula: Formula<SelectLeaf>,
     key: wd_value::SortKey,
 ) -> Result<Sorted, ResolveError>
-    requires { IsNarrow (shown_of shown.now) (sorted_of sorted) }
-    ensures meant { Gives sorted_of result (spec.with_key (shown_of shown.now) (spec.hidden (expression_of expression)) key (sorted_of sorted)) }
+    requires counted { IsCounted (shown_of shown.now) sorted }
+    requires narrow { IsNarrow (shown_of shown.now) (sorted_of sorted) }
+    ensures meant { Gives sorted_of result (spec.with_key (shown_of shown.now) (spec.hidden (formula_of formula)) key (sorted_of sorted)) }
+    ensures counted { IfOk result (λ s. IsCounted (shown_of shown.now) s) }
     ensures narrow { IfOk result (λ s. IsNarrow (shown_of shown.now) (sorted_of s)) }
 {
     if shown.distinct {
         return Err(ResolveError::Refused(Cause::ForeignSortKey));
     }
-    let Sorted {
-        mut items,
-        mut hidden,
-        mut inputs,
-    } = sorted;
-    let width = shown.scope.columns.len();
-    add_met(alloc, &mut inputs, width, shown.calls, &expression)?;
-    let column = shown.outputs.len() + hidden.len();
-    if is_wide(column + 1, &inputs, shown.calls) {
-        return Err(ResolveError::Refused(Cause::TooMany));
+    let next = with_column(alloc, sorted, shown, formula, key)?;
+    if are_wide(shown, &next) {
+        Err(ResolveError::Refused(Cause::TooMany))
+    } else {
+        Ok(next)
     }
-    hidden.push(expression)?;
-    items.push(SortColumn {
-        column: column as u16,
-        key,
-    })?;
-    Ok(Sorted {
-        items,
-        hidden,
-        inputs,
-    })
 }
 
 /// A further key.
@@ -275,33 +291,37 @@ fn key_sorted(
     shown: &Shown<'_>,
     key: &SortKey,
 ) -> Result<Sorted, ResolveError>
-    requires { IsNarrow (shown_of shown.now) (sorted_of sorted) }
+    requires counted { IsCounted (shown_of shown.now) sorted }
+    requires narrow { IsNarrow (shown_of shown.now) (sorted_of sorted) }
     ensures meant { Gives sorted_of result (spec.key_sorted (shown_of shown.now) (view key.now.expr) (windows.sort_key key.now.direction key.now.nulls) (sorted_of sorted)) }
+    ensures counted { IfOk result (λ s. IsCounted (shown_of shown.now) s) }
     ensures narrow { IfOk result (λ s. IsNarrow (shown_of shown.now) (sorted_of s)) }
 {
     let place = key_place(alloc, shown, &key.expr)?;
     let direction = sort_key(key.direction, key.nulls);
     match place {
         KeyPlace::Output(column) => with_output(sorted, shown, column, direction),
-        KeyPlace::Hidden(expression) => with_hidden(alloc, sorted, shown, expression, direction),
+        KeyPlace::Hidden(formula) => with_hidden(alloc, sorted, shown, formula, direction),
     }
 }
 
-/// The sort keys of a select, whose outputs need these inputs.
+/// The sort keys of a select, whose outputs need this.
 pub fn keys_sorted(
     alloc: Global,
     shown: &Shown<'_>,
     keys: &[SortKey],
-    inputs: Vec<Expr>,
+    needs: Needs,
 ) -> Result<Sorted, ResolveError>
-    requires { outputs_spec.is_wide (length shown.now.outputs.now) (map expression_of inputs.items) (calls_of shown.now.calls.now) ≡ false }
-    ensures meant { Gives sorted_of result (spec.keys_sorted (shown_of shown.now) (keys_of (map view_key keys.now)) (spec.unsorted (map expression_of inputs.items))) }
+    requires counted { needs_shown needs ≡ needs_of (expressions_of (shown_of shown.now).outputs) }
+    requires narrow { listing.are_wide (expressions_of (shown_of shown.now).outputs) ≡ false }
+    ensures meant { Gives sorted_of result (spec.keys_sorted (shown_of shown.now) (keys_of (map view_key keys.now)) spec.unsorted) }
+    ensures counted { IfOk result (λ s. IsCounted (shown_of shown.now) s) }
     ensures narrow { IfOk result (λ s. IsNarrow (shown_of shown.now) (sorted_of s)) }
 {
     let mut sorted = Sorted {
         items: Vec::new(alloc),
         hidden: Vec::new(alloc),
-        inputs,
+        needs,
     };
     for key in keys {
         sorted = key_sorted(alloc, sorted, shown, key)?;

@@ -7,21 +7,24 @@ ghost use Rattle.wd_plan.specs.Expressions.{expression_of};
 ghost use Rattle.wd_plan.specs.Plans.{class_of, plan_of};
 ghost use Rattle.wd_syntax.specs.View.{view_option};
 ghost use Rattle.wd_operand.specs.Causes.{Gives};
-ghost use Rattle.wd_scope.specs.Calls.{aggregate_of, argument_of, call_of, calls_of, function_of};
+ghost use Rattle.wd_scope.specs.Calls.{aggregate_of, argument_of, call_of, function_of};
+ghost use Rattle.wd_scope.specs.Leaves.{formula_of};
 ghost use Rattle.wd_scope.specs.Scopes.{scope_of};
 ghost use Rattle.wd_scope.specs.Windows.{key_of};
 ghost use Rattle.wd_select.specs.Cuts.{cut_of};
-ghost use Rattle.wd_select.specs.Outputs as outputs_spec;
+ghost use Rattle.wd_select.specs.Listing.{input_number as input_meant, is_window_wide, needs_shown, with_new};
 ghost use Rattle.wd_select.specs.Steps as spec;
 
 use crate::inputs::input_number;
 use crate::limits::Cut;
+use crate::needs::Needs;
+use crate::seated::all_seated;
 use std::alloc::Global;
-use wd_operand::ResolveError;
+use wd_operand::{Formula, ResolveError};
 use wd_plan::{Aggregate, Call, Class, Expr, FrameFunction, Function, Limit, Plan, Shift, Window};
 use wd_scope::{
-    AppliedAggregate, AppliedFunction, Calls, OrderKey, Place, Scope, ValueArgument, WindowCall,
-    condition,
+    AppliedAggregate, AppliedFunction, OrderKey, Place, Scope, SelectLeaf, ValueArgument,
+    WindowCall, condition,
 };
 use wd_syntax as written;
 use wd_value::{OutOfMemory, SortColumn};
@@ -111,7 +114,7 @@ fn columns_over(
     expressions: &[Expr],
 ) -> Result<Vec<u16>, OutOfMemory>
     requires { length inputs.now ≤ 1024 }
-    ensures { IfOk result (λ v. v.items ≡ map (outputs_spec.input_number (map expression_of inputs.now)) (map expression_of expressions.now)) }
+    ensures { IfOk result (λ v. v.items ≡ map (input_meant (map expression_of inputs.now)) (map expression_of expressions.now)) }
 {
     let mut columns = Vec::with_capacity(alloc, expressions.len())?;
     for expression in expressions {
@@ -216,7 +219,7 @@ fn is_known(classes: &[Class], class: &Class) -> bool
 
 /// Adds a class, where it is new.
 fn add_class(classes: &mut Vec<Class>, class: Class) -> Result<(), OutOfMemory>
-    ensures meant { IfOk result (λ u. map class_of classes.new.items ≡ outputs_spec.with_new spec.same_class (map class_of classes.old.items) (class_of class ∷ [])) }
+    ensures meant { IfOk result (λ u. map class_of classes.new.items ≡ with_new spec.same_class (map class_of classes.old.items) (class_of class ∷ [])) }
     ensures within { IfOk result (λ u. vec_len classes.new ≤ vec_len classes.old + 1) }
 {
     if is_known(classes, &class) {
@@ -283,91 +286,19 @@ fn calls_over(
     Ok(planned)
 }
 
-/// The column of the Window for a column of FROM, or for one of so many calls after these; there are no others.
-fn column_above(width: usize, calls: usize, inputs: &[Expr], column: u16) -> u16
-    requires few_inputs { length inputs.now ≤ 1024 }
-    requires few_calls { calls ≤ 1024 }
-    ensures { result ≡ spec.column_above width calls (map expression_of inputs.now) column }
-{
-    let number = usize::from(column);
-    if number < width {
-        return input_number(inputs, &Expr::Column(column)) as u16;
-    }
-    if number - width < calls {
-        (inputs.len() + (number - width)) as u16
-    } else {
-        column
-    }
-}
-
-/// An expression over the columns of FROM and the calls, turned into one over the columns of the Window.
-fn raise(expression: &mut Expr, width: usize, calls: usize, inputs: &[Expr])
-    requires few_inputs { length inputs.now ≤ 1024 }
-    requires few_calls { calls ≤ 1024 }
-    ensures { expression_of expression.new ≡ spec.above width calls (map expression_of inputs.now) (expression_of expression.old) }
-{
-    match expression {
-        Expr::Column(column) => {
-            *column = column_above(width, calls, inputs, *column);
-        }
-        Expr::Literal(_, _) => {}
-        Expr::Negate(a) => raise(a, width, calls, inputs),
-        Expr::Not(a) => raise(a, width, calls, inputs),
-        Expr::IsNull(a) => raise(a, width, calls, inputs),
-        Expr::IsNotNull(a) => raise(a, width, calls, inputs),
-        Expr::Arithmetic(_, a, b) => {
-            raise(a, width, calls, inputs);
-            raise(b, width, calls, inputs);
-        }
-        Expr::Compare(_, a, b) => {
-            raise(a, width, calls, inputs);
-            raise(b, width, calls, inputs);
-        }
-        Expr::And(a, b) => {
-            raise(a, width, calls, inputs);
-            raise(b, width, calls, inputs);
-        }
-        Expr::Or(a, b) => {
-            raise(a, width, calls, inputs);
-            raise(b, width, calls, inputs);
-        }
-        Expr::Case(_, a, b, c) => {
-            raise(a, width, calls, inputs);
-            raise(b, width, calls, inputs);
-            raise(c, width, calls, inputs);
-        }
-    }
-}
-
-/// Expressions over the columns of the Window.
-fn raise_all(
-    expressions: Vec<Expr>,
-    width: usize,
-    calls: usize,
-    inputs: &[Expr],
-    alloc: Global,
-) -> Result<Vec<Expr>, OutOfMemory>
-    requires few_inputs { length inputs.now ≤ 1024 }
-    requires few_calls { calls ≤ 1024 }
-    ensures { IfOk result (λ v. map expression_of v.items ≡ map (spec.above width calls (map expression_of inputs.now)) (map expression_of expressions.items)) }
-{
-    let mut raised = Vec::with_capacity(alloc, expressions.len())?;
-    for expression in expressions {
-        let mut expression = expression;
-        raise(&mut expression, width, calls, inputs);
-        raised.push(expression)?;
-    }
-    Ok(raised)
-}
-
 /// A Window over a Map of the inputs, with the calls in order and their classes in the order of their first calls.
-fn windowed(alloc: Global, calls: Calls, inputs: Vec<Expr>, plan: Plan) -> Result<Plan, OutOfMemory>
+fn window_on(
+    alloc: Global,
+    inputs: Vec<Expr>,
+    calls: Vec<WindowCall>,
+    plan: Plan,
+) -> Result<Plan, OutOfMemory>
     requires few_inputs { vec_len inputs ≤ 1024 }
-    requires few_calls { vec_len calls.list ≤ 1024 }
-    ensures { IfOk result (λ p. plan_of p ≡ spec.windowed (map expression_of inputs.items) (calls_of calls) (plan_of plan)) }
+    requires few_calls { vec_len calls ≤ 1024 }
+    ensures { IfOk result (λ p. plan_of p ≡ spec.window_on (map expression_of inputs.items) (map call_of calls.items) (plan_of plan)) }
 {
-    let classes = classes_over(alloc, &inputs, &calls.list)?;
-    let calls = calls_over(alloc, &inputs, &classes, calls.list)?;
+    let classes = classes_over(alloc, &inputs, &calls)?;
+    let calls = calls_over(alloc, &inputs, &classes, calls)?;
     let inner = Plan::Map {
         input: Box::new(alloc, plan)?,
         outputs: inputs,
@@ -378,29 +309,34 @@ fn windowed(alloc: Global, calls: Calls, inputs: Vec<Expr>, plan: Plan) -> Resul
     })
 }
 
-/// A Map of the expressions; with window calls over a Window.
+/// With window calls a Window over a Map of the inputs.
+fn windowed(alloc: Global, needs: Needs, plan: Plan) -> Result<Plan, OutOfMemory>
+    requires { is_window_wide (needs_shown needs) ≡ false }
+    ensures { IfOk result (λ p. plan_of p ≡ spec.windowed (needs_shown needs).inputs (needs_shown needs).calls (plan_of plan)) }
+{
+    let Needs { calls, inputs } = needs;
+    if calls.is_empty() {
+        Ok(plan)
+    } else {
+        window_on(alloc, inputs, calls, plan)
+    }
+}
+
+/// A Map of the expressions, over the Window where there is one.
 pub fn mapped(
     alloc: Global,
-    width: usize,
-    calls: Calls,
-    inputs: Vec<Expr>,
-    expressions: Vec<Expr>,
+    needs: Needs,
+    formulas: Vec<Formula<SelectLeaf>>,
     plan: Plan,
 ) -> Result<Plan, OutOfMemory>
-    requires { outputs_spec.is_wide (vec_len expressions) (map expression_of inputs.items) (calls_of calls) ≡ false }
-    ensures { IfOk result (λ p. plan_of p ≡ spec.mapped width (calls_of calls) (map expression_of inputs.items) (map expression_of expressions.items) (plan_of plan)) }
+    requires { is_window_wide (needs_shown needs) ≡ false }
+    ensures { IfOk result (λ p. plan_of p ≡ spec.mapped_over (needs_shown needs) (map formula_of formulas.items) (plan_of plan)) }
 {
-    if calls.list.is_empty() {
-        return Ok(Plan::Map {
-            input: Box::new(alloc, plan)?,
-            outputs: expressions,
-        });
-    }
-    let expressions = raise_all(expressions, width, calls.list.len(), &inputs, alloc)?;
-    let window = windowed(alloc, calls, inputs, plan)?;
+    let outputs = all_seated(alloc, &needs, &formulas)?;
+    let below = windowed(alloc, needs, plan)?;
     Ok(Plan::Map {
-        input: Box::new(alloc, window)?,
-        outputs: expressions,
+        input: Box::new(alloc, below)?,
+        outputs,
     })
 }
 

@@ -1,5 +1,5 @@
 use Rattle.std.proofs.Common.{◌≡◌, map, length, vec_len}
-use Rattle.wd_plan.specs.Expressions.{expression_of}
+use Rattle.wd_scope.specs.Leaves.{formula_of}
 use Rattle.wd_select.specs.Steps.{column_shown}
 use Rattle.wd_select.specs.Outputs.{output_of, expressions_of}
 use Rattle.wd_resolve.proofs.select.parts_of.Given as goal
@@ -7,6 +7,6 @@ use Rattle.wd_resolve.proofs.select.parts_of.Given as goal
 abbrev pub invariant-loop-output : goal.invariant-loop-output
 invariant-loop-output l = record {
   columns : l.columns.items ≡ map column_shown (map output_of l.yielded);
-  expressions : map expression_of l.expressions.items ≡ expressions_of (map output_of l.yielded);
-  as_many : (vec_len l.columns ≡ length l.yielded) × (vec_len l.expressions ≡ length l.yielded);
+  formulas : map formula_of l.formulas.items ≡ expressions_of (map output_of l.yielded);
+  as_many : vec_len l.columns ≡ length l.yielded;
 }

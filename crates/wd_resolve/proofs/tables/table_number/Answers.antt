@@ -1,7 +1,9 @@
-use Rattle.std.proofs.Common.{◌≡◌, ◌∙◌, sym, ap, ◌<◌, ◌+◌, suc, Bool, Some, length, drop, arith, add-one, refl, if◌then◌else◌}
+use Rattle.std.proofs.Common.{◌≡◌, ◌∙◌, sym, ap, ◌<◌, ◌+◌, suc, Bool, length, drop, arith, add-one, if◌then◌else◌}
+use Rattle.std.specs.List.{position_or_len}
 use Rattle.std.proofs.lemmas.List.{length-map}
 use Rattle.wd_schema.specs.Schemas.{schema_of}
-use Rattle.wd_resolve.specs.Selected.{number_named, is_named}
+use Rattle.wd_select.proofs.Among.{position_at}
+use Rattle.wd_resolve.specs.Selected.{has_name, is_named}
 use Rattle.wd_resolve.proofs.Beside.{named_step}
 use Rattle.wd_resolve.proofs.tables.table_number.Goals as goal
 
@@ -12,8 +14,9 @@ returns-then-is_named c =
     let tables = schema_of c.args.schema.now in
     let within : n < length tables = simp length-map (omega arith) in
     let found : is_named tables name n ≡ _ = sym c.is_named.ensures ∙ c.if-is_named.true in
-    let step : number_named n name (drop n tables) ≡ Some n = named_step n n name tables within ∙ ap (λ (b : Bool). if b then Some n else number_named (n + 1) name (drop (suc n) tables)) found in
-    sym step ∙ c.loop-number.invariant
+    let step : position_or_len (has_name name) (drop n tables) ≡ 0 = named_step n name tables within ∙ ap (λ (b : Bool). if b then 0 else 1 + position_or_len (has_name name) (drop (suc n) tables)) found in
+    let place : n ≡ position_or_len (has_name name) tables = omega (arith, step, c.loop-number.invariant) in
+    sym (position_at (has_name name) tables n place within)
 
 pub loop-number-preserved : goal.loop-number-preserved
 loop-number-preserved c =
@@ -22,6 +25,6 @@ loop-number-preserved c =
     let tables = schema_of c.args.schema.now in
     let within : n < length tables = simp length-map (omega arith) in
     let other : is_named tables name n ≡ _ = sym c.is_named.ensures ∙ c.if-is_named.false in
-    let step : number_named n name (drop n tables) ≡ number_named (n + 1) name (drop (suc n) tables) = named_step n n name tables within ∙ ap (λ (b : Bool). if b then Some n else number_named (n + 1) name (drop (suc n) tables)) other in
-    let behind : drop (n + 1) tables ≡ drop (suc n) tables = ap (λ k. drop k tables) (add-one n) in
-    ap (number_named (n + 1) name) behind ∙ sym step ∙ c.loop-number.invariant
+    let step : position_or_len (has_name name) (drop n tables) ≡ 1 + position_or_len (has_name name) (drop (suc n) tables) = named_step n name tables within ∙ ap (λ (b : Bool). if b then 0 else 1 + position_or_len (has_name name) (drop (suc n) tables)) other in
+    let behind : position_or_len (has_name name) (drop (n + 1) tables) ≡ position_or_len (has_name name) (drop (suc n) tables) = ap (λ k. position_or_len (has_name name) (drop k tables)) (add-one n) in
+    omega (arith, step, behind, c.loop-number.invariant)

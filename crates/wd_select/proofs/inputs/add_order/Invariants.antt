@@ -2,7 +2,7 @@ use Rattle.std.proofs.Common.{◌≡◌, drop, map}
 use Rattle.wd_plan.specs.Expressions.{expression_of}
 use Rattle.wd_plan.specs.Equality.{same_expression}
 use Rattle.wd_scope.specs.Windows.{key_of}
-use Rattle.wd_select.specs.Outputs.{with_new, sorted_by}
+use Rattle.wd_select.specs.Listing.{sorted_by, with_new}
 use Rattle.wd_select.proofs.inputs.add_order.Given as goal
 
 abbrev pub invariant-loop-key : goal.invariant-loop-key

@@ -1,7 +1,7 @@
 use Rattle.std.proofs.Common.{◌≡◌, drop, map}
 use Rattle.wd_plan.specs.Expressions.{expression_of}
 use Rattle.wd_plan.specs.Equality.{same_expression}
-use Rattle.wd_select.specs.Outputs.{with_new}
+use Rattle.wd_select.specs.Listing.{with_new}
 use Rattle.wd_select.proofs.inputs.add_partition.Given as goal
 
 abbrev pub invariant-loop-expression : goal.invariant-loop-expression

@@ -3,7 +3,7 @@ use Rattle.wd_plan.specs.Expressions.{expression_of}
 use Rattle.wd_plan.specs.Plans.{class_of}
 use Rattle.wd_scope.specs.Calls.{call_of}
 use Rattle.wd_select.specs.Steps.{same_class, class_over}
-use Rattle.wd_select.specs.Outputs.{with_new}
+use Rattle.wd_select.specs.Listing.{with_new}
 use Rattle.wd_select.proofs.steps.classes_over.Given as goal
 
 abbrev pub invariant-loop-call : goal.invariant-loop-call

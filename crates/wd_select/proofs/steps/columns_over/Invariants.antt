@@ -1,6 +1,6 @@
 use Rattle.std.proofs.Common.{◌≡◌, map, take}
 use Rattle.wd_plan.specs.Expressions.{expression_of}
-use Rattle.wd_select.specs.Outputs.{input_number}
+use Rattle.wd_select.specs.Listing.{input_number}
 use Rattle.wd_select.proofs.steps.columns_over.Given as goal
 
 abbrev pub invariant-loop-expression : goal.invariant-loop-expression
