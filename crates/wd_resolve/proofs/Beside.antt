@@ -1,13 +1,11 @@
 -- The tables and columns of scopes beside one another.
-use Rattle.std.proofs.Common.{◌≡◌, ◌∙◌, ap, refl, ℕ, zero, suc, ◌+◌, ◌^◌, ◌<◌, arith, Bool, true, false, cond, not, List, [], ◌∷◌, ◌++◌, length, drop, length-append, ◌||◌, Some, None, Err, slice_get, if◌then◌else◌}
-use Rattle.std.proofs.lemmas.Bool.{lt-ltb}
+use Rattle.std.proofs.Common.{◌≡◌, ◌∙◌, ap, refl, ℕ, zero, suc, ◌+◌, ◌<◌, arith, Bool, true, false, cond, not, List, [], ◌∷◌, ◌++◌, length, drop, length-append, ◌||◌, if◌then◌else◌}
 use Rattle.std.specs.List.{list_any, position_or_len}
 use Rattle.std.specs.Str.{bytes_eq}
 use Rattle.std.proofs.lemmas.List.Folds.{list_any-append}
 use Rattle.wd_schema.specs.Tables.{TableRule}
 use Rattle.wd_scope.specs.Scopes.{ScopeRule, beside, has_table}
-use Rattle.wd_operand.specs.declared.cause.Cause.TheVariants.{UnknownTable}
-use Rattle.wd_resolve.specs.Selected.{has_name, is_named, scan, scan_at}
+use Rattle.wd_resolve.specs.Selected.{has_name, is_named}
 
 pub has_table_beside : (left right : ScopeRule) (name : List ℕ) → has_table (beside left right) name ≡ (has_table left name || has_table right name)
 has_table_beside left right name = list_any-append (bytes_eq name) left.tables right.tables
@@ -29,11 +27,3 @@ named_step zero name (rule ∷ tables) within = by (bytes_eq rule.name name)
     by true = refl
     by false = refl
 named_step (suc n) name (rule ∷ tables) within = named_step n name tables (omega arith)
-
--- the table of a number that a plan can name
-pub scan_found : (tables : List TableRule) (name : List ℕ) (number : ℕ) (table : TableRule) → number < 2 ^ 16 → slice_get tables number ≡ Some table → scan_at tables name (Some number) ≡ scan name number (Some table)
-scan_found tables name number table small found = ap (λ (b : Bool). if b then scan name number (slice_get tables number) else Err UnknownTable) (lt-ltb number (2 ^ 16) small) ∙ ap (scan name number) found
-
--- no table has that number
-pub scan_none : (tables : List TableRule) (name : List ℕ) (number : ℕ) → number < 2 ^ 16 → slice_get tables number ≡ None → scan_at tables name (Some number) ≡ Err UnknownTable
-scan_none tables name number small none = ap (λ (b : Bool). if b then scan name number (slice_get tables number) else Err UnknownTable) (lt-ltb number (2 ^ 16) small) ∙ ap (scan name number) none

@@ -33,18 +33,21 @@ use Rattle.wd_resolve.proofs.ShownFits.{IsLowered, behind_from_is}
 abbrev pub IsPart : List TableRule → JoinedTables → Type 0
 IsPart tables part = HasKinds tables part.plan (scope_kinds part.scope)
 
+-- the same of a table that is not yet admitted
+abbrev pub MayBePart : List TableRule → JoinedTables → Type 0
+MayBePart tables part = length part.scope.columns ≤ 1024 → IsPart tables part
+
 -- ---- tables of the schema
 
 table_columns : (name : List ℕ) (columns : List TableColumn) → map (λ (column : TableColumn). kind_of_type column.kind) columns ≡ map (λ (column : ScopeColumn). column.kind) (map (table_column name) columns)
 table_columns name [] = refl
 table_columns name (column ∷ columns) = ap (λ ks. kind_of_type column.kind ∷ ks) (table_columns name columns)
 
-scan_is : (tables : List TableRule) (name : List ℕ) (number : ℕ) (part : JoinedTables) → scan name number (slice_get tables number) ≡ Ok part → IsPart tables part
-scan_is tables name number part h = by (slice_get tables number) refl h
+scan_is : (tables : List TableRule) (name : List ℕ) (number : ℕ) (part : JoinedTables) → length part.scope.columns ≤ 1024 → scan name number (slice_get tables number) ≡ Ok part → IsPart tables part
+scan_is tables name number part few h = by (slice_get tables number) refl h
   where
-    of_table : (t : TableRule) → slice_get tables number ≡ Some t → nat_lt 1024 (length t.columns) ≡ false → HasKinds tables (Scan number (length t.columns)) (map (λ (column : ScopeColumn). column.kind) (map (table_column name) t.columns))
-    of_table t e few =
-        let narrow = ltb-false 1024 (length t.columns) few in
+    of_table : (t : TableRule) → slice_get tables number ≡ Some t → length t.columns ≤ 1024 → HasKinds tables (Scan number (length t.columns)) (map (λ (column : ScopeColumn). column.kind) (map (table_column name) t.columns))
+    of_table t e narrow =
         let long = length-map t.columns (table_column name) in
         let longer = length-map (map (table_column name) t.columns) (λ (column : ScopeColumn). column.kind) in
         let has : has_table tables number (length t.columns) ≡ true = rw e (eq-eqb (length t.columns) (length t.columns) refl) in
@@ -56,22 +59,17 @@ scan_is tables name number part h = by (slice_get tables number) refl h
               ∙ sym (slice_get-map (λ (column : TableColumn). kind_of_type column.kind) t.columns c) ∙ ap (λ ks. slice_get ks c) (table_columns name t.columns);
         }
 
-    narrow : (t : TableRule) → slice_get tables number ≡ Some t → (b : Bool) → nat_lt 1024 (length t.columns) ≡ b
-        → cond b (Err TooMany) (Ok (record { scope = record { tables = name ∷ []; columns = map (table_column name) t.columns }; plan = Scan number (length t.columns) })) ≡ Ok part → IsPart tables part
-    narrow t e true wide h = cc
-    narrow t e false few h = subst (IsPart tables) (ok_is _ _ h) (of_table t e few)
-
     by : (o : Option TableRule) → slice_get tables number ≡ o → scan name number o ≡ Ok part → IsPart tables part
     by None e h = cc
-    by (Some t) e h = narrow t e (nat_lt 1024 (length t.columns)) refl h
+    by (Some t) e h =
+        let is = ok_is _ _ h in
+        let long = ap (λ (p : JoinedTables). length p.scope.columns) is in
+        let as_many = length-map t.columns (table_column name) in
+        subst (IsPart tables) is (of_table t e (omega arith))
 
-scan_at_is : (tables : List TableRule) (name : List ℕ) (o : Option ℕ) (part : JoinedTables) → scan_at tables name o ≡ Ok part → IsPart tables part
-scan_at_is tables name None part h = cc
-scan_at_is tables name (Some number) part h = by (nat_lt number (2 ^ 16)) h
-  where
-    by : (b : Bool) → cond b (scan name number (slice_get tables number)) (Err UnknownTable) ≡ Ok part → IsPart tables part
-    by true h = scan_is tables name number part h
-    by false h = cc
+scan_at_is : (tables : List TableRule) (name : List ℕ) (o : Option ℕ) (part : JoinedTables) → length part.scope.columns ≤ 1024 → scan_at tables name o ≡ Ok part → IsPart tables part
+scan_at_is tables name None part few h = cc
+scan_at_is tables name (Some number) part few h = scan_is tables name number part few h
 
 -- ---- derived tables
 
@@ -121,11 +119,11 @@ admitted_is scope part p h = shares (list_any (scopes.has_table scope) part.scop
     shares true h = cc
     shares false h = large (is_too_large (beside scope part.scope)) refl h
 
-first_is : (tables : List TableRule) (part : JoinedTables) (from : FromSoFar) → IsPart tables part → first_admitted part ≡ Ok from → IsFrom tables from
+first_is : (tables : List TableRule) (part : JoinedTables) (from : FromSoFar) → MayBePart tables part → first_admitted part ≡ Ok from → IsFrom tables from
 first_is tables part from h e =
     let p = bound (admitted (record { tables = []; columns = [] }) part) (λ (q : JoinedTables). Ok (record { before = None; current = q })) from e in
     let a = admitted_is (record { tables = []; columns = [] }) part p.0 p.1 in
-    subst (IsFrom tables) (ok_is _ _ p.2) (subst (λ (q : JoinedTables). IsFrom tables (record { before = None; current = q })) a.0 (record { before_is = tt; current_is = h; few = a.1 }))
+    subst (IsFrom tables) (ok_is _ _ p.2) (subst (λ (q : JoinedTables). IsFrom tables (record { before = None; current = q })) a.0 (record { before_is = tt; current_is = h a.1; few = a.1 }))
 
 -- the columns of all tables stay as many, however they are grouped
 as_many : (before : Option JoinedTables) (current part : JoinedTables) (on : Option Expression) → length (beside (together before current).scope part.scope).columns ≡ length (together before (joined on current part)).scope.columns
@@ -149,17 +147,21 @@ joined_is tables from on part h is few may = record {
   few = subst (λ n. n ≤ 1024) (as_many from.before from.current part on) few;
 }
 
-comma_is : (tables : List TableRule) (from : FromSoFar) (part : JoinedTables) (next : FromSoFar) → IsFrom tables from → IsPart tables part → behind_comma from part ≡ Ok next → IsFrom tables next
+-- a part that is admitted beside others is no wider than all
+beside_few : (scope other : ScopeRule) → length (beside scope other).columns ≤ 1024 → length other.columns ≤ 1024
+beside_few scope other few = let both = length-append scope.columns other.columns in omega arith
+
+comma_is : (tables : List TableRule) (from : FromSoFar) (part : JoinedTables) (next : FromSoFar) → IsFrom tables from → MayBePart tables part → behind_comma from part ≡ Ok next → IsFrom tables next
 comma_is tables from part next h is e =
     let p = bound (next_admitted from part) (λ (q : JoinedTables). Ok (record { before = Some (together from.before from.current); current = q })) next e in
     let a = admitted_is (scope_so_far from) part p.0 p.1 in
-    subst (IsFrom tables) (ok_is _ _ p.2) (subst (λ (q : JoinedTables). IsFrom tables (record { before = Some (together from.before from.current); current = q })) a.0 (record { before_is = from_is tables from h; current_is = is; few = a.1 }))
+    subst (IsFrom tables) (ok_is _ _ p.2) (subst (λ (q : JoinedTables). IsFrom tables (record { before = Some (together from.before from.current); current = q })) a.0 (record { before_is = from_is tables from h; current_is = is (beside_few (scope_so_far from) part.scope a.1); few = a.1 }))
 
-cross_is : (tables : List TableRule) (from : FromSoFar) (part : JoinedTables) (next : FromSoFar) → IsFrom tables from → IsPart tables part → crossed from part ≡ Ok next → IsFrom tables next
+cross_is : (tables : List TableRule) (from : FromSoFar) (part : JoinedTables) (next : FromSoFar) → IsFrom tables from → MayBePart tables part → crossed from part ≡ Ok next → IsFrom tables next
 cross_is tables from part next h is e =
     let p = bound (next_admitted from part) (λ (q : JoinedTables). Ok (joined_to from None q)) next e in
     let a = admitted_is (scope_so_far from) part p.0 p.1 in
-    subst (IsFrom tables) (ok_is _ _ p.2) (subst (λ (q : JoinedTables). IsFrom tables (joined_to from None q)) a.0 (joined_is tables from None part h is a.1 refl))
+    subst (IsFrom tables) (ok_is _ _ p.2) (subst (λ (q : JoinedTables). IsFrom tables (joined_to from None q)) a.0 (joined_is tables from None part h (is (beside_few (scope_so_far from) part.scope a.1)) a.1 refl))
 
 -- a condition over both sides
 on_is : (tables : List TableRule) (left right : JoinedTables) (on : Tree) (e : Expression) → IsPart tables (joined None left right) → condition place.On (joined None left right).scope on ≡ Ok e → may_join (kinds_of tables (Join (Some e) left.plan right.plan)) (Some e) ≡ true
@@ -167,11 +169,11 @@ on_is tables left right on e h is =
     let typed = over_plan tables (Join None left.plan right.plan) (beside left.scope right.scope) e Truth h (condition_is place.On (beside left.scope right.scope) on e is) in
     and_both _ _ typed.is (rw typed.has refl)
 
-inner_is : (tables : List TableRule) (from : FromSoFar) (on : Tree) (part : JoinedTables) (next : FromSoFar) → IsFrom tables from → IsPart tables part → joined_on from on part ≡ Ok next → IsFrom tables next
+inner_is : (tables : List TableRule) (from : FromSoFar) (on : Tree) (part : JoinedTables) (next : FromSoFar) → IsFrom tables from → MayBePart tables part → joined_on from on part ≡ Ok next → IsFrom tables next
 inner_is tables from on part next h is e =
     let p = bound (next_admitted from part) (λ (q : JoinedTables). condition place.On (joined None from.current q).scope on >>= λ x. Ok (joined_to from (Some x) q)) next e in
     let a = admitted_is (scope_so_far from) part p.0 p.1 in
-    let there : IsPart tables p.0 = subst (IsPart tables) a.0 is in
+    let there : IsPart tables p.0 = subst (IsPart tables) a.0 (is (beside_few (scope_so_far from) part.scope a.1)) in
     let few : length (beside (scope_so_far from) p.0.scope).columns ≤ 1024 = subst (λ (q : JoinedTables). length (beside (scope_so_far from) q.scope).columns ≤ 1024) a.0 a.1 in
     let x = bound (condition place.On (joined None from.current p.0).scope on) (λ y. Ok (joined_to from (Some y) p.0)) next p.2 in
     let whole = part_join tables None from.current p.0 h.current_is there (current_few from.before from.current p.0 few) refl in
@@ -188,9 +190,9 @@ mutual
       let begun = first_is tables part.0 start.0 (table_is tables first part.0 part.1) start.1 in
       behind_from_is tables (together from.0.before from.0.current) parts l (from_is tables from.0 (joins_are tables joins start.0 from.0 begun from.1)) from.2
 
-  table_is : (tables : List TableRule) (t : TableTree) (part : JoinedTables) → table_meant tables t ≡ Ok part → IsPart tables part
-  table_is tables (named name alias) part e = scan_at_is tables (called name alias) (table_number tables name.text) part e
-  table_is tables (derived s alias) part e =
+  table_is : (tables : List TableRule) (t : TableTree) (part : JoinedTables) → table_meant tables t ≡ Ok part → MayBePart tables part
+  table_is tables (named name alias) part e few = scan_at_is tables (called name alias) (table_number tables name.text) part few e
+  table_is tables (derived s alias) part e few =
       let l = bound (lowered tables s) (λ x. Ok (derived_table alias.name.text x)) part e in
       subst (IsPart tables) (ok_is _ _ l.2) (derived_is tables alias.name.text l.0 (lowered_is tables s l.0 l.1))
 

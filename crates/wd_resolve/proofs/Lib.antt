@@ -1,5 +1,6 @@
 pub mod Beside
 mod SomeKeys
+mod Known
 mod More
 pub mod SortedShown
 pub mod ShownFits

@@ -48,17 +48,15 @@ abbrev pub called : Name → Option Alias → List ℕ
 called name None = name.text
 called name (Some alias) = alias.name.text
 
--- a table of the schema is a Scan; it has at most 1,024 columns (own)
+-- a table of the schema is a Scan
 abbrev pub scan : List ℕ → ℕ → Option TableRule → Meant JoinedTables
 scan name number None = Err UnknownTable
-scan name number (Some table) =
-    if nat_lt 1024 (length table.columns) then Err TooMany
-    else Ok (record { scope = record { tables = name ∷ []; columns = map (table_column name) table.columns }; plan = Scan number (length table.columns) })
+scan name number (Some table) = Ok (record { scope = record { tables = name ∷ []; columns = map (table_column name) table.columns }; plan = Scan number (length table.columns) })
 
--- the table of that number; no plan names one past the 65,536th
+-- the table of that number
 abbrev pub scan_at : List TableRule → List ℕ → Option ℕ → Meant JoinedTables
 scan_at tables name None = Err UnknownTable
-scan_at tables name (Some number) = if nat_lt number (2 ^ 16) then scan name number (slice_get tables number) else Err UnknownTable
+scan_at tables name (Some number) = scan name number (slice_get tables number)
 
 abbrev pub has_name : List ℕ → TableRule → Bool
 has_name name rule = bytes_eq rule.name name

@@ -64,13 +64,11 @@ fn scope_columns(alloc: Global, table: &Table, name: &Text) -> Result<Vec<ScopeC
     Ok(columns)
 }
 
-/// A table of the schema, which is called by a name in FROM, as a Scan: 415 past 1,024 columns.
+/// A table of the schema, which is called by a name in FROM, as a Scan.
 fn scan(alloc: Global, number: u16, table: &Table, name: Text) -> Result<JoinedTables, ResolveError>
+    requires { vec_len table.now.columns ≤ 256 }
     ensures { Gives joined_of result (spec.scan name number (Some (table_of table.now))) }
 {
-    if table.columns.len() > MOST_COLUMNS {
-        return Err(ResolveError::Refused(Cause::TooMany));
-    }
     let columns = scope_columns(alloc, table, &name)?;
     let mut tables = Vec::new(alloc);
     tables.push(name)?;
@@ -95,9 +93,6 @@ pub fn named_table(
     let Some(number) = table_number(schema, table) else {
         return Err(ResolveError::Refused(Cause::UnknownTable));
     };
-    if number > u16::MAX as usize {
-        return Err(ResolveError::Refused(Cause::UnknownTable));
-    }
     match schema.tables.get_index(number) {
         Some((_, table)) => scan(alloc, number as u16, table, name.copy(alloc)?),
         None => Err(ResolveError::Refused(Cause::UnknownTable)),
