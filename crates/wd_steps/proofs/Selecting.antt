@@ -1,19 +1,18 @@
 -- Selections of rows are Maps of columns.
-use Rattle.std.proofs.Common.{◌≡◌, ◌∙◌, ℕ, zero, suc, ◌+◌, ◌<◌, Bool, true, false, List, [], ◌∷◌, ◌++◌, map, take, drop, length, get_or, set, Result, Ok, Err, Option, Some, None, refl, sym, ap, subst, arith}
+use Rattle.std.proofs.Common.{◌≡◌, ◌∙◌, ℕ, zero, suc, ◌<◌, false, List, [], ◌∷◌, ◌++◌, map, take, drop, length, get_or, set, Result, Ok, refl, sym, ap, arith}
 use Rattle.std.specs.Prelude.{All}
 use Rattle.std.specs.List.{list_any, swap}
 use Rattle.std.proofs.lemmas.List.{ext_get_or, get_or-map, length-map, map-set, take-map}
 use Rattle.std.proofs.lemmas.List.Edits.{length-swap, swap_is}
 use Rattle.std.proofs.lemmas.List.Elements.{All-get_or}
 use Rattle.std.proofs.lemmas.List.FromFn.{get_or-range_with_len, length-range_with_len}
-use Rattle.wd_value.specs.declared.value.Value.{Value}
 use Rattle.wd_value.specs.declared.value.Value.TheVariants.{Null}
 use Rattle.wd_value.specs.declared.value.Fault.{Fault}
 use Rattle.wd_value.specs.declared.value.Fault.TheVariants.{DivisionByZero, OutOfRange}
 use Rattle.wd_value.specs.Bags.{positions}
 use Rattle.wd_value.specs.Rows.{Row, column_of}
 use Rattle.wd_plan.specs.Expressions.{Expression, Column, value_of}
-use Rattle.wd_plan.specs.Faults.{all_ok, has_fault, least_fault, unless, values_among}
+use Rattle.wd_plan.specs.Faults.{all_ok, has_fault, values_among}
 use Rattle.wd_plan.specs.Outcomes.{map_outcome}
 use Rattle.wd_steps.specs.declared.own.Exchange.{Exchange}
 use Rattle.wd_steps.specs.Selections.{AreWithin, Selects, exchanged, selected}

@@ -1,5 +1,5 @@
 -- Some columns of rows, by exchanges of places.
-use Rattle.std.specs.Prelude.{◌≡◌, ℕ, ◌<◌, List, [], ◌∷◌, All, length, map, take}
+use Rattle.std.specs.Prelude.{◌≡◌, ℕ, ◌<◌, List, [], ◌∷◌, All, map, take}
 use Rattle.std.specs.List.{swap}
 use Rattle.wd_value.specs.Bags.{positions}
 use Rattle.wd_plan.specs.Expressions.{Expression, Column}

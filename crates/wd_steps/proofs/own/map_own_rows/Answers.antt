@@ -1,9 +1,8 @@
-use Rattle.std.proofs.Common.{◌≡◌, ◌∙◌, ◌<◌, Ok, ap, length, map, sym, subst, rules}
+use Rattle.std.proofs.Common.{◌≡◌, ◌∙◌, Ok, ap, length, map, subst, rules}
 use Rattle.std.specs.Prelude.{All}
-use Rattle.wd_value.specs.Rows.{Row, rows_of}
+use Rattle.wd_value.specs.Rows.{rows_of}
 use Rattle.wd_plan.specs.Expressions.{expression_of}
-use Rattle.wd_plan.specs.Outcomes.{RowsOrFault}
-use Rattle.wd_steps.specs.Selections.{AreWithin, Selects, selected}
+use Rattle.wd_steps.specs.Selections.{Selects}
 use Rattle.wd_steps.proofs.Selecting.{selected_rows}
 use Rattle.wd_steps.proofs.own.map_own_rows.Goals as goal
 

@@ -1,4 +1,4 @@
-use Rattle.std.proofs.Common.{◌≡◌, ◌∙◌, ◌<◌, ◌++◌, [], ◌∷◌, get_or, length, take, sym, ap, arith, rules}
+use Rattle.std.proofs.Common.{◌≡◌, ◌∙◌, ◌<◌, get_or, length, take, sym, ap, arith, rules}
 use Rattle.std.specs.List.{swap}
 use Rattle.std.proofs.lemmas.List.{take_more}
 use Rattle.wd_steps.specs.declared.own.Exchange.{Exchange}

@@ -1,4 +1,4 @@
-use Rattle.std.proofs.Common.{◌≡◌, length, take}
+use Rattle.std.proofs.Common.{◌≡◌, take}
 use Rattle.wd_steps.specs.Selections.{exchanged}
 use Rattle.wd_steps.proofs.own.select.Given as goal
 

@@ -1,4 +1,4 @@
-use Rattle.std.proofs.Common.{◌≡◌, ◌∙◌, ◌<◌, ◌++◌, [], ◌∷◌, length, sym, ap, subst, arith, rules}
+use Rattle.std.proofs.Common.{◌≡◌, ◌∙◌, ◌++◌, [], ◌∷◌, length, sym, ap, subst, arith, rules}
 use Rattle.std.specs.List.{swap}
 use Rattle.std.proofs.lemmas.List.FromFn.{length-range_with_len}
 use Rattle.wd_value.specs.Bags.{positions}
