@@ -11,7 +11,7 @@ use Rattle.wd_syntax.specs.declared.expression.Literal.{Literal}
 use Rattle.wd_syntax.specs.declared.expression.Literal.TheVariants as l
 use Rattle.wd_syntax.specs.Tree as tree
 use Rattle.wd_syntax.specs.Tree.{Tree, Keys, no_keys, more_keys}
-use Rattle.wd_operand.specs.declared.cause.Cause.TheVariants.{WrongSortKey, ForeignSortKey, TooMany}
+use Rattle.wd_operand.specs.declared.cause.Cause.TheVariants.{Ambiguous, WrongSortKey, ForeignSortKey, TooMany}
 use Rattle.wd_operand.specs.Causes.{Meant}
 use Rattle.wd_operand.specs.Formulas.{Formula}
 use Rattle.wd_operand.specs.Operands.{Operand, settled}

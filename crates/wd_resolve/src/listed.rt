@@ -1,7 +1,7 @@
 //! What a select list has listed.
 
 ghost use Rattle.std.specs.Prelude.{◌≡◌, ◌≤◌, false, map, vec_len};
-ghost use Rattle.wd_select.specs.Listing.{are_wide, needs_of, needs_shown};
+ghost use Rattle.wd_select.specs.Listing.{are_wide};
 ghost use Rattle.wd_select.specs.Outputs.{expressions_of, output_of};
 
 use wd_select::{Needs, Output};
@@ -12,6 +12,5 @@ pub struct Listed {
     pub outputs: Vec<Output>,
     pub needs: Needs,
     pub ghost few: { vec_len outputs ≤ 1024 },
-    pub ghost counted: { needs_shown needs ≡ needs_of (expressions_of (map output_of outputs.items)) },
     pub ghost narrow: { are_wide (expressions_of (map output_of outputs.items)) ≡ false },
 }

@@ -15,6 +15,7 @@ ghost use Rattle.wd_select.specs.Listing.{needs_of, needs_shown};
 ghost use Rattle.wd_select.specs.Listing as listing;
 ghost use Rattle.wd_select.specs.Outputs.{output_of, expressions_of};
 ghost use Rattle.wd_select.specs.Outputs as outputs_spec;
+ghost use Rattle.wd_resolve.specs.Listings as listings;
 ghost use Rattle.wd_resolve.specs.Selected.{joined_of, from_of, lowered_of};
 ghost use Rattle.wd_resolve.specs.Selected as parts_spec;
 ghost use Rattle.wd_select.specs.Sorting.{sorted_of, shown_of, IsCounted, IsNarrow};
@@ -173,7 +174,8 @@ fn is_distinct(quantifier: Option<Quantifier>) -> bool
 
 /// No member of a select list yet.
 fn nothing_listed(alloc: Global) -> Listed
-    ensures { map output_of result.outputs.items ≡ [] }
+    ensures nothing { map output_of result.outputs.items ≡ [] }
+    ensures counted { listings.IsCounted result }
 {
     Listed {
         outputs: Vec::new(alloc),
@@ -183,7 +185,8 @@ fn nothing_listed(alloc: Global) -> Listed
 
 /// The outputs of the select list: 415 at a member that makes a node too wide.
 fn list_meant(alloc: Global, context: &Context<'_>, items: &[Item]) -> Result<Listed, ResolveError>
-    ensures { Gives (λ l. map output_of l.outputs.items) result (outputs_spec.list_meant (context_of context.now) (map view_item items.now)) }
+    ensures meant { Gives (λ l. map output_of l.outputs.items) result (outputs_spec.list_meant (context_of context.now) (map view_item items.now)) }
+    ensures counted { IfOk result (λ l. listings.IsCounted l) }
 {
     let mut listed = nothing_listed(alloc);
     for item in items {
@@ -199,7 +202,9 @@ fn item_listed(
     item: &Item,
     listed: Listed,
 ) -> Result<Listed, ResolveError>
-    ensures { Gives (λ l. map output_of l.outputs.items) result (outputs_spec.item_listed (context_of context.now) (view_item item.now) (map output_of listed.outputs.items)) }
+    requires { listings.IsCounted listed }
+    ensures meant { Gives (λ l. map output_of l.outputs.items) result (outputs_spec.item_listed (context_of context.now) (view_item item.now) (map output_of listed.outputs.items)) }
+    ensures counted { IfOk result (λ l. listings.IsCounted l) }
 {
     let more = item_meant(alloc, context, item)?;
     let (outputs, needs) = with_outputs(alloc, listed, more)?;
@@ -213,6 +218,7 @@ fn with_outputs(
     listed: Listed,
     more: Vec<Output>,
 ) -> Result<(Vec<Output>, Needs), OutOfMemory>
+    requires { listings.IsCounted listed }
     ensures outputs { IfOk result (λ p. map output_of p.0.items ≡ map output_of listed.outputs.items ++ map output_of more.items) }
     ensures counted { IfOk result (λ p. needs_shown p.1 ≡ needs_of (expressions_of (map output_of p.0.items))) }
 {
@@ -230,7 +236,8 @@ fn with_outputs(
 #[tactic(auto, using(crate::proofs::More::few_listed))]
 fn narrow(outputs: Vec<Output>, needs: Needs) -> Result<Listed, ResolveError>
     requires { needs_shown needs ≡ needs_of (expressions_of (map output_of outputs.items)) }
-    ensures { Gives (λ l. map output_of l.outputs.items) result (outputs_spec.narrow (map output_of outputs.items)) }
+    ensures meant { Gives (λ l. map output_of l.outputs.items) result (outputs_spec.narrow (map output_of outputs.items)) }
+    ensures counted { IfOk result (λ l. listings.IsCounted l) }
 {
     if are_wide(&outputs, &needs) {
         Err(ResolveError::Refused(Cause::TooMany))
@@ -267,6 +274,7 @@ fn shown_sorted(
     limits: Option<Limits>,
     plan: Plan,
 ) -> Result<LoweredSelect, ResolveError>
+    requires { listings.IsCounted listed }
     ensures { Gives lowered_of result (spec.shown_sorted (spec.shown_by (scope_of scope.now) distinct (map output_of listed.outputs.items)) (keys_of (map view_key order.now)) limits (plan_of plan)) }
 {
     let Listed { outputs, needs } = listed;
