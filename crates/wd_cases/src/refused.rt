@@ -1,8 +1,8 @@
 //! The refusals of texts, by their numbers and places.
 use crate::failure::Failure;
 use wd_lex::LexError;
-use wd_operand::ResolveError;
 use wd_parse::ParseError;
+use wd_resolve_operand::ResolveError;
 use wd_schema::SchemaError;
 
 impl From<LexError> for Failure {

@@ -5,7 +5,7 @@ use crate::tree::query_for;
 use crate::{operand, plan, refusal, run, scope, select};
 use std::alloc::Global;
 use wd_cases::{Cases, Failure};
-use wd_scope::Scope;
+use wd_resolve_scope::Scope;
 use wd_syntax::{Query, Select};
 
 impl Cases for Given {

@@ -1,7 +1,7 @@
 //! What earlier lines gave: a schema, data of tables, and what was met over the schema since.
 use std::alloc::Global;
 use wd_cases::{Failure, NamedTexts, SchemaText};
-use wd_select::Needs;
+use wd_resolve_select::Needs;
 
 #[derive(Drop)]
 pub struct Given {

@@ -1,19 +1,19 @@
-//! What wd_operand makes of operands. An operand is written as one to four words with a blank
+//! What wd_resolve_operand makes of operands. An operand is written as one to four words with a blank
 //! between two of them: a literal (`5`, `TRUE`, `NULL`) or a column with its kind (`#3:Text`), or a
 //! sign, an operator, a test or a CASE over such.
 use crate::shown;
 use crate::tree::written;
 use std::alloc::Global;
 use wd_cases::Failure;
-use wd_operand::{
+use wd_plan::{Expr, ValueKind, same_kind};
+use wd_resolve_operand::{
     CaseArm, Formula, case_of, combined, literal, negated, signed, signed_number, tested,
 };
-use wd_plan::{Expr, ValueKind, same_kind};
-use wd_scope::SelectLeaf;
-use wd_select::Needs;
+use wd_resolve_scope::SelectLeaf;
+use wd_resolve_select::Needs;
 use wd_syntax::{Literal, Operator, Sign};
 
-type Meaning = wd_operand::Meaning<SelectLeaf>;
+type Meaning = wd_resolve_operand::Meaning<SelectLeaf>;
 
 fn kind_named(word: &str) -> Result<ValueKind, Failure> {
     match word {
@@ -108,7 +108,11 @@ fn arms(alloc: Global, when: Meaning, gives: &str) -> Result<Vec<CaseArm<SelectL
     Ok(arms)
 }
 
-fn case_over(alloc: Global, arms: Vec<CaseArm<SelectLeaf>>, otherwise: &str) -> Result<Meaning, Failure> {
+fn case_over(
+    alloc: Global,
+    arms: Vec<CaseArm<SelectLeaf>>,
+    otherwise: &str,
+) -> Result<Meaning, Failure> {
     let otherwise = meaning(alloc, otherwise)?;
     Ok(case_of(alloc, arms, otherwise)?)
 }
@@ -144,7 +148,7 @@ fn expression_of(alloc: Global, text: &str) -> Result<Expr, Failure> {
 
 /// `number N`: the number where it fits 64 bits with a sign.
 pub fn number(alloc: Global, text: &str) -> Result<String, Failure> {
-    let number = wd_operand::number(number_of(text)?)?;
+    let number = wd_resolve_operand::number(number_of(text)?)?;
     written(alloc, &number)
 }
 

@@ -4,13 +4,13 @@ use crate::shown;
 use crate::tree::{first_expression, written};
 use std::alloc::Global;
 use wd_cases::Failure;
-use wd_operand::{Meaning, ResolveError};
 use wd_plan::ValueKind;
-use wd_schema::{Schema, Table};
-use wd_scope::{
+use wd_resolve_operand::{Meaning, ResolveError};
+use wd_resolve_scope::{
     Context, KnownWindow, MOST_COLUMNS, Place, Scope, ScopeColumn, SelectLeaf, all_defined,
 };
-use wd_select::Needs;
+use wd_resolve_select::Needs;
+use wd_schema::{Schema, Table};
 use wd_syntax::{Expr, Select};
 use wd_value::{ColumnType, Text};
 
@@ -90,7 +90,7 @@ fn is_table(alloc: Global, scope: &Scope, text: &str) -> Result<String, Failure>
 /// `plain EXPRESSION`: what it means where no window call may stand.
 pub fn plain(alloc: Global, scope: &Scope, select: &Select) -> Result<String, Failure> {
     let tree = first_expression(select).ok_or(Failure::NoCase)?;
-    let meaning = wd_scope::plain(alloc, scope, Place::SortKey, tree)?;
+    let meaning = wd_resolve_scope::plain(alloc, scope, Place::SortKey, tree)?;
     shown::meaning(alloc, scope.columns.len(), &mut Needs::new(alloc), meaning)
 }
 
@@ -99,27 +99,23 @@ pub fn condition(alloc: Global, scope: &Scope, select: &Select) -> Result<String
     let tree = first_expression(select).ok_or(Failure::NoCase)?;
     written(
         alloc,
-        &wd_scope::condition(alloc, scope, Place::Where, tree)?,
+        &wd_resolve_scope::condition(alloc, scope, Place::Where, tree)?,
     )
 }
 
 /// `written_number EXPRESSION`
 pub fn written_number(alloc: Global, select: &Select) -> Result<String, Failure> {
     let tree = first_expression(select).ok_or(Failure::NoCase)?;
-    written(alloc, &wd_scope::written_number(tree))
+    written(alloc, &wd_resolve_scope::written_number(tree))
 }
 
-fn in_list(
-    alloc: Global,
-    scope: &Scope,
-    tree: &Expr,
-) -> Result<Meaning<SelectLeaf>, ResolveError> {
+fn in_list(alloc: Global, scope: &Scope, tree: &Expr) -> Result<Meaning<SelectLeaf>, ResolveError> {
     let context = Context {
         scope,
         windows: &[],
         place: Place::SelectList,
     };
-    wd_scope::resolved(alloc, &context, tree)
+    wd_resolve_scope::resolved(alloc, &context, tree)
 }
 
 /// `resolved EXPRESSION`: what it means in a select list, after the calls that were met before it.
@@ -162,5 +158,5 @@ fn push_window(out: &mut String, known: &KnownWindow) -> Result<(), Failure> {
 /// `sort_key WORDS`: the key of an expression with such words after it.
 pub fn sort_key(alloc: Global, select: &Select) -> Result<String, Failure> {
     let key = select.order.first().ok_or(Failure::NoCase)?;
-    written(alloc, &wd_scope::sort_key(key.direction, key.nulls))
+    written(alloc, &wd_resolve_scope::sort_key(key.direction, key.nulls))
 }

@@ -4,10 +4,10 @@ use crate::shown;
 use crate::tree::written;
 use std::alloc::Global;
 use wd_cases::Failure;
-use wd_operand::Formula;
 use wd_plan::{Expr, Plan};
-use wd_scope::{Context, Place, Scope, SelectLeaf};
-use wd_select::{
+use wd_resolve_operand::Formula;
+use wd_resolve_scope::{Context, Place, Scope, SelectLeaf};
+use wd_resolve_select::{
     Cut, Needs, Output, Shown, Sorted, cut_meant, deduplicated, filtered, item_meant, keys_sorted,
     limited, without_hidden,
 };
@@ -95,7 +95,7 @@ pub fn is_wide(alloc: Global, text: &str) -> Result<String, Failure> {
 }
 
 /// The sort keys of a query over its outputs. A select list that is too wide is no case.
-#[tactic(auto, using(wd_select::proofs::Counted::many_listed))]
+#[tactic(auto, using(wd_resolve_select::proofs::Counted::many_listed))]
 fn keys_over(
     alloc: Global,
     scope: &Scope,
@@ -208,7 +208,7 @@ fn mapped_over(
     if needs.is_wide(formulas.len()) {
         return Err(Failure::NoCase);
     }
-    Ok(wd_select::mapped(alloc, needs, formulas, scan(scope))?)
+    Ok(wd_resolve_select::mapped(alloc, needs, formulas, scan(scope))?)
 }
 
 /// `mapped QUERY`: its outputs and hidden columns over its calls and the first table.

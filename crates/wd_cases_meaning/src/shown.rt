@@ -2,10 +2,10 @@
 //! order in which they were met.
 use std::alloc::Global;
 use wd_cases::Failure;
-use wd_operand::{Formula, Meaning};
 use wd_plan::Expr;
-use wd_scope::{SelectLeaf, WindowCall, same_call};
-use wd_select::Needs;
+use wd_resolve_operand::{Formula, Meaning};
+use wd_resolve_scope::{SelectLeaf, WindowCall, same_call};
+use wd_resolve_select::Needs;
 
 /// The number of a call among those that were met.
 fn number_of(calls: &[WindowCall], call: &WindowCall) -> usize {
@@ -65,7 +65,10 @@ fn over_columns(
         }
         Formula::IsNull(a) => boxed(alloc, Expr::IsNull(over_columns(alloc, width, needs, a)?)),
         Formula::IsNotNull(a) => {
-            boxed(alloc, Expr::IsNotNull(over_columns(alloc, width, needs, a)?))
+            boxed(
+                alloc,
+                Expr::IsNotNull(over_columns(alloc, width, needs, a)?),
+            )
         }
         Formula::Case(branch, a, b, c) => {
             let a = over_columns(alloc, width, needs, a)?;

@@ -1,9 +1,9 @@
-//! What the calls of wd_cursor give at the front of a text's tokens, and how many tokens are left
+//! What the calls of wd_read_cursor give at the front of a text's tokens, and how many tokens are left
 //! after it.
 use std::alloc::Global;
 use wd_cases::Failure;
-use wd_cursor::{Name, Refusal, eat, eat_name, expect, name_at};
 use wd_lex::{Terminal, Token, TokenKind};
+use wd_read_cursor::{Name, Refusal, eat, eat_name, expect, name_at};
 
 fn refused(alloc: Global, refusal: Refusal) -> Result<String, Failure> {
     Ok(match refusal {

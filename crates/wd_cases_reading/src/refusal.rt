@@ -32,8 +32,8 @@ pub fn laws(alloc: Global) -> Result<String, Failure> {
     wd_lex::laws::longest_front();
     wd_lex::laws::comments_come_first();
     wd_parse::laws::one_tree();
-    wd_statements::laws::one_tree();
-    wd_statements::laws::one_place();
+    wd_read_statements::laws::one_tree();
+    wd_read_statements::laws::one_place();
     wd_schema::laws::one_meaning();
     Ok(String::from_str(alloc, "hold")?)
 }

@@ -1,7 +1,7 @@
 use std::alloc::{AllocError, Global};
 use wd_cases::Failure;
 use wd_lex::Token;
-use wd_statements::{
+use wd_read_statements::{
     ColumnRule, Element, KeyWords, Name, Nulls, Rule, Statements, WrittenColumn, WrittenKey,
     WrittenTable, read_statements,
 };

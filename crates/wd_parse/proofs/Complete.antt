@@ -4,7 +4,7 @@ use Rattle.std.proofs.lemmas.Bool.{cases_lt}
 use Rattle.wd_lex.specs.declared.token.Terminal.{Terminal}
 use Rattle.wd_lex.specs.declared.token.Terminal.TheVariants as m
 use Rattle.wd_lex.specs.declared.token.TokenKind.TheVariants as t
-use Rattle.wd_cursor.specs.declared.name.Name.{Name}
+use Rattle.wd_read_cursor.specs.declared.name.Name.{Name}
 use Rattle.wd_syntax.specs.declared.frame.Frame.{Frame}
 use Rattle.wd_syntax.specs.declared.frame.FrameMode.{FrameMode}
 use Rattle.wd_syntax.specs.declared.frame.FrameMode.TheVariants.{Rows, Range, Groups}
@@ -24,16 +24,16 @@ use Rattle.wd_syntax.specs.declared.expression.SortDirection.{SortDirection}
 use Rattle.wd_syntax.specs.declared.expression.SortDirection.TheVariants.{Ascending, Descending}
 use Rattle.wd_syntax.specs.declared.expression.NullsPlace.{NullsPlace}
 use Rattle.wd_syntax.specs.declared.expression.NullsPlace.TheVariants as p
-use Rattle.wd_cursor.specs.Tokens.{Kinds, ◌▸◌, written, name_kind}
+use Rattle.wd_read_cursor.specs.Tokens.{Kinds, ◌▸◌, written, name_kind}
 use Rattle.wd_syntax.specs.Tokens.{literal_kind, operator_terminal, sign_terminal, operator_height}
 use Rattle.wd_syntax.specs.Tree.{Tree, Constant, Column, Qualified, CallAll, Call, Case, Bracket, Signed, Binary, IsNull, Negated, Trees, no_trees, more_trees, Arms, no_arms, more_arms, Otherwise, no_else, or_else, OverTree, no_over, over_name, over_window, WindowTree, window, Keys, no_keys, more_keys, Key, trees_of, arms_of, keys_of, Each}
 use Rattle.wd_syntax.specs.Spelling.{mode_onto, bound_onto, extent_onto, exclusion_onto, frame_onto, direction_onto, nulls_onto, not_onto, base_onto, onto, list_onto, more_onto, arms_onto, else_onto, over_onto, window_onto, partition_onto, order_onto, more_keys_onto}
 use Rattle.wd_syntax.specs.Levels.{height, left_height, IsLevelled, AreLevelled, ArmsLevelled, ElseLevelled, OverLevelled, WindowLevelled, KeysLevelled}
 use Rattle.wd_syntax.specs.Limits.{operators}
 use Rattle.wd_parse.proofs.Fitting.{Below, Fits, AllFit, ArmsFit, ElseFits, OverFits, WindowFits, KeysFit}
-use Rattle.wd_cursor.specs.Cursor.{Unexpected, Limit, ◌>>=◌, Reads, Parser, Chance, eat, expect, eat_name, many, after, list_at}
+use Rattle.wd_read_cursor.specs.Cursor.{Unexpected, Limit, ◌>>=◌, Reads, Parser, Chance, eat, expect, eat_name, many, after, list_at}
 use Rattle.wd_parse.specs.Reading.{operator_at, sign_at, frame_at, direction_at, nulls_at, key_at, partition_at, order_at, window_at, links, compared, null_at, tests, arguments_at, call_of, enter, over_at, call_at, named_at, arm_at, else_at, case_at, bracket_at, primary, goes_on, levels, deeper_of, star_at}
-use Rattle.wd_cursor.proofs.Eaten.{eat_same, expect_same, eat_name_same, name_at_same, eat_name_kind, eat_other, eqb-same}
+use Rattle.wd_read_cursor.proofs.Eaten.{eat_same, expect_same, eat_name_same, name_at_same, eat_name_kind, eat_other, eqb-same}
 use Rattle.wd_parse.proofs.TerminalFacts.{sign_name_kind, grips, grip_stops, eqb-below, operator_stops, operator_same, operator_grip, operator_bounds, sign_same, clauses, clause_stops, clause_grips}
 use Rattle.wd_parse.proofs.Pieces.{frame_same, frame_clause, direction_same, nulls_same, nulls_begins, base_same}
 

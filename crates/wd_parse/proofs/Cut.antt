@@ -4,22 +4,22 @@ use Rattle.wd_lex.specs.declared.token.Terminal.{Terminal}
 use Rattle.wd_lex.specs.declared.token.Terminal.TheVariants as m
 use Rattle.wd_lex.specs.declared.token.TokenKind.{TokenKind}
 use Rattle.wd_lex.specs.declared.token.TokenKind.TheVariants as t
-use Rattle.wd_cursor.specs.declared.name.Name.{Name}
+use Rattle.wd_read_cursor.specs.declared.name.Name.{Name}
 use Rattle.wd_syntax.specs.declared.expression.Operator.{Operator}
 use Rattle.wd_syntax.specs.declared.expression.Sign.{Sign}
 use Rattle.wd_syntax.specs.declared.expression.Literal.TheVariants as l
-use Rattle.wd_cursor.specs.Tokens.{Kinds, ◌▸◌, name_kind}
+use Rattle.wd_read_cursor.specs.Tokens.{Kinds, ◌▸◌, name_kind}
 use Rattle.wd_syntax.specs.Tokens.{operator_terminal, sign_terminal, operator_height}
 use Rattle.wd_syntax.specs.Tree.{Tree, Constant, Column, Qualified, CallAll, Call, Case, Bracket, Signed, Binary, IsNull, Negated, Trees, no_trees, more_trees, no_arms, more_arms, Otherwise, no_else, or_else, no_over, over_name, over_window, WindowTree, window, no_keys, Key, trees_of, arms_of, keys_of, Each}
 use Rattle.wd_syntax.specs.Spelling.{direction_onto, nulls_onto, not_onto, base_onto, onto, list_onto, more_onto, arms_onto, else_onto, over_onto, window_onto, partition_onto, order_onto}
 use Rattle.wd_syntax.specs.Levels.{height, left_height, IsLevelled, AreLevelled, ArmsLevelled, ElseLevelled, OverLevelled, WindowLevelled, KeysLevelled}
 use Rattle.wd_syntax.specs.Limits.{operators}
 use Rattle.wd_parse.proofs.Fitting.{Fits}
-use Rattle.wd_cursor.specs.Cursor.{Fault, Unexpected, Limit, ◌>>=◌, Reads, Parser, Chance, choose, eat, expect, name_at, if_begun, many, after, list_at}
+use Rattle.wd_read_cursor.specs.Cursor.{Fault, Unexpected, Limit, ◌>>=◌, Reads, Parser, Chance, choose, eat, expect, name_at, if_begun, many, after, list_at}
 use Rattle.wd_parse.specs.Reading.{operator_at, sign_at, frame_at, direction_at, nulls_at, key_at, partition_at, order_at, base_at, window_at, link, ended, links, compared, null_at, tests, arguments_at, call_of, enter, over_at, call_at, named_at, arm_at, else_at, case_at, bracket_at, primary_by_terminal, primary, signed_by, goes_on, levels, deeper_of}
 use Rattle.std.proofs.Common.{◌++◌}
 use Rattle.wd_parse.proofs.Passing.{Passes, OnePasses, ArmPasses, ElsePasses, OverPasses, WindowPasses, KeyPasses}
-use Rattle.wd_cursor.proofs.Eaten.{eqb-same}
+use Rattle.wd_read_cursor.proofs.Eaten.{eqb-same}
 use Rattle.wd_parse.proofs.Complete.{operand_first, operators_zero}
 use Rattle.wd_parse.proofs.SoundPieces.{Kept, Holds, MayHold, at_terminal, IsPart, all_onto, led_by, after_holds, list_holds, expect_holds, base_is, IsListed}
 use Rattle.wd_parse.proofs.Sound.{left_chain, key_onto, arm_onto, trees_spelled, keys_spelled, arms_spelled, null_is, operator_at_is, IsOperator, sign_is, IsRead, Sound, Within, whole_expression, Good, Whole, GoodKey, GoodArm, GoodTrees, GoodKeys, arguments_closed, trees_onto, keys_row_onto, key_holds, arm_holds, partition_holds, order_holds, arguments_below, ArgumentsBelow, each_left, sound}

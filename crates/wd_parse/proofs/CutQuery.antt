@@ -3,15 +3,15 @@ use Rattle.std.proofs.Common.{◌≡◌, ℕ, zero, suc, ◌≤◌, ◌⊎◌, i
 use Rattle.wd_lex.specs.declared.token.Terminal.TheVariants as m
 use Rattle.wd_lex.specs.declared.token.TokenKind.{TokenKind}
 use Rattle.wd_lex.specs.declared.token.TokenKind.TheVariants as t
-use Rattle.wd_cursor.specs.declared.name.Name.{Name}
+use Rattle.wd_read_cursor.specs.declared.name.Name.{Name}
 use Rattle.wd_syntax.specs.declared.query.Alias.{Alias}
 use Rattle.wd_syntax.specs.declared.query.Quantifier.{Quantifier}
-use Rattle.wd_cursor.specs.Tokens.{Kinds, ◌▸◌, name_kind}
+use Rattle.wd_read_cursor.specs.Tokens.{Kinds, ◌▸◌, name_kind}
 use Rattle.wd_syntax.specs.Tree.{Tree, WindowTree, Keys, no_keys, ItemTree, all_columns, shown, TableTree, named, derived, JoinTree, comma, cross, inner, Joins, no_joins, SelectTree, select, QueryTree, query, keys_of, joins_of, Each}
 use Rattle.wd_syntax.specs.Spelling.{onto, window_onto, order_onto, quantifier_onto, given_onto, item_onto, items_onto, filter_onto, named_window_onto, windows_onto, table_onto, join_onto, joins_onto, select_onto, spell}
 use Rattle.wd_syntax.specs.Levels.{IsLevelled, WindowLevelled, KeysLevelled, ItemLevelled, IsSomeItem, OptionLevelled, TableLevelled, JoinLevelled, JoinsLevelled, SelectLevelled, IsWellLevelled}
 use Rattle.wd_parse.proofs.Fitting.{ItemFits}
-use Rattle.wd_cursor.specs.Cursor.{◌>>=◌, Reads, Parser, choose, eat, expect, name_at, many, list_at}
+use Rattle.wd_read_cursor.specs.Cursor.{◌>>=◌, Reads, Parser, choose, eat, expect, name_at, many, list_at}
 use Rattle.wd_parse.specs.Reading.{order_at, window_at, enter, levels, deeper_of, read, quantifier_at, given_at, alias_at, star_at, item_if, item_at, filter_at, named_window_at, windows_at, limits_at, Inner, table_at, inner_at, join_at, from_at, select_at, selects, inside_of, if_last, whole}
 use Rattle.std.proofs.Common.{◌++◌}
 use Rattle.std.specs.Prelude.{codes}

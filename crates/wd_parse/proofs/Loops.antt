@@ -8,15 +8,15 @@ use Rattle.wd_lex.specs.declared.token.Terminal.TheVariants as m
 use Rattle.wd_syntax.specs.declared.expression.Operator.{Operator}
 use Rattle.wd_syntax.specs.declared.expression.Link.{Link}
 use Rattle.wd_syntax.specs.View.{view, view_link, chained, tested}
-use Rattle.wd_cursor.specs.Tokens.{Kinds}
+use Rattle.wd_read_cursor.specs.Tokens.{Kinds}
 use Rattle.wd_syntax.specs.Tree.{Tree, Binary, IsNull}
-use Rattle.wd_cursor.specs.Cursor.{◌>>=◌, Unexpected, Limit, Reads, Parser, eat}
+use Rattle.wd_read_cursor.specs.Cursor.{◌>>=◌, Unexpected, Limit, Reads, Parser, eat}
 use Rattle.wd_parse.specs.Reading.{operator_at, null_at, tests, links, read, inside_of, selects, select_at}
 use Rattle.wd_parse.proofs.Complete.{operand_first}
 use Rattle.wd_parse.proofs.CompleteQuery.{selects_are}
-use Rattle.wd_cursor.specs.declared.refusal.Refusal.{Refusal}
-use Rattle.wd_cursor.specs.declared.refusal.Refusal.TheVariants as r
-use Rattle.wd_cursor.specs.Given.{Fails}
+use Rattle.wd_read_cursor.specs.declared.refusal.Refusal.{Refusal}
+use Rattle.wd_read_cursor.specs.declared.refusal.Refusal.TheVariants as r
+use Rattle.wd_read_cursor.specs.Given.{Fails}
 use Rattle.wd_parse.specs.Given.{IsChainHeight}
 
 -- tokens and what they say are as many

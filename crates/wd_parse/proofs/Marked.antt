@@ -1,8 +1,8 @@
 -- A tree fits into the limits exactly where each of its marks is within them, and where it passes one a mark of it is past it.
 use Rattle.std.proofs.Common.{◌≡◌, ℕ, zero, suc, ◌+◌, ◌⊎◌, inl, inr, ◌↔◌, List, [], ◌∷◌, ◌++◌, Option, Some, None, sym, arith, ⊎_elim}
 use Rattle.wd_lex.specs.declared.token.Terminal.TheVariants as m
-use Rattle.wd_cursor.specs.declared.name.Name.{Name}
-use Rattle.wd_cursor.specs.Tokens.{Kinds, ◌▸◌}
+use Rattle.wd_read_cursor.specs.declared.name.Name.{Name}
+use Rattle.wd_read_cursor.specs.Tokens.{Kinds, ◌▸◌}
 use Rattle.wd_syntax.specs.Tree.{Tree, Constant, Column, Qualified, CallAll, Call, Case, Bracket, Signed, Binary, IsNull, Negated, Trees, no_trees, more_trees, Arms, no_arms, more_arms, Otherwise, no_else, or_else, OverTree, no_over, over_name, over_window, WindowTree, window, Keys, no_keys, more_keys, ItemTree, all_columns, all_of, shown, Tail, TableTree, named, derived, JoinTree, comma, cross, inner, Joins, no_joins, more_joins, SelectTree, select, QueryTree, query, Each, One}
 use Rattle.wd_syntax.specs.Spelling.{frame_onto, else_onto, over_onto, window_onto, order_onto, given_onto, end_onto}
 use Rattle.wd_syntax.specs.Limits.{Mark, opened, marks, list_marks, arms_marks, else_marks, over_marks, bracketed_marks, keys_marks, item_marks, items_marks, filter_marks, windows_marks, tail_marks, table_marks, join_marks, joins_marks, select_marks, query_marks, IsWithin, IsPast, IsPastAt, KeepsLimits}

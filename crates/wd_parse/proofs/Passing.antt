@@ -2,8 +2,8 @@
 -- of its chain.
 use Rattle.std.specs.Prelude.{◌≡◌, ◌⊎◌, ℕ, zero, suc, List, [], ◌∷◌, Option, Some, None}
 use Rattle.wd_lex.specs.declared.token.Terminal.TheVariants as m
-use Rattle.wd_cursor.specs.declared.name.Name.{Name}
-use Rattle.wd_cursor.specs.Tokens.{Kinds, ◌▸◌}
+use Rattle.wd_read_cursor.specs.declared.name.Name.{Name}
+use Rattle.wd_read_cursor.specs.Tokens.{Kinds, ◌▸◌}
 use Rattle.wd_syntax.specs.Tokens.{operator_terminal, sign_terminal, operator_height}
 use Rattle.wd_syntax.specs.Tree.{Tree, Constant, Column, Qualified, CallAll, Call, Case, Bracket, Signed, Binary, IsNull, Negated, Trees, no_trees, more_trees, Arms, no_arms, more_arms, Otherwise, no_else, or_else, OverTree, no_over, over_name, over_window, WindowTree, window, Keys, no_keys, more_keys, ItemTree, all_columns, all_of, shown, TableTree, named, derived, JoinTree, comma, cross, inner, Joins, no_joins, more_joins, SelectTree, select, QueryTree, query}
 use Rattle.wd_syntax.specs.Spelling.{frame_onto, direction_onto, nulls_onto, not_onto, onto, list_onto, more_onto, arms_onto, else_onto, over_onto, window_onto, order_onto, more_keys_onto, given_onto, alias_onto, more_items_onto, more_windows_onto, windows_onto, limits_onto, tail_onto, table_onto, joins_onto, select_onto, end_onto}

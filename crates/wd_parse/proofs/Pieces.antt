@@ -3,8 +3,8 @@ use Rattle.std.proofs.Common.{◌≡◌, ℕ, ◌<◌, Bool, true, false, [], �
 use Rattle.wd_lex.specs.declared.token.Terminal.{Terminal}
 use Rattle.wd_lex.specs.declared.token.Terminal.TheVariants as m
 use Rattle.wd_lex.specs.declared.token.TokenKind.TheVariants as t
-use Rattle.wd_cursor.specs.declared.words.KeyWord.TheVariants as k
-use Rattle.wd_cursor.specs.declared.name.Name.{Name}
+use Rattle.wd_read_cursor.specs.declared.words.KeyWord.TheVariants as k
+use Rattle.wd_read_cursor.specs.declared.name.Name.{Name}
 use Rattle.wd_syntax.specs.declared.frame.Frame.{Frame}
 use Rattle.wd_syntax.specs.declared.frame.FrameMode.{FrameMode}
 use Rattle.wd_syntax.specs.declared.frame.FrameMode.TheVariants.{Rows, Range, Groups}
@@ -30,11 +30,11 @@ use Rattle.wd_syntax.specs.declared.query.Count.{Count}
 use Rattle.wd_syntax.specs.declared.query.Count.TheVariants as c
 use Rattle.wd_syntax.specs.declared.query.Limits.{Limits}
 use Rattle.wd_syntax.specs.declared.query.Limits.TheVariants.{OffsetFirst, CountFirst}
-use Rattle.wd_cursor.specs.Tokens.{Kinds, ◌▸◌, name_kind}
+use Rattle.wd_read_cursor.specs.Tokens.{Kinds, ◌▸◌, name_kind}
 use Rattle.wd_syntax.specs.Spelling.{mode_onto, bound_onto, extent_onto, excluded_onto, exclusion_onto, frame_onto, direction_onto, nulls_onto, base_onto, quantifier_onto, as_onto, given_onto, alias_onto, row_onto, row_option_onto, offset_onto, fetch_onto, number_onto, ties_onto, count_onto, offset_option_onto, count_option_onto, limits_onto}
-use Rattle.wd_cursor.specs.Cursor.{eat, eat_word, expect_word, number_at, optional}
+use Rattle.wd_read_cursor.specs.Cursor.{eat, eat_word, expect_word, number_at, optional}
 use Rattle.wd_parse.specs.Reading.{mode_if, mode_at, side_at, bound_at, extent_at, excluded_at, exclusion_at, frame_at, direction_at, nulls_at, base_at, quantifier_at, given_at, alias_at, star_at, row_at, offset_at, fetch_word_at, number_option_at, ties_at, fetch_at, limit_at, count_if, offset_if, limits_at}
-use Rattle.wd_cursor.proofs.Eaten.{eat_same, expect_same, eat_word_same, eat_name_same, name_at_same, eat_name_kind}
+use Rattle.wd_read_cursor.proofs.Eaten.{eat_same, expect_same, eat_word_same, eat_name_same, name_at_same, eat_name_kind}
 use Rattle.wd_parse.proofs.TerminalFacts.{clause, clauses, clause_stops, clause_no_name, clause_no_word}
 
 -- ---- frames

@@ -3,20 +3,20 @@ use Rattle.std.proofs.Common.{◌≡◌, ◌≢◌, ℕ, zero, suc, ◌+◌, ◌
 use Rattle.wd_lex.specs.declared.token.Terminal.{Terminal}
 use Rattle.wd_lex.specs.declared.token.Terminal.TheVariants as m
 use Rattle.wd_lex.specs.declared.token.TokenKind.TheVariants as t
-use Rattle.wd_cursor.specs.declared.name.Name.{Name}
+use Rattle.wd_read_cursor.specs.declared.name.Name.{Name}
 use Rattle.wd_syntax.specs.declared.expression.Operator.{Operator}
 use Rattle.wd_syntax.specs.declared.expression.Sign.{Sign}
-use Rattle.wd_cursor.specs.Tokens.{Kinds, ◌▸◌, name_kind}
+use Rattle.wd_read_cursor.specs.Tokens.{Kinds, ◌▸◌, name_kind}
 use Rattle.wd_syntax.specs.Tokens.{operator_terminal, sign_terminal, operator_height}
 use Rattle.wd_syntax.specs.Tree.{Tree, Column, Qualified, Case, Bracket, Signed, Binary, IsNull, Negated, Trees, Otherwise, no_else, or_else, OverTree, no_over, over_name, over_window, WindowTree, window, Key, trees_of, arms_of, keys_of, Each}
 use Rattle.wd_syntax.specs.Spelling.{frame_onto, direction_onto, nulls_onto, not_onto, base_onto, onto, list_onto, more_onto, arms_onto, else_onto, over_onto, window_onto, partition_onto, order_onto, more_keys_onto}
 use Rattle.wd_syntax.specs.Levels.{height, left_height, IsLevelled, AreLevelled, ArmsLevelled, ElseLevelled, OverLevelled, WindowLevelled, KeysLevelled}
 use Rattle.wd_syntax.specs.Limits.{operators}
 use Rattle.wd_parse.proofs.Fitting.{Below, Fits, AllFit, ArmsFit, ElseFits, OverFits, WindowFits, KeysFit}
-use Rattle.wd_cursor.specs.Cursor.{Fault, Limit, ◌>>=◌, Reads, Parser, choose, eat, expect, with_rest, name_at, list_at}
+use Rattle.wd_read_cursor.specs.Cursor.{Fault, Limit, ◌>>=◌, Reads, Parser, choose, eat, expect, with_rest, name_at, list_at}
 use Rattle.wd_parse.specs.Reading.{operator_of, operator_if, operator_at, sign_of, sign_at, frame_at, direction_at, nulls_at, key_at, partition_at, order_at, base_at, window_at, link, ended, links, compared, null_at, tests, arguments_at, call_of, enter, over_at, call_at, named_at, arm_at, else_at, case_at, bracket_at, primary_by_terminal, primary, signed_by, goes_on, levels, deeper_of}
 use Rattle.std.proofs.lemmas.Bool.{eqb-true}
-use Rattle.wd_cursor.proofs.Eaten.{not_same}
+use Rattle.wd_read_cursor.proofs.Eaten.{not_same}
 use Rattle.wd_parse.proofs.SoundPieces.{kept_if, Kept, Holds, then_holds, at_terminal, past_terminal, past_name, IsPart, Spelled, all_onto, led_by, IsListed, list_holds, frame_is, direction_is, nulls_is, base_is, looser_holds}
 use Rattle.wd_parse.proofs.Complete.{operators_more, operand_first, operators_zero}
 

@@ -4,9 +4,9 @@ use Rattle.wd_lex.specs.declared.token.Terminal.{Terminal}
 use Rattle.wd_lex.specs.declared.token.Terminal.TheVariants as m
 use Rattle.wd_lex.specs.declared.token.TokenKind.TheVariants as t
 use Rattle.wd_lex.specs.Terminals.{terminal_code}
-use Rattle.wd_cursor.specs.declared.words.KeyWord.{KeyWord}
-use Rattle.wd_cursor.specs.declared.words.KeyWord.TheVariants as k
-use Rattle.wd_cursor.specs.declared.name.Name.{Name}
+use Rattle.wd_read_cursor.specs.declared.words.KeyWord.{KeyWord}
+use Rattle.wd_read_cursor.specs.declared.words.KeyWord.TheVariants as k
+use Rattle.wd_read_cursor.specs.declared.name.Name.{Name}
 use Rattle.wd_syntax.specs.declared.frame.Frame.{Frame}
 use Rattle.wd_syntax.specs.declared.frame.FrameMode.{FrameMode}
 use Rattle.wd_syntax.specs.declared.frame.Bound.{Bound}
@@ -30,10 +30,10 @@ use Rattle.wd_syntax.specs.declared.query.Count.{Count}
 use Rattle.wd_syntax.specs.declared.query.Count.TheVariants as c
 use Rattle.wd_syntax.specs.declared.query.Limits.{Limits}
 use Rattle.wd_syntax.specs.declared.query.Limits.TheVariants.{OffsetFirst, CountFirst}
-use Rattle.wd_cursor.specs.Tokens.{Kinds, ◌▸◌, ◌▹◌, letters, name_kind}
+use Rattle.wd_read_cursor.specs.Tokens.{Kinds, ◌▸◌, ◌▹◌, letters, name_kind}
 use Rattle.wd_syntax.specs.Tree.{Each}
 use Rattle.wd_syntax.specs.Spelling.{mode_onto, bound_onto, extent_onto, excluded_onto, exclusion_onto, frame_onto, direction_onto, nulls_onto, base_onto, quantifier_onto, given_onto, alias_onto, row_onto, row_option_onto, offset_onto, fetch_onto, number_onto, ties_onto, count_onto, offset_option_onto, count_option_onto, limits_onto}
-use Rattle.wd_cursor.specs.Cursor.{Fault, ◌>>=◌, Reads, Parser, Chance, choose, eat, expect, eat_word, expect_word, with_rest, eat_name, name_at, number_at, some_or_unexpected, if_begun, many, after, list_at, try, optional}
+use Rattle.wd_read_cursor.specs.Cursor.{Fault, ◌>>=◌, Reads, Parser, Chance, choose, eat, expect, eat_word, expect_word, with_rest, eat_name, name_at, number_at, some_or_unexpected, if_begun, many, after, list_at, try, optional}
 use Rattle.wd_parse.specs.Reading.{mode_if, mode_at, side_at, unbounded, away, bound_at, extent_at, excluded_at, exclusion_at, frame_if, frame_at, direction_at, nulls_at, base_if, base_at, quantifier_at, given_at, bare_if, alias_at, star_if, star_at, row_at, row_if, offset_at, fetch_word_at, number_if, number_option_at, ties_at, fetch_at, limit_at, count_if, offset_if, limits_at}
 use Rattle.std.proofs.lemmas.Bool.{eqb-true}
 use Rattle.std.proofs.lemmas.Slice.Eq.{bytes_eq-Decides}

@@ -3,17 +3,17 @@ use Rattle.std.proofs.Common.{◌≡◌, ℕ, ◌<◌, ◌≤◌, Bool, true, fa
 use Rattle.wd_lex.specs.declared.token.Terminal.{Terminal}
 use Rattle.wd_lex.specs.declared.token.Terminal.TheVariants as m
 use Rattle.wd_lex.specs.declared.token.TokenKind.TheVariants as t
-use Rattle.wd_cursor.specs.declared.words.KeyWord.{KeyWord}
-use Rattle.wd_cursor.specs.declared.name.Name.{Name}
+use Rattle.wd_read_cursor.specs.declared.words.KeyWord.{KeyWord}
+use Rattle.wd_read_cursor.specs.declared.name.Name.{Name}
 use Rattle.wd_syntax.specs.declared.expression.Operator.{Operator}
 use Rattle.wd_syntax.specs.declared.expression.Operator.TheVariants as o
 use Rattle.wd_syntax.specs.declared.expression.Sign.{Sign}
 use Rattle.wd_syntax.specs.declared.expression.Sign.TheVariants as s
-use Rattle.wd_cursor.specs.Tokens.{Kinds, ◌▸◌, written, name_kind}
+use Rattle.wd_read_cursor.specs.Tokens.{Kinds, ◌▸◌, written, name_kind}
 use Rattle.wd_syntax.specs.Tokens.{operator_terminal, sign_terminal, operator_height}
-use Rattle.wd_cursor.proofs.Eaten.{eat_other}
+use Rattle.wd_read_cursor.proofs.Eaten.{eat_other}
 use Rattle.wd_syntax.specs.Levels.{left_height}
-use Rattle.wd_cursor.specs.Cursor.{eat, eat_word, eat_name}
+use Rattle.wd_read_cursor.specs.Cursor.{eat, eat_word, eat_name}
 use Rattle.wd_parse.specs.Reading.{operator_of, operator_at, operator_if, sign_at}
 
 sign_written : (b : Bool) (text : List ℕ) (ts : Kinds) → sign_at (written b text ∷ ts) ≡ None

@@ -1,13 +1,13 @@
 -- One token list has at most one well-levelled tree.
 use Rattle.std.proofs.Common.{◌≡◌, ℕ, zero, suc, ◌+◌, ◌≤◌, Bool, true, false, cond, eqb, List, [], ◌∷◌, Option, Some, None, Result, Ok, Err, sym, ap, ◌∙◌, arith}
-use Rattle.wd_cursor.specs.declared.name.Name.{Name}
+use Rattle.wd_read_cursor.specs.declared.name.Name.{Name}
 use Rattle.wd_syntax.specs.Tokens.{operator_height}
 use Rattle.wd_syntax.specs.Tree.{Tree, Constant, Column, Qualified, CallAll, Call, Case, Bracket, Signed, Binary, IsNull, Negated, Trees, no_trees, more_trees, Arms, no_arms, more_arms, Otherwise, no_else, or_else, OverTree, no_over, over_name, over_window, WindowTree, window, Keys, no_keys, more_keys, ItemTree, all_columns, all_of, shown, TableTree, named, derived, JoinTree, comma, cross, inner, Joins, no_joins, more_joins, SelectTree, select, QueryTree, query, Each}
 use Rattle.wd_syntax.specs.Spelling.{spell}
 use Rattle.wd_syntax.specs.Levels.{IsWellLevelled}
 use Rattle.wd_syntax.specs.Limits.{operators}
 use Rattle.wd_parse.proofs.Fitting.{Below, Fits, AllFit, ArmsFit, ElseFits, OverFits, WindowFits, KeysFit, ItemFits, OptionFits, TableFits, JoinFits, JoinsFit, SelectFits, QueryFits}
-use Rattle.wd_cursor.specs.Cursor.{Fault, Unexpected, Limit}
+use Rattle.wd_read_cursor.specs.Cursor.{Fault, Unexpected, Limit}
 use Rattle.wd_parse.specs.Reading.{whole}
 use Rattle.wd_syntax.specs.Laws.{HasOneTree}
 use Rattle.wd_parse.proofs.CompleteQuery.{Answers, whole_answers}

@@ -2,14 +2,14 @@
 use Rattle.std.proofs.Common.{◌≡◌, ℕ, suc, ◌+◌, ◌-◌, length, length-append, ◌∷◌, Result, Ok, Err, ap, subst, ◌∙◌, arith}
 use Rattle.std.specs.Prelude.{IfOk, IfErr}
 use Rattle.wd_syntax.specs.declared.query.Query.{Query}
-use Rattle.wd_cursor.specs.Tokens.{Kinds}
+use Rattle.wd_read_cursor.specs.Tokens.{Kinds}
 use Rattle.wd_syntax.specs.Tree.{QueryTree}
 use Rattle.wd_syntax.specs.View.{view_query}
 use Rattle.wd_syntax.specs.Limits.{KeepsLimits, PassesLimitAt}
 use Rattle.wd_syntax.specs.Laws.{IsTreeOf}
 use Rattle.wd_parse.proofs.CutPieces.{CutBy}
 use Rattle.wd_parse.proofs.CutQuery.{Passed, whole_cuts}
-use Rattle.wd_cursor.specs.Cursor.{Fault, Limit as PastLimits, Unexpected as NoTree}
+use Rattle.wd_read_cursor.specs.Cursor.{Fault, Limit as PastLimits, Unexpected as NoTree}
 use Rattle.wd_parse.specs.Reading.{whole}
 use Rattle.wd_parse.proofs.SoundPieces.{Holds}
 use Rattle.wd_parse.proofs.SoundQuery.{IsQuery, whole_holds}

@@ -1,7 +1,7 @@
 -- Refusals: their numbers and places, and what stands in the tokens where they are answered.
 use Rattle.std.specs.Prelude.{◌≡◌, ℕ, Option, Some, None, Result, Ok, Err}
 use Rattle.wd_syntax.specs.declared.query.Query.{Query}
-use Rattle.wd_cursor.specs.Tokens.{Kinds}
+use Rattle.wd_read_cursor.specs.Tokens.{Kinds}
 use Rattle.wd_syntax.specs.Tree.{QueryTree}
 use Rattle.wd_syntax.specs.View.{view_query}
 use Rattle.wd_syntax.specs.Limits.{KeepsLimits, PassesLimitAt}

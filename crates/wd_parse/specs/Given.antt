@@ -5,16 +5,16 @@ use Rattle.wd_syntax.specs.declared.expression.Expr.{Expr}
 use Rattle.wd_syntax.specs.declared.query.From.{From}
 use Rattle.wd_syntax.specs.Tree.{Tree, TableTree, JoinTree}
 use Rattle.wd_syntax.specs.View.{view, view_table, view_joined}
-use Rattle.wd_cursor.specs.Cursor.{Limit as PastLimits, Unexpected as NoTree}
-use Rattle.wd_cursor.specs.Tokens.{Kinds}
+use Rattle.wd_read_cursor.specs.Cursor.{Limit as PastLimits, Unexpected as NoTree}
+use Rattle.wd_read_cursor.specs.Tokens.{Kinds}
 use Rattle.wd_syntax.specs.declared.query.Query.{Query}
 use Rattle.wd_syntax.specs.Limits.{most_levels, most_operators}
 use Rattle.wd_syntax.specs.View.{view_query}
 use Rattle.wd_parse.specs.Reading.{read, deeper_of, inside_of, selects, whole}
 use Rattle.wd_parse.specs.declared.error.ParseError.{ParseError}
 use Rattle.wd_parse.specs.declared.error.ParseError.TheVariants.{Unexpected, PastLimit, OutOfMemory}
-use Rattle.wd_cursor.specs.declared.refusal.Refusal.{Refusal}
-use Rattle.wd_cursor.specs.declared.refusal.Refusal.TheVariants as r
+use Rattle.wd_read_cursor.specs.declared.refusal.Refusal.{Refusal}
+use Rattle.wd_read_cursor.specs.declared.refusal.Refusal.TheVariants as r
 
 -- One level fewer, if one is left.
 abbrev pub MakesDeeper : Result ℕ Refusal → ℕ → ℕ → Type 0

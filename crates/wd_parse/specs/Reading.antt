@@ -3,8 +3,8 @@ use Rattle.std.specs.Prelude.{ℕ, zero, suc, ◌==◌, if◌then◌else◌, Lis
 use Rattle.wd_lex.specs.declared.token.Terminal.{Terminal}
 use Rattle.wd_lex.specs.declared.token.Terminal.TheVariants as m
 use Rattle.wd_lex.specs.declared.token.TokenKind.TheVariants as t
-use Rattle.wd_cursor.specs.declared.words.KeyWord.TheVariants as k
-use Rattle.wd_cursor.specs.declared.name.Name.{Name}
+use Rattle.wd_read_cursor.specs.declared.words.KeyWord.TheVariants as k
+use Rattle.wd_read_cursor.specs.declared.name.Name.{Name}
 use Rattle.wd_syntax.specs.declared.frame.Frame.{Frame}
 use Rattle.wd_syntax.specs.declared.frame.FrameMode.{FrameMode}
 use Rattle.wd_syntax.specs.declared.frame.FrameMode.TheVariants.{Rows, Range, Groups}
@@ -35,11 +35,11 @@ use Rattle.wd_syntax.specs.declared.query.Count.{Count}
 use Rattle.wd_syntax.specs.declared.query.Count.TheVariants as c
 use Rattle.wd_syntax.specs.declared.query.Limits.{Limits}
 use Rattle.wd_syntax.specs.declared.query.Limits.TheVariants.{OffsetFirst, CountFirst}
-use Rattle.wd_cursor.specs.Tokens.{Kinds}
+use Rattle.wd_read_cursor.specs.Tokens.{Kinds}
 use Rattle.wd_syntax.specs.declared.expression.Height.TheVariants as height
 use Rattle.wd_syntax.specs.Tokens.{operator_height, rank, whole_height}
-use Rattle.wd_cursor.specs.Tokens.{Kinds}
-use Rattle.wd_cursor.specs.Cursor.{Fault, Unexpected, Limit, ◌>>=◌, Reads, Parser, Chance, choose, eat, some_or_unexpected, expect, eat_word, expect_word, with_rest, eat_name, name_at, number_at, many, list_at, try, optional}
+use Rattle.wd_read_cursor.specs.Tokens.{Kinds}
+use Rattle.wd_read_cursor.specs.Cursor.{Fault, Unexpected, Limit, ◌>>=◌, Reads, Parser, Chance, choose, eat, some_or_unexpected, expect, eat_word, expect_word, with_rest, eat_name, name_at, number_at, many, list_at, try, optional}
 use Rattle.wd_syntax.specs.Tree.{Tree, Constant, Column, Qualified, CallAll, Call, Case, Bracket, Signed, Binary, IsNull, Negated, Otherwise, no_else, or_else, OverTree, no_over, over_name, over_window, WindowTree, window, ItemTree, all_columns, all_of, shown, TableTree, named, derived, JoinTree, comma, cross, inner, SelectTree, select, QueryTree, query, Key, trees_of, arms_of, keys_of, joins_of}
 
 -- an operator of that height

@@ -9,15 +9,15 @@ ghost use Rattle.wd_syntax.specs.Tokens.{rank, whole_height};
 ghost use Rattle.wd_syntax.specs.Tree.{Tree, trees_of, arms_of, keys_of, window};
 ghost use Rattle.wd_syntax.specs.View.{view, view_link, chained, tested, view_arm, view_key, view_window, view_over_option, view_else_option};
 ghost use Rattle.wd_parse.specs.Reading.{read, levels, deeper_of, links, compared, tests, null_at, primary, primary_by_terminal, named_at, bracket_at, call_of, call_at, arguments_at, over_at, case_at, arm_at, else_at, key_at, partition_at, order_at, base_at, window_at};
-ghost use Rattle.wd_cursor.specs.Cursor.{list_at};
-ghost use Rattle.wd_cursor.specs.Given.{Gives, MayRead};
+ghost use Rattle.wd_read_cursor.specs.Cursor.{list_at};
+ghost use Rattle.wd_read_cursor.specs.Given.{Gives, MayRead};
 ghost use Rattle.wd_parse.specs.Given.{MakesDeeper, IsChainHeight, view_arguments};
 
 use crate::frame::{direction_at, frame_at, nulls_at};
 use crate::operator::{operator_at, sign_at, tighter};
 use std::alloc::Global;
-use wd_cursor::{Refusal, eat, eat_name, expect, name_at};
 use wd_lex::{Terminal, Token, TokenKind};
+use wd_read_cursor::{Refusal, eat, eat_name, expect, name_at};
 use wd_syntax::{Arm, Expr, Frame, Height, Link, Literal, Name, Over, SortKey, Window};
 
 /// The most operators of one chain.
@@ -423,7 +423,7 @@ fn over(
 }
 
 /// `expr {, expr}`
-#[tactic(auto, unfolding(wd_cursor::specs::Cursor::list_at))]
+#[tactic(auto, unfolding(wd_read_cursor::specs::Cursor::list_at))]
 #[cycle(expr)]
 fn list(alloc: Global, depth: u8, tokens: &[Token]) -> Result<(Vec<Expr>, &[Token]), Refusal>
     ensures { Gives (λ x. (map view x.0.items, kinds_of x.1.now)) result (list_at m.Comma (read most_operators depth whole_height) (kinds_of tokens.now)) }
@@ -461,7 +461,7 @@ fn arm(alloc: Global, depth: u8, tokens: &[Token]) -> Result<(Arm, &[Token]), Re
 }
 
 /// `arm {WHEN arm}`
-#[tactic(auto, unfolding(wd_cursor::specs::Cursor::list_at))]
+#[tactic(auto, unfolding(wd_read_cursor::specs::Cursor::list_at))]
 #[cycle(expr)]
 fn arms(alloc: Global, depth: u8, tokens: &[Token]) -> Result<(Vec<Arm>, &[Token]), Refusal>
     ensures { Gives (λ x. (map view_arm x.0.items, kinds_of x.1.now)) result (list_at m.When (arm_at (read most_operators depth whole_height)) (kinds_of tokens.now)) }
@@ -532,7 +532,7 @@ fn key(alloc: Global, depth: u8, tokens: &[Token]) -> Result<(SortKey, &[Token])
 }
 
 /// `key {, key}`
-#[tactic(auto, unfolding(wd_cursor::specs::Cursor::list_at))]
+#[tactic(auto, unfolding(wd_read_cursor::specs::Cursor::list_at))]
 #[cycle(expr)]
 fn keys(alloc: Global, depth: u8, tokens: &[Token]) -> Result<(Vec<SortKey>, &[Token]), Refusal>
     ensures { Gives (λ x. (map view_key x.0.items, kinds_of x.1.now)) result (list_at m.Comma (key_at (read most_operators depth whole_height)) (kinds_of tokens.now)) }

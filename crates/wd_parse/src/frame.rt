@@ -2,11 +2,11 @@
 
 ghost use Rattle.wd_lex.specs.Lexed.{kinds_of};
 ghost use Rattle.wd_parse.specs.Reading.{mode_if, mode_at, side_at, bound_at, extent_at, excluded_at, exclusion_at, frame_at, direction_at, nulls_at};
-ghost use Rattle.wd_cursor.specs.Given.{Gives, Finds};
+ghost use Rattle.wd_read_cursor.specs.Given.{Gives, Finds};
 ghost use Rattle.std.specs.Prelude.{◌≡◌};
 
-use wd_cursor::{KeyWord, Refusal, eat, eat_word, expect, expect_word, number_at};
 use wd_lex::{Terminal, Token, TokenKind};
+use wd_read_cursor::{KeyWord, Refusal, eat, eat_word, expect, expect_word, number_at};
 use wd_syntax::{Bound, Exclusion, Extent, Frame, FrameMode, NullsPlace, SortDirection};
 
 fn mode_of(terminal: Terminal) -> Option<FrameMode>

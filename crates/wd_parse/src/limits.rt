@@ -3,10 +3,10 @@
 ghost use Rattle.std.specs.Prelude.{◌≡◌};
 ghost use Rattle.wd_lex.specs.Lexed.{kinds_of};
 ghost use Rattle.wd_parse.specs.Reading.{row_at, offset_at, fetch_word_at, number_option_at, ties_at, fetch_at, limit_at, count_if, offset_if, limits_at};
-ghost use Rattle.wd_cursor.specs.Given.{Gives, Finds, MayGive};
+ghost use Rattle.wd_read_cursor.specs.Given.{Gives, Finds, MayGive};
 
-use wd_cursor::{KeyWord, Refusal, eat, eat_word, expect_word, number_at, unexpected};
 use wd_lex::{Terminal, Token, TokenKind};
+use wd_read_cursor::{KeyWord, Refusal, eat, eat_word, expect_word, number_at, unexpected};
 use wd_syntax::{Count, FetchWord, Limits, Offset, RowWord};
 
 /// `ROW` or `ROWS`, where it stands first.
@@ -50,7 +50,7 @@ fn fetch_word_at(tokens: &[Token]) -> Result<(FetchWord, &[Token]), Refusal>
 }
 
 /// `[number]`
-#[tactic(auto, unfolding(crate::specs::Reading::number_option_at, wd_cursor::specs::Cursor::number_at))]
+#[tactic(auto, unfolding(crate::specs::Reading::number_option_at, wd_read_cursor::specs::Cursor::number_at))]
 fn number_option_at(tokens: &[Token]) -> (Option<u64>, &[Token])
     ensures { number_option_at (kinds_of tokens.now) ≡ (result.0, kinds_of result.1.now) }
 {

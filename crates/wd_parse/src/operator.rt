@@ -2,7 +2,7 @@
 
 ghost use Rattle.std.specs.Prelude.{◌≡◌, ◌-◌};
 ghost use Rattle.wd_lex.specs.Lexed.{kinds_of};
-ghost use Rattle.wd_cursor.specs.Given.{Finds};
+ghost use Rattle.wd_read_cursor.specs.Given.{Finds};
 ghost use Rattle.wd_syntax.specs.Tokens as spec;
 ghost use Rattle.wd_parse.specs.Reading.{operator_of, operator_at, sign_at};
 

@@ -12,8 +12,8 @@ ghost use Rattle.wd_parse.specs.Given.{Answers};
 use crate::error::ParseError;
 use crate::query::whole;
 use std::alloc::Global;
-use wd_cursor::{Refusal, token_place};
 use wd_lex::Token;
+use wd_read_cursor::{Refusal, token_place};
 use wd_syntax::Query;
 
 fn answer(alloc: Global, tokens: &[Token]) -> Result<Query, ParseError>

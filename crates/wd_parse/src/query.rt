@@ -7,16 +7,16 @@ ghost use Rattle.wd_syntax.specs.Tokens.{whole_height};
 ghost use Rattle.wd_syntax.specs.Tree.{derived, query};
 ghost use Rattle.wd_syntax.specs.View.{view_item, view_named_window, view_option, view_table, view_joined, view_select, view_query};
 ghost use Rattle.wd_parse.specs.Reading.{read, deeper_of, inside_of, selects, quantifier_at, given_at, alias_at, star_at, filter_at, windows_at, table_at, inner_at, join_at, from_at, if_last, whole};
-ghost use Rattle.wd_cursor.specs.Cursor.{list_at, many};
-ghost use Rattle.wd_cursor.specs.Given.{Gives, MayFind, MayGive};
+ghost use Rattle.wd_read_cursor.specs.Cursor.{list_at, many};
+ghost use Rattle.wd_read_cursor.specs.Given.{Gives, MayFind, MayGive};
 ghost use Rattle.wd_parse.specs.Given.{view_from};
 
 use crate::expr;
 use crate::expr::deeper;
 use crate::limits::limits_at;
 use std::alloc::Global;
-use wd_cursor::{Reader, Refusal, eat, eat_name, expect, list_at, name_at, unexpected};
 use wd_lex::{Terminal, Token};
+use wd_read_cursor::{Reader, Refusal, eat, eat_name, expect, list_at, name_at, unexpected};
 use wd_syntax::{
     Alias, Expr, From, Item, Joined, Name, NamedWindow, Quantifier, Query, Select, Table,
 };
@@ -168,7 +168,7 @@ struct NamedWindows {
 }
 
 impl Reader for NamedWindows {
-    ghost use Rattle.wd_cursor.specs.declared.name.Name.{Name as NameTree};
+    ghost use Rattle.wd_read_cursor.specs.declared.name.Name.{Name as NameTree};
     ghost use Rattle.wd_syntax.specs.Tree.{WindowTree};
     ghost use Rattle.wd_syntax.specs.Limits.{most_operators};
     ghost use Rattle.wd_syntax.specs.View.{view_named_window};

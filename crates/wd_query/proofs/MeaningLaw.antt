@@ -10,7 +10,7 @@ use Rattle.wd_syntax.specs.Laws.{IsTreeOf}
 use Rattle.wd_syntax.specs.Tree.{QueryTree}
 use Rattle.wd_parse.proofs.Unique.{one_tree}
 use Rattle.wd_parse.specs.declared.error.ParseError.TheVariants as parse_error
-use Rattle.wd_operand.specs.declared.cause.ResolveError.TheVariants as resolve_error
+use Rattle.wd_resolve_operand.specs.declared.cause.ResolveError.TheVariants as resolve_error
 use Rattle.wd_schema.specs.Refusals as refusals
 use Rattle.wd_schema.specs.Tables.{TableRule}
 use Rattle.wd_schema.specs.Texts.{Declares}

@@ -13,8 +13,8 @@ use Rattle.wd_schema.specs.Tables.{TableRule}
 use Rattle.wd_schema.specs.Texts as schemas
 use Rattle.wd_schema.specs.Texts.{Declares}
 use Rattle.wd_schema.specs.declared.error.SchemaError.TheVariants as schema_error
-use Rattle.wd_operand.specs.Causes as meanings
-use Rattle.wd_operand.specs.declared.cause.ResolveError.{ResolveError}
+use Rattle.wd_resolve_operand.specs.Causes as meanings
+use Rattle.wd_resolve_operand.specs.declared.cause.ResolveError.{ResolveError}
 use Rattle.wd_resolve.specs.Answers.{answer}
 use Rattle.wd_query.specs.declared.error.QueryError.{QueryError}
 use Rattle.wd_query.specs.declared.error.QueryError.TheVariants as query_error

@@ -4,7 +4,7 @@ use Rattle.std.specs.List.{list_any, position_or_len}
 use Rattle.std.specs.Str.{bytes_eq}
 use Rattle.std.proofs.lemmas.List.Folds.{list_any-append}
 use Rattle.wd_schema.specs.Tables.{TableRule}
-use Rattle.wd_scope.specs.Scopes.{ScopeRule, beside, has_table}
+use Rattle.wd_resolve_scope.specs.Scopes.{ScopeRule, beside, has_table}
 use Rattle.wd_resolve.specs.Selected.{has_name, is_named}
 
 pub has_table_beside : (left right : ScopeRule) (name : List ℕ) → has_table (beside left right) name ≡ (has_table left name || has_table right name)

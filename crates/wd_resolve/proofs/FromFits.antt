@@ -11,22 +11,22 @@ use Rattle.wd_plan.specs.Expressions.{Expression}
 use Rattle.wd_plan.specs.Fits.{fits, has_table, kind_of_type, kinds_of, may_join, table_kind}
 use Rattle.wd_plan.specs.Plans.{Scan, Join}
 use Rattle.wd_syntax.specs.Tree.{Tree, TableTree, named, derived, JoinTree, comma, cross, inner, Joins, no_joins, more_joins, SelectTree, select, QueryTree, query}
-use Rattle.wd_operand.specs.declared.cause.Cause.TheVariants.{UnknownTable, Ambiguous, TooMany}
-use Rattle.wd_operand.specs.Causes.{◌>>=◌}
-use Rattle.wd_scope.specs.declared.scope.ScopeColumn.{ScopeColumn}
-use Rattle.wd_scope.specs.Resolving.{condition}
-use Rattle.wd_scope.specs.Scopes.{ScopeRule, beside}
-use Rattle.wd_scope.specs.Scopes as scopes
-use Rattle.wd_scope.proofs.Typing.{and_both, bound, ok_is}
-use Rattle.wd_scope.specs.declared.context.Place.TheVariants as place
-use Rattle.wd_scope.proofs.TypedPlain.{condition_is}
-use Rattle.wd_select.specs.declared.output.OutputColumn.{OutputColumn}
-use Rattle.wd_select.specs.Steps.{Lowered}
+use Rattle.wd_resolve_operand.specs.declared.cause.Cause.TheVariants.{UnknownTable, Ambiguous, TooMany}
+use Rattle.wd_resolve_operand.specs.Causes.{◌>>=◌}
+use Rattle.wd_resolve_scope.specs.declared.scope.ScopeColumn.{ScopeColumn}
+use Rattle.wd_resolve_scope.specs.Resolving.{condition}
+use Rattle.wd_resolve_scope.specs.Scopes.{ScopeRule, beside}
+use Rattle.wd_resolve_scope.specs.Scopes as scopes
+use Rattle.wd_resolve_scope.proofs.Typing.{and_both, bound, ok_is}
+use Rattle.wd_resolve_scope.specs.declared.context.Place.TheVariants as place
+use Rattle.wd_resolve_scope.proofs.TypedPlain.{condition_is}
+use Rattle.wd_resolve_select.specs.declared.output.OutputColumn.{OutputColumn}
+use Rattle.wd_resolve_select.specs.Steps.{Lowered}
 use Rattle.wd_resolve.specs.Selected.{FromSoFar, JoinedTables, admitted, called, derived_column, derived_table, first_admitted, is_too_large, joined, next_admitted, scan, scan_at, scope_so_far, table_column, table_number, together}
 use Rattle.wd_resolve.specs.Lowering.{behind_comma, behind_from, crossed, join_meant, joined_on, joined_to, joins_meant, lowered, lowering, table_meant}
 use Rattle.wd_resolve.specs.Answers.{Answer, name_in}
 use Rattle.wd_resolve.specs.Laws.{PlansFit}
-use Rattle.wd_select.proofs.PlanKinds.{HasKinds, join_is, output_kinds, over_plan, scope_kinds}
+use Rattle.wd_resolve_select.proofs.PlanKinds.{HasKinds, join_is, output_kinds, over_plan, scope_kinds}
 use Rattle.wd_resolve.proofs.ShownFits.{IsLowered, behind_from_is}
 
 -- a plan that fits, and gives the columns in scope

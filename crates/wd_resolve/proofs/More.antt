@@ -2,13 +2,13 @@
 use Rattle.std.proofs.Common.{◌≡◌, ◌∙◌, sym, ap, ◌≤◌, false, arith, List, ◌++◌, length, map}
 use Rattle.std.proofs.lemmas.Bool.{ltb-false, or_parts}
 use Rattle.std.proofs.lemmas.List.{length-map, map-append}
-use Rattle.wd_select.specs.declared.needs.Needs.{Needs as CodeNeeds}
-use Rattle.wd_select.specs.declared.output.Output.{Output}
-use Rattle.wd_select.specs.declared.shown.Sorted.{Sorted as CodeSorted}
-use Rattle.wd_select.specs.Listing.{all_leaves, are_wide, is_wide, is_window_wide, needs_of, needs_shown, needs_with}
-use Rattle.wd_select.specs.Outputs.{expressions_of, output_of}
-use Rattle.wd_select.specs.Sorting.{IsCounted, IsNarrow, Shown, sorted_of}
-use Rattle.wd_select.proofs.Counted.{many_listed, needs_more}
+use Rattle.wd_resolve_select.specs.declared.needs.Needs.{Needs as CodeNeeds}
+use Rattle.wd_resolve_select.specs.declared.output.Output.{Output}
+use Rattle.wd_resolve_select.specs.declared.shown.Sorted.{Sorted as CodeSorted}
+use Rattle.wd_resolve_select.specs.Listing.{all_leaves, are_wide, is_wide, is_window_wide, needs_of, needs_shown, needs_with}
+use Rattle.wd_resolve_select.specs.Outputs.{expressions_of, output_of}
+use Rattle.wd_resolve_select.specs.Sorting.{IsCounted, IsNarrow, Shown, sorted_of}
+use Rattle.wd_resolve_select.proofs.Counted.{many_listed, needs_more}
 
 pub needs_listed : (outputs more : List Output) → needs_of (expressions_of (map output_of (outputs ++ more))) ≡ needs_with (needs_of (expressions_of (map output_of outputs))) (all_leaves (expressions_of (map output_of more)))
 needs_listed outputs more = ap (λ os. needs_of (expressions_of os)) (map-append output_of outputs more) ∙ needs_more (map output_of outputs) (map output_of more)

@@ -8,32 +8,32 @@ use Rattle.wd_plan.specs.declared.expression.ValueKind.{ValueKind}
 use Rattle.wd_plan.specs.declared.expression.ValueKind.TheVariants.{Truth}
 use Rattle.wd_value.specs.declared.order.SortColumn.{SortColumn}
 use Rattle.wd_plan.specs.Plans.{PlanTree, Filter, Map}
-use Rattle.wd_cursor.specs.declared.name.Name.{Name}
+use Rattle.wd_read_cursor.specs.declared.name.Name.{Name}
 use Rattle.wd_syntax.specs.declared.query.Count.{Count}
 use Rattle.wd_syntax.specs.declared.query.Count.TheVariants as written
 use Rattle.wd_syntax.specs.declared.query.Limits.{Limits}
 use Rattle.wd_syntax.specs.declared.query.Limits.TheVariants.{OffsetFirst, CountFirst}
 use Rattle.wd_syntax.specs.declared.query.Quantifier.{Quantifier}
 use Rattle.wd_syntax.specs.Tree.{Tree, ItemTree, Keys, Parts}
-use Rattle.wd_operand.specs.Causes.{◌>>=◌}
-use Rattle.wd_operand.specs.Operands.{number}
-use Rattle.wd_scope.specs.Resolving.{ContextRule, all_defined, condition}
-use Rattle.wd_scope.specs.Scopes.{ScopeRule}
-use Rattle.wd_scope.specs.Windows.{KnownMeaning}
-use Rattle.wd_scope.specs.Typed.{AreKnown, kinds_in}
-use Rattle.wd_scope.proofs.Typing.{bound, ok_is}
-use Rattle.wd_scope.specs.declared.context.Place.TheVariants as place
-use Rattle.wd_scope.proofs.TypedPlain.{all_defined_is, condition_is}
+use Rattle.wd_resolve_operand.specs.Causes.{◌>>=◌}
+use Rattle.wd_resolve_operand.specs.Operands.{number}
+use Rattle.wd_resolve_scope.specs.Resolving.{ContextRule, all_defined, condition}
+use Rattle.wd_resolve_scope.specs.Scopes.{ScopeRule}
+use Rattle.wd_resolve_scope.specs.Windows.{KnownMeaning}
+use Rattle.wd_resolve_scope.specs.Typed.{AreKnown, kinds_in}
+use Rattle.wd_resolve_scope.proofs.Typing.{bound, ok_is}
+use Rattle.wd_resolve_scope.specs.declared.context.Place.TheVariants as place
+use Rattle.wd_resolve_scope.proofs.TypedPlain.{all_defined_is, condition_is}
 use Rattle.wd_resolve.specs.Selected.{JoinedTables}
-use Rattle.wd_select.specs.Listing.{are_wide}
-use Rattle.wd_select.specs.Outputs.{OutputMeaning, expressions_of, list_meant}
-use Rattle.wd_select.specs.Sorting.{Cut, Shown, Sorted, all_shown, count_meant, cut_meant, fetched, keys_sorted, offset_meant, tied, unsorted}
-use Rattle.wd_select.specs.Steps.{Lowered, columns_from, column_shown, deduplicated, filtered, limited, lowered_shown, mapped, without_hidden}
+use Rattle.wd_resolve_select.specs.Listing.{are_wide}
+use Rattle.wd_resolve_select.specs.Outputs.{OutputMeaning, expressions_of, list_meant}
+use Rattle.wd_resolve_select.specs.Sorting.{Cut, Shown, Sorted, all_shown, count_meant, cut_meant, fetched, keys_sorted, offset_meant, tied, unsorted}
+use Rattle.wd_resolve_select.specs.Steps.{Lowered, columns_from, column_shown, deduplicated, filtered, limited, lowered_shown, mapped, without_hidden}
 use Rattle.wd_resolve.specs.Lowering.{behind_from, is_distinct, is_sorted, selected, shown_by, shown_sorted}
-use Rattle.wd_select.proofs.PlanKinds.{AreWithin, HasKinds, distinct_is, filter_is, first_columns_is, limit_is, output_kinds, over_plan, scope_kinds}
-use Rattle.wd_select.proofs.SeatedFormulas.{formulas_append, formulas_many}
-use Rattle.wd_select.proofs.Windowed.{mapped_is}
-use Rattle.wd_select.proofs.ListedOutputs.{AreOutputs, IsListed, kinds_shown, list_is, outputs_formulas}
+use Rattle.wd_resolve_select.proofs.PlanKinds.{AreWithin, HasKinds, distinct_is, filter_is, first_columns_is, limit_is, output_kinds, over_plan, scope_kinds}
+use Rattle.wd_resolve_select.proofs.SeatedFormulas.{formulas_append, formulas_many}
+use Rattle.wd_resolve_select.proofs.Windowed.{mapped_is}
+use Rattle.wd_resolve_select.proofs.ListedOutputs.{AreOutputs, IsListed, kinds_shown, list_is, outputs_formulas}
 use Rattle.wd_resolve.proofs.SortedShown.{HasSome, IsSorted, keys_sorted_is}
 
 -- ---- DISTINCT, limits and hidden sort keys

@@ -6,31 +6,31 @@ use Rattle.std.proofs.lemmas.List.{length_push}
 use Rattle.wd_value.specs.declared.order.SortKey.{SortKey}
 use Rattle.wd_plan.specs.declared.expression.ValueKind.{ValueKind}
 use Rattle.wd_value.specs.declared.order.SortColumn.{SortColumn}
-use Rattle.wd_cursor.specs.declared.name.Name.{Name}
+use Rattle.wd_read_cursor.specs.declared.name.Name.{Name}
 use Rattle.wd_syntax.specs.declared.expression.Literal.{Literal}
 use Rattle.wd_syntax.specs.declared.expression.Literal.TheVariants as l
 use Rattle.wd_syntax.specs.Tree as tree
 use Rattle.wd_syntax.specs.Tree.{Tree, Keys, no_keys, more_keys}
-use Rattle.wd_operand.specs.declared.cause.Cause.TheVariants.{Ambiguous, WrongSortKey, ForeignSortKey, TooMany}
-use Rattle.wd_operand.specs.Causes.{Meant}
-use Rattle.wd_operand.specs.Formulas.{Formula}
-use Rattle.wd_operand.specs.Operands.{Operand, settled}
-use Rattle.wd_operand.specs.Operands as operands
-use Rattle.wd_scope.specs.Leaves.{SelectLeaf}
-use Rattle.wd_scope.specs.Resolving.{plain, written_number}
-use Rattle.wd_scope.specs.Windows.{sort_key}
-use Rattle.wd_scope.specs.Typed.{IsFormula}
-use Rattle.wd_scope.proofs.Typing.{both, bound, ok_is, some_is}
-use Rattle.wd_scope.proofs.TypedOperands.{settled_is}
-use Rattle.wd_scope.proofs.Lists.{all_on, all_push}
-use Rattle.wd_scope.specs.declared.context.Place.TheVariants as place
-use Rattle.wd_scope.proofs.TypedPlain.{plain_is}
-use Rattle.wd_select.specs.Listing.{are_wide}
-use Rattle.wd_select.specs.Outputs.{OutputMeaning}
-use Rattle.wd_select.specs.Sorting.{IsNarrow, KeyPlace, Shown, Sorted, all_shown, are_one, expression_place, first_named, hidden, is_named, key_place, key_sorted, keys_sorted, literal_place, named_place, narrow_keys, or_expression, ordinal, output, output_or, shows, sorted_place, signed_place, unless_number, with_column, with_item, with_key}
+use Rattle.wd_resolve_operand.specs.declared.cause.Cause.TheVariants.{Ambiguous, WrongSortKey, ForeignSortKey, TooMany}
+use Rattle.wd_resolve_operand.specs.Causes.{Meant}
+use Rattle.wd_resolve_operand.specs.Formulas.{Formula}
+use Rattle.wd_resolve_operand.specs.Operands.{Operand, settled}
+use Rattle.wd_resolve_operand.specs.Operands as operands
+use Rattle.wd_resolve_scope.specs.Leaves.{SelectLeaf}
+use Rattle.wd_resolve_scope.specs.Resolving.{plain, written_number}
+use Rattle.wd_resolve_scope.specs.Windows.{sort_key}
+use Rattle.wd_resolve_scope.specs.Typed.{IsFormula}
+use Rattle.wd_resolve_scope.proofs.Typing.{both, bound, ok_is, some_is}
+use Rattle.wd_resolve_scope.proofs.TypedOperands.{settled_is}
+use Rattle.wd_resolve_scope.proofs.Lists.{all_on, all_push}
+use Rattle.wd_resolve_scope.specs.declared.context.Place.TheVariants as place
+use Rattle.wd_resolve_scope.proofs.TypedPlain.{plain_is}
+use Rattle.wd_resolve_select.specs.Listing.{are_wide}
+use Rattle.wd_resolve_select.specs.Outputs.{OutputMeaning}
+use Rattle.wd_resolve_select.specs.Sorting.{IsNarrow, KeyPlace, Shown, Sorted, all_shown, are_one, expression_place, first_named, hidden, is_named, key_place, key_sorted, keys_sorted, literal_place, named_place, narrow_keys, or_expression, ordinal, output, output_or, shows, sorted_place, signed_place, unless_number, with_column, with_item, with_key}
 use Rattle.wd_resolve.specs.Lowering.{is_sorted}
-use Rattle.wd_select.proofs.PlanKinds.{AreWithin}
-use Rattle.wd_select.proofs.SeatedFormulas.{AreFormulas, formulas_append}
+use Rattle.wd_resolve_select.proofs.PlanKinds.{AreWithin}
+use Rattle.wd_resolve_select.proofs.SeatedFormulas.{AreFormulas, formulas_append}
 
 -- ---- places
 

@@ -3,9 +3,9 @@ use Rattle.std.specs.Prelude.{ℕ, List, map, Ok}
 use Rattle.wd_syntax.specs.Tree.{QueryTree}
 use Rattle.wd_schema.specs.Tables.{TableRule}
 use Rattle.wd_plan.specs.Plans.{PlanTree, plan_of}
-use Rattle.wd_operand.specs.Causes.{Meant, ◌>>=◌}
+use Rattle.wd_resolve_operand.specs.Causes.{Meant, ◌>>=◌}
 use Rattle.wd_resolve.specs.declared.query.Resolved.{Resolved}
-use Rattle.wd_select.specs.declared.output.OutputColumn.{OutputColumn}
+use Rattle.wd_resolve_select.specs.declared.output.OutputColumn.{OutputColumn}
 use Rattle.wd_resolve.specs.Lowering.{lowering}
 
 pub record Answer : Type 0 where

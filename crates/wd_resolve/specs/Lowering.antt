@@ -9,15 +9,15 @@ use Rattle.wd_syntax.specs.Tree.{Tree, Keys, Parts, TableTree, named, derived, J
 use Rattle.wd_schema.specs.Tables.{TableRule}
 use Rattle.wd_plan.specs.Expressions.{Expression}
 use Rattle.wd_plan.specs.Plans.{PlanTree}
-use Rattle.wd_operand.specs.Causes.{Meant, ◌>>=◌}
-use Rattle.wd_scope.specs.Resolving.{condition, all_defined}
-use Rattle.wd_scope.specs.declared.context.Place.TheVariants as place
-use Rattle.wd_scope.specs.Scopes.{ScopeRule}
-use Rattle.wd_scope.specs.Windows.{KnownMeaning}
+use Rattle.wd_resolve_operand.specs.Causes.{Meant, ◌>>=◌}
+use Rattle.wd_resolve_scope.specs.Resolving.{condition, all_defined}
+use Rattle.wd_resolve_scope.specs.declared.context.Place.TheVariants as place
+use Rattle.wd_resolve_scope.specs.Scopes.{ScopeRule}
+use Rattle.wd_resolve_scope.specs.Windows.{KnownMeaning}
 use Rattle.wd_resolve.specs.Selected.{JoinedTables, FromSoFar, called, named_table, derived_table, joined, together, first_admitted, next_admitted}
-use Rattle.wd_select.specs.Outputs.{OutputMeaning, list_meant}
-use Rattle.wd_select.specs.Sorting.{Shown, unsorted, keys_sorted, cut_meant}
-use Rattle.wd_select.specs.Steps.{Lowered, filtered, lowered_shown}
+use Rattle.wd_resolve_select.specs.Outputs.{OutputMeaning, list_meant}
+use Rattle.wd_resolve_select.specs.Sorting.{Shown, unsorted, keys_sorted, cut_meant}
+use Rattle.wd_resolve_select.specs.Steps.{Lowered, filtered, lowered_shown}
 
 -- ---- whole selects
 

@@ -3,7 +3,7 @@ use Rattle.std.specs.Prelude.{ℕ, ◌+◌, ◌^◌, ◌||◌, List, [], ◌∷�
 use Rattle.std.specs.List.{list_any}
 use Rattle.std.specs.Option.{option_map_or}
 use Rattle.std.specs.Str.{bytes_eq}
-use Rattle.wd_cursor.specs.declared.name.Name.{Name}
+use Rattle.wd_read_cursor.specs.declared.name.Name.{Name}
 use Rattle.wd_syntax.specs.declared.query.Alias.{Alias}
 use Rattle.wd_schema.specs.declared.table.Column.{Column as TableColumn}
 use Rattle.wd_schema.specs.Tables.{TableRule}
@@ -11,12 +11,12 @@ use Rattle.wd_plan.specs.declared.expression.ValueKind.{ValueKind}
 use Rattle.wd_plan.specs.Expressions.{Expression}
 use Rattle.wd_plan.specs.Fits.{kind_of_type}
 use Rattle.wd_plan.specs.Plans.{PlanTree, Scan, Join, plan_of}
-use Rattle.wd_operand.specs.declared.cause.Cause.TheVariants.{UnknownTable, Ambiguous, TooMany}
-use Rattle.wd_scope.specs.declared.scope.ScopeColumn.{ScopeColumn}
-use Rattle.wd_operand.specs.Causes.{Meant, ◌>>=◌}
-use Rattle.wd_scope.specs.Scopes.{ScopeRule, scope_of, beside, has_table}
-use Rattle.wd_select.specs.Steps.{Lowered}
-use Rattle.wd_select.specs.declared.output.OutputColumn.{OutputColumn}
+use Rattle.wd_resolve_operand.specs.declared.cause.Cause.TheVariants.{UnknownTable, Ambiguous, TooMany}
+use Rattle.wd_resolve_scope.specs.declared.scope.ScopeColumn.{ScopeColumn}
+use Rattle.wd_resolve_operand.specs.Causes.{Meant, ◌>>=◌}
+use Rattle.wd_resolve_scope.specs.Scopes.{ScopeRule, scope_of, beside, has_table}
+use Rattle.wd_resolve_select.specs.Steps.{Lowered}
+use Rattle.wd_resolve_select.specs.declared.output.OutputColumn.{OutputColumn}
 use Rattle.wd_resolve.specs.declared.part.JoinedTables.{JoinedTables as CodeJoined}
 use Rattle.wd_resolve.specs.declared.part.FromSoFar.{FromSoFar as CodeFrom}
 use Rattle.wd_resolve.specs.declared.part.LoweredSelect.{LoweredSelect}

@@ -9,5 +9,5 @@ mod select;
 mod tables;
 
 pub use query::{Resolved, resolve};
-pub use wd_operand::{Cause, ResolveError};
-pub use wd_select::OutputColumn;
+pub use wd_resolve_operand::{Cause, ResolveError};
+pub use wd_resolve_select::OutputColumn;

@@ -1,10 +1,10 @@
 //! What a select list has listed.
 
 ghost use Rattle.std.specs.Prelude.{◌≡◌, ◌≤◌, false, map, vec_len};
-ghost use Rattle.wd_select.specs.Listing.{are_wide};
-ghost use Rattle.wd_select.specs.Outputs.{expressions_of, output_of};
+ghost use Rattle.wd_resolve_select.specs.Listing.{are_wide};
+ghost use Rattle.wd_resolve_select.specs.Outputs.{expressions_of, output_of};
 
-use wd_select::{Needs, Output};
+use wd_resolve_select::{Needs, Output};
 
 /// The outputs of a select list, at most 1,024, and what they need of the rows below them; no node is too wide for them.
 #[derive(Drop)]

@@ -4,8 +4,8 @@ ghost use Rattle.std.specs.Prelude.{◌≤◌, ◌+◌, vec_len};
 ghost use Rattle.wd_resolve.specs.Widths.{tables_before, columns_before};
 
 use wd_plan::Plan;
-use wd_scope::Scope;
-use wd_select::OutputColumn;
+use wd_resolve_scope::Scope;
+use wd_resolve_select::OutputColumn;
 
 /// A plan, and the names and kinds of its columns, at most 1,024.
 #[derive(Drop)]

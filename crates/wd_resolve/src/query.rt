@@ -4,17 +4,17 @@ ghost use Rattle.std.specs.Prelude.{◌≡◌, true, map, IfOk};
 ghost use Rattle.wd_schema.specs.Schemas.{schema_of};
 ghost use Rattle.wd_plan.specs.Fits.{fits};
 ghost use Rattle.wd_plan.specs.Plans.{plan_of};
-ghost use Rattle.wd_operand.specs.Causes.{Gives};
+ghost use Rattle.wd_resolve_operand.specs.Causes.{Gives};
 ghost use Rattle.wd_syntax.specs.View.{view_query};
 ghost use Rattle.wd_resolve.specs.Answers.{resolved_of, answer, name_in};
 
 use crate::part::LoweredSelect;
 use crate::select::lowered;
 use std::alloc::Global;
-use wd_operand::ResolveError;
 use wd_plan::Plan;
+use wd_resolve_operand::ResolveError;
+use wd_resolve_select::OutputColumn;
 use wd_schema::Schema;
-use wd_select::OutputColumn;
 use wd_syntax::Query;
 use wd_value::{OutOfMemory, Text};
 

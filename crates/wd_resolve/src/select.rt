@@ -5,21 +5,21 @@ ghost use Rattle.wd_plan.specs.Plans.{plan_of};
 ghost use Rattle.wd_schema.specs.Schemas.{schema_of};
 ghost use Rattle.wd_syntax.specs.Tree.{joins_of, keys_of};
 ghost use Rattle.wd_syntax.specs.View.{view_item, view_joined, view_key, view_parts, view_select, view_table};
-ghost use Rattle.wd_operand.specs.Causes.{Gives};
-ghost use Rattle.wd_scope.specs.Leaves.{formula_of};
-ghost use Rattle.wd_scope.specs.Resolving.{context_of};
-ghost use Rattle.wd_scope.specs.Scopes.{scope_of};
-ghost use Rattle.wd_scope.specs.Windows.{known_of};
-ghost use Rattle.wd_select.specs.Cuts.{cut_of};
-ghost use Rattle.wd_select.specs.Listing.{needs_of, needs_shown};
-ghost use Rattle.wd_select.specs.Listing as listing;
-ghost use Rattle.wd_select.specs.Outputs.{output_of, expressions_of};
-ghost use Rattle.wd_select.specs.Outputs as outputs_spec;
+ghost use Rattle.wd_resolve_operand.specs.Causes.{Gives};
+ghost use Rattle.wd_resolve_scope.specs.Leaves.{formula_of};
+ghost use Rattle.wd_resolve_scope.specs.Resolving.{context_of};
+ghost use Rattle.wd_resolve_scope.specs.Scopes.{scope_of};
+ghost use Rattle.wd_resolve_scope.specs.Windows.{known_of};
+ghost use Rattle.wd_resolve_select.specs.Cuts.{cut_of};
+ghost use Rattle.wd_resolve_select.specs.Listing.{needs_of, needs_shown};
+ghost use Rattle.wd_resolve_select.specs.Listing as listing;
+ghost use Rattle.wd_resolve_select.specs.Outputs.{output_of, expressions_of};
+ghost use Rattle.wd_resolve_select.specs.Outputs as outputs_spec;
 ghost use Rattle.wd_resolve.specs.Listings as listings;
 ghost use Rattle.wd_resolve.specs.Selected.{joined_of, from_of, lowered_of};
 ghost use Rattle.wd_resolve.specs.Selected as parts_spec;
-ghost use Rattle.wd_select.specs.Sorting.{sorted_of, shown_of, IsCounted, IsNarrow};
-ghost use Rattle.wd_select.specs.Steps as steps_spec;
+ghost use Rattle.wd_resolve_select.specs.Sorting.{sorted_of, shown_of, IsCounted, IsNarrow};
+ghost use Rattle.wd_resolve_select.specs.Steps as steps_spec;
 ghost use Rattle.wd_resolve.specs.Lowering as spec;
 
 use crate::listed::Listed;
@@ -28,14 +28,14 @@ use crate::tables::{
     behind_comma, crossed, derived_table, first_admitted, joined_on, named_table, together,
 };
 use std::alloc::Global;
-use wd_operand::{Cause, Formula, ResolveError};
 use wd_plan::Plan;
-use wd_schema::Schema;
-use wd_scope::{Context, KnownWindow, Place, Scope, SelectLeaf, all_defined};
-use wd_select::{
+use wd_resolve_operand::{Cause, Formula, ResolveError};
+use wd_resolve_scope::{Context, KnownWindow, Place, Scope, SelectLeaf, all_defined};
+use wd_resolve_select::{
     Cut, Needs, Output, OutputColumn, Shown, Sorted, cut_meant, deduplicated, filtered, item_meant,
     keys_sorted, limited, mapped, without_hidden,
 };
+use wd_schema::Schema;
 use wd_syntax::{Alias, Item, Joined, Limits, Name, Quantifier, Select, SortKey, Table};
 use wd_value::{OutOfMemory, Text};
 

@@ -5,9 +5,9 @@ ghost use Rattle.wd_plan.specs.Expressions.{expression_of};
 ghost use Rattle.wd_schema.specs.Schemas.{schema_of};
 ghost use Rattle.wd_schema.specs.Tables.{table_of};
 ghost use Rattle.std.specs.List.{list_any};
-ghost use Rattle.wd_operand.specs.Causes.{Gives};
-ghost use Rattle.wd_scope.specs.Scopes.{scope_of};
-ghost use Rattle.wd_scope.specs.Scopes as scopes;
+ghost use Rattle.wd_resolve_operand.specs.Causes.{Gives};
+ghost use Rattle.wd_resolve_scope.specs.Scopes.{scope_of};
+ghost use Rattle.wd_resolve_scope.specs.Scopes as scopes;
 ghost use Rattle.wd_resolve.specs.Selected.{joined_of, from_of, lowered_of};
 ghost use Rattle.wd_resolve.specs.Selected as spec;
 ghost use Rattle.wd_resolve.specs.Lowering as lowering;
@@ -16,11 +16,11 @@ ghost use Rattle.wd_syntax.specs.View.{view};
 
 use crate::part::{FromSoFar, JoinedTables, LoweredSelect};
 use std::alloc::Global;
-use wd_operand::{Cause, ResolveError};
 use wd_plan::{Expr, Plan, kind_of_type};
+use wd_resolve_operand::{Cause, ResolveError};
+use wd_resolve_scope::{MOST_COLUMNS, Place, Scope, ScopeColumn, condition};
+use wd_resolve_select::OutputColumn;
 use wd_schema::{Schema, Table};
-use wd_scope::{MOST_COLUMNS, Place, Scope, ScopeColumn, condition};
-use wd_select::OutputColumn;
 use wd_value::{OutOfMemory, Text};
 
 /// The most tables of one FROM.

@@ -12,7 +12,7 @@ use Rattle.wd_schema.specs.declared.declare.PlacedError.{PlacedError}
 use Rattle.wd_schema.specs.declared.error.SchemaError.{SchemaError}
 use Rattle.wd_schema.specs.declared.error.SchemaError.TheVariants.{Tokens, TableTwice, ColumnTwice, UnknownColumn, SecondPrimaryKey, KeyColumnTwice, TooMany, UnknownType, NullForbidden, Unexpected, OutOfMemory}
 use Rattle.wd_schema.specs.Declares.{ColumnsDiffer, HasOnePrimary, IsAllowed, IsSmall, Keeps, KeyColumnsDiffer, KeysNameColumns, NullsAreAllowed, SaidKey, TypesAreKnown}
-use Rattle.wd_statements.specs.Written.{TableTree}
+use Rattle.wd_read_statements.specs.Written.{TableTree}
 use Rattle.wd_schema.proofs.MeetsFacts.{all_from_test, test_from_all}
 
 -- without a refusal a fact holds, and with one what it is about is not kept

@@ -18,7 +18,7 @@ use Rattle.wd_schema.specs.Declares.{AllKeep, ColumnsDiffer, HasOnePrimary, IsAl
 use Rattle.wd_schema.specs.Schemas.{table_named}
 use Rattle.wd_schema.specs.Tables.{TableRule, table_of}
 use Rattle.wd_schema.specs.declared.table.Table.{Table}
-use Rattle.wd_statements.specs.Written.{TableTree, name_text}
+use Rattle.wd_read_statements.specs.Written.{TableTree, name_text}
 use Rattle.wd_schema.proofs.MeetsFacts.{none_from_test}
 
 abbrev names : List TableTree → List (List ℕ)

@@ -14,9 +14,9 @@ use Rattle.wd_schema.specs.Tables.{TableRule}
 use Rattle.wd_schema.specs.Texts.{Breaks, Declares, GivesTables, HasCause, Stops}
 use Rattle.wd_schema.specs.WellFormed.{IsWellFormed}
 use Rattle.wd_schema.specs.declared.schema.Schema.{Schema}
-use Rattle.wd_statements.specs.Grammar.{Begins, spell_schema}
-use Rattle.wd_statements.specs.Written.{SchemaTree, TableTree, name_text}
-use Rattle.wd_statements.proofs.SchemaLaws.{one_tree, schema_statements}
+use Rattle.wd_read_statements.specs.Grammar.{Begins, spell_schema}
+use Rattle.wd_read_statements.specs.Written.{SchemaTree, TableTree, name_text}
+use Rattle.wd_read_statements.proofs.SchemaLaws.{one_tree, schema_statements}
 
 -- ---- what the first tables keep
 

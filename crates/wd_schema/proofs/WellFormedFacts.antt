@@ -14,8 +14,8 @@ use Rattle.wd_schema.specs.declared.error.SchemaError.TheVariants.{TableTwice, C
 use Rattle.wd_schema.specs.declared.table.Column.{Column as TableColumn}
 use Rattle.wd_schema.specs.Declares.{AllKeep, ColumnsDiffer, HasOnePrimary, IsSmall, KeyColumnsDiffer, KeysNameColumns, SaidKey, column_declared, column_names, column_number, columns_of, is_in_primary, is_primary, key_declared, keys_of, says_not_null, table_declared}
 use Rattle.wd_schema.specs.WellFormed.{IsKeyOf, IsNotNull, IsWellFormed, IsWellFormedTable}
-use Rattle.wd_cursor.specs.declared.name.Name.{Name}
-use Rattle.wd_statements.specs.Written.{ColumnTree, TableTree, name_text}
+use Rattle.wd_read_cursor.specs.declared.name.Name.{Name}
+use Rattle.wd_read_statements.specs.Written.{ColumnTree, TableTree, name_text}
 use Rattle.wd_schema.proofs.RefusalFacts.{is_found}
 
 -- what holds of the images of each two holds of each two images

@@ -8,14 +8,14 @@ use Rattle.wd_value.specs.declared.value.ColumnType.TheVariants.{SmallInt, Integ
 use Rattle.wd_schema.specs.declared.error.SchemaError.{SchemaError}
 use Rattle.wd_schema.specs.declared.error.SchemaError.TheVariants.{Tokens, TableTwice, ColumnTwice, UnknownColumn, SecondPrimaryKey, KeyColumnTwice, TooMany, UnknownType, NullForbidden, Unexpected, OutOfMemory}
 use Rattle.wd_schema.specs.declared.table.Column.{Column as TableColumn}
-use Rattle.wd_statements.specs.declared.syntax.KeyWords.{KeyWords}
-use Rattle.wd_statements.specs.declared.syntax.KeyWords.TheVariants.{Primary, Unique}
-use Rattle.wd_statements.specs.declared.syntax.Nulls.TheVariants.{Unsaid, Distinct, NotDistinct}
-use Rattle.wd_statements.specs.declared.syntax.Rule.{Rule}
-use Rattle.wd_statements.specs.declared.syntax.Rule.TheVariants as rule
-use Rattle.wd_statements.specs.declared.syntax.ColumnRule.{ColumnRule}
+use Rattle.wd_read_statements.specs.declared.syntax.KeyWords.{KeyWords}
+use Rattle.wd_read_statements.specs.declared.syntax.KeyWords.TheVariants.{Primary, Unique}
+use Rattle.wd_read_statements.specs.declared.syntax.Nulls.TheVariants.{Unsaid, Distinct, NotDistinct}
+use Rattle.wd_read_statements.specs.declared.syntax.Rule.{Rule}
+use Rattle.wd_read_statements.specs.declared.syntax.Rule.TheVariants as rule
+use Rattle.wd_read_statements.specs.declared.syntax.ColumnRule.{ColumnRule}
 use Rattle.wd_schema.specs.Tables.{KeyRule, TableRule}
-use Rattle.wd_statements.specs.Written.{ColumnTree, ElementTree, Column, Key, TableTree, name_text}
+use Rattle.wd_read_statements.specs.Written.{ColumnTree, ElementTree, Column, Key, TableTree, name_text}
 
 -- the types by their names in lower case
 abbrev pub type_names : List (List ℕ × ColumnType)

@@ -7,10 +7,10 @@ use Rattle.wd_schema.specs.declared.error.SchemaError.{SchemaError}
 use Rattle.wd_schema.specs.declared.error.SchemaError.TheVariants.{Tokens, TableTwice, ColumnTwice, UnknownColumn, SecondPrimaryKey, KeyColumnTwice, TooMany, UnknownType, NullForbidden, Unexpected, OutOfMemory}
 use Rattle.wd_schema.specs.declared.schema.Schema.{Schema}
 use Rattle.wd_schema.specs.Declares.{AllKeep, table_declared}
-use Rattle.wd_statements.specs.Grammar.{Begins, IsSchema, IsUnexpected, spell_schema}
+use Rattle.wd_read_statements.specs.Grammar.{Begins, IsSchema, IsUnexpected, spell_schema}
 use Rattle.wd_schema.specs.Schemas.{schema_of}
 use Rattle.wd_schema.specs.Tables.{TableRule}
-use Rattle.wd_statements.specs.Written.{SchemaTree, TableTree}
+use Rattle.wd_read_statements.specs.Written.{SchemaTree, TableTree}
 
 -- The text declares the tables: its tokens spell a tree that is refused for nothing, and they are the tables that the tree
 -- declares, in its order.

@@ -8,12 +8,12 @@ ghost use Rattle.wd_schema.specs.Declares.{IsAllowed, Keeps, columns_of, keys_of
 ghost use Rattle.wd_schema.specs.Declares as spec;
 ghost use Rattle.wd_schema.specs.Keys.{said};
 ghost use Rattle.wd_schema.specs.Tables.{key_of, table_of};
-ghost use Rattle.wd_statements.specs.Written.{column_tree, element_tree, name_text, table_tree};
+ghost use Rattle.wd_read_statements.specs.Written.{column_tree, element_tree, name_text, table_tree};
 
 use crate::error::SchemaError;
 use crate::table::{Column, Key, Table};
 use std::alloc::{AllocError, Global};
-use wd_statements::{
+use wd_read_statements::{
     ColumnRule, Element, KeyWords, Name, Nulls, Rule, WrittenColumn, WrittenKey, WrittenTable,
 };
 use wd_value::{ColumnType, Text};

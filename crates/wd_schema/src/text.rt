@@ -6,7 +6,7 @@ ghost use Rattle.wd_schema.specs.Schemas.{schema_of};
 ghost use Rattle.wd_schema.specs.Tables.{TableRule};
 ghost use Rattle.wd_schema.specs.Texts.{Declares, GivesTables, HasCause};
 ghost use Rattle.wd_schema.specs.WellFormed.{IsWellFormed};
-ghost use Rattle.wd_statements.specs.Written.{table_tree};
+ghost use Rattle.wd_read_statements.specs.Written.{table_tree};
 ghost use Rattle.wd_schema.specs.declared.error.SchemaError.{SchemaError as Refusal};
 
 use crate::declare::declare;
@@ -15,7 +15,7 @@ use crate::schema::Schema;
 use indexmap::IndexMap;
 use std::alloc::Global;
 use wd_lex::{LexError, lex};
-use wd_statements::{WrittenTable, read_statements};
+use wd_read_statements::{WrittenTable, read_statements};
 
 /// The most tables of a schema.
 const MOST_TABLES: usize = 64;

@@ -1,6 +1,6 @@
 -- Laws of tokens and their trees, over the definitions alone.
 use Rattle.std.specs.Prelude.{◌≡◌}
-use Rattle.wd_cursor.specs.Tokens.{Kinds}
+use Rattle.wd_read_cursor.specs.Tokens.{Kinds}
 use Rattle.wd_syntax.specs.Tree.{QueryTree}
 use Rattle.wd_syntax.specs.Spelling.{spell}
 use Rattle.wd_syntax.specs.Levels.{IsWellLevelled}

@@ -3,8 +3,8 @@
 use Rattle.std.specs.Prelude.{◌≡◌, ◌++◌, ℕ, suc, ◌≤◌, ◌==◌, if◌then◌else◌, List, [], ◌∷◌, length, Option, Some, None}
 use Rattle.wd_lex.specs.declared.token.Terminal.TheVariants as m
 use Rattle.wd_lex.specs.declared.token.TokenKind.{TokenKind}
-use Rattle.wd_cursor.specs.declared.name.Name.{Name}
-use Rattle.wd_cursor.specs.Tokens.{Kinds, ◌▸◌}
+use Rattle.wd_read_cursor.specs.declared.name.Name.{Name}
+use Rattle.wd_read_cursor.specs.Tokens.{Kinds, ◌▸◌}
 use Rattle.wd_syntax.specs.declared.expression.Height.TheVariants.{Test}
 use Rattle.wd_syntax.specs.Tokens.{operator_terminal, operator_height, rank}
 use Rattle.wd_syntax.specs.Tree.{Tree, Constant, Column, Qualified, CallAll, Call, Case, Bracket, Signed, Binary, IsNull, Negated, Trees, no_trees, more_trees, Arms, no_arms, more_arms, Otherwise, no_else, or_else, OverTree, no_over, over_name, over_window, WindowTree, window, Keys, no_keys, more_keys, ItemTree, all_columns, all_of, shown, Tail, TableTree, named, derived, JoinTree, comma, cross, inner, Joins, no_joins, more_joins, SelectTree, select, QueryTree, query, Each, One}

@@ -1,6 +1,6 @@
 -- Queries as pure data, without where they lie in memory.
 use Rattle.std.specs.Prelude.{◌⊎◌, List, [], ◌∷◌, Bool, Option}
-use Rattle.wd_cursor.specs.declared.name.Name.{Name}
+use Rattle.wd_read_cursor.specs.declared.name.Name.{Name}
 use Rattle.wd_syntax.specs.declared.frame.Frame.{Frame}
 use Rattle.wd_syntax.specs.declared.expression.Operator.{Operator}
 use Rattle.wd_syntax.specs.declared.expression.Sign.{Sign}

@@ -11,7 +11,7 @@ use Rattle.wd_syntax.specs.declared.expression.Operator.{Operator}
 use Rattle.wd_syntax.specs.declared.expression.Window.{Window, Window', Row_of-SortKey, end_of-SortKey, more_of-SortKey}
 use Rattle.wd_syntax.specs.declared.expression.SortKey.{SortKey}
 use Rattle.wd_syntax.specs.Tree.{Tree, Constant, Column, Qualified, CallAll, Call, Case, Bracket, Signed, Binary, IsNull, Negated, Trees, no_trees, more_trees, Arms, no_arms, more_arms, Otherwise, no_else, or_else, OverTree, no_over, over_name, over_window, WindowTree, window, Keys, no_keys, more_keys, Key, keys_of, joins_of, ItemTree, all_columns, all_of, shown, Parts, TableTree, named, derived, JoinTree, comma, cross, inner, Joins, no_joins, more_joins, SelectTree, select, QueryTree, query}
-use Rattle.wd_cursor.specs.declared.name.Name.{Name}
+use Rattle.wd_read_cursor.specs.declared.name.Name.{Name}
 use Rattle.wd_syntax.specs.declared.query.Item.{Item}
 use Rattle.wd_syntax.specs.declared.query.Item.TheVariants as i
 use Rattle.wd_syntax.specs.declared.query.NamedWindow.{NamedWindow}

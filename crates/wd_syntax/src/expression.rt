@@ -1,7 +1,7 @@
 //! Expressions, as they are written.
 
 use crate::frame::Frame;
-use wd_cursor::Name;
+use wd_read_cursor::Name;
 use wd_value::Text;
 
 /// An operator between two operands.

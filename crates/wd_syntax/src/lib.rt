@@ -14,4 +14,4 @@ pub use query::{
     Alias, Count, FetchWord, From, Item, Joined, Limits, NamedWindow, Offset, Quantifier, Query,
     RowWord, Select, Table,
 };
-pub use wd_cursor::Name;
+pub use wd_read_cursor::Name;

@@ -1,7 +1,7 @@
 //! Queries, as they are written.
 
 use crate::expression::{Expr, SortKey, Window};
-use wd_cursor::Name;
+use wd_read_cursor::Name;
 
 /// `[AS] name`
 #[derive(Drop)]

@@ -5,9 +5,9 @@ use Rattle.wd_syntax.specs.Tokens.{rank}
 use Rattle.wd_lex.specs.declared.token.Terminal.TheVariants as m
 use Rattle.wd_syntax.specs.View.{view, view_link, chained, view_arm, view_key}
 use Rattle.wd_parse.specs.Reading.{read, links, arm_at, key_at}
-use Rattle.wd_cursor.specs.Cursor.{list_at}
+use Rattle.wd_read_cursor.specs.Cursor.{list_at}
 use Rattle.wd_parse.proofs.Loops.{links_more, links_fail, links_full, length_kinds}
-use Rattle.wd_cursor.proofs.Loops.{list_more, list_fail, list_end, list_over}
+use Rattle.wd_read_cursor.proofs.Loops.{list_more, list_fail, list_end, list_over}
 use Rattle.wd_parse.proofs.expr.+expr.Goals as goal
 
 pub links-returns-in_err-right : goal.links-returns-in_err-right

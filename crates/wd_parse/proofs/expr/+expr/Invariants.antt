@@ -4,8 +4,8 @@ use Rattle.wd_syntax.specs.Tokens.{rank}
 use Rattle.wd_lex.specs.declared.token.Terminal.TheVariants as m
 use Rattle.wd_syntax.specs.View.{view, view_link, chained, view_arm, view_key}
 use Rattle.wd_parse.specs.Reading.{read, links, arm_at, key_at}
-use Rattle.wd_cursor.specs.Cursor.{many, after, list_at}
-use Rattle.wd_cursor.specs.Cursor.{with_front}
+use Rattle.wd_read_cursor.specs.Cursor.{many, after, list_at}
+use Rattle.wd_read_cursor.specs.Cursor.{with_front}
 use Rattle.wd_parse.proofs.expr.+expr.Given as goal
 
 -- A level is worth 60, a height 3, and a helper stands between its caller and what it calls.

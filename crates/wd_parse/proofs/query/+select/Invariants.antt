@@ -2,8 +2,8 @@ use Rattle.std.proofs.Common.{◌≡◌, ◌-◌, ◌+◌, ◌*◌, length, map}
 use Rattle.wd_lex.specs.Lexed.{kinds_of}
 use Rattle.wd_syntax.specs.View.{view_joined}
 use Rattle.wd_parse.specs.Reading.{read, inside_of, join_at}
-use Rattle.wd_cursor.specs.Cursor.{many}
-use Rattle.wd_cursor.specs.Cursor.{with_front}
+use Rattle.wd_read_cursor.specs.Cursor.{many}
+use Rattle.wd_read_cursor.specs.Cursor.{with_front}
 use Rattle.wd_parse.proofs.query.+select.Given as goal
 
 -- A level is worth 10, and a helper stands between its caller and what it calls.

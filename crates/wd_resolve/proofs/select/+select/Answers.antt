@@ -4,7 +4,7 @@ use Rattle.wd_schema.specs.Schemas.{schema_of}
 use Rattle.wd_syntax.specs.Tree.{derived}
 use Rattle.wd_syntax.specs.View.{view_select, view_table}
 use Rattle.wd_syntax.proofs.Rows.{view_derived}
-use Rattle.wd_operand.proofs.Cases.{fails_too}
+use Rattle.wd_resolve_operand.proofs.Cases.{fails_too}
 use Rattle.wd_resolve.specs.Lowering.{lowered, table_meant}
 use Rattle.wd_resolve.proofs.select.+select.Goals as goal
 

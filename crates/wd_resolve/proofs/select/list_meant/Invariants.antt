@@ -1,7 +1,7 @@
 use Rattle.std.proofs.Common.{◌≡◌, drop, map}
 use Rattle.wd_syntax.specs.View.{view_item}
-use Rattle.wd_scope.specs.Resolving.{context_of}
-use Rattle.wd_select.specs.Outputs.{listed, list_meant, output_of}
+use Rattle.wd_resolve_scope.specs.Resolving.{context_of}
+use Rattle.wd_resolve_select.specs.Outputs.{listed, list_meant, output_of}
 use Rattle.wd_resolve.specs.Listings.{IsCounted}
 use Rattle.wd_resolve.proofs.select.list_meant.Given as goal
 

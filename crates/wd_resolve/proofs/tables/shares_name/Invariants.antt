@@ -1,6 +1,6 @@
 use Rattle.std.proofs.Common.{◌≡◌, drop}
 use Rattle.std.specs.List.{list_any}
-use Rattle.wd_scope.specs.Scopes.{has_table}
+use Rattle.wd_resolve_scope.specs.Scopes.{has_table}
 use Rattle.wd_resolve.specs.Selected.{from_of, scope_so_far}
 use Rattle.wd_resolve.proofs.tables.shares_name.Given as goal
 

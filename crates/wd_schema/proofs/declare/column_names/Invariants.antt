@@ -1,6 +1,6 @@
 use Rattle.std.proofs.Common.{◌≡◌, ◌++◌, map, drop}
 use Rattle.wd_schema.specs.Declares.{names_of}
-use Rattle.wd_statements.specs.Written.{element_tree}
+use Rattle.wd_read_statements.specs.Written.{element_tree}
 use Rattle.wd_schema.proofs.declare.column_names.Given as goal
 
 abbrev pub invariant-loop-element : goal.invariant-loop-element

@@ -2,7 +2,7 @@ use Rattle.std.proofs.Common.{◌≡◌, ◌≤◌, ◌∙◌, ap, map, length, 
 use Rattle.std.proofs.lemmas.List.{length-map}
 use Rattle.wd_schema.specs.declared.error.SchemaError.TheVariants as e
 use Rattle.wd_schema.specs.Declares.{columns_of}
-use Rattle.wd_statements.specs.Written.{element_tree, name_text}
+use Rattle.wd_read_statements.specs.Written.{element_tree, name_text}
 use Rattle.wd_schema.proofs.declare.declare.Goals as goal
 
 pub declared_keys-requires : goal.declared_keys-requires

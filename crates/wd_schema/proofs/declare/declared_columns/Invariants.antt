@@ -1,7 +1,7 @@
 use Rattle.std.proofs.Common.{◌≡◌, ◌++◌, drop, map}
 use Rattle.wd_schema.specs.Declares.{column_declared, columns_of}
 use Rattle.wd_schema.specs.Keys.{said}
-use Rattle.wd_statements.specs.Written.{element_tree}
+use Rattle.wd_read_statements.specs.Written.{element_tree}
 use Rattle.wd_schema.proofs.declare.declared_columns.Given as goal
 
 abbrev pub invariant-loop-element : goal.invariant-loop-element

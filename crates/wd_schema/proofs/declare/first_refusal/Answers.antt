@@ -7,7 +7,7 @@ use Rattle.std.specs.Str.{bytes_eq}
 use Rattle.wd_schema.specs.declared.error.SchemaError.TheVariants as e
 use Rattle.wd_schema.specs.Declares.{ColumnsDiffer, Keeps, KeysNameColumns, NullsAreAllowed, SaidKey, TypesAreKnown, columns_of, is_forbidden, keys_of, names_of, type_named}
 use Rattle.wd_schema.specs.Keys.{said}
-use Rattle.wd_statements.specs.Written.{TableTree, name_text, table_tree}
+use Rattle.wd_read_statements.specs.Written.{TableTree, name_text, table_tree}
 use Rattle.wd_schema.proofs.MeetsFacts.{all_from_test, test_from_all, none_from_test, from_not}
 use Rattle.wd_schema.proofs.RefusalFacts.{all_kept, by_test, judge_at, judge_both, judged, known_from_test, test_from_known}
 use Rattle.wd_schema.proofs.declare.first_refusal.Goals as goal

@@ -2,7 +2,7 @@ use Rattle.std.proofs.Common.{◌≡◌, drop, map}
 use Rattle.std.specs.List.{list_any}
 use Rattle.wd_schema.specs.Declares.{columns_of, is_forbidden}
 use Rattle.wd_schema.specs.Keys.{said}
-use Rattle.wd_statements.specs.Written.{element_tree}
+use Rattle.wd_read_statements.specs.Written.{element_tree}
 use Rattle.wd_schema.proofs.declare.forbidden_null.Given as goal
 
 abbrev pub invariant-loop-e : goal.invariant-loop-e

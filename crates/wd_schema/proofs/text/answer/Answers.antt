@@ -1,7 +1,7 @@
 use Rattle.std.proofs.Common.{sym, subst, map}
 use Rattle.std.proofs.lemmas.Result.{err_from_is_err_and}
 use Rattle.wd_schema.specs.Texts.{HasCause}
-use Rattle.wd_statements.specs.Written.{schema_tree, table_tree}
+use Rattle.wd_read_statements.specs.Written.{schema_tree, table_tree}
 use Rattle.wd_schema.proofs.TextFacts.{broken_is_cause}
 use Rattle.wd_schema.proofs.text.answer.Goals as goal
 

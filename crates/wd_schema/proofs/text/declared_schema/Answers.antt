@@ -8,7 +8,7 @@ use Rattle.std.specs.String.{string_bytes}
 use Rattle.wd_schema.specs.Declares.{AllKeep, Keeps, table_declared}
 use Rattle.wd_schema.specs.Tables.{table_of}
 use Rattle.wd_schema.specs.WellFormed.{IsWellFormed}
-use Rattle.wd_statements.specs.Written.{TableTree, name_text, table_tree}
+use Rattle.wd_read_statements.specs.Written.{TableTree, name_text, table_tree}
 use Rattle.wd_schema.proofs.SchemaFacts.{found_name, insert_new, keeps_at, keeps_more, map_push_both, named_by, table_repeats}
 use Rattle.wd_schema.proofs.WellFormedFacts.{well_formed}
 use Rattle.wd_schema.proofs.text.declared_schema.Goals as goal

@@ -3,7 +3,7 @@ use Rattle.std.specs.String.{string_bytes}
 use Rattle.wd_schema.specs.declared.error.SchemaError.{SchemaError}
 use Rattle.wd_schema.specs.Declares.{AllKeep, table_declared}
 use Rattle.wd_schema.specs.Tables.{table_of}
-use Rattle.wd_statements.specs.Written.{name_text, table_tree}
+use Rattle.wd_read_statements.specs.Written.{name_text, table_tree}
 use Rattle.wd_schema.proofs.text.declared_schema.Given as goal
 
 abbrev pub invariant-loop-t : goal.invariant-loop-t

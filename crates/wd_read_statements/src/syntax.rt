@@ -1,0 +1,66 @@
+//! Schemas as they are written.
+
+use wd_read_cursor::Name;
+
+/// What stands after UNIQUE.
+#[derive(Clone, Copy, PartialEq, Eq)]
+pub enum Nulls {
+    /// Nothing, which takes NULLs as distinct.
+    Unsaid,
+    /// NULLS DISTINCT
+    Distinct,
+    /// NULLS NOT DISTINCT
+    NotDistinct,
+}
+
+/// The words that declare a key.
+#[derive(Clone, Copy, PartialEq, Eq)]
+pub enum KeyWords {
+    Primary,
+    Unique(Nulls),
+}
+
+/// A rule for a column.
+#[derive(Clone, Copy, PartialEq, Eq)]
+pub enum Rule {
+    NotNull,
+    Null,
+    Key(KeyWords),
+}
+
+/// A rule for a column, and the constraint's name.
+#[derive(Drop)]
+pub struct ColumnRule {
+    pub constraint: Option<Name>,
+    pub rule: Rule,
+}
+
+/// A column's declaration.
+#[derive(Drop)]
+pub struct WrittenColumn {
+    pub name: Name,
+    pub kind: Name,
+    pub rules: Vec<ColumnRule>,
+}
+
+/// A key that stands by itself among the columns.
+#[derive(Drop)]
+pub struct WrittenKey {
+    pub constraint: Option<Name>,
+    pub words: KeyWords,
+    pub columns: Vec<Name>,
+}
+
+/// What stands between the brackets of a table.
+#[derive(Drop)]
+pub enum Element {
+    Column(WrittenColumn),
+    Key(WrittenKey),
+}
+
+/// A table's declaration.
+#[derive(Drop)]
+pub struct WrittenTable {
+    pub name: Name,
+    pub elements: Vec<Element>,
+}

@@ -1,0 +1,180 @@
+-- What an expression means as an operand, and the types that operators ask for (SQL, value expression, search condition; PG,
+-- Value Expressions).
+use Rattle.std.specs.Prelude.{ℕ, ◌^◌, ℤ, pos, neg_ℤ, Bool, true, false, List, [], ◌∷◌, ◌++◌, map, nat_lt, nat_le, Ok, Err, if◌then◌else◌}
+use Rattle.wd_value.specs.declared.value.Value.TheVariants.{Null, Int, Text as TextValue, Bool as TruthValue}
+use Rattle.wd_syntax.specs.declared.expression.Literal.{Literal}
+use Rattle.wd_syntax.specs.declared.expression.Literal.TheVariants as l
+use Rattle.wd_syntax.specs.declared.expression.Operator.{Operator}
+use Rattle.wd_syntax.specs.declared.expression.Operator.TheVariants as o
+use Rattle.wd_syntax.specs.declared.expression.Sign.{Sign}
+use Rattle.wd_syntax.specs.declared.expression.Sign.TheVariants as s
+use Rattle.wd_plan.specs.declared.expression.ValueKind.{ValueKind}
+use Rattle.wd_plan.specs.declared.expression.ValueKind.TheVariants.{Number, Text, Truth}
+use Rattle.wd_plan.specs.declared.expression.ArithmeticOp.TheVariants as arithmetic
+use Rattle.wd_plan.specs.declared.expression.ComparisonOp.TheVariants as comparison
+use Rattle.wd_plan.specs.declared.expression.Branch.{Branch}
+use Rattle.wd_plan.specs.declared.expression.Branch.TheVariants.{First, Later}
+use Rattle.wd_plan.specs.Fits.{same_kind}
+use Rattle.wd_resolve_operand.specs.declared.cause.Cause.TheVariants.{Types}
+use Rattle.wd_resolve_operand.specs.declared.meaning.Meaning.{Meaning}
+use Rattle.wd_resolve_operand.specs.declared.meaning.Meaning.TheVariants as code
+use Rattle.wd_resolve_operand.specs.declared.operator.CaseArm.{CaseArm}
+use Rattle.wd_resolve_operand.specs.Causes.{Meant, ◌>>=◌}
+use Rattle.wd_resolve_operand.specs.Formulas as f
+use Rattle.wd_resolve_operand.specs.Formulas.{Formula, formula_of}
+
+-- a bare NULL, whose kind its place decides, or an expression and the kind of its values
+pub data Operand (L : Type 0) : Type 0 where
+  bare_null : Operand L
+  typed : Formula L → ValueKind → Operand L
+
+-- the operand that a value of the code shows, whose leaves show these
+abbrev pub operand_of : {C L : Type 0} → (C → L) → Meaning C → Operand L
+operand_of shown code.Null = bare_null
+operand_of shown (code.Typed a kind) = typed (formula_of shown a.value) kind
+
+-- ---- the kind that a place asks for
+
+-- an operand in a place that asks for a kind: a bare NULL takes it, and another has it
+abbrev pub of_kind : {L : Type 0} → ValueKind → Operand L → Meant (Formula L)
+of_kind kind bare_null = Ok (f.Literal Null kind)
+of_kind kind (typed a other) = if same_kind kind other then Ok a else Err Types
+
+-- an operand in a place that asks for none: a bare NULL is a text (own)
+abbrev pub kind_of : {L : Type 0} → Operand L → ValueKind
+kind_of bare_null = Text
+kind_of (typed a kind) = kind
+
+abbrev pub settled : {L : Type 0} → Operand L → Formula L
+settled bare_null = f.Literal Null Text
+settled (typed a kind) = a
+
+-- several operands ask for the kind of the first of them that is no bare NULL (own)
+abbrev pub asked_by_all : {L : Type 0} → List (Operand L) → ValueKind
+asked_by_all [] = Text
+asked_by_all (bare_null ∷ operands) = asked_by_all operands
+asked_by_all (typed a kind ∷ operands) = kind
+
+abbrev pub asked_by_both : {L : Type 0} → Operand L → Operand L → ValueKind
+asked_by_both a b = asked_by_all (a ∷ b ∷ [])
+
+-- ---- literals
+
+-- a number as 64 bits hold it
+abbrev pub number : ℕ → Meant ℕ
+number n = if nat_lt n (2 ^ 63) then Ok n else Err Types
+
+-- a whole number as a literal
+abbrev pub int_literal : {L : Type 0} → ℤ → Meant (Operand L)
+int_literal n = Ok (typed (f.Literal (Int n) Number) Number)
+
+-- a number without a sign
+abbrev pub unsigned_number : {L : Type 0} → ℕ → Meant (Operand L)
+unsigned_number n = number n >>= λ m. int_literal (pos m)
+
+abbrev pub literal : {L : Type 0} → Literal → Meant (Operand L)
+literal (l.Number n) = unsigned_number n
+literal (l.Text text) = Ok (typed (f.Literal (TextValue text) Text) Text)
+literal (l.Truth b) = Ok (typed (f.Literal (TruthValue b) Truth) Truth)
+literal l.Null = Ok bare_null
+
+-- a sign directly before a number makes a literal: 9223372036854775808 is allowed after a minus alone
+abbrev pub signed_number : {L : Type 0} → Sign → ℕ → Meant (Operand L)
+signed_number s.Plus n = unsigned_number n
+signed_number s.Minus n = if nat_le n (2 ^ 63) then int_literal (neg_ℤ (pos n)) else Err Types
+
+-- ---- operators
+
+-- a plus leaves no node
+abbrev pub sign_over : {L : Type 0} → Sign → Formula L → Formula L
+sign_over s.Plus a = a
+sign_over s.Minus a = f.Negate a
+
+abbrev pub signed : {L : Type 0} → Sign → Operand L → Meant (Operand L)
+signed sign a = of_kind Number a >>= λ inner. Ok (typed (sign_over sign inner) Number)
+
+abbrev pub negated : {L : Type 0} → Operand L → Meant (Operand L)
+negated a = of_kind Truth a >>= λ inner. Ok (typed (f.Not inner) Truth)
+
+-- IS NULL, or IS NOT NULL where true
+abbrev pub null_test : {L : Type 0} → Bool → Formula L → Formula L
+null_test true a = f.IsNotNull a
+null_test false a = f.IsNull a
+
+abbrev pub tested : {L : Type 0} → Bool → Operand L → Operand L
+tested not a = typed (null_test not (settled a)) Truth
+
+-- the kind that an operator asks of both operands: a comparison takes two sides of one kind
+abbrev pub asked_by : {L : Type 0} → Operator → Operand L → Operand L → ValueKind
+asked_by o.Or a b = Truth
+asked_by o.And a b = Truth
+asked_by o.Add a b = Number
+asked_by o.Subtract a b = Number
+asked_by o.Multiply a b = Number
+asked_by o.Divide a b = Number
+asked_by o.Remainder a b = Number
+asked_by operator a b = asked_by_both a b
+
+-- the kind of an operator's values
+abbrev pub given_by : Operator → ValueKind
+given_by o.Add = Number
+given_by o.Subtract = Number
+given_by o.Multiply = Number
+given_by o.Divide = Number
+given_by o.Remainder = Number
+given_by operator = Truth
+
+-- an operator over two expressions
+abbrev pub over_both : {L : Type 0} → Operator → Formula L → Formula L → Formula L
+over_both o.Or a b = f.Or a b
+over_both o.And a b = f.And a b
+over_both o.Equal a b = f.Compare comparison.Equal a b
+over_both o.NotEqual a b = f.Compare comparison.NotEqual a b
+over_both o.Less a b = f.Compare comparison.Less a b
+over_both o.LessOrEqual a b = f.Compare comparison.LessOrEqual a b
+over_both o.Greater a b = f.Compare comparison.Greater a b
+over_both o.GreaterOrEqual a b = f.Compare comparison.GreaterOrEqual a b
+over_both o.Add a b = f.Arithmetic arithmetic.Add a b
+over_both o.Subtract a b = f.Arithmetic arithmetic.Subtract a b
+over_both o.Multiply a b = f.Arithmetic arithmetic.Multiply a b
+over_both o.Divide a b = f.Arithmetic arithmetic.Divide a b
+over_both o.Remainder a b = f.Arithmetic arithmetic.Remainder a b
+
+-- an operator over two operands of the kind that it asks for
+abbrev pub combined : {L : Type 0} → Operator → Operand L → Operand L → Meant (Operand L)
+combined operator a b = do
+  left ← of_kind (asked_by operator a b) a
+  right ← of_kind (asked_by operator a b) b
+  Ok (typed (over_both operator left right) (given_by operator))
+
+-- ---- CASE
+
+-- a condition and a result
+abbrev pub arm_of : {C L : Type 0} → (C → L) → CaseArm C → Operand L × Operand L
+arm_of shown arm = (operand_of shown arm.when, operand_of shown arm.gives)
+
+-- WHEN a truth value THEN a result of this kind, before the rest; each of them may be of a wrong type only
+abbrev pub arm_over : {L : Type 0} → Branch → ValueKind → Operand L × Operand L → Meant (Formula L) → Meant (Formula L)
+arm_over branch kind arm rest = do
+  otherwise ← rest
+  when ← of_kind Truth arm.0
+  gives ← of_kind kind arm.1
+  Ok (f.Case branch when gives otherwise)
+
+-- the branches of a CASE from this one on, before its rest
+abbrev pub arms_over : {L : Type 0} → Branch → ValueKind → List (Operand L × Operand L) → Meant (Formula L) → Meant (Formula L)
+arms_over branch kind [] rest = rest
+arms_over branch kind (arm ∷ arms) rest = arm_over branch kind arm (arms_over Later kind arms rest)
+
+-- the branch that stands after these
+abbrev pub branch_after : {L : Type 0} → Branch → List (Operand L × Operand L) → Branch
+branch_after branch [] = branch
+branch_after branch (arm ∷ arms) = Later
+
+-- the kind that the results of a CASE ask for
+abbrev pub case_kind : {L : Type 0} → List (Operand L × Operand L) → Operand L → ValueKind
+case_kind arms other = asked_by_all (map (λ arm. arm.1) arms ++ other ∷ [])
+
+-- a CASE is judged after all its parts
+abbrev pub case_of : {L : Type 0} → List (Operand L × Operand L) → Operand L → Meant (Operand L)
+case_of arms other = of_kind (case_kind arms other) other >>= λ rest. arms_over First (case_kind arms other) arms (Ok rest) >>= λ whole. Ok (typed whole (case_kind arms other))

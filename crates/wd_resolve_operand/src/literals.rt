@@ -1,0 +1,90 @@
+//! Literals, and signs directly before numbers.
+
+ghost use Rattle.wd_resolve_operand.specs.Causes.{Gives};
+ghost use Rattle.wd_resolve_operand.specs.Operands.{operand_of};
+ghost use Rattle.wd_resolve_operand.specs.Operands as spec;
+
+use crate::cause::{Cause, ResolveError};
+use crate::formula::{Formula, Leaf};
+use crate::meaning::Meaning;
+use std::alloc::Global;
+use wd_plan::ValueKind;
+use wd_syntax::{Literal, Sign};
+use wd_value::Value;
+
+/// The greatest number of 64 bits.
+const GREATEST: u64 = i64::MAX as u64;
+
+/// How far below zero the numbers of 64 bits go.
+const DEEPEST: u64 = 9223372036854775808;
+
+/// A number as 64 bits hold it; 404 past them.
+pub fn number(n: u64) -> Result<u64, ResolveError>
+    ensures { Gives (λ m. m) result (spec.number n) }
+{
+    if n <= GREATEST {
+        Ok(n)
+    } else {
+        Err(ResolveError::Refused(Cause::Types))
+    }
+}
+
+fn number_literal<L: Leaf>(alloc: Global, n: u64) -> Result<Meaning<L>, ResolveError>
+    ensures { Gives (operand_of L.shown) result (spec.unsigned_number n) }
+{
+    let value = Value::Int(number(n)? as i64);
+    Meaning::typed(
+        alloc,
+        Formula::Literal(value, ValueKind::Number),
+        ValueKind::Number,
+    )
+}
+
+/// A literal; a bare NULL has no kind of its own.
+pub fn literal<L: Leaf>(alloc: Global, literal: &Literal) -> Result<Meaning<L>, ResolveError>
+    ensures { Gives (operand_of L.shown) result (spec.literal literal.now) }
+{
+    match literal {
+        Literal::Number(n) => number_literal(alloc, *n),
+        Literal::Text(text) => {
+            let value = Value::Text(text.copy(alloc)?);
+            Meaning::typed(
+                alloc,
+                Formula::Literal(value, ValueKind::Text),
+                ValueKind::Text,
+            )
+        }
+        Literal::Truth(truth) => {
+            let value = Value::Bool(*truth);
+            Meaning::typed(
+                alloc,
+                Formula::Literal(value, ValueKind::Truth),
+                ValueKind::Truth,
+            )
+        }
+        Literal::Null => Ok(Meaning::Null),
+    }
+}
+
+/// A number with a sign directly before it: 9223372036854775808 is allowed after a minus alone.
+pub fn signed_number<L: Leaf>(alloc: Global, sign: Sign, n: u64) -> Result<Meaning<L>, ResolveError>
+    ensures { Gives (operand_of L.shown) result (spec.signed_number sign n) }
+{
+    match sign {
+        Sign::Plus => number_literal(alloc, n),
+        Sign::Minus => if n < DEEPEST {
+            int_literal(alloc, -(n as i64))
+        } else if n == DEEPEST {
+            int_literal(alloc, i64::MIN)
+        } else {
+            Err(ResolveError::Refused(Cause::Types))
+        },
+    }
+}
+
+fn int_literal<L: Leaf>(alloc: Global, n: i64) -> Result<Meaning<L>, ResolveError>
+    ensures { Gives (operand_of L.shown) result (spec.int_literal n) }
+{
+    let literal = Formula::Literal(Value::Int(n), ValueKind::Number);
+    Meaning::typed(alloc, literal, ValueKind::Number)
+}

@@ -1,0 +1,67 @@
+//! Operands: expressions over leaves, with the kind of their values.
+
+ghost use Rattle.std.specs.Prelude.{◌≡◌, Ok};
+ghost use Rattle.wd_resolve_operand.specs.Causes.{Gives};
+ghost use Rattle.wd_resolve_operand.specs.Formulas.{formula_of};
+ghost use Rattle.wd_resolve_operand.specs.Operands.{operand_of};
+ghost use Rattle.wd_resolve_operand.specs.Operands as spec;
+
+use crate::cause::{Cause, ResolveError};
+use crate::formula::{Formula, Leaf};
+use std::alloc::Global;
+use wd_plan::{ValueKind, same_kind};
+use wd_value::Value;
+
+/// What an expression means as an operand: a bare NULL, whose kind its place decides, or an expression of a kind.
+#[derive(Drop)]
+pub enum Meaning<L> {
+    Null,
+    Typed(Box<Formula<L>>, ValueKind),
+}
+
+impl<L: Leaf> Meaning<L> {
+    /// The kind of the values in a place that asks for none: a bare NULL is a text.
+    pub fn kind(&self) -> ValueKind
+        ensures { result ≡ spec.kind_of (operand_of L.shown self.now) }
+    {
+        match self {
+            Meaning::Null => ValueKind::Text,
+            Meaning::Typed(_, kind) => *kind,
+        }
+    }
+
+    /// The expression in a place that asks for this kind; 404 where it is of another.
+    pub fn of_kind(self, alloc: Global, kind: ValueKind) -> Result<Box<Formula<L>>, ResolveError>
+        ensures { Gives (λ e. formula_of L.shown e.value) result (spec.of_kind kind (operand_of L.shown self)) }
+    {
+        match self {
+            Meaning::Null => Ok(Box::new(alloc, Formula::Literal(Value::Null, kind))?),
+            Meaning::Typed(expression, other) => if same_kind(kind, other) {
+                Ok(expression)
+            } else {
+                Err(ResolveError::Refused(Cause::Types))
+            },
+        }
+    }
+
+    /// The expression in a place that asks for no kind.
+    pub fn settled(self) -> Formula<L>
+        ensures { formula_of L.shown result ≡ spec.settled (operand_of L.shown self) }
+    {
+        match self {
+            Meaning::Null => Formula::Literal(Value::Null, ValueKind::Text),
+            Meaning::Typed(expression, _) => Box::into_inner(expression),
+        }
+    }
+
+    /// The operand of an expression.
+    pub fn typed(
+        alloc: Global,
+        expression: Formula<L>,
+        kind: ValueKind,
+    ) -> Result<Meaning<L>, ResolveError>
+        ensures { Gives (operand_of L.shown) result (Ok (spec.typed (formula_of L.shown expression) kind)) }
+    {
+        Ok(Meaning::Typed(Box::new(alloc, expression)?, kind))
+    }
+}

@@ -1,0 +1,121 @@
+use Rattle.std.proofs.Common.{◌≡◌, ◌∙◌, sym, ap, map, refl, Ok, Err}
+use Rattle.std.proofs.lemmas.Result.{err_from_is_err_and}
+use Rattle.wd_syntax.specs.declared.expression.Expr.TheViews.{out-Window}
+use Rattle.wd_syntax.specs.Tree.{Call, Case, window, trees_of, arms_of, keys_of}
+use Rattle.wd_syntax.specs.View.{view, view_link, view_arm, view_key, view_window, view_over_option, view_else_option, chained, tested}
+use Rattle.wd_syntax.proofs.Rows.{view_call, view_case, view_chain}
+use Rattle.wd_resolve_scope.specs.declared.context.Place.TheVariants as Place
+use Rattle.wd_resolve_operand.specs.Causes.{◌>>=◌}
+use Rattle.wd_resolve_scope.specs.Leaves.{operand_of}
+use Rattle.wd_resolve_scope.specs.Parts.{chain_meant, tests_resolved}
+use Rattle.wd_resolve_scope.specs.Resolving.{context_of, resolved, all_resolved, all_settled, arguments_in, arms_resolved, keys_resolved, window_resolved, moved_to}
+use Rattle.wd_resolve_operand.proofs.Cases.{fails_too}
+use Rattle.wd_resolve_scope.proofs.Chains.{chain_means, tests_mean}
+use Rattle.wd_resolve_scope.proofs.Rolled.{view_window_out}
+use Rattle.wd_resolve_scope.proofs.expression.+resolve.Goals as goal
+
+pub resolved-returns-in_err-arguments-in-Call : goal.resolved-returns-in_err-arguments-in-Call
+resolved-returns-in_err-arguments-in-Call t c =
+    let context = context_of c.args.context.now in
+    let name = c.in-Call.name in
+    let over = c.in-Call.over in
+    let trees = trees_of (map view c.deref.result.now) in
+    let shown : view c.args.tree.now ≡ Call name trees (view_over_option over) = ap view c.in-Call.is ∙ view_call name c.in-Call.arguments over ∙ ap (λ xs. Call name (trees_of (map view xs)) (view_over_option over)) (sym c.deref.ensures.value) in
+    let p = err_from_is_err_and c.from_residual-in_err-arguments-in-Call.result c.from_residual-in_err-arguments-in-Call.ensures.1 in
+    rw (p.1, p.2) (rw shown (fails_too c.in_err-arguments-in-Call.field-0.0 (all_resolved (context_of c.arguments_in.result) trees) (resolved context (Call name trees (view_over_option over))) c.in_err-arguments-in-Call.ensures (λ cause h. (let g : all_resolved (arguments_in context (view_over_option over)) trees ≡ Err cause = ap (λ d. all_resolved d trees) (sym c.arguments_in.ensures) ∙ h in rw g refl))))
+
+pub resolved-returns-in_ok-arguments-in-Call : goal.resolved-returns-in_ok-arguments-in-Call
+resolved-returns-in_ok-arguments-in-Call t c =
+    let name = c.in-Call.name in
+    let over = c.in-Call.over in
+    let trees = trees_of (map view c.deref.result.now) in
+    let shown : view c.args.tree.now ≡ Call name trees (view_over_option over) = ap view c.in-Call.is ∙ view_call name c.in-Call.arguments over ∙ ap (λ xs. Call name (trees_of (map view xs)) (view_over_option over)) (sym c.deref.ensures.value) in
+    let g = ap (λ d. all_resolved d trees) (sym c.arguments_in.ensures) ∙ c.in_ok-arguments-in-Call.ensures in
+    rw shown (rw g c.call_over.ensures)
+
+pub resolved-returns-in_err-arms-in-Case : goal.resolved-returns-in_err-arms-in-Case
+resolved-returns-in_err-arms-in-Case t c =
+    let context = context_of c.args.context.now in
+    let other = c.in-Case.other in
+    let shown : view c.args.tree.now ≡ Case (arms_of (map view_arm c.deref-in-Case.result.now)) (view_else_option other) = ap view c.in-Case.is ∙ view_case c.in-Case.arms other ∙ ap (λ xs. Case (arms_of (map view_arm xs)) (view_else_option other)) (sym c.deref-in-Case.ensures.value) in
+    let p = err_from_is_err_and c.from_residual-in_err-arms-in-Case.result c.from_residual-in_err-arms-in-Case.ensures.1 in
+    rw (p.1, p.2) (rw shown (fails_too c.in_err-arms-in-Case.field-0.0 (arms_resolved context (arms_of (map view_arm c.deref-in-Case.result.now))) (resolved context (Case (arms_of (map view_arm c.deref-in-Case.result.now)) (view_else_option other))) c.in_err-arms-in-Case.ensures (λ cause h. rw h refl)))
+
+pub resolved-returns-in_ok-arms-in-Case : goal.resolved-returns-in_ok-arms-in-Case
+resolved-returns-in_ok-arms-in-Case t c =
+    let other = c.in-Case.other in
+    let shown : view c.args.tree.now ≡ Case (arms_of (map view_arm c.deref-in-Case.result.now)) (view_else_option other) = ap view c.in-Case.is ∙ view_case c.in-Case.arms other ∙ ap (λ xs. Case (arms_of (map view_arm xs)) (view_else_option other)) (sym c.deref-in-Case.ensures.value) in
+    rw shown (rw c.in_ok-arms-in-Case.ensures c.case_ended.ensures)
+
+pub resolved-returns-in_err-first-in-Chain : goal.resolved-returns-in_err-first-in-Chain
+resolved-returns-in_err-first-in-Chain t c =
+    let context = context_of c.args.context.now in
+    let first = c.in-Chain.first in
+    let links = c.in-Chain.links in
+    let shown : view c.args.tree.now ≡ chained (view c.deref-in-Chain.result.now) (map view_link links.items) = ap view c.in-Chain.is ∙ view_chain first links ∙ ap (λ a. chained (view a) (map view_link links.items)) (sym c.deref-in-Chain.ensures) in
+    let whole : resolved context (view c.args.tree.now) ≡ (resolved context (view c.deref-in-Chain.result.now) >>= λ x. chain_meant context (map view_link links.items) x) = ap (resolved context) shown ∙ chain_means context (view c.deref-in-Chain.result.now) (map view_link links.items) in
+    let p = err_from_is_err_and c.from_residual-in_err-first-in-Chain.result c.from_residual-in_err-first-in-Chain.ensures.1 in
+    rw (p.1, p.2) (rw whole (fails_too c.in_err-first-in-Chain.field-0.0 (resolved context (view c.deref-in-Chain.result.now)) ((resolved context (view c.deref-in-Chain.result.now) >>= λ x. chain_meant context (map view_link links.items) x)) c.in_err-first-in-Chain.ensures (λ cause h. rw h refl)))
+
+pub resolved-returns-in_ok-first-in-Chain : goal.resolved-returns-in_ok-first-in-Chain
+resolved-returns-in_ok-first-in-Chain t c =
+    let context = context_of c.args.context.now in
+    let first = c.in-Chain.first in
+    let links = c.in-Chain.links in
+    let shown : view c.args.tree.now ≡ chained (view c.deref-in-Chain.result.now) (map view_link c.deref-in-Chain-2.result.now) = ap view c.in-Chain.is ∙ view_chain first links ∙ ap (λ a. chained (view a) (map view_link links.items)) (sym c.deref-in-Chain.ensures) ∙ ap (λ xs. chained (view c.deref-in-Chain.result.now) (map view_link xs)) (sym c.deref-in-Chain-2.ensures.value) in
+    let whole : resolved context (view c.args.tree.now) ≡ (resolved context (view c.deref-in-Chain.result.now) >>= λ x. chain_meant context (map view_link c.deref-in-Chain-2.result.now) x) = ap (resolved context) shown ∙ chain_means context (view c.deref-in-Chain.result.now) (map view_link c.deref-in-Chain-2.result.now) in
+    rw whole (rw c.in_ok-first-in-Chain.ensures c.chain_resolved.ensures)
+
+pub window_resolved-returns-in_err-operands : goal.window_resolved-returns-in_err-operands
+window_resolved-returns-in_err-operands t c =
+    let context = context_of c.args.context.now in
+    let w = out-Window c.args.window.now in
+    let trees = trees_of (map view c.deref.result.now) in
+    let keys = keys_of (map view_key w.order.items) in
+    let shown : view_window c.args.window.now ≡ window w.base trees keys w.frame = view_window_out c.args.window.now ∙ ap (λ xs. window w.base (trees_of (map view xs)) keys w.frame) (sym c.deref.ensures.value) in
+    let p = err_from_is_err_and c.from_residual-in_err-operands.result c.from_residual-in_err-operands.ensures.1 in
+    rw (p.1, p.2) (rw shown (fails_too c.in_err-operands.field-0.0 (all_resolved (context_of c.moved_to-inside.result) trees) (window_resolved context (window w.base trees keys w.frame)) c.in_err-operands.ensures (λ cause h. (let g : all_resolved (moved_to Place.Window context) trees ≡ Err cause = ap (λ d. all_resolved d trees) (sym c.moved_to-inside.ensures) ∙ h in rw c.in_ok-base.ensures (rw g refl)))))
+
+pub window_resolved-returns-in_err-partition : goal.window_resolved-returns-in_err-partition
+window_resolved-returns-in_err-partition t c =
+    let context = context_of c.args.context.now in
+    let w = out-Window c.args.window.now in
+    let trees = trees_of (map view c.deref.result.now) in
+    let keys = keys_of (map view_key w.order.items) in
+    let xs = map operand_of c.deref-2.result.now in
+    let shown : view_window c.args.window.now ≡ window w.base trees keys w.frame = view_window_out c.args.window.now ∙ ap (λ ts. window w.base (trees_of (map view ts)) keys w.frame) (sym c.deref.ensures.value) in
+    let g : all_resolved (moved_to Place.Window context) trees ≡ Ok xs = ap (λ d. all_resolved d trees) (sym c.moved_to-inside.ensures) ∙ c.in_ok-operands.ensures ∙ ap (λ ys. Ok (map operand_of ys)) (sym c.deref-2.ensures.value) in
+    let p = err_from_is_err_and c.from_residual-in_err-partition.result c.from_residual-in_err-partition.ensures.1 in
+    rw (p.1, p.2) (rw shown (fails_too c.in_err-partition.field-0.0 (all_settled xs) (window_resolved context (window w.base trees keys w.frame)) c.in_err-partition.ensures (λ cause h. rw c.in_ok-base.ensures (rw g (rw h refl)))))
+
+pub window_resolved-returns-in_err-order : goal.window_resolved-returns-in_err-order
+window_resolved-returns-in_err-order t c =
+    let context = context_of c.args.context.now in
+    let w = out-Window c.args.window.now in
+    let trees = trees_of (map view c.deref.result.now) in
+    let keys = keys_of (map view_key c.deref-3.result.now) in
+    let xs = map operand_of c.deref-2.result.now in
+    let shown : view_window c.args.window.now ≡ window w.base trees keys w.frame = view_window_out c.args.window.now ∙ ap (λ ts. window w.base (trees_of (map view ts)) (keys_of (map view_key w.order.items)) w.frame) (sym c.deref.ensures.value) ∙ ap (λ ks. window w.base trees (keys_of (map view_key ks)) w.frame) (sym c.deref-3.ensures.value) in
+    let g : all_resolved (moved_to Place.Window context) trees ≡ Ok xs = ap (λ d. all_resolved d trees) (sym c.moved_to-inside.ensures) ∙ c.in_ok-operands.ensures ∙ ap (λ ys. Ok (map operand_of ys)) (sym c.deref-2.ensures.value) in
+    let p = err_from_is_err_and c.from_residual-in_err-order.result c.from_residual-in_err-order.ensures.1 in
+    rw (p.1, p.2) (rw shown (fails_too c.in_err-order.field-0.0 (keys_resolved (context_of c.moved_to-inside.result) keys) (window_resolved context (window w.base trees keys w.frame)) c.in_err-order.ensures (λ cause h. (let k = ap (λ d. keys_resolved d keys) (sym c.moved_to-inside.ensures) ∙ h in rw c.in_ok-base.ensures (rw g (rw c.in_ok-partition.ensures (rw k refl)))))))
+
+pub window_resolved-returns : goal.window_resolved-returns
+window_resolved-returns t c =
+    let context = context_of c.args.context.now in
+    let w = out-Window c.args.window.now in
+    let trees = trees_of (map view c.deref.result.now) in
+    let keys = keys_of (map view_key c.deref-3.result.now) in
+    let xs = map operand_of c.deref-2.result.now in
+    let shown : view_window c.args.window.now ≡ window w.base trees keys w.frame = view_window_out c.args.window.now ∙ ap (λ ts. window w.base (trees_of (map view ts)) (keys_of (map view_key w.order.items)) w.frame) (sym c.deref.ensures.value) ∙ ap (λ ks. window w.base trees (keys_of (map view_key ks)) w.frame) (sym c.deref-3.ensures.value) in
+    let g : all_resolved (moved_to Place.Window context) trees ≡ Ok xs = ap (λ d. all_resolved d trees) (sym c.moved_to-inside.ensures) ∙ c.in_ok-operands.ensures ∙ ap (λ ys. Ok (map operand_of ys)) (sym c.deref-2.ensures.value) in
+    let k = ap (λ d. keys_resolved d keys) (sym c.moved_to-inside.ensures) ∙ c.in_ok-order.ensures in
+    rw shown (rw c.in_ok-base.ensures (rw g (rw c.in_ok-partition.ensures (rw k c.window_meant.ensures))))
+
+pub resolved-returns-in-Tests : goal.resolved-returns-in-Tests
+resolved-returns-in-Tests t c =
+    let context = context_of c.args.context.now in
+    let tests = c.in-Tests.tests in
+    let shown : view c.args.tree.now ≡ tested (view c.deref-in-Tests.result.now) c.deref-in-Tests-2.result.now = ap view c.in-Tests.is ∙ ap (λ a. tested (view a) tests.items) (sym c.deref-in-Tests.ensures) ∙ ap (tested (view c.deref-in-Tests.result.now)) (sym c.deref-in-Tests-2.ensures.value) in
+    let whole : resolved context (view c.args.tree.now) ≡ tests_resolved context (view c.deref-in-Tests.result.now) c.deref-in-Tests-2.result.now = ap (resolved context) shown ∙ tests_mean context (view c.deref-in-Tests.result.now) c.deref-in-Tests-2.result.now in
+    rw whole c.tests_resolved.ensures

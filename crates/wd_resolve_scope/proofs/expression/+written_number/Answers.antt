@@ -1,0 +1,31 @@
+use Rattle.std.proofs.Common.{◌≡◌, ◌∙◌, sym, ap, map, arith, vec_len, length, []}
+use Rattle.wd_syntax.specs.View.{view, view_link, chained}
+use Rattle.wd_syntax.proofs.Rows.{view_chain}
+use Rattle.wd_resolve_scope.specs.Resolving.{written_number}
+use Rattle.wd_resolve_scope.proofs.Written.{some_links, some_tests, no_items, some_items}
+use Rattle.wd_resolve_scope.proofs.expression.+written_number.Goals as goal
+
+pub returns-then-is_empty : goal.returns-then-is_empty
+returns-then-is_empty t c =
+    let first = c.in-Chain.first in
+    let links = c.in-Chain.links in
+    let len : vec_len links ≡ length links.items = omega (arith, links.ok.0) in
+    let none = no_items links.items (vec_len links) len (sym c.is_empty.ensures ∙ c.if-is_empty.true) in
+    let shown = ap view c.in-Chain.is ∙ view_chain first links ∙ ap (λ xs. chained (view first.value) (map view_link xs)) none in
+    c.written_number.ensures ∙ ap (λ a. written_number (view a)) c.deref.ensures ∙ sym (ap written_number shown)
+
+pub returns-else-is_empty : goal.returns-else-is_empty
+returns-else-is_empty t c =
+    let first = c.in-Chain.first in
+    let links = c.in-Chain.links in
+    let len : vec_len links ≡ length links.items = omega (arith, links.ok.0) in
+    let some = some_items view_link links.items (vec_len links) len (sym c.is_empty.ensures ∙ c.if-is_empty.false) in
+    sym (ap written_number (ap view c.in-Chain.is ∙ view_chain first links) ∙ some_links (view first.value) (map view_link links.items) some)
+
+pub returns-else-is_empty-2 : goal.returns-else-is_empty-2
+returns-else-is_empty-2 t c =
+    let inner = c.in-Tests.inner in
+    let tests = c.in-Tests.tests in
+    let len : vec_len tests ≡ length tests.items = omega (arith, tests.ok.0) in
+    let some : tests.items ≡ [] → ⊥ = λ none. some_items (λ b. b) tests.items (vec_len tests) len (sym c.is_empty-in-Tests.ensures ∙ c.if-is_empty-2.false) (ap (map (λ b. b)) none) in
+    sym (ap (λ a. written_number (view a)) c.in-Tests.is ∙ some_tests (view inner.value) tests.items some)

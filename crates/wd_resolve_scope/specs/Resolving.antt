@@ -1,0 +1,178 @@
+-- What the expressions of a query mean over the columns in scope: a window call means its function over its arguments and its
+-- window.
+use Rattle.std.specs.Prelude.{ℕ, Bool, List, [], ◌∷◌, ◌++◌, map, Option, Some, None, option_map, Ok, Err, if◌then◌else◌}
+use Rattle.wd_read_cursor.specs.declared.name.Name.{Name}
+use Rattle.std.specs.List.{list_any}
+use Rattle.std.specs.Str.{bytes_eq}
+use Rattle.wd_syntax.specs.declared.expression.Literal.TheVariants as l
+use Rattle.wd_syntax.specs.declared.expression.Sign.{Sign}
+use Rattle.wd_syntax.specs.declared.expression.SortDirection.{SortDirection}
+use Rattle.wd_syntax.specs.declared.expression.NullsPlace.{NullsPlace}
+use Rattle.wd_syntax.specs.Tree.{Tree, Constant, Column, Qualified, CallAll, Call, Case, Bracket, Signed, Binary, IsNull, Negated, Trees, no_trees, more_trees, Arms, no_arms, more_arms, Otherwise, no_else, or_else, OverTree, no_over, over_name, over_window, WindowTree, window, Keys, no_keys, more_keys}
+use Rattle.wd_plan.specs.declared.expression.ValueKind.TheVariants.{Truth}
+use Rattle.wd_plan.specs.Expressions.{Expression}
+use Rattle.wd_resolve_operand.specs.declared.cause.Cause.TheVariants.{WrongCall, CallNotAllowed, UnknownWindow}
+use Rattle.wd_resolve_scope.specs.declared.context.Context.{Context}
+use Rattle.wd_resolve_scope.specs.declared.context.Place.{Place}
+use Rattle.wd_resolve_scope.specs.declared.context.Place.TheVariants as place
+use Rattle.wd_resolve_scope.specs.Places.{allows_window_calls}
+use Rattle.wd_resolve_operand.specs.Causes.{Meant, ◌>>=◌}
+use Rattle.wd_resolve_scope.specs.Scopes.{ScopeRule, scope_of}
+use Rattle.wd_resolve_scope.specs.Names.{column_named}
+use Rattle.wd_resolve_operand.specs.Formulas.{Leaf}
+use Rattle.wd_resolve_operand.specs.Operands.{Operand, bare_null, typed, of_kind, settled, kind_of, literal, signed_number, signed, negated, tested, combined, case_of}
+use Rattle.wd_resolve_scope.specs.Windows.{KeyMeaning, WindowMeaning, KnownMeaning, known_of, sort_key, window_meant, window_named, base_named}
+use Rattle.wd_resolve_scope.specs.Calls.{kind_of_function}
+use Rattle.wd_resolve_scope.specs.Functions.{applied, function_named}
+use Rattle.wd_resolve_scope.specs.Leaves.{SelectLeaf, call, over_columns}
+
+-- what an expression is read in: the columns in scope, the windows that have names, and the place where it stands
+pub record ContextRule : Type 0 where
+  pub scope : ScopeRule
+  pub windows : List KnownMeaning
+  pub place : Place
+
+abbrev pub context_of : Context → ContextRule
+context_of c = record { scope = scope_of c.scope.now; windows = map known_of c.windows.now; place = c.place }
+
+-- the same scope and windows, at another place
+abbrev pub moved_to : Place → ContextRule → ContextRule
+moved_to place c = record { scope = c.scope; windows = c.windows; place = place }
+
+-- what the arguments of a call are read in; those of a call without OVER stand where it stands
+abbrev pub arguments_in : ContextRule → OverTree → ContextRule
+arguments_in c no_over = c
+arguments_in c (over_name name) = moved_to place.Argument c
+arguments_in c (over_window w) = moved_to place.Argument c
+
+-- the number that a sign stands directly before
+abbrev pub written_number : Tree → Option ℕ
+written_number (Constant (l.Number n)) = Some n
+written_number a = None
+
+-- a call: its function over its arguments, and its window
+abbrev pub called : Name → Option (List (Operand SelectLeaf)) → WindowMeaning → Meant (Operand SelectLeaf)
+called f arguments w = do
+  function ← applied (function_named f.text) arguments
+  Ok (typed (Leaf (call (record { function = function; window = w }))) (kind_of_function function))
+
+-- a sign over an operand, or over the number that stands directly after it
+abbrev pub sign_meant : Sign → Option ℕ → Meant (Operand SelectLeaf) → Meant (Operand SelectLeaf)
+sign_meant sign (Some n) inner = signed_number sign n
+sign_meant sign None inner = inner >>= λ x. signed sign x
+
+-- an expression to sort by
+abbrev pub key_meant : Operand SelectLeaf → Option SortDirection → Option NullsPlace → Meant KeyMeaning
+key_meant x direction place = do
+  expression ← over_columns (settled x)
+  Ok (record { expression = expression; kind = kind_of x; key = sort_key direction place })
+
+-- expressions in places that ask for no kind
+abbrev pub all_settled : List (Operand SelectLeaf) → Meant (List Expression)
+all_settled [] = Ok []
+all_settled (x ∷ xs) = do
+  e ← over_columns (settled x)
+  es ← all_settled xs
+  Ok (e ∷ es)
+
+-- what stands in OVER, where window calls may stand
+abbrev pub where_allowed : ContextRule → Meant WindowMeaning → Meant WindowMeaning
+where_allowed c w = if allows_window_calls c.place then w else Err CallNotAllowed
+
+abbrev mutual
+  -- what an expression means
+  pub resolved : ContextRule → Tree → Meant (Operand SelectLeaf)
+  resolved c (Constant x) = literal x
+  resolved c (Column name) = column_named c.scope None name.text
+  resolved c (Qualified table name) = column_named c.scope (Some table.text) name.text
+  resolved c (CallAll f over) = over_meant c over >>= λ w. called f None w
+  resolved c (Call f arguments over) = do
+    xs ← all_resolved (arguments_in c over) arguments
+    w ← over_meant c over
+    called f (Some xs) w
+  resolved c (Case arms other) = do
+    xs ← arms_resolved c arms
+    y ← else_resolved c other
+    case_of xs y
+  resolved c (Bracket a) = resolved c a
+  resolved c (Signed sign a) = sign_meant sign (written_number a) (resolved c a)
+  resolved c (Binary operator a b) = do
+    x ← resolved c a
+    y ← resolved c b
+    combined operator x y
+  resolved c (IsNull a not) = resolved c a >>= λ x. Ok (tested not x)
+  resolved c (Negated a) = resolved c a >>= λ x. negated x
+
+  -- the arguments of a call, and the expressions of a partition
+  pub all_resolved : ContextRule → Trees → Meant (List (Operand SelectLeaf))
+  all_resolved c no_trees = Ok []
+  all_resolved c (more_trees a trees) = do
+    x ← resolved c a
+    xs ← all_resolved c trees
+    Ok (x ∷ xs)
+
+  -- the conditions and results of a CASE
+  pub arms_resolved : ContextRule → Arms → Meant (List (Operand SelectLeaf × Operand SelectLeaf))
+  arms_resolved c no_arms = Ok []
+  arms_resolved c (more_arms when gives arms) = do
+    x ← resolved c when
+    y ← resolved c gives
+    xs ← arms_resolved c arms
+    Ok ((x, y) ∷ xs)
+
+  -- without ELSE a CASE ends in NULL
+  pub else_resolved : ContextRule → Otherwise → Meant (Operand SelectLeaf)
+  else_resolved c no_else = Ok bare_null
+  else_resolved c (or_else a) = resolved c a
+
+  -- the expressions that a window sorts by
+  pub keys_resolved : ContextRule → Keys → Meant (List KeyMeaning)
+  keys_resolved c no_keys = Ok []
+  keys_resolved c (more_keys a direction place keys) = do
+    x ← resolved c a
+    k ← key_meant x direction place
+    ks ← keys_resolved c keys
+    Ok (k ∷ ks)
+
+  -- the window of a call; a function without OVER is none, and OVER is looked at only where window calls may stand
+  pub over_meant : ContextRule → OverTree → Meant WindowMeaning
+  over_meant c no_over = Err WrongCall
+  over_meant c (over_name name) = where_allowed c (window_named c.windows name.text)
+  over_meant c (over_window w) = where_allowed c (window_resolved c w)
+
+  -- a window: the one that it copies, its partition, its order, and then its frame
+  pub window_resolved : ContextRule → WindowTree → Meant WindowMeaning
+  window_resolved c (window base partition order frame) = do
+    copied ← base_named c.windows (option_map (λ (n : Name). n.text) base)
+    xs ← all_resolved (moved_to place.Window c) partition
+    parts ← all_settled xs
+    keys ← keys_resolved (moved_to place.Window c) order
+    window_meant copied parts keys frame
+
+-- ---- expressions outside the select list
+
+-- an expression in a place where no windows have names
+abbrev pub plain : Place → ScopeRule → Tree → Meant (Operand SelectLeaf)
+plain place scope a = resolved (record { scope = scope; windows = []; place = place }) a
+
+-- the condition of WHERE and of ON, a truth value over the columns in scope
+abbrev pub condition : Place → ScopeRule → Tree → Meant Expression
+condition place scope a = do
+  x ← plain place scope a
+  truth ← of_kind Truth x
+  over_columns truth
+
+-- ---- the WINDOW clause
+
+-- a name that an earlier window has
+abbrev pub is_known : List KnownMeaning → List ℕ → Bool
+is_known windows name = list_any (λ known. bytes_eq known.name name) windows
+
+-- a window of the WINDOW clause, which may copy the ones before it
+abbrev pub defined : ScopeRule → List KnownMeaning → Name → WindowTree → Meant KnownMeaning
+defined scope windows name w = if is_known windows name.text then Err UnknownWindow else window_resolved (record { scope = scope; windows = windows; place = place.Window }) w >>= λ meaning. Ok (record { name = name.text; window = meaning })
+
+-- the windows of the WINDOW clause, after those before them: each is checked, also where no call uses it
+abbrev pub all_defined : ScopeRule → List KnownMeaning → List (Name × WindowTree) → Meant (List KnownMeaning)
+all_defined scope windows [] = Ok windows
+all_defined scope windows (w ∷ others) = defined scope windows w.0 w.1 >>= λ known. all_defined scope (windows ++ known ∷ []) others

@@ -1,0 +1,434 @@
+//! What expressions and windows mean over the columns in scope.
+
+ghost use Rattle.std.specs.Prelude.{◌≡◌, [], map, option_map, Some, None, Ok};
+ghost use Rattle.wd_plan.specs.Expressions.{expression_of};
+ghost use Rattle.wd_syntax.specs.View.{view, view_link, view_window, view_over_option, view_else_option, view_arm, view_key, view_named_window};
+ghost use Rattle.wd_syntax.specs.Tree.{trees_of, arms_of, keys_of};
+ghost use Rattle.wd_resolve_operand.specs.Causes.{Gives};
+ghost use Rattle.wd_resolve_scope.specs.Leaves.{operand_of, operands_of, arm_of};
+ghost use Rattle.wd_resolve_scope.specs.Parts as parts;
+ghost use Rattle.wd_resolve_scope.specs.Resolving.{context_of};
+ghost use Rattle.wd_resolve_scope.specs.Resolving as spec;
+ghost use Rattle.wd_resolve_scope.specs.Scopes.{scope_of};
+ghost use Rattle.wd_resolve_scope.specs.Windows.{key_of, window_of, known_of};
+
+use crate::call::WindowCall;
+use crate::context::{Context, Place};
+use crate::function::applied;
+use crate::leaf::{SelectLeaf, over_columns, settled_over_columns};
+use crate::scope::Scope;
+use crate::window::{
+    KnownWindow, OrderKey, Window, base_named, sort_key, window_meant, window_named,
+};
+use std::alloc::Global;
+use wd_plan::{Expr, ValueKind};
+use wd_resolve_operand::{
+    CaseArm, Cause, Formula, Meaning, ResolveError, case_of, combined, literal, negated, signed,
+    signed_number, tested,
+};
+use wd_syntax as written;
+use wd_syntax::{Arm, Link, Literal, Name, NamedWindow, Over, Sign, SortKey};
+
+impl Context<'_> {
+    /// The same scope and windows, at another place.
+    fn moved_to(&self, place: Place) -> Context<'_>
+        ensures { context_of result ≡ spec.moved_to place (context_of self.now) }
+    {
+        Context {
+            scope: self.scope,
+            windows: self.windows,
+            place,
+        }
+    }
+
+    /// The context of a call's arguments: those of a call without OVER stand where it stands.
+    fn arguments_in(&self, over: &Option<Box<Over>>) -> Context<'_>
+        ensures { context_of result ≡ spec.arguments_in (context_of self.now) (view_over_option over.now) }
+    {
+        match over {
+            None => self.moved_to(self.place),
+            Some(_) => self.moved_to(Place::Argument),
+        }
+    }
+}
+
+/// What an expression means.
+#[cycle(resolve)]
+pub fn resolved(
+    alloc: Global,
+    context: &Context<'_>,
+    tree: &written::Expr,
+) -> Result<Meaning<SelectLeaf>, ResolveError>
+    ensures { Gives operand_of result (spec.resolved (context_of context.now) (view tree.now)) }
+{
+    match tree {
+        written::Expr::Literal(value) => literal(alloc, value),
+        written::Expr::Column(name) => context.scope.column(alloc, None, &name.text),
+        written::Expr::Qualified(table, name) => {
+            context.scope.column(alloc, Some(&table.text), &name.text)
+        }
+        written::Expr::CallAll(name, over) => {
+            let window = over_meant(alloc, context, over)?;
+            called(alloc, name, None, window)
+        }
+        written::Expr::Call(name, arguments, over) => {
+            let arguments = all_resolved(alloc, &context.arguments_in(over), arguments)?;
+            call_over(alloc, context, name, Some(arguments), over)
+        }
+        written::Expr::Case(arms, other) => {
+            let arms = arms_resolved(alloc, context, arms)?;
+            case_ended(alloc, context, arms, other)
+        }
+        written::Expr::Bracket(inner) => resolved(alloc, context, inner),
+        written::Expr::Signed(sign, inner) => match written_number(inner) {
+            Some(number) => signed_number(alloc, *sign, number),
+            None => {
+                let operand = resolved(alloc, context, inner)?;
+                signed(alloc, *sign, operand)
+            }
+        },
+        written::Expr::Compare(operator, left, right) => {
+            let left = resolved(alloc, context, left)?;
+            let right = resolved(alloc, context, right)?;
+            combined(alloc, *operator, left, right)
+        }
+        written::Expr::Chain(first, links) => {
+            let first = resolved(alloc, context, first)?;
+            chain_resolved(alloc, context, first, links)
+        }
+        written::Expr::Tests(inner, tests) => tests_resolved(alloc, context, inner, tests),
+        written::Expr::Not(inner) => {
+            let inner = resolved(alloc, context, inner)?;
+            negated(alloc, inner)
+        }
+    }
+}
+
+/// The number that a sign stands directly before.
+pub fn written_number(tree: &written::Expr) -> Option<u64>
+    ensures { result ≡ spec.written_number (view tree.now) }
+{
+    match tree {
+        written::Expr::Literal(Literal::Number(n)) => Some(*n),
+        written::Expr::Chain(first, links) => if links.is_empty() {
+            written_number(first)
+        } else {
+            None
+        },
+        written::Expr::Tests(inner, tests) => if tests.is_empty() {
+            written_number(inner)
+        } else {
+            None
+        },
+        _ => None,
+    }
+}
+
+/// A call after its arguments: its window, and then itself.
+#[cycle(resolve)]
+fn call_over(
+    alloc: Global,
+    context: &Context<'_>,
+    name: &Name,
+    arguments: Option<Vec<Meaning<SelectLeaf>>>,
+    over: &Option<Box<Over>>,
+) -> Result<Meaning<SelectLeaf>, ResolveError>
+    ensures { Gives operand_of result (parts.call_over (context_of context.now) name.now (option_map operands_of arguments) (view_over_option over.now)) }
+{
+    let window = over_meant(alloc, context, over)?;
+    called(alloc, name, arguments, window)
+}
+
+/// A CASE after its arms: its end, and then itself.
+#[cycle(resolve)]
+fn case_ended(
+    alloc: Global,
+    context: &Context<'_>,
+    arms: Vec<CaseArm<SelectLeaf>>,
+    other: &Option<Box<written::Expr>>,
+) -> Result<Meaning<SelectLeaf>, ResolveError>
+    ensures { Gives operand_of result (parts.case_ended (context_of context.now) (map arm_of arms.items) (view_else_option other.now)) }
+{
+    let other = else_resolved(alloc, context, other)?;
+    case_of(alloc, arms, other)
+}
+
+/// Tests for NULL of an operand, one after another.
+#[cycle(resolve)]
+fn tests_resolved(
+    alloc: Global,
+    context: &Context<'_>,
+    inner: &written::Expr,
+    tests: &[bool],
+) -> Result<Meaning<SelectLeaf>, ResolveError>
+    ensures { Gives operand_of result (parts.tests_resolved (context_of context.now) (view inner.now) tests.now) }
+{
+    let inner = resolved(alloc, context, inner)?;
+    tests_over(alloc, inner, tests)
+}
+
+/// Operators and their right operands, over what stands left of them.
+#[cycle(resolve)]
+fn chain_resolved(
+    alloc: Global,
+    context: &Context<'_>,
+    first: Meaning<SelectLeaf>,
+    links: &[Link],
+) -> Result<Meaning<SelectLeaf>, ResolveError>
+    ensures { Gives operand_of result (parts.chain_meant (context_of context.now) (map view_link links.now) (operand_of first)) }
+{
+    let mut left = first;
+    for link in links {
+        let right = resolved(alloc, context, &link.operand)?;
+        left = combined(alloc, link.operator, left, right)?;
+    }
+    Ok(left)
+}
+
+/// Tests for NULL, one after another.
+fn tests_over(
+    alloc: Global,
+    operand: Meaning<SelectLeaf>,
+    tests: &[bool],
+) -> Result<Meaning<SelectLeaf>, ResolveError>
+    ensures { Gives operand_of result (Ok (parts.tests_meant tests.now (operand_of operand))) }
+{
+    let mut operand = operand;
+    for not in tests {
+        operand = tested(alloc, *not, operand)?;
+    }
+    Ok(operand)
+}
+
+/// A call, after its arguments and its window.
+fn called(
+    alloc: Global,
+    name: &Name,
+    arguments: Option<Vec<Meaning<SelectLeaf>>>,
+    window: Window,
+) -> Result<Meaning<SelectLeaf>, ResolveError>
+    ensures { Gives operand_of result (spec.called name.now (option_map operands_of arguments) (window_of window)) }
+{
+    let function = applied(alloc, name.text.as_str(), arguments)?;
+    let kind = function.kind();
+    let call = Box::new(alloc, WindowCall { function, window })?;
+    Meaning::typed(alloc, Formula::Leaf(SelectLeaf::Call(call)), kind)
+}
+
+/// The arguments of a call, and the expressions of a partition.
+#[cycle(resolve)]
+fn all_resolved(
+    alloc: Global,
+    context: &Context<'_>,
+    trees: &[written::Expr],
+) -> Result<Vec<Meaning<SelectLeaf>>, ResolveError>
+    ensures { Gives operands_of result (spec.all_resolved (context_of context.now) (trees_of (map view trees.now))) }
+{
+    let mut operands = Vec::new(alloc);
+    for tree in trees {
+        operands.push(resolved(alloc, context, tree)?)?;
+    }
+    Ok(operands)
+}
+
+/// The conditions and results of a CASE.
+#[cycle(resolve)]
+fn arms_resolved(
+    alloc: Global,
+    context: &Context<'_>,
+    arms: &[Arm],
+) -> Result<Vec<CaseArm<SelectLeaf>>, ResolveError>
+    ensures { Gives (λ v. map arm_of v.items) result (spec.arms_resolved (context_of context.now) (arms_of (map view_arm arms.now))) }
+{
+    let mut parts = Vec::new(alloc);
+    for arm in arms {
+        let when = resolved(alloc, context, &arm.when)?;
+        let gives = resolved(alloc, context, &arm.gives)?;
+        parts.push(CaseArm { when, gives })?;
+    }
+    Ok(parts)
+}
+
+/// What a CASE ends in; NULL without ELSE.
+#[cycle(resolve)]
+fn else_resolved(
+    alloc: Global,
+    context: &Context<'_>,
+    other: &Option<Box<written::Expr>>,
+) -> Result<Meaning<SelectLeaf>, ResolveError>
+    ensures { Gives operand_of result (spec.else_resolved (context_of context.now) (view_else_option other.now)) }
+{
+    match other {
+        None => Ok(Meaning::Null),
+        Some(tree) => resolved(alloc, context, tree),
+    }
+}
+
+/// The expressions that a window sorts by.
+#[cycle(resolve)]
+fn keys_resolved(
+    alloc: Global,
+    context: &Context<'_>,
+    keys: &[SortKey],
+) -> Result<Vec<OrderKey>, ResolveError>
+    ensures { Gives (λ v. map key_of v.items) result (spec.keys_resolved (context_of context.now) (keys_of (map view_key keys.now))) }
+{
+    let mut order = Vec::new(alloc);
+    for key in keys {
+        let operand = resolved(alloc, context, &key.expr)?;
+        order.push(order_key(alloc, &operand, key)?)?;
+    }
+    Ok(order)
+}
+
+/// An expression to sort by.
+fn order_key(
+    alloc: Global,
+    operand: &Meaning<SelectLeaf>,
+    written: &SortKey,
+) -> Result<OrderKey, ResolveError>
+    ensures { Gives key_of result (spec.key_meant (operand_of operand.now) written.now.direction written.now.nulls) }
+{
+    Ok(OrderKey {
+        expression: settled_over_columns(alloc, operand)?,
+        kind: operand.kind(),
+        key: sort_key(written.direction, written.nulls),
+    })
+}
+
+/// The window of a call: 405 without OVER, and 406 where no window calls may stand.
+#[cycle(resolve)]
+fn over_meant(
+    alloc: Global,
+    context: &Context<'_>,
+    over: &Option<Box<Over>>,
+) -> Result<Window, ResolveError>
+    ensures { Gives window_of result (spec.over_meant (context_of context.now) (view_over_option over.now)) }
+{
+    let Some(over) = over else {
+        return Err(ResolveError::Refused(Cause::WrongCall));
+    };
+    if !context.place.allows_window_calls() {
+        return Err(ResolveError::Refused(Cause::CallNotAllowed));
+    }
+    match &**over {
+        Over::Name(name) => window_named(context.windows, &name.text)?.share(),
+        Over::Window(window) => window_resolved(alloc, context, window),
+    }
+}
+
+/// A window: the one that it copies, its partition, its order, and then its frame.
+#[cycle(resolve)]
+fn window_resolved(
+    alloc: Global,
+    context: &Context<'_>,
+    window: &written::Window,
+) -> Result<Window, ResolveError>
+    ensures { Gives window_of result (spec.window_resolved (context_of context.now) (view_window window.now)) }
+{
+    let written::Window {
+        base,
+        partition,
+        order,
+        frame,
+    } = window;
+    let base = base_named(context.windows, base)?;
+    let inside = context.moved_to(Place::Window);
+    let operands = all_resolved(alloc, &inside, partition)?;
+    let partition = all_settled(alloc, &operands)?;
+    let order = keys_resolved(alloc, &inside, order)?;
+    window_meant(alloc, base, partition, order, *frame)
+}
+
+/// The expressions in places that ask for no kind; 406 where a window call stands in one.
+fn all_settled(alloc: Global, operands: &[Meaning<SelectLeaf>]) -> Result<Vec<Expr>, ResolveError>
+    ensures { Gives (λ v. map expression_of v.items) result (spec.all_settled (map operand_of operands.now)) }
+{
+    let mut expressions = Vec::with_capacity(alloc, operands.len())?;
+    for operand in operands {
+        expressions.push(settled_over_columns(alloc, operand)?)?;
+    }
+    Ok(expressions)
+}
+
+/// An expression in a place where no windows have names.
+pub fn plain(
+    alloc: Global,
+    scope: &Scope,
+    place: Place,
+    tree: &written::Expr,
+) -> Result<Meaning<SelectLeaf>, ResolveError>
+    ensures { Gives operand_of result (spec.plain place (scope_of scope.now) (view tree.now)) }
+{
+    let context = Context {
+        scope,
+        windows: &[],
+        place,
+    };
+    resolved(alloc, &context, tree)
+}
+
+/// The condition of WHERE and of ON.
+pub fn condition(
+    alloc: Global,
+    scope: &Scope,
+    place: Place,
+    tree: &written::Expr,
+) -> Result<Expr, ResolveError>
+    ensures { Gives expression_of result (spec.condition place (scope_of scope.now) (view tree.now)) }
+{
+    let operand = plain(alloc, scope, place, tree)?;
+    let truth = operand.of_kind(alloc, ValueKind::Truth)?;
+    over_columns(alloc, &truth)
+}
+
+fn is_known(windows: &[KnownWindow], name: &Name) -> bool
+    ensures { result ≡ spec.is_known (map known_of windows.now) name.now.text }
+{
+    for known in windows {
+        if known.name.as_str() == name.text.as_str() {
+            return true;
+        }
+    }
+    false
+}
+
+/// A window of the WINDOW clause, which may copy the ones before it.
+fn defined(
+    alloc: Global,
+    scope: &Scope,
+    windows: &[KnownWindow],
+    window: &NamedWindow,
+) -> Result<KnownWindow, ResolveError>
+    ensures { Gives known_of result (spec.defined (scope_of scope.now) (map known_of windows.now) window.now.name (view_window window.now.window)) }
+{
+    if is_known(windows, &window.name) {
+        return Err(ResolveError::Refused(Cause::UnknownWindow));
+    }
+    let context = Context {
+        scope,
+        windows,
+        place: Place::Window,
+    };
+    let meaning = window_resolved(alloc, &context, &window.window)?;
+    Ok(KnownWindow {
+        name: window.name.text.copy(alloc)?,
+        window: meaning,
+    })
+}
+
+/// The windows of the WINDOW clause: each is checked, also where no call uses it.
+pub fn all_defined(
+    alloc: Global,
+    scope: &Scope,
+    written: &[NamedWindow],
+) -> Result<Vec<KnownWindow>, ResolveError>
+    ensures { Gives (λ v. map known_of v.items) result (spec.all_defined (scope_of scope.now) [] (map view_named_window written.now)) }
+{
+    let mut windows = Vec::new(alloc);
+    for window in written {
+        let known = defined(alloc, scope, &windows, window)?;
+        windows.push(known)?;
+    }
+    Ok(windows)
+}

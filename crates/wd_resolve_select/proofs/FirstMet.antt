@@ -1,0 +1,36 @@
+-- First occurrences of one list after another, and what expressions need one after another.
+use Rattle.std.proofs.Common.{◌≡◌, ◌∙◌, sym, ap, refl, Bool, cond, List, [], ◌∷◌, ◌++◌}
+use Rattle.std.proofs.lemmas.List.{append_assoc}
+use Rattle.std.specs.List.{list_any}
+use Rattle.wd_plan.specs.Expressions.{Expression}
+use Rattle.wd_plan.specs.Equality.{same_expression}
+use Rattle.wd_resolve_operand.specs.Formulas.{Formula, leaves}
+use Rattle.wd_resolve_scope.specs.Calls.{CallMeaning, same_call}
+use Rattle.wd_resolve_scope.specs.Leaves.{SelectLeaf, column, call}
+use Rattle.wd_resolve_select.specs.Listing.{Needs, all_leaves, calls_among, needs_with, read_by, read_by_all, with_new}
+
+pub with_new_append : {A : Type 0} (same : A → A → Bool) (seen xs ys : List A) → with_new same seen (xs ++ ys) ≡ with_new same (with_new same seen xs) ys
+with_new_append same seen [] ys = refl
+with_new_append same seen (x ∷ xs) ys = with_new_append same (cond (list_any (same x) seen) seen (seen ++ x ∷ [])) xs ys
+
+calls_append : (xs ys : List SelectLeaf) → calls_among (xs ++ ys) ≡ calls_among xs ++ calls_among ys
+calls_append [] ys = refl
+calls_append (column n ∷ xs) ys = calls_append xs ys
+calls_append (call c ∷ xs) ys = ap (λ cs. c ∷ cs) (calls_append xs ys)
+
+read_append : (xs ys : List SelectLeaf) → read_by_all (xs ++ ys) ≡ read_by_all xs ++ read_by_all ys
+read_append [] ys = refl
+read_append (x ∷ xs) ys = ap (λ es. read_by x ++ es) (read_append xs ys) ∙ sym (append_assoc (read_by x) (read_by_all xs) (read_by_all ys))
+
+pub calls_added : (calls : List CallMeaning) (xs ys : List SelectLeaf) → with_new same_call calls (calls_among (xs ++ ys)) ≡ with_new same_call (with_new same_call calls (calls_among xs)) (calls_among ys)
+calls_added calls xs ys = ap (with_new same_call calls) (calls_append xs ys) ∙ with_new_append same_call calls (calls_among xs) (calls_among ys)
+
+pub inputs_added : (inputs : List Expression) (xs ys : List SelectLeaf) → with_new same_expression inputs (read_by_all (xs ++ ys)) ≡ with_new same_expression (with_new same_expression inputs (read_by_all xs)) (read_by_all ys)
+inputs_added inputs xs ys = ap (with_new same_expression inputs) (read_append xs ys) ∙ with_new_append same_expression inputs (read_by_all xs) (read_by_all ys)
+
+pub needs_append : (needs : Needs) (xs ys : List SelectLeaf) → needs_with needs (xs ++ ys) ≡ needs_with (needs_with needs xs) ys
+needs_append needs xs ys = λ i. record { calls = calls_added needs.calls xs ys i; inputs = inputs_added needs.inputs xs ys i }
+
+pub leaves_append : (fs gs : List (Formula SelectLeaf)) → all_leaves (fs ++ gs) ≡ all_leaves fs ++ all_leaves gs
+leaves_append [] gs = refl
+leaves_append (f ∷ fs) gs = ap (λ ls. leaves f ++ ls) (leaves_append fs gs) ∙ sym (append_assoc (leaves f) (all_leaves fs) (all_leaves gs))

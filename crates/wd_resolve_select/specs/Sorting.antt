@@ -1,0 +1,199 @@
+-- The final ORDER BY and the limits of rows (SQL, query expression; PG, Sorting Rows, LIMIT and OFFSET, SELECT: LIMIT Clause).
+use Rattle.std.specs.Prelude.{◌≡◌, ℕ, ◌+◌, ◌-◌, Bool, true, false, not, ◌&&◌, List, [], ◌∷◌, ◌++◌, map, length, filter, position, nat_le, Option, Some, None, Ok, Err, if◌then◌else◌}
+use Rattle.std.specs.List.{list_all}
+use Rattle.std.specs.Str.{bytes_eq}
+use Rattle.wd_value.specs.declared.order.SortKey.{SortKey}
+use Rattle.wd_read_cursor.specs.declared.name.Name.{Name}
+use Rattle.wd_syntax.specs.declared.expression.Literal.{Literal}
+use Rattle.wd_syntax.specs.declared.expression.Literal.TheVariants as l
+use Rattle.wd_syntax.specs.declared.query.Count.{Count}
+use Rattle.wd_syntax.specs.declared.query.Count.TheVariants as written
+use Rattle.wd_syntax.specs.declared.query.Offset.{Offset}
+use Rattle.wd_syntax.specs.declared.query.Limits.{Limits}
+use Rattle.wd_syntax.specs.declared.query.Limits.TheVariants.{OffsetFirst, CountFirst}
+use Rattle.wd_syntax.specs.Tree as tree
+use Rattle.wd_syntax.specs.Tree.{Tree, Keys, no_keys, more_keys}
+use Rattle.wd_value.specs.declared.order.SortColumn.{SortColumn}
+use Rattle.wd_resolve_operand.specs.declared.cause.Cause.TheVariants.{Ambiguous, WrongSortKey, TiesWithoutOrder, ForeignSortKey, TooMany}
+use Rattle.wd_resolve_operand.specs.Causes.{Meant, ◌>>=◌}
+use Rattle.wd_resolve_operand.specs.Formulas.{Formula, same_formula}
+use Rattle.wd_resolve_operand.specs.Operands.{number, settled}
+use Rattle.wd_resolve_scope.specs.declared.context.Place.TheVariants as place
+use Rattle.wd_resolve_scope.specs.Scopes.{ScopeRule, scope_of}
+use Rattle.wd_resolve_scope.specs.Windows.{sort_key}
+use Rattle.wd_resolve_scope.specs.Leaves.{SelectLeaf, formula_of, same_leaf}
+use Rattle.wd_resolve_scope.specs.Resolving.{plain, written_number}
+use Rattle.wd_resolve_select.specs.declared.shown.Shown.{Shown as CodeShown}
+use Rattle.wd_resolve_select.specs.declared.shown.KeyPlace.{KeyPlace as CodePlace}
+use Rattle.wd_resolve_select.specs.declared.shown.KeyPlace.TheVariants as code
+use Rattle.wd_resolve_select.specs.declared.shown.Sorted.{Sorted as CodeSorted}
+use Rattle.wd_resolve_select.specs.Listing.{are_wide, needs_of, needs_shown}
+use Rattle.wd_resolve_select.specs.Outputs.{OutputMeaning, expressions_of, output_of}
+
+-- what a select has before its ORDER BY: the columns of FROM, whether it is DISTINCT, and its outputs
+pub record Shown : Type 0 where
+  pub scope : ScopeRule
+  pub distinct : Bool
+  pub outputs : List OutputMeaning
+
+abbrev pub shown_of : CodeShown → Shown
+shown_of s = record { scope = scope_of s.scope.now; distinct = s.distinct; outputs = map output_of s.outputs.now }
+
+-- ---- sort keys
+
+-- what is sorted by: the output of that number, or an expression that is no output
+pub data KeyPlace : Type 0 where
+  output : ℕ → KeyPlace
+  hidden : Formula SelectLeaf → KeyPlace
+
+abbrev pub place_shown : CodePlace → KeyPlace
+place_shown (code.Output number) = output number
+place_shown (code.Hidden f) = hidden (formula_of f)
+
+-- an output shows an expression
+abbrev pub shows : Formula SelectLeaf → OutputMeaning → Bool
+shows f o = same_formula same_leaf f o.expression
+
+-- the output of that number, or else the expression itself
+abbrev pub output_or : Formula SelectLeaf → Option ℕ → KeyPlace
+output_or f None = hidden f
+output_or f (Some number) = output number
+
+-- an expression that equals an output is the first such
+abbrev pub sorted_place : Formula SelectLeaf → List OutputMeaning → KeyPlace
+sorted_place f outputs = output_or f (position (shows f) outputs)
+
+-- the expression of a key over the columns of FROM
+abbrev pub expression_place : Shown → Tree → Meant KeyPlace
+expression_place s a = plain place.SortKey s.scope a >>= λ x. Ok (sorted_place (settled x) s.outputs)
+
+abbrev pub is_named : List ℕ → OutputMeaning → Bool
+is_named name o = bytes_eq o.name name
+
+-- outputs of one name show one expression
+abbrev pub are_one : List OutputMeaning → Bool
+are_one [] = true
+are_one (o ∷ others) = list_all (shows o.expression) others
+
+-- the first output of a name, which no output of another expression may have
+abbrev pub first_named : List ℕ → List OutputMeaning → Meant (Option ℕ)
+first_named name outputs = if are_one (filter (is_named name) outputs) then Ok (position (is_named name) outputs) else Err Ambiguous
+
+abbrev pub or_expression : Option ℕ → Meant KeyPlace → Meant KeyPlace
+or_expression None other = other
+or_expression (Some number) other = Ok (output number)
+
+-- a bare name that is an output's name means that output, and else a column of FROM
+abbrev pub named_place : Shown → Name → Tree → Meant KeyPlace
+named_place s name a = first_named name.text s.outputs >>= λ number. or_expression number (expression_place s a)
+
+-- an ordinal counts outputs from 1
+abbrev pub ordinal : List OutputMeaning → ℕ → Meant KeyPlace
+ordinal outputs n = if nat_le 1 n && nat_le n (length outputs) then Ok (output (n - 1)) else Err WrongSortKey
+
+-- a bare number is an ordinal, and no other bare literal may stand here (own)
+abbrev pub literal_place : List OutputMeaning → Literal → Meant KeyPlace
+literal_place outputs (l.Number n) = number n >>= λ m. ordinal outputs m
+literal_place outputs literal = Err WrongSortKey
+
+-- a signed number is a literal too, and else a place stays
+abbrev pub unless_number : Option ℕ → KeyPlace → Meant KeyPlace
+unless_number None p = Ok p
+unless_number (Some n) p = Err WrongSortKey
+
+abbrev pub signed_place : Option ℕ → Meant KeyPlace → Meant KeyPlace
+signed_place number place = place >>= λ p. unless_number number p
+
+-- A bare name that is an output's name means that output, a bare number is an ordinal, and anything else is an expression over the
+-- columns of FROM; brackets round a key don't count.
+abbrev pub key_place : Shown → Tree → Meant KeyPlace
+key_place s (tree.Bracket a) = key_place s a
+key_place s (tree.Column name) = named_place s name (tree.Column name)
+key_place s (tree.Constant x) = literal_place s.outputs x
+key_place s (tree.Signed sign a) = signed_place (written_number a) (expression_place s (tree.Signed sign a))
+key_place s a = expression_place s a
+
+-- the sort keys over the outputs and the hidden columns after them, and the expressions that are hidden there
+pub record Sorted : Type 0 where
+  pub items : List SortColumn
+  pub hidden : List (Formula SelectLeaf)
+
+abbrev pub sorted_of : CodeSorted → Sorted
+sorted_of s = record { items = s.items.items; hidden = map formula_of s.hidden.items }
+
+-- no sort keys yet
+abbrev pub unsorted : Sorted
+unsorted = record { items = []; hidden = [] }
+
+-- what the Map shows: the outputs, and the hidden sort keys
+abbrev pub all_shown : Shown → Sorted → List (Formula SelectLeaf)
+all_shown s sorted = expressions_of s.outputs ++ sorted.hidden
+
+-- a further key by the column of that number
+abbrev pub with_item : ℕ → SortKey → Sorted → Sorted
+with_item number key so_far = record { items = so_far.items ++ record { column = number; key = key } ∷ []; hidden = so_far.hidden }
+
+-- a further key by a new hidden column, behind the outputs and the hidden columns before it
+abbrev pub with_column : Shown → Formula SelectLeaf → SortKey → Sorted → Sorted
+with_column s f key so_far = record {
+  items = so_far.items ++ record { column = length s.outputs + length so_far.hidden; key = key } ∷ [];
+  hidden = so_far.hidden ++ f ∷ [];
+}
+
+-- sort keys for which no node is too wide
+abbrev pub narrow_keys : Shown → Sorted → Meant Sorted
+narrow_keys s sorted = if are_wide (all_shown s sorted) then Err TooMany else Ok sorted
+
+-- a further key by an output, or by a new hidden column; with DISTINCT each key is an output
+abbrev pub with_key : Shown → KeyPlace → SortKey → Sorted → Meant Sorted
+with_key s (output number) key so_far = Ok (with_item number key so_far)
+with_key s (hidden f) key so_far = if s.distinct then Err ForeignSortKey else narrow_keys s (with_column s f key so_far)
+
+-- a further key
+abbrev pub key_sorted : Shown → Tree → SortKey → Sorted → Meant Sorted
+key_sorted s a key so_far = key_place s a >>= λ place. with_key s place key so_far
+
+abbrev pub keys_sorted : Shown → Keys → Sorted → Meant Sorted
+keys_sorted s no_keys so_far = Ok so_far
+keys_sorted s (more_keys a direction nulls keys) so_far = key_sorted s a (sort_key direction nulls) so_far >>= λ next. keys_sorted s keys next
+
+-- no node is too wide for the outputs and the sort keys so far
+abbrev pub IsNarrow : Shown → Sorted → Type 0
+IsNarrow s so_far = are_wide (all_shown s so_far) ≡ false
+
+-- what the outputs and the sort keys so far need is counted
+abbrev pub IsCounted : Shown → CodeSorted → Type 0
+IsCounted s so_far = needs_shown so_far.needs ≡ needs_of (all_shown s (sorted_of so_far))
+
+-- ---- limits of rows
+
+-- how many rows are left out, how many are then given at most, and whether with ties
+pub record Cut : Type 0 where
+  pub offset : ℕ
+  pub count : Option ℕ
+  pub ties : Bool
+
+-- an omitted number is 1
+abbrev pub fetched : Option ℕ → ℕ
+fetched None = 1
+fetched (Some n) = n
+
+-- WITH TIES needs ORDER BY
+abbrev pub tied : Bool → Bool → ℕ → Meant (Option ℕ × Bool)
+tied sorted with_ties n = if with_ties && not sorted then Err TiesWithoutOrder else Ok (Some n, with_ties)
+
+-- the count, and whether with ties
+abbrev pub count_meant : Bool → Option Count → Meant (Option ℕ × Bool)
+count_meant sorted None = Ok (None, false)
+count_meant sorted (Some (written.Limit n)) = number n >>= λ m. Ok (Some m, false)
+count_meant sorted (Some (written.Fetch word n row with_ties)) = number (fetched n) >>= λ m. tied sorted with_ties m
+
+abbrev pub offset_meant : Option Offset → Meant ℕ
+offset_meant None = Ok 0
+offset_meant (Some o) = number o.number
+
+-- the limits, from left to right
+abbrev pub cut_meant : Bool → Option Limits → Meant (Option Cut)
+cut_meant sorted None = Ok None
+cut_meant sorted (Some (OffsetFirst o c)) = number o.number >>= λ offset. count_meant sorted c >>= λ x. Ok (Some (record { offset = offset; count = x.0; ties = x.1 }))
+cut_meant sorted (Some (CountFirst c o)) = count_meant sorted (Some c) >>= λ x. offset_meant o >>= λ offset. Ok (Some (record { offset = offset; count = x.0; ties = x.1 }))

@@ -1,0 +1,34 @@
+//! What is sorted by an ORDER BY, and what is sorted.
+
+ghost use Rattle.std.specs.Prelude.{◌≤◌, length};
+
+use crate::needs::Needs;
+use crate::output::Output;
+use wd_resolve_operand::Formula;
+use wd_resolve_scope::{Scope, SelectLeaf};
+use wd_value::SortColumn;
+
+/// What a select has before its ORDER BY: the columns of FROM, whether it is DISTINCT, and its outputs, at most 1,024.
+#[derive(Clone, Copy)]
+pub struct Shown<'a> {
+    pub scope: &'a Scope,
+    pub distinct: bool,
+    pub outputs: &'a [Output],
+    pub ghost narrow: { length outputs.now ≤ 1024 },
+}
+
+/// What is sorted by: the output of that number, or an expression that is no output.
+#[derive(Drop)]
+pub enum KeyPlace {
+    Output(u16),
+    Hidden(Formula<SelectLeaf>),
+}
+
+/// The sort keys over the outputs and the hidden columns after them, the expressions that are hidden there, and what the outputs
+/// and these need of the rows below them.
+#[derive(Drop)]
+pub struct Sorted {
+    pub items: Vec<SortColumn>,
+    pub hidden: Vec<Formula<SelectLeaf>>,
+    pub needs: Needs,
+}

@@ -1,0 +1,332 @@
+//! The final ORDER BY: each key is an output, or a hidden column after the outputs.
+
+ghost use Rattle.std.specs.Prelude.{◌≡◌, ◌+◌, ◌≤◌, false, filter, map, length, vec_len, IfOk};
+ghost use Rattle.std.specs.List.{list_all, position_or_len};
+ghost use Rattle.wd_syntax.specs.Tree.{keys_of};
+ghost use Rattle.wd_syntax.specs.View.{view, view_key};
+ghost use Rattle.wd_resolve_operand.specs.Causes.{Gives};
+ghost use Rattle.wd_resolve_scope.specs.Leaves.{formula_of};
+ghost use Rattle.wd_resolve_scope.specs.Windows as windows;
+ghost use Rattle.wd_resolve_select.specs.Listing.{needs_of, needs_shown};
+ghost use Rattle.wd_resolve_select.specs.Listing as listing;
+ghost use Rattle.wd_resolve_select.specs.Outputs.{expressions_of, output_of};
+ghost use Rattle.wd_resolve_select.specs.Sorting.{all_shown, shown_of, place_shown, sorted_of, IsCounted, IsNarrow};
+ghost use Rattle.wd_resolve_select.specs.Sorting as spec;
+
+use crate::needs::Needs;
+use crate::output::Output;
+use crate::shown::{KeyPlace, Shown, Sorted};
+use std::alloc::Global;
+use wd_resolve_operand::{Cause, Formula, ResolveError, number};
+use wd_resolve_scope::{Place, SelectLeaf, plain, sort_key, written_number};
+use wd_syntax as written;
+use wd_syntax::{Literal, Name, SortKey};
+use wd_value::{OutOfMemory, SortColumn};
+
+/// Whether an output shows an expression.
+fn shows(formula: &Formula<SelectLeaf>, output: &Output) -> bool
+    ensures { result ≡ spec.shows (formula_of formula.now) (output_of output.now) }
+{
+    formula.same(&output.expression)
+}
+
+/// The number of the first output that shows an expression, and the number of outputs where none does.
+fn output_number(formula: &Formula<SelectLeaf>, outputs: &[Output]) -> usize
+    ensures number { result ≡ position_or_len (spec.shows (formula_of formula.now)) (map output_of outputs.now) }
+    ensures within { result ≤ length outputs.now }
+{
+    for (number, output) in outputs.iter().enumerate() {
+        if shows(formula, output) {
+            return number;
+        }
+    }
+    outputs.len()
+}
+
+/// An expression that equals an output is the first such.
+fn sorted_place(formula: Formula<SelectLeaf>, outputs: &[Output]) -> KeyPlace
+    requires { length outputs.now ≤ 1024 }
+    ensures { place_shown result ≡ spec.sorted_place (formula_of formula) (map output_of outputs.now) }
+{
+    let number = output_number(&formula, outputs);
+    if number < outputs.len() {
+        KeyPlace::Output(number as u16)
+    } else {
+        KeyPlace::Hidden(formula)
+    }
+}
+
+/// The expression of a key over the columns of FROM.
+fn expression_place(
+    alloc: Global,
+    shown: &Shown<'_>,
+    tree: &written::Expr,
+) -> Result<KeyPlace, ResolveError>
+    ensures { Gives place_shown result (spec.expression_place (shown_of shown.now) (view tree.now)) }
+{
+    let operand = plain(alloc, shown.scope, Place::SortKey, tree)?;
+    Ok(sorted_place(operand.settled(), shown.outputs))
+}
+
+fn is_named(name: &Name, output: &Output) -> bool
+    ensures { result ≡ spec.is_named name.now.text (output_of output.now) }
+{
+    output.name.as_str() == name.text.as_str()
+}
+
+/// Whether each output of that name has the expression.
+fn names_only(name: &Name, formula: &Formula<SelectLeaf>, outputs: &[Output]) -> bool
+    ensures { result ≡ list_all (spec.shows (formula_of formula.now)) (filter (spec.is_named name.now.text) (map output_of outputs.now)) }
+{
+    for output in outputs {
+        if is_named(name, output) && !shows(formula, output) {
+            return false;
+        }
+    }
+    true
+}
+
+/// The number of the first output of a name; 403 where another has it and shows another expression.
+#[tactic(auto, using(crate::proofs::Among::found_at, crate::proofs::Among::found_none))]
+fn first_named(name: &Name, outputs: &[Output]) -> Result<Option<u16>, ResolveError>
+    requires { length outputs.now ≤ 1024 }
+    ensures { Gives (λ number. number) result (spec.first_named name.now.text (map output_of outputs.now)) }
+{
+    for (number, output) in outputs.iter().enumerate() {
+        if is_named(name, output) {
+            return if names_only(name, &output.expression, &outputs[number + 1..]) {
+                Ok(Some(number as u16))
+            } else {
+                Err(ResolveError::Refused(Cause::Ambiguous))
+            };
+        }
+    }
+    Ok(None)
+}
+
+/// An ordinal counts outputs from 1.
+fn ordinal(outputs: &[Output], n: u64) -> Result<KeyPlace, ResolveError>
+    requires { length outputs.now ≤ 1024 }
+    ensures { Gives place_shown result (spec.ordinal (map output_of outputs.now) n) }
+{
+    if n >= 1 && n <= outputs.len() as u64 {
+        Ok(KeyPlace::Output((n - 1) as u16))
+    } else {
+        Err(ResolveError::Refused(Cause::WrongSortKey))
+    }
+}
+
+/// A bare number is an ordinal, and no other bare literal may stand here.
+fn literal_place(outputs: &[Output], literal: &Literal) -> Result<KeyPlace, ResolveError>
+    requires { length outputs.now ≤ 1024 }
+    ensures { Gives place_shown result (spec.literal_place (map output_of outputs.now) literal.now) }
+{
+    match literal {
+        Literal::Number(n) => ordinal(outputs, number(*n)?),
+        Literal::Text(_) | Literal::Truth(_) | Literal::Null => Err(ResolveError::Refused(
+            Cause::WrongSortKey,
+        )),
+    }
+}
+
+/// A bare name that is an output's name means that output, and else a column of FROM.
+fn named_place(
+    alloc: Global,
+    shown: &Shown<'_>,
+    name: &Name,
+    tree: &written::Expr,
+) -> Result<KeyPlace, ResolveError>
+    ensures { Gives place_shown result (spec.named_place (shown_of shown.now) name.now (view tree.now)) }
+{
+    match first_named(name, shown.outputs)? {
+        Some(number) => Ok(KeyPlace::Output(number)),
+        None => expression_place(alloc, shown, tree),
+    }
+}
+
+/// A number with a sign is a literal too, which may not stand here.
+fn signed_place(
+    alloc: Global,
+    shown: &Shown<'_>,
+    tree: &written::Expr,
+    number: Option<u64>,
+) -> Result<KeyPlace, ResolveError>
+    ensures { Gives place_shown result (spec.signed_place number (spec.expression_place (shown_of shown.now) (view tree.now))) }
+{
+    let place = expression_place(alloc, shown, tree)?;
+    match number {
+        Some(_) => Err(ResolveError::Refused(Cause::WrongSortKey)),
+        None => Ok(place),
+    }
+}
+
+/// What a final sort key sorts by. Brackets round it don't count.
+fn key_place(
+    alloc: Global,
+    shown: &Shown<'_>,
+    tree: &written::Expr,
+) -> Result<KeyPlace, ResolveError>
+    ensures { Gives place_shown result (spec.key_place (shown_of shown.now) (view tree.now)) }
+{
+    match tree {
+        written::Expr::Bracket(inner) => key_place(alloc, shown, inner),
+        written::Expr::Column(name) => named_place(alloc, shown, name, tree),
+        written::Expr::Literal(literal) => literal_place(shown.outputs, literal),
+        written::Expr::Signed(_, inner) => {
+            signed_place(alloc, shown, tree, written_number(inner))
+        }
+        written::Expr::Chain(first, links) => if links.is_empty() {
+            key_place(alloc, shown, first)
+        } else {
+            expression_place(alloc, shown, tree)
+        },
+        written::Expr::Tests(inner, tests) => if tests.is_empty() {
+            key_place(alloc, shown, inner)
+        } else {
+            expression_place(alloc, shown, tree)
+        },
+        written::Expr::Qualified(_, _)
+        | written::Expr::CallAll(_, _)
+        | written::Expr::Call(_, _, _)
+        | written::Expr::Case(_, _)
+        | written::Expr::Compare(_, _, _)
+        | written::Expr::Not(_) => expression_place(alloc, shown, tree),
+    }
+}
+
+/// A key by an output.
+fn with_output(
+    sorted: Sorted,
+    shown: &Shown<'_>,
+    column: u16,
+    key: wd_value::SortKey,
+) -> Result<Sorted, ResolveError>
+    requires counted { IsCounted (shown_of shown.now) sorted }
+    requires narrow { IsNarrow (shown_of shown.now) (sorted_of sorted) }
+    ensures meant { Gives sorted_of result (spec.with_key (shown_of shown.now) (spec.output column) key (sorted_of sorted)) }
+    ensures counted { IfOk result (λ s. IsCounted (shown_of shown.now) s) }
+    ensures narrow { IfOk result (λ s. IsNarrow (shown_of shown.now) (sorted_of s)) }
+{
+    let Sorted {
+        mut items,
+        hidden,
+        needs,
+    } = sorted;
+    items.push(SortColumn { column, key })?;
+    Ok(Sorted {
+        items,
+        hidden,
+        needs,
+    })
+}
+
+/// A further hidden column, and a key by it.
+#[tactic(auto, using(crate::proofs::Counted::needs_pushed))]
+fn with_column(
+    alloc: Global,
+    sorted: Sorted,
+    shown: &Shown<'_>,
+    formula: Formula<SelectLeaf>,
+    key: wd_value::SortKey,
+) -> Result<Sorted, OutOfMemory>
+    requires few { length shown.now.outputs.now + vec_len sorted.hidden ≤ 1024 }
+    requires counted { IsCounted (shown_of shown.now) sorted }
+    ensures meant { IfOk result (λ s. sorted_of s ≡ spec.with_column (shown_of shown.now) (formula_of formula) key (sorted_of sorted)) }
+    ensures counted { IfOk result (λ s. IsCounted (shown_of shown.now) s) }
+{
+    let Sorted {
+        mut items,
+        mut hidden,
+        mut needs,
+    } = sorted;
+    let column = (shown.outputs.len() + hidden.len()) as u16;
+    needs.add(alloc, &formula)?;
+    hidden.push(formula)?;
+    items.push(SortColumn { column, key })?;
+    Ok(Sorted {
+        items,
+        hidden,
+        needs,
+    })
+}
+
+/// Whether the outputs and the sort keys make some node too wide.
+fn are_wide(shown: &Shown<'_>, sorted: &Sorted) -> bool
+    requires { IsCounted (shown_of shown.now) sorted.now }
+    ensures { result ≡ listing.are_wide (all_shown (shown_of shown.now) (sorted_of sorted.now)) }
+{
+    sorted
+        .needs
+        .is_wide(shown.outputs.len() + sorted.hidden.len())
+}
+
+/// A key by a new hidden column: 414 with DISTINCT, and 415 where it makes a node too wide.
+#[tactic(auto, using(crate::proofs::Counted::few_shown))]
+fn with_hidden(
+    alloc: Global,
+    sorted: Sorted,
+    shown: &Shown<'_>,
+    formula: Formula<SelectLeaf>,
+    key: wd_value::SortKey,
+) -> Result<Sorted, ResolveError>
+    requires counted { IsCounted (shown_of shown.now) sorted }
+    requires narrow { IsNarrow (shown_of shown.now) (sorted_of sorted) }
+    ensures meant { Gives sorted_of result (spec.with_key (shown_of shown.now) (spec.hidden (formula_of formula)) key (sorted_of sorted)) }
+    ensures counted { IfOk result (λ s. IsCounted (shown_of shown.now) s) }
+    ensures narrow { IfOk result (λ s. IsNarrow (shown_of shown.now) (sorted_of s)) }
+{
+    if shown.distinct {
+        return Err(ResolveError::Refused(Cause::ForeignSortKey));
+    }
+    let next = with_column(alloc, sorted, shown, formula, key)?;
+    if are_wide(shown, &next) {
+        Err(ResolveError::Refused(Cause::TooMany))
+    } else {
+        Ok(next)
+    }
+}
+
+/// A further key.
+fn key_sorted(
+    alloc: Global,
+    sorted: Sorted,
+    shown: &Shown<'_>,
+    key: &SortKey,
+) -> Result<Sorted, ResolveError>
+    requires counted { IsCounted (shown_of shown.now) sorted }
+    requires narrow { IsNarrow (shown_of shown.now) (sorted_of sorted) }
+    ensures meant { Gives sorted_of result (spec.key_sorted (shown_of shown.now) (view key.now.expr) (windows.sort_key key.now.direction key.now.nulls) (sorted_of sorted)) }
+    ensures counted { IfOk result (λ s. IsCounted (shown_of shown.now) s) }
+    ensures narrow { IfOk result (λ s. IsNarrow (shown_of shown.now) (sorted_of s)) }
+{
+    let place = key_place(alloc, shown, &key.expr)?;
+    let direction = sort_key(key.direction, key.nulls);
+    match place {
+        KeyPlace::Output(column) => with_output(sorted, shown, column, direction),
+        KeyPlace::Hidden(formula) => with_hidden(alloc, sorted, shown, formula, direction),
+    }
+}
+
+/// The sort keys of a select, whose outputs need this.
+pub fn keys_sorted(
+    alloc: Global,
+    shown: &Shown<'_>,
+    keys: &[SortKey],
+    needs: Needs,
+) -> Result<Sorted, ResolveError>
+    requires counted { needs_shown needs ≡ needs_of (expressions_of (shown_of shown.now).outputs) }
+    requires narrow { listing.are_wide (expressions_of (shown_of shown.now).outputs) ≡ false }
+    ensures meant { Gives sorted_of result (spec.keys_sorted (shown_of shown.now) (keys_of (map view_key keys.now)) spec.unsorted) }
+    ensures counted { IfOk result (λ s. IsCounted (shown_of shown.now) s) }
+    ensures narrow { IfOk result (λ s. IsNarrow (shown_of shown.now) (sorted_of s)) }
+{
+    let mut sorted = Sorted {
+        items: Vec::new(alloc),
+        hidden: Vec::new(alloc),
+        needs,
+    };
+    for key in keys {
+        sorted = key_sorted(alloc, sorted, shown, key)?;
+    }
+    Ok(sorted)
+}

@@ -1,0 +1,412 @@
+//! The steps of a plan above FROM.
+
+ghost use Rattle.std.specs.Prelude.{◌≡◌, ◌+◌, ◌≤◌, false, nat_eq, [], ◌∷◌, map, length, vec_len, option_map, IfOk};
+ghost use Rattle.std.specs.List.{list_any, position_or_len};
+ghost use lib.Pointwise.{pointwise};
+ghost use Rattle.wd_plan.specs.Expressions.{expression_of};
+ghost use Rattle.wd_plan.specs.Plans.{class_of, plan_of};
+ghost use Rattle.wd_syntax.specs.View.{view_option};
+ghost use Rattle.wd_resolve_operand.specs.Causes.{Gives};
+ghost use Rattle.wd_resolve_scope.specs.Calls.{aggregate_of, argument_of, call_of, function_of};
+ghost use Rattle.wd_resolve_scope.specs.Leaves.{formula_of};
+ghost use Rattle.wd_resolve_scope.specs.Scopes.{scope_of};
+ghost use Rattle.wd_resolve_scope.specs.Windows.{key_of};
+ghost use Rattle.wd_resolve_select.specs.Cuts.{cut_of};
+ghost use Rattle.wd_resolve_select.specs.Listing.{input_number as input_meant, is_window_wide, needs_shown, with_new};
+ghost use Rattle.wd_resolve_select.specs.Steps as spec;
+
+use crate::inputs::input_number;
+use crate::limits::Cut;
+use crate::needs::Needs;
+use crate::seated::all_seated;
+use std::alloc::Global;
+use wd_plan::{Aggregate, Call, Class, Expr, FrameFunction, Function, Limit, Plan, Shift, Window};
+use wd_resolve_operand::{Formula, ResolveError};
+use wd_resolve_scope::{
+    AppliedAggregate, AppliedFunction, OrderKey, Place, Scope, SelectLeaf, ValueArgument,
+    WindowCall, condition,
+};
+use wd_syntax as written;
+use wd_value::{OutOfMemory, SortColumn};
+
+/// All rows.
+const NO_CUT: Cut = Cut {
+    offset: 0,
+    count: None,
+    ties: false,
+};
+
+/// WHERE is a Filter.
+pub fn filtered(
+    alloc: Global,
+    scope: &Scope,
+    filter: &Option<written::Expr>,
+    plan: Plan,
+) -> Result<Plan, ResolveError>
+    ensures { Gives plan_of result (spec.filtered (scope_of scope.now) (view_option filter.now) (plan_of plan)) }
+{
+    match filter {
+        None => Ok(plan),
+        Some(tree) => {
+            let condition = condition(alloc, scope, Place::Where, tree)?;
+            Ok(Plan::Filter {
+                input: Box::new(alloc, plan)?,
+                condition,
+            })
+        }
+    }
+}
+
+/// The column of a value argument among the inputs.
+fn argument_over(argument: &ValueArgument, inputs: &[Expr]) -> u16
+    requires { length inputs.now ≤ 1024 }
+    ensures { result ≡ spec.argument_over (map expression_of inputs.now) (argument_of argument.now) }
+{
+    input_number(inputs, &argument.expression) as u16
+}
+
+/// The aggregate of a plan, over the column of its argument.
+fn aggregate_over(aggregate: &AppliedAggregate, inputs: &[Expr]) -> Aggregate
+    requires { length inputs.now ≤ 1024 }
+    ensures { result ≡ spec.aggregate_over (map expression_of inputs.now) (aggregate_of aggregate.now) }
+{
+    match aggregate {
+        AppliedAggregate::CountRows => Aggregate::CountRows,
+        AppliedAggregate::Count(argument) => Aggregate::Count(argument_over(argument, inputs)),
+        AppliedAggregate::Sum(argument) => Aggregate::Sum(argument_over(argument, inputs)),
+        AppliedAggregate::Min(argument) => Aggregate::Min(argument_over(argument, inputs)),
+        AppliedAggregate::Max(argument) => Aggregate::Max(argument_over(argument, inputs)),
+    }
+}
+
+/// The function of a plan, over the column of its argument.
+fn function_over(function: AppliedFunction, inputs: &[Expr]) -> Function
+    requires { length inputs.now ≤ 1024 }
+    ensures { result ≡ spec.function_over (map expression_of inputs.now) (function_of function) }
+{
+    match function {
+        AppliedFunction::Ranking(ranking) => Function::Ranking(ranking),
+        AppliedFunction::Shift {
+            direction,
+            argument,
+            offset,
+            default,
+        } => Function::Shift(Shift {
+            direction,
+            argument: argument_over(&argument, inputs),
+            offset,
+            default,
+        }),
+        AppliedFunction::ValueAt(row, argument) => Function::OfFrame(FrameFunction::ValueAt(
+            row,
+            argument_over(&argument, inputs),
+        )),
+        AppliedFunction::Aggregate(aggregate) => Function::OfFrame(FrameFunction::Aggregate(
+            aggregate_over(&aggregate, inputs),
+        )),
+    }
+}
+
+/// The columns of a partition among the inputs.
+fn columns_over(
+    alloc: Global,
+    inputs: &[Expr],
+    expressions: &[Expr],
+) -> Result<Vec<u16>, OutOfMemory>
+    requires { length inputs.now ≤ 1024 }
+    ensures { IfOk result (λ v. v.items ≡ map (input_meant (map expression_of inputs.now)) (map expression_of expressions.now)) }
+{
+    let mut columns = Vec::with_capacity(alloc, expressions.len())?;
+    for expression in expressions {
+        columns.push(input_number(inputs, expression) as u16)?;
+    }
+    Ok(columns)
+}
+
+/// The sort keys of a window among the inputs.
+fn items_over(
+    alloc: Global,
+    inputs: &[Expr],
+    keys: &[OrderKey],
+) -> Result<Vec<SortColumn>, OutOfMemory>
+    requires { length inputs.now ≤ 1024 }
+    ensures { IfOk result (λ v. v.items ≡ map (spec.order_item (map expression_of inputs.now)) (map key_of keys.now)) }
+{
+    let mut items = Vec::with_capacity(alloc, keys.len())?;
+    for key in keys {
+        items.push(SortColumn {
+            column: input_number(inputs, &key.expression) as u16,
+            key: key.key,
+        })?;
+    }
+    Ok(items)
+}
+
+/// The class of a call: its partition and its sort keys among the inputs.
+fn class_over(alloc: Global, inputs: &[Expr], call: &WindowCall) -> Result<Class, OutOfMemory>
+    requires { length inputs.now ≤ 1024 }
+    ensures { IfOk result (λ c. class_of c ≡ spec.class_over (map expression_of inputs.now) (call_of call.now)) }
+{
+    let partition = columns_over(alloc, inputs, &call.window.partition)?;
+    let order = items_over(alloc, inputs, &call.window.order)?;
+    Ok(Class { partition, order })
+}
+
+fn same_columns(a: &[u16], b: &[u16]) -> bool
+    ensures { result ≡ pointwise nat_eq a.now b.now }
+{
+    if a.len() != b.len() {
+        return false;
+    }
+    for (i, column) in a.iter().enumerate() {
+        if *column != b[i] {
+            return false;
+        }
+    }
+    true
+}
+
+fn same_item(a: SortColumn, b: SortColumn) -> bool
+    ensures { result ≡ spec.same_item a b }
+{
+    a.column == b.column && a.key.desc == b.key.desc && a.key.nulls_first == b.key.nulls_first
+}
+
+fn same_items(a: &[SortColumn], b: &[SortColumn]) -> bool
+    ensures { result ≡ pointwise spec.same_item a.now b.now }
+{
+    if a.len() != b.len() {
+        return false;
+    }
+    for (i, item) in a.iter().enumerate() {
+        if !same_item(*item, b[i]) {
+            return false;
+        }
+    }
+    true
+}
+
+fn same_class(a: &Class, b: &Class) -> bool
+    ensures { result ≡ spec.same_class (class_of a.now) (class_of b.now) }
+{
+    same_items(&a.order, &b.order) && same_columns(&a.partition, &b.partition)
+}
+
+/// The number of the first class that equals another, and the number of classes where none does.
+fn class_number(classes: &[Class], class: &Class) -> usize
+    ensures number { result ≡ position_or_len (spec.same_class (class_of class.now)) (map class_of classes.now) }
+    ensures within { result ≤ length classes.now }
+{
+    for (number, other) in classes.iter().enumerate() {
+        if same_class(class, other) {
+            return number;
+        }
+    }
+    classes.len()
+}
+
+/// Whether a class is among others.
+fn is_known(classes: &[Class], class: &Class) -> bool
+    ensures { result ≡ list_any (spec.same_class (class_of class.now)) (map class_of classes.now) }
+{
+    for other in classes {
+        if same_class(class, other) {
+            return true;
+        }
+    }
+    false
+}
+
+/// Adds a class, where it is new.
+fn add_class(classes: &mut Vec<Class>, class: Class) -> Result<(), OutOfMemory>
+    ensures meant { IfOk result (λ u. map class_of classes.new.items ≡ with_new spec.same_class (map class_of classes.old.items) (class_of class ∷ [])) }
+    ensures within { IfOk result (λ u. vec_len classes.new ≤ vec_len classes.old + 1) }
+{
+    if is_known(classes, &class) {
+        return Ok(());
+    }
+    classes.push(class)?;
+    Ok(())
+}
+
+/// The classes of calls, in the order of their first calls.
+fn classes_over(
+    alloc: Global,
+    inputs: &[Expr],
+    calls: &[WindowCall],
+) -> Result<Vec<Class>, OutOfMemory>
+    requires { length inputs.now ≤ 1024 }
+    ensures meant { IfOk result (λ v. map class_of v.items ≡ spec.classes_over (map expression_of inputs.now) (map call_of calls.now)) }
+    ensures within { IfOk result (λ v. vec_len v ≤ length calls.now) }
+{
+    let mut classes = Vec::new(alloc);
+    for call in calls {
+        let class = class_over(alloc, inputs, call)?;
+        add_class(&mut classes, class)?;
+    }
+    Ok(classes)
+}
+
+/// A call of a plan: its class, its function and its frame.
+fn call_over(
+    alloc: Global,
+    inputs: &[Expr],
+    classes: &[Class],
+    call: WindowCall,
+) -> Result<Call, OutOfMemory>
+    requires few_inputs { length inputs.now ≤ 1024 }
+    requires few_classes { length classes.now ≤ 1024 }
+    ensures { IfOk result (λ c. c ≡ spec.call_over (map expression_of inputs.now) (map class_of classes.now) (call_of call)) }
+{
+    let class = class_over(alloc, inputs, &call)?;
+    let number = class_number(classes, &class) as u16;
+    let WindowCall { function, window } = call;
+    Ok(Call {
+        class: number,
+        function: function_over(function, inputs),
+        frame: window.frame,
+    })
+}
+
+/// The calls of a plan.
+fn calls_over(
+    alloc: Global,
+    inputs: &[Expr],
+    classes: &[Class],
+    calls: Vec<WindowCall>,
+) -> Result<Vec<Call>, OutOfMemory>
+    requires few_inputs { length inputs.now ≤ 1024 }
+    requires few_classes { length classes.now ≤ 1024 }
+    ensures { IfOk result (λ v. v.items ≡ map (spec.call_over (map expression_of inputs.now) (map class_of classes.now)) (map call_of calls.items)) }
+{
+    let mut planned = Vec::with_capacity(alloc, calls.len())?;
+    for call in calls {
+        planned.push(call_over(alloc, inputs, classes, call)?)?;
+    }
+    Ok(planned)
+}
+
+/// A Window over a Map of the inputs, with the calls in order and their classes in the order of their first calls.
+fn window_on(
+    alloc: Global,
+    inputs: Vec<Expr>,
+    calls: Vec<WindowCall>,
+    plan: Plan,
+) -> Result<Plan, OutOfMemory>
+    requires few_inputs { vec_len inputs ≤ 1024 }
+    requires few_calls { vec_len calls ≤ 1024 }
+    ensures { IfOk result (λ p. plan_of p ≡ spec.window_on (map expression_of inputs.items) (map call_of calls.items) (plan_of plan)) }
+{
+    let classes = classes_over(alloc, &inputs, &calls)?;
+    let calls = calls_over(alloc, &inputs, &classes, calls)?;
+    let inner = Plan::Map {
+        input: Box::new(alloc, plan)?,
+        outputs: inputs,
+    };
+    Ok(Plan::Window {
+        input: Box::new(alloc, inner)?,
+        window: Window { classes, calls },
+    })
+}
+
+/// With window calls a Window over a Map of the inputs.
+fn windowed(alloc: Global, needs: Needs, plan: Plan) -> Result<Plan, OutOfMemory>
+    requires { is_window_wide (needs_shown needs) ≡ false }
+    ensures { IfOk result (λ p. plan_of p ≡ spec.windowed (needs_shown needs).inputs (needs_shown needs).calls (plan_of plan)) }
+{
+    let Needs { calls, inputs } = needs;
+    if calls.is_empty() {
+        Ok(plan)
+    } else {
+        window_on(alloc, inputs, calls, plan)
+    }
+}
+
+/// A Map of the expressions, over the Window where there is one.
+pub fn mapped(
+    alloc: Global,
+    needs: Needs,
+    formulas: Vec<Formula<SelectLeaf>>,
+    plan: Plan,
+) -> Result<Plan, OutOfMemory>
+    requires { is_window_wide (needs_shown needs) ≡ false }
+    ensures { IfOk result (λ p. plan_of p ≡ spec.mapped_over (needs_shown needs) (map formula_of formulas.items) (plan_of plan)) }
+{
+    let outputs = all_seated(alloc, &needs, &formulas)?;
+    let below = windowed(alloc, needs, plan)?;
+    Ok(Plan::Map {
+        input: Box::new(alloc, below)?,
+        outputs,
+    })
+}
+
+/// DISTINCT is a Distinct.
+pub fn deduplicated(alloc: Global, distinct: bool, plan: Plan) -> Result<Plan, OutOfMemory>
+    ensures { IfOk result (λ p. plan_of p ≡ spec.deduplicated distinct (plan_of plan)) }
+{
+    if distinct {
+        Ok(Plan::Distinct {
+            input: Box::new(alloc, plan)?,
+        })
+    } else {
+        Ok(plan)
+    }
+}
+
+/// ORDER BY, OFFSET or a count is a Limit.
+pub fn limited(
+    alloc: Global,
+    keys: Vec<SortColumn>,
+    cut: Option<Cut>,
+    plan: Plan,
+) -> Result<Plan, OutOfMemory>
+    ensures { IfOk result (λ p. plan_of p ≡ spec.limited keys.items (option_map cut_of cut) (plan_of plan)) }
+{
+    let cut = match cut {
+        Some(cut) => cut,
+        None if keys.is_empty() => return Ok(plan),
+        None => NO_CUT,
+    };
+    let limit = Limit {
+        keys,
+        offset: cut.offset,
+        count: cut.count,
+        ties: cut.ties,
+    };
+    Ok(Plan::Limit {
+        input: Box::new(alloc, plan)?,
+        limit,
+    })
+}
+
+/// The first columns, so many.
+fn first_columns(alloc: Global, count: usize) -> Result<Vec<Expr>, OutOfMemory>
+    requires { count ≤ 1024 }
+    ensures { IfOk result (λ v. map expression_of v.items ≡ spec.columns_from 0 count) }
+{
+    let mut columns = Vec::with_capacity(alloc, count)?;
+    for number in 0..count {
+        columns.push(Expr::Column(number as u16))?;
+    }
+    Ok(columns)
+}
+
+/// A Map that drops the hidden sort keys after the outputs, where there are some.
+pub fn without_hidden(
+    alloc: Global,
+    outputs: usize,
+    hidden: usize,
+    plan: Plan,
+) -> Result<Plan, OutOfMemory>
+    requires { outputs ≤ 1024 }
+    ensures { IfOk result (λ p. plan_of p ≡ spec.without_hidden outputs hidden (plan_of plan)) }
+{
+    if hidden == 0 {
+        return Ok(plan);
+    }
+    let columns = first_columns(alloc, outputs)?;
+    Ok(Plan::Map {
+        input: Box::new(alloc, plan)?,
+        outputs: columns,
+    })
+}

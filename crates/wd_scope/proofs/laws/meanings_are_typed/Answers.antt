@@ -1,5 +1,0 @@
-use Rattle.wd_scope.proofs.TypedTrees.{resolved_is}
-use Rattle.wd_scope.proofs.laws.meanings_are_typed.Goals as goal
-
-pub returns : goal.returns
-returns c = resolved_is

@@ -1,5 +1,0 @@
-use Rattle.wd_scope.proofs.TypedTrees.{window_resolved_is}
-use Rattle.wd_scope.proofs.laws.windows_are_typed.Goals as goal
-
-pub returns : goal.returns
-returns c = window_resolved_is

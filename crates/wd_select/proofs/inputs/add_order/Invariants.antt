@@ -1,9 +1,0 @@
-use Rattle.std.proofs.Common.{◌≡◌, drop, map}
-use Rattle.wd_plan.specs.Expressions.{expression_of}
-use Rattle.wd_plan.specs.Equality.{same_expression}
-use Rattle.wd_scope.specs.Windows.{key_of}
-use Rattle.wd_select.specs.Listing.{sorted_by, with_new}
-use Rattle.wd_select.proofs.inputs.add_order.Given as goal
-
-abbrev pub invariant-loop-key : goal.invariant-loop-key
-invariant-loop-key l = with_new same_expression (map expression_of l.inputs.items) (map sorted_by (map key_of (drop l.key-index l.keys))) ≡ with_new same_expression (map expression_of l.initial.inputs.items) (map sorted_by (map key_of l.keys))

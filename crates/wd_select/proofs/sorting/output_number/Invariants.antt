@@ -1,9 +1,0 @@
-use Rattle.std.proofs.Common.{◌≡◌, ◌+◌, drop, map}
-use Rattle.std.specs.List.{position_or_len}
-use Rattle.wd_scope.specs.Leaves.{formula_of}
-use Rattle.wd_select.specs.Outputs.{output_of}
-use Rattle.wd_select.specs.Sorting.{shows}
-use Rattle.wd_select.proofs.sorting.output_number.Given as goal
-
-abbrev pub invariant-loop-number : goal.invariant-loop-number
-invariant-loop-number l = l.number + position_or_len (shows (formula_of l.formula)) (map output_of (drop l.number l.outputs)) ≡ position_or_len (shows (formula_of l.formula)) (map output_of l.outputs)

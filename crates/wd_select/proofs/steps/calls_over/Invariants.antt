@@ -1,9 +1,0 @@
-use Rattle.std.proofs.Common.{◌≡◌, map}
-use Rattle.wd_plan.specs.Expressions.{expression_of}
-use Rattle.wd_plan.specs.Plans.{class_of}
-use Rattle.wd_scope.specs.Calls.{call_of}
-use Rattle.wd_select.specs.Steps.{call_over}
-use Rattle.wd_select.proofs.steps.calls_over.Given as goal
-
-abbrev pub invariant-loop-call : goal.invariant-loop-call
-invariant-loop-call l = l.planned.items ≡ map (call_over (map expression_of l.inputs) (map class_of l.classes)) (map call_of l.yielded)
