@@ -46,13 +46,14 @@ arms_in (e.Case' shape row other) = (_, row)
 arms_in _ = (_, end_of-Arm)
 
 abbrev links_in : Expr → (n : Count) × Row_of-Link n
-links_in (e.Chain' p a shape row) = (_, row)
+links_in (e.Chain' p a shape row q o b) = (_, row)
 links_in _ = (_, end_of-Link)
 
-pub view_chain : (first : Box Expr) (xs : Vec Link Global) → view (e.Chain first xs) ≡ chained (view first.value) (map view_link xs.items)
-view_chain first xs =
-    let row = links_in (e.Chain first xs) in
-    row_links row.0 (view first.value) row.1 ∙ ap (λ (z : List Link). chained (view first.value) (map view_link z)) (items_hidden-the_row-Link-2 xs)
+pub view_chain : (first : Box Expr) (xs : Vec Link Global) (last : Box Link) → view (e.Chain first xs last) ≡ Binary last.value.operator (chained (view first.value) (map view_link xs.items)) (view last.value.operand)
+view_chain first xs last =
+    let row = links_in (e.Chain first xs last) in
+    ap (λ (z : Tree). Binary last.value.operator z (view last.value.operand))
+    (row_links row.0 (view first.value) row.1 ∙ ap (λ (z : List Link). chained (view first.value) (map view_link z)) (items_hidden-the_row-Link-2 xs))
 
 abbrev partition_of : Window → (n : Count) × Row_of-Expr n
 partition_of (Window' base shape partition shape' order frame) = (_, partition)

@@ -45,8 +45,8 @@ abbrev mutual
   view (e.Bracket' p a) = Bracket (view a)
   view (e.Signed' s p a) = Signed s (view a)
   view (e.Compare' o p a q b) = Binary o (view a) (view b)
-  view (e.Chain' p a shape row) = view_links (view a) row
-  view (e.Tests' p a nots) = tested (view a) nots.items
+  view (e.Chain' p a shape row q o b) = Binary o (view_links (view a) row) (view b)
+  view (e.Tests' p a nots not) = IsNull (tested (view a) nots.items) not
   view (e.Not' p a) = Negated (view a)
 
   -- operators and their right operands, on what stands left of them

@@ -92,10 +92,11 @@ pub enum Expr {
     Signed(Sign, Box<Expr>),
     /// A comparison.
     Compare(Operator, Box<Expr>, Box<Expr>),
-    /// Operators of one precedence, each with its right operand. What stands left of one is the operand of the next.
-    Chain(Box<Expr>, Vec<Link>),
-    /// Tests for NULL, one after another: `IS NULL`, or `IS NOT NULL` where true.
-    Tests(Box<Expr>, Vec<bool>),
+    /// Operators of one precedence, each with its right operand: the ones before the last, and the last. What stands left of one is
+    /// its left operand.
+    Chain(Box<Expr>, Vec<Link>, Box<Link>),
+    /// Tests for NULL, one after another: the ones before the last, and the last. Each is `IS NULL`, or `IS NOT NULL` where true.
+    Tests(Box<Expr>, Vec<bool>, bool),
     Not(Box<Expr>),
 }
 
