@@ -71,19 +71,22 @@ fn push_expression(tree: &Expr, out: &mut String) -> Result<(), AllocError> {
             push_expression(inside, out)?;
             out.push(')')
         }
-        Expr::Chain(first, links) => {
+        Expr::Chain(first, before, last) => {
             out.push('[')?;
             push_expression(first, out)?;
-            for Link { operator, operand } in links {
+            for Link { operator, operand } in before {
                 write!(out, " {operator:?} ")?;
                 push_expression(operand, out)?;
             }
+            write!(out, " {:?} ", last.operator)?;
+            push_expression(&last.operand, out)?;
             out.push(']')
         }
-        Expr::Tests(operand, nots) => {
+        Expr::Tests(operand, before, last) => {
             out.push('[')?;
             push_expression(operand, out)?;
-            push_tests(out, nots)?;
+            push_tests(out, before)?;
+            push_tests(out, &[*last])?;
             out.push(']')
         }
         _ => out.push_str("other"),

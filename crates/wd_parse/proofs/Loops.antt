@@ -46,13 +46,21 @@ pub tested_end : (a : Tree) (nots : List Bool) (not : Bool) → tested a (nots +
 tested_end a [] not = refl
 tested_end a (y ∷ nots) not = tested_end (IsNull a y) nots not
 
+-- a chain ends in its last operator
+pub chained_last : (a : Tree) (before links : List Link) (last : Link) → links ≡ before ++ last ∷ [] → chained a (map view_link links) ≡ Binary last.operator (chained a (map view_link before)) (view last.operand)
+chained_last a before links last e = rw e (ap (chained a) (map_push view_link before last) ∙ chained_end a (map view_link before) (view_link last))
+
+-- tests end in their last one
+pub tested_last : (a : Tree) (before nots : List Bool) (last : Bool) → nots ≡ before ++ last ∷ [] → tested a nots ≡ IsNull (tested a before) last
+tested_last a before nots last e = rw e (tested_end a before last)
+
 pub links_more : (p : Parser Tree) (h i : ℕ) (a : Tree) (xs : List Link) (x : Link) (ts behind rest : Kinds) (total : Reads Tree) → i < 200 → operator_at h ts ≡ Some (x.operator, behind) → p behind ≡ Ok (view x.operand, rest) → links p h (200 - i) (chained a (map view_link xs)) ts ≡ total → links p h (200 - (i + 1)) (chained a (map view_link (xs ++ x ∷ []))) rest ≡ total
 unfolding links
 links_more p h i a xs x ts behind rest total lt eo ep so_far =
     let k : 200 - i ≡ suc (200 - (i + 1)) = omega arith in
     let tree = chained a (map view_link xs) in
     let one : links p h (200 - i) tree ts ≡ links p h (200 - (i + 1)) (Binary x.operator tree (view x.operand)) rest = rw (k, eo, ep) refl in
-    let grown : chained a (map view_link (xs ++ x ∷ [])) ≡ Binary x.operator tree (view x.operand) = ap (chained a) (map_push view_link xs x) ∙ chained_end a (map view_link xs) (view_link x) in
+    let grown : chained a (map view_link (xs ++ x ∷ [])) ≡ Binary x.operator tree (view x.operand) = chained_last a xs (xs ++ x ∷ []) x refl in
     ap (λ z. links p h (200 - (i + 1)) z rest) grown ∙ sym one ∙ so_far
 
 pub links_fail : (e : Refusal) (p : Parser Tree) (h i : ℕ) (a : Tree) (ts : Kinds) (o : Operator) (behind : Kinds) (total : Reads Tree) → i < 200 → operator_at h ts ≡ Some (o, behind) → Fails e (p behind) → links p h (200 - i) a ts ≡ total → Fails e total

@@ -78,20 +78,24 @@ fn chain(
 }
 
 // A Vec inside the tree is a row there: this says once what it holds.
-fn linked(first: Box<Expr>, links: Vec<Link>) -> Expr
-    ensures { view result ≡ chained (view first.value) (map view_link links.items) }
+fn linked(first: Box<Expr>, before: Vec<Link>, last: Box<Link>) -> Expr
+    ensures { view result ≡ Tree.Binary last.value.operator (chained (view first.value) (map view_link before.items)) (view last.value.operand) }
 {
-    Expr::Chain(first, links)
+    Expr::Chain(first, before, last)
 }
 
 /// The first operand, with the links of its chain if there are any.
-fn chain_of(alloc: Global, first: Box<Expr>, links: Vec<Link>) -> Result<Box<Expr>, Refusal>
+#[tactic(auto, using(crate::proofs::Loops::chained_last))]
+fn chain_of(alloc: Global, first: Box<Expr>, mut links: Vec<Link>) -> Result<Box<Expr>, Refusal>
     ensures { MayRead (λ b. view b.value) result (chained (view first.value) (map view_link links.items)) }
 {
-    if links.is_empty() {
-        return Ok(first);
+    match links.pop() {
+        Some(last) => {
+            let last = Box::new(alloc, last)?;
+            Ok(Box::new(alloc, linked(first, links, last))?)
+        }
+        None => Ok(first),
     }
-    Ok(Box::new(alloc, linked(first, links))?)
 }
 
 /// What follows the first operand of a chain.
@@ -163,13 +167,14 @@ fn null_at(tokens: &[Token]) -> Result<(bool, &[Token]), Refusal>
 }
 
 /// The operand, with its tests for NULL if there are any.
-fn tests_of(alloc: Global, operand: Box<Expr>, nots: Vec<bool>) -> Result<Box<Expr>, Refusal>
+#[tactic(auto, using(crate::proofs::Loops::tested_last))]
+fn tests_of(alloc: Global, operand: Box<Expr>, mut nots: Vec<bool>) -> Result<Box<Expr>, Refusal>
     ensures { MayRead (λ b. view b.value) result (tested (view operand.value) nots.items) }
 {
-    if nots.is_empty() {
-        return Ok(operand);
+    match nots.pop() {
+        Some(last) => Ok(Box::new(alloc, Expr::Tests(operand, nots, last))?),
+        None => Ok(operand),
     }
-    Ok(Box::new(alloc, Expr::Tests(operand, nots))?)
 }
 
 /// Tests for NULL.
