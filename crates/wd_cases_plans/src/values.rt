@@ -84,7 +84,7 @@ fn row(alloc: Global, line: Line, out: &mut String) -> Result<(), Failure> {
 
 /// `text TEXT`: the copy of the text, its bytes, and the string that it gives back.
 fn text(alloc: Global, line: Line, out: &mut String) -> Result<(), Failure> {
-    let text = Text::new(String::from_str(alloc, line.words)?);
+    let text = Text::new(alloc, String::from_str(alloc, line.words)?)?;
     let copied = text.copy(alloc)?;
     push(out, copied.as_str())?;
     write!(out, " {:?} ", text.as_bytes())?;

@@ -111,7 +111,7 @@ fn unquoted(alloc: Global, quote: char, text: &str) -> Result<Option<(Text, &str
                 inside.push(quote)?;
                 rest = more;
             }
-            None => return Ok(Some((Text::new(inside), after))),
+            None => return Ok(Some((Text::new(alloc, inside)?, after))),
         }
     }
     Ok(None)
@@ -152,7 +152,7 @@ fn word_kind(alloc: Global, word: &str) -> Result<TokenKind, AllocError>
     folded.make_ascii_lowercase();
     match reserved_word(folded.as_bytes()) {
         Some(terminal) => Ok(TokenKind::Terminal(terminal)),
-        None => Ok(TokenKind::Word(Text::new(folded))),
+        None => Ok(TokenKind::Word(Text::new(alloc, folded)?)),
     }
 }
 

@@ -4,31 +4,33 @@ ghost use Rattle.std.specs.String.{string_bytes};
 use std::alloc::{AllocError, Global};
 use std::marker::Model;
 
-/// A text in UTF-8, which contracts see as the list of its bytes.
+/// A text in UTF-8, which contracts see as the list of its bytes. It is one pointer wide, so that a
+/// `Value` takes 16 bytes.
 #[derive(Debug, Drop)]
 pub struct Text {
-    string: String,
+    string: Box<String>,
 }
 
 impl Model for Text {
     ghost Value = { List ℕ };
 
-    ghost view = { λ t. string_bytes t.string };
+    ghost view = { λ t. string_bytes t.string.value };
 }
 
 impl Text {
-    /// The text of a string. Takes no memory.
-    pub fn new(string: String) -> Text
-        ensures { result ≡ string_bytes string }
+    /// The text of a string, whose bytes stay where they are.
+    pub fn new(alloc: Global, string: String) -> Result<Text, AllocError>
+        ensures { IfOk result (λ t. t ≡ string_bytes string) }
     {
-        Text { string }
+        let string = Box::new(alloc, string)?;
+        Ok(Text { string })
     }
 
     pub fn from_str(alloc: Global, text: &str) -> Result<Text, AllocError>
         ensures { IfOk result (λ t. t ≡ text.now) }
     {
         let string = String::from_str(alloc, text)?;
-        Ok(Text { string })
+        Text::new(alloc, string)
     }
 
     pub fn as_str(&self) -> &str
@@ -48,7 +50,7 @@ impl Text {
         ensures { string_bytes result ≡ self }
     {
         let Text { string } = self;
-        string
+        Box::into_inner(string)
     }
 
     pub fn copy(&self, alloc: Global) -> Result<Text, AllocError>

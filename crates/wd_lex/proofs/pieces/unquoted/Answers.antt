@@ -30,7 +30,7 @@ returns-in-None c =
     let parts = split_parts q c.loop-before.rest.now (Some (c.in-Some.before, c.in-Some.after)) c.in-Some.ensures.cases c.requires in
     let ends = strip_prefix_char q after None c.in-None.ensures.cases c.requires in
     let front = chosen _ _ _ _ c.push_str.ensures.bytes (ap is_ok c.in_ok-push_str.was) in
-    ap (λ l. Some (l, after)) (c.new.ensures ∙ front)
+    ap (λ l. Some (l, after)) (c.in_ok-new-in-None.ensures ∙ front)
     ∙ unquote_close_step q (string_bytes c.loop-before.inside) c.loop-before.rest.now before after parts.0 parts.1 ends ∙ c.loop-before.invariant.1
 
 pub returns : goal.returns
