@@ -398,7 +398,8 @@ fn is_default(kind: Option<ValueKind>, value: &Value) -> bool
     }
 }
 
-fn has_extremes(kind: Option<ValueKind>) -> bool
+/// Whether MIN and MAX are there for values of the kind: for whole numbers and texts.
+pub fn has_extremes(kind: Option<ValueKind>) -> bool
     ensures { result ≡ spec.has_extremes kind }
 {
     is_kind(ValueKind::Number, kind) || is_kind(ValueKind::Text, kind)
@@ -418,7 +419,8 @@ impl Bound {
         }
     }
 
-    fn has_offset(self) -> bool
+    /// Whether it is so many rows, peer groups or so much of the key away.
+    pub fn has_offset(self) -> bool
         ensures { result ≡ spec.has_offset self }
     {
         match self {
@@ -428,7 +430,9 @@ impl Bound {
     }
 }
 
-fn are_bounds(start: Bound, end: Bound) -> bool
+/// Whether a frame may have this start and this end: the start is not UNBOUNDED FOLLOWING, the end not UNBOUNDED PRECEDING and of no
+/// earlier kind than the start.
+pub fn are_bounds(start: Bound, end: Bound) -> bool
     ensures { result ≡ spec.are_bounds start end }
 {
     start.place() < 4 && 0 < end.place() && start.place() <= end.place()

@@ -10,7 +10,7 @@ mod window;
 
 pub use equality::same_kind;
 pub use expression::{ArithmeticOp, Branch, ComparisonOp, Expr, ValueKind};
-pub use fits::kind_of_type;
+pub use fits::{are_bounds, has_extremes, kind_of_type};
 pub use function::{
     Aggregate, Argument, ByPeers, Direction, FrameFunction, FrameRow, Function, FunctionName,
     Ranking, ResultKind, Shift, Signature,
