@@ -1,7 +1,6 @@
 mod Texts
-mod Naming
-mod Written
-mod Chains
+pub mod Naming
+pub mod Chains
 mod Prefixed
 pub mod Rolled
 pub mod Lists

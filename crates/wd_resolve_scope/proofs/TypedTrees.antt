@@ -1,6 +1,6 @@
 -- What a tree means is typed.
-use Rattle.std.proofs.Common.{◌≡◌, refl, subst, ℕ, Bool, true, false, cond, List, [], ◌∷◌, Option, Some, None, option_map, slice_get, Ok, Err}
-use Rattle.std.specs.List.{AllByRecursion, filter, position_or_len}
+use Rattle.std.proofs.Common.{◌≡◌, refl, subst, ℕ, Bool, true, false, cond, List, [], ◌∷◌, Option, Some, None, option_map, filter, slice_get, Ok, Err}
+use Rattle.std.specs.List.{AllByRecursion}
 use Rattle.std.specs.Str.{bytes_eq}
 use Rattle.wd_plan.specs.Expressions.{Expression}
 use Rattle.wd_read_cursor.specs.declared.name.Name.{Name}
@@ -17,12 +17,12 @@ use Rattle.wd_resolve_operand.specs.Operands as operands
 use Rattle.wd_resolve_scope.specs.Calls.{kind_of_function}
 use Rattle.wd_resolve_scope.specs.Functions.{applied, function_named}
 use Rattle.wd_resolve_scope.specs.Leaves.{SelectLeaf, call, column, over_columns}
-use Rattle.wd_resolve_scope.specs.Names.{column_named, only_at}
+use Rattle.wd_resolve_scope.specs.Names.{column_named, the_only}
 use Rattle.wd_resolve_scope.specs.Resolving.{ContextRule, all_resolved, all_settled, arguments_in, arms_resolved, called, else_resolved, key_meant, keys_resolved, over_meant, resolved, sign_meant, where_allowed, window_resolved, moved_to, written_number}
-use Rattle.wd_resolve_scope.specs.Scopes.{ScopeRule, carries}
+use Rattle.wd_resolve_scope.specs.Scopes.{ScopeRule, carries, numbered}
 use Rattle.wd_resolve_scope.specs.Windows.{KeyMeaning, KnownMeaning, WindowMeaning, base_named, sort_key, window_meant, window_named}
 use Rattle.wd_resolve_scope.specs.Typed.{AreKeys, AreKnown, AreTyped, IsFormula, IsOfKind, IsOperand, IsWindow, kinds_in}
-use Rattle.wd_resolve_scope.proofs.Naming.{first_passing}
+use Rattle.wd_resolve_scope.proofs.Naming.{all_filter, numbered_behind}
 use Rattle.wd_resolve_scope.proofs.OverColumns.{over_columns_is}
 use Rattle.wd_resolve_scope.proofs.Typing.{bound, ok_is}
 use Rattle.wd_resolve_scope.proofs.TypedCalls.{AreArguments, applied_is}
@@ -62,13 +62,15 @@ where_is c m w h = by (allows_window_calls c.place) h
 column_leaf : (scope : ScopeRule) (n : ℕ) (c : ScopeColumn) → slice_get scope.columns n ≡ Some c → IsFormula scope (Leaf (column n)) c.kind
 column_leaf scope n c there = record { is = rw there refl; has = rw there refl; leaves_are = (rw there refl, tt) }
 
-only_is : (scope : ScopeRule) (n : ℕ) (columns : List ScopeColumn) (x : Operand SelectLeaf) → ((c : ScopeColumn) (others : List ScopeColumn) → columns ≡ c ∷ others → slice_get scope.columns n ≡ Some c) → only_at n columns ≡ Ok x → IsOperand scope x
-only_is scope n [] x there h = cc
-only_is scope n (c ∷ []) x there h = subst (IsOperand scope) (ok_is _ _ h) (column_leaf scope n c (there c [] refl))
-only_is scope n (c ∷ other ∷ others) x there h = cc
+only_is : (scope : ScopeRule) (columns : List (ℕ × ScopeColumn)) (x : Operand SelectLeaf) → AllByRecursion (λ (c : ℕ × ScopeColumn). slice_get scope.columns c.0 ≡ Some c.1) columns → the_only columns ≡ Ok x → IsOperand scope x
+only_is scope [] x there h = cc
+only_is scope (c ∷ []) x there h = subst (IsOperand scope) (ok_is _ _ h) (column_leaf scope c.0 c.1 there.0)
+only_is scope (c ∷ other ∷ others) x there h = cc
 
 column_named_is : (scope : ScopeRule) (table : Option (List ℕ)) (name : List ℕ) (x : Operand SelectLeaf) → column_named scope table name ≡ Ok x → IsOperand scope x
-column_named_is scope table name x h = only_is scope (position_or_len (carries table name) scope.columns) (filter (carries table name) scope.columns) x (λ c others e. first_passing (carries table name) scope.columns c others e) h
+column_named_is scope table name x h =
+    let test = λ (c : ℕ × ScopeColumn). carries table name c.1 in
+    only_is scope (filter test (numbered scope.columns)) x (all_filter (λ (c : ℕ × ScopeColumn). slice_get scope.columns c.0 ≡ Some c.1) test (numbered scope.columns) (numbered_behind [] scope.columns)) h
 
 -- ---- places where no window calls stand
 

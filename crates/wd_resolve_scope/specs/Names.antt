@@ -1,20 +1,19 @@
 -- The columns that names stand for (SQL, identifier chain; PG, Column References).
-use Rattle.std.specs.Prelude.{ℕ, List, [], ◌∷◌, Option, Ok, Err}
-use Rattle.std.specs.List.{filter, position_or_len}
+use Rattle.std.specs.Prelude.{ℕ, List, [], ◌∷◌, filter, Option, Ok, Err}
 use Rattle.wd_resolve_operand.specs.declared.cause.Cause.TheVariants.{UnknownColumn, Ambiguous}
 use Rattle.wd_resolve_operand.specs.Causes.{Meant}
 use Rattle.wd_resolve_operand.specs.Formulas.{Leaf}
 use Rattle.wd_resolve_operand.specs.Operands.{Operand, typed}
 use Rattle.wd_resolve_scope.specs.declared.scope.ScopeColumn.{ScopeColumn}
 use Rattle.wd_resolve_scope.specs.Leaves.{SelectLeaf, column}
-use Rattle.wd_resolve_scope.specs.Scopes.{ScopeRule, carries}
+use Rattle.wd_resolve_scope.specs.Scopes.{ScopeRule, carries, numbered}
 
--- the column at a position, where it is the only one of these
-abbrev pub only_at : ℕ → List ScopeColumn → Meant (Operand SelectLeaf)
-only_at position [] = Err UnknownColumn
-only_at position (c ∷ []) = Ok (typed (Leaf (column position)) c.kind)
-only_at position (c ∷ other ∷ others) = Err Ambiguous
+-- the one column of these
+abbrev pub the_only : List (ℕ × ScopeColumn) → Meant (Operand SelectLeaf)
+the_only [] = Err UnknownColumn
+the_only (c ∷ []) = Ok (typed (Leaf (column c.0)) c.1.kind)
+the_only (c ∷ other ∷ others) = Err Ambiguous
 
 -- a name, after the name of its table or not, stands for the one column in scope that carries it
 abbrev pub column_named : ScopeRule → Option (List ℕ) → List ℕ → Meant (Operand SelectLeaf)
-column_named scope table name = only_at (position_or_len (carries table name) scope.columns) (filter (carries table name) scope.columns)
+column_named scope table name = the_only (filter (λ c. carries table name c.1) (numbered scope.columns))

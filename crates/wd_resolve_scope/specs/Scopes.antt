@@ -1,6 +1,6 @@
 -- What names stand for: the tables of FROM, and their columns from left to right (SQL, identifier chain; PG, Column References).
-use Rattle.std.specs.Prelude.{ℕ, Bool, ◌&&◌, List, ◌++◌, Option, Some, None}
-use Rattle.std.specs.List.{list_any}
+use Rattle.std.specs.Prelude.{ℕ, Bool, ◌&&◌, List, ◌++◌, length, zip, Option, Some, None}
+use Rattle.std.specs.List.{list_any, range_with_len}
 use Rattle.std.specs.Str.{bytes_eq}
 use Rattle.wd_resolve_scope.specs.declared.scope.Scope.{Scope}
 use Rattle.wd_resolve_scope.specs.declared.scope.ScopeColumn.{ScopeColumn}
@@ -12,6 +12,10 @@ pub record ScopeRule : Type 0 where
 
 abbrev pub scope_of : Scope → ScopeRule
 scope_of s = record { tables = s.tables.items; columns = s.columns.items }
+
+-- columns of FROM with their numbers
+abbrev pub numbered : List ScopeColumn → List (ℕ × ScopeColumn)
+numbered columns = zip (range_with_len 0 (length columns)) columns
 
 -- a column of that name, and of the table of that name where one is said
 abbrev pub carries : Option (List ℕ) → List ℕ → ScopeColumn → Bool

@@ -3,6 +3,7 @@
 ghost use Rattle.std.specs.Prelude.{◌≡◌, [], map, option_map, Some, None, Ok};
 ghost use Rattle.wd_plan.specs.Expressions.{expression_of};
 ghost use Rattle.wd_syntax.specs.View.{view, view_link, view_window, view_over_option, view_else_option, view_arm, view_key, view_named_window};
+ghost use Rattle.wd_syntax.specs.View as shown;
 ghost use Rattle.wd_syntax.specs.Tree.{trees_of, arms_of, keys_of};
 ghost use Rattle.wd_resolve_operand.specs.Causes.{Gives};
 ghost use Rattle.wd_resolve_scope.specs.Leaves.{operand_of, operands_of, arm_of};
@@ -92,11 +93,15 @@ pub fn resolved(
             let right = resolved(alloc, context, right)?;
             combined(alloc, *operator, left, right)
         }
-        written::Expr::Chain(first, links) => {
+        written::Expr::Chain(first, before, last) => {
             let first = resolved(alloc, context, first)?;
-            chain_resolved(alloc, context, first, links)
+            let left = chain_resolved(alloc, context, first, before)?;
+            last_resolved(alloc, context, left, last)
         }
-        written::Expr::Tests(inner, tests) => tests_resolved(alloc, context, inner, tests),
+        written::Expr::Tests(inner, before, last) => {
+            let operand = tests_resolved(alloc, context, inner, before)?;
+            tested(alloc, *last, operand)
+        }
         written::Expr::Not(inner) => {
             let inner = resolved(alloc, context, inner)?;
             negated(alloc, inner)
@@ -110,16 +115,6 @@ pub fn written_number(tree: &written::Expr) -> Option<u64>
 {
     match tree {
         written::Expr::Literal(Literal::Number(n)) => Some(*n),
-        written::Expr::Chain(first, links) => if links.is_empty() {
-            written_number(first)
-        } else {
-            None
-        },
-        written::Expr::Tests(inner, tests) => if tests.is_empty() {
-            written_number(inner)
-        } else {
-            None
-        },
         _ => None,
     }
 }
@@ -153,18 +148,18 @@ fn case_ended(
     case_of(alloc, arms, other)
 }
 
-/// Tests for NULL of an operand, one after another.
+/// The last operator of a chain and its right operand, over what stands left of it.
 #[cycle(resolve)]
-fn tests_resolved(
+fn last_resolved(
     alloc: Global,
     context: &Context<'_>,
-    inner: &written::Expr,
-    tests: &[bool],
+    left: Meaning<SelectLeaf>,
+    last: &Link,
 ) -> Result<Meaning<SelectLeaf>, ResolveError>
-    ensures { Gives operand_of result (parts.tests_resolved (context_of context.now) (view inner.now) tests.now) }
+    ensures { Gives operand_of result (parts.link_meant (context_of context.now) (view_link last.now) (operand_of left)) }
 {
-    let inner = resolved(alloc, context, inner)?;
-    tests_over(alloc, inner, tests)
+    let right = resolved(alloc, context, &last.operand)?;
+    combined(alloc, last.operator, left, right)
 }
 
 /// Operators and their right operands, over what stands left of them.
@@ -186,14 +181,17 @@ fn chain_resolved(
 }
 
 /// Tests for NULL, one after another.
-fn tests_over(
+#[tactic(auto, using(crate::proofs::Chains::tests_mean))]
+#[cycle(resolve)]
+fn tests_resolved(
     alloc: Global,
-    operand: Meaning<SelectLeaf>,
+    context: &Context<'_>,
+    inner: &written::Expr,
     tests: &[bool],
 ) -> Result<Meaning<SelectLeaf>, ResolveError>
-    ensures { Gives operand_of result (Ok (parts.tests_meant tests.now (operand_of operand))) }
+    ensures { Gives operand_of result (spec.resolved (context_of context.now) (shown.tested (view inner.now) tests.now)) }
 {
-    let mut operand = operand;
+    let mut operand = resolved(alloc, context, inner)?;
     for not in tests {
         operand = tested(alloc, *not, operand)?;
     }
@@ -312,7 +310,7 @@ fn over_meant(
         return Err(ResolveError::Refused(Cause::CallNotAllowed));
     }
     match &**over {
-        Over::Name(name) => window_named(context.windows, &name.text)?.share(),
+        Over::Name(name) => Ok(window_named(context.windows, &name.text)?.share()?),
         Over::Window(window) => window_resolved(alloc, context, window),
     }
 }

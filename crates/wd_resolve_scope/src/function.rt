@@ -1,7 +1,6 @@
 //! Functions over their arguments.
 
-ghost use Rattle.std.specs.Prelude.{◌≡◌, Some, map, option_map};
-ghost use Rattle.wd_plan.specs.Fits.{has_extremes};
+ghost use Rattle.std.specs.Prelude.{◌≡◌, map, option_map};
 ghost use Rattle.wd_resolve_operand.specs.Causes.{Gives};
 ghost use Rattle.wd_resolve_scope.specs.Calls.{aggregate_of, argument_of, function_of};
 ghost use Rattle.wd_resolve_scope.specs.Calls as calls;
@@ -11,7 +10,9 @@ ghost use Rattle.wd_resolve_scope.specs.Leaves.{operand_of, operands_of};
 use crate::call::{AppliedAggregate, AppliedFunction, ValueArgument};
 use crate::leaf::{SelectLeaf, settled_over_columns};
 use std::alloc::Global;
-use wd_plan::{Direction, Expr, FrameRow, FunctionName, Ranking, ValueKind, same_kind};
+use wd_plan::{
+    Direction, Expr, FrameRow, FunctionName, Ranking, ValueKind, has_extremes, same_kind,
+};
 use wd_resolve_operand::{Cause, Formula, Meaning, ResolveError};
 use wd_value::Value;
 
@@ -135,21 +136,11 @@ fn numbers(alloc: Global, operand: &Meaning<SelectLeaf>) -> Result<ValueArgument
     }
 }
 
-/// Whether MIN and MAX are there for the values.
-fn is_ordered(kind: ValueKind) -> bool
-    ensures { result ≡ has_extremes (Some kind) }
-{
-    match kind {
-        ValueKind::Number | ValueKind::Text => true,
-        ValueKind::Truth => false,
-    }
-}
-
 /// A value argument that MIN and MAX take; else 405.
 fn ordered(alloc: Global, operand: &Meaning<SelectLeaf>) -> Result<ValueArgument, ResolveError>
     ensures { Gives argument_of result (spec.ordered (operand_of operand.now)) }
 {
-    if is_ordered(operand.kind()) {
+    if has_extremes(Some(operand.kind())) {
         argument(alloc, operand)
     } else {
         Err(ResolveError::Refused(Cause::WrongCall))

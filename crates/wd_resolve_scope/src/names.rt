@@ -1,11 +1,8 @@
 //! Names, and the columns that they stand for.
 
-ghost use Rattle.std.specs.Prelude.{◌≡◌, option_map, Ok, Err, if◌then◌else◌};
-ghost use Rattle.std.specs.List.{list_any};
+ghost use Rattle.std.specs.Prelude.{◌≡◌, option_map};
 ghost use Rattle.wd_resolve_operand.specs.Causes.{Gives};
-ghost use Rattle.wd_resolve_operand.specs.Formulas.{Leaf};
-ghost use Rattle.wd_resolve_operand.specs.Operands.{typed};
-ghost use Rattle.wd_resolve_scope.specs.Leaves.{column, operand_of};
+ghost use Rattle.wd_resolve_scope.specs.Leaves.{operand_of};
 ghost use Rattle.wd_resolve_scope.specs.Names.{column_named};
 ghost use Rattle.wd_resolve_scope.specs.Scopes.{scope_of};
 ghost use Rattle.wd_resolve_scope.specs.Scopes as spec;
@@ -13,7 +10,6 @@ ghost use Rattle.wd_resolve_scope.specs.Scopes as spec;
 use crate::leaf::SelectLeaf;
 use crate::scope::{Scope, ScopeColumn};
 use std::alloc::Global;
-use wd_plan::ValueKind;
 use wd_resolve_operand::{Cause, Formula, Meaning, ResolveError};
 use wd_value::Text;
 
@@ -28,37 +24,9 @@ fn carries(table: Option<&Text>, name: &Text, column: &ScopeColumn) -> bool
     }
 }
 
-/// Whether one of the columns has the name.
-fn any_carries(table: Option<&Text>, name: &Text, columns: &[ScopeColumn]) -> bool
-    ensures { result ≡ list_any (spec.carries (option_map (λ t. t.now) table.entry) name.now) columns.now }
-{
-    for column in columns {
-        if carries(table, name, column) {
-            return true;
-        }
-    }
-    false
-}
-
-/// The column at a position; 403 where another is meant too.
-fn unless_other(
-    alloc: Global,
-    other: bool,
-    position: u16,
-    kind: ValueKind,
-) -> Result<Meaning<SelectLeaf>, ResolveError>
-    ensures { Gives operand_of result (if other then Err Cause.Ambiguous else Ok (typed (Leaf (column position)) kind)) }
-{
-    if other {
-        Err(ResolveError::Refused(Cause::Ambiguous))
-    } else {
-        let leaf = SelectLeaf::Column(position);
-        Meaning::typed(alloc, Formula::Leaf(leaf), kind)
-    }
-}
-
 impl Scope {
     /// The one column of that name, of a table where one is said: 402 where there is none, 403 where there are several.
+    #[tactic(auto, using(crate::proofs::Naming::found_first))]
     pub(crate) fn column(
         &self,
         alloc: Global,
@@ -67,13 +35,21 @@ impl Scope {
     ) -> Result<Meaning<SelectLeaf>, ResolveError>
         ensures { Gives operand_of result (column_named (scope_of self.now) (option_map (λ t. t.now) table.entry) name.now) }
     {
+        let mut found = None;
         for (number, column) in self.columns.iter().enumerate() {
             if carries(table, name, column) {
-                let other = any_carries(table, name, &self.columns[number + 1..]);
-                return unless_other(alloc, other, number as u16, column.kind);
+                match found {
+                    None => found = Some((number as u16, column.kind)),
+                    Some(_) => return Err(ResolveError::Refused(Cause::Ambiguous)),
+                }
             }
         }
-        Err(ResolveError::Refused(Cause::UnknownColumn))
+        match found {
+            None => Err(ResolveError::Refused(Cause::UnknownColumn)),
+            Some((number, kind)) => {
+                Meaning::typed(alloc, Formula::Leaf(SelectLeaf::Column(number)), kind)
+            }
+        }
     }
 
     /// Whether FROM has a table of that name.

@@ -1,19 +1,18 @@
 //! Windows: their partition and order, their frame, and what they copy.
 
-ghost use Rattle.std.specs.Prelude.{◌≡◌, Ok, map, option_map};
+ghost use Rattle.std.specs.Prelude.{◌≡◌, map, option_map, IfOk};
 ghost use Rattle.wd_plan.specs.Expressions.{expression_of};
-ghost use Rattle.wd_plan.specs.Fits as fits;
 ghost use Rattle.wd_resolve_operand.specs.Causes.{Gives};
 ghost use Rattle.wd_resolve_scope.specs.Windows.{key_of, window_of, known_of};
 ghost use Rattle.wd_resolve_scope.specs.Windows as spec;
 
 use std::alloc::Global;
 use std::rc::Rc;
-use wd_plan::{Bound, Exclusion, Expr, Frame, FrameMode, ValueKind, same_kind};
+use wd_plan::{Bound, Exclusion, Expr, Frame, FrameMode, ValueKind, are_bounds, same_kind};
 use wd_resolve_operand::{Cause, ResolveError, number};
 use wd_syntax as written;
 use wd_syntax::{Extent, Name, NullsPlace, SortDirection};
-use wd_value::{SortKey, Text};
+use wd_value::{OutOfMemory, SortKey, Text};
 
 /// An expression to sort by, the kind of its values, and how they are sorted.
 #[derive(Drop)]
@@ -50,8 +49,8 @@ const DEFAULT_FRAME: Frame = Frame {
 
 impl Window {
     /// The same window; the lists are shared.
-    pub fn share(&self) -> Result<Window, ResolveError>
-        ensures { Gives window_of result (Ok (window_of self.now)) }
+    pub fn share(&self) -> Result<Window, OutOfMemory>
+        ensures { IfOk result (λ w. window_of w ≡ window_of self.now) }
     {
         Ok(Window {
             partition: self.partition.clone()?,
@@ -139,32 +138,6 @@ fn frame_meant(frame: Option<written::Frame>) -> Result<Frame, ResolveError>
     })
 }
 
-/// Where a bound stands in the order of bounds.
-fn bound_place(bound: Bound) -> u8
-    ensures { result ≡ fits.bound_place bound }
-{
-    match bound {
-        Bound::UnboundedPreceding => 0,
-        Bound::Preceding(_) => 1,
-        Bound::CurrentRow => 2,
-        Bound::Following(_) => 3,
-        Bound::UnboundedFollowing => 4,
-    }
-}
-
-fn has_offset(bound: Bound) -> bool
-    ensures { result ≡ fits.has_offset bound }
-{
-    matches!(bound, Bound::Preceding(_) | Bound::Following(_))
-}
-
-/// Whether a start is not UNBOUNDED FOLLOWING, an end not UNBOUNDED PRECEDING and of no earlier kind than the start.
-fn are_bounds(start: Bound, end: Bound) -> bool
-    ensures { result ≡ fits.are_bounds start end }
-{
-    bound_place(start) < 4 && 0 < bound_place(end) && bound_place(start) <= bound_place(end)
-}
-
 /// Whether there is exactly one sort key, of whole numbers.
 fn is_one_number(order: &[OrderKey]) -> bool
     ensures { result ≡ spec.is_one_number (map key_of order.now) }
@@ -182,7 +155,7 @@ fn frame_over(order: &[OrderKey], frame: Frame) -> Result<Frame, ResolveError>
     match frame.mode {
         FrameMode::Rows => Ok(frame),
         FrameMode::Range => {
-            let has_offset = has_offset(frame.start) || has_offset(frame.end);
+            let has_offset = frame.start.has_offset() || frame.end.has_offset();
             if has_offset && !is_one_number(order) {
                 Err(ResolveError::Refused(Cause::RangeOffset))
             } else {

@@ -1,16 +1,16 @@
 use Rattle.std.proofs.Common.{◌≡◌, ◌∙◌, sym, ap, map, refl, Ok, Err}
 use Rattle.std.proofs.lemmas.Result.{err_from_is_err_and}
 use Rattle.wd_syntax.specs.declared.expression.Expr.TheViews.{out-Window}
-use Rattle.wd_syntax.specs.Tree.{Call, Case, window, trees_of, arms_of, keys_of}
-use Rattle.wd_syntax.specs.View.{view, view_link, view_arm, view_key, view_window, view_over_option, view_else_option, chained, tested}
+use Rattle.wd_syntax.specs.Tree.{Binary, Call, Case, window, trees_of, arms_of, keys_of}
+use Rattle.wd_syntax.specs.View.{view, view_link, view_arm, view_key, view_window, view_over_option, view_else_option, chained}
 use Rattle.wd_syntax.proofs.Rows.{view_call, view_case, view_chain}
 use Rattle.wd_resolve_scope.specs.declared.context.Place.TheVariants as Place
-use Rattle.wd_resolve_operand.specs.Causes.{◌>>=◌}
 use Rattle.wd_resolve_scope.specs.Leaves.{operand_of}
-use Rattle.wd_resolve_scope.specs.Parts.{chain_meant, tests_resolved}
 use Rattle.wd_resolve_scope.specs.Resolving.{context_of, resolved, all_resolved, all_settled, arguments_in, arms_resolved, keys_resolved, window_resolved, moved_to}
+use Rattle.wd_resolve_operand.specs.Causes.{◌>>=◌}
+use Rattle.wd_resolve_scope.specs.Parts.{chain_meant, link_meant}
 use Rattle.wd_resolve_operand.proofs.Cases.{fails_too}
-use Rattle.wd_resolve_scope.proofs.Chains.{chain_means, tests_mean}
+use Rattle.wd_resolve_scope.proofs.Chains.{chain_ends}
 use Rattle.wd_resolve_scope.proofs.Rolled.{view_window_out}
 use Rattle.wd_resolve_scope.proofs.expression.+resolve.Goals as goal
 
@@ -50,21 +50,34 @@ resolved-returns-in_ok-arms-in-Case t c =
 pub resolved-returns-in_err-first-in-Chain : goal.resolved-returns-in_err-first-in-Chain
 resolved-returns-in_err-first-in-Chain t c =
     let context = context_of c.args.context.now in
-    let first = c.in-Chain.first in
-    let links = c.in-Chain.links in
-    let shown : view c.args.tree.now ≡ chained (view c.deref-in-Chain.result.now) (map view_link links.items) = ap view c.in-Chain.is ∙ view_chain first links ∙ ap (λ a. chained (view a) (map view_link links.items)) (sym c.deref-in-Chain.ensures) in
-    let whole : resolved context (view c.args.tree.now) ≡ (resolved context (view c.deref-in-Chain.result.now) >>= λ x. chain_meant context (map view_link links.items) x) = ap (resolved context) shown ∙ chain_means context (view c.deref-in-Chain.result.now) (map view_link links.items) in
+    let first = view c.deref-in-Chain.result.now in
+    let before = map view_link c.in-Chain.before.items in
+    let last = view_link c.in-Chain.last.value in
+    let shown : view c.args.tree.now ≡ Binary last.0 (chained first before) last.1 = ap view c.in-Chain.is ∙ view_chain c.in-Chain.first c.in-Chain.before c.in-Chain.last ∙ ap (λ a. Binary last.0 (chained (view a) before) last.1) (sym c.deref-in-Chain.ensures) in
+    let whole = ap (resolved context) shown ∙ chain_ends context first before last in
     let p = err_from_is_err_and c.from_residual-in_err-first-in-Chain.result c.from_residual-in_err-first-in-Chain.ensures.1 in
-    rw (p.1, p.2) (rw whole (fails_too c.in_err-first-in-Chain.field-0.0 (resolved context (view c.deref-in-Chain.result.now)) ((resolved context (view c.deref-in-Chain.result.now) >>= λ x. chain_meant context (map view_link links.items) x)) c.in_err-first-in-Chain.ensures (λ cause h. rw h refl)))
+    rw (p.1, p.2) (rw whole (fails_too c.in_err-first-in-Chain.field-0.0 (resolved context first) (resolved context first >>= λ x. chain_meant context before x >>= λ y. link_meant context last y) c.in_err-first-in-Chain.ensures (λ cause h. rw h refl)))
 
-pub resolved-returns-in_ok-first-in-Chain : goal.resolved-returns-in_ok-first-in-Chain
-resolved-returns-in_ok-first-in-Chain t c =
+pub resolved-returns-in_err-left-in-Chain : goal.resolved-returns-in_err-left-in-Chain
+resolved-returns-in_err-left-in-Chain t c =
     let context = context_of c.args.context.now in
-    let first = c.in-Chain.first in
-    let links = c.in-Chain.links in
-    let shown : view c.args.tree.now ≡ chained (view c.deref-in-Chain.result.now) (map view_link c.deref-in-Chain-2.result.now) = ap view c.in-Chain.is ∙ view_chain first links ∙ ap (λ a. chained (view a) (map view_link links.items)) (sym c.deref-in-Chain.ensures) ∙ ap (λ xs. chained (view c.deref-in-Chain.result.now) (map view_link xs)) (sym c.deref-in-Chain-2.ensures.value) in
-    let whole : resolved context (view c.args.tree.now) ≡ (resolved context (view c.deref-in-Chain.result.now) >>= λ x. chain_meant context (map view_link c.deref-in-Chain-2.result.now) x) = ap (resolved context) shown ∙ chain_means context (view c.deref-in-Chain.result.now) (map view_link c.deref-in-Chain-2.result.now) in
-    rw whole (rw c.in_ok-first-in-Chain.ensures c.chain_resolved.ensures)
+    let first = view c.deref-in-Chain.result.now in
+    let before = map view_link c.deref-in-Chain-2.result.now in
+    let last = view_link c.in-Chain.last.value in
+    let shown : view c.args.tree.now ≡ Binary last.0 (chained first before) last.1 = ap view c.in-Chain.is ∙ view_chain c.in-Chain.first c.in-Chain.before c.in-Chain.last ∙ ap (λ a. Binary last.0 (chained (view a) (map view_link c.in-Chain.before.items)) last.1) (sym c.deref-in-Chain.ensures) ∙ ap (λ xs. Binary last.0 (chained first (map view_link xs)) last.1) (sym c.deref-in-Chain-2.ensures.value) in
+    let whole = ap (resolved context) shown ∙ chain_ends context first before last in
+    let p = err_from_is_err_and c.from_residual-in_err-left-in-Chain.result c.from_residual-in_err-left-in-Chain.ensures.1 in
+    rw (p.1, p.2) (rw whole (fails_too c.in_err-left-in-Chain.field-0.0 (chain_meant context before (operand_of c.in_ok-first-in-Chain.first)) (resolved context first >>= λ x. chain_meant context before x >>= λ y. link_meant context last y) c.in_err-left-in-Chain.ensures (λ cause h. rw c.in_ok-first-in-Chain.ensures (rw h refl))))
+
+pub resolved-returns-in_ok-left-in-Chain : goal.resolved-returns-in_ok-left-in-Chain
+resolved-returns-in_ok-left-in-Chain t c =
+    let context = context_of c.args.context.now in
+    let first = view c.deref-in-Chain.result.now in
+    let before = map view_link c.deref-in-Chain-2.result.now in
+    let last = view_link c.deref-in-Chain-3.result.now in
+    let shown : view c.args.tree.now ≡ Binary last.0 (chained first before) last.1 = ap view c.in-Chain.is ∙ view_chain c.in-Chain.first c.in-Chain.before c.in-Chain.last ∙ ap (λ a. Binary c.in-Chain.last.value.operator (chained (view a) (map view_link c.in-Chain.before.items)) (view c.in-Chain.last.value.operand)) (sym c.deref-in-Chain.ensures) ∙ ap (λ xs. Binary c.in-Chain.last.value.operator (chained first (map view_link xs)) (view c.in-Chain.last.value.operand)) (sym c.deref-in-Chain-2.ensures.value) ∙ ap (λ l. Binary (view_link l).0 (chained first before) (view_link l).1) (sym c.deref-in-Chain-3.ensures) in
+    let whole = ap (resolved context) shown ∙ chain_ends context first before last in
+    rw whole (rw c.in_ok-first-in-Chain.ensures (rw c.in_ok-left-in-Chain.ensures c.last_resolved.ensures))
 
 pub window_resolved-returns-in_err-operands : goal.window_resolved-returns-in_err-operands
 window_resolved-returns-in_err-operands t c =
@@ -111,11 +124,3 @@ window_resolved-returns t c =
     let g : all_resolved (moved_to Place.Window context) trees ≡ Ok xs = ap (λ d. all_resolved d trees) (sym c.moved_to-inside.ensures) ∙ c.in_ok-operands.ensures ∙ ap (λ ys. Ok (map operand_of ys)) (sym c.deref-2.ensures.value) in
     let k = ap (λ d. keys_resolved d keys) (sym c.moved_to-inside.ensures) ∙ c.in_ok-order.ensures in
     rw shown (rw c.in_ok-base.ensures (rw g (rw c.in_ok-partition.ensures (rw k c.window_meant.ensures))))
-
-pub resolved-returns-in-Tests : goal.resolved-returns-in-Tests
-resolved-returns-in-Tests t c =
-    let context = context_of c.args.context.now in
-    let tests = c.in-Tests.tests in
-    let shown : view c.args.tree.now ≡ tested (view c.deref-in-Tests.result.now) c.deref-in-Tests-2.result.now = ap view c.in-Tests.is ∙ ap (λ a. tested (view a) tests.items) (sym c.deref-in-Tests.ensures) ∙ ap (tested (view c.deref-in-Tests.result.now)) (sym c.deref-in-Tests-2.ensures.value) in
-    let whole : resolved context (view c.args.tree.now) ≡ tests_resolved context (view c.deref-in-Tests.result.now) c.deref-in-Tests-2.result.now = ap (resolved context) shown ∙ tests_mean context (view c.deref-in-Tests.result.now) c.deref-in-Tests-2.result.now in
-    rw whole c.tests_resolved.ensures

@@ -1,10 +1,11 @@
-use Rattle.std.proofs.Common.{◌≡◌, map, drop}
-use Rattle.wd_syntax.specs.View.{view, view_link, view_arm, view_key}
+use Rattle.std.proofs.Common.{◌≡◌, map, drop, Ok}
+use Rattle.wd_syntax.specs.View.{view, tested, view_link, view_arm, view_key}
 use Rattle.wd_syntax.specs.Tree.{trees_of, arms_of, keys_of}
 use Rattle.wd_resolve_scope.specs.Leaves.{operand_of, arm_of}
-use Rattle.wd_resolve_scope.specs.Parts.{chain_meant}
-use Rattle.wd_resolve_scope.specs.Resolving.{context_of, all_resolved, arms_resolved, keys_resolved}
+use Rattle.wd_resolve_scope.specs.Resolving.{context_of, resolved, all_resolved, arms_resolved, keys_resolved}
 use Rattle.wd_resolve_scope.specs.Windows.{key_of}
+use Rattle.wd_resolve_scope.specs.Parts.{chain_meant}
+use Rattle.wd_resolve_scope.proofs.Chains.{tests_meant}
 use Rattle.wd_resolve_scope.proofs.Prefixed.{prefixed}
 use Rattle.wd_resolve_scope.proofs.expression.+resolve.Given as goal
 
@@ -16,6 +17,9 @@ invariant-arms_resolved-loop-arm l = prefixed (map arm_of l.parts.items) (arms_r
 
 abbrev pub invariant-chain_resolved-loop-link : goal.invariant-chain_resolved-loop-link
 invariant-chain_resolved-loop-link l = chain_meant (context_of l.context) (map view_link (drop l.link-index l.links)) (operand_of l.left) ≡ chain_meant (context_of l.context) (map view_link l.initial.links) (operand_of l.initial.left)
+
+abbrev pub invariant-tests_resolved-loop-not : goal.invariant-tests_resolved-loop-not
+invariant-tests_resolved-loop-not l = Ok (tests_meant (drop l.not-index l.tests) (operand_of l.operand)) ≡ resolved (context_of l.context) (tested (view l.fn.inner) l.fn.tests)
 
 abbrev pub invariant-keys_resolved-loop-key : goal.invariant-keys_resolved-loop-key
 invariant-keys_resolved-loop-key l = prefixed (map key_of l.order.items) (keys_resolved (context_of l.context) (keys_of (map view_key (drop l.key-index l.keys)))) ≡ keys_resolved (context_of l.context) (keys_of (map view_key l.initial.keys))
