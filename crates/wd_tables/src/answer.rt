@@ -5,6 +5,7 @@ ghost use Rattle.wd_value.specs.Rows.{rows_of};
 ghost use Rattle.wd_tables.specs.Answers as spec;
 
 use csv::{ByteRecord, Writer, WriterBuilder};
+use itoa::Buffer;
 use std::alloc::{AllocError, Global};
 use wd_value::{OutOfMemory, Row, Text, Value};
 
@@ -21,7 +22,7 @@ pub fn answer_text(alloc: Global, names: &[Text], rows: &[Row]) -> Result<Vec<u8
     put_names(&mut fields, names)?;
     write(&mut writer, &fields)?;
     for row in rows {
-        put_values(alloc, &mut fields, row)?;
+        put_values(&mut fields, row)?;
         write(&mut writer, &fields)?;
     }
     match writer.into_inner() {
@@ -50,26 +51,26 @@ fn put_names(fields: &mut ByteRecord, names: &[Text]) -> Result<(), AllocError>
     Ok(())
 }
 
-fn put_values(alloc: Global, fields: &mut ByteRecord, row: &[Value]) -> Result<(), AllocError>
+fn put_values(fields: &mut ByteRecord, row: &[Value]) -> Result<(), AllocError>
     ensures { OnOk result (fields_of fields.new ≡ map spec.value_text row.now) }
 {
     fields.clear();
     for value in row {
-        put_value(alloc, fields, value)?;
+        put_value(fields, value)?;
     }
     Ok(())
 }
 
 // Adds the field of a value.
-fn put_value(alloc: Global, fields: &mut ByteRecord, value: &Value) -> Result<(), AllocError>
+fn put_value(fields: &mut ByteRecord, value: &Value) -> Result<(), AllocError>
     ensures fields { partial_of fields.old ≡ [] → OnOk result (fields_of fields.new ≡ fields_of fields.old ++ spec.value_text value.now ∷ []) }
     ensures partial { OnOk result (partial_of fields.new ≡ []) }
 {
     match value {
         Value::Null => fields.push_field(b""),
         Value::Int(n) => {
-            let digits = format!(in alloc; "{n}")?;
-            fields.push_field(digits.as_bytes())
+            let mut digits = Buffer::new();
+            fields.push_field(digits.format(*n).as_bytes())
         }
         Value::Text(text) => fields.push_field(text.as_bytes()),
         Value::Bool(true) => fields.push_field(b"true"),
