@@ -1,13 +1,45 @@
 -- First occurrences of one list after another, and what expressions need one after another.
-use Rattle.std.proofs.Common.{◌≡◌, ◌∙◌, sym, ap, refl, Bool, cond, List, [], ◌∷◌, ◌++◌}
+use Rattle.std.proofs.Common.{◌≡◌, ◌∙◌, sym, ap, refl, ℕ, suc, ◌+◌, ◌<◌, ◌≤◌, Bool, true, false, not, ◌||◌, cond, List, [], ◌∷◌, ◌++◌, length, map, ltb, arith}
+use Rattle.std.proofs.lemmas.Bool.{ltb-true, ltb-false}
 use Rattle.std.proofs.lemmas.List.{append_assoc}
-use Rattle.std.specs.List.{list_any}
+use Rattle.std.specs.List.{list_any, position_or_len}
 use Rattle.wd_plan.specs.Expressions.{Expression}
 use Rattle.wd_plan.specs.Equality.{same_expression}
 use Rattle.wd_resolve_operand.specs.Formulas.{Formula, leaves}
 use Rattle.wd_resolve_scope.specs.Calls.{CallMeaning, same_call}
 use Rattle.wd_resolve_scope.specs.Leaves.{SelectLeaf, column, call}
 use Rattle.wd_resolve_select.specs.Listing.{Needs, all_leaves, calls_among, needs_with, read_by, read_by_all, with_new}
+
+-- what stands at a number below theirs is among these
+among : {A B : Type 0} (f : A → B) (t : B → Bool) (xs : List A) → position_or_len t (map f xs) < length xs → list_any t (map f xs) ≡ true
+among f t [] h = absurd (omega (arith, h))
+among f t (x ∷ xs) h = by (t (f x)) h (among f t xs)
+  where
+    n : ℕ
+    n = position_or_len t (map f xs)
+
+    by : (b : Bool) → cond (not b) (1 + n) 0 < suc (length xs) → (n < length xs → list_any t (map f xs) ≡ true) → (b || list_any t (map f xs)) ≡ true
+    by true g later = refl
+    by false g later = later (omega (arith, g))
+
+not_among : {A B : Type 0} (f : A → B) (t : B → Bool) (xs : List A) → length xs ≤ position_or_len t (map f xs) → list_any t (map f xs) ≡ false
+not_among f t [] h = refl
+not_among f t (x ∷ xs) h = by (t (f x)) h (not_among f t xs)
+  where
+    n : ℕ
+    n = position_or_len t (map f xs)
+
+    by : (b : Bool) → suc (length xs) ≤ cond (not b) (1 + n) 0 → (length xs ≤ n → list_any t (map f xs) ≡ false) → (b || list_any t (map f xs)) ≡ false
+    by true g later = absurd (omega (arith, g))
+    by false g later = later (omega (arith, g))
+
+-- some element passes where the first that does stands at a number below theirs
+pub any_by_number : {A B : Type 0} (f : A → B) (t : B → Bool) (xs : List A) → list_any t (map f xs) ≡ ltb (position_or_len t (map f xs)) (length xs)
+any_by_number f t xs = by (ltb (position_or_len t (map f xs)) (length xs)) refl
+  where
+    by : (b : Bool) → ltb (position_or_len t (map f xs)) (length xs) ≡ b → list_any t (map f xs) ≡ b
+    by true e = among f t xs (ltb-true _ _ e)
+    by false e = not_among f t xs (ltb-false _ _ e)
 
 pub with_new_append : {A : Type 0} (same : A → A → Bool) (seen xs ys : List A) → with_new same seen (xs ++ ys) ≡ with_new same (with_new same seen xs) ys
 with_new_append same seen [] ys = refl

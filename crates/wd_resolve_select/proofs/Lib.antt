@@ -1,6 +1,4 @@
 pub mod FirstMet
-mod Unnamed
-mod Keys
 pub mod Counted
 pub mod PlanKinds
 pub mod Among

@@ -9,13 +9,14 @@ use Rattle.wd_syntax.specs.Tree.{ItemTree, all_columns, all_of, shown}
 use Rattle.wd_resolve_scope.specs.declared.scope.ScopeColumn.{ScopeColumn}
 use Rattle.wd_resolve_scope.specs.Leaves.{SelectLeaf}
 use Rattle.wd_resolve_scope.specs.Resolving.{ContextRule, resolved}
-use Rattle.wd_resolve_scope.specs.Scopes.{ScopeRule, has_table}
+use Rattle.wd_resolve_scope.specs.Scopes.{ScopeRule, has_table, numbered}
 use Rattle.wd_resolve_scope.specs.Typed.{AreKnown, IsFormula, kinds_in}
+use Rattle.wd_resolve_scope.proofs.Naming.{all_filter, numbered_behind}
 use Rattle.wd_resolve_scope.proofs.Typing.{bound, ok_is}
 use Rattle.wd_resolve_scope.proofs.TypedOperands.{settled_is}
 use Rattle.wd_resolve_scope.proofs.TypedTrees.{resolved_is}
 use Rattle.wd_resolve_select.specs.Listing.{are_wide}
-use Rattle.wd_resolve_select.specs.Outputs.{OutputMeaning, column_meant, columns_of, expressions_of, is_of, item_listed, item_meant, list_meant, listed, name_shown, narrow, numbered, output_meant, table_shown}
+use Rattle.wd_resolve_select.specs.Outputs.{OutputMeaning, column_meant, columns_of, expressions_of, is_of, item_listed, item_meant, list_meant, listed, name_shown, narrow, output_meant, table_shown}
 use Rattle.wd_resolve_select.proofs.Among.{all_append}
 use Rattle.wd_resolve_select.proofs.SeatedFormulas.{AreFormulas}
 
@@ -34,27 +35,6 @@ outputs_formulas scope [] h = tt
 outputs_formulas scope (o ∷ outputs) h = (h.0, outputs_formulas scope outputs h.1)
 
 -- ---- members of a select list
-
-get_mid : {A : Type 0} (xs : List A) (y : A) (ys : List A) → slice_get (xs ++ y ∷ ys) (length xs) ≡ Some y
-get_mid [] y ys = refl
-get_mid (x ∷ xs) y ys = get_mid xs y ys
-
--- elements with their numbers stand at these numbers
-numbered_behind : {A : Type 0} (before xs : List A) → AllByRecursion (λ (x : ℕ × A). slice_get (before ++ xs) x.0 ≡ Some x.1) (zip (range_with_len (length before) (length xs)) xs)
-numbered_behind before [] = tt
-numbered_behind before (x ∷ xs) = (
-  get_mid before x xs,
-  subst (λ n. AllByRecursion (λ (y : ℕ × _). slice_get (before ++ x ∷ xs) y.0 ≡ Some y.1) (zip (range_with_len n (length xs)) xs)) (length_push before x)
-      (subst (λ ys. AllByRecursion (λ (y : ℕ × _). slice_get ys y.0 ≡ Some y.1) (zip (range_with_len (length (before ++ x ∷ [])) (length xs)) xs)) (append_assoc before (x ∷ []) xs) (numbered_behind (before ++ x ∷ []) xs)),
-)
-
-all_filter : {A : Type 0} (P : A → Type 0) (t : A → Bool) (xs : List A) → AllByRecursion P xs → AllByRecursion P (filter t xs)
-all_filter P t [] h = tt
-all_filter P t (x ∷ xs) h = by (t x) (all_filter P t xs h.1)
-  where
-    by : (b : Bool) → AllByRecursion P (filter t xs) → AllByRecursion P (cond b (x ∷ filter t xs) (filter t xs))
-    by true rest = (h.0, rest)
-    by false rest = rest
 
 columns_are : (scope : ScopeRule) (columns : List (ℕ × ScopeColumn)) → AllByRecursion (λ (x : ℕ × ScopeColumn). slice_get scope.columns x.0 ≡ Some x.1) columns → AreOutputs scope (map column_meant columns)
 columns_are scope [] h = tt

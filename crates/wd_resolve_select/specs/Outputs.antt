@@ -1,6 +1,5 @@
 -- The select list: its outputs and their names (SQL, query specification; PG, SELECT List).
-use Rattle.std.specs.Prelude.{ℕ, Bool, true, codes, List, [], ◌∷◌, ◌++◌, map, length, filter, zip, Option, Some, None, Ok, Err, if◌then◌else◌}
-use Rattle.std.specs.List.{range_with_len}
+use Rattle.std.specs.Prelude.{ℕ, Bool, true, codes, List, [], ◌∷◌, ◌++◌, map, filter, Option, Some, None, Ok, Err, if◌then◌else◌}
 use Rattle.std.specs.Str.{bytes_eq}
 use Rattle.wd_syntax.specs.declared.expression.Sign.TheVariants.{Plus}
 use Rattle.wd_syntax.specs.declared.query.Alias.{Alias}
@@ -12,7 +11,7 @@ use Rattle.wd_resolve_operand.specs.Causes.{Meant, ◌>>=◌}
 use Rattle.wd_resolve_operand.specs.Formulas.{Formula, Leaf}
 use Rattle.wd_resolve_operand.specs.Operands.{Operand, settled, kind_of}
 use Rattle.wd_resolve_scope.specs.declared.scope.ScopeColumn.{ScopeColumn}
-use Rattle.wd_resolve_scope.specs.Scopes.{ScopeRule, has_table}
+use Rattle.wd_resolve_scope.specs.Scopes.{ScopeRule, has_table, numbered}
 use Rattle.wd_resolve_scope.specs.Leaves.{SelectLeaf, column, formula_of}
 use Rattle.wd_resolve_scope.specs.Resolving.{ContextRule, resolved}
 use Rattle.wd_resolve_select.specs.declared.output.Output.{Output}
@@ -49,10 +48,6 @@ name_shown a None = name_of a
 name_shown a (Some alias) = alias.name.text
 
 -- ---- members of the list
-
--- columns of FROM with their numbers
-abbrev pub numbered : List ScopeColumn → List (ℕ × ScopeColumn)
-numbered columns = zip (range_with_len 0 (length columns)) columns
 
 -- a column of FROM as an output
 abbrev pub column_meant : ℕ × ScopeColumn → OutputMeaning

@@ -195,5 +195,11 @@ offset_meant (Some o) = number o.number
 -- the limits, from left to right
 abbrev pub cut_meant : Bool → Option Limits → Meant (Option Cut)
 cut_meant sorted None = Ok None
-cut_meant sorted (Some (OffsetFirst o c)) = number o.number >>= λ offset. count_meant sorted c >>= λ x. Ok (Some (record { offset = offset; count = x.0; ties = x.1 }))
-cut_meant sorted (Some (CountFirst c o)) = count_meant sorted (Some c) >>= λ x. offset_meant o >>= λ offset. Ok (Some (record { offset = offset; count = x.0; ties = x.1 }))
+cut_meant sorted (Some (OffsetFirst o c)) = do
+  offset ← number o.number
+  x ← count_meant sorted c
+  Ok (Some (record { offset = offset; count = x.0; ties = x.1 }))
+cut_meant sorted (Some (CountFirst c o)) = do
+  x ← count_meant sorted (Some c)
+  offset ← offset_meant o
+  Ok (Some (record { offset = offset; count = x.0; ties = x.1 }))

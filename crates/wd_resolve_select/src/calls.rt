@@ -4,13 +4,10 @@ ghost use Rattle.std.specs.Prelude.{◌≡◌, ◌≤◌, [], ◌∷◌, map, le
 ghost use Rattle.std.specs.List.{list_any, position_or_len};
 ghost use Rattle.wd_resolve_scope.specs.Calls.{aggregate_of, argument_of, call_of, function_of};
 ghost use Rattle.wd_resolve_scope.specs.Calls as spec;
-ghost use Rattle.wd_resolve_scope.specs.Windows.{window_of};
 ghost use Rattle.wd_resolve_select.specs.Listing.{with_new};
 
 use std::alloc::Global;
-use wd_resolve_scope::{
-    AppliedAggregate, AppliedFunction, ValueArgument, Window, WindowCall, same_call,
-};
+use wd_resolve_scope::{AppliedAggregate, AppliedFunction, ValueArgument, WindowCall, same_call};
 use wd_value::OutOfMemory;
 
 fn copy_argument(alloc: Global, argument: &ValueArgument) -> Result<ValueArgument, OutOfMemory>
@@ -65,22 +62,10 @@ fn copy_function(alloc: Global, function: &AppliedFunction) -> Result<AppliedFun
     }
 }
 
-/// The same window; the lists are shared.
-fn share(window: &Window) -> Result<Window, OutOfMemory>
-    ensures { IfOk result (λ w. window_of w ≡ window_of window.now) }
-{
-    Ok(Window {
-        partition: window.partition.clone()?,
-        order: window.order.clone()?,
-        frame: window.frame,
-        framed: window.framed,
-    })
-}
-
 fn copy_call(alloc: Global, call: &WindowCall) -> Result<WindowCall, OutOfMemory>
     ensures { IfOk result (λ c. call_of c ≡ call_of call.now) }
 {
-    let window = share(&call.window)?;
+    let window = call.window.share()?;
     Ok(WindowCall {
         function: copy_function(alloc, &call.function)?,
         window,
@@ -101,15 +86,11 @@ pub(crate) fn call_number(calls: &[WindowCall], call: &WindowCall) -> usize
 }
 
 /// Whether a call is among others.
+#[tactic(auto, using(crate::proofs::FirstMet::any_by_number))]
 fn is_met(calls: &[WindowCall], call: &WindowCall) -> bool
     ensures { result ≡ list_any (spec.same_call (call_of call.now)) (map call_of calls.now) }
 {
-    for other in calls {
-        if same_call(call, other) {
-            return true;
-        }
-    }
-    false
+    call_number(calls, call) < calls.len()
 }
 
 /// Adds a call, where it is new.

@@ -15,16 +15,25 @@ use wd_plan::Expr;
 use wd_resolve_scope::{AppliedAggregate, AppliedFunction, OrderKey, WindowCall};
 use wd_value::OutOfMemory;
 
-/// Whether an expression is among others.
-fn is_among(expression: &Expr, others: &[Expr]) -> bool
-    ensures { result ≡ list_any (equality.same_expression (expression_of expression.now)) (map expression_of others.now) }
+/// The number of an expression among the inputs, and their number where it is none.
+pub(crate) fn input_number(inputs: &[Expr], expression: &Expr) -> usize
+    ensures number { result ≡ spec.input_number (map expression_of inputs.now) (expression_of expression.now) }
+    ensures within { result ≤ length inputs.now }
 {
-    for other in others {
-        if expression.same(other) {
-            return true;
+    for (number, input) in inputs.iter().enumerate() {
+        if expression.same(input) {
+            return number;
         }
     }
-    false
+    inputs.len()
+}
+
+/// Whether an expression is among the inputs.
+#[tactic(auto, using(crate::proofs::FirstMet::any_by_number))]
+fn is_among(inputs: &[Expr], expression: &Expr) -> bool
+    ensures { result ≡ list_any (equality.same_expression (expression_of expression.now)) (map expression_of inputs.now) }
+{
+    input_number(inputs, expression) < inputs.len()
 }
 
 /// Adds an expression, where it is new.
@@ -35,7 +44,7 @@ pub(crate) fn add_input(
 ) -> Result<(), OutOfMemory>
     ensures { IfOk result (λ u. map expression_of inputs.new.items ≡ with_new equality.same_expression (map expression_of inputs.old.items) (expression_of expression.now ∷ [])) }
 {
-    if is_among(expression, inputs) {
+    if is_among(inputs, expression) {
         return Ok(());
     }
     inputs.push(expression.copy(alloc)?)?;
@@ -111,17 +120,4 @@ pub(crate) fn add_read(
     add_argument(alloc, inputs, &window_call.function)?;
     add_partition(alloc, inputs, &window_call.window.partition)?;
     add_order(alloc, inputs, &window_call.window.order)
-}
-
-/// The number of an expression among the inputs, and their number where it is none.
-pub(crate) fn input_number(inputs: &[Expr], expression: &Expr) -> usize
-    ensures number { result ≡ spec.input_number (map expression_of inputs.now) (expression_of expression.now) }
-    ensures within { result ≤ length inputs.now }
-{
-    for (number, input) in inputs.iter().enumerate() {
-        if expression.same(input) {
-            return number;
-        }
-    }
-    inputs.len()
 }

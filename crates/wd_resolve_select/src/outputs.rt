@@ -31,16 +31,6 @@ fn name_of(tree: &written::Expr) -> &str
         written::Expr::Call(function, _, _) => function.text.as_str(),
         written::Expr::Bracket(inner) => name_of(inner),
         written::Expr::Signed(Sign::Plus, inner) => name_of(inner),
-        written::Expr::Chain(first, links) => if links.is_empty() {
-            name_of(first)
-        } else {
-            UNNAMED
-        },
-        written::Expr::Tests(inner, tests) => if tests.is_empty() {
-            name_of(inner)
-        } else {
-            UNNAMED
-        },
         _ => UNNAMED,
     }
 }

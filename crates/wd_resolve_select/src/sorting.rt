@@ -175,21 +175,13 @@ fn key_place(
         written::Expr::Signed(_, inner) => {
             signed_place(alloc, shown, tree, written_number(inner))
         }
-        written::Expr::Chain(first, links) => if links.is_empty() {
-            key_place(alloc, shown, first)
-        } else {
-            expression_place(alloc, shown, tree)
-        },
-        written::Expr::Tests(inner, tests) => if tests.is_empty() {
-            key_place(alloc, shown, inner)
-        } else {
-            expression_place(alloc, shown, tree)
-        },
         written::Expr::Qualified(_, _)
         | written::Expr::CallAll(_, _)
         | written::Expr::Call(_, _, _)
         | written::Expr::Case(_, _)
         | written::Expr::Compare(_, _, _)
+        | written::Expr::Chain(_, _, _)
+        | written::Expr::Tests(_, _, _)
         | written::Expr::Not(_) => expression_place(alloc, shown, tree),
     }
 }

@@ -206,15 +206,11 @@ fn class_number(classes: &[Class], class: &Class) -> usize
 }
 
 /// Whether a class is among others.
+#[tactic(auto, using(crate::proofs::FirstMet::any_by_number))]
 fn is_known(classes: &[Class], class: &Class) -> bool
     ensures { result ≡ list_any (spec.same_class (class_of class.now)) (map class_of classes.now) }
 {
-    for other in classes {
-        if same_class(class, other) {
-            return true;
-        }
-    }
-    false
+    class_number(classes, class) < classes.len()
 }
 
 /// Adds a class, where it is new.

@@ -1,6 +1,7 @@
 use Rattle.std.proofs.Common.{◌≡◌, ◌++◌, drop, filter, length, map, option_map, zip}
 use Rattle.std.specs.List.{range_with_len}
-use Rattle.wd_resolve_select.specs.Outputs.{column_meant, is_of, numbered, output_of}
+use Rattle.wd_resolve_scope.specs.Scopes.{numbered}
+use Rattle.wd_resolve_select.specs.Outputs.{column_meant, is_of, output_of}
 use Rattle.wd_resolve_select.proofs.outputs.columns_of.Given as goal
 
 abbrev pub invariant-loop-number : goal.invariant-loop-number
