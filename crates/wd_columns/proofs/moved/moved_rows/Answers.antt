@@ -1,9 +1,8 @@
 use Rattle.std.proofs.Common.{◌≡◌, ◌<◌, ◌++◌, [], ◌∷◌, ◌∙◌, length, get_or, sym, ap, arith}
-use Rattle.std.proofs.lemmas.List.{get_or_default, map_push}
+use Rattle.std.proofs.lemmas.List.{map_more, map_push}
 use Rattle.wd_value.specs.Rows.{row_at, rows_of}
-use Rattle.wd_steps.proofs.Filtering.{items}
-use Rattle.wd_steps.proofs.Results.{map_more}
-use Rattle.wd_eval.proofs.moved.moved_rows.Goals as goal
+use Rattle.wd_columns.proofs.Places.{items}
+use Rattle.wd_columns.proofs.moved.moved_rows.Goals as goal
 
 pub loop-i-preserved : goal.loop-i-preserved
 loop-i-preserved c =
@@ -17,6 +16,6 @@ loop-i-preserved c =
     record {
       picked = ap rows_of c.in_ok-push.ensures.items ∙ map_push items c.loop-i.picked.items row
           ∙ (λ j. c.loop-i.invariant.picked j ++ is j ∷ [])
-          ∙ sym (map_more (row_at rows) ps i p within (get_or_default ps i 0 p within));
+          ∙ sym (map_more (row_at rows) ps i 0 within);
       left = λ k low high. (c.taken.ensures.others (get_or ps k 0) (λ e. c.requires i k (omega arith) high (sym e)) ∙ c.loop-i.invariant.left k (omega arith) high);
     }

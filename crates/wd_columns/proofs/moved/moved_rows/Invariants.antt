@@ -1,6 +1,6 @@
 use Rattle.std.proofs.Common.{◌≡◌, ℕ, ◌<◌, ◌≤◌, take, length, get_or}
 use Rattle.wd_value.specs.Rows.{row_at, rows_at, rows_of}
-use Rattle.wd_eval.proofs.moved.moved_rows.Given as goal
+use Rattle.wd_columns.proofs.moved.moved_rows.Given as goal
 
 abbrev pub invariant-loop-i : goal.invariant-loop-i
 invariant-loop-i l = record {

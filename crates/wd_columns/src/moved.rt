@@ -1,7 +1,7 @@
 //! Rows moved out of a list.
 
 ghost use Rattle.std.specs.Prelude.{◌≡◌, ℕ, IfOk};
-ghost use Rattle.wd_eval.specs.Moves.{AreDifferent};
+ghost use Rattle.wd_columns.specs.Moves.{AreDifferent};
 ghost use Rattle.wd_value.specs.Rows.{row_at, rows_at, rows_of};
 
 use std::alloc::Global;
@@ -9,7 +9,7 @@ use std::mem::replace;
 use wd_value::{OutOfMemory, Row};
 
 /// The rows at these positions, in their order. Each is moved: no position stands there twice.
-pub(crate) fn moved_rows(
+pub fn moved_rows(
     alloc: Global,
     rows: Vec<Row>,
     positions: &[u64],

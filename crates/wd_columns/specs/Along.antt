@@ -1,0 +1,23 @@
+-- Rows along columns: at each position the value that each column has there.
+use Rattle.std.specs.Prelude.{◌≡◌, ℕ, List, [], ◌∷◌, ◌++◌, map, length, slice_index_or, All}
+use Rattle.wd_value.specs.declared.value.Value.TheVariants.{Null}
+use Rattle.wd_value.specs.Bags.{positions}
+use Rattle.wd_value.specs.Rows.{Row}
+
+-- a column is the list of its values, and past its last one there is NULL; the row at a position
+abbrev pub row_along : List Row → ℕ → Row
+row_along columns p = map (λ column. slice_index_or column p Null) columns
+
+-- the rows at the first n positions
+abbrev pub rows_along : List Row → ℕ → List Row
+rows_along columns n = map (row_along columns) (positions n)
+
+-- each column has n values
+abbrev pub AreLong : ℕ → List Row → Type 0
+AreLong n columns = All (λ column. length column ≡ n) columns
+
+-- each column with a further value, as far as there are values
+abbrev pub with_row : List Row → Row → List Row
+with_row [] row = []
+with_row (column ∷ columns) [] = column ∷ columns
+with_row (column ∷ columns) (value ∷ values) = (column ++ value ∷ []) ∷ with_row columns values

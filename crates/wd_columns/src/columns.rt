@@ -1,0 +1,121 @@
+//! Tables kept column by column.
+
+ghost use Rattle.std.specs.Prelude.{◌≡◌, List, [], IfOk, length, map, slice_index_or};
+ghost use Rattle.wd_columns.specs.Along as along;
+ghost use Rattle.wd_columns.specs.Along.{rows_along};
+ghost use Rattle.wd_columns.specs.Moves.{AreDifferent};
+ghost use Rattle.wd_value.specs.Rows.{Row, column_of, columns_of, row_at, rows_of};
+ghost use Rattle.wd_value.specs.declared.value.Value.TheVariants as value;
+
+use crate::moved::moved_rows;
+use crate::taking::taken_rows;
+use std::alloc::Global;
+use std::marker::Model;
+use wd_value::{OutOfMemory, Row, Value};
+
+/// A table kept column by column, without an allocation for each row. Contracts see it as the list
+/// of its rows.
+#[derive(Drop)]
+pub struct Columns {
+    /// The values of each column. Past a column's last value stands NULL.
+    columns: Vec<Vec<Value>>,
+    count: usize,
+}
+
+impl Model for Columns {
+    ghost Value = { List Row };
+
+    ghost view = { λ c. rows_along (rows_of c.columns.items) c.count };
+}
+
+impl Columns {
+    /// So many rows, with the values that the columns have at their positions.
+    pub fn new(columns: Vec<Vec<Value>>, count: usize) -> Columns
+        ensures { result ≡ rows_along (rows_of columns.items) count }
+    {
+        Columns { columns, count }
+    }
+
+    /// No rows. Takes no memory.
+    pub fn empty(alloc: Global) -> Columns
+        ensures { result ≡ [] }
+    {
+        Columns {
+            columns: Vec::new(alloc),
+            count: 0,
+        }
+    }
+
+    /// How many rows there are.
+    pub fn len(&self) -> usize
+        ensures { result ≡ length self.now }
+    {
+        self.count
+    }
+
+    /// The value in a column of the row at a position, and `null` past the last row or column.
+    pub fn value<'a>(&'a self, position: u64, column: u16, null: &'a Value) -> &'a Value
+        requires { null.now ≡ value.Null }
+        ensures { result.now ≡ column_of (row_at self.now position) column }
+    {
+        if position as usize >= self.count {
+            return null;
+        }
+        value_along(&self.columns, position as usize, column, null)
+    }
+
+    /// The rows with these of their columns. Each column is moved: none is named twice.
+    pub fn selected(self, alloc: Global, columns: &[u64]) -> Result<Columns, OutOfMemory>
+        requires { AreDifferent columns.now }
+        ensures { IfOk result (λ c. c ≡ map (columns_of columns.now) self) }
+    {
+        let Columns {
+            columns: all,
+            count,
+        } = self;
+        let picked = moved_rows(alloc, all, columns)?;
+        Ok(Columns {
+            columns: picked,
+            count,
+        })
+    }
+
+    /// The list of the rows, each with memory for so many values more. Values are moved.
+    pub fn into_rows(self, alloc: Global, room: usize) -> Result<Vec<Row>, OutOfMemory>
+        ensures { IfOk result (λ v. rows_of v.items ≡ self) }
+    {
+        let Columns { columns, count } = self;
+        let rows = taken_rows(alloc, columns, count, room)?;
+        Ok(rows)
+    }
+}
+
+/// The value in a column of the row at a position, and `null` past the last of either.
+fn value_along<'a>(
+    columns: &'a [Vec<Value>],
+    position: usize,
+    column: u16,
+    null: &'a Value,
+) -> &'a Value
+    requires { null.now ≡ value.Null }
+    ensures { result.now ≡ column_of (along.row_along (rows_of columns.now) position) column }
+{
+    value_in(column_in(columns, column), position, null)
+}
+
+/// The column with a number, and one without values past the last.
+fn column_in(columns: &[Vec<Value>], column: u16) -> &[Value]
+    ensures { result.now ≡ row_at (rows_of columns.now) column }
+{
+    match columns.get(column as usize) {
+        Some(values) => values,
+        None => &[],
+    }
+}
+
+fn value_in<'a>(column: &'a [Value], position: usize, null: &'a Value) -> &'a Value
+    requires { null.now ≡ value.Null }
+    ensures { result.now ≡ slice_index_or column.now position value.Null }
+{
+    column.get(position).unwrap_or(null)
+}

@@ -1,0 +1,11 @@
+//! Tables kept column by column, and rows moved out of a list.
+#![tactic(auto)]
+
+mod columns;
+mod growing;
+mod moved;
+mod taking;
+
+pub use columns::Columns;
+pub use growing::push_row;
+pub use moved::moved_rows;

@@ -1,0 +1,70 @@
+//! Rows made of the values of columns, which are moved.
+
+ghost use Rattle.std.specs.Prelude.{◌≡◌, ◌<◌, ℕ, IfOk, OnOk, length, slice_index_or};
+ghost use Rattle.wd_columns.specs.Along.{row_along, rows_along};
+ghost use Rattle.wd_value.specs.Rows.{row_at, rows_of};
+ghost use Rattle.wd_value.specs.declared.value.Value.TheVariants as value;
+
+use std::alloc::Global;
+use std::mem::replace;
+use wd_value::{OutOfMemory, Row, Value};
+
+/// The rows at the first positions, each with memory for so many values more.
+pub fn taken_rows(
+    alloc: Global,
+    columns: Vec<Vec<Value>>,
+    count: usize,
+    room: usize,
+) -> Result<Vec<Row>, OutOfMemory>
+    ensures { IfOk result (λ v. rows_of v.items ≡ rows_along (rows_of columns.items) count) }
+{
+    let mut rows = Vec::with_capacity(alloc, count)?;
+    let mut left = columns;
+    for position in 0..count {
+        let row = taken_row(alloc, &mut left, position, room)?;
+        rows.push(row)?;
+    }
+    Ok(rows)
+}
+
+/// Takes the row at a position out.
+fn taken_row(
+    alloc: Global,
+    columns: &mut Vec<Vec<Value>>,
+    position: usize,
+    room: usize,
+) -> Result<Row, OutOfMemory>
+    ensures taken { IfOk result (λ r. r.items ≡ row_along (rows_of columns.old.items) position) }
+    ensures others { OnOk result ((p : ℕ) → (p ≡ position → ⊥) → row_along (rows_of columns.new.items) p ≡ row_along (rows_of columns.old.items) p) }
+{
+    let width = columns.len();
+    let mut row = Vec::with_capacity(alloc, width.saturating_add(room))?;
+    for place in 0..width {
+        let value = taken_at(columns, place, position);
+        row.push(value)?;
+    }
+    Ok(row)
+}
+
+/// Takes the value at a position of the column at a place out; past the last there is NULL.
+fn taken_at(columns: &mut Vec<Vec<Value>>, place: usize, position: usize) -> Value
+    ensures taken { result ≡ slice_index_or (row_at (rows_of columns.old.items) place) position value.Null }
+    ensures others { (p : ℕ) → (p ≡ position → ⊥) → row_along (rows_of columns.new.items) p ≡ row_along (rows_of columns.old.items) p }
+    ensures behind { (k : ℕ) → place < k → row_at (rows_of columns.new.items) k ≡ row_at (rows_of columns.old.items) k }
+    ensures long { length columns.new.items ≡ length columns.old.items }
+{
+    if place >= columns.len() {
+        return Value::Null;
+    }
+    taken(&mut columns[place], position)
+}
+
+fn taken(column: &mut Vec<Value>, position: usize) -> Value
+    ensures taken { result ≡ slice_index_or column.old.items position value.Null }
+    ensures others { (p : ℕ) → (p ≡ position → ⊥) → slice_index_or column.new.items p value.Null ≡ slice_index_or column.old.items p value.Null }
+{
+    if position >= column.len() {
+        return Value::Null;
+    }
+    replace(&mut column[position], Value::Null)
+}
