@@ -1,10 +1,23 @@
 //! Columns that grow by a row.
 
-ghost use Rattle.std.specs.Prelude.{◌≡◌, ◌<◌, ◌≤◌, ◌++◌, [], ◌∷◌, OnOk, length, set};
-ghost use Rattle.wd_columns.specs.Along.{with_row};
+ghost use Rattle.std.specs.Prelude.{◌≡◌, ◌<◌, ◌≤◌, ◌++◌, [], ◌∷◌, IfOk, OnOk, length, set};
+ghost use Rattle.wd_columns.specs.Along.{AreLong, with_row};
 ghost use Rattle.wd_value.specs.Rows.{row_at, rows_of};
 
+use std::alloc::Global;
 use wd_value::{OutOfMemory, Row, Value};
+
+/// So many columns without values.
+pub fn empty_columns(alloc: Global, count: usize) -> Result<Vec<Vec<Value>>, OutOfMemory>
+    ensures wide { IfOk result (λ v. length (rows_of v.items) ≡ count) }
+    ensures empty { IfOk result (λ v. AreLong 0 (rows_of v.items)) }
+{
+    let mut columns = Vec::with_capacity(alloc, count)?;
+    for _ in 0..count {
+        columns.push(Vec::new(alloc))?;
+    }
+    Ok(columns)
+}
 
 /// Puts the values of a row after those of the columns, the first one after the first column's. A
 /// value without a column is dropped.

@@ -7,5 +7,5 @@ mod moved;
 mod taking;
 
 pub use columns::Columns;
-pub use growing::push_row;
+pub use growing::{empty_columns, push_row};
 pub use moved::moved_rows;

@@ -12,7 +12,7 @@ use Rattle.wd_tables.specs.Causes.{AreAccepted, HasCause, IsLeast, IsWellFormed,
 use Rattle.wd_tables.specs.Refusals.{IsRefusedIn, RefusesHeader, RefusesRecord}
 use Rattle.wd_tables.specs.Data.{HoldsRows, NamesEachOnce, data_of, header_of, most_records, record_at, records_of, value_in, values_in}
 use Rattle.wd_tables.proofs.KeyFacts.{keeps_all}
-use Rattle.wd_tables.specs.Reading.{HoldsFirst, IsRecord, RefusesRead}
+use Rattle.wd_tables.specs.Reading.{HoldsFirst, HoldsRecord, IsRecord, RefusesRead}
 use Rattle.wd_tables.specs.declared.error.DataError.{DataError}
 use Rattle.wd_tables.specs.declared.error.DataError.TheVariants.{Header, Value as NoValue, Null as NullValue, Key, Malformed, TooManyRecords, OutOfMemory}
 use Rattle.wd_schema.specs.declared.table.Column.{Column}
@@ -95,6 +95,11 @@ holds_none columns text fields r names = record {
   values = λ k h. absurd (omega arith);
   fits = λ k h. absurd (omega arith);
 }
+
+-- a row has a value for each column
+pub row_wide : (columns : List Column) (text : List ℕ) (n : ℕ) (row : Row) → HoldsRecord columns text (n + 1) row → length columns ≡ length row
+row_wide columns text n row h =
+    sym (length-map columns (value_in (header_of text) h.fields)) ∙ ap length h.values ∙ length-map row (λ v. Some v)
 
 -- one more
 pub holds_more : (columns : List Column) (text : List ℕ) (n : ℕ) (rows : List Row) (fields : List (List ℕ)) (row : Row) → HoldsFirst columns text n rows → IsRecord text (n + 1) fields → values_in columns (header_of text) fields ≡ map (λ v. Some v) row → fits_columns columns row ≡ true

@@ -13,6 +13,7 @@ use crate::record::next_record;
 use crate::row::row_of;
 use csv::{Reader, ReaderBuilder, StringRecord};
 use std::alloc::Global;
+use wd_columns::{Columns, empty_columns, push_row};
 use wd_schema::Table;
 use wd_value::Row;
 
@@ -30,6 +31,17 @@ pub fn load(alloc: Global, table: &Table, text: &[u8]) -> Result<Vec<Row>, DataE
     ensures meets { IfOk result (λ v. MeetsTable (table_of table.now) (rows_of v.items)) }
     ensures refused { IfErr result (λ e. HasCause (table_of table.now) text.now e) }
 {
+    let columns = load_columns(alloc, table, text)?;
+    let rows = columns.into_rows(alloc, 0)?;
+    Ok(rows)
+}
+
+/// The same rows, kept column by column.
+pub fn load_columns(alloc: Global, table: &Table, text: &[u8]) -> Result<Columns, DataError>
+    ensures holds { IfOk result (λ v. HoldsRows (table_of table.now) text.now v) }
+    ensures meets { IfOk result (λ v. MeetsTable (table_of table.now) v) }
+    ensures refused { IfErr result (λ e. HasCause (table_of table.now) text.now e) }
+{
     let rows = read_rows(alloc, table, text)?;
     match first_repeat(alloc, &table.keys, &rows)? {
         Some(position) => Err(DataError::Key {
@@ -40,9 +52,9 @@ pub fn load(alloc: Global, table: &Table, text: &[u8]) -> Result<Vec<Row>, DataE
 }
 
 // The rows of a table, which may repeat a key.
-fn read_rows(alloc: Global, table: &Table, text: &[u8]) -> Result<Vec<Row>, DataError>
-    ensures holds { IfOk result (λ v. HoldsRows (table_of table.now) text.now (rows_of v.items)) }
-    ensures fits { IfOk result (λ v. All (λ row. fits_columns table.now.columns.items row ≡ true) (rows_of v.items)) }
+fn read_rows(alloc: Global, table: &Table, text: &[u8]) -> Result<Columns, DataError>
+    ensures holds { IfOk result (λ v. HoldsRows (table_of table.now) text.now v) }
+    ensures fits { IfOk result (λ v. All (λ row. fits_columns table.now.columns.items row ≡ true) v) }
     ensures refused { IfErr result (λ e. HasCause (table_of table.now) text.now e) }
 {
     let mut reader = ReaderBuilder::new()
@@ -52,9 +64,9 @@ fn read_rows(alloc: Global, table: &Table, text: &[u8]) -> Result<Vec<Row>, Data
     Ok(rows)
 }
 
-fn read_all(alloc: Global, table: &Table, reader: &mut Reader<&[u8]>) -> Result<Vec<Row>, DataError>
-    ensures holds { (text : List ℕ) → HasRead text 0 reader.old → IfOk result (λ v. HoldsRows (table_of table.now) text (rows_of v.items)) }
-    ensures fits { (text : List ℕ) → HasRead text 0 reader.old → IfOk result (λ v. All (λ row. fits_columns table.now.columns.items row ≡ true) (rows_of v.items)) }
+fn read_all(alloc: Global, table: &Table, reader: &mut Reader<&[u8]>) -> Result<Columns, DataError>
+    ensures holds { (text : List ℕ) → HasRead text 0 reader.old → IfOk result (λ v. HoldsRows (table_of table.now) text v) }
+    ensures fits { (text : List ℕ) → HasRead text 0 reader.old → IfOk result (λ v. All (λ row. fits_columns table.now.columns.items row ≡ true) v) }
     ensures refused { (text : List ℕ) → HasRead text 0 reader.old → IfErr result (λ e. HasCause (table_of table.now) text e) }
 {
     let mut fields = StringRecord::new(alloc);
@@ -74,24 +86,24 @@ fn read_data(
     places: &[usize],
     reader: &mut Reader<&[u8]>,
     fields: &mut StringRecord,
-) -> Result<Vec<Row>, DataError>
+) -> Result<Columns, DataError>
     requires { length places.now ≡ length table.now.columns.items }
-    ensures holds { WhereHeaded table.now.columns.items reader.old places.now (λ text. IfOk result (λ v. HoldsRows (table_of table.now) text (rows_of v.items))) }
-    ensures fits { WhereHeaded table.now.columns.items reader.old places.now (λ text. IfOk result (λ v. All (λ row. fits_columns table.now.columns.items row ≡ true) (rows_of v.items))) }
+    ensures holds { WhereHeaded table.now.columns.items reader.old places.now (λ text. IfOk result (λ v. HoldsRows (table_of table.now) text v)) }
+    ensures fits { WhereHeaded table.now.columns.items reader.old places.now (λ text. IfOk result (λ v. All (λ row. fits_columns table.now.columns.items row ≡ true) v)) }
     ensures refused { WhereHeaded table.now.columns.items reader.old places.now (λ text. IfErr result (λ e. HasCause (table_of table.now) text e)) }
 {
-    let mut rows = Vec::new(alloc);
+    let mut columns = empty_columns(alloc, table.columns.len())?;
     for before in 0..MOST_RECORDS {
         match next_row(alloc, table, places, reader, fields, before + 1)? {
-            Some(row) => rows.push(row)?,
-            None => return Ok(rows),
+            Some(row) => push_row(&mut columns, row)?,
+            None => return Ok(Columns::new(columns, before as usize)),
         }
     }
     let more = next_record(reader, fields)?;
     if more {
         return Err(DataError::TooManyRecords);
     }
-    Ok(rows)
+    Ok(Columns::new(columns, MOST_RECORDS as usize))
 }
 
 // The row of the next record, if there is one. The number is its own.

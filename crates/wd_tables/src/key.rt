@@ -1,17 +1,29 @@
 ghost use Rattle.std.specs.Prelude.{◌≡◌, IfOk, map};
+ghost use Rattle.std.specs.List.{list_any};
+ghost use Rattle.wd_schema.specs.Meets as meets;
 ghost use Rattle.wd_schema.specs.Tables.{key_of};
+ghost use Rattle.wd_sort.specs.Sorting as sorting;
+ghost use Rattle.wd_sort.specs.Sorting.{IsSortOf};
 ghost use Rattle.wd_tables.specs.Causes.{IsLeast, Repeats, RepeatsIn};
 ghost use Rattle.wd_tables.specs.Keys as spec;
-ghost use Rattle.wd_value.specs.Rows.{rows_of};
+ghost use Rattle.wd_value.specs.Order as order;
+ghost use Rattle.wd_value.specs.Rows.{column_of, columns_of, row_at, same_row};
+ghost use Rattle.wd_value.specs.Values.{same as same_values};
 
 use std::alloc::Global;
-use wd_schema::{Key, violates};
-use wd_sort::{row_in, sorted_positions};
-use wd_value::{OutOfMemory, Row, SortColumn, SortKey};
+use std::cmp::Ordering;
+use wd_columns::Columns;
+use wd_schema::{Key, is_null};
+use wd_sort::all_positions;
+use wd_value::{OutOfMemory, SortColumn, SortKey, Value, compare, same};
 
 /// The first row that repeats an earlier one in some key.
-pub fn first_repeat(alloc: Global, keys: &[Key], rows: &[Row]) -> Result<Option<u64>, OutOfMemory>
-    ensures { IfOk result (λ o. IsLeast (Repeats (map key_of keys.now) (rows_of rows.now)) o) }
+pub fn first_repeat(
+    alloc: Global,
+    keys: &[Key],
+    rows: &Columns,
+) -> Result<Option<u64>, OutOfMemory>
+    ensures { IfOk result (λ o. IsLeast (Repeats (map key_of keys.now) rows.now) o) }
 {
     let mut first = None;
     for key in keys {
@@ -31,11 +43,11 @@ fn least(a: Option<u64>, b: Option<u64>) -> Option<u64>
 }
 
 // Rows that are the same on the key stand side by side once they are sorted by it.
-fn first_repeat_in(alloc: Global, key: &Key, rows: &[Row]) -> Result<Option<u64>, OutOfMemory>
-    ensures { IfOk result (λ o. IsLeast (RepeatsIn (key_of key.now) (rows_of rows.now)) o) }
+fn first_repeat_in(alloc: Global, key: &Key, rows: &Columns) -> Result<Option<u64>, OutOfMemory>
+    ensures { IfOk result (λ o. IsLeast (RepeatsIn (key_of key.now) rows.now) o) }
 {
     let columns = sort_columns(alloc, &key.columns)?;
-    let order = sorted_positions(alloc, rows, &columns)?;
+    let order = sorted_by(alloc, rows, &columns)?;
     Ok(first_violation(key, rows, &order))
 }
 
@@ -56,15 +68,95 @@ fn sort_columns(alloc: Global, columns: &[u16]) -> Result<Vec<SortColumn>, OutOf
     Ok(sorted)
 }
 
+// The positions of the rows, sorted by columns; rows that tie on all of them stay as they were.
+fn sorted_by(
+    alloc: Global,
+    rows: &Columns,
+    columns: &[SortColumn],
+) -> Result<Vec<u64>, OutOfMemory>
+    ensures { IfOk result (λ v. IsSortOf columns.now rows.now v.items) }
+{
+    let mut order = all_positions(alloc, rows.len())?;
+    order.sort_by(|p, q| compare_rows(rows, columns, *p, *q))?;
+    Ok(order)
+}
+
+// The rows at two positions, at the first of the columns on which they differ.
+fn compare_rows(rows: &Columns, columns: &[SortColumn], p: u64, q: u64) -> Ordering
+    ensures { result ≡ sorting.compare_rows_at columns.now rows.now p q }
+{
+    for column in columns {
+        match compare_values(rows, *column, p, q) {
+            Ordering::Equal => {}
+            found => return found,
+        }
+    }
+    Ordering::Equal
+}
+
+fn compare_values(rows: &Columns, column: SortColumn, p: u64, q: u64) -> Ordering
+    ensures { result ≡ order.compare column.key (column_of (row_at rows.now p) column.column) (column_of (row_at rows.now q) column.column) }
+{
+    let null = Value::Null;
+    compare(
+        rows.value(p, column.column, &null),
+        rows.value(q, column.column, &null),
+        column.key,
+    )
+}
+
 // The least position whose row violates the key with the row before it in the order.
-fn first_violation(key: &Key, rows: &[Row], order: &[u64]) -> Option<u64>
-    ensures { IsLeast (spec.ViolatesBefore (key_of key.now) (rows_of rows.now) order.now) result }
+fn first_violation(key: &Key, rows: &Columns, order: &[u64]) -> Option<u64>
+    ensures { IsLeast (spec.ViolatesBefore (key_of key.now) rows.now order.now) result }
 {
     let mut first = None;
     for i in 1..order.len() {
-        if violates(key, row_in(rows, order[i - 1]), row_in(rows, order[i])) {
+        if violates(key, rows, order[i - 1], order[i]) {
             first = least(first, Some(order[i]));
         }
     }
     first
+}
+
+// Whether the rows at two positions may not both stand in a table with the key.
+fn violates(key: &Key, rows: &Columns, p: u64, q: u64) -> bool
+    ensures { result ≡ meets.violates (key_of key.now) (row_at rows.now p) (row_at rows.now q) }
+{
+    are_same(&key.columns, rows, p, q) && !(key.nulls_distinct && has_null(&key.columns, rows, p))
+}
+
+fn are_same(columns: &[u16], rows: &Columns, p: u64, q: u64) -> bool
+    ensures { result ≡ same_row (columns_of columns.now (row_at rows.now p)) (columns_of columns.now (row_at rows.now q)) }
+{
+    for column in columns {
+        if !are_same_at(*column, rows, p, q) {
+            return false;
+        }
+    }
+    true
+}
+
+fn are_same_at(column: u16, rows: &Columns, p: u64, q: u64) -> bool
+    ensures { result ≡ same_values (column_of (row_at rows.now p) column) (column_of (row_at rows.now q) column) }
+{
+    let null = Value::Null;
+    same(rows.value(p, column, &null), rows.value(q, column, &null))
+}
+
+fn has_null(columns: &[u16], rows: &Columns, p: u64) -> bool
+    ensures { result ≡ list_any meets.is_null (columns_of columns.now (row_at rows.now p)) }
+{
+    for column in columns {
+        if is_null_at(*column, rows, p) {
+            return true;
+        }
+    }
+    false
+}
+
+fn is_null_at(column: u16, rows: &Columns, p: u64) -> bool
+    ensures { result ≡ meets.is_null (column_of (row_at rows.now p) column) }
+{
+    let null = Value::Null;
+    is_null(rows.value(p, column, &null))
 }

@@ -12,6 +12,6 @@ mod record;
 mod row;
 
 pub use answer::answer_text;
-pub use data::load;
+pub use data::{load, load_columns};
 pub use error::DataError;
 pub use laws::{one_refusal, rows_or_refusal};

@@ -1,6 +1,5 @@
 use Rattle.std.proofs.Common.{rules}
 use Rattle.wd_schema.specs.Tables.{key_of}
-use Rattle.wd_value.specs.Rows.{rows_of}
 use Rattle.wd_sort.specs.Sorting.{IsSortOf}
 use Rattle.wd_tables.specs.Causes.{RepeatsIn}
 use Rattle.wd_tables.specs.Keys.{ViolatesBefore, sort_columns}
@@ -11,7 +10,7 @@ use Rattle.wd_tables.proofs.key.first_repeat_in.Goals as goal
 pub returns : goal.returns
 returns c =
     let key = key_of c.args.key.now in
-    let rows = rows_of c.args.rows.now in
+    let rows = c.args.rows.now in
     let order = c.in_ok-order.order.items in
     let sorted : IsSortOf (sort_columns key.columns) rows order = search rules in
     let least = rw c.deref-3.ensures.value at c.first_violation.ensures in
