@@ -10,8 +10,8 @@ edit leaves true. A line 'right:' stands first in an edit that changes nothing t
 proved. Such edits show that a refusal is no accident of the run.
 
 All edits of a crate are put into one copy of it, at most one for a function, and one check of those functions alone
-judges them. The functions that they call stand there by their contracts: their proofs, which the gate has checked, are
-left open in the copy. An edit is refused where the check says of its own function that it 'did not prove' a goal of it,
+judges them. The functions that they call stand there by their contracts: their bodies and their proofs, which the gate
+has checked, are left out of the copy. An edit is refused where the check says of its own function that it 'did not prove' a goal of it,
 or that the written proof of a goal of it no longer holds. That a function which it calls isn't proved is no refusal,
 nor is a written proof that names what the edit took away. What a run leaves unclear goes into a further run with fewer
 edits. An edit of a definition (a file of specs/) stands in a run of its own; it is refused where the law that it names
@@ -30,6 +30,7 @@ import shutil
 import subprocess
 import sys
 import tempfile
+import time
 
 from rt_module import TOP, rt
 
@@ -65,6 +66,7 @@ def copy_with(crate, edits, room):
 
 FUNCTION = re.compile(r"^(?P<indent> *)(?:pub(?:\([a-z]+\))? )?(?:const )?fn (?P<name>\w+)(?P<generic><[^(]*)?\(", re.M)
 INHERENT = re.compile(r"^impl(?:<[^>]*>)? (?P<type>\w+)(?:<[^>]*>)? \{", re.M)
+OPEN_BODY = "loop {}"
 OPEN_PROOF = """use Rattle.{crate}.proofs.{module}.Statement.{{statement}}
 
 pub {name}_spec : {{M : Type 1}} → statement M
@@ -72,27 +74,36 @@ pub {name}_spec : {{M : Type 1}} → statement M
 """
 
 
+def body_of(text, found):
+    """Where the body of a function stands that begins there: from behind its opening brace to its closing one."""
+    indent = found["indent"]
+    opening = re.compile(rf"^{indent}\{{(?=\}}?$)|^{indent}(?:\S.*)? \{{(?=\}}?$)", re.M).search(text, found.start())
+    if text[opening.end()] == "}":
+        return opening.end(), opening.end()
+    return opening.end(), text.index(f"\n{indent}}}\n", opening.end()) + 1 + len(indent)
+
+
 def functions_in(text, module):
-    """The paths of the functions of a source file whose proofs can be left open: none that calls itself or stands in a cycle
-    of calls, no method of a trait or of another file's type, none that is generic over a type."""
+    """The functions of a source file that can stand by their contracts alone, each with where its body stands: none that calls
+    itself or stands in a cycle of calls, no method of a trait or of another file's type, none that is generic over a type."""
     for found in FUNCTION.finditer(text):
         before = text[: found.start()]
         attributes = before[before.rstrip().rfind("\n\n") + 1 :] if before.strip() else ""
-        body = text[found.end() : text.find(f"\n{found['indent']}}}", found.end())]
-        is_recursive = "#[cycle(" in attributes[attributes.rfind("}") + 1 :] or re.search(rf"\b{found['name']}\(", body)
+        start, end = body_of(text, found)
+        is_recursive = "#[cycle(" in attributes[attributes.rfind("}") + 1 :] or re.search(rf"\b{found['name']}\(", text[start:end])
         is_generic = found["generic"] and not re.fullmatch(r"<('\w+,? ?)+>", found["generic"])
         if is_recursive or is_generic:
             continue
         if not found["indent"]:
-            yield f"{module}::{found['name']}" if module else found["name"]
+            yield (f"{module}::{found['name']}" if module else found["name"]), start, end
             continue
         owner = list(INHERENT.finditer(before))
         if owner and "\n}" not in before[owner[-1].end() :] and re.search(rf"\b(struct|enum) {owner[-1]['type']}\b", text):
-            yield f"{module}::{owner[-1]['type']}::{found['name']}"
+            yield f"{module}::{owner[-1]['type']}::{found['name']}", start, end
 
 
-def leave_proofs_open(crate, edits, room):
-    """Takes the proof of each function that no edit changes as open, so that the edited ones are judged by its contract."""
+def leave_bodies_out(crate, edits, room):
+    """Takes the body and the proof of each function that no edit changes as open, so that the edited ones are judged by its contract."""
     edited = {edit.function for edit in edits}
     for file in rt.rtlib.files_of(room):
         path = os.path.relpath(file, f"{room}/src")
@@ -100,33 +111,61 @@ def leave_proofs_open(crate, edits, room):
             continue
         module = "::".join(part for part in path.removesuffix(".rt").split("/") if part not in ("lib", "main", "mod"))
         with open(file, encoding="utf-8") as source:
-            functions = [it for it in functions_in(source.read(), module) if it not in edited]
-        for function in functions:
+            text = source.read()
+        for function, start, end in reversed([it for it in functions_in(text, module) if it[0] not in edited]):
+            text = f"{text[:start]} {OPEN_BODY} {text[end:]}"
             folder = f"{room}/proofs/{function.replace('::', '/')}"
             shutil.rmtree(folder, ignore_errors=True)
             os.makedirs(folder)
             with open(f"{folder}/Proof.antt", "w", encoding="utf-8") as proof:
                 proof.write(OPEN_PROOF.format(crate=crate.name, module=function.replace("::", "."), name=function.split("::")[-1]))
+        with open(file, "w", encoding="utf-8") as source:
+            source.write(text)
 
 
-def check(crate, edits, log, kept):
+def check(crate, edits, log):
     """Checks the edited functions in one copy of the crate; returns the lines that are said, and the edits that can't be applied."""
     with tempfile.TemporaryDirectory(prefix="wrong-bodies-") as room:
-        bad = copy_with(crate, edits, room)
+        copy = f"{room}/{crate.name}"
+        os.mkdir(copy)
+        bad = copy_with(crate, edits, copy)
         names = sorted({f"{crate.name}::{edit.function}" for edit in edits if edit not in bad})
         if not names:
             return [], bad
-        leave_proofs_open(crate, edits, room)
+        leave_bodies_out(crate, edits, copy)
         words = [rt.rtlib.RATTLE, "check", *crate.words(["--jobs", "1"], keeps=False), "--allow-holes"]
-        words += ["--incremental", kept] if kept else []
         for name in names:
             words += ["--only", name]
-        ran = subprocess.run([*rt.rtlib.guarded(), *words], cwd=room, stdin=subprocess.DEVNULL,
-                             stdout=subprocess.PIPE, stderr=subprocess.STDOUT, text=True, errors="replace")
+        said, times = run_without_offers(words, copy, room)
     if log:
-        with open(log, "w", encoding="utf-8") as file:
-            file.write(ran.stdout)
-    return ran.stdout.splitlines(), bad
+        for ending, text in ("log", said), ("times", times):
+            with open(f"{log}.{ending}", "w", encoding="utf-8") as file:
+                file.write(text)
+    return said.splitlines(), bad
+
+
+def run_without_offers(words, folder, room):
+    """Runs a check in the folder, and returns what it says and how long its stages took. Once all is judged, a check would
+    run the prover again to print what a written proof of each refused function could begin with, which takes up to half of
+    its time: the folder of the prover's files is taken away before that."""
+    times, files = f"{room}/times", f"{room}/files"
+    os.mkdir(files)
+    with open(f"{room}/said", "w+", encoding="utf-8", errors="replace") as said:
+        ran = subprocess.Popen([*rt.rtlib.guarded(), *words, "--stage-times", times], cwd=folder, stdin=subprocess.DEVNULL,
+                               stdout=said, stderr=subprocess.STDOUT, env={**os.environ, "TMPDIR": files})
+        while ran.poll() is None:
+            if os.path.isdir(files) and "stage guard " in text_of(times):
+                os.rename(files, f"{room}/judged")
+            time.sleep(0.02)
+        said.seek(0)
+        return said.read(), text_of(times)
+
+
+def text_of(path):
+    if not os.path.exists(path):
+        return ""
+    with open(path, encoding="utf-8") as file:
+        return file.read()
 
 
 # What a written proof is told where it names something that the edit took away.
@@ -179,18 +218,10 @@ def rounds(edits):
 def judge(crate, edits, logs):
     """For each edit whether it is as it must be; it is said of each what the check said."""
     groups = rounds(edits)
-    if len(groups) == 1:
-        return judge_groups(crate, groups, logs, None)
-    # The later checks go on from what the first one proved.
-    with tempfile.TemporaryDirectory(prefix="wrong-bodies-kept-") as kept:
-        return judge_groups(crate, groups, logs, kept)
-
-
-def judge_groups(crate, groups, logs, kept):
     judged, number = [], 0
     while groups:
         group, number = groups.pop(0), number + 1
-        lines, bad = check(crate, group, logs and f"{logs}/{crate.name}.{number}.log", kept)
+        lines, bad = check(crate, group, logs and f"{logs}/{crate.name}.{number}")
         unclear = []
         for edit in group:
             refused, said = (None, bad[edit]) if edit in bad else verdict(edit, lines)
