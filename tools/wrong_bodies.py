@@ -9,8 +9,11 @@ A file wrong-bodies/CRATE/NAME.edit has the line 'fn: PATH' (the function, as th
 edit leaves true. A line 'right:' stands first in an edit that changes nothing that a contract says: it must still be
 proved. Such edits show that a refusal is no accident of the run.
 
-All edits of a crate are put into one copy of it, at most one for a function, and one check of those functions alone
-judges them. The functions that they call stand there by their contracts: their bodies and their proofs, which the gate
+All edits of a crate are put into one copy of it, and one check of the edited functions alone judges them. A further edit of
+one function is made in a twin: a function beside it with the same contract, the edited body, and the same written proof
+under its name. Where there is a written proof, a twin without a change stands beside such twins and must be proved: it
+shows that the name refuses nothing.
+The functions that they call stand there by their contracts: their bodies and their proofs, which the gate
 has checked, are left out of the copy. An edit is refused where the check says of its own function that it 'did not prove' a goal of it,
 or that the written proof of a goal of it no longer holds. That a function which it calls isn't proved is no refusal,
 nor is a written proof that names what the edit took away. What a run leaves unclear goes into a further run with fewer
@@ -35,16 +38,36 @@ import time
 from rt_module import TOP, rt
 
 EDITS = f"{TOP}/wrong-bodies"
-Edit = collections.namedtuple("Edit", "crate name function right of_definition path")
+# An edit is judged in its own function, or in that function's twin of this number where it is not None.
+Edit = collections.namedtuple("Edit", "crate name function right of_definition path twin", defaults=[None])
+Twin = collections.namedtuple("Twin", "path text proofs")
+# Where a function stands in a file: its attributes and comments, its body between the braces, and its end.
+Span = collections.namedtuple("Span", "start opening closing end")
 
 
 def read_edit(crate, path):
-    with open(path, encoding="utf-8") as file:
-        text = file.read()
+    text = text_of(path)
     function = re.search(r"(?m)^fn: (\S+)$", text)
     name = os.path.basename(path).removesuffix(".edit")
     of_definition = re.search(r"(?m)^file: specs/", text) is not None
     return Edit(crate, name, function[1] if function else None, text.startswith("right:"), of_definition, path)
+
+
+def judged_name(edit):
+    return edit.function if edit.twin is None else f"{edit.function}_twin{edit.twin}"
+
+
+def text_of(path):
+    if not os.path.exists(path):
+        return ""
+    with open(path, encoding="utf-8") as file:
+        return file.read()
+
+
+def write(path, text):
+    os.makedirs(os.path.dirname(path), exist_ok=True)
+    with open(path, "w", encoding="utf-8") as file:
+        file.write(text)
 
 
 def copy_with(crate, edits, room):
@@ -54,14 +77,80 @@ def copy_with(crate, edits, room):
             shutil.copytree(f"{crate.folder}/{part}", f"{room}/{part}")
     bad = {}
     for edit in edits:
-        texts, why = rt.read_edit(edit.path, room)
+        texts, why = rt.read_edit(edit.path, room) if edit.twin is None else ({}, None)
         if why or not edit.function:
             bad[edit] = why or "it names no function"
             continue
         for path, text in texts.items():
-            with open(f"{room}/{path}", "w", encoding="utf-8") as file:
-                file.write(text)
+            write(f"{room}/{path}", text)
+    for edit in edits:
+        if edit.twin is not None:
+            write_twin(edit, twin_of(crate, edit), room)
+    for edit in unchanged_twins(crate, edits):
+        write_twin(edit, twin_of(crate, edit), room)
     return bad
+
+
+def unchanged_twins(crate, edits):
+    """A twin without a change for each function that has twins and a written proof."""
+    functions = sorted({edit.function for edit in edits if edit.twin is not None})
+    return [unchanged_twin(crate, it) for it in functions if os.path.isdir(f"{crate.folder}/proofs/{it.replace('::', '/')}")]
+
+
+def unchanged_twin(crate, function):
+    return Edit(crate.name, "unchanged", function, True, False, None, 0)
+
+
+def twin_of(crate, edit):
+    """The edited function under another name, with its written proof; None where the edit can't be told of the function alone."""
+    module = edit.function.split("::")
+    texts, why = rt.read_edit(edit.path, crate.folder) if edit.path else ({}, None)
+    folder = f"proofs/{'/'.join(module)}"
+    sources = [path for path in texts or {} if not path.startswith(f"{folder}/")]
+    if not edit.path:
+        sources = [path for path in sources_of(crate.folder) if edit.function in spans_in(text_of(f"{crate.folder}/{path}"), module_of(path))]
+    if why or len(sources) != 1 or not sources[0].startswith("src/"):
+        return None
+    path = sources[0]
+    before = text_of(f"{crate.folder}/{path}")
+    after = texts.get(path, before)
+    old, new = (spans_in(text, module_of(path)).get(edit.function) for text in (before, after))
+    if not old or not new or before[: old.opening] != after[: new.opening] or before[old.closing :] != after[new.closing :]:
+        return None
+    name = judged_name(edit).split("::")[-1]
+    text = re.sub(rf"\bfn {module[-1]}\b", f"fn {name}", after[new.start : new.end], count=1)
+    proofs = proofs_of_twin(crate, edit, folder, texts)
+    return None if proofs is None else Twin(path, text, proofs)
+
+
+def proofs_of_twin(crate, edit, folder, texts):
+    """The texts of the function's written proof, which name the twin in its place; None where a lemma names the proof's parts."""
+    dotted = edit.function.replace("::", ".")
+    own = rf"\bRattle\.{crate.name}\.(proofs|specs\.contracts)\.{re.escape(dotted)}\b(?!-)"
+    proofs = {}
+    for file in rt.rtlib.files_of(crate.folder):
+        path = os.path.relpath(file, crate.folder)
+        if not path.startswith("proofs/") or not path.endswith(".antt"):
+            continue
+        is_own = path.startswith(f"{folder}/")
+        text = texts.get(path) or text_of(file)
+        if path == f"{folder}/Proof.antt" or not is_own and re.search(own, text):
+            return None
+        if is_own:
+            text = re.sub(own, rf"Rattle.{crate.name}.\1.{judged_name(edit).replace('::', '.')}", text)
+            if re.search(rf"\.{re.escape(dotted)}\.|\bfn\.", text):
+                return None
+            proofs[f"proofs/{judged_name(edit).replace('::', '/')}/{path.removeprefix(f'{folder}/')}"] = text
+    return proofs
+
+
+def write_twin(edit, twin, room):
+    """Puts the twin behind its function, whose own text may be another edit's, and its proof beside that of the function."""
+    text = text_of(f"{room}/{twin.path}")
+    end = spans_in(text, module_of(twin.path))[edit.function].end
+    write(f"{room}/{twin.path}", f"{text[:end]}\n{twin.text}{text[end:]}")
+    for path, proof in twin.proofs.items():
+        write(f"{room}/{path}", proof)
 
 
 FUNCTION = re.compile(r"^(?P<indent> *)(?:pub(?:\([a-z]+\))? )?(?:const )?fn (?P<name>\w+)(?P<generic><[^(]*)?\(", re.M)
@@ -74,53 +163,56 @@ pub {name}_spec : {{M : Type 1}} → statement M
 """
 
 
-def body_of(text, found):
-    """Where the body of a function stands that begins there: from behind its opening brace to its closing one."""
-    indent = found["indent"]
-    opening = re.compile(rf"^{indent}\{{(?=\}}?$)|^{indent}(?:\S.*)? \{{(?=\}}?$)", re.M).search(text, found.start())
-    if text[opening.end()] == "}":
-        return opening.end(), opening.end()
-    return opening.end(), text.index(f"\n{indent}}}\n", opening.end()) + 1 + len(indent)
+def sources_of(folder):
+    return [path for path in (os.path.relpath(file, folder) for file in rt.rtlib.files_of(folder)) if re.match(r"src/.*\.rt$", path)]
 
 
-def functions_in(text, module):
-    """The functions of a source file that can stand by their contracts alone, each with where its body stands: none that calls
-    itself or stands in a cycle of calls, no method of a trait or of another file's type, none that is generic over a type."""
+def module_of(path):
+    """The path of the module that a file of src/ is."""
+    return "::".join(part for part in path.removeprefix("src/").removesuffix(".rt").split("/") if part not in ("lib", "main", "mod"))
+
+
+def span_of(text, found):
+    """Where the function stands whose head is found: from its comments and attributes on, which an empty line or the head of a block is above."""
+    indent, before = found["indent"], text[: found.start()]
+    opening = re.compile(rf"^{indent}(?:(?! )\S.* )?\{{(?=\}}?$)", re.M).search(text, found.start()).end()
+    closing = opening if text[opening] == "}" else text.index(f"\n{indent}}}\n", opening) + 1 + len(indent)
+    start = re.search(r"(?:^ *(?:///?.*|#\[(?:[^\]\n]|\n(?! *\n))*\])\n)*\Z", before, re.M).start()
+    return Span(start, opening, closing, closing + len("}\n"))
+
+
+def spans_in(text, module):
+    """The functions of a source file that can stand by their contracts alone: none that calls itself or stands in a cycle of
+    calls, no method of a trait or of another file's type, none that is generic over a type."""
+    spans = {}
     for found in FUNCTION.finditer(text):
-        before = text[: found.start()]
-        attributes = before[before.rstrip().rfind("\n\n") + 1 :] if before.strip() else ""
-        start, end = body_of(text, found)
-        is_recursive = "#[cycle(" in attributes[attributes.rfind("}") + 1 :] or re.search(rf"\b{found['name']}\(", text[start:end])
+        span = span_of(text, found)
+        is_recursive = "#[cycle(" in text[span.start : found.start()] or re.search(rf"\b{found['name']}\(", text[span.opening : span.closing])
         is_generic = found["generic"] and not re.fullmatch(r"<('\w+,? ?)+>", found["generic"])
         if is_recursive or is_generic:
             continue
         if not found["indent"]:
-            yield (f"{module}::{found['name']}" if module else found["name"]), start, end
+            spans[f"{module}::{found['name']}" if module else found["name"]] = span
             continue
-        owner = list(INHERENT.finditer(before))
-        if owner and "\n}" not in before[owner[-1].end() :] and re.search(rf"\b(struct|enum) {owner[-1]['type']}\b", text):
-            yield f"{module}::{owner[-1]['type']}::{found['name']}", start, end
+        owner = list(INHERENT.finditer(text[: found.start()]))
+        if owner and "\n}" not in text[owner[-1].end() : found.start()] and re.search(rf"\b(struct|enum) {owner[-1]['type']}\b", text):
+            spans[f"{module}::{owner[-1]['type']}::{found['name']}"] = span
+    return spans
 
 
-def leave_bodies_out(crate, edits, room):
-    """Takes the body and the proof of each function that no edit changes as open, so that the edited ones are judged by its contract."""
-    edited = {edit.function for edit in edits}
-    for file in rt.rtlib.files_of(room):
-        path = os.path.relpath(file, f"{room}/src")
-        if not path.endswith(".rt") or path.startswith(".."):
-            continue
-        module = "::".join(part for part in path.removesuffix(".rt").split("/") if part not in ("lib", "main", "mod"))
-        with open(file, encoding="utf-8") as source:
-            text = source.read()
-        for function, start, end in reversed([it for it in functions_in(text, module) if it[0] not in edited]):
-            text = f"{text[:start]} {OPEN_BODY} {text[end:]}"
+def leave_bodies_out(crate, names, room):
+    """Takes the body and the proof of each function that is not judged as open, so that the judged ones stand on its contract."""
+    for path in sources_of(room):
+        text = text_of(f"{room}/{path}")
+        for function, span in reversed(spans_in(text, module_of(path)).items()):
+            if function in names:
+                continue
+            text = f"{text[: span.opening]} {OPEN_BODY} {text[span.closing :]}"
             folder = f"{room}/proofs/{function.replace('::', '/')}"
             shutil.rmtree(folder, ignore_errors=True)
-            os.makedirs(folder)
-            with open(f"{folder}/Proof.antt", "w", encoding="utf-8") as proof:
-                proof.write(OPEN_PROOF.format(crate=crate.name, module=function.replace("::", "."), name=function.split("::")[-1]))
-        with open(file, "w", encoding="utf-8") as source:
-            source.write(text)
+            module, name = function.replace("::", "."), function.split("::")[-1]
+            write(f"{folder}/Proof.antt", OPEN_PROOF.format(crate=crate.name, module=module, name=name))
+        write(f"{room}/{path}", text)
 
 
 def check(crate, edits, log):
@@ -129,18 +221,18 @@ def check(crate, edits, log):
         copy = f"{room}/{crate.name}"
         os.mkdir(copy)
         bad = copy_with(crate, edits, copy)
-        names = sorted({f"{crate.name}::{edit.function}" for edit in edits if edit not in bad})
+        names = {judged_name(edit) for edit in edits if edit not in bad}
+        names |= {judged_name(edit) for edit in unchanged_twins(crate, edits)}
         if not names:
             return [], bad
-        leave_bodies_out(crate, edits, copy)
+        leave_bodies_out(crate, names, copy)
         words = [rt.rtlib.RATTLE, "check", *crate.words(["--jobs", "1"], keeps=False), "--allow-holes"]
-        for name in names:
-            words += ["--only", name]
+        for name in sorted(names):
+            words += ["--only", f"{crate.name}::{name}"]
         said, times = run_without_offers(words, copy, room)
     if log:
-        for ending, text in ("log", said), ("times", times):
-            with open(f"{log}.{ending}", "w", encoding="utf-8") as file:
-                file.write(text)
+        write(f"{log}.log", said)
+        write(f"{log}.times", times)
     return said.splitlines(), bad
 
 
@@ -161,20 +253,13 @@ def run_without_offers(words, folder, room):
         return said.read(), text_of(times)
 
 
-def text_of(path):
-    if not os.path.exists(path):
-        return ""
-    with open(path, encoding="utf-8") as file:
-        return file.read()
-
-
 # What a written proof is told where it names something that the edit took away.
 LOST_NAME = re.compile(r"has no field|is not in scope|has no `|was not admitted")
 
 
 def lost_goals(edit, lines):
     """The goals of the edit's function whose written proof no longer holds."""
-    module, _, name = edit.function.rpartition("::")
+    module, _, name = judged_name(edit).rpartition("::")
     folder = f"{module.replace('::', '/')}/" if module else ""
     own, cycle = (f"{folder}{name}/", f"{folder}+{name}/"), f"{folder}+"
     goals = []
@@ -188,7 +273,7 @@ def lost_goals(edit, lines):
 
 def verdict(edit, lines):
     """Whether the check refused the edit's own function, and what it said; None where that can't be told."""
-    start = f"fn {edit.crate}::{edit.function}: "
+    start = f"fn {edit.crate}::{judged_name(edit)}: "
     said = next((line.removeprefix(start) for line in lines if line.startswith(start)), None)
     if said and (said == "no holes" or said.startswith("depends on a hole in")):
         return False, "proved"
@@ -203,36 +288,42 @@ def verdict(edit, lines):
     return None, said or told or (lines[-1] if lines else "nothing was said")
 
 
-def rounds(edits):
-    """The edits in groups, at most one of a function in each."""
+def rounds(crate, edits, with_twins=True):
+    """The edits in groups. A group has one edit of a function in place, and further ones in its twins."""
     groups = []
     for edit in edits:
-        fits = lambda group: not edit.of_definition and all(edit.function != it.function and not it.of_definition for it in group)
-        group = next(filter(fits, groups), None)
-        if group is None:
-            groups.append(group := [])
-        group.append(edit)
+        for group in groups:
+            twin = edit._replace(twin=sum(edit.function == it.function for it in group) or None)
+            if edit.of_definition or any(it.of_definition for it in group):
+                continue
+            if twin.twin is None or with_twins and twin_of(crate, twin) and twin_of(crate, unchanged_twin(crate, edit.function)):
+                group.append(twin)
+                break
+        else:
+            groups.append([edit._replace(twin=None)])
     return groups
 
 
 def judge(crate, edits, logs):
     """For each edit whether it is as it must be; it is said of each what the check said."""
-    groups = rounds(edits)
+    groups = rounds(crate, edits)
     judged, number = [], 0
     while groups:
         group, number = groups.pop(0), number + 1
         lines, bad = check(crate, group, logs and f"{logs}/{crate.name}.{number}")
+        harmed = {it.function for it in unchanged_twins(crate, group) if verdict(it, lines)[0] is not False}
         unclear = []
         for edit in group:
             refused, said = (None, bad[edit]) if edit in bad else verdict(edit, lines)
-            if refused is None and edit not in bad and len(group) > 1:
+            is_unclear = refused is None or edit.twin is not None and edit.function in harmed
+            if is_unclear and edit not in bad and len(group) > 1:
                 unclear.append(edit)
                 continue
             word = {True: "refused", False: "NOT REFUSED" if not edit.right else "proved, as it must be", None: "UNCLEAR"}[refused]
             judged.append(refused is (not edit.right))
             print(f"{edit.crate}/{edit.name}: {word}: {edit.function}: {said[:200]}", flush=True)
-        if unclear:
-            groups += [unclear] if len(unclear) < len(group) else [[edit] for edit in unclear]
+        alone = [[edit._replace(twin=None)] for edit in unclear]
+        groups += rounds(crate, unclear, with_twins=False) if len(unclear) < len(group) else alone
     return judged
 
 
