@@ -35,52 +35,67 @@ shown_by scope distinct outputs = record { scope = scope; distinct = distinct; o
 
 -- what a select shows, in its order and within its limits
 abbrev pub shown_sorted : Shown → Keys → Option Limits → PlanTree → Meant Lowered
-shown_sorted s order limits plan =
-    keys_sorted s order unsorted >>= λ sorted.
-    cut_meant (is_sorted order) limits >>= λ cut.
-    Ok (lowered_shown s sorted cut plan)
+shown_sorted s order limits plan = do
+  sorted ← keys_sorted s order unsorted
+  cut ← cut_meant (is_sorted order) limits
+  Ok (lowered_shown s sorted cut plan)
 
 -- what is left of a select after its FROM and its WINDOW: the select list, ORDER BY and the limits, from left to right
 abbrev pub selected : ScopeRule → PlanTree → List KnownMeaning → Parts → Meant Lowered
-selected scope plan windows parts =
-    list_meant (record { scope = scope; windows = windows; place = place.SelectList }) parts.items >>= λ outputs.
-    shown_sorted (shown_by scope (is_distinct parts.quantifier) outputs) parts.tail.order parts.tail.limits plan
+selected scope plan windows parts = do
+  outputs ← list_meant (record { scope = scope; windows = windows; place = place.SelectList }) parts.items
+  shown_sorted (shown_by scope (is_distinct parts.quantifier) outputs) parts.tail.order parts.tail.limits plan
 
 -- a select after its FROM: WHERE, WINDOW, and the rest
 abbrev pub behind_from : JoinedTables → Parts → Meant Lowered
-behind_from from parts =
-    filtered from.scope parts.tail.filter from.plan >>= λ plan.
-    all_defined from.scope [] parts.tail.windows >>= λ known.
-    selected from.scope plan known parts
+behind_from from parts = do
+  plan ← filtered from.scope parts.tail.filter from.plan
+  known ← all_defined from.scope [] parts.tail.windows
+  selected from.scope plan known parts
 
 -- a table after a comma begins a new row of joins
 abbrev pub behind_comma : FromSoFar → JoinedTables → Meant FromSoFar
-behind_comma from part = next_admitted from part >>= λ p. Ok (record { before = Some (together from.before from.current); current = p })
+behind_comma from part = do
+  p ← next_admitted from part
+  Ok (record { before = Some (together from.before from.current); current = p })
 
 -- a table joined to those before it, back to the last comma, on all pairs or on a condition
 abbrev pub joined_to : FromSoFar → Option Expression → JoinedTables → FromSoFar
 joined_to from condition part = record { before = from.before; current = joined condition from.current part }
 
 abbrev pub crossed : FromSoFar → JoinedTables → Meant FromSoFar
-crossed from part = next_admitted from part >>= λ p. Ok (joined_to from None p)
+crossed from part = do
+  p ← next_admitted from part
+  Ok (joined_to from None p)
 
 -- ON sees the tables back to the last comma
 abbrev pub joined_on : FromSoFar → Tree → JoinedTables → Meant FromSoFar
-joined_on from on part = next_admitted from part >>= λ p. condition place.On (joined None from.current p).scope on >>= λ e. Ok (joined_to from (Some e) p)
+joined_on from on part = do
+  p ← next_admitted from part
+  e ← condition place.On (joined None from.current p).scope on
+  Ok (joined_to from (Some e) p)
 
 abbrev mutual
   -- the plan of a select, and its columns
   pub lowered : List TableRule → SelectTree → Meant Lowered
-  lowered tables (select parts first joins) = table_meant tables first >>= λ part. first_admitted part >>= λ start. joins_meant tables joins start >>= λ from. behind_from (together from.before from.current) parts
+  lowered tables (select parts first joins) = do
+    part ← table_meant tables first
+    start ← first_admitted part
+    from ← joins_meant tables joins start
+    behind_from (together from.before from.current) parts
 
   -- a table of FROM: a Scan, or its own plan
   pub table_meant : List TableRule → TableTree → Meant JoinedTables
   table_meant tables (named name alias) = named_table tables name.text (called name alias)
-  table_meant tables (derived s alias) = lowered tables s >>= λ l. Ok (derived_table alias.name.text l)
+  table_meant tables (derived s alias) = do
+    l ← lowered tables s
+    Ok (derived_table alias.name.text l)
 
   pub joins_meant : List TableRule → Joins → FromSoFar → Meant FromSoFar
   joins_meant tables no_joins from = Ok from
-  joins_meant tables (more_joins join joins) from = join_meant tables join from >>= λ next. joins_meant tables joins next
+  joins_meant tables (more_joins join joins) from = do
+    next ← join_meant tables join from
+    joins_meant tables joins next
 
   pub join_meant : List TableRule → JoinTree → FromSoFar → Meant FromSoFar
   join_meant tables (comma table) from = table_meant tables table >>= λ part. behind_comma from part
