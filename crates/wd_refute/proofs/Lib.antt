@@ -1,1 +1,4 @@
+pub mod RowOrder
+pub mod RowsAt
+pub mod Agreeing
 pub mod Verdicts

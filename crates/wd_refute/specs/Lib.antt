@@ -1,3 +1,4 @@
 pub mod Refutation
 pub mod Judged
 pub mod Laws
+pub mod Ready

@@ -10,8 +10,8 @@ ghost use Rattle.wd_value.specs.Rows.{instance_of};
 ghost use Rattle.wd_witness.specs.Witnesses.{positions_of, witness_of};
 
 use crate::error::Refusal;
+use crate::outcome::SortedOutcome;
 use std::alloc::Global;
-use wd_agree::SortedOutcome;
 use wd_eval::{EvalError, eval_with};
 use wd_plan::{Choice, Plan};
 use wd_schema::{Schema, meets};

@@ -1,3 +1,6 @@
+pub mod Passing
+pub mod Probing
+pub mod Searching
 pub mod Names
 pub mod Building
 pub mod Meeting

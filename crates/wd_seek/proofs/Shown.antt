@@ -11,8 +11,8 @@ use Rattle.wd_witness.specs.declared.witness.Witness.{Witness}
 use Rattle.wd_candidates.specs.Outlines.{AreTied, AreTiedBy}
 use Rattle.wd_candidates.specs.Tied.{NodeColumns}
 use Rattle.wd_candidates.specs.declared.tied.TiedColumns.{TiedColumns}
-use Rattle.wd_probe.specs.Search.{FirstShowNothing}
-use Rattle.wd_probe.proofs.Searching.{first_show_nothing}
+use Rattle.wd_seek.specs.Search.{FirstShowNothing}
+use Rattle.wd_seek.proofs.Searching.{first_show_nothing}
 use Rattle.wd_seek.specs.Sought.{IsFound, IsSought}
 
 -- ---- the columns of a call or a limit

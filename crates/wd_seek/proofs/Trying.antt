@@ -13,9 +13,9 @@ use Rattle.wd_candidates.specs.Outlines.{IsOutline}
 use Rattle.wd_candidates.specs.Tied.{NodeColumns}
 use Rattle.wd_candidates.specs.declared.outline.Outline.{Outline}
 use Rattle.wd_candidates.specs.declared.shape.Shape.{Shape}
-use Rattle.wd_probe.specs.Evaluations.{most_evaluations}
-use Rattle.wd_probe.specs.Search.{FindsNothing}
-use Rattle.wd_probe.proofs.Searching.{nothing_then, nothing_to_try, two_before, two_then}
+use Rattle.wd_seek.specs.Evaluations.{most_evaluations}
+use Rattle.wd_seek.specs.Search.{FindsNothing}
+use Rattle.wd_seek.proofs.Searching.{nothing_then, nothing_to_try, two_before, two_then}
 use Rattle.wd_seek.specs.Sought.{IsSought, is_meeting}
 use Rattle.wd_seek.specs.Tried.{IsTried}
 use Rattle.wd_seek.proofs.Meeting.{meets_from_test, test_from_meets}

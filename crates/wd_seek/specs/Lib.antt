@@ -1,3 +1,6 @@
+pub mod Evaluations
+pub mod Search
+pub mod Probed
 pub mod Witnesses
 pub mod Sought
 pub mod Tried

@@ -13,7 +13,7 @@ use Rattle.wd_analyse.specs.declared.analysis.Reason.{Reason}
 use Rattle.wd_witness.specs.Witnesses.{AllFit64, WitnessRecord, witness_of}
 use Rattle.wd_witness.specs.declared.witness.Witness.{Witness}
 use Rattle.wd_candidates.specs.Candidates.{candidates}
-use Rattle.wd_probe.specs.Search.{FindsNothing, FindsTwo}
+use Rattle.wd_seek.specs.Search.{FindsNothing, FindsTwo}
 use Rattle.wd_seek.specs.Witnesses.{IsOver}
 
 -- the reasons that an analysis gives; a certificate has none

@@ -6,7 +6,7 @@ use Rattle.wd_plan.specs.Plans.{PlanTree}
 use Rattle.wd_witness.specs.Witnesses.{WitnessRecord, witness_of}
 use Rattle.wd_witness.specs.declared.witness.Witness.{Witness}
 use Rattle.wd_candidates.specs.declared.outline.Outline.{Outline}
-use Rattle.wd_probe.specs.Search.{FindsNothing, FindsTwo}
+use Rattle.wd_seek.specs.Search.{FindsNothing, FindsTwo}
 use Rattle.wd_seek.specs.Witnesses.{HasScannedRows, NamesDiffer}
 
 -- two choices over the instance, with the rows of its scanned tables

@@ -7,10 +7,10 @@ ghost use Rattle.wd_seek.specs.Witnesses.{HasScannedRows, IsScannedName, NamesDi
 ghost use Rattle.wd_value.specs.Rows.{instance_of};
 ghost use Rattle.wd_witness.specs.Witnesses.{positions_of, table_rows, witness_of};
 
+use crate::probed::Pair;
 use std::alloc::Global;
 use std::collections::BTreeMap;
 use wd_candidates::Outline;
-use wd_probe::Pair;
 use wd_schema::Schema;
 use wd_value::{Instance, OutOfMemory, Row};
 use wd_witness::Witness;

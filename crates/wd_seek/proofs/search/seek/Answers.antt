@@ -2,8 +2,8 @@ use Rattle.std.proofs.Common.{IfNone, ap, subst, sym, ◌∙◌}
 use Rattle.std.proofs.lemmas.Result.{IfOk-weaker}
 use Rattle.wd_plan.specs.Plans.{plan_of}
 use Rattle.wd_schema.specs.Schemas.{schema_of}
-use Rattle.wd_probe.specs.Search.{FindsNothing, FirstShowNothing}
-use Rattle.wd_probe.proofs.Searching.{nothing_to_try}
+use Rattle.wd_seek.specs.Search.{FindsNothing, FirstShowNothing}
+use Rattle.wd_seek.proofs.Searching.{nothing_to_try}
 use Rattle.wd_seek.specs.Sought.{IsSought, reasons_of, to_try}
 use Rattle.wd_seek.proofs.Shown.{exhausted}
 use Rattle.wd_seek.proofs.search.seek.Goals as goal

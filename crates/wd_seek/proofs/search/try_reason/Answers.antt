@@ -4,8 +4,8 @@ use Rattle.wd_plan.specs.Plans.{plan_of}
 use Rattle.wd_schema.specs.Schemas.{schema_of}
 use Rattle.wd_candidates.specs.Candidates.{candidate, candidates, shapes}
 use Rattle.wd_candidates.specs.Tied.{ordered_by}
-use Rattle.wd_probe.specs.Search.{FindsNothing}
-use Rattle.wd_probe.proofs.Searching.{none_left_for, nothing_to_try}
+use Rattle.wd_seek.specs.Search.{FindsNothing}
+use Rattle.wd_seek.proofs.Searching.{none_left_for, nothing_to_try}
 use Rattle.wd_seek.specs.Sought.{IsSought, is_meeting}
 use Rattle.wd_seek.proofs.Shown.{none_ordered, some_ordered}
 use Rattle.wd_seek.proofs.search.try_reason.Goals as goal

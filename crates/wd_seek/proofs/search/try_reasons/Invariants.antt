@@ -3,8 +3,8 @@ use Rattle.wd_plan.specs.Plans.{plan_of}
 use Rattle.wd_schema.specs.Schemas.{schema_of}
 use Rattle.wd_analyse.specs.declared.analysis.Reason.{Reason}
 use Rattle.wd_candidates.specs.Candidates.{candidates}
-use Rattle.wd_probe.specs.Evaluations.{most_evaluations}
-use Rattle.wd_probe.specs.Search.{FindsNothing}
+use Rattle.wd_seek.specs.Evaluations.{most_evaluations}
+use Rattle.wd_seek.specs.Search.{FindsNothing}
 use Rattle.wd_seek.proofs.Trying.{tried_by}
 use Rattle.wd_seek.proofs.search.try_reasons.Given as goal
 

@@ -5,8 +5,8 @@ use Rattle.wd_schema.specs.Schemas.{schema_of}
 use Rattle.wd_schema.specs.Meets.{Meets}
 use Rattle.wd_value.specs.Rows.{instance_of}
 use Rattle.wd_candidates.specs.Candidates.{candidate}
-use Rattle.wd_probe.specs.Search.{FindsNothing}
-use Rattle.wd_probe.proofs.Searching.{none_left_for}
+use Rattle.wd_seek.specs.Search.{FindsNothing}
+use Rattle.wd_seek.proofs.Searching.{none_left_for}
 use Rattle.wd_seek.specs.Sought.{is_meeting}
 use Rattle.wd_seek.specs.Tried.{IsTried}
 use Rattle.wd_seek.proofs.Trying.{met, not_met}

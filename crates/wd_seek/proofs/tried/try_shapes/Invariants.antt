@@ -4,8 +4,8 @@ use Rattle.wd_schema.specs.Schemas.{schema_of}
 use Rattle.wd_candidates.specs.Candidates.{candidate, shapes}
 use Rattle.wd_candidates.specs.Tied.{NodeColumns}
 use Rattle.wd_candidates.specs.Outlines.{AreTied}
-use Rattle.wd_probe.specs.Evaluations.{most_evaluations}
-use Rattle.wd_probe.specs.Search.{FindsNothing}
+use Rattle.wd_seek.specs.Evaluations.{most_evaluations}
+use Rattle.wd_seek.specs.Search.{FindsNothing}
 use Rattle.wd_seek.proofs.Trying.{tried_by}
 use Rattle.wd_seek.proofs.tried.try_shapes.Given as goal
 

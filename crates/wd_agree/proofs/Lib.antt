@@ -1,3 +1,0 @@
-pub mod RowOrder
-pub mod RowsAt
-pub mod Agreeing

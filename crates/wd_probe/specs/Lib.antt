@@ -1,3 +1,0 @@
-pub mod Evaluations
-pub mod Search
-pub mod Tries

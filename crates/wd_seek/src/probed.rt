@@ -1,0 +1,89 @@
+//! The evaluations of one instance.
+
+ghost use Rattle.std.specs.Prelude.{◌≡◌, ◌≤◌, true, IfOk};
+ghost use Rattle.wd_plan.specs.Fits.{fits};
+ghost use Rattle.wd_plan.specs.Plans.{plan_of};
+ghost use Rattle.wd_schema.specs.Schemas.{schema_of};
+ghost use Rattle.wd_seek.specs.Evaluations.{most_evaluations};
+ghost use Rattle.wd_seek.specs.Probed.{IsFirst, IsOther, IsProbed};
+ghost use Rattle.wd_value.specs.Rows.{instance_of};
+
+use crate::evaluated::evaluate;
+use std::alloc::Global;
+use wd_plan::{Choice, Plan};
+use wd_refute::SortedOutcome;
+use wd_schema::Schema;
+use wd_value::{Instance, OutOfMemory};
+
+/// The most evaluations of a search.
+pub(crate) const MOST_EVALUATIONS: u32 = 2000;
+
+/// Two choices over an instance, under which the outcomes do not agree.
+#[derive(Drop)]
+pub(crate) struct Pair {
+    pub first: Choice,
+    pub second: Choice,
+}
+
+/// Evaluates a plan over an instance under the choice that flips nothing, and then flips one ordering after another until an
+/// outcome does not agree with the first. It is given up where a step has more than 10,000,000 rows, and at the most evaluations.
+/// `spent` is the number of the evaluations before, and the number in the answer that with the ones made here.
+pub(crate) fn probe(
+    alloc: Global,
+    schema: &Schema,
+    plan: &Plan,
+    instance: &Instance,
+    spent: u32,
+) -> Result<(Option<Pair>, u32), OutOfMemory>
+    requires fitting { fits (schema_of schema.now) (plan_of plan.now) ≡ true }
+    requires few { spent ≤ most_evaluations }
+    ensures few { IfOk result (λ r. r.1 ≤ most_evaluations) }
+    ensures tried { IfOk result (λ r. IsProbed (plan_of plan.now) (instance_of instance.now.items) spent r.1 r.0) }
+{
+    if spent == MOST_EVALUATIONS {
+        return Ok((None, spent));
+    }
+    let Some(first) = evaluate(alloc, schema, plan, instance, None)? else {
+        return Ok((None, spent + 1));
+    };
+    let (other, spent) = other_choice(alloc, schema, plan, instance, &first.outcome, spent + 1)?;
+    match other {
+        Some(second) => {
+            let first = first.choice;
+            Ok((Some(Pair { first, second }), spent))
+        }
+        None => Ok((None, spent)),
+    }
+}
+
+/// Flips one ordering after another until the outcome does not agree with the first; the choice that does it, and the number of
+/// evaluations.
+fn other_choice(
+    alloc: Global,
+    schema: &Schema,
+    plan: &Plan,
+    instance: &Instance,
+    first: &SortedOutcome,
+    spent: u32,
+) -> Result<(Option<Choice>, u32), OutOfMemory>
+    requires fitting { fits (schema_of schema.now) (plan_of plan.now) ≡ true }
+    requires first { IsFirst (plan_of plan.now) (instance_of instance.now.items) first.now }
+    requires few { spent ≤ most_evaluations }
+    ensures few { IfOk result (λ r. r.1 ≤ most_evaluations) }
+    ensures other { IfOk result (λ r. IsOther (plan_of plan.now) (instance_of instance.now.items) first.now spent r.1 r.0) }
+{
+    let orderings = plan.orderings();
+    for flipped in 0..orderings {
+        let made = spent + flipped;
+        if made == MOST_EVALUATIONS {
+            return Ok((None, made));
+        }
+        let Some(other) = evaluate(alloc, schema, plan, instance, Some(flipped))? else {
+            return Ok((None, made + 1));
+        };
+        if !first.agrees(&other.outcome) {
+            return Ok((Some(other.choice), made + 1));
+        }
+    }
+    Ok((None, spent + orderings))
+}
