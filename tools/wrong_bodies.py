@@ -173,11 +173,14 @@ def module_of(path):
 
 
 def span_of(text, found):
-    """Where the function stands whose head is found: from its comments and attributes on, which an empty line or the head of a block is above."""
-    indent, before = found["indent"], text[: found.start()]
+    """Where the function stands whose head is found: from its comments and attributes on, to its closing brace. A function that
+    an edit adds is one line without clauses."""
+    indent, line = found["indent"], text[found.start() :].split("\n", 1)[0]
+    start = re.search(r"(?:^ *(?:///?.*|#\[(?:[^\]\n]|\n(?! *\n))*\])\n)*\Z", text[: found.start()], re.M).start()
+    if line.endswith("}"):
+        return Span(start, found.start() + line.index("{") + 1, found.start() + len(line) - 1, found.start() + len(line) + 1)
     opening = re.compile(rf"^{indent}(?:(?! )\S.* )?\{{(?=\}}?$)", re.M).search(text, found.start()).end()
     closing = opening if text[opening] == "}" else text.index(f"\n{indent}}}\n", opening) + 1 + len(indent)
-    start = re.search(r"(?:^ *(?:///?.*|#\[(?:[^\]\n]|\n(?! *\n))*\])\n)*\Z", before, re.M).start()
     return Span(start, opening, closing, closing + len("}\n"))
 
 
@@ -186,18 +189,24 @@ def spans_in(text, module):
     calls, no method of a trait or of another file's type, none that is generic over a type."""
     spans = {}
     for found in FUNCTION.finditer(text):
-        span = span_of(text, found)
-        is_recursive = "#[cycle(" in text[span.start : found.start()] or re.search(rf"\b{found['name']}\(", text[span.opening : span.closing])
+        owner = owner_of(text, found) if found["indent"] else ""
         is_generic = found["generic"] and not re.fullmatch(r"<('\w+,? ?)+>", found["generic"])
-        if is_recursive or is_generic:
+        if owner is None or is_generic:
             continue
-        if not found["indent"]:
-            spans[f"{module}::{found['name']}" if module else found["name"]] = span
+        span = span_of(text, found)
+        if "#[cycle(" in text[span.start : found.start()] or re.search(rf"\b{found['name']}\(", text[span.opening : span.closing]):
             continue
-        owner = list(INHERENT.finditer(text[: found.start()]))
-        if owner and "\n}" not in text[owner[-1].end() : found.start()] and re.search(rf"\b(struct|enum) {owner[-1]['type']}\b", text):
-            spans[f"{module}::{owner[-1]['type']}::{found['name']}"] = span
+        spans["::".join(part for part in (module, owner, found["name"]) if part)] = span
     return spans
+
+
+def owner_of(text, found):
+    """The type of this file whose method a function is; None where it is a trait's method, or another file's type's."""
+    owners = list(INHERENT.finditer(text[: found.start()]))
+    if not owners or "\n}" in text[owners[-1].end() : found.start()]:
+        return None
+    name = owners[-1]["type"]
+    return name if re.search(rf"\b(struct|enum) {name}\b", text) else None
 
 
 def leave_bodies_out(crate, names, room):
