@@ -297,6 +297,15 @@ def verdict(edit, lines):
     return None, said or told or (lines[-1] if lines else "nothing was said")
 
 
+def stands_by_itself(edit, lines):
+    """Whether what the check says of the edit's function is that it's proved, or that others are not on which it stands."""
+    refused, said = verdict(edit, lines)
+    name = judged_name(edit)
+    of_others = said.startswith(("not proved; it stands on ", "no proof: it calls ")) and f".{name.replace('::', '.')}." not in said
+    has_error = any(re.match(rf"(?:\./)?proofs/{name.replace('::', '/')}/\S*: error", line) for line in lines)
+    return refused is False or refused is None and of_others and not has_error
+
+
 def rounds(crate, edits, with_twins=True):
     """The edits in groups. A group has one edit of a function in place, and further ones in its twins."""
     groups = []
@@ -320,7 +329,7 @@ def judge(crate, edits, logs):
     while groups:
         group, number = groups.pop(0), number + 1
         lines, bad = check(crate, group, logs and f"{logs}/{crate.name}.{number}")
-        harmed = {it.function for it in unchanged_twins(crate, group) if verdict(it, lines)[0] is not False}
+        harmed = {it.function for it in unchanged_twins(crate, group) if not stands_by_itself(it, lines)}
         unclear = []
         for edit in group:
             refused, said = (None, bad[edit]) if edit in bad else verdict(edit, lines)
