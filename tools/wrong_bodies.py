@@ -117,6 +117,10 @@ def twin_of(crate, edit):
     old, new = (spans_in(text, module_of(path)).get(edit.function) for text in (before, after))
     if not old or not new or before[: old.opening] != after[: new.opening] or before[old.closing :] != after[new.closing :]:
         return None
+    of_recursion = f"{crate.folder}/proofs/{'/'.join([*module[:-1], '+' + module[-1]])}"
+    if re.search(rf"\b{module[-1]}\(", after[new.opening : new.closing]) and (os.path.isdir(of_recursion) or os.path.isdir(f"{crate.folder}/{folder}")):
+        # Where it calls itself, its twin calls it in its place, so a written proof would speak of other steps.
+        return None
     name = judged_name(edit).split("::")[-1]
     text = re.sub(rf"\bfn {module[-1]}\b", f"fn {name}", after[new.start : new.end], count=1)
     proofs = proofs_of_twin(crate, edit, folder, texts)
@@ -185,8 +189,8 @@ def span_of(text, found):
 
 
 def spans_in(text, module):
-    """The functions of a source file that can stand by their contracts alone: none that calls itself or stands in a cycle of
-    calls, no method of a trait or of another file's type, none that is generic over a type."""
+    """The functions of a source file that can stand by their contracts alone: none in a cycle of calls of several functions,
+    no method of a trait or of another file's type, none that is generic over a type."""
     spans = {}
     for found in FUNCTION.finditer(text):
         owner = owner_of(text, found) if found["indent"] else ""
@@ -194,7 +198,7 @@ def spans_in(text, module):
         if owner is None or is_generic:
             continue
         span = span_of(text, found)
-        if "#[cycle(" in text[span.start : found.start()] or re.search(rf"\b{found['name']}\(", text[span.opening : span.closing]):
+        if "#[cycle(" in text[span.start : found.start()]:
             continue
         spans["::".join(part for part in (module, owner, found["name"]) if part)] = span
     return spans
@@ -217,8 +221,9 @@ def leave_bodies_out(crate, names, room):
             if function in names:
                 continue
             text = f"{text[: span.opening]} {OPEN_BODY} {text[span.closing :]}"
-            folder = f"{room}/proofs/{function.replace('::', '/')}"
+            folder, of_recursion = (f"{room}/proofs/{'/'.join([*function.split('::')[:-1], it + function.split('::')[-1]])}" for it in ("", "+"))
             shutil.rmtree(folder, ignore_errors=True)
+            shutil.rmtree(of_recursion, ignore_errors=True)
             module, name = function.replace("::", "."), function.split("::")[-1]
             write(f"{folder}/Proof.antt", OPEN_PROOF.format(crate=crate.name, module=module, name=name))
         write(f"{room}/{path}", text)
