@@ -12,13 +12,13 @@ proved. Such edits show that a refusal is no accident of the run.
 All edits of a crate are put into one copy of it, and one check of the edited functions alone judges them. A further edit of
 one function is made in a twin: a function beside it with the same contract, the edited body, and the same written proof
 under its name. Where there is a written proof, a twin without a change stands beside such twins and must be proved: it
-shows that the name refuses nothing.
-The functions that they call stand there by their contracts: their bodies and their proofs, which the gate
-has checked, are left out of the copy. An edit is refused where the check says of its own function that it 'did not prove' a goal of it,
-or that the written proof of a goal of it no longer holds. That a function which it calls isn't proved is no refusal,
-nor is a written proof that names what the edit took away. What a run leaves unclear goes into a further run with fewer
-edits. An edit of a definition (a file of specs/) stands in a run of its own; it is refused where the law that it names
-is not proved any more.
+shows that the name refuses nothing. The functions that the edited ones call stand there by their contracts: their bodies
+and their proofs, which the gate has checked, are left out of the copy.
+
+An edit is refused where the check says of its own function that it 'did not prove' a goal of it, or that the written proof
+of a goal of it no longer holds. That a function which it calls isn't proved is no refusal, nor is a written proof that
+names what the edit took away. What a run leaves unclear goes into a further run with fewer edits. An edit of a definition
+(a file of specs/) stands in a run of its own; it is refused where the law that it names is not proved any more.
 
 With --after-gate the libraries are those that 'rt ci' left in a clean clone; else they are built where they changed.
 The last line is 'N passed, M failed'.
@@ -94,7 +94,7 @@ def copy_with(crate, edits, room):
 def unchanged_twins(crate, edits):
     """A twin without a change for each function that has twins and a written proof."""
     functions = sorted({edit.function for edit in edits if edit.twin is not None})
-    return [unchanged_twin(crate, it) for it in functions if os.path.isdir(f"{crate.folder}/proofs/{it.replace('::', '/')}")]
+    return [unchanged_twin(crate, it) for it in functions if os.path.isdir(f"{crate.folder}/{proof_folders(it)[0]}")]
 
 
 def unchanged_twin(crate, function):
@@ -103,28 +103,36 @@ def unchanged_twin(crate, function):
 
 def twin_of(crate, edit):
     """The edited function under another name, with its written proof; None where the edit can't be told of the function alone."""
-    module = edit.function.split("::")
     texts, why = rt.read_edit(edit.path, crate.folder) if edit.path else ({}, None)
-    folder = f"proofs/{'/'.join(module)}"
-    sources = [path for path in texts or {} if not path.startswith(f"{folder}/")]
-    if not edit.path:
-        sources = [path for path in sources_of(crate.folder) if edit.function in spans_in(text_of(f"{crate.folder}/{path}"), module_of(path))]
-    if why or len(sources) != 1 or not sources[0].startswith("src/"):
+    folder, of_recursion = proof_folders(edit.function)
+    path = source_of(crate, edit.function)
+    if why or not path or any(it != path and not it.startswith(f"{folder}/") for it in texts):
         return None
-    path = sources[0]
     before = text_of(f"{crate.folder}/{path}")
     after = texts.get(path, before)
     old, new = (spans_in(text, module_of(path)).get(edit.function) for text in (before, after))
-    if not old or not new or before[: old.opening] != after[: new.opening] or before[old.closing :] != after[new.closing :]:
+    if not new or before[: old.opening] != after[: new.opening] or before[old.closing :] != after[new.closing :]:
         return None
-    of_recursion = f"{crate.folder}/proofs/{'/'.join([*module[:-1], '+' + module[-1]])}"
-    if re.search(rf"\b{module[-1]}\(", after[new.opening : new.closing]) and (os.path.isdir(of_recursion) or os.path.isdir(f"{crate.folder}/{folder}")):
-        # Where it calls itself, its twin calls it in its place, so a written proof would speak of other steps.
+    name, twin_name = (it.split("::")[-1] for it in (edit.function, judged_name(edit)))
+    calls_itself = re.search(rf"\b{name}\(", after[new.opening : new.closing])
+    if calls_itself and any(os.path.isdir(f"{crate.folder}/{it}") for it in (folder, of_recursion)):
+        # A twin calls the function in its own place, so a written proof would speak of other steps.
         return None
-    name = judged_name(edit).split("::")[-1]
-    text = re.sub(rf"\bfn {module[-1]}\b", f"fn {name}", after[new.start : new.end], count=1)
+    text = re.sub(rf"\bfn {name}\b", f"fn {twin_name}", after[new.start : new.end], count=1)
     proofs = proofs_of_twin(crate, edit, folder, texts)
     return None if proofs is None else Twin(path, text, proofs)
+
+
+def source_of(crate, function):
+    """The file of a function that can stand by its contract alone."""
+    sources = sources_of(crate.folder)
+    return next((path for path in sources if function in spans_in(text_of(f"{crate.folder}/{path}"), module_of(path))), None)
+
+
+def proof_folders(function):
+    """Where a function's written proof stands: as that of a function, or of one that calls itself."""
+    *above, name = function.split("::")
+    return "/".join(["proofs", *above, name]), "/".join(["proofs", *above, f"+{name}"])
 
 
 def proofs_of_twin(crate, edit, folder, texts):
@@ -221,11 +229,11 @@ def leave_bodies_out(crate, names, room):
             if function in names:
                 continue
             text = f"{text[: span.opening]} {OPEN_BODY} {text[span.closing :]}"
-            folder, of_recursion = (f"{room}/proofs/{'/'.join([*function.split('::')[:-1], it + function.split('::')[-1]])}" for it in ("", "+"))
-            shutil.rmtree(folder, ignore_errors=True)
-            shutil.rmtree(of_recursion, ignore_errors=True)
+            for folder in proof_folders(function):
+                shutil.rmtree(f"{room}/{folder}", ignore_errors=True)
             module, name = function.replace("::", "."), function.split("::")[-1]
-            write(f"{folder}/Proof.antt", OPEN_PROOF.format(crate=crate.name, module=module, name=name))
+            proof = OPEN_PROOF.format(crate=crate.name, module=module, name=name)
+            write(f"{room}/{proof_folders(function)[0]}/Proof.antt", proof)
         write(f"{room}/{path}", text)
 
 
