@@ -1,10 +1,7 @@
 -- Tables that are to a plan as the instance, with the rows of its first table handed over or not.
 use Rattle.std.proofs.Common.{◌≡◌, ℕ, zero, suc, ◌∷◌, Bool, true, false, ◌&&◌, ◌||◌, not, List, [], set, None, Some, refl, sym, ap, ◌∙◌}
 use Rattle.std.proofs.lemmas.Bool.{eqb-false}
-use Rattle.std.specs.declared.alloc.Global.{Global}
-use Rattle.std.specs.declared.vec.Vec.{Vec}
-use Rattle.wd_value.specs.declared.value.Value.{Value}
-use Rattle.wd_value.specs.Rows.{Instance, instance_of, rows_of, table_at}
+use Rattle.wd_value.specs.Rows.{Instance, Row, table_at}
 use Rattle.wd_plan.specs.Plans.{PlanTree, Scan, Join, Filter, Map, Window, Distinct, Limit}
 use Rattle.wd_eval.specs.Held.{IsHeld, IsHeldForSome, first_table, scans, scans_first_alone}
 
@@ -54,7 +51,7 @@ module _ (tables instance : Instance) (number : ℕ) (others : (k : ℕ) → (k 
   others_held (Distinct input) h = others_held input h
   others_held (Limit limit input) h = others_held input h
 
-  pub first_held : (rows : Vec (Vec Value Global) Global) (plan : PlanTree) → rows_of rows.items ≡ table_at instance number → first_table plan ≡ number → scans_first_alone number plan ≡ true → IsHeld plan tables (Some rows) instance
+  pub first_held : (rows : List Row) (plan : PlanTree) → rows ≡ table_at instance number → first_table plan ≡ number → scans_first_alone number plan ≡ true → IsHeld plan tables (Some rows) instance
   first_held rows (Scan table columns) is first h = is ∙ ap (table_at instance) (sym first)
   first_held rows (Join condition left right) is first h = (
     first_held rows left is first (left_true (scans_first_alone number left) (not (scans number right)) h),
@@ -67,7 +64,7 @@ module _ (tables instance : Instance) (number : ℕ) (others : (k : ℕ) → (k 
   first_held rows (Limit limit input) is first h = first_held rows input is first h
 
 -- the other tables stay
-pub others_stay : (tables : List (Vec (Vec Value Global) Global)) (i k : ℕ) (rows : Vec (Vec Value Global) Global) → (k ≡ i → ⊥) → table_at (instance_of (set tables i rows)) k ≡ table_at (instance_of tables) k
+pub others_stay : (tables : Instance) (i k : ℕ) (rows : List Row) → (k ≡ i → ⊥) → table_at (set tables i rows) k ≡ table_at tables k
 others_stay [] i k rows apart = refl
 others_stay (t ∷ tables) zero zero rows apart = absurd (apart refl)
 others_stay (t ∷ tables) zero (suc k) rows apart = refl

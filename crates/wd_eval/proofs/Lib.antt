@@ -10,3 +10,4 @@ pub mod SomeSort
 pub mod SomeTied
 pub mod Walks
 pub mod Taking
+pub mod Selected

@@ -56,8 +56,8 @@ module _ (tables instance : Instance) (choice : List (List ℕ)) (first : ℕ) w
 
   -- ---- Filter, Map and Distinct
 
-  module _ (input : PlanTree) (below : Evaluated) (b : IsEvaluated input tables instance choice first below) (o : Outcome) where
-    pub filter_done : (condition : Expression) → outcome_of o ≡ and_then (produced_of tables below.outcome) (filter_outcome condition) → IsEvaluated (Filter condition input) tables instance choice first (record { outcome = Made o; next = below.next })
+  module _ (input : PlanTree) (below : Evaluated) (b : IsEvaluated input tables instance choice first below) (o : Produced) where
+    pub filter_done : (condition : Expression) → produced_of tables o ≡ and_then (produced_of tables below.outcome) (filter_outcome condition) → IsEvaluated (Filter condition input) tables instance choice first (record { outcome = o; next = below.next })
     filter_done condition is = record {
       is = is ∙ ap (λ r. and_then r (filter_outcome condition)) b.is;
       next = b.next;
@@ -66,7 +66,7 @@ module _ (tables instance : Instance) (choice : List (List ℕ)) (first : ℕ) w
       each = neither (has_large_step input instance rest) (is_large (Filter condition input) instance rest) b.each (fewer_filter most_rows condition (outcome input instance rest) b.small);
     }
 
-    pub map_done : (outputs : List Expression) → outcome_of o ≡ and_then (produced_of tables below.outcome) (map_outcome outputs) → IsEvaluated (Map outputs input) tables instance choice first (record { outcome = Made o; next = below.next })
+    pub map_done : (outputs : List Expression) → produced_of tables o ≡ and_then (produced_of tables below.outcome) (map_outcome outputs) → IsEvaluated (Map outputs input) tables instance choice first (record { outcome = o; next = below.next })
     map_done outputs is = record {
       is = is ∙ ap (λ r. and_then r (map_outcome outputs)) b.is;
       next = b.next;
@@ -75,7 +75,7 @@ module _ (tables instance : Instance) (choice : List (List ℕ)) (first : ℕ) w
       each = neither (has_large_step input instance rest) (is_large (Map outputs input) instance rest) b.each (fewer_map most_rows outputs (outcome input instance rest) b.small);
     }
 
-    pub distinct_done : outcome_of o ≡ and_then (produced_of tables below.outcome) (λ rows. Ok (distinct rows)) → IsEvaluated (Distinct input) tables instance choice first (record { outcome = Made o; next = below.next })
+    pub distinct_done : produced_of tables o ≡ and_then (produced_of tables below.outcome) (λ rows. Ok (distinct rows)) → IsEvaluated (Distinct input) tables instance choice first (record { outcome = o; next = below.next })
     distinct_done is = record {
       is = is ∙ ap (λ r. and_then r (λ rows. Ok (distinct rows))) b.is;
       next = b.next;

@@ -158,8 +158,8 @@ module _ (tables instance : Instance) (flipped : Option ℕ) (old : List (List �
   scan_untied table columns TooManyRows h = λ choice long s. h
   scan_untied table columns OutOfMemory h = tt
 
-  module _ (input : PlanTree) (new : List (List ℕ)) (below : Produced) (b : IsTied input tables instance flipped old new below) (o : Outcome) where
-    pub filter_tied : (condition : Expression) → outcome_of o ≡ and_then (produced_of tables below) (filter_outcome condition) → IsTied (Filter condition input) tables instance flipped old new (Made o)
+  module _ (input : PlanTree) (new : List (List ℕ)) (below : Produced) (b : IsTied input tables instance flipped old new below) (o : Produced) where
+    pub filter_tied : (condition : Expression) → produced_of tables o ≡ and_then (produced_of tables below) (filter_outcome condition) → IsTied (Filter condition input) tables instance flipped old new o
     filter_tied condition is = record {
       own = b.own;
       grown = b.grown;
@@ -167,7 +167,7 @@ module _ (tables instance : Instance) (flipped : Option ℕ) (old : List (List �
       tied = b.tied;
     }
 
-    pub map_tied : (outputs : List Expression) → outcome_of o ≡ and_then (produced_of tables below) (map_outcome outputs) → IsTied (Map outputs input) tables instance flipped old new (Made o)
+    pub map_tied : (outputs : List Expression) → produced_of tables o ≡ and_then (produced_of tables below) (map_outcome outputs) → IsTied (Map outputs input) tables instance flipped old new o
     map_tied outputs is = record {
       own = b.own;
       grown = b.grown;
@@ -175,7 +175,7 @@ module _ (tables instance : Instance) (flipped : Option ℕ) (old : List (List �
       tied = b.tied;
     }
 
-    pub distinct_tied : outcome_of o ≡ and_then (produced_of tables below) (λ rows. Ok (distinct rows)) → IsTied (Distinct input) tables instance flipped old new (Made o)
+    pub distinct_tied : produced_of tables o ≡ and_then (produced_of tables below) (λ rows. Ok (distinct rows)) → IsTied (Distinct input) tables instance flipped old new o
     distinct_tied is = record {
       own = b.own;
       grown = b.grown;

@@ -104,19 +104,19 @@ module _ (tables instance : Instance) (first : ℕ) (old : List (Vec ℕ Global)
 
   -- ---- Filter, Map and Distinct
 
-  module _ (input : PlanTree) (new : List (Vec ℕ Global)) (below : Evaluated) (o : Outcome) where
-    pub filter_walked : (orderings : Orderings) (condition : Expression) → IsWalked input tables instance orderings first old new below → outcome_of o ≡ and_then (produced_of tables below.outcome) (filter_outcome condition)
-        → IsWalked (Filter condition input) tables instance orderings first old new (record { outcome = Made o; next = below.next })
+  module _ (input : PlanTree) (new : List (Vec ℕ Global)) (below : Evaluated) (o : Produced) where
+    pub filter_walked : (orderings : Orderings) (condition : Expression) → IsWalked input tables instance orderings first old new below → produced_of tables o ≡ and_then (produced_of tables below.outcome) (filter_outcome condition)
+        → IsWalked (Filter condition input) tables instance orderings first old new (record { outcome = o; next = below.next })
     filter_walked (Chosen choice) condition b is = filter_done tables instance (orderings_of choice.now) first input below b o condition is
     filter_walked (Sorted flipped) condition b is = (b.0, filter_tied tables instance flipped (orderings_of old) input (orderings_of new) below.outcome b.1 o condition is)
 
-    pub map_walked : (orderings : Orderings) (outputs : List Expression) → IsWalked input tables instance orderings first old new below → outcome_of o ≡ and_then (produced_of tables below.outcome) (map_outcome outputs)
-        → IsWalked (Map outputs input) tables instance orderings first old new (record { outcome = Made o; next = below.next })
+    pub map_walked : (orderings : Orderings) (outputs : List Expression) → IsWalked input tables instance orderings first old new below → produced_of tables o ≡ and_then (produced_of tables below.outcome) (map_outcome outputs)
+        → IsWalked (Map outputs input) tables instance orderings first old new (record { outcome = o; next = below.next })
     map_walked (Chosen choice) outputs b is = map_done tables instance (orderings_of choice.now) first input below b o outputs is
     map_walked (Sorted flipped) outputs b is = (b.0, map_tied tables instance flipped (orderings_of old) input (orderings_of new) below.outcome b.1 o outputs is)
 
-    pub distinct_walked : (orderings : Orderings) → IsWalked input tables instance orderings first old new below → outcome_of o ≡ and_then (produced_of tables below.outcome) (λ rows. Ok (distinct rows))
-        → IsWalked (Distinct input) tables instance orderings first old new (record { outcome = Made o; next = below.next })
+    pub distinct_walked : (orderings : Orderings) → IsWalked input tables instance orderings first old new below → produced_of tables o ≡ and_then (produced_of tables below.outcome) (λ rows. Ok (distinct rows))
+        → IsWalked (Distinct input) tables instance orderings first old new (record { outcome = o; next = below.next })
     distinct_walked (Chosen choice) b is = distinct_done tables instance (orderings_of choice.now) first input below b o is
     distinct_walked (Sorted flipped) b is = (b.0, distinct_tied tables instance flipped (orderings_of old) input (orderings_of new) below.outcome b.1 o is)
 

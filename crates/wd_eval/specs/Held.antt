@@ -1,19 +1,16 @@
 -- Tables that stay where they are, and the rows of a plan's first table, which may be handed over.
 use Rattle.std.specs.Prelude.{◌≡◌, ℕ, Bool, ◌&&◌, ◌||◌, true, not, Option, None, Some, nat_eq, List}
-use Rattle.std.specs.declared.alloc.Global.{Global}
-use Rattle.std.specs.declared.vec.Vec.{Vec}
-use Rattle.wd_value.specs.declared.value.Value.{Value}
-use Rattle.wd_value.specs.Rows.{Instance, Row, rows_of, table_at}
+use Rattle.wd_value.specs.Rows.{Instance, Row, table_at}
 use Rattle.wd_plan.specs.Plans.{PlanTree, Scan, Join, Filter, Map, Window, Distinct, Limit}
 
 -- rows that are handed over
 abbrev pub Handed : Type 0
-Handed = Option (Vec (Vec Value Global) Global)
+Handed = Option (List Row)
 
 -- what a Scan of a table reads: the rows that are handed over, or else those of the tables
 abbrev pub read_at : Instance → Handed → ℕ → List Row
 read_at tables None table = table_at tables table
-read_at tables (Some rows) table = rows_of rows.items
+read_at tables (Some rows) table = rows
 
 -- the tables, with the rows handed over in place of those of the plan's first table, are to the plan as the instance
 abbrev pub IsHeld : PlanTree → Instance → Handed → Instance → Type 0

@@ -1,5 +1,4 @@
 pub mod Errors
-pub mod Moves
 pub mod Steps
 pub mod Wrong
 pub mod Judged

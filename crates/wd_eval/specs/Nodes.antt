@@ -21,7 +21,7 @@ use Rattle.wd_eval.specs.Wrong.{IsWrongFrom}
 use Rattle.wd_eval.specs.declared.error.EvalError.{EvalError}
 use Rattle.wd_eval.specs.declared.error.EvalError.TheVariants.{NotValid, TooManyRows, OutOfMemory}
 use Rattle.wd_eval.specs.declared.produced.Produced.{Produced}
-use Rattle.wd_eval.specs.declared.produced.Produced.TheVariants.{Table, Made, Pairs'}
+use Rattle.wd_eval.specs.declared.produced.Produced.TheVariants.{Table, Made, ByColumn, Pairs'}
 use Rattle.wd_eval.specs.declared.produced.Given.{Given}
 use Rattle.wd_eval.specs.declared.produced.Given.TheVariants as given
 use Rattle.wd_eval.specs.declared.node.Evaluated.{Evaluated}
@@ -39,6 +39,7 @@ given_of instance (given.Made o) = outcome_of o
 abbrev pub produced_of : Instance → Produced → RowsOrFault
 produced_of instance (Table table) = Ok (table_at instance table)
 produced_of instance (Made o) = outcome_of o
+produced_of instance (ByColumn rows) = Ok rows
 produced_of instance (Pairs' p left right) = join_over None (produced_of instance left) (given_of instance right)
 
 -- rows by reference, or a fault

@@ -14,10 +14,10 @@ ghost use Rattle.wd_value.specs.Rows.{instance_of, rows_at, rows_of};
 ghost use Rattle.wd_window.specs.Windows.{orderings_of};
 
 use crate::error::EvalError;
-use crate::moved::moved_rows;
 use crate::orderings::{Orderings, is_flipped};
 use crate::produced::{Given, Produced, gathered, shown, table_in};
 use std::alloc::Global;
+use wd_columns::moved_rows;
 use wd_partition::{is_ordering, sorted_ordering};
 use wd_plan::{Limit, Outcome};
 use wd_steps::{cut_rows, kept_positions};
@@ -37,7 +37,7 @@ pub(crate) fn limited(
     requires { IsAt orderings first made.old.items }
     ensures { IsLimitStep (limit_of limit.now) (produced_of (instance_of instance.now) input) orderings.entry first made.old.items made.new.items result }
 {
-    let input = gathered(alloc, instance, input)?;
+    let input = gathered(alloc, instance, input, 0)?;
     match orderings {
         Orderings::Chosen(choice) => chosen_limit(alloc, instance, limit, input, choice, first),
         Orderings::Sorted(flipped) => {

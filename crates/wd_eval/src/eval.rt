@@ -1,6 +1,6 @@
 //! Plans under choices of orderings.
 
-ghost use Rattle.std.specs.Prelude.{◌≡◌, true, None};
+ghost use Rattle.std.specs.Prelude.{◌≡◌, true, None, IfOk};
 ghost use Rattle.wd_eval.specs.Judged.{IsAllowedOrRefused, IsOutcomeOrRefused};
 ghost use Rattle.wd_window.specs.Windows.{orderings_of};
 ghost use Rattle.wd_eval.specs.Runs.{IsRunOrRefused, IsTiedOutcomeOrRefused};
@@ -16,9 +16,10 @@ use crate::node::evaluate;
 use crate::orderings::Orderings;
 use crate::produced::outcome_from;
 use std::alloc::Global;
+use wd_columns::Columns;
 use wd_plan::{Choice, Outcome, Plan};
 use wd_schema::Schema;
-use wd_value::Instance;
+use wd_value::{Instance, OutOfMemory};
 
 /// The outcome of a plan over an instance under a choice of orderings (SQL, query expression and
 /// window clause). The steps are judged in postorder, each step's orderings before the number of
@@ -40,7 +41,7 @@ pub fn eval_with(
     if evaluated.next < choice.orderings.len() {
         return Err(EvalError::NotValid(evaluated.next as u64));
     }
-    let outcome = outcome_from(alloc, instance, evaluated.outcome)?;
+    let outcome = outcome_from(alloc, instance, evaluated.outcome, 0)?;
     Ok(outcome)
 }
 
@@ -115,7 +116,7 @@ pub fn eval_tied(
     let mut orderings = Vec::new(alloc);
     let sorted = Orderings::Sorted(flipped);
     let evaluated = evaluate(alloc, plan, instance, None, sorted, 0, &mut orderings, 0)?;
-    let outcome = outcome_from(alloc, instance, evaluated.outcome)?;
+    let outcome = outcome_from(alloc, instance, evaluated.outcome, 0)?;
     let choice = Choice { orderings };
     Ok(TiedOutcome { choice, outcome })
 }
@@ -134,22 +135,35 @@ pub fn run_plan(
     Ok(outcome)
 }
 
-/// What [`run_plan`] answers over an instance that is handed over: the rows of the first table that
-/// the plan scans are moved into the step above its Scan, where no other Scan reads them.
-pub fn run_moved(
+/// What [`run_plan`] answers over tables that are handed over, kept column by column: the first one
+/// that the plan scans goes so into the steps above its Scan, where no other Scan reads it.
+pub fn run_columns(
     alloc: Global,
     plan: &Plan,
     schema: &Schema,
-    instance: Instance,
+    tables: Vec<Columns>,
 ) -> Result<Outcome, EvalError>
     requires { fits (schema_of schema.now) (plan_of plan.now) ≡ true }
-    ensures { IsRunOrRefused (plan_of plan.now) (instance_of instance.items) result }
+    ensures { IsRunOrRefused (plan_of plan.now) tables.items result }
 {
-    let mut tables = instance;
-    let handed = handed_over(alloc, plan, &mut tables);
+    let mut left = tables;
+    let handed = handed_over(alloc, plan, &mut left);
+    let others = rows_of_all(alloc, left)?;
     let mut orderings = Vec::new(alloc);
     let sorted = Orderings::Sorted(None);
-    let evaluated = evaluate(alloc, plan, &tables, handed, sorted, 0, &mut orderings, 0)?;
-    let outcome = outcome_from(alloc, &tables, evaluated.outcome)?;
+    let evaluated = evaluate(alloc, plan, &others, handed, sorted, 0, &mut orderings, 0)?;
+    let outcome = outcome_from(alloc, &others, evaluated.outcome, 0)?;
     Ok(outcome)
+}
+
+/// The rows of each table.
+fn rows_of_all(alloc: Global, tables: Vec<Columns>) -> Result<Instance, OutOfMemory>
+    ensures { IfOk result (λ v. instance_of v.items ≡ tables.items) }
+{
+    let mut instance = Vec::with_capacity(alloc, tables.len())?;
+    for table in tables {
+        let rows = table.into_rows(alloc, 0)?;
+        instance.push(rows)?;
+    }
+    Ok(instance)
 }

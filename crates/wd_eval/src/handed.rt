@@ -1,26 +1,24 @@
-//! The rows of a plan's first table, handed over to it where no other Scan reads them.
+//! A plan's first table, handed over to it where no other Scan reads it.
 
 ghost use Rattle.std.specs.Prelude.{◌≡◌};
 ghost use Rattle.wd_eval.specs.Held as spec;
 ghost use Rattle.wd_eval.specs.Held.{IsHeld};
 ghost use Rattle.wd_plan.specs.Plans.{plan_of};
-ghost use Rattle.wd_value.specs.Rows.{instance_of};
 
 use std::alloc::Global;
 use std::mem::replace;
+use wd_columns::Columns;
 use wd_plan::Plan;
-use wd_value::{Instance, Row};
 
-/// Takes the rows of the first table that the plan scans out of the instance, where it scans that
-/// table once.
-pub(crate) fn handed_over(alloc: Global, plan: &Plan, tables: &mut Instance) -> Option<Vec<Row>>
-    ensures { IsHeld (plan_of plan.now) (instance_of tables.new.items) result (instance_of tables.old.items) }
+/// Takes the first table that the plan scans out of the instance, where it scans that table once.
+pub(crate) fn handed_over(alloc: Global, plan: &Plan, tables: &mut Vec<Columns>) -> Option<Columns>
+    ensures { IsHeld (plan_of plan.now) tables.new.items result tables.old.items }
 {
     let table = first_table(plan);
     if !scans_first_alone(table, plan) || table as usize >= tables.len() {
         return None;
     }
-    Some(replace(&mut tables[table as usize], Vec::new(alloc)))
+    Some(replace(&mut tables[table as usize], Columns::empty(alloc)))
 }
 
 /// The table of the plan's first Scan.

@@ -6,7 +6,6 @@ mod error;
 mod eval;
 mod handed;
 pub mod laws;
-mod moved;
 mod node;
 mod orderings;
 mod pairs;
@@ -16,5 +15,6 @@ mod window;
 
 pub use error::EvalError;
 pub use eval::{
-    TiedOutcome, check_choice, eval_tied, eval_with, first_choice, run_moved, run_plan, tied_choice,
+    TiedOutcome, check_choice, eval_tied, eval_with, first_choice, run_columns, run_plan,
+    tied_choice,
 };

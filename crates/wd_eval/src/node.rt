@@ -12,6 +12,7 @@ use crate::produced::Produced;
 use crate::step::{distinct, filtered, joined, mapped, scanned};
 use crate::window::extended;
 use std::alloc::Global;
+use wd_columns::Columns;
 use wd_plan::Plan;
 use wd_value::Row;
 
@@ -25,13 +26,13 @@ pub(crate) struct Evaluated {
 /// The plan's outcome under the orderings from `first` on, which are those of its nodes in
 /// postorder. Those of a choice are judged, a node's before the number of its rows; sorted ones are
 /// put after those that were made before, of which there are `first`. The plan's first Scan takes the
-/// rows that are handed over, where there are some; each other one reads the tables. Rows that a Map
+/// table that is handed over, where there is one; each other one reads the tables. Rows that a Map
 /// makes at the top have memory for `room` values more.
 pub(crate) fn evaluate(
     alloc: Global,
     plan: &Plan,
     tables: &[Vec<Row>],
-    handed: Option<Vec<Row>>,
+    handed: Option<Columns>,
     orderings: Orderings,
     first: usize,
     made: &mut Vec<Vec<u64>>,
@@ -75,7 +76,7 @@ pub(crate) fn evaluate(
             let below = evaluate(alloc, input, tables, handed, orderings, first, made, 0)?;
             let outcome = mapped(alloc, tables, outputs, below.outcome, room)?;
             Ok(Evaluated {
-                outcome: Produced::Made(outcome),
+                outcome,
                 next: below.next,
             })
         }

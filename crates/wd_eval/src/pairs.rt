@@ -23,6 +23,7 @@ pub(crate) fn has_more(instance: &[Vec<Row>], produced: &Produced, most: u64) ->
         Produced::Table(table) => table_in(instance, *table).len() as u64 > most,
         Produced::Made(Outcome::Rows(rows)) => rows.len() as u64 > most,
         Produced::Made(Outcome::Fault(_)) => false,
+        Produced::ByColumn(rows) => rows.len() as u64 > most,
         Produced::Pairs(left, right) => match shown(right, instance) {
             Err(_) => false,
             Ok(rows) => if rows.is_empty() {
@@ -48,6 +49,10 @@ pub(crate) fn narrowed(
     match produced {
         Produced::Table(table) => Ok(Given::Table(table)),
         Produced::Made(outcome) => Ok(Given::Made(outcome)),
+        Produced::ByColumn(columns) => {
+            let rows = columns.into_rows(alloc, 0)?;
+            Ok(Given::Made(Outcome::Rows(rows)))
+        }
         Produced::Pairs(left, right) => {
             let left = narrowed(alloc, instance, condition, Box::into_inner(left))?;
             let outcome = narrowed_outcome(alloc, instance, condition, &left, &right)?;

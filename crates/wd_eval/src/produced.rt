@@ -6,6 +6,7 @@ ghost use Rattle.wd_plan.specs.Outcomes.{outcome_of};
 ghost use Rattle.wd_value.specs.Rows.{instance_of, rows_of, table_at};
 
 use std::alloc::Global;
+use wd_columns::Columns;
 use wd_plan::Outcome;
 use wd_steps::all_pairs;
 use wd_value::{Fault, OutOfMemory, Row, copy_row};
@@ -25,22 +26,30 @@ pub(crate) enum Given {
 pub(crate) enum Produced {
     Table(u16),
     Made(Outcome),
+    /// Rows that are kept column by column.
+    ByColumn(Columns),
     Pairs(Box<Produced>, Given),
 }
 
-/// What is produced, with its pairs made.
+/// What is produced as a list of rows, with its pairs made. Rows that are made of columns have memory
+/// for so many values more.
 pub(crate) fn gathered(
     alloc: Global,
     instance: &[Vec<Row>],
     produced: Produced,
+    room: usize,
 ) -> Result<Given, OutOfMemory>
     ensures { IfOk result (λ g. given_of (instance_of instance.now) g ≡ produced_of (instance_of instance.now) produced) }
 {
     match produced {
         Produced::Table(table) => Ok(Given::Table(table)),
         Produced::Made(outcome) => Ok(Given::Made(outcome)),
+        Produced::ByColumn(columns) => {
+            let rows = columns.into_rows(alloc, room)?;
+            Ok(Given::Made(Outcome::Rows(rows)))
+        }
         Produced::Pairs(left, right) => {
-            let left = gathered(alloc, instance, Box::into_inner(left))?;
+            let left = gathered(alloc, instance, Box::into_inner(left), 0)?;
             let outcome = paired(alloc, instance, &left, &right)?;
             Ok(Given::Made(outcome))
         }
@@ -93,15 +102,17 @@ pub(crate) fn owned(
     }
 }
 
-/// What is produced as an outcome of its own.
+/// What is produced as an outcome of its own. Rows that are made of columns have memory for so many
+/// values more.
 pub(crate) fn outcome_from(
     alloc: Global,
     instance: &[Vec<Row>],
     produced: Produced,
+    room: usize,
 ) -> Result<Outcome, OutOfMemory>
     ensures { IfOk result (λ o. outcome_of o ≡ produced_of (instance_of instance.now) produced) }
 {
-    let given = gathered(alloc, instance, produced)?;
+    let given = gathered(alloc, instance, produced, room)?;
     owned(alloc, instance, given)
 }
 

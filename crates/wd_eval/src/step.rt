@@ -1,20 +1,22 @@
 //! Each step of a plan over the outcomes below it, but for a Window and a Limit.
 
-ghost use Rattle.std.specs.Prelude.{◌≡◌, IfOk, map, None, Ok, Some};
+ghost use Rattle.std.specs.Prelude.{◌≡◌, ◌<◌, ℕ, true, false, get_or, length, IfOk, IfSome, map, None, Ok, Some};
+ghost use Rattle.wd_columns.specs.Moves.{AreDifferent};
 ghost use Rattle.wd_eval.specs.Held.{read_at};
 ghost use Rattle.wd_eval.specs.Nodes.{IsSmallOrLarge, given_of, join_over, joined_of, produced_of};
 ghost use Rattle.wd_eval.specs.Steps.{most_rows};
-ghost use Rattle.wd_plan.specs.Expressions.{expression_of};
+ghost use Rattle.wd_plan.specs.Expressions.{Column, expression_of};
 ghost use Rattle.wd_plan.specs.Faults.{and_then};
 ghost use Rattle.wd_plan.specs.Outcomes as spec;
 ghost use Rattle.wd_plan.specs.Outcomes.{outcome_of};
 ghost use Rattle.wd_steps.specs.Joins.{has_more_rows};
-ghost use Rattle.wd_value.specs.Rows.{instance_of};
+ghost use Rattle.wd_value.specs.Rows.{Instance, instance_of};
 
 use crate::error::EvalError;
 use crate::pairs::{has_more, narrowed};
 use crate::produced::{Given, Produced, gathered, outcome_from, owned, shown, table_in};
 use std::alloc::Global;
+use wd_columns::Columns;
 use wd_plan::{Expr, Outcome};
 use wd_steps::{
     copy_filtered, distinct_rows, filter_pairs, filter_rows, join_rows, map_own_rows,
@@ -25,17 +27,17 @@ use wd_value::{OutOfMemory, Row};
 /// The largest number of rows of a step.
 const MOST_ROWS: u64 = 10_000_000;
 
-/// The rows that are handed over, and else the table with this number, or the error that these are
+/// The table that is handed over, and else the one with this number, or the error that these are
 /// too many rows.
 pub(crate) fn scanned(
     tables: &[Vec<Row>],
-    handed: Option<Vec<Row>>,
+    handed: Option<Columns>,
     table: u16,
 ) -> Result<Produced, EvalError>
     ensures { IsSmallOrLarge (Ok (read_at (instance_of tables.now) handed table)) (produced_of (instance_of tables.now)) result }
 {
     let read = match handed {
-        Some(rows) => Produced::Made(Outcome::Rows(rows)),
+        Some(columns) => Produced::ByColumn(columns),
         None => Produced::Table(table),
     };
     if has_more(tables, &read, MOST_ROWS) {
@@ -55,7 +57,7 @@ pub(crate) fn joined(
 ) -> Result<Produced, EvalError>
     ensures { IsSmallOrLarge (joined_of (instance_of instance.now) condition.now left right) (produced_of (instance_of instance.now)) result }
 {
-    let right = gathered(alloc, instance, right)?;
+    let right = gathered(alloc, instance, right, 0)?;
     match condition {
         None => pairs_of(alloc, instance, left, right),
         Some(condition) => {
@@ -116,6 +118,10 @@ pub(crate) fn filtered(
         Produced::Table(table) => copy_filtered(alloc, condition, table_in(instance, table)),
         Produced::Made(Outcome::Rows(rows)) => filter_rows(alloc, condition, rows),
         Produced::Made(Outcome::Fault(fault)) => Ok(Outcome::Fault(fault)),
+        Produced::ByColumn(columns) => {
+            let rows = columns.into_rows(alloc, 0)?;
+            filter_rows(alloc, condition, rows)
+        }
         Produced::Pairs(left, right) => {
             let left = narrowed(alloc, instance, condition, Box::into_inner(left))?;
             pairs_where(alloc, instance, condition, &left, &right)
@@ -148,10 +154,111 @@ pub(crate) fn mapped(
     outputs: &[Expr],
     input: Produced,
     room: usize,
+) -> Result<Produced, OutOfMemory>
+    ensures { IfOk result (λ o. produced_of (instance_of instance.now) o ≡ and_then (produced_of (instance_of instance.now) input) (spec.map_outcome (map expression_of outputs.now))) }
+{
+    match input {
+        Produced::ByColumn(columns) => mapped_columns(alloc, outputs, columns),
+        other => {
+            let outcome = mapped_rows(alloc, instance, outputs, other, room)?;
+            Ok(Produced::Made(outcome))
+        }
+    }
+}
+
+/// The same of rows that are kept column by column, which stay so where the outputs are columns, none
+/// of them twice.
+fn mapped_columns(
+    alloc: Global,
+    outputs: &[Expr],
+    columns: Columns,
+) -> Result<Produced, OutOfMemory>
+    ensures { IfOk result (λ o. (instance : Instance) → produced_of instance o ≡ spec.map_outcome (map expression_of outputs.now) columns) }
+{
+    match selected_columns(alloc, outputs)? {
+        Some(selected) => {
+            let columns = columns.selected(alloc, &selected)?;
+            Ok(Produced::ByColumn(columns))
+        }
+        None => {
+            let rows = columns.into_rows(alloc, 0)?;
+            let outcome = map_own_rows(alloc, outputs, rows)?;
+            Ok(Produced::Made(outcome))
+        }
+    }
+}
+
+/// The columns that the outputs are, where they are columns and none of them stands there twice.
+fn selected_columns(alloc: Global, outputs: &[Expr]) -> Result<Option<Vec<u64>>, OutOfMemory>
+    ensures { IfOk result (λ o. IfSome o (λ v. AreDifferent v.items × (map expression_of outputs.now ≡ map Column v.items))) }
+{
+    match shown_columns(alloc, outputs)? {
+        Some(columns) => Ok(different(columns)),
+        None => Ok(None),
+    }
+}
+
+/// The columns that the outputs are, where they are columns.
+fn shown_columns(alloc: Global, outputs: &[Expr]) -> Result<Option<Vec<u64>>, OutOfMemory>
+    ensures { IfOk result (λ o. IfSome o (λ v. map expression_of outputs.now ≡ map Column v.items)) }
+{
+    let mut columns = Vec::with_capacity(alloc, outputs.len())?;
+    for output in outputs {
+        match output {
+            Expr::Column(column) => columns.push(u64::from(*column))?,
+            _ => return Ok(None),
+        }
+    }
+    Ok(Some(columns))
+}
+
+/// The numbers, where none stands twice among them.
+fn different(numbers: Vec<u64>) -> Option<Vec<u64>>
+    ensures { IfSome result (λ v. AreDifferent v.items × (v.items ≡ numbers.items)) }
+{
+    if are_different(&numbers) {
+        Some(numbers)
+    } else {
+        None
+    }
+}
+
+/// Whether no number stands twice in a list.
+fn are_different(numbers: &[u64]) -> bool
+    ensures { result ≡ true → AreDifferent numbers.now }
+{
+    for i in 0..numbers.len() {
+        if stands_before(numbers, i) {
+            return false;
+        }
+    }
+    true
+}
+
+/// Whether the number at a place stands before it too.
+fn stands_before(numbers: &[u64], place: usize) -> bool
+    requires { place < length numbers.now }
+    ensures { result ≡ false → (k : ℕ) → k < place → get_or numbers.now k 0 ≡ get_or numbers.now place 0 → ⊥ }
+{
+    for k in 0..place {
+        if numbers[k] == numbers[place] {
+            return true;
+        }
+    }
+    false
+}
+
+/// The values of the outputs over each row of the input, as rows.
+fn mapped_rows(
+    alloc: Global,
+    instance: &[Vec<Row>],
+    outputs: &[Expr],
+    input: Produced,
+    room: usize,
 ) -> Result<Outcome, OutOfMemory>
     ensures { IfOk result (λ o. outcome_of o ≡ and_then (produced_of (instance_of instance.now) input) (spec.map_outcome (map expression_of outputs.now))) }
 {
-    match gathered(alloc, instance, input)? {
+    match gathered(alloc, instance, input, 0)? {
         Given::Table(table) => {
             map_rows_with_room(alloc, outputs, table_in(instance, table), room)
         }
@@ -168,7 +275,7 @@ pub(crate) fn distinct(
 ) -> Result<Outcome, OutOfMemory>
     ensures { IfOk result (λ o. outcome_of o ≡ and_then (produced_of (instance_of instance.now) input) (λ rows. Ok (spec.distinct rows))) }
 {
-    match outcome_from(alloc, instance, input)? {
+    match outcome_from(alloc, instance, input, 0)? {
         Outcome::Rows(rows) => Ok(Outcome::Rows(distinct_rows(alloc, rows)?)),
         Outcome::Fault(fault) => Ok(Outcome::Fault(fault)),
     }

@@ -35,7 +35,7 @@ pub(crate) fn extended(
     requires named { NamesClasses (window_of window.now) }
     ensures { IsWindowStep (window_of window.now) (produced_of (instance_of instance.now) input) orderings.entry first made.old.items made.new.items result }
 {
-    let input = outcome_from(alloc, instance, input)?;
+    let input = outcome_from(alloc, instance, input, window.calls.len())?;
     match orderings {
         Orderings::Chosen(choice) => chosen_window(alloc, window, input, choice, first),
         Orderings::Sorted(flipped) => {

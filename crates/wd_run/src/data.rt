@@ -8,17 +8,17 @@ ghost use Rattle.wd_schema.specs.Meets.{MeetsTable};
 ghost use Rattle.wd_schema.specs.Schemas.{schema_of};
 ghost use Rattle.wd_schema.specs.Tables.{table_of};
 ghost use Rattle.wd_tables.specs.Data.{HoldsRows};
-ghost use Rattle.wd_value.specs.Rows.{instance_of, rows_of};
 ghost use Rattle.wd_run.specs.Causes.{LacksData};
 ghost use Rattle.wd_run.specs.Loads.{FindsTable, RefusesData, RefusesName, RefusesPlan, RefusesRows, RefusesText};
 ghost use Rattle.wd_run.specs.Runs.{HasData, HasDataAt, HoldsData, IsGiven, IsNamed, NamesDiffer, ReadsTable, data_of, tables_read};
 
 use crate::error::RunError;
 use std::alloc::Global;
+use wd_columns::Columns;
 use wd_plan::Plan;
 use wd_schema::{Schema, Table};
-use wd_tables::load;
-use wd_value::{Instance, OutOfMemory, Row, Text};
+use wd_tables::load_columns;
+use wd_value::{OutOfMemory, Text};
 
 /// The rows of each table, from texts that are given as pairs of a table's name and its CSV text.
 /// A table without a text has no rows. Refused by 707 at the first name that is no table's or that
@@ -27,9 +27,9 @@ pub fn load_data(
     alloc: Global,
     schema: &Schema,
     given: &[(&str, &[u8])],
-) -> Result<Instance, RunError>
+) -> Result<Vec<Columns>, RunError>
     requires { NamesDiffer (schema_of schema.now) }
-    ensures held { IfOk result (λ v. HoldsData (schema_of schema.now) (data_of given.now) (instance_of v.items)) }
+    ensures held { IfOk result (λ v. HoldsData (schema_of schema.now) (data_of given.now) v.items) }
     ensures refused { IfErr result (λ e. RefusesData (schema_of schema.now) (data_of given.now) e) }
 {
     let mut instance = empty_tables(alloc, schema.tables.len())?;
@@ -45,11 +45,11 @@ fn add_data(
     schema: &Schema,
     earlier: &[(&str, &[u8])],
     pair: &(&str, &[u8]),
-    instance: &mut Instance,
+    instance: &mut Vec<Columns>,
 ) -> Result<(), RunError>
     requires differ { NamesDiffer (schema_of schema.now) }
-    requires held { HoldsData (schema_of schema.now) (data_of earlier.now) (instance_of instance.old.items) }
-    ensures holds { OnOk result (HoldsData (schema_of schema.now) (data_of earlier.now ++ (pair.now.0.now, pair.now.1.now) ∷ []) (instance_of instance.new.items)) }
+    requires held { HoldsData (schema_of schema.now) (data_of earlier.now) instance.old.items }
+    ensures holds { OnOk result (HoldsData (schema_of schema.now) (data_of earlier.now ++ (pair.now.0.now, pair.now.1.now) ∷ []) instance.new.items) }
     ensures refused { IfErr result (λ e. RefusesText (schema_of schema.now) (data_of earlier.now) pair.now.0.now pair.now.1.now e) }
 {
     let (name, text) = *pair;
@@ -65,13 +65,13 @@ fn add_data(
 }
 
 /// A list without rows for each table.
-fn empty_tables(alloc: Global, count: usize) -> Result<Instance, OutOfMemory>
+fn empty_tables(alloc: Global, count: usize) -> Result<Vec<Columns>, OutOfMemory>
     ensures len { IfOk result (λ v. length v.items ≡ count) }
-    ensures empty { IfOk result (λ v. All (λ rows. rows.items ≡ []) v.items) }
+    ensures empty { IfOk result (λ v. All (λ rows. rows ≡ []) v.items) }
 {
     let mut instance = Vec::with_capacity(alloc, count)?;
     for _ in 0..count {
-        instance.push(Vec::new(alloc))?;
+        instance.push(Columns::empty(alloc))?;
     }
     Ok(instance)
 }
@@ -102,12 +102,12 @@ fn find_table<'a>(schema: &'a Schema, name: &str) -> Option<(usize, &'a Table)>
     None
 }
 
-fn load_table(alloc: Global, table: &Table, text: &[u8]) -> Result<Vec<Row>, RunError>
-    ensures held { IfOk result (λ v. HoldsRows (table_of table.now) text.now (rows_of v.items)) }
-    ensures meets { IfOk result (λ v. MeetsTable (table_of table.now) (rows_of v.items)) }
+fn load_table(alloc: Global, table: &Table, text: &[u8]) -> Result<Columns, RunError>
+    ensures held { IfOk result (λ v. HoldsRows (table_of table.now) text.now v) }
+    ensures meets { IfOk result (λ v. MeetsTable (table_of table.now) v) }
     ensures refused { IfErr result (λ e. RefusesRows (table_of table.now) text.now e) }
 {
-    match load(alloc, table, text) {
+    match load_columns(alloc, table, text) {
         Ok(rows) => Ok(rows),
         Err(error) => match table.name.copy(alloc) {
             Ok(name) => Err(RunError::Data { name, error }),

@@ -12,7 +12,7 @@ ghost use Rattle.wd_schema.specs.Schemas.{schema_of};
 use crate::data::{check_given, load_data};
 use crate::error::RunError;
 use std::alloc::Global;
-use wd_eval::run_moved;
+use wd_eval::run_columns;
 use wd_plan::{Outcome, Plan};
 use wd_query::{PlannedQuery, read_texts};
 use wd_schema::Schema;
@@ -58,7 +58,7 @@ fn outcome_over(
 {
     let instance = load_data(alloc, schema, tables)?;
     check_given(alloc, schema, plan, tables)?;
-    match run_moved(alloc, plan, schema, instance) {
+    match run_columns(alloc, plan, schema, instance) {
         Ok(outcome) => Ok(outcome),
         Err(error) => Err(RunError::Evaluation(error)),
     }

@@ -18,11 +18,7 @@ use wd_sort::all_positions;
 use wd_value::{OutOfMemory, SortColumn, SortKey, Value, compare, same};
 
 /// The first row that repeats an earlier one in some key.
-pub fn first_repeat(
-    alloc: Global,
-    keys: &[Key],
-    rows: &Columns,
-) -> Result<Option<u64>, OutOfMemory>
+pub fn first_repeat(alloc: Global, keys: &[Key], rows: &Columns) -> Result<Option<u64>, OutOfMemory>
     ensures { IfOk result (λ o. IsLeast (Repeats (map key_of keys.now) rows.now) o) }
 {
     let mut first = None;
@@ -69,11 +65,7 @@ fn sort_columns(alloc: Global, columns: &[u16]) -> Result<Vec<SortColumn>, OutOf
 }
 
 // The positions of the rows, sorted by columns; rows that tie on all of them stay as they were.
-fn sorted_by(
-    alloc: Global,
-    rows: &Columns,
-    columns: &[SortColumn],
-) -> Result<Vec<u64>, OutOfMemory>
+fn sorted_by(alloc: Global, rows: &Columns, columns: &[SortColumn]) -> Result<Vec<u64>, OutOfMemory>
     ensures { IfOk result (λ v. IsSortOf columns.now rows.now v.items) }
 {
     let mut order = all_positions(alloc, rows.len())?;

@@ -33,7 +33,7 @@ returns-in_ok-outcome-in-Filter t c = λ instance held. (
     let b = subst (λ p. IsWalked (plan_of p) tables instance orderings first old new below) c.deref-in-Filter.ensures (c.in_ok-below-in-Filter.ensures instance below_held).ok in
     let is : outcome_of o ≡ and_then (produced_of tables below.outcome) (filter_outcome condition) = search rules in
     record {
-      ok = subst (λ p. IsWalked p tables instance orderings first old new (record { outcome = Made o; next = below.next })) (sym (ap plan_of c.in-Filter.is)) (filter_walked tables instance first old (plan_of c.in-Filter.input.value) new below o orderings condition b is);
+      ok = subst (λ p. IsWalked p tables instance orderings first old new (record { outcome = Made o; next = below.next })) (sym (ap plan_of c.in-Filter.is)) (filter_walked tables instance first old (plan_of c.in-Filter.input.value) new below (Made o) orderings condition b is);
       refused = tt;
     })
 
@@ -71,9 +71,9 @@ returns-in_ok-outcome-in-Map t c = λ instance held. (
     let o = c.in_ok-outcome-in-Map.outcome in
     let outputs = map expression_of c.in-Map.outputs.items in
     let b = subst (λ p. IsWalked (plan_of p) tables instance orderings first old new below) c.deref-in-Map.ensures (c.in_ok-below-in-Map.ensures instance below_held).ok in
-    let is : outcome_of o ≡ and_then (produced_of tables below.outcome) (map_outcome outputs) = search rules in
+    let is : produced_of tables o ≡ and_then (produced_of tables below.outcome) (map_outcome outputs) = search rules in
     record {
-      ok = subst (λ p. IsWalked p tables instance orderings first old new (record { outcome = Made o; next = below.next })) (sym (ap plan_of c.in-Map.is)) (map_walked tables instance first old (plan_of c.in-Map.input.value) new below o orderings outputs b is);
+      ok = subst (λ p. IsWalked p tables instance orderings first old new (record { outcome = o; next = below.next })) (sym (ap plan_of c.in-Map.is)) (map_walked tables instance first old (plan_of c.in-Map.input.value) new below o orderings outputs b is);
       refused = tt;
     })
 
@@ -112,7 +112,7 @@ returns-in_ok-outcome-in-Distinct t c = λ instance held. (
     let b = subst (λ p. IsWalked (plan_of p) tables instance orderings first old new below) c.deref-in-Distinct.ensures (c.in_ok-below-in-Distinct.ensures instance below_held).ok in
     let is : outcome_of o ≡ and_then (produced_of tables below.outcome) (λ rows. Ok (distinct rows)) = search rules in
     record {
-      ok = subst (λ p. IsWalked p tables instance orderings first old new (record { outcome = Made o; next = below.next })) (sym (ap plan_of c.in-Distinct.is)) (distinct_walked tables instance first old (plan_of c.in-Distinct.input.value) new below o orderings b is);
+      ok = subst (λ p. IsWalked p tables instance orderings first old new (record { outcome = Made o; next = below.next })) (sym (ap plan_of c.in-Distinct.is)) (distinct_walked tables instance first old (plan_of c.in-Distinct.input.value) new below (Made o) orderings b is);
       refused = tt;
     })
 

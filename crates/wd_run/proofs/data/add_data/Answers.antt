@@ -1,12 +1,10 @@
-use Rattle.std.proofs.Common.{◌≢◌, ◌∙◌, ◌∷◌, ◌++◌, [], sym, subst, All, inl, inr}
-use Rattle.std.proofs.lemmas.List.{map-set}
+use Rattle.std.proofs.Common.{◌≢◌, ◌∙◌, sym, All, inl, inr}
 use Rattle.std.proofs.lemmas.Result.{err_from_is_err_and}
 use Rattle.wd_schema.specs.Schemas.{schema_of}
 use Rattle.wd_schema.specs.Tables.{table_of}
-use Rattle.wd_value.specs.Rows.{instance_of, rows_of}
 use Rattle.wd_tables.specs.Data.{HoldsRows}
 use Rattle.wd_run.specs.Loads.{FindsTable}
-use Rattle.wd_run.specs.Runs.{HoldsData, data_of}
+use Rattle.wd_run.specs.Runs.{data_of}
 use Rattle.wd_run.proofs.DataLemmas.{HoldsData-more, RefusesText-from_name, RefusesText-from_rows, any_given, none_given}
 use Rattle.wd_run.proofs.data.add_data.Goals as goal
 
@@ -23,9 +21,8 @@ returns-clause-holds c =
     let rows = c.in_ok-rows.rows in
     let found : FindsTable tables name n table = c.in-Some.ensures.found in
     let first : All (λ h. h.0 ≢ name) (data_of earlier) = none_given name earlier (sym c.is_given.ensures ∙ c.if-is_given.false) in
-    let holds : HoldsRows table text (rows_of rows.items) = c.in_ok-rows.ensures.held in
-    let more = HoldsData-more tables c.requires.differ (data_of earlier) (instance_of items) n table (name, text) (rows_of rows.items) found.0 found.1 first holds c.in_ok-rows.ensures.meets c.requires.held in
-    subst (HoldsData tables (data_of earlier ++ (name, text) ∷ [])) (sym (map-set (λ t. rows_of t.items) items n rows)) more
+    let holds : HoldsRows table text rows = c.in_ok-rows.ensures.held in
+    HoldsData-more tables c.requires.differ (data_of earlier) items n table (name, text) rows found.0 found.1 first holds c.in_ok-rows.ensures.meets c.requires.held
 
 -- the name was given before
 pub returns-then-is_given-clause-refused : goal.returns-then-is_given-clause-refused

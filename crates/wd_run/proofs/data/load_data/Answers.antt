@@ -1,9 +1,7 @@
-use Rattle.std.proofs.Common.{◌≡◌, [], ap, arith, length, All}
+use Rattle.std.proofs.Common.{◌≡◌, arith, length}
 use Rattle.std.proofs.lemmas.List.{length-map}
-use Rattle.std.proofs.lemmas.List.Elements.{All-map}
 use Rattle.wd_schema.specs.Schemas.{schema_of}
 use Rattle.wd_schema.specs.Tables.{table_of}
-use Rattle.wd_value.specs.Rows.{instance_of, rows_of}
 use Rattle.wd_run.proofs.DataLemmas.{HoldsData-none, RefusesData-from_number}
 use Rattle.std.proofs.lemmas.Result.{err_from_is_err_and}
 use Rattle.wd_run.proofs.data.load_data.Goals as goal
@@ -13,12 +11,10 @@ loop-i-init c =
     let tables = schema_of c.args.schema.now in
     let items = c.in_ok-instance.instance.items in
     let entries = length-map c.args.schema.now.tables.entries (λ e. table_of e.1) in
-    let lists = length-map items (λ t. rows_of t.items) in
     let count = c.in_ok-instance.ensures.len in
     let all = c.len.ensures.len in
-    let long : length (instance_of items) ≡ length tables = omega arith in
-    let empty : All (λ rows. rows ≡ []) (instance_of items) = All-map (λ rows. rows ≡ []) (λ t. rows_of t.items) items (λ k d l. ap rows_of (c.in_ok-instance.ensures.empty k d l)) in
-    HoldsData-none tables c.requires (instance_of items) long empty
+    let long : length items ≡ length tables = omega arith in
+    HoldsData-none tables c.requires items long c.in_ok-instance.ensures.empty
 
 -- a refused text refuses all the data
 pub returns-in_err-add_data-clause-refused : goal.returns-in_err-add_data-clause-refused
