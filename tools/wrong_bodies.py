@@ -229,11 +229,12 @@ def leave_bodies_out(crate, names, room):
             if function in names:
                 continue
             text = f"{text[: span.opening]} {OPEN_BODY} {text[span.closing :]}"
-            for folder in proof_folders(function):
-                shutil.rmtree(f"{room}/{folder}", ignore_errors=True)
             module, name = function.replace("::", "."), function.split("::")[-1]
-            proof = OPEN_PROOF.format(crate=crate.name, module=module, name=name)
-            write(f"{room}/{proof_folders(function)[0]}/Proof.antt", proof)
+            folder, of_recursion = proof_folders(function)
+            shutil.rmtree(f"{room}/{folder}", ignore_errors=True)
+            if f"#[cycle({name})]" not in text:
+                shutil.rmtree(f"{room}/{of_recursion}", ignore_errors=True)
+            write(f"{room}/{folder}/Proof.antt", OPEN_PROOF.format(crate=crate.name, module=module, name=name))
         write(f"{room}/{path}", text)
 
 
