@@ -13,7 +13,8 @@ All edits of a crate are put into one copy of it, and one check of the edited fu
 one function is made in a twin: a function beside it with the same contract, the edited body, and the same written proof
 under its name. Where there is a written proof, a twin without a change stands beside such twins and must be proved: it
 shows that the name refuses nothing. The functions that the edited ones call stand there by their contracts: their bodies
-and their proofs, which the gate has checked, are left out of the copy.
+and their proofs, which the gate has checked, are left out of the copy (of functions in a cycle of calls all, or none where
+one of them is edited).
 
 An edit is refused where the check says of its own function that it 'did not prove' a goal of it, or that the written proof
 of a goal of it no longer holds. That a function which it calls isn't proved is no refusal, nor is a written proof that
@@ -41,8 +42,9 @@ EDITS = f"{TOP}/wrong-bodies"
 # An edit is judged in its own function, or in that function's twin of this number where it is not None.
 Edit = collections.namedtuple("Edit", "crate name function right of_definition path twin", defaults=[None])
 Twin = collections.namedtuple("Twin", "path text proofs")
-# Where a function stands in a file: its attributes and comments, its body between the braces, and its end.
-Span = collections.namedtuple("Span", "start opening closing end")
+# Where a function stands in a file: its attributes and comments, its body between the braces, and its end; the name of the
+# cycle of calls of several functions that it is in, if it is in one, and whether it is generic over a type.
+Span = collections.namedtuple("Span", "start opening closing end cycle generic")
 
 
 def read_edit(crate, path):
@@ -104,29 +106,37 @@ def unchanged_twin(crate, function):
 def twin_of(crate, edit):
     """The edited function under another name, with its written proof; None where the edit can't be told of the function alone."""
     texts, why = rt.read_edit(edit.path, crate.folder) if edit.path else ({}, None)
-    folder, of_recursion = proof_folders(edit.function)
+    folder, _ = proof_folders(edit.function)
     path = source_of(crate, edit.function)
     if why or not path or any(it != path and not it.startswith(f"{folder}/") for it in texts):
         return None
     before = text_of(f"{crate.folder}/{path}")
     after = texts.get(path, before)
-    old, new = (spans_in(text, module_of(path)).get(edit.function) for text in (before, after))
-    if not new or before[: old.opening] != after[: new.opening] or before[old.closing :] != after[new.closing :]:
+    homes = homes_in(crate.folder)
+    old, new = (spans_in(text, module_of(path), homes).get(edit.function) for text in (before, after))
+    if not new or old.cycle or old.generic or before[: old.opening] != after[: new.opening] or before[old.closing :] != after[new.closing :]:
         return None
     name, twin_name = (it.split("::")[-1] for it in (edit.function, judged_name(edit)))
-    calls_itself = re.search(rf"\b{name}\(", after[new.opening : new.closing])
-    if calls_itself and any(os.path.isdir(f"{crate.folder}/{it}") for it in (folder, of_recursion)):
-        # A twin calls the function in its own place, so a written proof would speak of other steps.
+    if calls_itself(edit.function, after[new.opening : new.closing]):
+        # A twin would stand on the function in its own place, which an edit leaves unproved.
         return None
     text = re.sub(rf"\bfn {name}\b", f"fn {twin_name}", after[new.start : new.end], count=1)
     proofs = proofs_of_twin(crate, edit, folder, texts)
     return None if proofs is None else Twin(path, text, proofs)
 
 
+def calls_itself(function, body):
+    """Whether the body of a function, or of a type's method, can call it by name."""
+    *_, above, name = ["", *function.split("::")]
+    is_method = above[:1].isupper()
+    own = rf"\.{name}\(|\b(?:Self|{above})::{name}\(" if is_method else rf"(?<![\w.:]){name}\("
+    return re.search(own, body) is not None
+
+
 def source_of(crate, function):
     """The file of a function that can stand by its contract alone."""
-    sources = sources_of(crate.folder)
-    return next((path for path in sources if function in spans_in(text_of(f"{crate.folder}/{path}"), module_of(path))), None)
+    sources, homes = sources_of(crate.folder), homes_in(crate.folder)
+    return next((path for path in sources if function in spans_in(text_of(f"{crate.folder}/{path}"), module_of(path), homes)), None)
 
 
 def proof_folders(function):
@@ -159,7 +169,7 @@ def proofs_of_twin(crate, edit, folder, texts):
 def write_twin(edit, twin, room):
     """Puts the twin behind its function, whose own text may be another edit's, and its proof beside that of the function."""
     text = text_of(f"{room}/{twin.path}")
-    end = spans_in(text, module_of(twin.path))[edit.function].end
+    end = spans_in(text, module_of(twin.path), homes_in(room))[edit.function].end
     write(f"{room}/{twin.path}", f"{text[:end]}\n{twin.text}{text[end:]}")
     for path, proof in twin.proofs.items():
         write(f"{room}/{path}", proof)
@@ -167,6 +177,8 @@ def write_twin(edit, twin, room):
 
 FUNCTION = re.compile(r"^(?P<indent> *)(?:pub(?:\([a-z]+\))? )?(?:const )?fn (?P<name>\w+)(?P<generic><[^(]*)?\(", re.M)
 INHERENT = re.compile(r"^impl(?:<[^>]*>)? (?P<type>\w+)(?:<[^>]*>)? \{", re.M)
+DECLARED = re.compile(r"^(?:pub(?:\([a-z]+\))? )?(?:struct|enum) (?P<type>\w+)", re.M)
+CYCLE = re.compile(r"^ *#\[cycle\((?P<name>\w+)\)\]\n", re.M)
 OPEN_BODY = "loop {}"
 OPEN_PROOF = """use Rattle.{crate}.proofs.{module}.Statement.{{statement}}
 
@@ -184,58 +196,77 @@ def module_of(path):
     return "::".join(part for part in path.removeprefix("src/").removesuffix(".rt").split("/") if part not in ("lib", "main", "mod"))
 
 
+def homes_in(folder):
+    """The module of each type that the crate declares under one name alone."""
+    homes = collections.defaultdict(set)
+    for path in sources_of(folder):
+        for found in DECLARED.finditer(text_of(f"{folder}/{path}")):
+            homes[found["type"]].add(module_of(path))
+    return {name: modules.pop() for name, modules in homes.items() if len(modules) == 1}
+
+
 def span_of(text, found):
     """Where the function stands whose head is found: from its comments and attributes on, to its closing brace. A function that
     an edit adds is one line without clauses."""
     indent, line = found["indent"], text[found.start() :].split("\n", 1)[0]
     start = re.search(r"(?:^ *(?:///?.*|#\[(?:[^\]\n]|\n(?! *\n))*\])\n)*\Z", text[: found.start()], re.M).start()
+    cycle = CYCLE.search(text[start : found.start()])
+    generic = found["generic"] is not None and not re.fullmatch(r"<('\w+,? ?)+>", found["generic"])
+    how = cycle and cycle["name"], generic
     if line.endswith("}"):
-        return Span(start, found.start() + line.index("{") + 1, found.start() + len(line) - 1, found.start() + len(line) + 1)
+        return Span(start, found.start() + line.index("{") + 1, found.start() + len(line) - 1, found.start() + len(line) + 1, *how)
     opening = re.compile(rf"^{indent}(?:(?! )\S.* )?\{{(?=\}}?$)", re.M).search(text, found.start()).end()
     closing = opening if text[opening] == "}" else text.index(f"\n{indent}}}\n", opening) + 1 + len(indent)
-    return Span(start, opening, closing, closing + len("}\n"))
+    return Span(start, opening, closing, closing + len("}\n"), *how)
 
 
-def spans_in(text, module):
-    """The functions of a source file that can stand by their contracts alone: none in a cycle of calls of several functions,
-    no method of a trait or of another file's type, none that is generic over a type."""
+def spans_in(text, module, homes):
+    """The functions of a source file that can stand by their contracts alone: no method of a trait."""
     spans = {}
     for found in FUNCTION.finditer(text):
-        owner = owner_of(text, found) if found["indent"] else ""
-        is_generic = found["generic"] and not re.fullmatch(r"<('\w+,? ?)+>", found["generic"])
-        if owner is None or is_generic:
-            continue
-        span = span_of(text, found)
-        if "#[cycle(" in text[span.start : found.start()]:
-            continue
-        spans["::".join(part for part in (module, owner, found["name"]) if part)] = span
+        owner = owner_of(text, found, module, homes)
+        if owner is not None:
+            spans["::".join(part for part in (*owner, found["name"]) if part)] = span_of(text, found)
     return spans
 
 
-def owner_of(text, found):
-    """The type of this file whose method a function is; None where it is a trait's method, or another file's type's."""
+def owner_of(text, found, module, homes):
+    """The module of a function, or that of the type whose method it is, and the type; None where it is a trait's method."""
+    if not found["indent"]:
+        return [module]
     owners = list(INHERENT.finditer(text[: found.start()]))
     if not owners or "\n}" in text[owners[-1].end() : found.start()]:
         return None
     name = owners[-1]["type"]
-    return name if re.search(rf"\b(struct|enum) {name}\b", text) else None
+    return [homes[name], name] if name in homes else None
 
 
 def leave_bodies_out(crate, names, room):
-    """Takes the body and the proof of each function that is not judged as open, so that the judged ones stand on its contract."""
-    for path in sources_of(room):
+    """Takes the body and the proof of each function that is not judged as open, so that the judged ones stand on its contract.
+    Functions that call one another in a cycle are left out together, or all of them stay."""
+    homes = homes_in(room)
+    spans = {path: spans_in(text_of(f"{room}/{path}"), module_of(path), homes) for path in sources_of(room)}
+    stays = {it[function].cycle for it in spans.values() for function in it if function in names} - {None}
+    for path, found in spans.items():
         text = text_of(f"{room}/{path}")
-        for function, span in reversed(spans_in(text, module_of(path)).items()):
-            if function in names:
-                continue
-            text = f"{text[: span.opening]} {OPEN_BODY} {text[span.closing :]}"
-            module, name = function.replace("::", "."), function.split("::")[-1]
-            folder, of_recursion = proof_folders(function)
-            shutil.rmtree(f"{room}/{folder}", ignore_errors=True)
-            if f"#[cycle({name})]" not in text:
-                shutil.rmtree(f"{room}/{of_recursion}", ignore_errors=True)
-            write(f"{room}/{folder}/Proof.antt", OPEN_PROOF.format(crate=crate.name, module=module, name=name))
+        for function, span in reversed(found.items()):
+            if function not in names and span.cycle not in stays:
+                head = CYCLE.sub("", text[span.start : span.opening])
+                text = f"{text[: span.start]}{head} {OPEN_BODY} {text[span.closing :]}"
+                leave_proof_out(crate, function, span, stays, room)
         write(f"{room}/{path}", text)
+
+
+def leave_proof_out(crate, function, span, stays, room):
+    """Puts an open proof in the place of the function's own, or of its part in that of its cycle."""
+    *above, name = function.split("::")
+    folder, of_recursion = proof_folders(function)
+    shutil.rmtree(f"{room}/{folder}", ignore_errors=True)
+    if name not in stays:
+        shutil.rmtree(f"{room}/{of_recursion}", ignore_errors=True)
+    if span.cycle:
+        shutil.rmtree("/".join([room, "proofs", *above, f"+{span.cycle}"]), ignore_errors=True)
+    write(f"{room}/{folder}/Proof.antt", OPEN_PROOF.format(crate=crate.name, module=".".join([*above, name]), name=name))
 
 
 def check(crate, edits, log):

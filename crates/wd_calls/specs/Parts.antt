@@ -3,7 +3,7 @@ use Rattle.std.specs.Prelude.{◌≡◌, ℕ, pos, ◌<◌, true, List, map, len
 use Rattle.wd_value.specs.declared.value.Value.{Value}
 use Rattle.wd_value.specs.declared.value.Value.TheVariants.{Int}
 use Rattle.wd_value.specs.declared.value.Fault.{Fault}
-use Rattle.wd_value.specs.Rows.{Row, row_at, rows_at, rows_of}
+use Rattle.wd_value.specs.Rows.{Row, row_at, rows_at}
 use Rattle.wd_plan.specs.declared.window.Frame.{Frame}
 use Rattle.wd_plan.specs.declared.function.Function.{Function}
 use Rattle.wd_plan.specs.declared.function.Ranking.{Ranking}
@@ -17,7 +17,7 @@ use Rattle.wd_calls.specs.declared.partition.Partition.{Partition}
 
 -- the partition list that a value of the code shows
 abbrev pub partition_of : Partition → List Row
-partition_of partition = rows_at (rows_of partition.rows.now) partition.positions.now
+partition_of partition = rows_at partition.rows.now partition.positions.now
 
 -- the keys at two places are as far from each other as the class's one sort key has them
 abbrev pub HasKeys : ClassRule → List Row → PartRule → Type 0

@@ -6,30 +6,17 @@ ghost use Rattle.wd_calls.specs.Values.{value_in};
 ghost use Rattle.wd_calls.specs.Values as values;
 ghost use Rattle.wd_frame.specs.Slides.{seen};
 ghost use Rattle.wd_value.specs.declared.value.Value.TheVariants as value;
-ghost use Rattle.wd_value.specs.Rows as table;
 
 use std::alloc::Global;
-use wd_value::{OutOfMemory, Row, Value};
+use wd_columns::RowSource;
+use wd_value::{OutOfMemory, Value};
 
 /// The members of a partition in their ordering: rows, and the positions among them that belong to
 /// the partition.
 #[derive(Clone, Copy)]
-pub struct Partition<'a> {
-    pub rows: &'a [Row],
+pub struct Partition<'a, 'r> {
+    pub rows: &'a RowSource<'r>,
     pub positions: &'a [u64],
-}
-
-/// The row at a place, and the empty row past the last.
-fn row_in<'a>(partition: &'a Partition, place: usize) -> &'a [Value]
-    ensures { result.now ≡ table.row_at (partition_of partition.now) place }
-{
-    match partition.positions.get(place) {
-        Some(position) => match partition.rows.get(*position as usize) {
-            Some(row) => row,
-            None => &[],
-        },
-        None => &[],
-    }
 }
 
 /// The value in a column of the row at a place, and NULL past the last place or column.
@@ -37,8 +24,8 @@ fn value_at<'a>(partition: &'a Partition, place: usize, column: u16, null: &'a V
     requires { null.now ≡ value.Null }
     ensures { result.now ≡ value_in (partition_of partition.now) column place }
 {
-    match row_in(partition, place).get(column as usize) {
-        Some(value) => value,
+    match partition.positions.get(place) {
+        Some(position) => partition.rows.value(*position, column, null),
         None => null,
     }
 }
@@ -52,10 +39,8 @@ pub(crate) fn copy_at(
 ) -> Result<Value, OutOfMemory>
     ensures { IfOk result (λ v. v ≡ value_in (partition_of partition.now) column place) }
 {
-    match row_in(partition, place).get(column as usize) {
-        Some(value) => value.copy(alloc),
-        None => Ok(Value::Null),
-    }
+    let null = Value::Null;
+    value_at(partition, place, column, &null).copy(alloc)
 }
 
 /// The values in a column of the rows at the first so many places.

@@ -5,6 +5,7 @@ use std::alloc::Global;
 use wd_calls::{Partition, call_values};
 use wd_cases::Failure;
 use wd_cases_notation::{Line, State};
+use wd_columns::RowSource;
 use wd_frame::members;
 use wd_value::{Fault, Value};
 
@@ -24,8 +25,9 @@ pub fn frame_members(
 /// `call_values FRAME CALL : POSITIONS`
 pub fn answer(alloc: Global, state: &State, out: &mut String) -> Result<(), Failure> {
     let call = state.stacks.window.calls.first().ok_or(Failure::NoCase)?;
+    let source = RowSource::of_rows(state.rows());
     let partition = Partition {
-        rows: state.rows(),
+        rows: &source,
         positions: state.ordering(),
     };
     let values = call_values(alloc, call, &partition, &state.part())?;

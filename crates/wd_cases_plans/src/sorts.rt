@@ -4,6 +4,7 @@ use crate::shown::{push, push_comparison, push_numbers, push_row, push_truth};
 use std::alloc::{AllocError, Global};
 use wd_cases::Failure;
 use wd_cases_notation::{Line, State, Word};
+use wd_columns::RowSource;
 use wd_partition::{Member, Partitions, is_ordering, partitions, sorted_ordering};
 use wd_plan::Class;
 use wd_sort::{compare_rows_at, is_sorted, sorted_from, sorted_positions};
@@ -68,7 +69,8 @@ fn push_ordering(
     out: &mut String,
 ) -> Result<(), Failure> {
     let flipped = arguments == "flipped";
-    let ordering = sorted_ordering(alloc, rows, &class.partition, &class.order, flipped)?;
+    let source = RowSource::of_rows(rows);
+    let ordering = sorted_ordering(alloc, &source, &class.partition, &class.order, flipped)?;
     push_numbers(out, &ordering)
 }
 
@@ -79,10 +81,11 @@ fn push_is_ordering(
     class: &Class,
     out: &mut String,
 ) -> Result<(), Failure> {
-    let (rows, given) = (state.rows(), state.ordering());
+    let source = RowSource::of_rows(state.rows());
+    let given = state.ordering();
     push_truth(
         out,
-        is_ordering(alloc, rows, &class.partition, &class.order, given)?,
+        is_ordering(alloc, &source, &class.partition, &class.order, given)?,
     )
 }
 
@@ -110,10 +113,18 @@ fn partitions_of(
     ordering: &[u64],
     asked: bool,
 ) -> Result<Option<Partitions>, Failure> {
-    if rows.len() > u32::MAX as usize {
+    let source = RowSource::of_rows(rows);
+    if source.len() > u32::MAX as usize {
         return Err(Failure::NoCase);
     }
-    Ok(partitions(alloc, rows, &class.partition, &class.order, ordering, asked)?)
+    Ok(partitions(
+        alloc,
+        &source,
+        &class.partition,
+        &class.order,
+        ordering,
+        asked,
+    )?)
 }
 
 /// The positions, the groups, the numbers, and the place of the row itself.

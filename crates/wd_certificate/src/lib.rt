@@ -3,6 +3,7 @@
 
 mod certificate;
 mod error;
+mod forms;
 pub mod laws;
 mod read;
 mod write;

@@ -1,8 +1,7 @@
 -- Rows along columns: where they stand, those with some of the columns, and one more.
 use Rattle.std.proofs.Common.{◌≡◌, ◌∙◌, ℕ, zero, suc, ◌+◌, ◌<◌, ◌≤◌, List, [], ◌∷◌, ◌++◌, map, length, get_or, set, refl, sym, ap, arith, zero-add}
-use Rattle.std.specs.Prelude.{All}
 use Rattle.std.specs.List.{range_with_len}
-use Rattle.std.proofs.lemmas.List.{get_or_append_left, get_or_past, get_or_push, length-map, length_push, map-set}
+use Rattle.std.proofs.lemmas.List.{get_or_append_left, get_or_past, get_or_push, length-map, length_push, map_push, map-set}
 use Rattle.std.proofs.lemmas.List.FromFn.{get_or-map-range_with_len, length-range_with_len, map-range_with_len_more}
 use Rattle.std.proofs.Math.ListN.{get_or-map}
 use Rattle.std.proofs.Math.Seq.{map-set_same}
@@ -12,11 +11,11 @@ use Rattle.wd_value.specs.declared.value.Value.{Value}
 use Rattle.wd_value.specs.declared.value.Value.TheVariants.{Null}
 use Rattle.wd_value.specs.Bags.{positions}
 use Rattle.wd_value.specs.Rows.{Row, column_of, columns_of, row_at, rows_at, rows_of}
-use Rattle.wd_columns.specs.Along.{AreLong, row_along, rows_along, with_row}
+use Rattle.wd_columns.specs.Along.{AreLong, row_along, rows_along, with_row, with_values}
 use Rattle.wd_columns.proofs.Places.{items}
 
 -- the value of a column at a position
-abbrev at : ℕ → Row → Value
+abbrev pub at : ℕ → Row → Value
 at p column = get_or column p Null
 
 pub count : (columns : List Row) (n : ℕ) → length (rows_along columns n) ≡ n
@@ -44,6 +43,20 @@ selected_along columns places (p ∷ ps) = λ i. selected_row columns p places i
 pub selected : (columns : List Row) (places : List ℕ) (n : ℕ) → rows_along (rows_at columns places) n ≡ map (columns_of places) (rows_along columns n)
 selected columns places n = selected_along columns places (positions n)
 
+same_along : (f g : ℕ → Row) (a n : ℕ) → ((k : ℕ) → k < a + n → f k ≡ g k) → map f (range_with_len a n) ≡ map g (range_with_len a n)
+same_along f g a zero h = refl
+same_along f g a (suc n) h = λ i. h a (omega arith) i ∷ same_along f g (a + 1) n (λ k low. h k (omega arith)) i
+
+-- ---- one more column
+
+pub one_column_more : (columns : List Row) (column : Row) (n : ℕ) → rows_along (columns ++ column ∷ []) n ≡ with_values (rows_along columns n) column
+one_column_more columns column n =
+    let beside = λ (p : ℕ). row_at (rows_along columns n) p ++ get_or column p Null ∷ [] in
+    same_along (row_along (columns ++ column ∷ [])) beside 0 n (λ k low. (
+    let there : k < n = omega arith in
+    map_push (at k) columns column ∙ ap (λ (r : Row). r ++ get_or column k Null ∷ []) (sym (row_is columns n k there))))
+    ∙ ap (λ m. map beside (positions m)) (sym (count columns n))
+
 -- ---- a value taken out
 
 -- a column that is the same at a position stands in the place of another: the row there is the same
@@ -53,10 +66,6 @@ row_kept columns place p column same =
     ap (map (at p)) (map-set items columns place column) ∙ map-set_same (at p) (rows_of columns) place column.items [] same
 
 -- ---- one more row
-
-same_along : (f g : ℕ → Row) (a n : ℕ) → ((k : ℕ) → k < a + n → f k ≡ g k) → map f (range_with_len a n) ≡ map g (range_with_len a n)
-same_along f g a zero h = refl
-same_along f g a (suc n) h = λ i. h a (omega arith) i ∷ same_along f g (a + 1) n (λ k low. h k (omega arith)) i
 
 kept : (columns : List Row) (row : Row) (n p : ℕ) → AreLong n columns → p < n → row_along (with_row columns row) p ≡ row_along columns p
 kept [] row n p long low = refl

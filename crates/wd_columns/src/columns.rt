@@ -1,8 +1,8 @@
 //! Tables kept column by column.
 
-ghost use Rattle.std.specs.Prelude.{◌≡◌, List, [], IfOk, length, map, slice_index_or};
+ghost use Rattle.std.specs.Prelude.{◌≡◌, List, [], ◌∷◌, ◌++◌, IfOk, length, map, slice_index_or};
 ghost use Rattle.wd_columns.specs.Along as along;
-ghost use Rattle.wd_columns.specs.Along.{rows_along};
+ghost use Rattle.wd_columns.specs.Along.{rows_along, with_values};
 ghost use Rattle.wd_columns.specs.Moves.{AreDifferent};
 ghost use Rattle.wd_value.specs.Rows.{Row, column_of, columns_of, row_at, rows_of};
 ghost use Rattle.wd_value.specs.declared.value.Value.TheVariants as value;
@@ -53,8 +53,26 @@ impl Columns {
         self.count
     }
 
+    /// How many values the row at a position has, and 0 past the last row.
+    pub fn width(&self, position: u64) -> usize
+        ensures { result ≡ length (row_at self.now position) }
+    {
+        if position as usize >= self.count {
+            return 0;
+        }
+        self.columns.len()
+    }
+
     /// The value in a column of the row at a position, and `null` past the last row or column.
     pub fn value<'a>(&'a self, position: u64, column: u16, null: &'a Value) -> &'a Value
+        requires { null.now ≡ value.Null }
+        ensures { result.now ≡ column_of (row_at self.now position) column }
+    {
+        self.value_at(position, column as usize, null)
+    }
+
+    /// The same, with a column of any number.
+    pub fn value_at<'a>(&'a self, position: u64, column: usize, null: &'a Value) -> &'a Value
         requires { null.now ≡ value.Null }
         ensures { result.now ≡ column_of (row_at self.now position) column }
     {
@@ -62,6 +80,19 @@ impl Columns {
             return null;
         }
         value_along(&self.columns, position as usize, column, null)
+    }
+
+    /// Each row with the value beside it after its own; past the last value there is NULL. The values
+    /// are moved.
+    pub fn with_column(self, values: Vec<Value>) -> Result<Columns, OutOfMemory>
+        ensures { IfOk result (λ c. c ≡ with_values self values.items) }
+    {
+        let Columns { columns, count } = self;
+        let grown = pushed(columns, values)?;
+        Ok(Columns {
+            columns: grown,
+            count,
+        })
     }
 
     /// The rows with these of their columns. Each column is moved: none is named twice.
@@ -90,11 +121,19 @@ impl Columns {
     }
 }
 
+fn pushed(columns: Vec<Vec<Value>>, column: Vec<Value>) -> Result<Vec<Vec<Value>>, OutOfMemory>
+    ensures { IfOk result (λ v. rows_of v.items ≡ rows_of columns.items ++ column.items ∷ []) }
+{
+    let mut grown = columns;
+    grown.push(column)?;
+    Ok(grown)
+}
+
 /// The value in a column of the row at a position, and `null` past the last of either.
 fn value_along<'a>(
     columns: &'a [Vec<Value>],
     position: usize,
-    column: u16,
+    column: usize,
     null: &'a Value,
 ) -> &'a Value
     requires { null.now ≡ value.Null }
@@ -104,10 +143,10 @@ fn value_along<'a>(
 }
 
 /// The column with a number, and one without values past the last.
-fn column_in(columns: &[Vec<Value>], column: u16) -> &[Value]
+fn column_in(columns: &[Vec<Value>], column: usize) -> &[Value]
     ensures { result.now ≡ row_at (rows_of columns.now) column }
 {
-    match columns.get(column as usize) {
+    match columns.get(column) {
         Some(values) => values,
         None => &[],
     }

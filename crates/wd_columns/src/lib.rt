@@ -4,8 +4,10 @@
 mod columns;
 mod growing;
 mod moved;
+mod source;
 mod taking;
 
 pub use columns::Columns;
 pub use growing::{empty_columns, push_row};
 pub use moved::moved_rows;
+pub use source::{RowSource, row_in};

@@ -19,11 +19,10 @@ use std::alloc::{AllocError, Global};
 use std::io::Write;
 use wd_accept::verify;
 use wd_decide::{decide, examine};
-use wd_plan::Outcome;
 use wd_refute::refute;
 use wd_report::{Output, explain};
-use wd_run::run;
-use wd_tables::answer_text;
+use wd_run::run_kept;
+use wd_tables::answer_text_from;
 
 const USAGE: &str = "wdcheck check SCHEMA QUERY
 wdcheck explain SCHEMA QUERY
@@ -185,13 +184,13 @@ fn run_output<'a>(
     ensures err { IfErr result (FailsRun (map name_of tables.now) (map file_of files.now)) }
 {
     let data = data(alloc, tables, &files[2..])?;
-    let (names, outcome) = run(alloc, text_of(files, 0), text_of(files, 1), data.as_slice())?;
-    match outcome {
-        Outcome::Rows(rows) => {
-            let text = answer_text(alloc, names.as_slice(), rows.as_slice())?;
+    let (names, answer) = run_kept(alloc, text_of(files, 0), text_of(files, 1), data.as_slice())?;
+    match answer.rows() {
+        Ok(rows) => {
+            let text = answer_text_from(alloc, names.as_slice(), &rows)?;
             Ok(Output { text, status: 0 })
         }
-        Outcome::Fault(fault) => Err(Failure::Fault(fault)),
+        Err(fault) => Err(Failure::Fault(fault)),
     }
 }
 

@@ -1,10 +1,12 @@
 //! The verdict on a query.
 
-ghost use Rattle.std.specs.Prelude.{◌≡◌, true, IfOk, IfErr};
+ghost use Rattle.std.specs.Prelude.{◌≡◌, true, List, IfOk, IfErr};
 ghost use Rattle.wd_plan.specs.Fits.{fits};
-ghost use Rattle.wd_plan.specs.Plans.{plan_of};
+ghost use Rattle.wd_plan.specs.Plans.{PlanTree, plan_of};
 ghost use Rattle.wd_schema.specs.Schemas.{schema_of};
-ghost use Rattle.wd_decide.specs.Verdicts.{HasCause, IsExamined, IsVerdict, IsVerdictOf};
+ghost use Rattle.wd_schema.specs.Tables.{TableRule};
+ghost use Rattle.wd_seek.specs.Sought.{reasons_of};
+ghost use Rattle.wd_decide.specs.Verdicts.{EndsWith, HasCause, IsExamined, IsVerdict, IsVerdictOf};
 
 use crate::error::DecideError;
 use std::alloc::Global;
@@ -72,10 +74,17 @@ impl Examined {
     {
         let Examined { planned, analysis } = self;
         let (witness, _) = seek(alloc, &planned.schema, &planned.resolved.plan, &analysis)?;
-        match (analysis, witness) {
-            (Analysis::Certified(certificate), _) => Ok(Verdict::Deterministic(certificate)),
-            (Analysis::Open(_, _), Some(witness)) => Ok(Verdict::Depends(witness)),
-            (Analysis::Open(reasons, _), None) => Ok(Verdict::Unknown(reasons)),
-        }
+        Ok(verdict_of(analysis, witness))
+    }
+}
+
+/// The verdict where the search for a witness ends so.
+fn verdict_of(analysis: Analysis, witness: Option<Witness>) -> Verdict
+    ensures { (tables : List TableRule) → (plan : PlanTree) → EndsWith tables plan (reasons_of analysis) witness → IsVerdictOf tables plan analysis result }
+{
+    match (analysis, witness) {
+        (Analysis::Certified(certificate), _) => Verdict::Deterministic(certificate),
+        (Analysis::Open(_, _), Some(witness)) => Verdict::Depends(witness),
+        (Analysis::Open(reasons, _), None) => Verdict::Unknown(reasons),
     }
 }

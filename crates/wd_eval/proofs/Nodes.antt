@@ -7,7 +7,7 @@ use Rattle.wd_plan.specs.declared.plan.Outcome.{Outcome}
 use Rattle.wd_plan.specs.Choices.{AtRows, AreOrderings, AreLawful}
 use Rattle.wd_plan.specs.Expressions.{Expression}
 use Rattle.wd_plan.specs.Faults.{and_then}
-use Rattle.wd_plan.specs.Outcomes.{RowsOrFault, distinct, filter_outcome, map_outcome, ordering_at, outcome, outcome_of}
+use Rattle.wd_plan.specs.Outcomes.{RowsOrFault, distinct, filter_outcome, map_outcome, ordering_at, outcome}
 use Rattle.wd_plan.specs.Plans.{PlanTree, Scan, Join, Filter, Map, Window, Distinct, Limit, LimitRule, WindowRule, ordering_count}
 use Rattle.wd_plan.specs.Sorting.{IsOrdering, limit_class}
 use Rattle.wd_steps.specs.Joins.{has_more_rows}
@@ -111,7 +111,7 @@ module _ (tables instance : Instance) (choice : List (List ℕ)) (first : ℕ) w
     own_is : take (length w.classes) (drop below.next choice) ≡ own_window w input
     own_is = ap (take (length w.classes)) (behind (ordering_count input) below.next b.next)
 
-    pub window_done : (o : Outcome) (next : ℕ) → IsExtended w (produced_of tables below.outcome) choice below.next o → next ≡ below.next + length w.classes → IsEvaluated (Window w input) tables instance choice first (record { outcome = Made o; next = next })
+    pub window_done : (o : Produced) (next : ℕ) → IsExtended w (produced_of tables below.outcome) choice below.next (produced_of tables o) → next ≡ below.next + length w.classes → IsEvaluated (Window w input) tables instance choice first (record { outcome = o; next = next })
     window_done o next x e =
         let long = long_rest within in
         let there = x.served.present in

@@ -2,21 +2,18 @@
 use Rattle.std.proofs.Common.{◌≡◌, ℕ, ◌+◌, ◌<◌, Bool, List, [], ◌∷◌, ◌++◌, take, drop, length, get_or, Option, Ok, Err, refl, sym, ap, ◌∙◌, subst, arith, append_assoc, below_more, length-append}
 use Rattle.std.specs.List.{AllByRecursion}
 use Rattle.std.proofs.Math.Seq.{drop-append_seam, get_or-append_seam}
-use Rattle.std.proofs.lemmas.List.{append-nil, get_or-map, get_or_append_left, take_all}
+use Rattle.std.proofs.lemmas.List.{append-nil, get_or_append_left, take_all}
 use Rattle.wd_plan.specs.declared.plan.Outcome.{Outcome}
-use Rattle.wd_plan.specs.declared.plan.Outcome.TheVariants as outcomes
 use Rattle.wd_value.specs.declared.value.Fault.{Fault}
 use Rattle.wd_value.specs.Rows.{Row}
-use Rattle.wd_plan.specs.declared.window.Class.{Class}
-use Rattle.wd_plan.specs.declared.window.Window.{Window}
 use Rattle.wd_plan.specs.Choices.{AtRows, AreOrderings}
 use Rattle.wd_plan.specs.Outcomes.{RowsOrFault, class_at, ordering_at, outcome_of}
-use Rattle.wd_plan.specs.Plans.{ClassRule, LimitRule, WindowRule, class_of, window_of}
+use Rattle.wd_plan.specs.Plans.{ClassRule, LimitRule, WindowRule}
 use Rattle.wd_plan.specs.Sorting.{IsOrdering, limit_class}
 use Rattle.wd_partition.proofs.Grouping.{IsOrdering-from_given}
 use Rattle.wd_eval.specs.Nodes.{IsCut, cut_over}
 use Rattle.wd_window.specs.Windows.{HasOrdering, IsWindowServed}
-use Rattle.wd_window.specs.Listings.{AreListings, IsListing}
+use Rattle.wd_window.specs.Listings.{AreListings, IsListingIn}
 use Rattle.wd_window.specs.declared.listing.Listing.{Listing}
 use Rattle.wd_eval.specs.Tied.{IsSortedOver, is_flipped}
 use Rattle.wd_eval.specs.Ties.{ArePut, AreSortedOver, IsPutEmpty, IsTiedLimit, IsTiedWindow}
@@ -77,7 +74,7 @@ empty_put w fault flipped count old new e p = record {
   sorted = record { long = p.long ∙ e; each = λ k h. p.empty k (omega arith) };
 }
 
-pub fault_tied : (w : WindowRule) (fault : Fault) (flipped : Option ℕ) (count : ℕ) (old new : List (List ℕ)) → count ≡ length w.classes → IsPutEmpty count old new → IsTiedWindow w (Err fault) flipped old new (outcomes.Fault fault)
+pub fault_tied : (w : WindowRule) (fault : Fault) (flipped : Option ℕ) (count : ℕ) (old new : List (List ℕ)) → count ≡ length w.classes → IsPutEmpty count old new → IsTiedWindow w (Err fault) flipped old new (Err fault)
 fault_tied w fault flipped count old new e p =
     let put = empty_put w fault flipped count old new e p in
     record { put = put; extended = record { served = window_put w (Err fault) flipped old new put; is = refl } }
@@ -109,23 +106,20 @@ none_put w input flipped old = record {
   sorted = record { long = refl; each = λ k h. absurd (omega arith) };
 }
 
-pub one_put : (window : Window) (class : Class) (input : RowsOrFault) (flipped : Option ℕ) (n number : ℕ) (old mid new : List (List ℕ)) (turned : Bool) (ordering : List ℕ) → n < length window.classes.items → class ≡ get_or window.classes.items n class
-    → ArePut (window_of window) input flipped n old mid → number ≡ length mid → turned ≡ is_flipped flipped number → IsSortedOver (class_of class) turned input ordering → new ≡ mid ++ ordering ∷ [] → ArePut (window_of window) input flipped (n + 1) old new
-one_put window class input flipped n number old mid new turned ordering lt is p at turn sorted e =
+pub one_put : (w : WindowRule) (input : RowsOrFault) (flipped : Option ℕ) (n number : ℕ) (old mid new : List (List ℕ)) (turned : Bool) (ordering : List ℕ)
+    → ArePut w input flipped n old mid → number ≡ length mid → turned ≡ is_flipped flipped number → IsSortedOver (class_at w n) turned input ordering → new ≡ mid ++ ordering ∷ [] → ArePut w input flipped (n + 1) old new
+one_put w input flipped n number old mid new turned ordering p at turn sorted e =
     let own = p.own in
     let size = p.sorted.long in
-    let w = window_of window in
     let all = own ++ ordering ∷ [] in
     let long = length-append own (ordering ∷ []) in
     let here_number : number ≡ length old + n = at ∙ ap length p.grown ∙ length-append old own ∙ ap (λ k. length old + k) size in
     let last : ordering_at all n ≡ ordering = ap (ordering_at all) (sym size) ∙ get_or-append_seam own ordering [] [] in
-    let rule : class_at w n ≡ class_of class = get_or-map class_of window.classes.items n class (record { partition = []; order = [] }) lt ∙ ap class_of (sym is) in
     let earlier : (k : ℕ) → k < n → IsSortedOver (class_at w k) (is_flipped flipped (length old + k)) input (ordering_at all k) =
     λ k h. subst (IsSortedOver (class_at w k) (is_flipped flipped (length old + k)) input) (sym (get_or_append_left own (ordering ∷ []) [] k (omega arith))) (p.sorted.each k h) in
     let here : IsSortedOver (class_at w n) (is_flipped flipped (length old + n)) input (ordering_at all n) =
     subst (IsSortedOver (class_at w n) (is_flipped flipped (length old + n)) input) (sym last)
-    (subst (λ (r : ClassRule). IsSortedOver r (is_flipped flipped (length old + n)) input ordering) (sym rule)
-    (subst (λ (t : Bool). IsSortedOver (class_of class) t input ordering) (turn ∙ ap (is_flipped flipped) here_number) sorted)) in
+    (subst (λ (t : Bool). IsSortedOver (class_at w n) t input ordering) (turn ∙ ap (is_flipped flipped) here_number) sorted) in
     record {
       own = all;
       grown = e ∙ ap (λ ch. ch ++ ordering ∷ []) p.grown ∙ append_assoc old own (ordering ∷ []);
@@ -144,18 +138,17 @@ listings_grown w rows choice more first n ls a =
     record {
       long = a.long;
       present = omega arith;
-      each = λ k l h. subst (λ (o : List ℕ). IsListing (class_at w k) rows o (get_or ls k l)) (sym (get_or_append_left choice more [] (first + k) (omega arith))) (a.each k l h);
+      each = λ k l h. subst (λ (o : List ℕ). IsListingIn w k rows o (get_or ls k l)) (sym (get_or_append_left choice more [] (first + k) (omega arith))) (a.each k l h);
     }
 
 pub none_listed : (w : WindowRule) (rows : List Row) (old : List (List ℕ)) → AreListings w rows old (length old) 0 []
 none_listed w rows old = record { long = refl; present = omega arith; each = λ k l h. absurd (omega arith) }
 
 -- those of one class more
-pub one_listed : (window : Window) (class : Class) (rows : List Row) (first n : ℕ) (mid new : List (List ℕ)) (ordering : List ℕ) (ls more : List Listing) (l : Listing) → n < length window.classes.items → class ≡ get_or window.classes.items n class
-    → first + n ≡ length mid → new ≡ mid ++ ordering ∷ [] → AreListings (window_of window) rows mid first n ls → IsListing (class_of class) rows ordering l → more ≡ ls ++ l ∷ [] → AreListings (window_of window) rows new first (n + 1) more
-one_listed window class rows first n mid new ordering ls more l lt is at e a b f =
-    let w = window_of window in
+pub one_listed : (w : WindowRule) (rows : List Row) (first n : ℕ) (mid new : List (List ℕ)) (ordering : List ℕ) (ls more : List Listing) (l : Listing)
+    → first + n ≡ length mid → new ≡ mid ++ ordering ∷ [] → AreListings w rows mid first n ls → IsListingIn w n rows ordering l → more ≡ ls ++ l ∷ [] → AreListings w rows new first (n + 1) more
+one_listed w rows first n mid new ordering ls more l at e a b f =
     let grown : AreListings w rows new first n ls = subst (λ (ch : List (List ℕ)). AreListings w rows ch first n ls) (sym e) (listings_grown w rows mid (ordering ∷ []) first n ls a) in
     let long = ap length e ∙ length-append mid (ordering ∷ []) in
     let here : ordering_at new (first + n) ≡ ordering = ap (ordering_at new) at ∙ ap (λ ch. ordering_at ch (length mid)) e ∙ get_or-append_seam mid ordering [] [] in
-    listings_more window class rows new first n ls more l lt is grown (record { present = omega arith; is = subst (λ (o : List ℕ). IsListing (class_of class) rows o l) (sym here) b }) f
+    listings_more w rows new first n ls more l grown (record { present = omega arith; is = subst (λ (o : List ℕ). IsListingIn w n rows o l) (sym here) b }) f

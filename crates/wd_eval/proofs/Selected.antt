@@ -1,6 +1,5 @@
 -- Maps of columns, and numbers of which none stands twice in a list.
-use Rattle.std.proofs.Common.{◌≡◌, ◌∙◌, ℕ, ◌+◌, ◌<◌, ◌≤◌, List, [], ◌∷◌, map, take, get_or, length, Ok, refl, sym, ap, arith, inl, inr}
-use Rattle.std.proofs.lemmas.Bool.{cases_lt}
+use Rattle.std.proofs.Common.{◌≡◌, ◌∙◌, ℕ, List, [], ◌∷◌, map, get_or, Ok, refl, ap}
 use Rattle.wd_value.specs.Rows.{Row, column_of, columns_of}
 use Rattle.wd_plan.specs.Expressions.{Column, value_of}
 use Rattle.wd_plan.specs.Faults.{all_ok}

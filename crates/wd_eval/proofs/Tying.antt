@@ -239,7 +239,7 @@ module _ (tables instance : Instance) (flipped : Option ℕ) (old : List (List �
     pub grown_more : new ≡ old ++ (b.own ++ own)
     grown_more = e ∙ ap (λ ch. ch ++ own) b.grown ∙ append_assoc old b.own own
 
-  pub window_tied : (w : WindowRule) (input : PlanTree) (mid new : List (List ℕ)) (below : Produced) (o : Outcome) → IsTied input tables instance flipped old mid below → IsTiedWindow w (produced_of tables below) flipped mid new o → IsTied (Window w input) tables instance flipped old new (Made o)
+  pub window_tied : (w : WindowRule) (input : PlanTree) (mid new : List (List ℕ)) (below o : Produced) → IsTied input tables instance flipped old mid below → IsTiedWindow w (produced_of tables below) flipped mid new (produced_of tables o) → IsTied (Window w input) tables instance flipped old new o
   window_tied w input mid new below o b x =
       let own = x.put.own in
       let e = x.put.grown in
@@ -352,5 +352,5 @@ module _ (plan : PlanTree) (tables instance : Instance) (flipped : Option ℕ) (
     small = t.evaluated.each;
   }
 
-  pub tied_outcome : (o : Outcome) → outcome_of o ≡ produced_of tables g → IsOutcome plan instance new o
+  pub tied_outcome : (o : RowsOrFault) → o ≡ produced_of tables g → IsOutcome plan instance new o
   tied_outcome o e = record { valid = tied_valid.valid; small = t.evaluated.each; is = e ∙ t.evaluated.is }

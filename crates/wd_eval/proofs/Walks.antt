@@ -9,7 +9,7 @@ use Rattle.wd_value.specs.Rows.{Instance, table_at}
 use Rattle.wd_plan.specs.declared.plan.Outcome.{Outcome}
 use Rattle.wd_plan.specs.Expressions.{Expression}
 use Rattle.wd_plan.specs.Faults.{and_then}
-use Rattle.wd_plan.specs.Outcomes.{RowsOrFault, distinct, filter_outcome, map_outcome, outcome, outcome_of}
+use Rattle.wd_plan.specs.Outcomes.{RowsOrFault, distinct, filter_outcome, map_outcome, outcome}
 use Rattle.wd_plan.specs.Plans.{PlanTree, Scan, Join, Filter, Map, Window, Distinct, Limit, LimitRule, WindowRule}
 use Rattle.wd_steps.specs.Joins.{has_more_rows}
 use Rattle.wd_window.specs.Windows.{AreFew, orderings_of}
@@ -123,9 +123,9 @@ module _ (tables instance : Instance) (first : ℕ) (old : List (Vec ℕ Global)
   -- ---- Window and Limit
 
   module _ (input : PlanTree) (mid : List (Vec ℕ Global)) (below : Evaluated) (new : List (Vec ℕ Global)) where
-    pub window_walked : (orderings : Orderings) (w : WindowRule) (o : Outcome) (next : ℕ) → IsAt orderings first old → IsWalked input tables instance orderings first old mid below
-        → IsWindowStep w (produced_of tables below.outcome) orderings below.next mid new (Ok o) → next ≡ below.next + length w.classes
-        → IsWalked (Window w input) tables instance orderings first old new (record { outcome = Made o; next = next })
+    pub window_walked : (orderings : Orderings) (w : WindowRule) (o : Produced) (next : ℕ) → IsAt orderings first old → IsWalked input tables instance orderings first old mid below
+        → IsWindowStep (produced_of tables) w (produced_of tables below.outcome) orderings below.next mid new (Ok o) → next ≡ below.next + length w.classes
+        → IsWalked (Window w input) tables instance orderings first old new (record { outcome = o; next = next })
     window_walked (Chosen choice) w o next at b x e = window_done tables instance (orderings_of choice.now) first w input below (within_choice choice.now first at) b o next x.ok e
     window_walked (Sorted flipped) w o next at b x e =
         let here = behind_made mid below.next b.0 in
@@ -135,7 +135,7 @@ module _ (tables instance : Instance) (first : ℕ) (old : List (Vec ℕ Global)
         (omega arith, window_tied tables instance flipped (orderings_of old) w input (orderings_of mid) (orderings_of new) below.outcome o b.1 x.ok)
 
     pub window_halted : (orderings : Orderings) (w : WindowRule) (e : EvalError) → IsWalked input tables instance orderings first old mid below
-        → IsWindowStep w (produced_of tables below.outcome) orderings below.next mid new (Err e) → IsHalted (Window w input) instance orderings first e
+        → IsWindowStep (produced_of tables) w (produced_of tables below.outcome) orderings below.next mid new (Err e) → IsHalted (Window w input) instance orderings first e
     window_halted (Chosen choice) w e b x = from_stopped (Window w input) instance first choice e (window_stopped tables instance (orderings_of choice.now) first w input below b e x.refused)
     window_halted (Sorted flipped) w e b x = from_untied (Window w input) instance first flipped e (memory_untied (Window w input) instance flipped first e x.refused)
 
@@ -182,10 +182,6 @@ module _ (tables instance : Instance) (first : ℕ) (old : List (Vec ℕ Global)
           (join_untied tables instance flipped (orderings_of old) condition left right (orderings_of mid) l.outcome a.1 (orderings_of new) r.outcome b.1 e h))
 
 -- ---- out of memory
-
-pub window_memory : (orderings : Orderings) (w : WindowRule) (input : RowsOrFault) (first : ℕ) (old new : List (Vec ℕ Global)) → IsWindowStep w input orderings first old new (Err OutOfMemory)
-window_memory (Chosen choice) w input first old new = record { ok = tt; refused = tt }
-window_memory (Sorted flipped) w input first old new = record { ok = tt; refused = tt }
 
 pub limit_memory : (orderings : Orderings) (limit : LimitRule) (input : RowsOrFault) (first : ℕ) (old new : List (Vec ℕ Global)) → IsLimitStep limit input orderings first old new (Err OutOfMemory)
 limit_memory (Chosen choice) limit input first old new = record { ok = tt; refused = tt }

@@ -3,7 +3,7 @@ use Rattle.std.specs.Prelude.{◌≡◌, ℕ, true, false, List, Result, IfErr, 
 use Rattle.wd_value.specs.Rows.{Instance}
 use Rattle.wd_plan.specs.declared.plan.Outcome.{Outcome}
 use Rattle.wd_plan.specs.Choices.{IsValidChoice}
-use Rattle.wd_plan.specs.Outcomes.{outcome, outcome_of}
+use Rattle.wd_plan.specs.Outcomes.{RowsOrFault, outcome, outcome_of}
 use Rattle.wd_plan.specs.Plans.{PlanTree}
 use Rattle.wd_window.specs.Windows.{IsLeast}
 use Rattle.wd_eval.specs.Steps.{has_large_step}
@@ -23,14 +23,14 @@ pub record IsAllowedChoice (plan : PlanTree) (instance : Instance) (choice : Lis
   pub small : has_large_step plan instance choice ≡ false
 
 -- the outcome under a valid choice, under which no step is too large
-pub record IsOutcome (plan : PlanTree) (instance : Instance) (choice : List (List ℕ)) (o : Outcome) : Type 0 where
+pub record IsOutcome (plan : PlanTree) (instance : Instance) (choice : List (List ℕ)) (o : RowsOrFault) : Type 0 where
   pub valid : IsValidChoice plan instance choice
   pub small : has_large_step plan instance choice ≡ false
-  pub is : outcome_of o ≡ outcome plan instance choice
+  pub is : o ≡ outcome plan instance choice
 
 -- the outcome under a choice, or why there is none
 pub record IsOutcomeOrRefused (plan : PlanTree) (instance : Instance) (choice : List (List ℕ)) (r : Result Outcome EvalError) : Type 0 where
-  pub ok : IfOk r (λ o. IsOutcome plan instance choice o)
+  pub ok : IfOk r (λ o. IsOutcome plan instance choice (outcome_of o))
   pub refused : IfErr r (λ e. IsRefused plan instance choice e)
 
 -- the choice is allowed, or why it is not

@@ -9,4 +9,5 @@ pub mod Tied
 pub mod Ties
 pub mod Walks
 pub mod Runs
+pub mod Kept
 pub mod Laws

@@ -5,7 +5,7 @@ use Rattle.std.specs.declared.alloc.Global.{Global}
 use Rattle.std.specs.declared.vec.Vec.{Vec}
 use Rattle.wd_value.specs.declared.value.Value.{Value}
 use Rattle.wd_value.specs.declared.value.Fault.{Fault}
-use Rattle.wd_value.specs.Rows.{Instance, rows_at, rows_of, table_at}
+use Rattle.wd_value.specs.Rows.{Instance, Row, rows_at, rows_of, table_at}
 use Rattle.wd_plan.specs.declared.plan.Outcome.{Outcome}
 use Rattle.wd_plan.specs.Choices.{AreLawful}
 use Rattle.wd_plan.specs.declared.expression.Expr.{Expr}
@@ -15,15 +15,20 @@ use Rattle.wd_plan.specs.Outcomes.{RowsOrFault, cut, join_outcome, ordering_at, 
 use Rattle.wd_plan.specs.Plans.{PlanTree, LimitRule, WindowRule, ordering_count}
 use Rattle.wd_plan.specs.Sorting.{limit_class}
 use Rattle.wd_steps.specs.Joins.{has_more_rows}
+use Rattle.wd_steps.specs.Paired.{rows_paired}
 use Rattle.wd_window.specs.Windows.{HasOrdering, IsExtended, IsLeast, IsWrong, IsWrongIn}
 use Rattle.wd_eval.specs.Steps.{has_large_step, most_rows}
 use Rattle.wd_eval.specs.Wrong.{IsWrongFrom}
 use Rattle.wd_eval.specs.declared.error.EvalError.{EvalError}
 use Rattle.wd_eval.specs.declared.error.EvalError.TheVariants.{NotValid, TooManyRows, OutOfMemory}
 use Rattle.wd_eval.specs.declared.produced.Produced.{Produced}
-use Rattle.wd_eval.specs.declared.produced.Produced.TheVariants.{Table, Made, ByColumn, Pairs'}
+use Rattle.wd_eval.specs.declared.produced.Produced.TheVariants.{Table, Made, ByColumn, Pairs', Joined}
 use Rattle.wd_eval.specs.declared.produced.Given.{Given}
 use Rattle.wd_eval.specs.declared.produced.Given.TheVariants as given
+use Rattle.wd_eval.specs.declared.side.Listed.{Listed}
+use Rattle.wd_eval.specs.declared.side.Listed.TheVariants as listed
+use Rattle.wd_eval.specs.declared.side.Side.{Side}
+use Rattle.wd_eval.specs.declared.side.Side.TheVariants as side
 use Rattle.wd_eval.specs.declared.node.Evaluated.{Evaluated}
 
 -- what a Join gives over what is below it
@@ -35,12 +40,28 @@ abbrev pub given_of : Instance → Given → RowsOrFault
 given_of instance (given.Table table) = Ok (table_at instance table)
 given_of instance (given.Made o) = outcome_of o
 
--- what a node gives: the same, or all pairs
+-- the rows of a list: those of a table of the instance, or those that a step made
+abbrev pub listed_of : Instance → Listed → List Row
+listed_of instance (listed.Table table) = table_at instance table
+listed_of instance (listed.Rows rows) = rows_of rows.items
+
+-- the rows of a side of a join: a list, or the rows along columns
+abbrev pub side_of : Instance → Side → List Row
+side_of instance (side.Listed l) = listed_of instance l
+side_of instance (side.ByColumn rows) = rows
+
+-- such a side, or a fault
+abbrev pub sided_of : Instance → Result Side Fault → RowsOrFault
+sided_of instance (Ok s) = Ok (side_of instance s)
+sided_of instance (Err fault) = Err fault
+
+-- what a node gives: the same, or pairs
 abbrev pub produced_of : Instance → Produced → RowsOrFault
 produced_of instance (Table table) = Ok (table_at instance table)
 produced_of instance (Made o) = outcome_of o
 produced_of instance (ByColumn rows) = Ok rows
 produced_of instance (Pairs' p left right) = join_over None (produced_of instance left) (given_of instance right)
+produced_of instance (Joined left right pairs) = Ok (rows_paired (side_of instance left) (side_of instance right) pairs.items)
 
 -- rows by reference, or a fault
 abbrev pub shown_of : Result (Bor (List (Vec Value Global))) Fault → RowsOrFault
@@ -108,7 +129,8 @@ pub record IsCutOrUnserved (limit : LimitRule) (input : RowsOrFault) (choice : L
   pub ok : IfOk r (λ o. IsCut limit input choice number o)
   pub refused : IfErr r (λ e. IsUnserved (IsWrong (limit_class limit) input choice number) e)
 
--- the outcome of a Window over its input under the orderings from the number `first` on, or why they do not serve it
-pub record IsExtendedOrUnserved (w : WindowRule) (input : RowsOrFault) (choice : List (List ℕ)) (first : ℕ) (r : Result Outcome EvalError) : Type 0 where
-  pub ok : IfOk r (λ o. IsExtended w input choice first o)
+-- what a Window gives over its input under the orderings from the number `first` on, as the view of a value has it, or why they do
+-- not serve it
+pub record IsExtendedOrUnserved {X : Type 0} (view : X → RowsOrFault) (w : WindowRule) (input : RowsOrFault) (choice : List (List ℕ)) (first : ℕ) (r : Result X EvalError) : Type 0 where
+  pub ok : IfOk r (λ x. IsExtended w input choice first (view x))
   pub refused : IfErr r (λ e. IsUnserved (IsLeast (IsWrongIn w input choice first)) e)

@@ -1,7 +1,6 @@
 -- What a plan gives under the choice that leaves rows that tie as they are, or why it gives nothing.
 use Rattle.std.specs.Prelude.{◌≡◌, ℕ, false, List, Option, None, Result, IfErr, IfOk}
 use Rattle.wd_value.specs.Rows.{Instance}
-use Rattle.wd_plan.specs.declared.plan.Outcome.{Outcome}
 use Rattle.wd_plan.specs.Choices.{IsValidChoice}
 use Rattle.wd_plan.specs.Outcomes.{RowsOrFault, outcome, outcome_of}
 use Rattle.wd_plan.specs.Plans.{PlanTree}
@@ -23,7 +22,7 @@ pub record IsTiedOutcomeOrRefused (plan : PlanTree) (instance : Instance) (flipp
   pub refused : IfErr r (λ e. IsTiedRefused plan instance flipped e)
 
 -- the outcome under a valid choice that leaves rows that tie as they are, and under which no step is too large
-pub record IsRun (plan : PlanTree) (instance : Instance) (o : Outcome) : Type 0 where
+pub record IsRun (plan : PlanTree) (instance : Instance) (o : RowsOrFault) : Type 0 where
   pub choice : List (List ℕ)
   pub tied : IsTiedChoice plan instance None choice
   pub outcome : IsOutcome plan instance choice o
@@ -32,9 +31,9 @@ pub record IsRun (plan : PlanTree) (instance : Instance) (o : Outcome) : Type 0 
 abbrev pub IsRunRefused : PlanTree → Instance → EvalError → Type 0
 IsRunRefused plan instance e = IsTiedRefused plan instance None e
 
--- the outcome under that choice, or why there is none
-pub record IsRunOrRefused (plan : PlanTree) (instance : Instance) (r : Result Outcome EvalError) : Type 0 where
-  pub ok : IfOk r (λ o. IsRun plan instance o)
+-- the outcome under that choice, as the view of a value has it, or why there is none
+pub record IsRunOrRefused {X : Type 0} (view : X → RowsOrFault) (plan : PlanTree) (instance : Instance) (r : Result X EvalError) : Type 0 where
+  pub ok : IfOk r (λ x. IsRun plan instance (view x))
   pub refused : IfErr r (λ e. IsRunRefused plan instance e)
 
 -- an answer of a plan: its outcome under some valid choice, under which no step is too large

@@ -30,10 +30,10 @@ pub record ArePut (w : WindowRule) (input : RowsOrFault) (flipped : Option ℕ) 
 abbrev pub AreAllPut : WindowRule → RowsOrFault → Option ℕ → List (List ℕ) → List (List ℕ) → Type 0
 AreAllPut w input flipped old new = ArePut w input flipped (length w.classes) old new
 
--- and the outcome of the Window is that under them
-pub record IsTiedWindow (w : WindowRule) (input : RowsOrFault) (flipped : Option ℕ) (old new : List (List ℕ)) (o : Outcome) : Type 0 where
+-- and what is found is what the Window gives under them
+pub record IsTiedWindow (w : WindowRule) (input : RowsOrFault) (flipped : Option ℕ) (old new : List (List ℕ)) (found : RowsOrFault) : Type 0 where
   pub put : AreAllPut w input flipped old new
-  pub extended : IsExtended w input new (length old) o
+  pub extended : IsExtended w input new (length old) found
 
 -- the sorted ordering of a Limit was put there, and the outcome is that under it
 pub record IsTiedLimit (limit : LimitRule) (input : RowsOrFault) (flipped : Option ℕ) (old new : List (List ℕ)) (o : Outcome) : Type 0 where
@@ -72,9 +72,9 @@ pub record IsPutEmpty (count : ℕ) (old new : List (List ℕ)) : Type 0 where
   pub long : length own ≡ count
   pub empty : (k : ℕ) → k < count → ordering_at own k ≡ []
 
--- a Window's outcome under its sorted orderings, or out of memory
-pub record IsTiedWindowOrNoMemory (w : WindowRule) (input : RowsOrFault) (flipped : Option ℕ) (old new : List (Vec ℕ Global)) (r : Result Outcome EvalError) : Type 0 where
-  pub ok : IfOk r (λ o. IsTiedWindow w input flipped (orderings_of old) (orderings_of new) o)
+-- what a Window gives under its sorted orderings, as the view of a value has it, or out of memory
+pub record IsTiedWindowOrNoMemory {X : Type 0} (view : X → RowsOrFault) (w : WindowRule) (input : RowsOrFault) (flipped : Option ℕ) (old new : List (Vec ℕ Global)) (r : Result X EvalError) : Type 0 where
+  pub ok : IfOk r (λ x. IsTiedWindow w input flipped (orderings_of old) (orderings_of new) (view x))
   pub refused : IfErr r (λ e. IsOutOfMemory e)
 
 -- a Limit's outcome under its sorted ordering, or out of memory

@@ -51,9 +51,9 @@ pub record IsWalkedOrHalted (plan : PlanTree) (tables instance : Instance) (orde
 
 -- ---- Windows and Limits over their inputs
 
-abbrev pub IsWindowStep : WindowRule → RowsOrFault → Orderings → ℕ → List (Vec ℕ Global) → List (Vec ℕ Global) → Result Outcome EvalError → Type 0
-IsWindowStep w input (Chosen choice) first old new r = IsExtendedOrUnserved w input (orderings_of choice.now) first r
-IsWindowStep w input (Sorted flipped) first old new r = IsTiedWindowOrNoMemory w input flipped old new r
+abbrev pub IsWindowStep : {X : Type 0} → (X → RowsOrFault) → WindowRule → RowsOrFault → Orderings → ℕ → List (Vec ℕ Global) → List (Vec ℕ Global) → Result X EvalError → Type 0
+IsWindowStep view w input (Chosen choice) first old new r = IsExtendedOrUnserved view w input (orderings_of choice.now) first r
+IsWindowStep view w input (Sorted flipped) first old new r = IsTiedWindowOrNoMemory view w input flipped old new r
 
 abbrev pub IsLimitStep : LimitRule → RowsOrFault → Orderings → ℕ → List (Vec ℕ Global) → List (Vec ℕ Global) → Result Outcome EvalError → Type 0
 IsLimitStep limit input (Chosen choice) first old new r = IsCutOrUnserved limit input (orderings_of choice.now) first r

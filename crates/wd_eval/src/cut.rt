@@ -17,7 +17,7 @@ use crate::error::EvalError;
 use crate::orderings::{Orderings, is_flipped};
 use crate::produced::{Given, Produced, gathered, shown, table_in};
 use std::alloc::Global;
-use wd_columns::moved_rows;
+use wd_columns::{RowSource, moved_rows};
 use wd_partition::{is_ordering, sorted_ordering};
 use wd_plan::{Limit, Outcome};
 use wd_steps::{cut_rows, kept_positions};
@@ -81,7 +81,7 @@ fn is_lawful(
     match shown(input, instance) {
         Err(_) => Ok(ordering.is_empty()),
         Ok(rows) => {
-            let lawful = is_ordering(alloc, rows, &[], &limit.keys, ordering)?;
+            let lawful = is_ordering(alloc, &RowSource::of_rows(rows), &[], &limit.keys, ordering)?;
             Ok(lawful)
         }
     }
@@ -157,7 +157,13 @@ fn sorted_over(
     match shown(input, instance) {
         Err(_) => Ok(Vec::new(alloc)),
         Ok(rows) => {
-            let ordering = sorted_ordering(alloc, rows, &[], &limit.keys, turned)?;
+            let ordering = sorted_ordering(
+                alloc,
+                &RowSource::of_rows(rows),
+                &[],
+                &limit.keys,
+                turned,
+            )?;
             Ok(ordering)
         }
     }

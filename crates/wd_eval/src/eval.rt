@@ -6,10 +6,12 @@ ghost use Rattle.wd_window.specs.Windows.{orderings_of};
 ghost use Rattle.wd_eval.specs.Runs.{IsRunOrRefused, IsTiedOutcomeOrRefused};
 ghost use Rattle.wd_eval.specs.Tied.{IsTiedOrRefused};
 ghost use Rattle.wd_plan.specs.Fits.{fits};
+ghost use Rattle.wd_plan.specs.Outcomes.{outcome_of};
 ghost use Rattle.wd_plan.specs.Plans.{plan_of};
 ghost use Rattle.wd_schema.specs.Schemas.{schema_of};
 ghost use Rattle.wd_value.specs.Rows.{instance_of};
 
+use crate::answer::{Answer, answer_of};
 use crate::error::EvalError;
 use crate::handed::handed_over;
 use crate::node::evaluate;
@@ -129,22 +131,23 @@ pub fn run_plan(
     instance: &Instance,
 ) -> Result<Outcome, EvalError>
     requires { fits (schema_of schema.now) (plan_of plan.now) ≡ true }
-    ensures { IsRunOrRefused (plan_of plan.now) (instance_of instance.now.items) result }
+    ensures { IsRunOrRefused outcome_of (plan_of plan.now) (instance_of instance.now.items) result }
 {
     let TiedOutcome { outcome, .. } = eval_tied(alloc, plan, schema, instance, None)?;
     Ok(outcome)
 }
 
 /// What [`run_plan`] answers over tables that are handed over, kept column by column: the first one
-/// that the plan scans goes so into the steps above its Scan, where no other Scan reads it.
+/// that the plan scans goes so into the steps above its Scan, where no other Scan reads it, and rows that
+/// are in columns at the end are answered so.
 pub fn run_columns(
     alloc: Global,
     plan: &Plan,
     schema: &Schema,
     tables: Vec<Columns>,
-) -> Result<Outcome, EvalError>
+) -> Result<Answer, EvalError>
     requires { fits (schema_of schema.now) (plan_of plan.now) ≡ true }
-    ensures { IsRunOrRefused (plan_of plan.now) tables.items result }
+    ensures { IsRunOrRefused (λ a. a) (plan_of plan.now) tables.items result }
 {
     let mut left = tables;
     let handed = handed_over(alloc, plan, &mut left);
@@ -152,8 +155,8 @@ pub fn run_columns(
     let mut orderings = Vec::new(alloc);
     let sorted = Orderings::Sorted(None);
     let evaluated = evaluate(alloc, plan, &others, handed, sorted, 0, &mut orderings, 0)?;
-    let outcome = outcome_from(alloc, &others, evaluated.outcome, 0)?;
-    Ok(outcome)
+    let answer = answer_of(alloc, &others, evaluated.outcome)?;
+    Ok(answer)
 }
 
 /// The rows of each table.

@@ -1,6 +1,7 @@
 //! The evaluator: what a plan gives over an instance under a choice of orderings.
 #![tactic(auto)]
 
+mod answer;
 mod cut;
 mod error;
 mod eval;
@@ -10,9 +11,11 @@ mod node;
 mod orderings;
 mod pairs;
 mod produced;
+mod side;
 mod step;
 mod window;
 
+pub use answer::Answer;
 pub use error::EvalError;
 pub use eval::{
     TiedOutcome, check_choice, eval_tied, eval_with, first_choice, run_columns, run_plan,

@@ -86,7 +86,7 @@ pub(crate) fn evaluate(
             let Evaluated { outcome, next } = below;
             let outcome = extended(alloc, tables, window, outcome, orderings, next, made)?;
             Ok(Evaluated {
-                outcome: Produced::Made(outcome),
+                outcome,
                 next: next + window.classes.len(),
             })
         }

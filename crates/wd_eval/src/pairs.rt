@@ -10,6 +10,7 @@ ghost use Rattle.wd_steps.specs.Joins.{has_more_rows};
 ghost use Rattle.wd_value.specs.Rows.{instance_of};
 
 use crate::produced::{Given, Produced, shown, table_in};
+use crate::side::joined_rows;
 use std::alloc::Global;
 use wd_plan::{Expr, Outcome};
 use wd_steps::narrowed_pairs;
@@ -24,6 +25,7 @@ pub(crate) fn has_more(instance: &[Vec<Row>], produced: &Produced, most: u64) ->
         Produced::Made(Outcome::Rows(rows)) => rows.len() as u64 > most,
         Produced::Made(Outcome::Fault(_)) => false,
         Produced::ByColumn(rows) => rows.len() as u64 > most,
+        Produced::Joined(_, _, pairs) => pairs.len() as u64 > most,
         Produced::Pairs(left, right) => match shown(right, instance) {
             Err(_) => false,
             Ok(rows) => if rows.is_empty() {
@@ -57,6 +59,10 @@ pub(crate) fn narrowed(
             let left = narrowed(alloc, instance, condition, Box::into_inner(left))?;
             let outcome = narrowed_outcome(alloc, instance, condition, &left, &right)?;
             Ok(Given::Made(outcome))
+        }
+        Produced::Joined(left, right, pairs) => {
+            let rows = joined_rows(alloc, instance, left, right, &pairs)?;
+            Ok(Given::Made(Outcome::Rows(rows)))
         }
     }
 }

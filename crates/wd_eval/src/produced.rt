@@ -5,10 +5,11 @@ ghost use Rattle.wd_eval.specs.Nodes.{given_of, join_over, produced_of, shown_of
 ghost use Rattle.wd_plan.specs.Outcomes.{outcome_of};
 ghost use Rattle.wd_value.specs.Rows.{instance_of, rows_of, table_at};
 
+use crate::side::{Side, joined_rows};
 use std::alloc::Global;
 use wd_columns::Columns;
 use wd_plan::Outcome;
-use wd_steps::all_pairs;
+use wd_steps::{Pair, all_pairs};
 use wd_value::{Fault, OutOfMemory, Row, copy_row};
 
 /// What a step reads: a table of the instance by its number, whose rows stay where they are, or
@@ -19,16 +20,19 @@ pub(crate) enum Given {
     Made(Outcome),
 }
 
-/// What a node gives to the step above it: that, or all pairs of a left and a right row, the left
-/// one outermost, which are not made yet, since a condition above may want few of them. The left
-/// rows may be such pairs themselves.
+/// What a node gives to the step above it: that, or pairs of a left and a right row, the left one
+/// outermost, which are not made yet: all of them, since a condition above may want few of these, or
+/// those of a join, since a Map above may want few columns.
 #[derive(Drop)]
 pub(crate) enum Produced {
     Table(u16),
     Made(Outcome),
     /// Rows that are kept column by column.
     ByColumn(Columns),
+    /// All pairs. The left rows may be pairs themselves.
     Pairs(Box<Produced>, Given),
+    /// Pairs by their positions in both sides.
+    Joined(Side, Side, Vec<Pair>),
 }
 
 /// What is produced as a list of rows, with its pairs made. Rows that are made of columns have memory
@@ -52,6 +56,10 @@ pub(crate) fn gathered(
             let left = gathered(alloc, instance, Box::into_inner(left), 0)?;
             let outcome = paired(alloc, instance, &left, &right)?;
             Ok(Given::Made(outcome))
+        }
+        Produced::Joined(left, right, pairs) => {
+            let rows = joined_rows(alloc, instance, left, right, &pairs)?;
+            Ok(Given::Made(Outcome::Rows(rows)))
         }
     }
 }

@@ -3,24 +3,26 @@
 ghost use Rattle.std.specs.Prelude.{◌≡◌, ◌<◌, ℕ, true, false, get_or, length, IfOk, IfSome, map, None, Ok, Some};
 ghost use Rattle.wd_columns.specs.Moves.{AreDifferent};
 ghost use Rattle.wd_eval.specs.Held.{read_at};
-ghost use Rattle.wd_eval.specs.Nodes.{IsSmallOrLarge, given_of, join_over, joined_of, produced_of};
+ghost use Rattle.wd_eval.specs.Nodes.{IsSmallOrLarge, given_of, join_over, joined_of, produced_of, side_of};
 ghost use Rattle.wd_eval.specs.Steps.{most_rows};
 ghost use Rattle.wd_plan.specs.Expressions.{Column, expression_of};
 ghost use Rattle.wd_plan.specs.Faults.{and_then};
 ghost use Rattle.wd_plan.specs.Outcomes as spec;
 ghost use Rattle.wd_plan.specs.Outcomes.{outcome_of};
 ghost use Rattle.wd_steps.specs.Joins.{has_more_rows};
+ghost use Rattle.wd_steps.specs.Paired.{rows_paired};
 ghost use Rattle.wd_value.specs.Rows.{Instance, instance_of};
 
 use crate::error::EvalError;
 use crate::pairs::{has_more, narrowed};
 use crate::produced::{Given, Produced, gathered, outcome_from, owned, shown, table_in};
+use crate::side::{Side, joined_rows, list_from, narrowed_side, rows_in, side_from, source};
 use std::alloc::Global;
 use wd_columns::Columns;
 use wd_plan::{Expr, Outcome};
 use wd_steps::{
-    copy_filtered, distinct_rows, filter_pairs, filter_rows, join_rows, map_own_rows,
-    map_rows_with_room,
+    Pair, copy_filtered, distinct_rows, equal_pairs, filter_pairs, filter_rows, join_rows,
+    map_own_rows, map_rows_with_room, paired_columns, shown_columns,
 };
 use wd_value::{OutOfMemory, Row};
 
@@ -47,7 +49,8 @@ pub(crate) fn scanned(
 }
 
 /// All pairs of a left and a right row for which the condition is true, or the error that there
-/// are too many. Without a condition they are not made yet.
+/// are too many. Without a condition they are not made yet, nor where the condition consists of
+/// equalities.
 pub(crate) fn joined(
     alloc: Global,
     instance: &[Vec<Row>],
@@ -57,14 +60,12 @@ pub(crate) fn joined(
 ) -> Result<Produced, EvalError>
     ensures { IsSmallOrLarge (joined_of (instance_of instance.now) condition.now left right) (produced_of (instance_of instance.now)) result }
 {
-    let right = gathered(alloc, instance, right, 0)?;
     match condition {
-        None => pairs_of(alloc, instance, left, right),
-        Some(condition) => {
-            let left = narrowed(alloc, instance, condition, left)?;
-            let outcome = joined_where(alloc, instance, condition, &left, &right)?;
-            Ok(Produced::Made(outcome))
+        None => {
+            let right = gathered(alloc, instance, right, 0)?;
+            pairs_of(alloc, instance, left, right)
         }
+        Some(condition) => joined_where(alloc, instance, condition, left, right),
     }
 }
 
@@ -90,19 +91,66 @@ fn joined_where(
     alloc: Global,
     instance: &[Vec<Row>],
     condition: &Expr,
-    left: &Given,
-    right: &Given,
-) -> Result<Outcome, EvalError>
-    ensures { IsSmallOrLarge (join_over (Some (expression_of condition.now)) (given_of (instance_of instance.now) left.now) (given_of (instance_of instance.now) right.now)) outcome_of result }
+    left: Produced,
+    right: Produced,
+) -> Result<Produced, EvalError>
+    ensures { IsSmallOrLarge (join_over (Some (expression_of condition.now)) (produced_of (instance_of instance.now) left) (produced_of (instance_of instance.now) right)) (produced_of (instance_of instance.now)) result }
 {
-    match (shown(left, instance), shown(right, instance)) {
-        (Err(fault), _) => Ok(Outcome::Fault(fault)),
-        (Ok(_), Err(fault)) => Ok(Outcome::Fault(fault)),
-        (Ok(left), Ok(right)) => {
-            let outcome = join_rows(alloc, Some(condition), left, right, MOST_ROWS)?;
-            Ok(outcome)
+    let left = narrowed_side(alloc, instance, condition, left)?;
+    let right = side_from(alloc, instance, right)?;
+    match (left, right) {
+        (Err(fault), _) => Ok(Produced::Made(Outcome::Fault(fault))),
+        (Ok(_), Err(fault)) => Ok(Produced::Made(Outcome::Fault(fault))),
+        (Ok(left), Ok(right)) => joined_sides(alloc, instance, condition, left, right),
+    }
+}
+
+/// The same of two sides, by positions where the condition consists of equalities.
+fn joined_sides(
+    alloc: Global,
+    instance: &[Vec<Row>],
+    condition: &Expr,
+    left: Side,
+    right: Side,
+) -> Result<Produced, EvalError>
+    ensures { IsSmallOrLarge (spec.join_outcome (Some (expression_of condition.now)) (spec.pairs (side_of (instance_of instance.now) left) (side_of (instance_of instance.now) right))) (produced_of (instance_of instance.now)) result }
+{
+    let found = equal_pairs(
+        alloc,
+        condition,
+        &source(&left, instance),
+        &source(&right, instance),
+        MOST_ROWS,
+    )?;
+    match found {
+        Some(pairs) => Ok(Produced::Joined(left, right, pairs)),
+        None => {
+            let outcome = joined_lists(alloc, instance, condition, left, right)?;
+            Ok(Produced::Made(outcome))
         }
     }
+}
+
+/// The same as rows.
+fn joined_lists(
+    alloc: Global,
+    instance: &[Vec<Row>],
+    condition: &Expr,
+    left: Side,
+    right: Side,
+) -> Result<Outcome, EvalError>
+    ensures { IsSmallOrLarge (spec.join_outcome (Some (expression_of condition.now)) (spec.pairs (side_of (instance_of instance.now) left) (side_of (instance_of instance.now) right))) outcome_of result }
+{
+    let left = list_from(alloc, left)?;
+    let right = list_from(alloc, right)?;
+    let outcome = join_rows(
+        alloc,
+        Some(condition),
+        rows_in(&left, instance),
+        rows_in(&right, instance),
+        MOST_ROWS,
+    )?;
+    Ok(outcome)
 }
 
 /// The rows of the input for which the condition is true.
@@ -125,6 +173,10 @@ pub(crate) fn filtered(
         Produced::Pairs(left, right) => {
             let left = narrowed(alloc, instance, condition, Box::into_inner(left))?;
             pairs_where(alloc, instance, condition, &left, &right)
+        }
+        Produced::Joined(left, right, pairs) => {
+            let rows = joined_rows(alloc, instance, left, right, &pairs)?;
+            filter_rows(alloc, condition, rows)
         }
     }
 }
@@ -159,6 +211,9 @@ pub(crate) fn mapped(
 {
     match input {
         Produced::ByColumn(columns) => mapped_columns(alloc, outputs, columns),
+        Produced::Joined(left, right, pairs) => {
+            mapped_pairs(alloc, instance, outputs, left, right, &pairs)
+        }
         other => {
             let outcome = mapped_rows(alloc, instance, outputs, other, room)?;
             Ok(Produced::Made(outcome))
@@ -188,6 +243,31 @@ fn mapped_columns(
     }
 }
 
+/// The same of pairs that are not made yet: where the outputs are columns, only these are made.
+fn mapped_pairs(
+    alloc: Global,
+    instance: &[Vec<Row>],
+    outputs: &[Expr],
+    left: Side,
+    right: Side,
+    pairs: &[Pair],
+) -> Result<Produced, OutOfMemory>
+    ensures { IfOk result (λ o. produced_of (instance_of instance.now) o ≡ spec.map_outcome (map expression_of outputs.now) (rows_paired (side_of (instance_of instance.now) left) (side_of (instance_of instance.now) right) pairs.now)) }
+{
+    match shown_columns(alloc, outputs)? {
+        Some(columns) => {
+            let (first, second) = (source(&left, instance), source(&right, instance));
+            let picked = paired_columns(alloc, &first, &second, pairs, &columns)?;
+            Ok(Produced::ByColumn(picked))
+        }
+        None => {
+            let rows = joined_rows(alloc, instance, left, right, pairs)?;
+            let outcome = map_own_rows(alloc, outputs, rows)?;
+            Ok(Produced::Made(outcome))
+        }
+    }
+}
+
 /// The columns that the outputs are, where they are columns and none of them stands there twice.
 fn selected_columns(alloc: Global, outputs: &[Expr]) -> Result<Option<Vec<u64>>, OutOfMemory>
     ensures { IfOk result (λ o. IfSome o (λ v. AreDifferent v.items × (map expression_of outputs.now ≡ map Column v.items))) }
@@ -196,20 +276,6 @@ fn selected_columns(alloc: Global, outputs: &[Expr]) -> Result<Option<Vec<u64>>,
         Some(columns) => Ok(different(columns)),
         None => Ok(None),
     }
-}
-
-/// The columns that the outputs are, where they are columns.
-fn shown_columns(alloc: Global, outputs: &[Expr]) -> Result<Option<Vec<u64>>, OutOfMemory>
-    ensures { IfOk result (λ o. IfSome o (λ v. map expression_of outputs.now ≡ map Column v.items)) }
-{
-    let mut columns = Vec::with_capacity(alloc, outputs.len())?;
-    for output in outputs {
-        match output {
-            Expr::Column(column) => columns.push(u64::from(*column))?,
-            _ => return Ok(None),
-        }
-    }
-    Ok(Some(columns))
 }
 
 /// The numbers, where none stands twice among them.

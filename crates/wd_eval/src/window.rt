@@ -6,7 +6,7 @@ ghost use Rattle.wd_eval.specs.Ties.{AreAllPut, IsPutEmpty, IsTiedWindow};
 ghost use Rattle.wd_eval.specs.Walks.{IsAt, IsWindowStep};
 ghost use Rattle.wd_plan.specs.Outcomes.{outcome_of};
 ghost use Rattle.wd_plan.specs.Plans.{NamesClasses, window_of};
-ghost use Rattle.wd_value.specs.Rows.{instance_of, rows_of};
+ghost use Rattle.wd_value.specs.Rows.{Instance, instance_of};
 ghost use Rattle.wd_window.specs.Listings.{AreListings};
 ghost use Rattle.wd_window.specs.Windows.{AreFew, orderings_of};
 
@@ -14,13 +14,16 @@ use crate::error::EvalError;
 use crate::orderings::{Orderings, is_flipped};
 use crate::produced::{Produced, outcome_from};
 use std::alloc::Global;
+use wd_columns::{Columns, RowSource};
 use wd_plan::{Outcome, Window};
 use wd_value::{OutOfMemory, Row};
-use wd_window::{Listing, SortedListing, evaluate_window, sorted_listing, with_calls};
+use wd_window::{
+    Listing, SortedListing, evaluate_window, sorted_listing, with_calls, with_calls_by_column,
+};
 
 /// The input's rows with the values of the calls after each of them, under the orderings from
 /// `first` on: one for each class, each lawful, and empty where the input is a fault. Sorted ones
-/// are put after those made before.
+/// are put after those made before, and rows that are kept column by column stay so under them.
 pub(crate) fn extended(
     alloc: Global,
     instance: &[Vec<Row>],
@@ -29,18 +32,20 @@ pub(crate) fn extended(
     orderings: Orderings,
     first: usize,
     made: &mut Vec<Vec<u64>>,
-) -> Result<Outcome, EvalError>
+) -> Result<Produced, EvalError>
     requires few { AreFew (2 ^ 32 - 1) (produced_of (instance_of instance.now) input) }
     requires at { IsAt orderings first made.old.items }
     requires named { NamesClasses (window_of window.now) }
-    ensures { IsWindowStep (window_of window.now) (produced_of (instance_of instance.now) input) orderings.entry first made.old.items made.new.items result }
+    ensures { IsWindowStep (produced_of (instance_of instance.now)) (window_of window.now) (produced_of (instance_of instance.now) input) orderings.entry first made.old.items made.new.items result }
 {
-    let input = outcome_from(alloc, instance, input, window.calls.len())?;
     match orderings {
-        Orderings::Chosen(choice) => chosen_window(alloc, window, input, choice, first),
+        Orderings::Chosen(choice) => {
+            let input = outcome_from(alloc, instance, input, window.calls.len())?;
+            chosen_window(alloc, window, input, choice, first)
+        }
         Orderings::Sorted(flipped) => {
-            let outcome = sorted_window(alloc, window, input, flipped, made)?;
-            Ok(outcome)
+            let produced = sorted_window(alloc, instance, window, input, flipped, made)?;
+            Ok(produced)
         }
     }
 }
@@ -52,20 +57,68 @@ fn chosen_window(
     input: Outcome,
     choice: &[Vec<u64>],
     first: usize,
-) -> Result<Outcome, EvalError>
+) -> Result<Produced, EvalError>
     requires few { AreFew (2 ^ 32 - 1) (outcome_of input) }
     requires within { first ≤ length choice.now }
     requires named { NamesClasses (window_of window.now) }
-    ensures { IsExtendedOrUnserved (window_of window.now) (outcome_of input) (orderings_of choice.now) first result }
+    ensures { (instance : Instance) → IsExtendedOrUnserved (produced_of instance) (window_of window.now) (outcome_of input) (orderings_of choice.now) first result }
 {
     match evaluate_window(alloc, window, input, choice, first)? {
-        Ok(outcome) => Ok(outcome),
+        Ok(outcome) => Ok(Produced::Made(outcome)),
         Err(number) => Err(EvalError::NotValid(number)),
     }
 }
 
 /// The same under the sorted orderings, which are used as they are.
 fn sorted_window(
+    alloc: Global,
+    instance: &[Vec<Row>],
+    window: &Window,
+    input: Produced,
+    flipped: Option<u32>,
+    made: &mut Vec<Vec<u64>>,
+) -> Result<Produced, OutOfMemory>
+    requires few { AreFew (2 ^ 32 - 1) (produced_of (instance_of instance.now) input) }
+    requires named { NamesClasses (window_of window.now) }
+    ensures { IfOk result (λ o. IsTiedWindow (window_of window.now) (produced_of (instance_of instance.now) input) flipped (orderings_of made.old.items) (orderings_of made.new.items) (produced_of (instance_of instance.now) o)) }
+{
+    match input {
+        Produced::ByColumn(columns) => sorted_by_column(alloc, window, columns, flipped, made),
+        other => {
+            let given = outcome_from(alloc, instance, other, window.calls.len())?;
+            let outcome = sorted_rows(alloc, window, given, flipped, made)?;
+            Ok(Produced::Made(outcome))
+        }
+    }
+}
+
+/// The same of rows that are kept column by column, and stay so.
+fn sorted_by_column(
+    alloc: Global,
+    window: &Window,
+    columns: Columns,
+    flipped: Option<u32>,
+    made: &mut Vec<Vec<u64>>,
+) -> Result<Produced, OutOfMemory>
+    requires few { length columns < 2 ^ 32 }
+    requires named { NamesClasses (window_of window.now) }
+    ensures { IfOk result (λ o. (instance : Instance) → IsTiedWindow (window_of window.now) (Ok columns) flipped (orderings_of made.old.items) (orderings_of made.new.items) (produced_of instance o)) }
+{
+    let listings = put_sorted(
+        alloc,
+        window,
+        &RowSource::of_columns(&columns),
+        flipped,
+        made,
+    )?;
+    match with_calls_by_column(alloc, window, columns, &listings)? {
+        Ok(extended) => Ok(Produced::ByColumn(extended)),
+        Err(fault) => Ok(Produced::Made(Outcome::Fault(fault))),
+    }
+}
+
+/// The same of an outcome.
+fn sorted_rows(
     alloc: Global,
     window: &Window,
     input: Outcome,
@@ -74,7 +127,7 @@ fn sorted_window(
 ) -> Result<Outcome, OutOfMemory>
     requires few { AreFew (2 ^ 32 - 1) (outcome_of input) }
     requires named { NamesClasses (window_of window.now) }
-    ensures { IfOk result (λ o. IsTiedWindow (window_of window.now) (outcome_of input) flipped (orderings_of made.old.items) (orderings_of made.new.items) o) }
+    ensures { IfOk result (λ o. IsTiedWindow (window_of window.now) (outcome_of input) flipped (orderings_of made.old.items) (orderings_of made.new.items) (outcome_of o)) }
 {
     match input {
         Outcome::Fault(fault) => {
@@ -82,7 +135,7 @@ fn sorted_window(
             Ok(Outcome::Fault(fault))
         }
         Outcome::Rows(rows) => {
-            let listings = put_sorted(alloc, window, &rows, flipped, made)?;
+            let listings = put_sorted(alloc, window, &RowSource::of_rows(&rows), flipped, made)?;
             let outcome = with_calls(alloc, window, rows, &listings)?;
             Ok(outcome)
         }
@@ -94,18 +147,18 @@ fn sorted_window(
 fn put_sorted(
     alloc: Global,
     window: &Window,
-    rows: &[Row],
+    rows: &RowSource,
     flipped: Option<u32>,
     made: &mut Vec<Vec<u64>>,
 ) -> Result<Vec<Listing>, OutOfMemory>
     requires { length rows.now < 2 ^ 32 }
-    ensures put { OnOk result (AreAllPut (window_of window.now) (Ok (rows_of rows.now)) flipped (orderings_of made.old.items) (orderings_of made.new.items)) }
-    ensures listings { IfOk result (λ v. AreListings (window_of window.now) (rows_of rows.now) (orderings_of made.new.items) (length (orderings_of made.old.items)) (length (window_of window.now).classes) v.items) }
+    ensures put { OnOk result (AreAllPut (window_of window.now) (Ok rows.now) flipped (orderings_of made.old.items) (orderings_of made.new.items)) }
+    ensures listings { IfOk result (λ v. AreListings (window_of window.now) rows.now (orderings_of made.new.items) (length (orderings_of made.old.items)) (length (window_of window.now).classes) v.items) }
 {
     let mut listings = Vec::new(alloc);
-    for class in &window.classes {
+    for number in 0..window.classes.len() {
         let turned = is_flipped(flipped, made.len());
-        let sorted = sorted_listing(alloc, class, rows, turned)?;
+        let sorted = sorted_listing(alloc, window, number, rows, turned)?;
         let SortedListing { ordering, listing } = sorted;
         made.push(ordering)?;
         listings.push(listing)?;

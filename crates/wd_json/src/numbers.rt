@@ -1,37 +1,60 @@
-//! Lists of whole numbers.
+//! Whole numbers and lists of them.
 
 ghost use Rattle.std.specs.Prelude.{◌≡◌, ◌≢◌, ℕ, List, IfOk, IfErr};
 ghost use Rattle.serde_json.specs.View.{view};
 ghost use Rattle.wd_json.specs.Json.{number_json, list_json};
 ghost use Rattle.wd_json.specs.declared.misread.Misread.TheVariants as misread;
 
-use crate::json::{list, number};
+use crate::forms::{InJson, list_value, read_list};
+use crate::json::number;
 use crate::misread::Misread;
 use serde_json::Value;
 use std::alloc::Global;
 use wd_value::OutOfMemory;
+
+impl InJson for u64 {
+    ghost Said = { ℕ };
+
+    ghost said = { λ n. n };
+
+    ghost json = { number_json };
+
+    fn from_value(_alloc: Global, value: &Value) -> Result<u64, Misread> {
+        number(value)
+    }
+
+    fn to_value(&self, _alloc: Global) -> Result<Value, OutOfMemory> {
+        Ok(Value::from(*self))
+    }
+}
+
+impl InJson for Vec<u64> {
+    ghost Said = { List ℕ };
+
+    ghost said = { λ v. v.items };
+
+    ghost json = { λ ns. list_json number_json ns };
+
+    fn from_value(alloc: Global, value: &Value) -> Result<Vec<u64>, Misread> {
+        read_list(alloc, value)
+    }
+
+    fn to_value(&self, alloc: Global) -> Result<Value, OutOfMemory> {
+        list_value(alloc, self)
+    }
+}
 
 /// The numbers of a list, each a whole number below 2^64.
 pub fn read_numbers(alloc: Global, value: &Value) -> Result<Vec<u64>, Misread>
     ensures ok { IfOk result (λ v. view value.now ≡ list_json number_json v.items) }
     ensures refused { IfErr result (λ e. e ≡ misread.Shape → (xs : List ℕ) → view value.now ≢ list_json number_json xs) }
 {
-    let values = list(value)?;
-    let mut found = Vec::with_capacity(alloc, values.len())?;
-    for item in values {
-        let read = number(item)?;
-        found.push(read)?;
-    }
-    Ok(found)
+    read_list(alloc, value)
 }
 
 /// A list of numbers.
 pub fn numbers_value(alloc: Global, numbers: &[u64]) -> Result<Value, OutOfMemory>
     ensures { IfOk result (λ v. view v ≡ list_json number_json numbers.now) }
 {
-    let mut list = Vec::with_capacity(alloc, numbers.len())?;
-    for number in numbers {
-        list.push(Value::from(*number))?;
-    }
-    Ok(Value::Array(list))
+    list_value(alloc, numbers)
 }

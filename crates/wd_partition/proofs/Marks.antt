@@ -1,5 +1,5 @@
 -- Marks of the positions that stand in the first part of a list.
-use Rattle.std.proofs.Common.{◌≡◌, ◌≢◌, ℕ, zero, suc, ◌+◌, ◌<◌, ◌≤◌, Bool, true, false, cond, eqb, List, [], ◌∷◌, take, get_or, length, count_by, refl, sym, ◌∙◌, ap, subst, arith}
+use Rattle.std.proofs.Common.{◌≡◌, ◌≢◌, ℕ, zero, suc, ◌+◌, ◌<◌, ◌≤◌, Bool, true, false, cond, eqb, List, [], ◌∷◌, take, get_or, length, count_by, refl, sym, ◌∙◌, ap, subst, arith, ◌^◌}
 use Rattle.std.proofs.Common.{◌⊎◌, inl, inr}
 use Rattle.std.proofs.lemmas.Bool.{cases_lt}
 use Rattle.std.proofs.lemmas.Bool.Decides.{Decides-eqb}
@@ -91,3 +91,7 @@ at_place n xs marks seen long p (inr l) =
 
 pub seen_all : (n : ℕ) (xs : List ℕ) (marks : List Bool) → AreSeen n xs marks → length xs ≡ n → EachOnce n xs
 seen_all n xs marks seen long p = at_place n xs marks seen long p (cases_lt p n)
+
+-- a list of positions, each of them once, is as short as the rows are few
+pub short_once : (n : ℕ) (ps list : List ℕ) → n < 2 ^ 32 → EachOnce n ps → list ≡ ps → length list < 2 ^ 32
+short_once n ps list few once is = subst (λ m. m < 2 ^ 32) (sym (ap length is ∙ length_once n ps once)) few

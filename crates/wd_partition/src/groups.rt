@@ -4,18 +4,19 @@ ghost use Rattle.std.specs.Prelude.{◌≡◌, ◌+◌, ◌<◌, ◌≤◌, ◌^
 ghost use Rattle.wd_partition.specs.Courses.{IsCourse, class_of};
 ghost use Rattle.wd_partition.specs.Members as members;
 ghost use Rattle.wd_partition.specs.Steps as spec;
-ghost use Rattle.wd_value.specs.Rows.{rows_of, row_at, rows_at, column_of};
+ghost use Rattle.wd_value.specs.Rows.{row_at, rows_at, column_of};
 
 use crate::course::Course;
 use crate::steps::Step;
 use std::alloc::Global;
-use wd_value::{OutOfMemory, Row, SortColumn, Value};
+use wd_columns::RowSource;
+use wd_value::{OutOfMemory, SortColumn, Value};
 
 /// The peer group number of the row at each of the positions, in its own partition.
 pub fn group_numbers(alloc: Global, course: &Course) -> Result<Vec<u32>, OutOfMemory>
     requires short { length course.now.positions.now < 2 ^ 32 }
     requires course { IsCourse course.now }
-    ensures { IfOk result (λ v. v.items ≡ map (members.own_group (class_of course.now) (rows_of course.now.rows.now) course.now.positions.now) course.now.positions.now) }
+    ensures { IfOk result (λ v. v.items ≡ map (members.own_group (class_of course.now) course.now.rows.now course.now.positions.now) course.now.positions.now) }
 {
     let mut groups = Vec::with_capacity(alloc, course.positions.len())?;
     let mut group = 0;
@@ -43,12 +44,12 @@ fn group_after(step: Step, group: u32) -> u32
 /// numbers, and NULL in place of everything else. No text is copied.
 pub fn key_numbers(
     alloc: Global,
-    rows: &[Row],
+    rows: &RowSource,
     keys: &[SortColumn],
     positions: &[u64],
     asked: bool,
 ) -> Result<Vec<Value>, OutOfMemory>
-    ensures { IfOk result (λ v. v.items ≡ members.key_numbers asked keys.now (rows_at (rows_of rows.now) positions.now)) }
+    ensures { IfOk result (λ v. v.items ≡ members.key_numbers asked keys.now (rows_at rows.now positions.now)) }
 {
     match keys {
         [key] if asked => {
@@ -61,11 +62,11 @@ pub fn key_numbers(
 
 fn column_numbers(
     alloc: Global,
-    rows: &[Row],
+    rows: &RowSource,
     column: u16,
     positions: &[u64],
 ) -> Result<Vec<Value>, OutOfMemory>
-    ensures { IfOk result (λ v. v.items ≡ map (λ r. members.number_part (column_of r column)) (rows_at (rows_of rows.now) positions.now)) }
+    ensures { IfOk result (λ v. v.items ≡ map (λ r. members.number_part (column_of r column)) (rows_at rows.now positions.now)) }
 {
     let mut numbers = Vec::with_capacity(alloc, positions.len())?;
     for position in positions {
@@ -74,20 +75,19 @@ fn column_numbers(
     Ok(numbers)
 }
 
-fn number_at(rows: &[Row], position: u64, column: u16) -> Value
-    ensures { result ≡ members.number_part (column_of (row_at (rows_of rows.now) position) column) }
+fn number_at(rows: &RowSource, position: u64, column: u16) -> Value
+    ensures { result ≡ members.number_part (column_of (row_at rows.now position) column) }
 {
-    match rows.get(position as usize) {
-        Some(row) => number_in(row, column),
-        None => Value::Null,
-    }
+    let null = Value::Null;
+    number_part(rows.value(position, column, &null))
 }
 
-fn number_in(row: &[Value], column: u16) -> Value
-    ensures { result ≡ members.number_part (column_of row.now column) }
+/// A whole number, and NULL in place of everything else.
+fn number_part(value: &Value) -> Value
+    ensures { result ≡ members.number_part value.now }
 {
-    match row.get(column as usize) {
-        Some(Value::Int(n)) => Value::Int(*n),
+    match value {
+        Value::Int(n) => Value::Int(*n),
         _ => Value::Null,
     }
 }

@@ -6,12 +6,12 @@ ghost use Rattle.wd_partition.specs.Columns.{class_by};
 ghost use Rattle.wd_partition.specs.Members.{ArePartitions};
 ghost use Rattle.wd_plan.specs.Sorting.{IsOrdering};
 ghost use Rattle.wd_sort.specs.Sorting.{IsStableSortOf};
-ghost use Rattle.wd_value.specs.Rows.{rows_of};
 
 use crate::members::{Partitions, partitions_of};
 use crate::ordering::{grouped, sorted_arrangement};
 use std::alloc::Global;
-use wd_value::{OutOfMemory, Row, SortColumn};
+use wd_columns::RowSource;
+use wd_value::{OutOfMemory, SortColumn};
 
 /// The partitions of an ordering of the rows under a class, with the numbers of its sort key where
 /// they are asked for and it has exactly one; none where the list is no ordering of the class (SQL,
@@ -19,14 +19,14 @@ use wd_value::{OutOfMemory, Row, SortColumn};
 /// comparisons.
 pub fn partitions(
     alloc: Global,
-    rows: &[Row],
+    rows: &RowSource,
     partition: &[u16],
     keys: &[SortColumn],
     ordering: &[u64],
     numbers: bool,
 ) -> Result<Option<Partitions>, OutOfMemory>
     requires { length rows.now < 2 ^ 32 }
-    ensures { IfOk result (λ o. MatchOption o (IsOrdering (class_by partition.now keys.now) (rows_of rows.now) ordering.now → ⊥) (λ v. ArePartitions (class_by partition.now keys.now) numbers (rows_of rows.now) ordering.now v)) }
+    ensures { IfOk result (λ o. MatchOption o (IsOrdering (class_by partition.now keys.now) rows.now ordering.now → ⊥) (λ v. ArePartitions (class_by partition.now keys.now) numbers rows.now ordering.now v)) }
 {
     match grouped(alloc, rows, partition, keys, ordering)? {
         None => Ok(None),
@@ -48,15 +48,15 @@ pub struct SortedPartitions {
 /// not judged. Takes fewer than 2^32 rows, since peer group numbers have 32 bits.
 pub fn sorted_partitions(
     alloc: Global,
-    rows: &[Row],
+    rows: &RowSource,
     partition: &[u16],
     keys: &[SortColumn],
     flipped: bool,
     numbers: bool,
 ) -> Result<SortedPartitions, OutOfMemory>
     requires { length rows.now < 2 ^ 32 }
-    ensures stable { IfOk result (λ s. IsStableSortOf (columns.sort_columns (class_by partition.now keys.now)) (rows_of rows.now) (columns.given_positions flipped (length rows.now)) s.ordering.items) }
-    ensures partitions { IfOk result (λ s. ArePartitions (class_by partition.now keys.now) numbers (rows_of rows.now) s.ordering.items s.partitions) }
+    ensures stable { IfOk result (λ s. IsStableSortOf (columns.sort_columns (class_by partition.now keys.now)) rows.now (columns.given_positions flipped (length rows.now)) s.ordering.items) }
+    ensures partitions { IfOk result (λ s. ArePartitions (class_by partition.now keys.now) numbers rows.now s.ordering.items s.partitions) }
 {
     let arrangement = sorted_arrangement(alloc, rows, partition, keys, flipped)?;
     let ordering = arrangement.positions.to_vec(alloc)?;

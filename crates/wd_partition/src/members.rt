@@ -7,7 +7,6 @@ ghost use Rattle.wd_partition.specs.Orderings.{IsGroupedOrdering};
 ghost use Rattle.wd_partition.specs.Shown.{member_rule};
 ghost use Rattle.wd_partition.specs.Steps.{AreSteps};
 ghost use Rattle.wd_sort.specs.Sorting.{compare_rows_at};
-ghost use Rattle.wd_value.specs.Rows.{rows_of};
 
 use crate::course::Course;
 use crate::groups::{group_numbers, key_numbers};
@@ -18,7 +17,8 @@ use crate::placing::places_of;
 use crate::runs::{partition_ends, partition_starts};
 use std::alloc::Global;
 use std::marker::Model;
-use wd_value::{OutOfMemory, Row, SortColumn, Value};
+use wd_columns::RowSource;
+use wd_value::{OutOfMemory, SortColumn, Value};
 
 /// The partitions of an ordering: for each row the members of its partition, their peer group
 /// numbers, and its place there. A few words for each row.
@@ -47,12 +47,15 @@ impl Partitions {
     {
         match self.places.get(position) {
             None => None,
-            Some(place) => Some(Member {
-                positions: &self.sorted[place.start..place.end],
-                groups: &self.groups[place.start..place.end],
-                numbers: numbers_at(&self.numbers, *place),
-                place: place.index - place.start,
-            }),
+            Some(place) => {
+                let (start, end) = (place.start as usize, place.end as usize);
+                Some(Member {
+                    positions: &self.sorted[start..end],
+                    groups: &self.groups[start..end],
+                    numbers: numbers_at(&self.numbers, *place),
+                    place: (place.index - place.start) as usize,
+                })
+            }
         }
     }
 }
@@ -66,22 +69,22 @@ fn numbers_at(numbers: &[Value], place: Place) -> &[Value]
     if numbers.is_empty() {
         return &[];
     }
-    &numbers[place.start..place.end]
+    &numbers[place.start as usize..place.end as usize]
 }
 
 /// The partitions of positions that are sorted by partition.
 pub fn partitions_of(
     alloc: Global,
-    rows: &[Row],
+    rows: &RowSource,
     partition: &[u16],
     keys: &[SortColumn],
     grouped: Arrangement,
     asked: bool,
 ) -> Result<Partitions, OutOfMemory>
     requires short { length rows.now < 2 ^ 32 }
-    requires lawful { IsGroupedOrdering (class_by partition.now keys.now) (rows_of rows.now) grouped.positions.items }
-    requires steps { AreSteps (compare_rows_at (partition_columns partition.now) (rows_of rows.now)) (compare_rows_at keys.now (rows_of rows.now)) grouped.positions.items grouped.steps.items }
-    ensures { IfOk result (λ v. v ≡ members_of (class_by partition.now keys.now) asked (rows_of rows.now) grouped.positions.items) }
+    requires lawful { IsGroupedOrdering (class_by partition.now keys.now) rows.now grouped.positions.items }
+    requires steps { AreSteps (compare_rows_at (partition_columns partition.now) rows.now) (compare_rows_at keys.now rows.now) grouped.positions.items grouped.steps.items }
+    ensures { IfOk result (λ v. v ≡ members_of (class_by partition.now keys.now) asked rows.now grouped.positions.items) }
 {
     let Arrangement { positions, steps } = grouped;
     let course = Course {

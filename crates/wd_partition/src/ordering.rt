@@ -7,14 +7,14 @@ ghost use Rattle.wd_partition.specs.Orderings.{AreGrouped};
 ghost use Rattle.wd_plan.specs.Sorting.{IsOrdering};
 ghost use Rattle.wd_partition.specs.Steps.{AreSteps};
 ghost use Rattle.wd_sort.specs.Sorting.{IsStableSortOf, compare_rows_at};
-ghost use Rattle.wd_value.specs.Rows.{rows_of};
 
 use crate::columns::{partition_columns, sort_columns};
 use crate::once::has_each_once;
 use crate::steps::{Step, coded_steps, sorted_steps, steps_of};
 use std::alloc::Global;
-use wd_sort::{all_positions, row_coding, sorted_by_coding, sorted_from};
-use wd_value::{OutOfMemory, Row, SortColumn};
+use wd_columns::RowSource;
+use wd_sort::{all_positions, row_coding, sorted_by_coding, sorted_in};
+use wd_value::{OutOfMemory, SortColumn};
 
 /// Fewer rows are sorted as they are: to find numbers for them would take longer.
 const FEW: usize = 32;
@@ -32,17 +32,17 @@ pub struct Arrangement {
 /// allows (SQL, window clause).
 pub fn sorted_ordering(
     alloc: Global,
-    rows: &[Row],
+    rows: &RowSource,
     partition: &[u16],
     keys: &[SortColumn],
     flipped: bool,
 ) -> Result<Vec<u64>, OutOfMemory>
-    ensures stable { IfOk result (λ v. IsStableSortOf (columns_of_class.sort_columns (class_by partition.now keys.now)) (rows_of rows.now) (columns_of_class.given_positions flipped (length rows.now)) v.items) }
-    ensures lawful { IfOk result (λ v. IsOrdering (class_by partition.now keys.now) (rows_of rows.now) v.items) }
+    ensures stable { IfOk result (λ v. IsStableSortOf (columns_of_class.sort_columns (class_by partition.now keys.now)) rows.now (columns_of_class.given_positions flipped (length rows.now)) v.items) }
+    ensures lawful { IfOk result (λ v. IsOrdering (class_by partition.now keys.now) rows.now v.items) }
 {
     let columns = sort_columns(alloc, partition, keys)?;
     let given = given_positions(alloc, rows.len(), flipped)?;
-    let ordering = sorted_from(alloc, rows, &columns, &given)?;
+    let ordering = sorted_in(alloc, rows, &columns, &given)?;
     Ok(ordering)
 }
 
@@ -61,12 +61,12 @@ fn given_positions(alloc: Global, count: usize, flipped: bool) -> Result<Vec<u64
 /// window clause). Takes n log n comparisons.
 pub fn is_ordering(
     alloc: Global,
-    rows: &[Row],
+    rows: &RowSource,
     partition: &[u16],
     keys: &[SortColumn],
     ordering: &[u64],
 ) -> Result<bool, OutOfMemory>
-    ensures { IfOk result (λ b. IsTrue b ↔ IsOrdering (class_by partition.now keys.now) (rows_of rows.now) ordering.now) }
+    ensures { IfOk result (λ b. IsTrue b ↔ IsOrdering (class_by partition.now keys.now) rows.now ordering.now) }
 {
     match grouped(alloc, rows, partition, keys, ordering)? {
         Some(_) => Ok(true),
@@ -79,18 +79,18 @@ pub fn is_ordering(
 /// one exactly if its stable sort by partition is sorted by all columns.
 pub fn grouped(
     alloc: Global,
-    rows: &[Row],
+    rows: &RowSource,
     partition: &[u16],
     keys: &[SortColumn],
     ordering: &[u64],
 ) -> Result<Option<Arrangement>, OutOfMemory>
-    ensures { IfOk result (λ o. MatchOption o (IsOrdering (class_by partition.now keys.now) (rows_of rows.now) ordering.now → ⊥) (λ v. AreGrouped (class_by partition.now keys.now) (rows_of rows.now) ordering.now v.positions.items × AreSteps (compare_rows_at (columns_of_class.partition_columns partition.now) (rows_of rows.now)) (compare_rows_at keys.now (rows_of rows.now)) v.positions.items v.steps.items)) }
+    ensures { IfOk result (λ o. MatchOption o (IsOrdering (class_by partition.now keys.now) rows.now ordering.now → ⊥) (λ v. AreGrouped (class_by partition.now keys.now) rows.now ordering.now v.positions.items × AreSteps (compare_rows_at (columns_of_class.partition_columns partition.now) rows.now) (compare_rows_at keys.now rows.now) v.positions.items v.steps.items)) }
 {
     if !has_each_once(alloc, rows.len(), ordering)? {
         return Ok(None);
     }
     let by_partition = partition_columns(alloc, partition)?;
-    let positions = sorted_from(alloc, rows, &by_partition, ordering)?;
+    let positions = sorted_in(alloc, rows, &by_partition, ordering)?;
     match steps_of(alloc, rows, &by_partition, keys, &positions)? {
         None => Ok(None),
         Some(steps) => Ok(Some(Arrangement { positions, steps })),
@@ -101,14 +101,14 @@ pub fn grouped(
 /// of its positions.
 pub fn arranged(
     alloc: Global,
-    rows: &[Row],
+    rows: &RowSource,
     partition: &[u16],
     keys: &[SortColumn],
     ordering: &[u64],
 ) -> Result<Arrangement, OutOfMemory>
-    requires { IsSorted (compare_rows_at (columns_of_class.sort_columns (class_by partition.now keys.now)) (rows_of rows.now)) ordering.now }
+    requires { IsSorted (compare_rows_at (columns_of_class.sort_columns (class_by partition.now keys.now)) rows.now) ordering.now }
     ensures positions { IfOk result (λ v. v.positions.items ≡ ordering.now) }
-    ensures steps { IfOk result (λ v. AreSteps (compare_rows_at (columns_of_class.partition_columns partition.now) (rows_of rows.now)) (compare_rows_at keys.now (rows_of rows.now)) ordering.now v.steps.items) }
+    ensures steps { IfOk result (λ v. AreSteps (compare_rows_at (columns_of_class.partition_columns partition.now) rows.now) (compare_rows_at keys.now rows.now) ordering.now v.steps.items) }
 {
     let by_partition = partition_columns(alloc, partition)?;
     let steps = sorted_steps(alloc, rows, &by_partition, keys, ordering)?;
@@ -119,13 +119,13 @@ pub fn arranged(
 /// The sorted ordering of rows under a class, with the step to each of its positions.
 pub fn sorted_arrangement(
     alloc: Global,
-    rows: &[Row],
+    rows: &RowSource,
     partition: &[u16],
     keys: &[SortColumn],
     flipped: bool,
 ) -> Result<Arrangement, OutOfMemory>
-    ensures stable { IfOk result (λ v. IsStableSortOf (columns_of_class.sort_columns (class_by partition.now keys.now)) (rows_of rows.now) (columns_of_class.given_positions flipped (length rows.now)) v.positions.items) }
-    ensures steps { IfOk result (λ v. AreSteps (compare_rows_at (columns_of_class.partition_columns partition.now) (rows_of rows.now)) (compare_rows_at keys.now (rows_of rows.now)) v.positions.items v.steps.items) }
+    ensures stable { IfOk result (λ v. IsStableSortOf (columns_of_class.sort_columns (class_by partition.now keys.now)) rows.now (columns_of_class.given_positions flipped (length rows.now)) v.positions.items) }
+    ensures steps { IfOk result (λ v. AreSteps (compare_rows_at (columns_of_class.partition_columns partition.now) rows.now) (compare_rows_at keys.now rows.now) v.positions.items v.steps.items) }
 {
     if rows.len() >= FEW {
         let by_partition = partition_columns(alloc, partition)?;
@@ -143,13 +143,13 @@ pub fn sorted_arrangement(
 /// none.
 fn coded_arrangement(
     alloc: Global,
-    rows: &[Row],
+    rows: &RowSource,
     by_partition: &[SortColumn],
     keys: &[SortColumn],
     flipped: bool,
 ) -> Result<Option<Arrangement>, OutOfMemory>
-    ensures stable { IfOk result (λ o. IfSome o (λ v. IsStableSortOf (by_partition.now ++ keys.now) (rows_of rows.now) (columns_of_class.given_positions flipped (length rows.now)) v.positions.items)) }
-    ensures steps { IfOk result (λ o. IfSome o (λ v. AreSteps (compare_rows_at by_partition.now (rows_of rows.now)) (compare_rows_at keys.now (rows_of rows.now)) v.positions.items v.steps.items)) }
+    ensures stable { IfOk result (λ o. IfSome o (λ v. IsStableSortOf (by_partition.now ++ keys.now) rows.now (columns_of_class.given_positions flipped (length rows.now)) v.positions.items)) }
+    ensures steps { IfOk result (λ o. IfSome o (λ v. AreSteps (compare_rows_at by_partition.now rows.now) (compare_rows_at keys.now rows.now) v.positions.items v.steps.items)) }
 {
     let Some(partitions) = row_coding(alloc, rows, by_partition)? else {
         return Ok(None);

@@ -4,7 +4,7 @@
 /// `end`, and the place of the row itself there.
 #[derive(Clone, Copy, PartialEq, Eq)]
 pub struct Place {
-    pub start: usize,
-    pub end: usize,
-    pub index: usize,
+    pub start: u32,
+    pub end: u32,
+    pub index: u32,
 }

@@ -1,6 +1,6 @@
 //! Where the row at each position stands among the positions sorted by partition.
 
-ghost use Rattle.std.specs.Prelude.{◌≡◌, IfOk, length};
+ghost use Rattle.std.specs.Prelude.{◌≡◌, ◌<◌, ◌^◌, IfOk, length};
 ghost use Rattle.wd_partition.specs.Places.{ArePlaces};
 ghost use Rattle.wd_value.specs.Bags.{EachOnce};
 
@@ -12,9 +12,10 @@ use wd_value::OutOfMemory;
 pub fn places_of(
     alloc: Global,
     list: &[u64],
-    starts: &[usize],
-    ends: &[usize],
+    starts: &[u32],
+    ends: &[u32],
 ) -> Result<Vec<Place>, OutOfMemory>
+    requires short { length list.now < 2 ^ 32 }
     requires once { EachOnce (length list.now) list.now }
     requires starts_long { length starts.now ≡ length list.now }
     requires ends_long { length ends.now ≡ length list.now }
@@ -30,7 +31,7 @@ pub fn places_of(
         let place = Place {
             start: starts[i],
             end: ends[i],
-            index: i,
+            index: i as u32,
         };
         places[list[i] as usize] = place;
     }

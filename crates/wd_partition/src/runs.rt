@@ -1,6 +1,6 @@
 //! Where each partition begins and ends among positions that are sorted by partition.
 
-ghost use Rattle.std.specs.Prelude.{◌≡◌, ◌+◌, ◌<◌, IfOk, length, map, slice_index};
+ghost use Rattle.std.specs.Prelude.{◌≡◌, ◌+◌, ◌<◌, ◌^◌, IfOk, length, map, slice_index};
 ghost use Rattle.wd_partition.specs.Courses.{IsCourse, by_partition};
 ghost use Rattle.wd_partition.specs.Runs as spec;
 
@@ -9,8 +9,9 @@ use std::alloc::Global;
 use wd_value::OutOfMemory;
 
 /// For each of the sorted positions, how many stand before its partition.
-pub fn partition_starts(alloc: Global, course: &Course) -> Result<Vec<usize>, OutOfMemory>
-    requires { IsCourse course.now }
+pub fn partition_starts(alloc: Global, course: &Course) -> Result<Vec<u32>, OutOfMemory>
+    requires short { length course.now.positions.now < 2 ^ 32 }
+    requires course { IsCourse course.now }
     ensures { IfOk result (λ v. v.items ≡ map (spec.starts_at (by_partition course.now) course.now.positions.now) course.now.positions.now) }
 {
     let mut starts = Vec::with_capacity(alloc, course.positions.len())?;
@@ -23,26 +24,28 @@ pub fn partition_starts(alloc: Global, course: &Course) -> Result<Vec<usize>, Ou
 }
 
 /// The start of the partition at place `i`, from that at the place before.
-fn next_start(course: &Course, i: usize, start: usize) -> usize
+fn next_start(course: &Course, i: usize, start: u32) -> u32
+    requires short { length course.now.positions.now < 2 ^ 32 }
     requires course { IsCourse course.now }
     requires within { i < length course.now.positions.now }
     requires before { (k : _) → k + 1 ≡ i → start ≡ spec.starts_at (by_partition course.now) course.now.positions.now (slice_index course.now.positions.now k) }
     ensures { result ≡ spec.starts_at (by_partition course.now) course.now.positions.now (slice_index course.now.positions.now i) }
 {
     if course.steps[i].begins_partition() {
-        i
+        i as u32
     } else {
         start
     }
 }
 
 /// For each of the sorted positions, how many stand before the end of its partition.
-pub fn partition_ends(alloc: Global, course: &Course) -> Result<Vec<usize>, OutOfMemory>
-    requires { IsCourse course.now }
+pub fn partition_ends(alloc: Global, course: &Course) -> Result<Vec<u32>, OutOfMemory>
+    requires short { length course.now.positions.now < 2 ^ 32 }
+    requires course { IsCourse course.now }
     ensures { IfOk result (λ v. v.items ≡ map (spec.ends_at (by_partition course.now) course.now.positions.now) course.now.positions.now) }
 {
     let mut ends = vec![in alloc; 0; course.positions.len()]?;
-    let mut end = course.positions.len();
+    let mut end = course.positions.len() as u32;
     for i in (0..course.positions.len()).rev() {
         end = next_end(course, i, end);
         ends[i] = end;
@@ -51,7 +54,8 @@ pub fn partition_ends(alloc: Global, course: &Course) -> Result<Vec<usize>, OutO
 }
 
 /// The end of the partition at place `i`, from that at the place after.
-fn next_end(course: &Course, i: usize, end: usize) -> usize
+fn next_end(course: &Course, i: usize, end: u32) -> u32
+    requires short { length course.now.positions.now < 2 ^ 32 }
     requires course { IsCourse course.now }
     requires within { i < length course.now.positions.now }
     requires behind { i + 1 < length course.now.positions.now → end ≡ spec.ends_at (by_partition course.now) course.now.positions.now (slice_index course.now.positions.now (i + 1)) }
@@ -60,6 +64,6 @@ fn next_end(course: &Course, i: usize, end: usize) -> usize
     if i + 1 < course.steps.len() && !course.steps[i + 1].begins_partition() {
         end
     } else {
-        i + 1
+        (i + 1) as u32
     }
 }

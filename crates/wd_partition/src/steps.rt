@@ -4,12 +4,12 @@ ghost use Rattle.std.specs.Prelude.{◌≡◌, ◌++◌, ◌<◌, IfOk, IfSome, 
 ghost use Rattle.wd_partition.specs.Steps as spec;
 ghost use Rattle.wd_partition.specs.Steps.{AreSteps, compare_codes};
 ghost use Rattle.wd_sort.specs.Sorting as sorting;
-ghost use Rattle.wd_value.specs.Rows.{rows_of};
 
 use std::alloc::Global;
 use std::cmp::Ordering;
-use wd_sort::compare_rows_at;
-use wd_value::{OutOfMemory, Row, SortColumn};
+use wd_columns::RowSource;
+use wd_sort::compare_source_at;
+use wd_value::{OutOfMemory, SortColumn};
 
 /// How a row stands to the one before it.
 #[derive(Clone, Copy)]
@@ -37,13 +37,13 @@ impl Step {
 /// by the keys in each partition.
 pub fn steps_of(
     alloc: Global,
-    rows: &[Row],
+    rows: &RowSource,
     by_partition: &[SortColumn],
     by_keys: &[SortColumn],
     positions: &[u64],
 ) -> Result<Option<Vec<Step>>, OutOfMemory>
-    requires { IsSorted (sorting.compare_rows_at by_partition.now (rows_of rows.now)) positions.now }
-    ensures { IfOk result (λ o. MatchOption o (IsSorted (sorting.compare_rows_at (by_partition.now ++ by_keys.now) (rows_of rows.now)) positions.now → ⊥) (λ v. IsSorted (sorting.compare_rows_at (by_partition.now ++ by_keys.now) (rows_of rows.now)) positions.now × AreSteps (sorting.compare_rows_at by_partition.now (rows_of rows.now)) (sorting.compare_rows_at by_keys.now (rows_of rows.now)) positions.now v.items)) }
+    requires { IsSorted (sorting.compare_rows_at by_partition.now rows.now) positions.now }
+    ensures { IfOk result (λ o. MatchOption o (IsSorted (sorting.compare_rows_at (by_partition.now ++ by_keys.now) rows.now) positions.now → ⊥) (λ v. IsSorted (sorting.compare_rows_at (by_partition.now ++ by_keys.now) rows.now) positions.now × AreSteps (sorting.compare_rows_at by_partition.now rows.now) (sorting.compare_rows_at by_keys.now rows.now) positions.now v.items)) }
 {
     let mut steps = Vec::with_capacity(alloc, positions.len())?;
     for i in 0..positions.len() {
@@ -57,21 +57,21 @@ pub fn steps_of(
 
 /// The step to the position at place `i`, and none where the keys fall.
 fn step_to(
-    rows: &[Row],
+    rows: &RowSource,
     by_partition: &[SortColumn],
     by_keys: &[SortColumn],
     positions: &[u64],
     i: usize,
 ) -> Option<Step>
     requires { i < length positions.now }
-    ensures { result ≡ spec.step_to (sorting.compare_rows_at by_partition.now (rows_of rows.now)) (sorting.compare_rows_at by_keys.now (rows_of rows.now)) positions.now i }
+    ensures { result ≡ spec.step_to (sorting.compare_rows_at by_partition.now rows.now) (sorting.compare_rows_at by_keys.now rows.now) positions.now i }
 {
     if i == 0 {
         return Some(Step::Partition);
     }
-    match compare_rows_at(rows, by_partition, positions[i - 1], positions[i]) {
+    match compare_source_at(rows, by_partition, positions[i - 1], positions[i]) {
         Ordering::Equal => {
-            key_step(compare_rows_at(rows, by_keys, positions[i - 1], positions[i]))
+            key_step(compare_source_at(rows, by_keys, positions[i - 1], positions[i]))
         }
         _ => Some(Step::Partition),
     }
@@ -142,13 +142,13 @@ fn code_at(codes: &[u64], position: u64) -> u64
 /// keys.
 pub fn sorted_steps(
     alloc: Global,
-    rows: &[Row],
+    rows: &RowSource,
     by_partition: &[SortColumn],
     by_keys: &[SortColumn],
     positions: &[u64],
 ) -> Result<Vec<Step>, OutOfMemory>
-    requires { IsSorted (sorting.compare_rows_at (by_partition.now ++ by_keys.now) (rows_of rows.now)) positions.now }
-    ensures { IfOk result (λ v. AreSteps (sorting.compare_rows_at by_partition.now (rows_of rows.now)) (sorting.compare_rows_at by_keys.now (rows_of rows.now)) positions.now v.items) }
+    requires { IsSorted (sorting.compare_rows_at (by_partition.now ++ by_keys.now) rows.now) positions.now }
+    ensures { IfOk result (λ v. AreSteps (sorting.compare_rows_at by_partition.now rows.now) (sorting.compare_rows_at by_keys.now rows.now) positions.now v.items) }
 {
     let mut steps = Vec::with_capacity(alloc, positions.len())?;
     for i in 0..positions.len() {
@@ -159,15 +159,15 @@ pub fn sorted_steps(
 
 /// The step to the position at place `i` of such positions.
 fn sorted_step(
-    rows: &[Row],
+    rows: &RowSource,
     by_partition: &[SortColumn],
     by_keys: &[SortColumn],
     positions: &[u64],
     i: usize,
 ) -> Step
     requires within { i < length positions.now }
-    requires sorted { IsSorted (sorting.compare_rows_at (by_partition.now ++ by_keys.now) (rows_of rows.now)) positions.now }
-    ensures { spec.step_to (sorting.compare_rows_at by_partition.now (rows_of rows.now)) (sorting.compare_rows_at by_keys.now (rows_of rows.now)) positions.now i ≡ Some result }
+    requires sorted { IsSorted (sorting.compare_rows_at (by_partition.now ++ by_keys.now) rows.now) positions.now }
+    ensures { spec.step_to (sorting.compare_rows_at by_partition.now rows.now) (sorting.compare_rows_at by_keys.now rows.now) positions.now i ≡ Some result }
 {
     match step_to(rows, by_partition, by_keys, positions, i) {
         Some(step) => step,

@@ -2,8 +2,7 @@
 use Rattle.std.proofs.Common.{ℕ, List, inl, inr, refl, subst, sym}
 use Rattle.wd_schema.specs.Tables.{TableRule}
 use Rattle.wd_schema.specs.Schemas.{schema_of}
-use Rattle.wd_plan.specs.declared.plan.Outcome.{Outcome}
-use Rattle.wd_plan.specs.Outcomes.{outcome_of}
+use Rattle.wd_plan.specs.Outcomes.{RowsOrFault}
 use Rattle.wd_plan.specs.Plans.{PlanTree, plan_of}
 use Rattle.wd_query.specs.declared.read.PlannedQuery.{PlannedQuery}
 use Rattle.wd_query.specs.Readings.{IsRead}
@@ -17,7 +16,7 @@ use Rattle.wd_run.specs.declared.error.RunError.TheVariants as run
 
 -- the texts read as the plan, over the schema that is declared
 module _ (schema query : List ℕ) (given : List (List ℕ × List ℕ)) (planned : PlannedQuery) (is : IsRead schema query planned) where
-  pub IsAnswer-from_outcome : (o : Outcome) → GivesOutcome (schema_of planned.schema) given (plan_of planned.resolved.plan) o → IsAnswer schema query given planned.resolved.names.items (outcome_of o)
+  pub IsAnswer-from_outcome : (o : RowsOrFault) → GivesOutcome (schema_of planned.schema) given (plan_of planned.resolved.plan) o → IsAnswer schema query given planned.resolved.names.items o
   IsAnswer-from_outcome o gives = record {
     read = resolved_of planned.resolved;
     reads = is.reads;

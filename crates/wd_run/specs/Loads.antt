@@ -4,7 +4,7 @@ use Rattle.wd_schema.specs.Tables.{TableRule}
 use Rattle.wd_plan.specs.Plans.{PlanTree}
 use Rattle.wd_tables.specs.Causes as records
 use Rattle.wd_value.specs.Rows.{Instance}
-use Rattle.wd_plan.specs.declared.plan.Outcome.{Outcome}
+use Rattle.wd_plan.specs.Outcomes.{RowsOrFault}
 use Rattle.wd_eval.specs.Runs.{IsRun}
 use Rattle.wd_run.specs.Causes.{HasDataCause, HasNameCause, HasStepCause, IsGivenTwice, IsNoTable, LacksData}
 use Rattle.wd_run.specs.Runs.{HasData, HoldsData, IsGiven, IsNamed}
@@ -52,7 +52,7 @@ RefusesPlan tables given plan (run.Data name error) = ⊥
 RefusesPlan tables given plan (run.Evaluation error) = ⊥
 
 -- the outcome of a plan over the data given: each table that the plan scans has data
-pub record GivesOutcome (tables : List TableRule) (given : List (List ℕ × List ℕ)) (plan : PlanTree) (o : Outcome) : Type 0 where
+pub record GivesOutcome (tables : List TableRule) (given : List (List ℕ × List ℕ)) (plan : PlanTree) (o : RowsOrFault) : Type 0 where
   pub instance : Instance
   pub has_data : HasData tables given plan
   pub data_holds : HoldsData tables given instance

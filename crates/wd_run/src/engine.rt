@@ -12,7 +12,7 @@ ghost use Rattle.wd_schema.specs.Schemas.{schema_of};
 use crate::data::{check_given, load_data};
 use crate::error::RunError;
 use std::alloc::Global;
-use wd_eval::run_columns;
+use wd_eval::{Answer, run_columns};
 use wd_plan::{Outcome, Plan};
 use wd_query::{PlannedQuery, read_texts};
 use wd_schema::Schema;
@@ -33,24 +33,44 @@ pub fn run(
     ensures answer { IfOk result (λ a. IsAnswer schema.now query.now (data_of tables.now) a.0.items (outcome_of a.1)) }
     ensures refused { IfErr result (λ e. HasCause schema.now query.now (data_of tables.now) e) }
 {
+    let (names, answer) = match run_kept(alloc, schema, query, tables) {
+        Ok(answered) => answered,
+        Err(error) => return Err(error),
+    };
+    match answer.into_outcome(alloc) {
+        Ok(outcome) => Ok((names, outcome)),
+        Err(_) => Err(RunError::OutOfMemory),
+    }
+}
+
+/// As [`run`], with the rows kept as the evaluation left them.
+pub fn run_kept(
+    alloc: Global,
+    schema: &[u8],
+    query: &[u8],
+    tables: &[(&str, &[u8])],
+) -> Result<(Vec<Text>, Answer), RunError>
+    ensures answer { IfOk result (λ a. IsAnswer schema.now query.now (data_of tables.now) a.0.items a.1) }
+    ensures refused { IfErr result (λ e. HasCause schema.now query.now (data_of tables.now) e) }
+{
     let planned = match read_texts(alloc, schema, query) {
         Ok(planned) => planned,
         Err(error) => return Err(RunError::Texts(error)),
     };
     let PlannedQuery { schema, resolved } = planned;
-    match outcome_over(alloc, &schema, &resolved.plan, tables) {
-        Ok(outcome) => Ok((resolved.names, outcome)),
+    match answer_over(alloc, &schema, &resolved.plan, tables) {
+        Ok(answer) => Ok((resolved.names, answer)),
         Err(error) => Err(error),
     }
 }
 
 /// The outcome of a plan over the data given.
-fn outcome_over(
+fn answer_over(
     alloc: Global,
     schema: &Schema,
     plan: &Plan,
     tables: &[(&str, &[u8])],
-) -> Result<Outcome, RunError>
+) -> Result<Answer, RunError>
     requires differ { NamesDiffer (schema_of schema.now) }
     requires fitting { fits (schema_of schema.now) (plan_of plan.now) ≡ true }
     ensures outcome { IfOk result (λ o. GivesOutcome (schema_of schema.now) (data_of tables.now) (plan_of plan.now) o) }
@@ -59,7 +79,7 @@ fn outcome_over(
     let instance = load_data(alloc, schema, tables)?;
     check_given(alloc, schema, plan, tables)?;
     match run_columns(alloc, plan, schema, instance) {
-        Ok(outcome) => Ok(outcome),
+        Ok(answer) => Ok(answer),
         Err(error) => Err(RunError::Evaluation(error)),
     }
 }

@@ -6,5 +6,5 @@ mod engine;
 mod error;
 pub mod laws;
 
-pub use engine::run;
+pub use engine::{run, run_kept};
 pub use error::{Origin, RunError};

@@ -3,7 +3,7 @@
 ghost use Rattle.std.specs.Prelude.{◌≡◌, ℕ, ◌<◌, List, [], IfOk, IfSome, All, get_or, length, map};
 ghost use Rattle.wd_sort.specs.AllCodes.{AreCodesOfAll};
 ghost use Rattle.wd_sort.specs.Sorting.{IsStableSortOf};
-ghost use Rattle.wd_value.specs.Rows.{Row, rows_of};
+ghost use Rattle.wd_value.specs.Rows.{Row};
 ghost use Rattle.wd_value.specs.declared.order.SortColumn.{SortColumn};
 
 use crate::codes::sorted_by_codes;
@@ -11,16 +11,17 @@ use crate::coding::Coding;
 use crate::columns::{Last, last_coding};
 use crate::sort::all_positions;
 use std::alloc::Global;
-use wd_value::{OutOfMemory, Row, SortColumn};
+use wd_columns::RowSource;
+use wd_value::{OutOfMemory, SortColumn};
 
 /// A number for each row, by its position, that compares as the row does by the columns; none where
 /// a column has no codes or all columns together don't fit 64 bits.
 pub fn row_coding(
     alloc: Global,
-    rows: &[Row],
+    rows: &RowSource,
     columns: &[SortColumn],
 ) -> Result<Option<Coding>, OutOfMemory>
-    ensures { IfOk result (λ o. IfSome o (λ c. AreCodesOfAll columns.now (rows_of rows.now) c.bound c.codes.items)) }
+    ensures { IfOk result (λ o. IfSome o (λ c. AreCodesOfAll columns.now rows.now c.bound c.codes.items)) }
 {
     if columns.is_empty() {
         let coding = one_code(alloc, rows)?;
@@ -38,8 +39,8 @@ pub fn row_coding(
 }
 
 /// One number for all rows, which tie where there is no column.
-fn one_code(alloc: Global, rows: &[Row]) -> Result<Coding, OutOfMemory>
-    ensures { IfOk result (λ c. AreCodesOfAll [] (rows_of rows.now) c.bound c.codes.items) }
+fn one_code(alloc: Global, rows: &RowSource) -> Result<Coding, OutOfMemory>
+    ensures { IfOk result (λ c. AreCodesOfAll [] rows.now c.bound c.codes.items) }
 {
     let mut codes = Vec::with_capacity(alloc, rows.len())?;
     for _ in 0..rows.len() {

@@ -2,12 +2,12 @@
 
 ghost use Rattle.std.specs.Prelude.{◌≡◌, ℕ, ◌*◌, ◌<◌, [], ◌∷◌, IfOk, IfSome, get_or, length};
 ghost use Rattle.wd_sort.specs.Codes.{ArePairs, IsCodingBelow};
-ghost use Rattle.wd_value.specs.Rows.{rows_of};
 
 use crate::numbering::value_codes;
 use crate::whole::{whole_codes, whole_range};
 use std::alloc::Global;
-use wd_value::{OutOfMemory, Row, SortColumn};
+use wd_columns::RowSource;
+use wd_value::{OutOfMemory, SortColumn};
 
 /// A number for each position, below the bound.
 #[derive(Drop)]
@@ -20,11 +20,11 @@ pub struct Coding {
 /// another type, or whole numbers too far apart.
 pub fn column_coding(
     alloc: Global,
-    rows: &[Row],
+    rows: &RowSource,
     column: SortColumn,
     positions: &[u64],
 ) -> Result<Option<Coding>, OutOfMemory>
-    ensures { IfOk result (λ o. IfSome o (λ c. IsCodingBelow (column ∷ []) (rows_of rows.now) positions.now c.bound c.codes.items)) }
+    ensures { IfOk result (λ o. IfSome o (λ c. IsCodingBelow (column ∷ []) rows.now positions.now c.bound c.codes.items)) }
 {
     match whole_range(rows, column.column, positions) {
         Some(range) => whole_codes(alloc, rows, column, positions, range),

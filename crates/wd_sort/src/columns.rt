@@ -3,13 +3,13 @@
 ghost use Rattle.std.specs.Prelude.{◌≡◌, ◌<◌, IfOk, IfSome, drop, length};
 ghost use Rattle.wd_sort.specs.Codes.{IsCodingBelow};
 ghost use Rattle.wd_sort.specs.Sorting.{IsStableSortOf};
-ghost use Rattle.wd_value.specs.Rows.{rows_of};
 
 use crate::codes::sorted_by_codes;
 use crate::coding::{Coding, column_coding, combined};
 use crate::sort::sorted_by_rows;
 use std::alloc::Global;
-use wd_value::{OutOfMemory, Row, SortColumn};
+use wd_columns::RowSource;
+use wd_value::{OutOfMemory, SortColumn};
 
 /// The codes by the columns from `start` on.
 #[derive(Drop)]
@@ -22,11 +22,11 @@ pub struct Last {
 /// by the columns before them. Where a column has no codes, by rows.
 pub fn sorted_by_columns(
     alloc: Global,
-    rows: &[Row],
+    rows: &RowSource,
     columns: &[SortColumn],
     positions: &[u64],
 ) -> Result<Vec<u64>, OutOfMemory>
-    ensures { IfOk result (λ v. IsStableSortOf columns.now (rows_of rows.now) positions.now v.items) }
+    ensures { IfOk result (λ v. IsStableSortOf columns.now rows.now positions.now v.items) }
 {
     let mut order = positions.to_vec(alloc)?;
     let mut left = columns.len();
@@ -47,12 +47,12 @@ pub fn sorted_by_columns(
 /// none.
 pub fn last_coding(
     alloc: Global,
-    rows: &[Row],
+    rows: &RowSource,
     columns: &[SortColumn],
     positions: &[u64],
 ) -> Result<Option<Last>, OutOfMemory>
     requires { 0 < length columns.now }
-    ensures { IfOk result (λ o. IfSome o (λ l. (l.start < length columns.now) × IsCodingBelow (drop l.start columns.now) (rows_of rows.now) positions.now l.coding.bound l.coding.codes.items)) }
+    ensures { IfOk result (λ o. IfSome o (λ l. (l.start < length columns.now) × IsCodingBelow (drop l.start columns.now) rows.now positions.now l.coding.bound l.coding.codes.items)) }
 {
     let mut start = columns.len() - 1;
     let Some(mut coding) = column_coding(alloc, rows, columns[start], positions)? else {

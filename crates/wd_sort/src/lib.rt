@@ -14,5 +14,6 @@ mod whole;
 
 pub use all::{row_coding, sorted_by_coding};
 pub use coding::Coding;
-pub use rows::{compare_rows_at, row_in};
-pub use sort::{all_positions, is_sorted, sorted_from, sorted_positions};
+pub use rows::{compare_rows_at, compare_source_at};
+pub use sort::{all_positions, is_sorted, sorted_from, sorted_in, sorted_positions};
+pub use wd_columns::row_in;

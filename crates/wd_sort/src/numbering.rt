@@ -3,30 +3,46 @@
 ghost use Rattle.std.specs.Prelude.{◌≡◌, ◌<◌, ℕ, [], ◌∷◌, IfOk, IfSome, OnOk, length, map, get_or};
 ghost use Rattle.wd_sort.specs.Codes.{IsCodingBelow};
 ghost use Rattle.wd_sort.specs.Known.{AreKnown, AreNumbers, IsAt, Keeps};
-ghost use Rattle.wd_value.specs.Rows.{rows_of};
 
 use crate::coding::Coding;
 use crate::known::Known;
 use crate::ranks::ranks_of;
-use crate::rows::value_at;
 use std::alloc::Global;
 use std::collections::HashMap;
-use wd_value::{OutOfMemory, Row, SortColumn, Value};
+use wd_columns::RowSource;
+use wd_value::{OutOfMemory, SortColumn, Value};
 
 /// For each position the rank of its value among the column's; none where it has whole numbers.
 pub fn value_codes(
     alloc: Global,
-    rows: &[Row],
+    rows: &RowSource,
     column: SortColumn,
     positions: &[u64],
 ) -> Result<Option<Coding>, OutOfMemory>
-    ensures { IfOk result (λ o. IfSome o (λ c. IsCodingBelow (column ∷ []) (rows_of rows.now) positions.now c.bound c.codes.items)) }
+    ensures { IfOk result (λ o. IfSome o (λ c. IsCodingBelow (column ∷ []) rows.now positions.now c.bound c.codes.items)) }
 {
     let null = Value::Null;
     let no = Value::Bool(false);
     let yes = Value::Bool(true);
-    let mut known = Known::new(alloc, &null, &no, &yes)?;
-    let Some(numbers) = numbers_of(alloc, rows, column.column, positions, &null, &mut known)? else {
+    let known = Known::new(alloc, &null, &no, &yes)?;
+    known_codes(alloc, rows, column, positions, &null, known)
+}
+
+/// The same from the values that are known before any row is met.
+fn known_codes<'a>(
+    alloc: Global,
+    rows: &'a RowSource<'_>,
+    column: SortColumn,
+    positions: &[u64],
+    null: &'a Value,
+    known: Known<'a>,
+) -> Result<Option<Coding>, OutOfMemory>
+    requires null { null.now ≡ Value.Null }
+    requires known { AreKnown known }
+    ensures { IfOk result (λ o. IfSome o (λ c. IsCodingBelow (column ∷ []) rows.now positions.now c.bound c.codes.items)) }
+{
+    let mut known = known;
+    let Some(numbers) = numbers_of(alloc, rows, column.column, positions, null, &mut known)? else {
         return Ok(None);
     };
     let ranks = ranks_of(alloc, &known.values, column.key)?;
@@ -38,7 +54,7 @@ pub fn value_codes(
 /// For each position the place of its value among those known; none where it is a whole number.
 fn numbers_of<'a>(
     alloc: Global,
-    rows: &'a [Row],
+    rows: &'a RowSource<'_>,
     column: u16,
     positions: &[u64],
     null: &'a Value,
@@ -46,11 +62,11 @@ fn numbers_of<'a>(
 ) -> Result<Option<Vec<u64>>, OutOfMemory>
     requires null { null.now ≡ Value.Null }
     requires known { AreKnown known.old }
-    ensures { IfOk result (λ o. IfSome o (λ v. AreNumbers known.new column (rows_of rows.now) positions.now v.items)) }
+    ensures { IfOk result (λ o. IfSome o (λ v. AreNumbers known.new column rows.now positions.now v.items)) }
 {
     let mut numbers = Vec::with_capacity(alloc, positions.len())?;
     for i in 0..positions.len() {
-        let value = value_at(rows, column, positions[i], null);
+        let value = rows.value(positions[i], column, null);
         match known.number_of(value)? {
             Some(number) => numbers.push(number)?,
             None => return Ok(None),

@@ -1,38 +1,41 @@
-//! Rows and their values by position.
+//! Rows by their positions.
 
 ghost use Rattle.std.specs.Prelude.{◌≡◌};
 ghost use Rattle.wd_sort.specs.Sorting as sorting;
-ghost use Rattle.wd_value.specs.Rows as table;
+ghost use Rattle.wd_value.specs.Order.{compare as order};
 ghost use Rattle.wd_value.specs.Rows.{column_of, row_at, rows_of};
 
 use std::cmp::Ordering;
-use wd_value::{Row, SortColumn, Value, compare_keys};
+use wd_columns::RowSource;
+use wd_value::{Row, SortColumn, Value, compare};
 
-/// The rows at two positions by the columns, the first one on which they differ; without columns no
-/// row is looked at.
+/// The rows at two positions by the columns, the first one on which they differ.
 pub fn compare_rows_at(rows: &[Row], columns: &[SortColumn], p: u64, q: u64) -> Ordering
     ensures { result ≡ sorting.compare_rows_at columns.now (rows_of rows.now) p q }
 {
-    if columns.is_empty() {
-        return Ordering::Equal;
-    }
-    compare_keys(columns, row_in(rows, p), row_in(rows, q))
+    compare_source_at(&RowSource::of_rows(rows), columns, p, q)
 }
 
-/// The value in a column of the row at a position, and `null` past the last column or row.
-pub fn value_at<'a>(rows: &'a [Row], column: u16, position: u64, null: &'a Value) -> &'a Value
-    requires { null.now ≡ Value.Null }
-    ensures { result.now ≡ column_of (row_at (rows_of rows.now) position) column }
+/// As `compare_rows_at`, of rows however they are kept.
+pub fn compare_source_at(rows: &RowSource, columns: &[SortColumn], p: u64, q: u64) -> Ordering
+    ensures { result ≡ sorting.compare_rows_at columns.now rows.now p q }
 {
-    row_in(rows, position).get(column as usize).unwrap_or(null)
+    for column in columns {
+        match compare_in(rows, *column, p, q) {
+            Ordering::Equal => {}
+            found => return found,
+        }
+    }
+    Ordering::Equal
 }
 
-/// The row at a position, and the empty row past the last.
-pub fn row_in(rows: &[Row], position: u64) -> &[Value]
-    ensures { result.now ≡ table.row_at (rows_of rows.now) position }
+fn compare_in(rows: &RowSource, column: SortColumn, p: u64, q: u64) -> Ordering
+    ensures { result ≡ order column.key (column_of (row_at rows.now p) column.column) (column_of (row_at rows.now q) column.column) }
 {
-    match rows.get(position as usize) {
-        Some(row) => row,
-        None => &[],
-    }
+    let null = Value::Null;
+    compare(
+        rows.value(p, column.column, &null),
+        rows.value(q, column.column, &null),
+        column.key,
+    )
 }

@@ -5,8 +5,9 @@ ghost use Rattle.wd_value.specs.Bags.{positions};
 ghost use Rattle.wd_value.specs.Rows.{rows_of};
 
 use crate::columns::sorted_by_columns;
-use crate::rows::compare_rows_at;
+use crate::rows::{compare_rows_at, compare_source_at};
 use std::alloc::Global;
+use wd_columns::RowSource;
 use wd_value::{OutOfMemory, Row, SortColumn};
 
 /// Fewer positions are sorted by their rows: to find codes for them would take longer.
@@ -38,6 +39,18 @@ pub fn sorted_from(
 ) -> Result<Vec<u64>, OutOfMemory>
     ensures { IfOk result (λ v. IsStableSortOf columns.now (rows_of rows.now) positions.now v.items) }
 {
+    sorted_in(alloc, &RowSource::of_rows(rows), columns, positions)
+}
+
+/// As `sorted_from`, of rows however they are kept.
+pub fn sorted_in(
+    alloc: Global,
+    rows: &RowSource,
+    columns: &[SortColumn],
+    positions: &[u64],
+) -> Result<Vec<u64>, OutOfMemory>
+    ensures { IfOk result (λ v. IsStableSortOf columns.now rows.now positions.now v.items) }
+{
     if positions.len() < FEW {
         sorted_by_rows(alloc, rows, columns, positions)
     } else {
@@ -45,17 +58,17 @@ pub fn sorted_from(
     }
 }
 
-/// As `sorted_from`, by comparisons of rows.
+/// The same by comparisons of rows.
 pub fn sorted_by_rows(
     alloc: Global,
-    rows: &[Row],
+    rows: &RowSource,
     columns: &[SortColumn],
     positions: &[u64],
 ) -> Result<Vec<u64>, OutOfMemory>
-    ensures { IfOk result (λ v. IsStableSortOf columns.now (rows_of rows.now) positions.now v.items) }
+    ensures { IfOk result (λ v. IsStableSortOf columns.now rows.now positions.now v.items) }
 {
     let mut order = positions.to_vec(alloc)?;
-    order.sort_by(|p, q| compare_rows_at(rows, columns, *p, *q))?;
+    order.sort_by(|p, q| compare_source_at(rows, columns, *p, *q))?;
     Ok(order)
 }
 

@@ -3,12 +3,12 @@
 ghost use Rattle.std.specs.Prelude.{◌≡◌, [], ◌∷◌, ◌^◌, ◌<◌, ◌+◌, ◌-ℤ◌, IfOk, IfSome, unsigned_abs};
 ghost use Rattle.wd_sort.specs.Codes as spec;
 ghost use Rattle.wd_sort.specs.Codes.{AreWhole, IsCodingBelow, IsWhole, IsWider};
-ghost use Rattle.wd_value.specs.Rows.{column_of, row_at, rows_of};
+ghost use Rattle.wd_value.specs.Rows.{column_of, row_at};
 
 use crate::coding::Coding;
-use crate::rows::value_at;
 use std::alloc::Global;
-use wd_value::{OutOfMemory, Row, SortColumn, SortKey, Value};
+use wd_columns::RowSource;
+use wd_value::{OutOfMemory, SortColumn, SortKey, Value};
 
 /// The least and the greatest whole number.
 #[derive(Clone, Copy)]
@@ -19,8 +19,8 @@ pub struct Range {
 
 /// The range of the whole numbers of a column, or that of 0 where all is NULL; none where it has
 /// other values than these.
-pub fn whole_range(rows: &[Row], column: u16, positions: &[u64]) -> Option<Range>
-    ensures { IfSome result (λ r. AreWhole r.least r.greatest column (rows_of rows.now) positions.now) }
+pub fn whole_range(rows: &RowSource, column: u16, positions: &[u64]) -> Option<Range>
+    ensures { IfSome result (λ r. AreWhole r.least r.greatest column rows.now positions.now) }
 {
     let mut range = Range {
         least: i64::MAX,
@@ -38,12 +38,12 @@ pub fn whole_range(rows: &[Row], column: u16, positions: &[u64]) -> Option<Range
     Some(range)
 }
 
-fn widened(range: Range, rows: &[Row], column: u16, position: u64) -> Option<Range>
+fn widened(range: Range, rows: &RowSource, column: u16, position: u64) -> Option<Range>
     ensures wider { IfSome result (λ r. IsWider range.least range.greatest r.least r.greatest) }
-    ensures whole { IfSome result (λ r. IsWhole r.least r.greatest (column_of (row_at (rows_of rows.now) position) column)) }
+    ensures whole { IfSome result (λ r. IsWhole r.least r.greatest (column_of (row_at rows.now position) column)) }
 {
     let null = Value::Null;
-    match value_at(rows, column, position, &null) {
+    match rows.value(position, column, &null) {
         Value::Null => Some(range),
         Value::Int(n) => Some(Range {
             least: range.least.min(*n),
@@ -56,13 +56,13 @@ fn widened(range: Range, rows: &[Row], column: u16, position: u64) -> Option<Ran
 /// For each position how far its value is along the range; none where the range is too wide.
 pub fn whole_codes(
     alloc: Global,
-    rows: &[Row],
+    rows: &RowSource,
     column: SortColumn,
     positions: &[u64],
     range: Range,
 ) -> Result<Option<Coding>, OutOfMemory>
-    requires { AreWhole range.least range.greatest column.column (rows_of rows.now) positions.now }
-    ensures { IfOk result (λ o. IfSome o (λ c. IsCodingBelow (column ∷ []) (rows_of rows.now) positions.now c.bound c.codes.items)) }
+    requires { AreWhole range.least range.greatest column.column rows.now positions.now }
+    ensures { IfOk result (λ o. IfSome o (λ c. IsCodingBelow (column ∷ []) rows.now positions.now c.bound c.codes.items)) }
 {
     let Some(bound) = range.greatest.abs_diff(range.least).checked_add(2) else {
         return Ok(None);
@@ -74,14 +74,14 @@ pub fn whole_codes(
     Ok(Some(Coding { codes, bound }))
 }
 
-fn whole_code_at(rows: &[Row], column: SortColumn, position: u64, range: Range) -> u64
+fn whole_code_at(rows: &RowSource, column: SortColumn, position: u64, range: Range) -> u64
     requires narrow { unsigned_abs (range.greatest -ℤ range.least) + 1 < 2 ^ 64 }
-    requires whole { IsWhole range.least range.greatest (column_of (row_at (rows_of rows.now) position) column.column) }
-    ensures { result ≡ spec.whole_code column.key range.least range.greatest (column_of (row_at (rows_of rows.now) position) column.column) }
+    requires whole { IsWhole range.least range.greatest (column_of (row_at rows.now position) column.column) }
+    ensures { result ≡ spec.whole_code column.key range.least range.greatest (column_of (row_at rows.now position) column.column) }
 {
     let null = Value::Null;
     whole_code(
-        value_at(rows, column.column, position, &null),
+        rows.value(position, column.column, &null),
         column.key,
         range,
     )

@@ -20,14 +20,14 @@ use Rattle.wd_steps.proofs.Results.{map_more}
 untrue_passes : (r : Result Value Fault) → IsUntrue r → passes r ≡ false
 untrue_passes r u = ap passes u.1 ∙ u.2
 
-value_has : (f : Fault) (v : Value) → has_fault f (Ok v) ≡ false
+pub value_has : (f : Fault) (v : Value) → has_fault f (Ok v) ≡ false
 value_has DivisionByZero v = refl
 value_has OutOfRange v = refl
 
 untrue_fault : (f : Fault) (r : Result Value Fault) → IsUntrue r → has_fault f r ≡ false
 untrue_fault f r u = ap (has_fault f) u.1 ∙ value_has f u.0
 
-any_append : {X : Type 0} (t : X → Bool) (xs ys : List X) → list_any t (xs ++ ys) ≡ (list_any t xs || list_any t ys)
+pub any_append : {X : Type 0} (t : X → Bool) (xs ys : List X) → list_any t (xs ++ ys) ≡ (list_any t xs || list_any t ys)
 any_append t [] ys = refl
 any_append t (x ∷ xs) ys = ap (λ b. t x || b) (any_append t xs ys) ∙ or_assoc (t x) (list_any t xs) (list_any t ys)
   where

@@ -18,7 +18,7 @@ use Rattle.wd_plan.specs.Outcomes.{passes}
 use Rattle.wd_scalar.specs.Arithmetic.{has_arithmetic}
 use Rattle.wd_scalar.proofs.Faultless.{never_faults}
 use Rattle.wd_steps.specs.declared.matching.JoinColumns.{JoinColumns}
-use Rattle.wd_steps.specs.Matching.{AreDeciding, AreSides, AreSkippable, AreWhole, Decides, IsUntrue, agree, equal, equality}
+use Rattle.wd_steps.specs.Matching.{AreDeciding, AreSides, AreSkippable, AreWhole, Decides, Equates, IsUntrue, agree, equal, equality}
 
 -- ---- columns of a pair
 
@@ -88,8 +88,8 @@ at_right l r x c k is h =
     column-left (l ++ r) x k (omega arith) ∙ column-right l r c k is
 
 module _ (left right : ℕ) (c : JoinColumns) where
-  equality_is : (a b : ℕ) → AreSides left right a b c → (l r x : Row) → length l ≡ left → length r ≡ right → value_of (equality (Column a) (Column b)) ((l ++ r) ++ x) ≡ Ok (equal c l r)
-  equality_is a b sides l r x l-long r-long =
+  pub Equates-columns : (a b : ℕ) → AreSides left right a b c → Equates left right (equality (Column a) (Column b)) c
+  Equates-columns a b sides l r x l-long r-long =
       let l-within : c.left < length l = omega (arith, sides.0, l-long) in
       let r-within : c.right < length r = omega (arith, sides.1, r-long) in
       elim sides.2 [
@@ -103,10 +103,10 @@ module _ (left right : ℕ) (c : JoinColumns) where
             (λ i. Ok (comparison op.Equal (second i) (first i))) ∙ ap Ok (turned (column_of r c.right) (column_of l c.left)))
       ]
 
-  pub Decides-equality : (a b : ℕ) → AreSides left right a b c → Decides left right (equality (Column a) (Column b)) c
-  Decides-equality a b sides = record {
-    where_false = λ l r x l-long r-long e. equality_is a b sides l r x l-long r-long ∙ ap Ok e;
-    where_null = λ l r x l-long r-long e. ap passes (equality_is a b sides l r x l-long r-long ∙ ap Ok e);
+  pub Decides-equality : (e : Expression) → Equates left right e c → Decides left right e c
+  Decides-equality e is = record {
+    where_false = λ l r x l-long r-long h. is l r x l-long r-long ∙ ap Ok h;
+    where_null = λ l r x l-long r-long h. ap passes (is l r x l-long r-long ∙ ap Ok h);
   }
 
 -- ---- conjuncts

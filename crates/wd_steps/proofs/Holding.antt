@@ -5,16 +5,14 @@ use Rattle.std.specs.List.Sorted.{IsNonDecreasingBy, ties}
 use Rattle.std.specs.Ordering.{is_eq, is_lt, ordering_index, ordering_reverse, ordering_then}
 use Rattle.std.proofs.lemmas.Bool.{false≢true}
 use Rattle.std.proofs.lemmas.List.{append-nil, get_or_default, get_or-take, get_or-drop, length-take, length-drop, take-append-drop}
-use Rattle.std.proofs.lemmas.List.Elements.{All-head, All-tail, All-push, All-same, filter-append, filter_agree, filter_passes, All-from_recursion}
+use Rattle.std.proofs.lemmas.List.Elements.{All-head, All-tail, filter-append, filter_agree, filter_passes, All-from_recursion}
 use Rattle.std.proofs.lemmas.List.Sorted.{All-permutation, IsPermutation-sym, searchable_from_sorted}
-use Rattle.std.specs.declared.alloc.Global.{Global}
-use Rattle.std.specs.declared.vec.Vec.{Vec}
 use Rattle.wd_value.specs.declared.value.Value.{Value}
 use Rattle.wd_value.specs.declared.value.Value.TheVariants.{Null, Int, Text, Bool as Truth}
 use Rattle.wd_value.specs.Bags.{positions}
 use Rattle.wd_value.specs.Keys.{compare_keys}
 use Rattle.wd_value.specs.Order.{compare}
-use Rattle.wd_value.specs.Rows.{Row, column_of, row_at, rows_at, rows_of}
+use Rattle.wd_value.specs.Rows.{Row, column_of, row_at, rows_at}
 use Rattle.wd_plan.proofs.Parts.{map_filter}
 use Rattle.wd_plan.specs.declared.expression.ComparisonOp.TheVariants as op
 use Rattle.wd_plan.specs.Expressions.{comparison, is_null, is_true}
@@ -23,9 +21,7 @@ use Rattle.wd_steps.specs.declared.matching.JoinColumns.{JoinColumns}
 use Rattle.wd_steps.specs.Repeats.{compare_rows}
 use Rattle.wd_steps.specs.Matching.{AreBefore, IsEnd, IsSortedBy, IsStretch, agree, ascending, compare_in, compare_sides, is_before, lacks_key, left_keys, right_keys}
 use Rattle.wd_steps.proofs.Deciding.{eq_turned}
-use Rattle.wd_steps.proofs.Filtering.{items}
 use Rattle.wd_steps.proofs.Occurrences.{compare_rows-exact, compare_rows_total}
-use Rattle.wd_steps.proofs.Results.{map_more as rows_more}
 
 -- ---- rows at all positions
 
@@ -62,9 +58,6 @@ none_step t x xs true e h = absurd (let bad : x ∷ filter t xs ≡ [] = sym (ap
 none_pass : {X : Type 0} (t : X → Bool) (xs : List X) → filter t xs ≡ [] → AllByRecursion (λ x. t x ≡ false) xs
 none_pass t [] h = tt
 none_pass t (x ∷ xs) h = let s = none_step t x xs (t x) refl h in (s.0, none_pass t xs s.1)
-
-pub All-rows_more : (P : Row → Type 0) (rows : List (Vec Value Global)) (i : ℕ) (row : Vec Value Global) → i < length rows → row ≡ get_or rows i row → All P (rows_of (take i rows)) → P row.items → All P (rows_of (take (i + 1) rows))
-All-rows_more P rows i row within is all one = All-same P _ _ (rows_more items rows i row within is) (All-push P (rows_of (take i rows)) row.items all one)
 
 -- ---- orders
 

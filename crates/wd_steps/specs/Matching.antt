@@ -105,6 +105,10 @@ pub record Decides (left right : ℕ) (e : Expression) (c : JoinColumns) : Type 
   pub where_false : (l r x : Row) → length l ≡ left → length r ≡ right → equal c l r ≡ Truth false → value_of e ((l ++ r) ++ x) ≡ Ok (Truth false)
   pub where_null : (l r x : Row) → length l ≡ left → length r ≡ right → equal c l r ≡ Null → passes (value_of e ((l ++ r) ++ x)) ≡ false
 
+-- over a pair of rows of these widths, whatever row follows it, the condition is the equality of the columns
+abbrev pub Equates : ℕ → ℕ → Expression → JoinColumns → Type 0
+Equates left right e c = (l r x : Row) → length l ≡ left → length r ≡ right → value_of e ((l ++ r) ++ x) ≡ Ok (equal c l r)
+
 -- columns of which each decides were put after those that were there
 pub record AreDeciding (left right : ℕ) (e : Expression) (old new : List JoinColumns) : Type 0 where
   pub own : List JoinColumns

@@ -19,9 +19,9 @@ use crate::pairs::{all_pairs, refilled};
 use crate::walk::{agreeing_rows, positions_in};
 use std::alloc::Global;
 use std::mem::replace;
+use wd_columns::{RowSource, row_in};
 use wd_plan::{Expr, Outcome};
 use wd_scalar::{has_arithmetic, value_of};
-use wd_sort::row_in;
 use wd_value::{Fault, OutOfMemory, Row, Value};
 
 /// Why a join gives no outcome.
@@ -135,7 +135,12 @@ fn kept_pairs(
 ) -> Result<Kept, OutOfMemory>
     ensures { IfOk result (λ k. AreKept (expression_of condition.now) most (spec.pairs (rows_of left.now) (rows_of right.now)) (rows_of k.rows.items) k.fault) }
 {
-    let columns = matching_columns(alloc, condition, left, right)?;
+    let columns = matching_columns(
+        alloc,
+        condition,
+        &RowSource::of_rows(left),
+        &RowSource::of_rows(right),
+    )?;
     if columns.is_empty() {
         pairs_where(alloc, condition, left, right, most)
     } else {
@@ -180,7 +185,12 @@ fn matching_where(
     ensures { IfOk result (λ k. AreKept (expression_of condition.now) most (spec.pairs (rows_of left.now) (rows_of right.now)) (rows_of k.rows.items) k.fault) }
 {
     let faultless = !has_arithmetic(condition);
-    let agreeing = agreeing_rows(alloc, columns, left, right)?;
+    let agreeing = agreeing_rows(
+        alloc,
+        columns,
+        &RowSource::of_rows(left),
+        &RowSource::of_rows(right),
+    )?;
     let mut kept = Kept::nothing(alloc);
     for i in 0..left.len() {
         if faultless && kept.rows.len() as u64 > most {

@@ -3,13 +3,14 @@
 ghost use Rattle.std.specs.Prelude.{◌≡◌, true, false, length, All, Contains, IfOk, IfSome, OnOk};
 ghost use Rattle.wd_plan.specs.Expressions.{expression_of, is_null};
 ghost use Rattle.wd_steps.specs.Matching as spec;
-ghost use Rattle.wd_steps.specs.Matching.{AreDeciding, AreSkippable, AreWhole, Decides};
-ghost use Rattle.wd_value.specs.Rows.{column_of, rows_of};
+ghost use Rattle.wd_steps.specs.Matching.{AreDeciding, AreSkippable, AreWhole, Equates};
+ghost use Rattle.wd_value.specs.Rows.{column_of, row_at};
 
 use std::alloc::Global;
+use wd_columns::RowSource;
 use wd_plan::{ComparisonOp, Expr};
 use wd_scalar::has_arithmetic;
-use wd_value::{OutOfMemory, Row, Value};
+use wd_value::{OutOfMemory, Value};
 
 /// A column of the left rows and one of the right rows.
 #[derive(Clone, Copy)]
@@ -30,15 +31,12 @@ pub struct Widths {
 pub(crate) fn matching_columns(
     alloc: Global,
     condition: &Expr,
-    left: &[Row],
-    right: &[Row],
+    left: &RowSource,
+    right: &RowSource,
 ) -> Result<Vec<JoinColumns>, OutOfMemory>
-    ensures { IfOk result (λ v. AreSkippable (expression_of condition.now) v.items (rows_of left.now) (rows_of right.now)) }
+    ensures { IfOk result (λ v. AreSkippable (expression_of condition.now) v.items left.now right.now) }
 {
-    let widths = Widths {
-        left: width_of(left),
-        right: width_of(right),
-    };
+    let widths = first_widths(left, right);
     if !are_wide(left, widths.left) || !are_wide(right, widths.right) {
         return Ok(Vec::new(alloc));
     }
@@ -51,19 +49,20 @@ pub(crate) fn matching_columns(
     }
 }
 
-/// The length of the first row, and 0 where there is none.
-fn width_of(rows: &[Row]) -> usize {
-    match rows.first() {
-        Some(row) => row.len(),
-        None => 0,
+/// The lengths of the first rows, and 0 where there is none.
+pub(crate) fn first_widths(left: &RowSource, right: &RowSource) -> Widths {
+    Widths {
+        left: left.width(0),
+        right: right.width(0),
     }
 }
 
-fn are_wide(rows: &[Row], width: usize) -> bool
-    ensures { result ≡ true → All (λ row. length row ≡ width) (rows_of rows.now) }
+/// Whether each row has so many values.
+pub(crate) fn are_wide(rows: &RowSource, width: usize) -> bool
+    ensures { result ≡ true → All (λ row. length row ≡ width) rows.now }
 {
-    for row in rows {
-        if row.len() != width {
+    for position in 0..rows.len() {
+        if rows.width(position as u64) != width {
             return false;
         }
     }
@@ -74,10 +73,10 @@ fn are_wide(rows: &[Row], width: usize) -> bool
 fn whole_columns(
     alloc: Global,
     columns: &[JoinColumns],
-    left: &[Row],
-    right: &[Row],
+    left: &RowSource,
+    right: &RowSource,
 ) -> Result<Vec<JoinColumns>, OutOfMemory>
-    ensures { IfOk result (λ v. All (λ c. Contains columns.now c × AreWhole c (rows_of left.now) (rows_of right.now)) v.items) }
+    ensures { IfOk result (λ v. All (λ c. Contains columns.now c × AreWhole c left.now right.now) v.items) }
 {
     let mut whole = Vec::new(alloc);
     for column in columns {
@@ -89,28 +88,29 @@ fn whole_columns(
 }
 
 /// Whether NULL stands in the columns.
-fn have_nulls(columns: JoinColumns, left: &[Row], right: &[Row]) -> bool
-    ensures { result ≡ false → AreWhole columns (rows_of left.now) (rows_of right.now) }
+fn have_nulls(columns: JoinColumns, left: &RowSource, right: &RowSource) -> bool
+    ensures { result ≡ false → AreWhole columns left.now right.now }
 {
     has_null(left, columns.left) || has_null(right, columns.right)
 }
 
-fn has_null(rows: &[Row], column: u16) -> bool
-    ensures { result ≡ false → All (λ row. is_null (column_of row column) ≡ false) (rows_of rows.now) }
+fn has_null(rows: &RowSource, column: u16) -> bool
+    ensures { result ≡ false → All (λ row. is_null (column_of row column) ≡ false) rows.now }
 {
-    for row in rows {
-        if is_null_in(row, column) {
+    for position in 0..rows.len() {
+        if is_null_at(rows, position as u64, column) {
             return true;
         }
     }
     false
 }
 
-pub(crate) fn is_null_in(row: &[Value], column: u16) -> bool
-    ensures { result ≡ is_null (column_of row.now column) }
+/// Whether NULL stands in a column of the row at a position; past the last of either it does.
+pub(crate) fn is_null_at(rows: &RowSource, position: u64, column: u16) -> bool
+    ensures { result ≡ is_null (column_of (row_at rows.now position) column) }
 {
     let null = Value::Null;
-    is_null_value(value_in(row, column, &null))
+    is_null_value(rows.value(position, column, &null))
 }
 
 fn is_null_value(value: &Value) -> bool
@@ -157,8 +157,8 @@ fn push_compared(
 }
 
 /// The columns of an equality of two columns, one of either side.
-fn compared(a: &Expr, b: &Expr, widths: Widths) -> Option<JoinColumns>
-    ensures { IfSome result (λ c. Decides widths.left widths.right (spec.equality (expression_of a.now) (expression_of b.now)) c) }
+pub(crate) fn compared(a: &Expr, b: &Expr, widths: Widths) -> Option<JoinColumns>
+    ensures { IfSome result (λ c. Equates widths.left widths.right (spec.equality (expression_of a.now) (expression_of b.now)) c) }
 {
     match (a, b) {
         (Expr::Column(a), Expr::Column(b)) => sides(*a, *b, widths),
@@ -183,12 +183,4 @@ fn sides(a: u16, b: u16, widths: Widths) -> Option<JoinColumns>
     } else {
         None
     }
-}
-
-/// The value in a column, and `null` past the last.
-pub(crate) fn value_in<'a>(row: &'a [Value], column: u16, null: &'a Value) -> &'a Value
-    requires { null.now ≡ spec.null }
-    ensures { result.now ≡ column_of row.now column }
-{
-    row.get(column as usize).unwrap_or(null)
 }

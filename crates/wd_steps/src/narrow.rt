@@ -11,8 +11,8 @@ use crate::matching::{JoinColumns, matching_columns};
 use crate::pairs::{all_pairs, joined_row};
 use crate::walk::{agreeing_rows, positions_in};
 use std::alloc::Global;
+use wd_columns::{RowSource, row_in};
 use wd_plan::Expr;
-use wd_sort::row_in;
 use wd_value::{OutOfMemory, Row};
 
 /// Pairs of a left and a right row, the left one outermost, over which a condition gives the same as
@@ -26,7 +26,12 @@ pub fn narrowed_pairs(
 ) -> Result<Vec<Row>, OutOfMemory>
     ensures { IfOk result (λ v. AreEnough (expression_of condition.now) (pairs (rows_of left.now) (rows_of right.now)) (rows_of v.items)) }
 {
-    let columns = matching_columns(alloc, condition, left, right)?;
+    let columns = matching_columns(
+        alloc,
+        condition,
+        &RowSource::of_rows(left),
+        &RowSource::of_rows(right),
+    )?;
     if columns.is_empty() {
         all_pairs(alloc, left, right)
     } else {
@@ -43,7 +48,12 @@ fn matching_pairs(
 ) -> Result<Vec<Row>, OutOfMemory>
     ensures { IfOk result (λ v. rows_of v.items ≡ matching columns.now (rows_of left.now) (rows_of right.now)) }
 {
-    let agreeing = agreeing_rows(alloc, columns, left, right)?;
+    let agreeing = agreeing_rows(
+        alloc,
+        columns,
+        &RowSource::of_rows(left),
+        &RowSource::of_rows(right),
+    )?;
     let mut rows = Vec::new(alloc);
     for i in 0..left.len() {
         let first = row_in(left, i as u64);

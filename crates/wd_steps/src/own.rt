@@ -93,7 +93,7 @@ fn selection_of(
 }
 
 /// The columns that the outputs are, where they are columns.
-fn shown_columns(alloc: Global, outputs: &[Expr]) -> Result<Option<Vec<u64>>, OutOfMemory>
+pub fn shown_columns(alloc: Global, outputs: &[Expr]) -> Result<Option<Vec<u64>>, OutOfMemory>
     ensures { IfOk result (λ o. IfSome o (λ v. map expression_of outputs.now ≡ map Column v.items)) }
 {
     let mut columns = Vec::with_capacity(alloc, outputs.len())?;

@@ -5,13 +5,14 @@ ghost use Rattle.std.specs.Prelude.{◌≡◌, ℕ, ◌-◌, ◌<◌, ◌≤◌,
 ghost use Rattle.std.specs.List.{list_any};
 ghost use Rattle.wd_steps.specs.Matching as spec;
 ghost use Rattle.wd_steps.specs.Matching.{AreAgreeing, AreBefore, AreStretches, IsEnd, IsSortedBy, IsStretch};
-ghost use Rattle.wd_value.specs.Rows.{row_at, rows_of};
+ghost use Rattle.wd_value.specs.Rows.{row_at};
 
-use crate::matching::{JoinColumns, is_null_in, value_in};
+use crate::matching::{JoinColumns, is_null_at};
 use std::alloc::Global;
 use std::cmp::Ordering;
-use wd_sort::{all_positions, row_in, sorted_from};
-use wd_value::{OutOfMemory, Row, SortColumn, SortKey, Value, compare};
+use wd_columns::RowSource;
+use wd_sort::{all_positions, sorted_in};
+use wd_value::{OutOfMemory, SortColumn, SortKey, Value, compare};
 
 /// Some positions in an order, one after the other.
 #[derive(Clone, Copy)]
@@ -32,10 +33,10 @@ pub struct Agreeing {
 pub(crate) fn agreeing_rows(
     alloc: Global,
     columns: &[JoinColumns],
-    left: &[Row],
-    right: &[Row],
+    left: &RowSource,
+    right: &RowSource,
 ) -> Result<Agreeing, OutOfMemory>
-    ensures { IfOk result (λ a. AreAgreeing columns.now (rows_of left.now) (rows_of right.now) a) }
+    ensures { IfOk result (λ a. AreAgreeing columns.now left.now right.now a) }
 {
     let left_order = sorted_left(alloc, columns, left)?;
     let order = sorted_right(alloc, columns, right)?;
@@ -57,9 +58,9 @@ pub(crate) fn positions_in(order: &[u64], stretch: Stretch) -> &[u64]
 fn sorted_left(
     alloc: Global,
     columns: &[JoinColumns],
-    rows: &[Row],
+    rows: &RowSource,
 ) -> Result<Vec<u64>, OutOfMemory>
-    ensures { IfOk result (λ v. IsSortedBy (spec.left_keys columns.now) (rows_of rows.now) v.items) }
+    ensures { IfOk result (λ v. IsSortedBy (spec.left_keys columns.now) rows.now v.items) }
 {
     let mut keys = Vec::with_capacity(alloc, columns.len())?;
     for column in columns {
@@ -72,9 +73,9 @@ fn sorted_left(
 fn sorted_right(
     alloc: Global,
     columns: &[JoinColumns],
-    rows: &[Row],
+    rows: &RowSource,
 ) -> Result<Vec<u64>, OutOfMemory>
-    ensures { IfOk result (λ v. IsSortedBy (spec.right_keys columns.now) (rows_of rows.now) v.items) }
+    ensures { IfOk result (λ v. IsSortedBy (spec.right_keys columns.now) rows.now v.items) }
 {
     let mut keys = Vec::with_capacity(alloc, columns.len())?;
     for column in columns {
@@ -97,11 +98,11 @@ const ASCENDING: SortKey = SortKey {
     nulls_first: false,
 };
 
-fn sorted_by(alloc: Global, rows: &[Row], keys: &[SortColumn]) -> Result<Vec<u64>, OutOfMemory>
-    ensures { IfOk result (λ v. IsSortedBy keys.now (rows_of rows.now) v.items) }
+fn sorted_by(alloc: Global, rows: &RowSource, keys: &[SortColumn]) -> Result<Vec<u64>, OutOfMemory>
+    ensures { IfOk result (λ v. IsSortedBy keys.now rows.now v.items) }
 {
     let all = all_positions(alloc, rows.len())?;
-    let order = sorted_from(alloc, rows, keys, &all)?;
+    let order = sorted_in(alloc, rows, keys, &all)?;
     Ok(order)
 }
 
@@ -110,20 +111,19 @@ fn sorted_by(alloc: Global, rows: &[Row], keys: &[SortColumn]) -> Result<Vec<u64
 fn walked(
     alloc: Global,
     columns: &[JoinColumns],
-    left: &[Row],
+    left: &RowSource,
     left_order: &[u64],
-    right: &[Row],
+    right: &RowSource,
     order: &[u64],
 ) -> Result<Vec<Stretch>, OutOfMemory>
-    requires left_sorted { IsSortedBy (spec.left_keys columns.now) (rows_of left.now) left_order.now }
-    requires right_sorted { IsSortedBy (spec.right_keys columns.now) (rows_of right.now) order.now }
-    ensures { IfOk result (λ v. AreStretches columns.now (rows_of left.now) (rows_of right.now) order.now v.items) }
+    requires left_sorted { IsSortedBy (spec.left_keys columns.now) left.now left_order.now }
+    requires right_sorted { IsSortedBy (spec.right_keys columns.now) right.now order.now }
+    ensures { IfOk result (λ v. AreStretches columns.now left.now right.now order.now v.items) }
 {
     let mut stretches = vec![in alloc; Stretch { start: 0, end: 0 }; left.len()]?;
     let mut start = 0;
     for position in left_order {
-        let row = row_in(left, *position);
-        let stretch = stretch_from(columns, row, right, order, start);
+        let stretch = stretch_from(columns, left, *position, right, order, start);
         put_stretch(&mut stretches, *position, stretch);
         start = stretch.start;
     }
@@ -139,47 +139,49 @@ fn put_stretch(stretches: &mut Vec<Stretch>, position: u64, stretch: Stretch)
     }
 }
 
-/// The stretch of the right rows that agree with a left row, which all rows before `from` are
-/// before.
+/// The stretch of the right rows that agree with the left row at a position, which all rows before
+/// `from` are before.
 fn stretch_from(
     columns: &[JoinColumns],
-    row: &[Value],
-    right: &[Row],
+    left: &RowSource,
+    position: u64,
+    right: &RowSource,
     order: &[u64],
     from: usize,
 ) -> Stretch
-    requires sorted { IsSortedBy (spec.right_keys columns.now) (rows_of right.now) order.now }
+    requires sorted { IsSortedBy (spec.right_keys columns.now) right.now order.now }
     requires within { from ≤ length order.now }
-    requires before { AreBefore false columns.now row.now (rows_of right.now) order.now from }
-    ensures is { IsStretch columns.now row.now (rows_of right.now) order.now result }
-    ensures before { AreBefore false columns.now row.now (rows_of right.now) order.now result.start }
+    requires before { AreBefore false columns.now (row_at left.now position) right.now order.now from }
+    ensures is { IsStretch columns.now (row_at left.now position) right.now order.now result }
+    ensures before { AreBefore false columns.now (row_at left.now position) right.now order.now result.start }
 {
-    let start = end_from(columns, row, right, order, from, false);
-    if lacks_key(columns, row) {
+    let start = end_from(columns, left, position, right, order, from, false);
+    if lacks_key(columns, left, position) {
         return Stretch { start, end: start };
     }
-    let end = end_from(columns, row, right, order, start, true);
+    let end = end_from(columns, left, position, right, order, start, true);
     Stretch { start, end }
 }
 
-/// How many rows of the order are before a left row, or with `too` tie with it, of which so many
-/// are known.
+/// How many rows of the order are before the left row at a position, or with `too` tie with it, of
+/// which so many are known.
 fn end_from(
     columns: &[JoinColumns],
-    row: &[Value],
-    right: &[Row],
+    left: &RowSource,
+    position: u64,
+    right: &RowSource,
     order: &[u64],
     from: usize,
     too: bool,
 ) -> usize
-    requires sorted { IsSortedBy (spec.right_keys columns.now) (rows_of right.now) order.now }
+    requires sorted { IsSortedBy (spec.right_keys columns.now) right.now order.now }
     requires within { from ≤ length order.now }
-    requires before { AreBefore too columns.now row.now (rows_of right.now) order.now from }
+    requires before { AreBefore too columns.now (row_at left.now position) right.now order.now from }
     ensures later { from ≤ result }
-    ensures is { IsEnd too columns.now row.now (rows_of right.now) order.now result }
+    ensures is { IsEnd too columns.now (row_at left.now position) right.now order.now result }
 {
     for i in from..order.len() {
-        let compared = compare_sides(columns, row, row_in(right, order[i]));
+        let compared = compare_sides(columns, left, position, right, order[i]);
         if !is_before(too, compared) {
             return i;
         }
@@ -193,12 +195,19 @@ fn is_before(too: bool, compared: Ordering) -> bool
     compared.is_lt() || (too && compared.is_eq())
 }
 
-/// A right row against a left one, at the first columns on which they differ.
-fn compare_sides(columns: &[JoinColumns], left: &[Value], right: &[Value]) -> Ordering
-    ensures { result ≡ spec.compare_sides columns.now left.now right.now }
+/// The right row at a position against the left one at a position, at the first columns on which
+/// they differ.
+fn compare_sides(
+    columns: &[JoinColumns],
+    left: &RowSource,
+    first: u64,
+    right: &RowSource,
+    second: u64,
+) -> Ordering
+    ensures { result ≡ spec.compare_sides columns.now (row_at left.now first) (row_at right.now second) }
 {
     for column in columns {
-        match compare_in(*column, left, right) {
+        match compare_in(*column, left, first, right, second) {
             Ordering::Equal => {}
             found => return found,
         }
@@ -206,23 +215,29 @@ fn compare_sides(columns: &[JoinColumns], left: &[Value], right: &[Value]) -> Or
     Ordering::Equal
 }
 
-fn compare_in(column: JoinColumns, left: &[Value], right: &[Value]) -> Ordering
-    ensures { result ≡ spec.compare_in column left.now right.now }
+fn compare_in(
+    column: JoinColumns,
+    left: &RowSource,
+    first: u64,
+    right: &RowSource,
+    second: u64,
+) -> Ordering
+    ensures { result ≡ spec.compare_in column (row_at left.now first) (row_at right.now second) }
 {
     let null = Value::Null;
     compare(
-        value_in(right, column.right, &null),
-        value_in(left, column.left, &null),
+        right.value(second, column.right, &null),
+        left.value(first, column.left, &null),
         ASCENDING,
     )
 }
 
-/// Whether NULL stands in one of the columns of a left row.
-fn lacks_key(columns: &[JoinColumns], row: &[Value]) -> bool
-    ensures { result ≡ spec.lacks_key columns.now row.now }
+/// Whether NULL stands in one of the columns of the left row at a position.
+fn lacks_key(columns: &[JoinColumns], left: &RowSource, position: u64) -> bool
+    ensures { result ≡ spec.lacks_key columns.now (row_at left.now position) }
 {
     for column in columns {
-        if is_null_in(row, column.left) {
+        if is_null_at(left, position, column.left) {
             return true;
         }
     }

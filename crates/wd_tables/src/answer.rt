@@ -1,18 +1,30 @@
 ghost use Rattle.std.specs.Prelude.{◌≡◌, ◌++◌, ℕ, List, [], ◌∷◌, map, IfOk, OnOk};
 ghost use Rattle.csv.specs.Records.{fields_of, partial_of};
 ghost use Rattle.csv.specs.Writing.{default_writer, row_text};
-ghost use Rattle.wd_value.specs.Rows.{rows_of};
+ghost use Rattle.wd_value.specs.Rows.{column_of, row_at, rows_of};
 ghost use Rattle.wd_tables.specs.Answers as spec;
 
 use csv::{ByteRecord, Writer, WriterBuilder};
 use itoa::Buffer;
 use std::alloc::{AllocError, Global};
+use wd_columns::RowSource;
 use wd_value::{OutOfMemory, Row, Text, Value};
 
 /// The text of an answer: a header of the names of its columns, and its rows. NULL and the empty
 /// text are empty fields, and each line ends with a line feed.
 pub fn answer_text(alloc: Global, names: &[Text], rows: &[Row]) -> Result<Vec<u8>, OutOfMemory>
     ensures { IfOk result (λ v. v.items ≡ spec.answer_text names.now (rows_of rows.now)) }
+{
+    answer_text_from(alloc, names, &RowSource::of_rows(rows))
+}
+
+/// As `answer_text`, of rows however they are kept.
+pub fn answer_text_from(
+    alloc: Global,
+    names: &[Text],
+    rows: &RowSource,
+) -> Result<Vec<u8>, OutOfMemory>
+    ensures { IfOk result (λ v. v.items ≡ spec.answer_text names.now rows.now) }
 {
     // A flexible writer refuses no length of a record.
     let mut writer = WriterBuilder::new()
@@ -21,8 +33,8 @@ pub fn answer_text(alloc: Global, names: &[Text], rows: &[Row]) -> Result<Vec<u8
     let mut fields = ByteRecord::new(alloc);
     put_names(&mut fields, names)?;
     write(&mut writer, &fields)?;
-    for row in rows {
-        put_values(&mut fields, row)?;
+    for position in 0..rows.len() {
+        put_values(&mut fields, rows, position as u64)?;
         write(&mut writer, &fields)?;
     }
     match writer.into_inner() {
@@ -51,14 +63,28 @@ fn put_names(fields: &mut ByteRecord, names: &[Text]) -> Result<(), AllocError>
     Ok(())
 }
 
-fn put_values(fields: &mut ByteRecord, row: &[Value]) -> Result<(), AllocError>
-    ensures { OnOk result (fields_of fields.new ≡ map spec.value_text row.now) }
+fn put_values(fields: &mut ByteRecord, rows: &RowSource, position: u64) -> Result<(), AllocError>
+    ensures { OnOk result (fields_of fields.new ≡ map spec.value_text (row_at rows.now position)) }
 {
     fields.clear();
-    for value in row {
-        put_value(fields, value)?;
+    for column in 0..rows.width(position) {
+        put_column(fields, rows, position, column)?;
     }
     Ok(())
+}
+
+// Adds the field of a row's value in a column.
+fn put_column(
+    fields: &mut ByteRecord,
+    rows: &RowSource,
+    position: u64,
+    column: usize,
+) -> Result<(), AllocError>
+    ensures fields { partial_of fields.old ≡ [] → OnOk result (fields_of fields.new ≡ fields_of fields.old ++ spec.value_text (column_of (row_at rows.now position) column) ∷ []) }
+    ensures partial { OnOk result (partial_of fields.new ≡ []) }
+{
+    let null = Value::Null;
+    put_value(fields, rows.value_at(position, column, &null))
 }
 
 // Adds the field of a value.

@@ -2,20 +2,17 @@ ghost use Rattle.std.specs.Prelude.{◌≡◌, IfOk, map};
 ghost use Rattle.std.specs.List.{list_any};
 ghost use Rattle.wd_schema.specs.Meets as meets;
 ghost use Rattle.wd_schema.specs.Tables.{key_of};
-ghost use Rattle.wd_sort.specs.Sorting as sorting;
 ghost use Rattle.wd_sort.specs.Sorting.{IsSortOf};
 ghost use Rattle.wd_tables.specs.Causes.{IsLeast, Repeats, RepeatsIn};
 ghost use Rattle.wd_tables.specs.Keys as spec;
-ghost use Rattle.wd_value.specs.Order as order;
 ghost use Rattle.wd_value.specs.Rows.{column_of, columns_of, row_at, same_row};
 ghost use Rattle.wd_value.specs.Values.{same as same_values};
 
 use std::alloc::Global;
-use std::cmp::Ordering;
-use wd_columns::Columns;
+use wd_columns::{Columns, RowSource};
 use wd_schema::{Key, is_null};
-use wd_sort::all_positions;
-use wd_value::{OutOfMemory, SortColumn, SortKey, Value, compare, same};
+use wd_sort::{all_positions, sorted_in};
+use wd_value::{OutOfMemory, SortColumn, SortKey, Value, same};
 
 /// The first row that repeats an earlier one in some key.
 pub fn first_repeat(alloc: Global, keys: &[Key], rows: &Columns) -> Result<Option<u64>, OutOfMemory>
@@ -68,33 +65,9 @@ fn sort_columns(alloc: Global, columns: &[u16]) -> Result<Vec<SortColumn>, OutOf
 fn sorted_by(alloc: Global, rows: &Columns, columns: &[SortColumn]) -> Result<Vec<u64>, OutOfMemory>
     ensures { IfOk result (λ v. IsSortOf columns.now rows.now v.items) }
 {
-    let mut order = all_positions(alloc, rows.len())?;
-    order.sort_by(|p, q| compare_rows(rows, columns, *p, *q))?;
+    let all = all_positions(alloc, rows.len())?;
+    let order = sorted_in(alloc, &RowSource::of_columns(rows), columns, &all)?;
     Ok(order)
-}
-
-// The rows at two positions, at the first of the columns on which they differ.
-fn compare_rows(rows: &Columns, columns: &[SortColumn], p: u64, q: u64) -> Ordering
-    ensures { result ≡ sorting.compare_rows_at columns.now rows.now p q }
-{
-    for column in columns {
-        match compare_values(rows, *column, p, q) {
-            Ordering::Equal => {}
-            found => return found,
-        }
-    }
-    Ordering::Equal
-}
-
-fn compare_values(rows: &Columns, column: SortColumn, p: u64, q: u64) -> Ordering
-    ensures { result ≡ order.compare column.key (column_of (row_at rows.now p) column.column) (column_of (row_at rows.now q) column.column) }
-{
-    let null = Value::Null;
-    compare(
-        rows.value(p, column.column, &null),
-        rows.value(q, column.column, &null),
-        column.key,
-    )
 }
 
 // The least position whose row violates the key with the row before it in the order.

@@ -11,7 +11,7 @@ mod laws;
 mod record;
 mod row;
 
-pub use answer::answer_text;
+pub use answer::{answer_text, answer_text_from};
 pub use data::{load, load_columns};
 pub use error::DataError;
 pub use laws::{one_refusal, rows_or_refusal};

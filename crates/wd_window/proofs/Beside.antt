@@ -1,9 +1,9 @@
 -- Rows with the values of a Window's calls after them.
-use Rattle.std.proofs.Common.{◌≡◌, ℕ, zero, suc, ◌+◌, ◌<◌, ◌≤◌, Bool, true, false, cond, ◌||◌, List, [], ◌∷◌, ◌++◌, map, length, get_or, set, Option, Some, None, Result, Ok, Err, refl, sym, ap, ◌∙◌, arith, append_assoc, zero-add, inl, inr, length-append}
+use Rattle.std.proofs.Common.{◌≡◌, ℕ, zero, suc, ◌+◌, ◌<◌, ◌≤◌, Bool, true, false, cond, ◌||◌, List, [], ◌∷◌, ◌++◌, map, length, get_or, set, Option, Some, None, Result, Ok, Err, refl, sym, subst, ap, ◌∙◌, arith, append_assoc, zero-add, inl, inr, length-append}
 use Rattle.std.specs.List.{list_any, range_with_len}
 use Rattle.std.proofs.lemmas.Bool.{cases_lt}
 use Rattle.std.proofs.lemmas.List.{append-nil, ext_get_or, get_or-map, length-map, map-set, map_push}
-use Rattle.std.proofs.lemmas.List.FromFn.{get_or-range_with_len, length-range_with_len}
+use Rattle.std.proofs.lemmas.List.FromFn.{get_or-map-range_with_len, get_or-range_with_len, length-range_with_len}
 use Rattle.std.specs.declared.alloc.Global.{Global}
 use Rattle.std.specs.declared.vec.Vec.{Vec}
 use Rattle.wd_value.specs.declared.value.Value.{Value}
@@ -12,11 +12,12 @@ use Rattle.wd_value.specs.declared.value.Fault.{Fault}
 use Rattle.wd_value.specs.declared.value.Fault.TheVariants.{DivisionByZero, OutOfRange}
 use Rattle.wd_value.specs.Bags.{positions}
 use Rattle.wd_value.specs.Rows.{Row, row_at, rows_of}
+use Rattle.wd_columns.specs.Along.{with_values}
 use Rattle.wd_plan.specs.Faults.{all_ok, and_then, has_fault, least_fault, unless, values_among}
 use Rattle.wd_plan.specs.Outcomes.{RowsOrFault, call_at, window_outcome}
 use Rattle.wd_plan.specs.Plans.{WindowRule}
 use Rattle.wd_steps.proofs.Filtering.{items}
-use Rattle.wd_window.specs.Beside.{beside, own_value, with_column, with_columns}
+use Rattle.wd_window.specs.Beside.{beside, own_value, value_or_null, with_column, with_columns, with_values_of}
 use Rattle.wd_window.specs.Columns.{AreColumns}
 use Rattle.wd_window.specs.Listings.{calls_at, first_calls}
 use Rattle.wd_window.proofs.CallColumns.{one_at}
@@ -47,10 +48,15 @@ range_fault true e = cc
 range_fault false e = cc
 
 -- without a fault there are values alone
-no_fault : (r : Result Row Fault) (rs : List (Result Row Fault)) → least_fault (r ∷ rs) ≡ None → ((x : Row) × (r ≡ Ok x)) × (least_fault rs ≡ None)
+no_fault : {X : Type 0} (r : Result X Fault) (rs : List (Result X Fault)) → least_fault (r ∷ rs) ≡ None → ((x : X) × (r ≡ Ok x)) × (least_fault rs ≡ None)
 no_fault (Ok x) rs h = ((x, refl), h)
 no_fault (Err DivisionByZero) rs h = absurd (cc)
 no_fault (Err OutOfRange) rs h = absurd (range_fault (list_any (has_fault DivisionByZero) rs) h)
+
+each_ok : {X : Type 0} (rs : List (Result X Fault)) → least_fault rs ≡ None → (k : ℕ) (d : Result X Fault) → k < length rs → (x : X) × (get_or rs k d ≡ Ok x)
+each_ok [] h k d l = absurd (omega arith)
+each_ok (r ∷ rs) h zero d l = (no_fault r rs h).0
+each_ok (r ∷ rs) h (suc k) d l = each_ok rs (no_fault r rs h).1 k d (omega arith)
 
 module _ (f : ℕ → Result Row Fault) where
   one_beside : (row : Row) (rows : List Row) (a : ℕ) (g : ℕ → Row) (r : Result Row Fault) (x : Row) → r ≡ Ok x → g a ≡ row → (xs ys : List Row) → xs ≡ beside rows ys
@@ -203,6 +209,46 @@ get-columns rows (column ∷ columns) p h long =
     one_value (Ok x) rs = refl
     one_value (Err fault) rs = refl
 
+-- a value at each of the first n places
+record IsWhole (n : ℕ) (column : List (Result Value Fault)) : Type 0 where
+  long : length column ≡ n
+  each : (p : ℕ) → p < n → (x : Value) × (get_or column p (Ok Null) ≡ Ok x)
+
+own_alone : (r : Result Value Fault) (x : Value) → r ≡ Ok x → value_or_null r ∷ [] ≡ own_value r
+own_alone (Ok y) x e = refl
+own_alone (Err fault) x e = absurd (cc)
+
+-- a whole column is put after the rows the same way
+whole_beside : (rows : List Row) (column : List (Result Value Fault)) → IsWhole (length rows) column → with_values rows (map value_or_null column) ≡ with_column rows column
+whole_beside rows column whole =
+    let n = length rows in
+    let values = map value_or_null column in
+    let row = λ (p : ℕ). row_at rows p ++ get_or values p Null ∷ [] in
+    let size = length-map (positions n) row in
+    let count = length-range_with_len 0 n in
+    let other_size = length-beside rows (map own_value column) in
+    let long = whole.long in
+    let many = length-map column own_value in
+    ext_get_or [] (with_values rows values) (with_column rows column) (omega arith) (λ p l. (
+    let there : p < n = omega arith in
+    let within : p < length column = omega arith in
+    let found = whole.each p there in
+    get_or-map-range_with_len row 0 n p p [] there (zero-add p)
+    ∙ ap (λ v. row_at rows p ++ v ∷ []) (get_or-map value_or_null column p (Ok Null) Null within)
+    ∙ ap (λ vs. row_at rows p ++ vs) (own_alone (at_place p column) found.0 found.1 ∙ sym (get_or-map own_value column p (Ok Null) [] within))
+    ∙ sym (get-beside rows (map own_value column) p there (omega arith))))
+
+whole_columns : (rows : List Row) (columns : List (List (Result Value Fault))) → ((k : ℕ) → k < length columns → IsWhole (length rows) (get_or columns k [])) → with_values_of rows columns ≡ with_columns rows columns
+whole_columns rows [] whole = refl
+whole_columns rows (column ∷ columns) whole =
+    let size = length-beside rows (map own_value column) in
+    ap (λ rs. with_values_of rs columns) (whole_beside rows column (whole 0 (omega arith)))
+    ∙ whole_columns (with_column rows column) columns (λ k l. subst (λ n. IsWhole n (get_or columns k [])) (sym size) (whole (suc k) (omega arith)))
+
+pub values_push : (rows : List Row) (columns : List (List (Result Value Fault))) (column : List (Result Value Fault)) → with_values_of rows (columns ++ column ∷ []) ≡ with_values (with_values_of rows columns) (map value_or_null column)
+values_push rows [] column = refl
+values_push rows (c ∷ columns) column = values_push (with_values rows (map value_or_null c)) columns column
+
 module _ (w : WindowRule) (rows : List Row) (orderings : List (List ℕ)) where
   abbrev values_at : ℕ → Row
   values_at p = values_among (map (call_at w rows orderings p) w.calls)
@@ -252,6 +298,40 @@ module _ (w : WindowRule) (rows : List Row) (orderings : List (List ℕ)) where
         ∙ ap (λ v. get_or rows p [] ++ v) (sym (get_or-map values_at ps p 0 [] in_positions ∙ ap values_at (get_or-range_with_len 0 n p 0 (omega arith) ∙ zero-add p)))
         ∙ sym (get-beside rows vs p there in_values))) in
         ap Ok same ∙ window_from_values w rows orderings n (Ok vs) long first
+
+    ok_none : (fault : Option Fault) (values x : Row) → unless fault values ≡ Ok x → fault ≡ None
+    ok_none None values x e = refl
+    ok_none (Some fault) values x e = absurd (cc)
+
+    -- no call has a fault at a row
+    row_none : least_fault (map (calls_at w rows orderings) (positions (length rows))) ≡ None → (p : ℕ) → p < length rows → least_fault (map (call_at w rows orderings p) w.calls) ≡ None
+    row_none none p there =
+        let n = length rows in
+        let ps = positions n in
+        let count = length-range_with_len 0 n in
+        let many = length-map ps (calls_at w rows orderings) in
+        let in_positions : p < length ps = omega arith in
+        let found = each_ok (map (calls_at w rows orderings) ps) none p (Ok []) (omega arith) in
+        let is : calls_at w rows orderings p ≡ Ok found.0 = sym (get_or-map (calls_at w rows orderings) ps p 0 (Ok []) in_positions ∙ ap (calls_at w rows orderings) (get_or-range_with_len 0 n p 0 there ∙ zero-add p)) ∙ found.1 in
+        ok_none (least_fault (map (call_at w rows orderings p) w.calls)) (values_at p) found.0 is
+
+    each_whole : least_fault (map (calls_at w rows orderings) (positions (length rows))) ≡ None → (k : ℕ) → k < length columns → IsWhole (length rows) (get_or columns k [])
+    each_whole none k l =
+        let many = are.many in
+        let named : k < length w.calls = omega arith in
+        let call = one_at w.calls k named in
+        let column = are.each k call.0 named in
+        record {
+          long = column.long;
+          each = λ p there. (
+              let wide = length-map w.calls (call_at w rows orderings p) in
+              let found = each_ok (map (call_at w rows orderings p) w.calls) (row_none none p there) k (Ok Null) (omega arith) in
+              (found.0, column.each p (Ok Null) there ∙ sym (get_or-map (call_at w rows orderings p) w.calls k call.0 (Ok Null) named) ∙ found.1));
+        }
+
+    -- so are the rows with their values along the columns
+    pub window_along_columns : least_fault (map (calls_at w rows orderings) (positions (length rows))) ≡ None → Ok (with_values_of rows columns) ≡ window_outcome w rows orderings
+    window_along_columns none = ap Ok (whole_columns rows columns (each_whole none)) ∙ window_from_columns (length rows) refl none
 
     pub window_fault : (n : ℕ) (fault : Fault) → n ≡ length rows → least_fault (map (calls_at w rows orderings) (positions n)) ≡ Some fault → Err fault ≡ window_outcome w rows orderings
     window_fault n fault long some = window_from_values w rows orderings n (Err fault) long (sym (ap (λ o. unless o (values_among (map (calls_at w rows orderings) (positions n)))) some))

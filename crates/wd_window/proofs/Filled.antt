@@ -1,5 +1,5 @@
 -- A column that is filled one partition after another.
-use Rattle.std.proofs.Common.{◌≡◌, ℕ, zero, suc, ◌+◌, ◌<◌, ◌≤◌, true, List, [], ◌∷◌, ◌++◌, length, get_or, set, eqb, Some, Result, refl, sym, ap, ◌∙◌, subst, arith, inl, inr}
+use Rattle.std.proofs.Common.{◌≡◌, ℕ, zero, suc, ◌+◌, ◌<◌, ◌≤◌, Bool, List, [], ◌∷◌, ◌++◌, length, get_or, set, eqb, Some, Result, refl, sym, ap, ◌∙◌, subst, arith, inl, inr}
 use Rattle.std.specs.Prelude.{slice_get}
 use Rattle.std.proofs.lemmas.Bool.{cases_eq, cases_lt}
 use Rattle.std.proofs.lemmas.List.{length-map, length_push, get_or_append_left, get_or_push, get_or-set_same, get_or-set_other, set_past}
@@ -18,6 +18,7 @@ use Rattle.wd_frame.specs.Laws.{is_descending}
 use Rattle.wd_partition.specs.Members.{MemberRule, member_of}
 use Rattle.wd_calls.specs.Parts.{AreValues}
 use Rattle.wd_window.specs.Columns.{AreAt, AreFilled, IsSpread, first_of}
+use Rattle.wd_window.specs.Listings.{AreAskedBy}
 use Rattle.wd_window.proofs.Listed.{own_part, part_by}
 
 module _ (class : ClassRule) (rows : List Row) (ordering : List ℕ) (lawful : IsOrdering class rows ordering) where
@@ -67,14 +68,14 @@ module _ (class : ClassRule) (rows : List Row) (ordering : List ℕ) (lawful : I
     value = value_at class call.frame call.function rows ordering
 
     -- the values of the call at the members of a row's partition
-    pub values_at_members : position < length rows → (member : MemberRule) (values : List (Result Value Fault)) → member ≡ member_of class true rows ordering position
+    pub values_at_members : (asked : Bool) → AreAskedBy call.frame asked → position < length rows → (member : MemberRule) (values : List (Result Value Fault)) → member ≡ member_of class asked rows ordering position
         → AreValues call.frame call.function (rows_at rows member.positions) (part_by member (is_descending class.order)) values → AreAt value member.positions values
-    values_at_members within member values is are k other h =
+    values_at_members asked needs within member values is are k other h =
         let ms = members class rows ordering position in
         let own = subst (λ (m : MemberRule). AreValues call.frame call.function (rows_at rows m.positions) (part_by m (is_descending class.order)) values) is are in
         let there : k < length (partition_of class rows ordering position) = subst (λ n. k < n) own.long h in
         let short : k < length ms = subst (λ n. k < n) (length-map ms (row_at rows)) there in
-        own.each k other class (own_part class call.frame rows ordering position lawful) there
+        own.each k other class (own_part class call.frame asked rows ordering position needs lawful) there
         ∙ sym (λ i. call_value class call.frame call.function (rows_at rows (alike position k short i)) (place_alike position k short i))
         ∙ ap (λ (m : MemberRule). value (get_or m.positions k 0)) (sym is)
 

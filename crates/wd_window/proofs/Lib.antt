@@ -5,3 +5,4 @@ pub mod Taken
 pub mod Naming
 pub mod Filled
 pub mod CallColumns
+pub mod Asking

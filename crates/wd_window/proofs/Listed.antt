@@ -1,28 +1,25 @@
--- The value of a call from the partitions of its class.
-use Rattle.std.proofs.Common.{◌≡◌, ℕ, ◌<◌, Bool, true, List, [], ◌∷◌, map, length, get_or, Some, None, Result, refl, sym, ap, ◌∙◌, subst, zero-add}
+-- What a call reads of the partitions of its class.
+use Rattle.std.proofs.Common.{◌≡◌, ℕ, ◌<◌, Bool, true, List, [], ◌∷◌, map, length, get_or, Some, None, refl, sym, ap, ◌∙◌, subst, zero-add}
 use Rattle.std.specs.Prelude.{slice_get, option_map}
 use Rattle.std.proofs.lemmas.List.{get_or-map}
 use Rattle.std.proofs.lemmas.List.FromFn.{get_or-range_with_len, length-range_with_len}
 use Rattle.std.proofs.lemmas.Option.{slice_get-map, slice_get-get_or}
 use Rattle.wd_value.specs.declared.value.Value.{Value}
 use Rattle.wd_value.specs.declared.value.Value.TheVariants.{Null, Int, Text, Bool as Truth}
-use Rattle.wd_value.specs.declared.value.Fault.{Fault}
 use Rattle.wd_value.specs.Bags.{positions}
-use Rattle.wd_value.specs.Rows.{Row, column_of, row_at, rows_at}
+use Rattle.wd_value.specs.Rows.{Row, column_of, row_at}
 use Rattle.wd_value.specs.declared.order.SortColumn.{SortColumn}
 use Rattle.wd_plan.specs.declared.window.Frame.{Frame}
-use Rattle.wd_plan.specs.declared.function.Function.{Function}
-use Rattle.wd_plan.specs.Calls.{value_at}
 use Rattle.wd_plan.specs.Frames.{key_distance, value_distance}
 use Rattle.wd_plan.specs.Partitions.{partition_of}
 use Rattle.wd_plan.specs.Plans.{ClassRule}
 use Rattle.wd_plan.specs.Sorting.{IsOrdering}
-use Rattle.wd_plan.proofs.Places.{in_part}
 use Rattle.wd_plan.proofs.GroupsRise.{peer_groups_rise}
 use Rattle.wd_frame.specs.Laws.{is_descending}
 use Rattle.wd_frame.specs.Places.{PartRule}
 use Rattle.wd_partition.specs.Members.{MemberRule, key_numbers, member_of, members_of, number_part}
-use Rattle.wd_calls.specs.Parts.{IsPartOf, IsValueAt}
+use Rattle.wd_calls.specs.Parts.{HasKeys, IsPartOf}
+use Rattle.wd_window.specs.Listings.{AreAskedBy}
 
 -- whole numbers alone have a distance
 number_distance : (desc : Bool) (a b : Value) → value_distance desc (number_part a) (number_part b) ≡ value_distance desc a b
@@ -49,42 +46,32 @@ module _ (partition : List Row) (p q : ℕ) (at_p : p < length partition) (at_q 
 abbrev pub part_by : MemberRule → Bool → PartRule
 part_by member desc = record { groups = member.groups; keys = member.numbers; desc = desc }
 
--- the members of a row's partition are a partition list of the class
-pub own_part : (class : ClassRule) (frame : Frame) (rows : List Row) (ordering : List ℕ) (p : ℕ) → IsOrdering class rows ordering
-    → IsPartOf class frame (partition_of class rows ordering p) (part_by (member_of class true rows ordering p) (is_descending class.order))
-own_part class frame rows ordering p lawful = record {
+-- the members of a row's partition are a partition list of the class, with keys if the frame needs them
+pub own_part : (class : ClassRule) (frame : Frame) (asked : Bool) (rows : List Row) (ordering : List ℕ) (p : ℕ) → AreAskedBy frame asked → IsOrdering class rows ordering
+    → IsPartOf class frame (partition_of class rows ordering p) (part_by (member_of class asked rows ordering p) (is_descending class.order))
+own_part class frame asked rows ordering p needs lawful = record {
   groups = refl;
   rising = peer_groups_rise class rows ordering p lawful;
-  keys = λ _. (λ a b at_a at_b. same_distance (partition_of class rows ordering p) a b at_a at_b class.order);
+  keys = λ h. subst (λ (a : Bool). HasKeys class (partition_of class rows ordering p) (part_by (member_of class a rows ordering p) (is_descending class.order))) (sym (needs h))
+      (λ a b at_a at_b. same_distance (partition_of class rows ordering p) a b at_a at_b class.order);
 }
 
-module _ (class : ClassRule) (rows : List Row) (ordering : List ℕ) (p : ℕ) (within : p < length rows) where
-  own_member : slice_get (members_of class true rows ordering) p ≡ Some (member_of class true rows ordering p)
+module _ (class : ClassRule) (asked : Bool) (rows : List Row) (ordering : List ℕ) (p : ℕ) (within : p < length rows) where
+  own_member : slice_get (members_of class asked rows ordering) p ≡ Some (member_of class asked rows ordering p)
   own_member =
       let all = positions (length rows) in
       let long : p < length all = subst (λ n. p < n) (sym (length-range_with_len 0 (length rows))) within in
       let here : get_or all p 0 ≡ p = get_or-range_with_len 0 (length rows) p 0 within ∙ zero-add p in
-      slice_get-map (member_of class true rows ordering) all p
-      ∙ ap (option_map (member_of class true rows ordering)) (slice_get-get_or all p 0 long ∙ ap Some here)
+      slice_get-map (member_of class asked rows ordering) all p
+      ∙ ap (option_map (member_of class asked rows ordering)) (slice_get-get_or all p 0 long ∙ ap Some here)
 
-  pub own_of : (member : MemberRule) → slice_get (members_of class true rows ordering) p ≡ Some member → member ≡ member_of class true rows ordering p
+  pub own_of : (member : MemberRule) → slice_get (members_of class asked rows ordering) p ≡ Some member → member ≡ member_of class asked rows ordering p
   own_of member there = (let e = own_member in cc)
 
-module _ (class : ClassRule) (frame : Frame) (function : Function) (rows : List Row) (ordering : List ℕ) (p : ℕ) (lawful : IsOrdering class rows ordering) (within : p < length rows) (value : Result Value Fault) where
-  value_of_own : (let m = member_of class true rows ordering p in IsValueAt frame function (rows_at rows m.positions) (part_by m (is_descending class.order)) m.place value) → value ≡ value_at class frame function rows ordering p
-  value_of_own h = h class (own_part class frame rows ordering p lawful) (in_part class rows ordering p lawful.once within).within_rows
-
-  pub value_of_member : (member : MemberRule) (desc : Bool) → slice_get (members_of class true rows ordering) p ≡ Some member → desc ≡ is_descending class.order
-      → IsValueAt frame function (rows_at rows member.positions) (part_by member desc) member.place value → value ≡ value_at class frame function rows ordering p
-  value_of_member member desc there direction h =
-      let same = own_of class rows ordering p within member there in
-      value_of_own (subst (λ (m : MemberRule). IsValueAt frame function (rows_at rows m.positions) (part_by m (is_descending class.order)) m.place value) same
-      (subst (λ (d : Bool). IsValueAt frame function (rows_at rows member.positions) (part_by member d) member.place value) direction h))
-
 -- past the last row there is no member
-pub some_member : (class : ClassRule) (rows : List Row) (ordering : List ℕ) (p : ℕ) → p < length rows → slice_get (members_of class true rows ordering) p ≡ None → ⊥
-some_member class rows ordering p within none =
+pub some_member : (class : ClassRule) (asked : Bool) (rows : List Row) (ordering : List ℕ) (p : ℕ) → p < length rows → slice_get (members_of class asked rows ordering) p ≡ None → ⊥
+some_member class asked rows ordering p within none =
     let all = positions (length rows) in
     let long : p < length all = subst (λ n. p < n) (sym (length-range_with_len 0 (length rows))) within in
-    let there = slice_get-map (member_of class true rows ordering) all p ∙ ap (option_map (member_of class true rows ordering)) (slice_get-get_or all p 0 long) in
+    let there = slice_get-map (member_of class asked rows ordering) all p ∙ ap (option_map (member_of class asked rows ordering)) (slice_get-get_or all p 0 long) in
     cc

@@ -5,14 +5,13 @@ use Rattle.std.proofs.lemmas.List.{get_or-take, get_or-drop, get_or-map, get_or_
 use Rattle.std.proofs.Math.Seq.{get_or-append_seam}
 use Rattle.wd_value.specs.declared.value.Fault.{Fault}
 use Rattle.wd_value.specs.Rows.{Row}
-use Rattle.wd_plan.specs.declared.plan.Outcome.{Outcome}
 use Rattle.wd_plan.specs.declared.window.Class.{Class}
 use Rattle.wd_plan.specs.declared.window.Window.{Window}
-use Rattle.wd_plan.specs.Outcomes.{RowsOrFault, class_at, ordering_at, outcome_of, window_outcome}
+use Rattle.wd_plan.specs.Outcomes.{RowsOrFault, class_at, ordering_at, window_outcome}
 use Rattle.wd_plan.specs.Plans.{ClassRule, WindowRule, class_of, window_of}
 use Rattle.wd_plan.specs.Sorting.{IsOrdering}
 use Rattle.wd_window.specs.Windows.{AreUnserved, HasOrdering, IsExtended, IsLeast, IsWindowServed, IsWrong}
-use Rattle.wd_window.specs.Listings.{AreEmpty, AreListed, AreListings, IsEmptyAt, IsListed, IsListing, IsNotEmptyIn, WhereListed}
+use Rattle.wd_window.specs.Listings.{AreEmpty, AreListed, AreListings, IsEmptyAt, IsListed, IsListingIn, IsNotEmptyIn, WhereListed, asks_keys}
 use Rattle.wd_window.specs.declared.listing.Listing.{Listing}
 
 own_at : (choice : List (List ℕ)) (first m k : ℕ) → k < m → ordering_at (take m (drop first choice)) k ≡ ordering_at choice (first + k)
@@ -20,6 +19,10 @@ own_at choice first m k h = get_or-take m (drop first choice) k [] h ∙ get_or-
 
 length_own : (choice : List (List ℕ)) (first m : ℕ) → first + m ≤ length choice → length (take m (drop first choice)) ≡ m
 length_own choice first m h = let a = length-take m (drop first choice) in let b = length-drop first choice in omega arith
+
+-- the class with a number
+pub class_is : (window : Window) (class : Class) (n : ℕ) → n < length window.classes.items → class ≡ get_or window.classes.items n class → class_of class ≡ class_at (window_of window) n
+class_is window class n lt is = sym (get_or-map class_of window.classes.items n class (record { partition = []; order = [] }) lt ∙ ap class_of (sym is))
 
 -- the first class that does not serve stops its Window
 pub class_unserved : (window : Window) (class : Class) (rows : List Row) (choice : List (List ℕ)) (first k : ℕ) (listings : List Listing) → k < length window.classes.items → class ≡ get_or window.classes.items k class
@@ -31,7 +34,7 @@ class_unserved window class rows choice first k listings lt is a h =
       record {
         number = k;
         within = omega arith;
-        wrong = subst (λ (rule : ClassRule). IsWrong rule (Ok rows) choice (first + k) (first + k)) (ap class_of is ∙ sym (get_or-map class_of classes k class (record { partition = []; order = [] }) lt)) (refl, h);
+        wrong = subst (λ (rule : ClassRule). IsWrong rule (Ok rows) choice (first + k) (first + k)) (class_is window class k lt is) (refl, h);
       },
       λ m earlier x. (
           let at = x.wrong.0 in
@@ -43,22 +46,20 @@ class_unserved window class rows choice first k listings lt is a h =
     )
 
 -- the partitions of one class more
-pub listings_more : (window : Window) (class : Class) (rows : List Row) (choice : List (List ℕ)) (first n : ℕ) (ls more : List Listing) (l : Listing) → n < length window.classes.items → class ≡ get_or window.classes.items n class
-    → AreListings (window_of window) rows choice first n ls → IsListed (class_of class) rows choice (first + n) l → more ≡ ls ++ l ∷ [] → AreListings (window_of window) rows choice first (n + 1) more
-listings_more window class rows choice first n ls more l lt is a b e =
+pub listings_more : (w : WindowRule) (rows : List Row) (choice : List (List ℕ)) (first n : ℕ) (ls more : List Listing) (l : Listing)
+    → AreListings w rows choice first n ls → IsListed (class_at w n) (asks_keys w n) rows choice (first + n) l → more ≡ ls ++ l ∷ [] → AreListings w rows choice first (n + 1) more
+listings_more w rows choice first n ls more l a b e =
     let there = b.present in
     let long = a.long in
-    let w = window_of window in
     let last : (d : Listing) → get_or more n d ≡ l = λ d. ap (λ xs. get_or xs n d) e ∙ ap (λ k. get_or (ls ++ l ∷ []) k d) (sym long) ∙ get_or-append_seam ls l [] d in
-    let earlier : (k : ℕ) → k < n → (d : Listing) → IsListing (class_at w k) rows (ordering_at choice (first + k)) (get_or more k d) =
-    λ k h d. (let within : k < length ls = omega arith in subst (λ (x : Listing). IsListing (class_at w k) rows (ordering_at choice (first + k)) x) (sym (ap (λ xs. get_or xs k d) e ∙ get_or_append_left ls (l ∷ []) d k within)) (a.each k d h)) in
-    let here : (d : Listing) → IsListing (class_at w n) rows (ordering_at choice (first + n)) (get_or more n d) =
-    λ d. subst (λ (x : Listing). IsListing (class_at w n) rows (ordering_at choice (first + n)) x) (sym (last d))
-    (subst (λ (r : ClassRule). IsListing r rows (ordering_at choice (first + n)) l) (sym (get_or-map class_of window.classes.items n class (record { partition = []; order = [] }) lt ∙ ap class_of (sym is))) b.is) in
+    let earlier : (k : ℕ) → k < n → (d : Listing) → IsListingIn w k rows (ordering_at choice (first + k)) (get_or more k d) =
+    λ k h d. (let within : k < length ls = omega arith in subst (λ (x : Listing). IsListingIn w k rows (ordering_at choice (first + k)) x) (sym (ap (λ xs. get_or xs k d) e ∙ get_or_append_left ls (l ∷ []) d k within)) (a.each k d h)) in
+    let here : (d : Listing) → IsListingIn w n rows (ordering_at choice (first + n)) (get_or more n d) =
+    λ d. subst (λ (x : Listing). IsListingIn w n rows (ordering_at choice (first + n)) x) (sym (last d)) b.is in
     record {
       long = ap length e ∙ length-append ls (l ∷ []) ∙ ap (λ k. k + 1) long;
       present = omega arith;
-      each = λ k d h. below_more (λ i. (d : Listing) → IsListing (class_at w i) rows (ordering_at choice (first + i)) (get_or more i d)) n earlier here k h d;
+      each = λ k d h. below_more (λ i. (d : Listing) → IsListingIn w i rows (ordering_at choice (first + i)) (get_or more i d)) n earlier here k h d;
     }
 
 module _ (w : WindowRule) (rows : List Row) (choice : List (List ℕ)) (first : ℕ) where
@@ -68,7 +69,7 @@ module _ (w : WindowRule) (rows : List Row) (choice : List (List ℕ)) (first : 
   pub listed : (listings : List Listing) → AreListings w rows choice first (length w.classes) listings → AreListed w rows own listings
   listed listings a = record {
     long = a.long;
-    each = λ k l h. subst (λ (o : List ℕ). IsListing (class_at w k) rows o (get_or listings k l)) (sym (own_at choice first (length w.classes) k h)) (a.each k l h);
+    each = λ k l h. subst (λ (o : List ℕ). IsListingIn w k rows o (get_or listings k l)) (sym (own_at choice first (length w.classes) k h)) (a.each k l h);
   }
 
   pub served : (listings : List Listing) → AreListings w rows choice first (length w.classes) listings → IsWindowServed w (Ok rows) choice first
@@ -80,9 +81,9 @@ module _ (w : WindowRule) (rows : List Row) (choice : List (List ℕ)) (first : 
     };
   }
 
-  pub rows_done : (listings : List Listing) (o : Outcome) → AreListings w rows choice first (length w.classes) listings
-      → WhereListed w rows listings (λ orderings. outcome_of o ≡ window_outcome w rows orderings) → IsExtended w (Ok rows) choice first o
-  rows_done listings o a is = record { served = served listings a; is = is own (listed listings a) }
+  pub rows_done : (listings : List Listing) (found : RowsOrFault) → AreListings w rows choice first (length w.classes) listings
+      → WhereListed w rows listings (λ orderings. found ≡ window_outcome w rows orderings) → IsExtended w (Ok rows) choice first found
+  rows_done listings found a is = record { served = served listings a; is = is own (listed listings a) }
 
 -- ---- an input that is a fault
 
@@ -96,8 +97,8 @@ each_from_all (x ∷ xs) zero a = a.0
 each_from_all (x ∷ xs) (suc k) a = each_from_all xs k a.1
 
 module _ (w : WindowRule) (fault : Fault) (choice : List (List ℕ)) (first n : ℕ) (long : n ≡ length w.classes) where
-  pub fault_done : (o : Outcome) → AreEmpty n choice first → outcome_of o ≡ Err fault → IsExtended w (Err fault) choice first o
-  fault_done o a is =
+  pub fault_done : AreEmpty n choice first → IsExtended w (Err fault) choice first (Err fault)
+  fault_done a =
       let there = a.present in
       let enough : first + length w.classes ≤ length choice = omega arith in
       let size = length_own choice first (length w.classes) enough in
@@ -106,7 +107,7 @@ module _ (w : WindowRule) (fault : Fault) (choice : List (List ℕ)) (first n : 
           present = enough;
           lawful = all_from_each (take (length w.classes) (drop first choice)) (λ k h. (let lt : k < length w.classes = omega arith in own_at choice first (length w.classes) k lt ∙ a.empty k (omega arith)));
         };
-        is = is;
+        is = refl;
       }
 
   pub fault_unserved : (place : ℕ) → IsLeast (IsNotEmptyIn n choice first) place → AreUnserved w (Err fault) choice first place

@@ -29,10 +29,10 @@ pub record IsWindowServed (w : WindowRule) (input : RowsOrFault) (choice : List 
 abbrev pub window_over : WindowRule → List (List ℕ) → RowsOrFault → RowsOrFault
 window_over w orderings input = and_then input (λ rows. window_outcome w rows orderings)
 
--- the outcome of a Window over its input, under orderings that serve it
-pub record IsExtended (w : WindowRule) (input : RowsOrFault) (choice : List (List ℕ)) (first : ℕ) (o : Outcome) : Type 0 where
+-- what is found is what a Window gives over its input, under orderings that serve it
+pub record IsExtended (w : WindowRule) (input : RowsOrFault) (choice : List (List ℕ)) (first : ℕ) (found : RowsOrFault) : Type 0 where
   pub served : IsWindowServed w input choice first
-  pub is : outcome_of o ≡ window_over w (take (length w.classes) (drop first choice)) input
+  pub is : found ≡ window_over w (take (length w.classes) (drop first choice)) input
 
 -- the ordering with this number is there, and is one of the class over its input: of the rows, and the empty list where the
 -- input is a fault
@@ -63,5 +63,5 @@ AreUnserved w input choice first place = IsLeast (IsWrongIn w input choice first
 -- the outcome of a Window over its input under the orderings from the number `first` on, or the place of the first that does not
 -- serve it
 pub record IsExtendedOrUnserved (w : WindowRule) (input : RowsOrFault) (choice : List (List ℕ)) (first : ℕ) (r : Result Outcome ℕ) : Type 0 where
-  pub ok : IfOk r (λ o. IsExtended w input choice first o)
+  pub ok : IfOk r (λ o. IsExtended w input choice first (outcome_of o))
   pub refused : IfErr r (λ place. AreUnserved w input choice first place)

@@ -16,6 +16,8 @@ ghost use Rattle.wd_window.specs.Columns.{AreColumns, columns_of};
 ghost use Rattle.wd_window.specs.Listings.{calls_at};
 
 use crate::column::Column;
+use std::alloc::Global;
+use wd_columns::Columns;
 use wd_steps::with_fault;
 use wd_value::{Fault, OutOfMemory, Row, Value};
 
@@ -75,6 +77,42 @@ pub(crate) fn with_columns(rows: Vec<Row>, columns: Vec<Column>) -> Result<Vec<R
         extended = with_column(extended, column)?;
     }
     Ok(extended)
+}
+
+/// Each row with its values in the columns after its own, and NULL in place of a fault.
+pub(crate) fn with_values(
+    alloc: Global,
+    rows: Columns,
+    columns: Vec<Column>,
+) -> Result<Columns, OutOfMemory>
+    ensures { IfOk result (λ c. c ≡ spec.with_values_of rows (columns_of columns.items)) }
+{
+    let mut extended = rows;
+    for column in columns {
+        let values = own_values(alloc, column)?;
+        extended = extended.with_column(values)?;
+    }
+    Ok(extended)
+}
+
+/// The values of a column, which are moved, with NULL in place of a fault.
+fn own_values(alloc: Global, column: Column) -> Result<Vec<Value>, OutOfMemory>
+    ensures { IfOk result (λ v. v.items ≡ map spec.value_or_null column.items) }
+{
+    let mut values = Vec::with_capacity(alloc, column.len())?;
+    for value in column {
+        values.push(value_or_null(value))?;
+    }
+    Ok(values)
+}
+
+fn value_or_null(value: Result<Value, Fault>) -> Value
+    ensures { result ≡ spec.value_or_null value }
+{
+    match value {
+        Ok(value) => value,
+        Err(_) => Value::Null,
+    }
 }
 
 /// The rows, each with memory for so many values more and not for others.

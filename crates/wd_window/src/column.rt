@@ -2,18 +2,18 @@
 
 ghost use Rattle.std.specs.Prelude.{◌≡◌, ℕ, ◌<◌, ◌≤◌, [], IfOk, OnOk, length, set, slice_get, slice_index_or, Result};
 ghost use Rattle.wd_plan.specs.Plans.{NameBelow, WindowRule, window_of};
-ghost use Rattle.wd_value.specs.Rows.{rows_of};
 ghost use Rattle.wd_value.specs.declared.value.Fault as fault;
 ghost use Rattle.wd_value.specs.declared.value.Value as value;
 ghost use Rattle.wd_window.specs.Columns.{AreAt, AreColumns, AreFilled, FillsNext, IsColumn, IsSpread, columns_of};
-ghost use Rattle.wd_window.specs.Listings.{WhereListed, WhereListing};
+ghost use Rattle.wd_window.specs.Listings.{AreAskedBy, WhereListed, WhereListing, asks_keys};
 
 use crate::listing::Listing;
 use std::alloc::Global;
 use wd_calls::{Partition, call_values};
+use wd_columns::RowSource;
 use wd_frame::Part;
 use wd_plan::{Call, Window};
-use wd_value::{Fault, OutOfMemory, Row, Value};
+use wd_value::{Fault, OutOfMemory, Value};
 
 /// The values of a call at the rows, by their positions, or their faults.
 pub(crate) type Column = Vec<Result<Value, Fault>>;
@@ -22,11 +22,11 @@ pub(crate) type Column = Vec<Result<Value, Fault>>;
 pub(crate) fn call_columns(
     alloc: Global,
     window: &Window,
-    rows: &[Row],
+    rows: &RowSource,
     listings: &[Listing],
 ) -> Result<Vec<Column>, OutOfMemory>
     requires { NameBelow (length listings.now) (window_of window.now).calls }
-    ensures { let w = window_of window.now in IfOk result (λ v. WhereListed w (rows_of rows.now) listings.now (λ orderings. AreColumns w (rows_of rows.now) orderings (columns_of v.items))) }
+    ensures { let w = window_of window.now in IfOk result (λ v. WhereListed w rows.now listings.now (λ orderings. AreColumns w rows.now orderings (columns_of v.items))) }
 {
     let mut columns = Vec::with_capacity(alloc, window.calls.len())?;
     for call in &window.calls {
@@ -40,11 +40,11 @@ pub(crate) fn call_columns(
 fn call_column(
     alloc: Global,
     call: &Call,
-    rows: &[Row],
+    rows: &RowSource,
     listings: &[Listing],
 ) -> Result<Column, OutOfMemory>
     requires { call.now.class < length listings.now }
-    ensures { IfOk result (λ v. (w : WindowRule) → WhereListed w (rows_of rows.now) listings.now (λ orderings. IsColumn w (rows_of rows.now) orderings call.now v.items)) }
+    ensures { IfOk result (λ v. (w : WindowRule) → AreAskedBy call.now.frame (asks_keys w call.now.class) → WhereListed w rows.now listings.now (λ orderings. IsColumn w rows.now orderings call.now v.items)) }
 {
     let column = column_of(alloc, call, rows, &listings[call.class as usize])?;
     Ok(column)
@@ -54,10 +54,10 @@ fn call_column(
 fn column_of(
     alloc: Global,
     call: &Call,
-    rows: &[Row],
+    rows: &RowSource,
     listing: &Listing,
 ) -> Result<Column, OutOfMemory>
-    ensures { IfOk result (λ v. WhereListing (rows_of rows.now) listing.now (λ class ordering. AreFilled class call.now (rows_of rows.now) ordering (length rows.now) v.items)) }
+    ensures { IfOk result (λ v. WhereListing call.now.frame rows.now listing.now (λ class ordering. AreFilled class call.now rows.now ordering (length rows.now) v.items)) }
 {
     let mut column = blank(alloc, rows.len())?;
     for position in 0..rows.len() {
@@ -82,13 +82,13 @@ fn blank(alloc: Global, rows: usize) -> Result<Column, OutOfMemory>
 fn fill(
     alloc: Global,
     call: &Call,
-    rows: &[Row],
+    rows: &RowSource,
     listing: &Listing,
     position: usize,
     column: &mut Column,
 ) -> Result<(), OutOfMemory>
     requires { position < length rows.now }
-    ensures { OnOk result (WhereListing (rows_of rows.now) listing.now (λ class ordering. FillsNext class call.now (rows_of rows.now) ordering position column.old.items column.new.items)) }
+    ensures { OnOk result (WhereListing call.now.frame rows.now listing.now (λ class ordering. FillsNext class call.now rows.now ordering position column.old.items column.new.items)) }
 {
     match listing.partitions.member(position) {
         None => Ok(()),

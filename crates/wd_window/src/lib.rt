@@ -7,4 +7,4 @@ mod listing;
 mod window;
 
 pub use listing::{Listing, SortedListing, sorted_listing};
-pub use window::{evaluate_window, with_calls};
+pub use window::{evaluate_window, with_calls, with_calls_by_column};

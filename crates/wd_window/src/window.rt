@@ -1,18 +1,20 @@
 //! A Window under the orderings of a choice.
 
 ghost use Rattle.std.specs.Prelude.{◌≡◌, ◌↔◌, ◌-◌, ◌^◌, ◌<◌, ◌≤◌, IfOk, IsTrue, length};
+ghost use Rattle.wd_window.specs.Beside.{IsBeside};
 ghost use Rattle.wd_window.specs.Windows.{AreFew, IsExtendedOrUnserved, orderings_of};
 ghost use Rattle.wd_window.specs.Listings.{AreEmptyOrUnserved, IsEmptyAt, WhereListed};
 ghost use Rattle.wd_plan.specs.Outcomes.{outcome_of, window_outcome};
 ghost use Rattle.wd_plan.specs.Plans.{NameBelow, NamesClasses, window_of};
 ghost use Rattle.wd_value.specs.Rows.{rows_of};
 
-use crate::appending::{fault_among, with_columns};
-use crate::column::call_columns;
+use crate::appending::{fault_among, with_columns, with_values};
+use crate::column::{Column, call_columns};
 use crate::listing::{Listing, listings};
 use std::alloc::Global;
+use wd_columns::{Columns, RowSource};
 use wd_plan::{Outcome, Window};
-use wd_value::{OutOfMemory, Row};
+use wd_value::{Fault, OutOfMemory, Row};
 
 /// The input's rows with the values of the calls after each of them, under the choice's orderings
 /// from `first` on: one for each class, each lawful, and empty where the input is a fault. Where one
@@ -34,7 +36,13 @@ pub fn evaluate_window(
             Ok(()) => Ok(Ok(Outcome::Fault(fault))),
             Err(number) => Ok(Err(number)),
         },
-        Outcome::Rows(rows) => match listings(alloc, window, &rows, choice, first)? {
+        Outcome::Rows(rows) => match listings(
+            alloc,
+            window,
+            &RowSource::of_rows(&rows),
+            choice,
+            first,
+        )? {
             Ok(listings) => {
                 let outcome = with_calls(alloc, window, rows, &listings)?;
                 Ok(Ok(outcome))
@@ -55,13 +63,48 @@ pub fn with_calls(
     requires { NameBelow (length listings.now) (window_of window.now).calls }
     ensures { let w = window_of window.now in IfOk result (λ o. WhereListed w (rows_of rows.items) listings.now (λ orderings. outcome_of o ≡ window_outcome w (rows_of rows.items) orderings)) }
 {
-    let columns = call_columns(alloc, window, &rows, listings)?;
-    match fault_among(&columns, rows.len()) {
-        Some(fault) => Ok(Outcome::Fault(fault)),
-        None => {
+    match values_beside(alloc, window, &RowSource::of_rows(&rows), listings)? {
+        Err(fault) => Ok(Outcome::Fault(fault)),
+        Ok(columns) => {
             let extended = with_columns(rows, columns)?;
             Ok(Outcome::Rows(extended))
         }
+    }
+}
+
+/// The same of rows that are kept column by column, as their extension is.
+pub fn with_calls_by_column(
+    alloc: Global,
+    window: &Window,
+    rows: Columns,
+    listings: &[Listing],
+) -> Result<Result<Columns, Fault>, OutOfMemory>
+    requires { NameBelow (length listings.now) (window_of window.now).calls }
+    ensures { let w = window_of window.now in IfOk result (λ r. WhereListed w rows listings.now (λ orderings. r ≡ window_outcome w rows orderings)) }
+{
+    match values_beside(alloc, window, &RowSource::of_columns(&rows), listings)? {
+        Err(fault) => Ok(Err(fault)),
+        Ok(columns) => {
+            let extended = with_values(alloc, rows, columns)?;
+            Ok(Ok(extended))
+        }
+    }
+}
+
+/// The columns of the calls, or the least fault of these.
+fn values_beside(
+    alloc: Global,
+    window: &Window,
+    rows: &RowSource,
+    listings: &[Listing],
+) -> Result<Result<Vec<Column>, Fault>, OutOfMemory>
+    requires { NameBelow (length listings.now) (window_of window.now).calls }
+    ensures { let w = window_of window.now in IfOk result (λ r. WhereListed w rows.now listings.now (λ orderings. IsBeside w rows.now orderings r)) }
+{
+    let columns = call_columns(alloc, window, rows, listings)?;
+    match fault_among(&columns, rows.len()) {
+        Some(fault) => Ok(Err(fault)),
+        None => Ok(Ok(columns)),
     }
 }
 

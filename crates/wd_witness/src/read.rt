@@ -21,7 +21,7 @@ use crate::witness::Witness;
 use serde_json::{Map, Value as Json};
 use std::alloc::Global;
 use std::collections::BTreeMap;
-use wd_json::{Misread, list, next_member, no_more_members, object, read_numbers};
+use wd_json::{Misread, list, next_member, no_more_members, object, read_list};
 use wd_plan::Choice;
 use wd_schema::Schema;
 use wd_value::{Row, Text, Value};
@@ -102,12 +102,7 @@ fn read_choice(alloc: Global, value: &Json) -> Result<Choice, Misread>
     ensures ok { IfOk result (λ c. view value.now ≡ choice_json (positions_of c.orderings.items)) }
     ensures refused { IfErr result (λ e. e ≡ misread.Shape → (orderings : List (List ℕ)) → view value.now ≢ choice_json orderings) }
 {
-    let values = list(value)?;
-    let mut orderings = Vec::with_capacity(alloc, values.len())?;
-    for item in values {
-        let read = read_numbers(alloc, item)?;
-        orderings.push(read)?;
-    }
+    let orderings = read_list(alloc, value)?;
     Ok(Choice { orderings })
 }
 

@@ -10,7 +10,7 @@ use crate::witness::Witness;
 use serde_json::{Map, Value as Json, put};
 use std::alloc::Global;
 use std::collections::BTreeMap;
-use wd_json::numbers_value;
+use wd_json::list_value;
 use wd_value::{OutOfMemory, Row, Value};
 
 fn json_of_value(alloc: Global, value: &Value) -> Result<Json, OutOfMemory>
@@ -64,12 +64,7 @@ fn json_of_tables(alloc: Global, tables: &BTreeMap<String, Vec<Row>>) -> Result<
 fn json_of_choice(alloc: Global, orderings: &[Vec<u64>]) -> Result<Json, OutOfMemory>
     ensures { IfOk result (λ j. view j ≡ choice_json (positions_of orderings.now)) }
 {
-    let mut list = Vec::with_capacity(alloc, orderings.len())?;
-    for positions in orderings {
-        let item = numbers_value(alloc, positions)?;
-        list.push(item)?;
-    }
-    Ok(Json::Array(list))
+    list_value(alloc, orderings)
 }
 
 fn json_of_members(

@@ -1,6 +1,6 @@
 use Rattle.std.proofs.Common.{◌≡◌, ◌∙◌, ◌<◌, ◌≤◌, ◌^◌, length, get_or, ap, subst, sym, arith, rules, Ok}
 use Rattle.std.proofs.lemmas.List.{get_or_past, length-map}
-use Rattle.wd_value.specs.Rows.{row_at, rows_of}
+use Rattle.wd_value.specs.Rows.{row_at}
 use Rattle.wd_plan.specs.Calls.{call_value, taken}
 use Rattle.wd_frame.specs.declared.answer.Answer.TheVariants.{Nothing}
 use Rattle.wd_frame.specs.declared.answer.Answer.{Answer}
@@ -29,7 +29,7 @@ returns-in_ok-value-in-Row c = λ f function is starts.
     let column = c.in-Row.column in
     let value = c.in_ok-value-in-Row.value in
     let h = subst (IsSourceOf f function p (part_of c.args.part.now)) c.in-Row.is is in
-    let same : length p ≡ length c.args.partition.now.positions.now = length-map c.args.partition.now.positions.now (row_at (rows_of c.args.partition.now.rows.now)) in
+    let same : length p ≡ length c.args.partition.now.positions.now = length-map c.args.partition.now.positions.now (row_at c.args.partition.now.rows.now) in
     let bound : length c.args.partition.now.positions.now < 2 ^ 60 = search rules in
     row_value f function row column p (part_of c.args.part.now) lists place value h.0 h.1 (omega arith)
     (subst (λ all. length (places_along (lists_of all) place) < 2 ^ 64 → value ≡ taken row (values_at p column (places_along (lists_of all) place))) c.deref.ensures.value c.in_ok-value-in-Row.ensures)

@@ -1,6 +1,6 @@
 use Rattle.std.proofs.Common.{◌≡◌, ◌<◌, length, arith}
 use Rattle.std.proofs.lemmas.List.{length-map}
-use Rattle.wd_value.specs.Rows.{row_at, rows_of}
+use Rattle.wd_value.specs.Rows.{row_at}
 use Rattle.wd_frame.specs.Places.{part_of}
 use Rattle.wd_calls.specs.Parts.{partition_of}
 use Rattle.wd_calls.specs.Values.{IsRising, IsStart}
@@ -30,5 +30,5 @@ loop-place-preserved c =
 pub returns : goal.returns
 returns c = λ frame function source.
     let p = partition_of c.args.partition.now in
-    let long : length p ≡ length c.args.partition.now.positions.now = length-map c.args.partition.now.positions.now (row_at (rows_of c.args.partition.now.rows.now)) in
+    let long : length p ≡ length c.args.partition.now.positions.now = length-map c.args.partition.now.positions.now (row_at c.args.partition.now.rows.now) in
     AreValues-all frame function p (part_of c.args.part.now) c.loop-place.place c.loop-place.values.items (c.loop-place.invariant.values frame function source) (omega (arith, long))

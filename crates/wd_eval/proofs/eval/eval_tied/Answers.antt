@@ -42,6 +42,6 @@ returns c =
     let here = subst (λ is. IsTied plan (instance_of is) (instance_of is) c.args.flipped [] new e.outcome) c.deref.ensures.value tied in
     let is = subst (λ is. outcome_of o ≡ produced_of (instance_of is) e.outcome) c.deref-2.ensures.value c.in_ok-outcome.ensures in
     record {
-      ok = record { choice = tied_valid plan instance instance c.args.flipped new e.outcome here; is = (tied_outcome plan instance instance c.args.flipped new e.outcome here o is).is };
+      ok = record { choice = tied_valid plan instance instance c.args.flipped new e.outcome here; is = (tied_outcome plan instance instance c.args.flipped new e.outcome here (outcome_of o) is).is };
       refused = tt;
     }

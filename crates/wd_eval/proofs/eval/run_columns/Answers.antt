@@ -3,7 +3,6 @@ use Rattle.std.proofs.lemmas.Result.{err_from_is_err_and}
 use Rattle.wd_plan.proofs.Ranges.{names_classes}
 use Rattle.wd_schema.specs.Schemas.{schema_of}
 use Rattle.wd_value.specs.Rows.{instance_of}
-use Rattle.wd_plan.specs.Outcomes.{outcome_of}
 use Rattle.wd_plan.specs.Plans.{plan_of}
 use Rattle.wd_window.specs.Windows.{orderings_of}
 use Rattle.wd_eval.specs.Held.{IsHeld}
@@ -41,11 +40,11 @@ returns c =
     let held = subst (λ ts. IsHeld plan ts c.handed_over-handed.result instance) (sym (ap instance_of c.deref.ensures.value ∙ c.in_ok-others.ensures)) c.handed_over-handed.ensures in
     let e = c.in_ok-evaluated.evaluated in
     let new = orderings_of c.evaluate.new.made.items in
-    let o = c.in_ok-outcome.outcome in
+    let o = c.in_ok-answer.answer in
     let walked = (c.in_ok-evaluated.ensures instance held).ok in
     let tied = subst (λ old. IsTied plan tables instance None (orderings_of old) new e.outcome) c.new-orderings.ensures.items walked.1 in
     let here = subst (λ ts. IsTied plan (instance_of ts) instance None [] new e.outcome) c.deref.ensures.value tied in
-    let is = subst (λ ts. outcome_of o ≡ produced_of (instance_of ts) e.outcome) c.deref-2.ensures.value c.in_ok-outcome.ensures in
+    let is = subst (λ ts. o ≡ produced_of (instance_of ts) e.outcome) c.deref-2.ensures.value c.in_ok-answer.ensures in
     let left = instance_of c.in_ok-others.others.items in
     record {
       ok = record { choice = new; tied = (tied_valid plan left instance None new e.outcome here).tied; outcome = tied_outcome plan left instance None new e.outcome here o is };

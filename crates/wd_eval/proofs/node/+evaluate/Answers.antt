@@ -155,7 +155,7 @@ returns-in_ok-outcome-in-Window t c = λ instance held. (
     let behind : next ≡ below.next + length w.classes = ap (λ n. below.next + n) (long ∙ sym (length-map c.in-Window.window.classes.items class_of)) in
     let b = subst (λ p. IsWalked (plan_of p) tables instance orderings first old mid below) c.deref-in-Window.ensures (c.in_ok-below-in-Window.ensures instance below_held).ok in
     record {
-      ok = subst (λ p. IsWalked p tables instance orderings first old new (record { outcome = Made o; next = next })) (sym (ap plan_of c.in-Window.is))
+      ok = subst (λ p. IsWalked p tables instance orderings first old new (record { outcome = o; next = next })) (sym (ap plan_of c.in-Window.is))
           (window_walked tables instance first old input mid below new orderings w o next c.requires.at b c.in_ok-outcome-in-Window.ensures behind);
       refused = tt;
     })

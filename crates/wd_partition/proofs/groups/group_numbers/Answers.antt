@@ -1,7 +1,6 @@
 use Rattle.std.proofs.Common.{◌≡◌, ◌∙◌, ◌<◌, ℕ, ap, sym, arith, get_or, length}
 use Rattle.std.proofs.lemmas.Grind.{common_steps}
 use Rattle.std.proofs.lemmas.List.{map_push, take_more}
-use Rattle.wd_value.specs.Rows.{rows_of}
 use Rattle.wd_partition.specs.Courses.{class_of}
 use Rattle.wd_partition.specs.Members.{own_group}
 use Rattle.wd_partition.proofs.Numbering.{group_next}
@@ -10,7 +9,7 @@ use Rattle.wd_partition.proofs.groups.group_numbers.Goals as goal
 pub loop-i-preserved : goal.loop-i-preserved
 loop-i-preserved c =
     let course = c.args.course.now in
-    let rows = rows_of course.rows.now in
+    let rows = course.rows.now in
     let class = class_of course in
     let list = course.positions.now in
     let i = c.loop-i.i in

@@ -1,14 +1,13 @@
-use Rattle.std.proofs.Common.{◌≡◌, ◌∙◌, ◌<◌, ◌^◌, sym, subst, arith, rules, length, map}
-use Rattle.std.proofs.lemmas.List.{length-map}
+use Rattle.std.proofs.Common.{◌≡◌, ◌∙◌, sym, subst, rules, length, map}
 use Rattle.wd_value.specs.Bags.{EachOnce}
-use Rattle.wd_value.specs.Rows.{rows_at, rows_of}
+use Rattle.wd_value.specs.Rows.{rows_at}
 use Rattle.wd_sort.specs.Sorting.{compare_rows_at}
 use Rattle.wd_partition.specs.Columns.{class_by, partition_columns}
 use Rattle.wd_partition.specs.Members.{AreWithin, key_numbers, member_at, own_group}
 use Rattle.wd_partition.specs.Places.{ArePlaces}
 use Rattle.wd_partition.specs.Runs.{ends_at, starts_at}
 use Rattle.wd_partition.proofs.Assembly.{view_is, within_is}
-use Rattle.wd_partition.proofs.Marks.{length_once}
+use Rattle.wd_partition.proofs.Marks.{length_once, short_once}
 use Rattle.wd_partition.proofs.Numbering.{end, start}
 use Rattle.wd_partition.proofs.members.partitions_of.Goals as goal
 
@@ -16,20 +15,24 @@ pub places_of-requires-clause-once : goal.places_of-requires-clause-once
 places_of-requires-clause-once c =
     let s = c.args.grouped.positions.items in
     let is : c.deref-3.result.now ≡ s = search rules in
-    let long : length (rows_of c.args.rows.now) ≡ length s = sym (length_once (length (rows_of c.args.rows.now)) s c.requires.lawful.lawful.once) in
+    let long : length c.args.rows.now ≡ length s = sym (length_once (length c.args.rows.now) s c.requires.lawful.lawful.once) in
     subst (λ l. EachOnce (length l) l) (sym is) (subst (λ n. EachOnce n s) long c.requires.lawful.lawful.once)
 
+pub partition_starts-requires-clause-short : goal.partition_starts-requires-clause-short
+partition_starts-requires-clause-short c = short_once (length c.args.rows.now) c.args.grouped.positions.items c.deref.result.now c.requires.short c.requires.lawful.lawful.once (search rules)
+
+pub partition_ends-requires-clause-short : goal.partition_ends-requires-clause-short
+partition_ends-requires-clause-short c = short_once (length c.args.rows.now) c.args.grouped.positions.items c.deref.result.now c.requires.short c.requires.lawful.lawful.once (search rules)
+
+pub places_of-requires-clause-short : goal.places_of-requires-clause-short
+places_of-requires-clause-short c = short_once (length c.args.rows.now) c.args.grouped.positions.items c.deref-3.result.now c.requires.short c.requires.lawful.lawful.once (search rules)
+
 pub group_numbers-requires-clause-short : goal.group_numbers-requires-clause-short
-group_numbers-requires-clause-short c =
-    let s = c.args.grouped.positions.items in
-    let is : c.deref.result.now ≡ s = search rules in
-    let long : length s ≡ length c.args.rows.now = length_once (length (rows_of c.args.rows.now)) s c.requires.lawful.lawful.once ∙ length-map c.args.rows.now (λ r. r.items) in
-    let short : length s < 2 ^ 32 = omega arith in
-    subst (λ l. length l < 2 ^ 32) (sym is) short
+group_numbers-requires-clause-short c = short_once (length c.args.rows.now) c.args.grouped.positions.items c.deref.result.now c.requires.short c.requires.lawful.lawful.once (search rules)
 
 pub invariant_of-result : goal.invariant_of-result
 invariant_of-result c =
-    let rows = rows_of c.args.rows.now in
+    let rows = c.args.rows.now in
     let class = class_by c.args.partition.now c.args.keys.now in
     let s = c.args.grouped.positions.items in
     let starts = c.in_ok-starts.starts.items in
@@ -54,7 +57,7 @@ invariant_of-result c =
 
 pub returns : goal.returns
 returns c =
-    let rows = rows_of c.args.rows.now in
+    let rows = c.args.rows.now in
     let class = class_by c.args.partition.now c.args.keys.now in
     let s = c.args.grouped.positions.items in
     let starts = c.in_ok-starts.starts.items in

@@ -1,6 +1,4 @@
-use Rattle.std.proofs.Common.{sym, subst, rules, length}
-use Rattle.std.proofs.lemmas.List.{length-map}
-use Rattle.wd_value.specs.Rows.{rows_of}
+use Rattle.std.proofs.Common.{rules, length}
 use Rattle.wd_sort.specs.Sorting.{IsStableSortOf}
 use Rattle.wd_partition.specs.Columns.{class_by, given_positions, sort_columns}
 use Rattle.wd_partition.proofs.Grouping.{IsOrdering-from_given}
@@ -8,7 +6,7 @@ use Rattle.wd_partition.proofs.ordering.sorted_ordering.Goals as goal
 
 pub returns-clause-lawful : goal.returns-clause-lawful
 returns-clause-lawful c =
-    let rows = rows_of c.args.rows.now in
+    let rows = c.args.rows.now in
     let class = class_by c.args.partition.now c.args.keys.now in
     let sort : IsStableSortOf (sort_columns class) rows (given_positions c.args.flipped (length c.args.rows.now)) c.in_ok-ordering.ordering.items = search rules in
-    IsOrdering-from_given class rows c.args.flipped c.in_ok-ordering.ordering.items (subst (λ n. IsStableSortOf (sort_columns class) rows (given_positions c.args.flipped n) c.in_ok-ordering.ordering.items) (sym (length-map c.args.rows.now (λ r. r.items))) sort)
+    IsOrdering-from_given class rows c.args.flipped c.in_ok-ordering.ordering.items sort

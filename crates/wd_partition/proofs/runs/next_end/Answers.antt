@@ -1,6 +1,5 @@
 use Rattle.std.proofs.Common.{◌≡◌, ◌∙◌, ◌+◌, ◌<◌, true, false, sym, arith, get_or, length, Some}
 use Rattle.std.specs.Ordering.{is_eq}
-use Rattle.wd_value.specs.Rows.{rows_of}
 use Rattle.wd_partition.specs.Columns.{partition_columns}
 use Rattle.wd_partition.specs.Courses.{by_keys, by_partition}
 use Rattle.wd_partition.specs.Steps.{begins_partition, step_to}
@@ -21,7 +20,7 @@ returns-then-not-begins_partition c =
     let high : i + 1 < length list = omega arith in
     let to : step_to (by_partition course) (by_keys course) list (i + 1) ≡ Some step = c.requires.course.steps.each (i + 1) Partition high in
     let tie : is_eq (by_partition course (get_or list i 0) (get_or list (i + 1) 0)) ≡ true = goes_on (by_partition course) (by_keys course) list i step to is in
-    c.requires.behind high ∙ sym (same_end (by_partition course) (rows_total (partition_columns course.partition.now) (rows_of course.rows.now)) list (get_or list i 0) (get_or list (i + 1) 0) tie)
+    c.requires.behind high ∙ sym (same_end (by_partition course) (rows_total (partition_columns course.partition.now) course.rows.now) list (get_or list i 0) (get_or list (i + 1) 0) tie)
 
 pub returns-else-i-course : goal.returns-else-i-course
 returns-else-i-course c =
@@ -33,7 +32,7 @@ returns-else-i-course c =
       | else-i-course-via-then-i-course+else-not-begins_partition w ↦ (
           let step = get_or course.steps.now (i + 1) Partition in
           let is : begins_partition step ≡ true = sym w.begins_partition.ensures ∙ w.if-not-begins_partition.false in
-          sym (end_here (by_partition course) (rows_total (partition_columns course.partition.now) (rows_of course.rows.now)) list c.requires.course.lawful.sorted i c.requires.within
+          sym (end_here (by_partition course) (rows_total (partition_columns course.partition.now) course.rows.now) list c.requires.course.lawful.sorted i c.requires.within
           (λ l. begins (by_partition course) (by_keys course) list i step (c.requires.course.steps.each (i + 1) Partition l) is)))
-      | else-i-course-via-else-i-course w ↦ sym (end_here (by_partition course) (rows_total (partition_columns course.partition.now) (rows_of course.rows.now)) list c.requires.course.lawful.sorted i c.requires.within (λ l. absurd (omega arith)))
+      | else-i-course-via-else-i-course w ↦ sym (end_here (by_partition course) (rows_total (partition_columns course.partition.now) course.rows.now) list c.requires.course.lawful.sorted i c.requires.within (λ l. absurd (omega arith)))
     ]

@@ -1,6 +1,5 @@
 use Rattle.std.proofs.Common.{◌≡◌, ◌∙◌, ◌+◌, ◌-◌, ◌<◌, true, false, sym, subst, arith, get_or, Some}
 use Rattle.std.specs.Ordering.{is_eq}
-use Rattle.wd_value.specs.Rows.{rows_of}
 use Rattle.wd_partition.specs.Columns.{partition_columns}
 use Rattle.wd_partition.specs.Courses.{by_keys, by_partition}
 use Rattle.wd_partition.specs.Steps.{begins_partition, step_to}
@@ -17,7 +16,7 @@ returns-then-begins_partition c =
     let step = get_or course.steps.now i Partition in
     let is : begins_partition step ≡ true = sym c.begins_partition.ensures ∙ c.if-begins_partition.true in
     let to : step_to (by_partition course) (by_keys course) list i ≡ Some step = c.requires.course.steps.each i Partition c.requires.within in
-    sym (start_here (by_partition course) (rows_total (partition_columns course.partition.now) (rows_of course.rows.now)) list c.requires.course.lawful.sorted i c.requires.within
+    sym (start_here (by_partition course) (rows_total (partition_columns course.partition.now) course.rows.now) list c.requires.course.lawful.sorted i c.requires.within
     (λ k l.
     subst (λ j. is_eq (by_partition course (get_or list k 0) (get_or list j 0)) ≡ false) l
     (begins (by_partition course) (by_keys course) list k step (subst (λ j. step_to (by_partition course) (by_keys course) list j ≡ Some step) (sym l) to) is)))
@@ -35,4 +34,4 @@ returns-else-begins_partition c =
     let tie : is_eq (by_partition course (get_or list (i - 1) 0) (get_or list i 0)) ≡ true =
     subst (λ j. is_eq (by_partition course (get_or list (i - 1) 0) (get_or list j 0)) ≡ true) at
     (goes_on (by_partition course) (by_keys course) list (i - 1) step (subst (λ j. step_to (by_partition course) (by_keys course) list j ≡ Some step) (sym at) to) is) in
-    c.requires.before (i - 1) at ∙ same_start (by_partition course) (rows_total (partition_columns course.partition.now) (rows_of course.rows.now)) list (get_or list (i - 1) 0) (get_or list i 0) tie
+    c.requires.before (i - 1) at ∙ same_start (by_partition course) (rows_total (partition_columns course.partition.now) course.rows.now) list (get_or list (i - 1) 0) (get_or list i 0) tie

@@ -1,7 +1,5 @@
-use Rattle.std.proofs.Common.{◌≡◌, ◌<◌, drop, length, sym, subst, rules, arith}
-use Rattle.std.proofs.lemmas.List.{length-map}
+use Rattle.std.proofs.Common.{◌≡◌, ◌<◌, drop, length, refl, subst, rules, arith}
 use Rattle.wd_value.specs.Bags.{positions}
-use Rattle.wd_value.specs.Rows.{rows_of}
 use Rattle.wd_sort.specs.Codes.{IsCodingBelow}
 use Rattle.wd_sort.proofs.AllCodings.{AreCodesOfAll-from}
 use Rattle.wd_sort.proofs.all.row_coding.Goals as goal
@@ -13,8 +11,8 @@ returns c =
     let start = c.in-Some.last.start in
     let coding = c.in-Some.last.coding in
     let given = c.deref.result.now in
-    let found : (start < length columns) × IsCodingBelow (drop start columns) (rows_of rows) given coding.bound coding.codes.items = search rules in
+    let found : (start < length columns) × IsCodingBelow (drop start columns) rows given coding.bound coding.codes.items = search rules in
     let all : given ≡ positions (length rows) = search rules in
     let none : start ≡ 0 = omega arith in
-    let whole : IsCodingBelow columns (rows_of rows) given coding.bound coding.codes.items = subst (λ n. IsCodingBelow (drop n columns) (rows_of rows) given coding.bound coding.codes.items) none found.1 in
-    AreCodesOfAll-from columns (rows_of rows) (length rows) coding.bound coding.codes.items (sym (length-map rows (λ r. r.items))) (subst (λ l. IsCodingBelow columns (rows_of rows) l coding.bound coding.codes.items) all whole)
+    let whole : IsCodingBelow columns rows given coding.bound coding.codes.items = subst (λ n. IsCodingBelow (drop n columns) rows given coding.bound coding.codes.items) none found.1 in
+    AreCodesOfAll-from columns rows (length rows) coding.bound coding.codes.items refl (subst (λ l. IsCodingBelow columns rows l coding.bound coding.codes.items) all whole)

@@ -1,5 +1,4 @@
 use Rattle.std.proofs.Common.{◌≡◌, ◌∙◌, ◌-◌, ◌*◌, ◌<◌, suc, [], ◌∷◌, false, drop, get_or, length, rules, sym, subst, ap, arith}
-use Rattle.wd_value.specs.Rows.{rows_of}
 use Rattle.wd_value.specs.declared.order.SortColumn.{SortColumn}
 use Rattle.wd_sort.specs.Codes.{ArePairs, IsCodingBelow}
 use Rattle.wd_sort.proofs.Codings.{coding_of_pairs, drop_at}
@@ -7,7 +6,7 @@ use Rattle.wd_sort.proofs.columns.last_coding.Goals as goal
 
 pub loop-start-preserved : goal.loop-start-preserved
 loop-start-preserved c =
-    let rows = rows_of c.args.rows.now in
+    let rows = c.args.rows.now in
     let given = c.args.positions.now in
     let columns = c.args.columns.now in
     let start = c.loop-start.start in

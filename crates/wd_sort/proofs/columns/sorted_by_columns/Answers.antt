@@ -1,7 +1,6 @@
 use Rattle.std.proofs.Common.{◌≡◌, ◌∙◌, ◌<◌, ◌≤◌, take, drop, length, arith, rules, sym, subst}
 use Rattle.std.proofs.lemmas.List.{length-take-le, take-append-drop}
 use Rattle.std.proofs.lemmas.Result.{IfOk-weaker}
-use Rattle.wd_value.specs.Rows.{rows_of}
 use Rattle.wd_sort.specs.Codes.{IsCoding, IsCodingBelow}
 use Rattle.wd_sort.specs.Sorting.{IsStableSortOf}
 use Rattle.wd_sort.proofs.TwoSorts.{drop_in_parts, two_sorts_are_one}
@@ -9,7 +8,7 @@ use Rattle.wd_sort.proofs.columns.sorted_by_columns.Goals as goal
 
 pub returns-in-None : goal.returns-in-None
 returns-in-None c =
-    let rows = rows_of c.args.rows.now in
+    let rows = c.args.rows.now in
     let columns = c.args.columns.now in
     let given = c.args.positions.now in
     let left = c.loop-left.left in
@@ -22,7 +21,7 @@ returns-in-None c =
 
 pub loop-left-preserved : goal.loop-left-preserved
 loop-left-preserved c =
-    let rows = rows_of c.args.rows.now in
+    let rows = c.args.rows.now in
     let columns = c.args.columns.now in
     let given = c.args.positions.now in
     let left = c.loop-left.left in
@@ -46,6 +45,6 @@ loop-left-preserved c =
 
 pub returns : goal.returns
 returns c =
-    let rows = rows_of c.args.rows.now in
+    let rows = c.args.rows.now in
     let none : c.loop-left.left ≡ 0 = omega arith in
     subst (λ n. IsStableSortOf (drop n c.args.columns.now) rows c.args.positions.now c.loop-left.order.items) none c.loop-left.invariant.sorted

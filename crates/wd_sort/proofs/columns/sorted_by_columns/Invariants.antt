@@ -1,12 +1,11 @@
 use Rattle.std.proofs.Common.{◌≤◌, drop, length}
-use Rattle.wd_value.specs.Rows.{rows_of}
 use Rattle.wd_sort.specs.Sorting.{IsStableSortOf}
 use Rattle.wd_sort.proofs.columns.sorted_by_columns.Given as goal
 
 abbrev pub invariant-loop-left : goal.invariant-loop-left
 invariant-loop-left l = record {
   within : l.left ≤ length l.columns;
-  sorted : IsStableSortOf (drop l.left l.columns) (rows_of l.rows) l.positions l.order.items;
+  sorted : IsStableSortOf (drop l.left l.columns) l.rows l.positions l.order.items;
 }
 
 abbrev pub decreases-loop-left : goal.decreases-loop-left

@@ -1,6 +1,5 @@
 use Rattle.std.proofs.Common.{◌≡◌, ◌∙◌, ◌+◌, length, arith, rules}
 use Rattle.std.specs.Prelude.{unsigned_abs, ◌-ℤ◌}
-use Rattle.wd_value.specs.Rows.{rows_of}
 use Rattle.wd_sort.proofs.Codings.{coding_of_whole}
 use Rattle.wd_sort.proofs.whole.whole_codes.Goals as goal
 
@@ -10,5 +9,5 @@ returns c =
     let done : c.loop-k.k ≡ length given = omega arith in
     let range = c.args.range in
     let bound : c.in-Some.bound ≡ unsigned_abs (range.greatest -ℤ range.least) + 2 = search rules in
-    coding_of_whole (rows_of c.args.rows.now) given c.args.column range.least range.greatest c.in-Some.bound c.loop-k.codes.items c.requires bound (c.loop-k.invariant.long ∙ done)
+    coding_of_whole c.args.rows.now given c.args.column range.least range.greatest c.in-Some.bound c.loop-k.codes.items c.requires bound (c.loop-k.invariant.long ∙ done)
     (λ k low. c.loop-k.invariant.each k (omega arith))

@@ -1,16 +1,18 @@
-use Rattle.std.proofs.Common.{◌≡◌, ◌<◌, ◌≤◌, length, All, subst, arith}
+use Rattle.std.proofs.Common.{◌≡◌, ◌<◌, ◌≤◌, [], length, All, subst, arith}
 use Rattle.std.proofs.lemmas.List.{take_all}
-use Rattle.wd_value.specs.Rows.{rows_of}
-use Rattle.wd_steps.proofs.Holding.{All-rows_more}
+use Rattle.std.proofs.lemmas.List.Elements.{All-more}
+use Rattle.wd_value.specs.Rows.{row_at}
 use Rattle.wd_steps.proofs.matching.are_wide.Goals as goal
 
-pub loop-row-preserved : goal.loop-row-preserved
-loop-row-preserved c =
-    let within : c.loop-row.row-index < length c.args.rows.now = omega arith in
-    let wide : length c.row-item.result.items ≡ c.args.width = omega (arith, c.if-len-width.false, c.len.ensures) in
-    All-rows_more (λ row. length row ≡ c.args.width) c.args.rows.now c.loop-row.row-index c.row-item.result within c.row-item.is c.loop-row.invariant wide
+pub loop-position-preserved : goal.loop-position-preserved
+loop-position-preserved c =
+    let rows = c.args.rows.now in
+    let i = c.loop-position.position in
+    let within : i < length rows = omega arith in
+    let wide : length (row_at rows i) ≡ c.args.width = omega arith in
+    All-more (λ row. length row ≡ c.args.width) rows i [] within c.loop-position.invariant wide
 
 pub returns : goal.returns
 returns c told =
-    let all : length c.args.rows.now ≤ c.loop-row.row-index = omega arith in
-    subst (λ rows. All (λ row. length row ≡ c.args.width) (rows_of rows)) (take_all c.loop-row.row-index c.args.rows.now all) c.loop-row.invariant
+    let all : length c.args.rows.now ≤ c.loop-position.position = omega arith in
+    subst (All (λ row. length row ≡ c.args.width)) (take_all c.loop-position.position c.args.rows.now all) c.loop-position.invariant

@@ -1,7 +1,7 @@
 use Rattle.std.proofs.Common.{◌≡◌, false, [], length, All, Contains, rules}
 use Rattle.std.proofs.lemmas.List.Elements.{All-same}
 use Rattle.std.proofs.lemmas.Result.{IfOk-weaker}
-use Rattle.wd_value.specs.Rows.{Row, rows_of}
+use Rattle.wd_value.specs.Rows.{Row}
 use Rattle.wd_plan.specs.Expressions.{expression_of}
 use Rattle.wd_scalar.specs.Arithmetic.{has_arithmetic}
 use Rattle.wd_steps.specs.Matching.{AreDeciding, AreSkippable, AreWhole, Decides}
@@ -11,10 +11,10 @@ use Rattle.wd_steps.proofs.matching.matching_columns.Goals as goal
 pub returns-then-has_arithmetic : goal.returns-then-has_arithmetic
 returns-then-has_arithmetic c =
     let e = expression_of c.args.condition.now in
-    let left = rows_of c.args.left.now in
-    let right = rows_of c.args.right.now in
-    let l = c.width_of.result in
-    let r = c.width_of-2.result in
+    let left = c.args.left.now in
+    let right = c.args.right.now in
+    let l = c.first_widths-widths.result.left in
+    let r = c.first_widths-widths.result.right in
     let columns = c.deref.result.now in
     let l-wide : All (λ (row : Row). length row ≡ l) left = c.are_wide.ensures (search rules) in
     let r-wide : All (λ (row : Row). length row ≡ r) right = c.are_wide-else-not-are_wide.ensures (search rules) in
@@ -25,10 +25,10 @@ returns-then-has_arithmetic c =
 pub returns-else-has_arithmetic : goal.returns-else-has_arithmetic
 returns-else-has_arithmetic c =
     let e = expression_of c.args.condition.now in
-    let left = rows_of c.args.left.now in
-    let right = rows_of c.args.right.now in
-    let l = c.width_of.result in
-    let r = c.width_of-2.result in
+    let left = c.args.left.now in
+    let right = c.args.right.now in
+    let l = c.first_widths-widths.result.left in
+    let r = c.first_widths-widths.result.right in
     let columns = c.push_deciding.new.columns.items in
     let l-wide : All (λ (row : Row). length row ≡ l) left = c.are_wide.ensures (search rules) in
     let r-wide : All (λ (row : Row). length row ≡ r) right = c.are_wide-else-not-are_wide.ensures (search rules) in

@@ -1,6 +1,5 @@
 use Rattle.std.proofs.Common.{◌≡◌, ◌<◌, false, length, Contains, rules, arith}
 use Rattle.std.proofs.lemmas.List.Elements.{All-push, All-same, Contains-get_or}
-use Rattle.wd_value.specs.Rows.{rows_of}
 use Rattle.wd_steps.specs.Matching.{AreWhole}
 use Rattle.wd_steps.proofs.matching.whole_columns.Goals as goal
 use Rattle.wd_steps.proofs.matching.whole_columns.Goals.{then-not-have_nulls+in_ok-push, else-not-have_nulls}
@@ -8,8 +7,8 @@ use Rattle.wd_steps.proofs.matching.whole_columns.Goals.{then-not-have_nulls+in_
 pub loop-column-preserved : goal.loop-column-preserved
 loop-column-preserved c =
     let columns = c.args.columns.now in
-    let left = rows_of c.args.left.now in
-    let right = rows_of c.args.right.now in
+    let left = c.args.left.now in
+    let right = c.args.right.now in
     let within : c.loop-column.column-index < length columns = omega arith in
     elim c.if-not-have_nulls.branch [
       | then-not-have_nulls+in_ok-push w ↦ (

@@ -14,6 +14,8 @@ returns c =
     let left = rows_of c.args.left.now in
     let right = rows_of c.args.right.now in
     let columns = c.deref.result.now in
-    let skips : AreSkippable e columns left right = rw c.deref.ensures.value c.in_ok-columns.ensures in
+    let found = subst (λ rs. AreSkippable e c.in_ok-columns.columns.items c.of_rows.result rs) c.of_rows-2.ensures c.in_ok-columns.ensures in
+    let both = subst (λ ls. AreSkippable e c.in_ok-columns.columns.items ls right) c.of_rows.ensures found in
+    let skips : AreSkippable e columns left right = rw c.deref.ensures.value both in
     IfOk-weaker c.matching_pairs.result (λ v. rows_of v.items ≡ matching columns left right) (λ v. AreEnough e (pairs left right) (rows_of v.items))
     (λ v is. subst (AreEnough e (pairs left right)) (sym is) (AreEnough-matching e columns left right skips)) c.matching_pairs.ensures

@@ -1,5 +1,5 @@
 use Rattle.std.proofs.Common.{◌≡◌, ◌<◌, false, get_or, length, rules, arith}
-use Rattle.wd_value.specs.Rows.{row_at, rows_of}
+use Rattle.wd_value.specs.Rows.{row_at}
 use Rattle.wd_steps.specs.Matching.{compare_sides, is_before}
 use Rattle.wd_steps.proofs.Holding.{IsEnd-here}
 use Rattle.wd_steps.proofs.walk.end_from.Goals as goal
@@ -8,8 +8,8 @@ pub returns-then-not-is_before-clause-is : goal.returns-then-not-is_before-claus
 returns-then-not-is_before-clause-is c =
     let too = c.args.too in
     let columns = c.args.columns.now in
-    let row = c.args.row.now in
-    let right = rows_of c.args.right.now in
+    let row = row_at c.args.left.now c.args.position in
+    let right = c.args.right.now in
     let order = c.args.order.now in
     let i = c.loop-i.i in
     let within : i < length order = omega arith in

@@ -1,5 +1,5 @@
 use Rattle.std.proofs.Common.{◌≡◌, ◌<◌, ◌≤◌, false, get_or, length, set, rules, arith}
-use Rattle.wd_value.specs.Rows.{row_at, rows_of}
+use Rattle.wd_value.specs.Rows.{row_at}
 use Rattle.wd_steps.specs.Matching.{AreBefore, IsStretch}
 use Rattle.wd_steps.proofs.Walking.{AreWalked-all, AreWalked-more}
 use Rattle.wd_steps.proofs.walk.walked.Goals as goal
@@ -7,8 +7,8 @@ use Rattle.wd_steps.proofs.walk.walked.Goals as goal
 pub loop-position-preserved : goal.loop-position-preserved
 loop-position-preserved c =
     let columns = c.args.columns.now in
-    let left = rows_of c.args.left.now in
-    let right = rows_of c.args.right.now in
+    let left = c.args.left.now in
+    let right = c.args.right.now in
     let left_order = c.args.left_order.now in
     let order = c.args.order.now in
     let i = c.loop-position.position-index in
@@ -22,4 +22,4 @@ loop-position-preserved c =
 pub returns : goal.returns
 returns c =
     let all : length c.args.left_order.now ≤ c.loop-position.position-index = omega arith in
-    AreWalked-all c.args.columns.now (rows_of c.args.left.now) (rows_of c.args.right.now) c.args.left_order.now c.args.order.now c.requires.left_sorted c.loop-position.position-index c.loop-position.start c.loop-position.stretches.items all c.loop-position.invariant
+    AreWalked-all c.args.columns.now c.args.left.now c.args.right.now c.args.left_order.now c.args.order.now c.requires.left_sorted c.loop-position.position-index c.loop-position.start c.loop-position.stretches.items all c.loop-position.invariant

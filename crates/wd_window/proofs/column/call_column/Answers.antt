@@ -1,24 +1,20 @@
 use Rattle.std.proofs.Common.{◌<◌, sym, subst, length, arith}
-use Rattle.std.proofs.lemmas.List.{length-map}
-use Rattle.wd_value.specs.Rows.{rows_of}
 use Rattle.wd_plan.specs.Outcomes.{class_at, ordering_at}
-use Rattle.wd_steps.proofs.Filtering.{items}
-use Rattle.wd_window.specs.Columns.{first_of}
-use Rattle.wd_window.specs.Listings.{IsListing}
+use Rattle.wd_window.specs.Listings.{IsListingIn, asks_keys}
 use Rattle.wd_window.specs.declared.listing.Listing.{Listing}
 use Rattle.wd_window.proofs.Filled.{first_below}
 use Rattle.wd_window.proofs.column.call_column.Goals as goal
 
 pub returns : goal.returns
-returns c = λ w orderings listed. (
+returns c = λ w needs orderings listed. (
     let k = c.args.call.now.class in
-    let rows = rows_of c.args.rows.now in
+    let rows = c.args.rows.now in
     let listing = c.index-listings-call.result in
     let long = listed.long in
     let there : k < length w.classes = omega arith in
-    let is : IsListing (class_at w k) rows (ordering_at orderings k) listing = subst (λ (l : Listing). IsListing (class_at w k) rows (ordering_at orderings k) l) (sym c.index-listings-call.is) (listed.each k listing there) in
-    let filled = c.in_ok-column.ensures (class_at w k) (ordering_at orderings k) is in
+    let is : IsListingIn w k rows (ordering_at orderings k) listing = subst (λ (l : Listing). IsListingIn w k rows (ordering_at orderings k) l) (sym c.index-listings-call.is) (listed.each k listing there) in
+    let filled = c.in_ok-column.ensures (class_at w k) (asks_keys w k) (ordering_at orderings k) needs is in
     record {
       long = filled.long;
-      each = λ p other within. filled.each p other within (subst (λ n. first_of (class_at w k) rows (ordering_at orderings k) p < n) (length-map c.args.rows.now items) (first_below (class_at w k) rows (ordering_at orderings k) is.lawful p within));
+      each = λ p other within. filled.each p other within (first_below (class_at w k) rows (ordering_at orderings k) is.lawful p within);
     })

@@ -3,10 +3,11 @@ use Rattle.std.proofs.lemmas.Bool.{cases_lt}
 use Rattle.std.proofs.lemmas.List.{length-map, length_push, map_push, get_or_append_left, get_or_default, get_or_push}
 use Rattle.wd_value.specs.declared.value.Value.{Value}
 use Rattle.wd_value.specs.declared.value.Fault.{Fault}
-use Rattle.wd_value.specs.Rows.{rows_of}
 use Rattle.wd_plan.specs.declared.window.Call.{Call}
 use Rattle.wd_plan.specs.Plans.{window_of}
 use Rattle.wd_window.specs.Columns.{IsColumn, columns_of}
+use Rattle.wd_window.specs.Listings.{AreAskedBy, asks_keys}
+use Rattle.wd_window.proofs.Asking.{asked_by_own}
 use Rattle.wd_window.proofs.column.call_columns.Goals as goal
 
 pub loop-call-preserved : goal.loop-call-preserved
@@ -25,7 +26,7 @@ loop-call-preserved c =
     let many : length (columns_of old) ≡ i = length-map old (λ v. v.items) ∙ long in (
       ap length is ∙ length_push old column ∙ omega arith,
       λ orderings listed k call lt. (
-          let rows = rows_of c.args.rows.now in
+          let rows = c.args.rows.now in
           let IsOf : Call → List (Result Value Fault) → Type 0 = IsColumn w rows orderings in
           elim (cases_lt k i) [
             | inl before ↦ (
@@ -34,8 +35,10 @@ loop-call-preserved c =
             | inr behind ↦ (
                 let here : i ≡ k = omega arith in
                 let same : get_or (columns_of c.push.new.self.items) k [] ≡ column.items = ap (λ cs. get_or cs k []) all ∙ get_or_push (columns_of old) column.items [] k (omega arith) in
+                let needs : AreAskedBy c.call-item.result.frame (asks_keys w c.call-item.result.class) =
+                asked_by_own w i c.call-item.result within (c.call-item.is ∙ ap (λ xs. get_or xs i c.call-item.result) there) in
                 let which : c.call-item.result ≡ get_or calls k call = c.call-item.is ∙ ap (λ xs. get_or xs i c.call-item.result) there ∙ get_or_default calls i c.call-item.result call within ∙ ap (λ n. get_or calls n call) here in
-                subst (λ vs. IsOf (get_or calls k call) vs) (sym same) (subst (λ (x : Call). IsOf x column.items) which (c.in_ok-column.ensures w orderings listed)))
+                subst (λ vs. IsOf (get_or calls k call) vs) (sym same) (subst (λ (x : Call). IsOf x column.items) which (c.in_ok-column.ensures w needs orderings listed)))
           ]),
     )
 

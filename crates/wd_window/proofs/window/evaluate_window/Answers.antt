@@ -1,7 +1,6 @@
 use Rattle.std.proofs.Common.{◌≡◌, ◌∙◌, sym, ap, subst, length, rules, Ok, Err}
 use Rattle.std.proofs.lemmas.List.{length-map}
 use Rattle.wd_value.specs.Rows.{rows_of}
-use Rattle.wd_plan.specs.declared.plan.Outcome.TheVariants.{Fault}
 use Rattle.wd_plan.specs.Outcomes.{RowsOrFault, outcome_of}
 use Rattle.wd_plan.specs.Plans.{class_of, window_of}
 use Rattle.wd_window.specs.Windows.{AreUnserved, IsExtended, IsLeast, orderings_of}
@@ -15,8 +14,8 @@ returns-in-Ok c =
     let choice = orderings_of c.args.choice.now in
     let n = length c.args.window.now.classes.items in
     let empty : AreEmpty n choice c.args.first = search rules in
-    let is = subst (λ (r : RowsOrFault). IsExtended w r choice c.args.first (Fault c.in-Fault.fault)) (sym (ap outcome_of c.in-Fault.is))
-    (fault_done w c.in-Fault.fault choice c.args.first n (sym (length-map c.args.window.now.classes.items class_of)) (Fault c.in-Fault.fault) empty (λ i. Err c.in-Fault.fault)) in
+    let is = subst (λ (r : RowsOrFault). IsExtended w r choice c.args.first (Err c.in-Fault.fault)) (sym (ap outcome_of c.in-Fault.is))
+    (fault_done w c.in-Fault.fault choice c.args.first n (sym (length-map c.args.window.now.classes.items class_of)) empty) in
     record { ok = is; refused = tt }
 
 pub returns-in-Err : goal.returns-in-Err
@@ -36,8 +35,8 @@ returns-in-Err-2 c =
     let w = window_of c.args.window.now in
     let choice = orderings_of c.args.choice.now in
     let place = c.in-Err-2.number in
-    let given : AreUnserved w (Ok (rows_of c.deref.result.now)) choice c.args.first place = rw c.in-Err-2.is at c.in_ok-listings-in-Rows.ensures.refused in
-    let h = subst (λ rs. AreUnserved w (Ok (rows_of rs)) choice c.args.first place) c.deref.ensures.value given in
+    let given : AreUnserved w (Ok c.of_rows.result) choice c.args.first place = rw c.in-Err-2.is at c.in_ok-listings-in-Rows.ensures.refused in
+    let h = subst (λ rs. AreUnserved w (Ok rs) choice c.args.first place) (c.of_rows.ensures ∙ ap rows_of c.deref.ensures.value) given in
     record { ok = tt; refused = subst (λ (r : RowsOrFault). AreUnserved w r choice c.args.first place) (sym (ap outcome_of c.in-Rows.is)) h }
 
 pub returns-in_ok-outcome-in-Ok-2 : goal.returns-in_ok-outcome-in-Ok-2
@@ -48,6 +47,8 @@ returns-in_ok-outcome-in-Ok-2 c =
     let first = c.args.first in
     let listings = c.in-Ok-2.listings.items in
     let o = c.in_ok-outcome-in-Ok-2.outcome in
-    let all : AreListings w rows choice first (length w.classes) listings = search rules in
+    let given : AreListings w c.of_rows.result choice first (length w.classes) listings = rw c.in-Ok-2.is at c.in_ok-listings-in-Rows.ensures.ok in
+    let source : c.of_rows.result ≡ rows = c.of_rows.ensures ∙ ap rows_of c.deref.ensures.value in
+    let all : AreListings w rows choice first (length w.classes) listings = subst (λ rs. AreListings w rs choice first (length w.classes) listings) source given in
     let same = sym (ap outcome_of c.in-Rows.is) in
-    record { ok = subst (λ (r : RowsOrFault). IsExtended w r choice first o) same (rows_done w rows choice first listings o all (λ orderings listed. c.in_ok-outcome-in-Ok-2.ensures orderings (subst (λ ls. AreListed w rows orderings ls) (sym c.deref-in-Ok-2.ensures.value) listed))); refused = tt }
+    record { ok = subst (λ (r : RowsOrFault). IsExtended w r choice first (outcome_of o)) same (rows_done w rows choice first listings (outcome_of o) all (λ orderings listed. c.in_ok-outcome-in-Ok-2.ensures orderings (subst (λ ls. AreListed w rows orderings ls) (sym c.deref-in-Ok-2.ensures.value) listed))); refused = tt }

@@ -1,0 +1,37 @@
+use Rattle.std.proofs.Common.{◌≡◌, ◌∙◌, sym, subst, length, Ok, Err}
+use Rattle.wd_plan.specs.Plans.{window_of}
+use Rattle.wd_window.specs.Windows.{orderings_of}
+use Rattle.wd_window.specs.Listings.{AreListed, AreListings}
+use Rattle.wd_window.proofs.Serving.{rows_done}
+use Rattle.wd_eval.specs.Ties.{AreAllPut}
+use Rattle.wd_eval.proofs.window.sorted_by_column.Goals as goal
+
+pub returns-in-Ok : goal.returns-in-Ok
+returns-in-Ok c = λ instance. (
+    let w = window_of c.args.window.now in
+    let rows = c.args.columns in
+    let old = orderings_of c.args.made.now.items in
+    let new = orderings_of c.put_sorted.new.made.items in
+    let listings = c.in_ok-listings.listings.items in
+    let source : c.of_columns.result ≡ rows = c.of_columns.ensures in
+    let put : AreAllPut w (Ok rows) c.args.flipped old new = subst (λ rs. AreAllPut w (Ok rs) c.args.flipped old new) source c.in_ok-listings.ensures.put in
+    let all : AreListings w rows new (length old) (length w.classes) listings = subst (λ rs. AreListings w rs new (length old) (length w.classes) listings) source c.in_ok-listings.ensures.listings in
+    record {
+      put = put;
+      extended = rows_done w rows new (length old) listings (Ok c.in-Ok.extended) all (λ orderings listed. sym c.in-Ok.is ∙ c.in_ok-extended.ensures orderings (subst (λ ls. AreListed w rows orderings ls) (sym c.deref.ensures.value) listed));
+    })
+
+pub returns : goal.returns
+returns c = λ instance. (
+    let w = window_of c.args.window.now in
+    let rows = c.args.columns in
+    let old = orderings_of c.args.made.now.items in
+    let new = orderings_of c.put_sorted.new.made.items in
+    let listings = c.in_ok-listings.listings.items in
+    let source : c.of_columns.result ≡ rows = c.of_columns.ensures in
+    let put : AreAllPut w (Ok rows) c.args.flipped old new = subst (λ rs. AreAllPut w (Ok rs) c.args.flipped old new) source c.in_ok-listings.ensures.put in
+    let all : AreListings w rows new (length old) (length w.classes) listings = subst (λ rs. AreListings w rs new (length old) (length w.classes) listings) source c.in_ok-listings.ensures.listings in
+    record {
+      put = put;
+      extended = rows_done w rows new (length old) listings (Err c.in-Err.fault) all (λ orderings listed. sym c.in-Err.is ∙ c.in_ok-extended.ensures orderings (subst (λ ls. AreListed w rows orderings ls) (sym c.deref.ensures.value) listed));
+    })

@@ -1,0 +1,33 @@
+-- Pairs of rows by their positions, and conditions that are nothing but equalities of columns.
+use Rattle.std.specs.Prelude.{◌≡◌, ℕ, List, ◌++◌, map, length, All, Ok}
+use Rattle.wd_value.specs.declared.value.Value.{Value}
+use Rattle.wd_value.specs.Rows.{Row, row_at}
+use Rattle.wd_plan.specs.Expressions.{Expression, is_true, value_of}
+use Rattle.wd_steps.specs.declared.matching.JoinColumns.{JoinColumns}
+use Rattle.wd_steps.specs.declared.paired.Pair.{Pair}
+use Rattle.wd_steps.specs.Matching.{agree}
+
+-- the values of both rows of a pair, the left one's first
+abbrev pub row_paired : List Row → List Row → Pair → Row
+row_paired left right pair = row_at left pair.left ++ row_at right pair.right
+
+abbrev pub rows_paired : List Row → List Row → List Pair → List Row
+rows_paired left right pairs = map (row_paired left right) pairs
+
+-- a left position with each of some right ones
+abbrev pub with_each : ℕ → List ℕ → List Pair
+with_each left positions = map (λ p. record { left = left; right = p }) positions
+
+-- the condition has a value over a pair of rows, which is true exactly where they agree on the columns
+abbrev pub IsExact : Expression → List JoinColumns → Row → Row → Type 0
+IsExact e columns l r = (v : Value) × (value_of e (l ++ r) ≡ Ok v) × (is_true v ≡ agree columns l r)
+
+-- that is so for all pairs
+abbrev pub AreExact : Expression → List JoinColumns → List Row → List Row → Type 0
+AreExact e columns left right = All (λ l. All (λ r. IsExact e columns l r) right) left
+
+-- columns were put after those that were there, and the condition agrees with them over all rows of these widths
+pub record HasExact (left right : ℕ) (e : Expression) (old new : List JoinColumns) : Type 0 where
+  pub own : List JoinColumns
+  pub grown : new ≡ old ++ own
+  pub exact : (l r : Row) → length l ≡ left → length r ≡ right → IsExact e own l r
