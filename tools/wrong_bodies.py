@@ -379,7 +379,7 @@ def judge(crate, edits, logs):
         for edit in group:
             refused, said = (None, bad[edit]) if edit in bad else verdict(edit, lines)
             is_unclear = refused is None or edit.twin is not None and edit.function in harmed
-            if is_unclear and edit not in bad and len(group) > 1:
+            if is_unclear and len(group) > 1:
                 unclear.append(edit)
                 continue
             word = {True: "refused", False: "NOT REFUSED" if not edit.right else "proved, as it must be", None: "UNCLEAR"}[refused]
