@@ -34,6 +34,7 @@ REGIONS, GROUPS = 100, 1000
 Task = namedtuple("Task", "title query tables sizes r")
 BOTH = (100_000, 1_000_000)
 TASKS = (
+    Task("all records as they are", "SELECT id, g, region, day, v FROM t", "t", BOTH, "t"),
     Task("ten least of n", "SELECT id, v FROM t ORDER BY v, id FETCH FIRST 10 ROWS ONLY", "t", BOTH, "t[order(v, id)][1:10, .(id, v)]"),
     Task("ROW_NUMBER by partition", "SELECT id, ROW_NUMBER() OVER (PARTITION BY g ORDER BY v, id) AS n FROM t", "t", BOTH,
          "setorder(t, g, v, id)[, n := seq_len(.N), by = g][, .(id, n)]"),

@@ -27,6 +27,7 @@ The last line is 'N passed, M failed'.
 
 import argparse
 import collections
+import functools
 import os
 import re
 import resource
@@ -40,7 +41,7 @@ from rt_module import TOP, rt
 
 EDITS = f"{TOP}/wrong-bodies"
 # An edit is judged in its own function, or in that function's twin of this number where it is not None.
-Edit = collections.namedtuple("Edit", "crate name function right of_definition path twin", defaults=[None])
+Edit = collections.namedtuple("Edit", "crate name function right of_definition path cycle twin", defaults=[None, None])
 Twin = collections.namedtuple("Twin", "path text proofs")
 # Where a function stands in a file: its attributes and comments, its body between the braces, and its end; the name of the
 # cycle of calls of several functions that it is in, if it is in one, and whether it is generic over a type.
@@ -48,11 +49,13 @@ Span = collections.namedtuple("Span", "start opening closing end cycle generic")
 
 
 def read_edit(crate, path):
+    """The edit of a file; its cycle is that of calls of several functions in which the edited one is, if there is one."""
     text = text_of(path)
     function = re.search(r"(?m)^fn: (\S+)$", text)
     name = os.path.basename(path).removesuffix(".edit")
     of_definition = re.search(r"(?m)^file: specs/", text) is not None
-    return Edit(crate, name, function[1] if function else None, text.startswith("right:"), of_definition, path)
+    cycle = function and cycles_in(f"{TOP}/crates/{crate}").get(function[1])
+    return Edit(crate, name, function[1] if function else None, text.startswith("right:"), of_definition, path, cycle)
 
 
 def judged_name(edit):
@@ -100,7 +103,7 @@ def unchanged_twins(crate, edits):
 
 
 def unchanged_twin(crate, function):
-    return Edit(crate.name, "unchanged", function, True, False, None, 0)
+    return Edit(crate.name, "unchanged", function, True, False, None, None, 0)
 
 
 def twin_of(crate, edit):
@@ -230,6 +233,14 @@ def spans_in(text, module, homes):
     return spans
 
 
+@functools.cache
+def cycles_in(folder):
+    """The cycle of each function that is in one with others."""
+    homes = homes_in(folder)
+    found = (spans_in(text_of(f"{folder}/{path}"), module_of(path), homes) for path in sources_of(folder))
+    return {function: span.cycle for spans in found for function, span in spans.items() if span.cycle}
+
+
 def owner_of(text, found, module, homes):
     """The module of a function, or that of the type whose method it is, and the type; None where it is a trait's method."""
     if not found["indent"]:
@@ -325,6 +336,12 @@ def lost_goals(edit, lines):
     return sorted(set(goals))
 
 
+def is_of(edit, goals):
+    """Whether one of the goals is the function's own: functions of a cycle share their goals, which begin with the names of
+    the functions that they are of. (No twin is of a cycle.)"""
+    return not edit.cycle or any(goal.startswith(f"{edit.function.split('::')[-1]}-") for goal in goals)
+
+
 def verdict(edit, lines):
     """Whether the check refused the edit's own function, and what it said; None where that can't be told."""
     start = f"fn {edit.crate}::{judged_name(edit)}: "
@@ -332,7 +349,8 @@ def verdict(edit, lines):
     if said and (said == "no holes" or said.startswith("depends on a hole in")):
         return False, "proved"
     if said and "did not prove" in said:
-        return True, re.search(r"did not prove (.*?)(; it calls|$)", said)[1]
+        named = re.search(r"did not prove (.*?)(; it calls|$)", said)[1]
+        return True if is_of(edit, re.findall(r"`([^`]+)`", named)) else None, named
     told = next((line for line in lines if re.match(r"(\./)?(src|specs)/\S+: error|rattle: error", line)), None)
     if edit.of_definition and said and not told:
         return True, next((line for line in lines if re.match(r"(\./)?proofs/\S+: error", line)), said)

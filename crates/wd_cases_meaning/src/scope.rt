@@ -29,8 +29,8 @@ fn add_columns(
 ) -> Result<(), Failure> {
     for column in &table.columns {
         columns.push(ScopeColumn {
-            table: table.name.copy(alloc)?,
-            name: column.name.copy(alloc)?,
+            table: table.name.copy()?,
+            name: column.name.copy()?,
             kind: kind_of(column.kind),
         })?;
     }
@@ -40,7 +40,7 @@ fn add_columns(
 fn table_names(alloc: Global, schema: &Schema) -> Result<Vec<Text>, Failure> {
     let mut names = Vec::new(alloc);
     for (_, table) in &schema.tables {
-        names.push(table.name.copy(alloc)?)?;
+        names.push(table.name.copy()?)?;
     }
     Ok(names)
 }

@@ -82,11 +82,21 @@ fn row(alloc: Global, line: Line, out: &mut String) -> Result<(), Failure> {
     push_row(out, &copied)
 }
 
-/// `text TEXT`: the copy of the text, its bytes, and the string that it gives back.
+/// `text TEXT`: the copy of the text, its bytes, and the string that it gives back, first with the copy
+/// beside it and then without.
 fn text(alloc: Global, line: Line, out: &mut String) -> Result<(), Failure> {
     let text = Text::new(alloc, String::from_str(alloc, line.words)?)?;
-    let copied = text.copy(alloc)?;
+    let copied = text.copy()?;
     push(out, copied.as_str())?;
     write!(out, " {:?} ", text.as_bytes())?;
-    push(out, text.into_string().as_str())
+    let held = match text.into_string() {
+        Ok(_) => return Err(Failure::NoCase),
+        Err(held) => held,
+    };
+    push(out, "shared ")?;
+    drop(copied);
+    match held.into_string() {
+        Ok(string) => push(out, string.as_str()),
+        Err(_) => Err(Failure::NoCase),
+    }
 }

@@ -9,7 +9,7 @@ use wd_value::{Row, Text, Value};
 fn names_of(alloc: Global, table: &Table) -> Result<Vec<Text>, Failure> {
     let mut names = Vec::new(alloc);
     for column in &table.columns {
-        names.push(column.name.copy(alloc)?)?;
+        names.push(column.name.copy()?)?;
     }
     Ok(names)
 }
@@ -75,7 +75,7 @@ fn names_in(alloc: Global, row: &[Value]) -> Result<Vec<Text>, Failure> {
     let mut names = Vec::new(alloc);
     for value in row {
         match value {
-            Value::Text(name) => names.push(name.copy(alloc)?)?,
+            Value::Text(name) => names.push(name.copy()?)?,
             _ => return Err(Failure::NoCase),
         }
     }

@@ -246,11 +246,11 @@ fn primary(alloc: Global, depth: u8, tokens: &[Token]) -> Result<(Box<Expr>, &[T
             Ok((Box::new(alloc, Expr::Literal(literal))?, rest))
         }
         TokenKind::Literal(text) => {
-            let literal = Literal::Text(text.copy(alloc)?);
+            let literal = Literal::Text(text.copy()?);
             Ok((Box::new(alloc, Expr::Literal(literal))?, rest))
         }
         TokenKind::Word(text) => {
-            let text = text.copy(alloc)?;
+            let text = text.copy()?;
             named(
                 alloc,
                 depth,
@@ -262,7 +262,7 @@ fn primary(alloc: Global, depth: u8, tokens: &[Token]) -> Result<(Box<Expr>, &[T
             )
         }
         TokenKind::Quoted(text) => {
-            let text = text.copy(alloc)?;
+            let text = text.copy()?;
             named(alloc, depth, Name { text, quoted: true }, rest)
         }
         TokenKind::Terminal(terminal) => led_by(alloc, depth, *terminal, rest),

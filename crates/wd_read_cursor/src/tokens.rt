@@ -109,7 +109,7 @@ pub fn eat_name(alloc: Global, tokens: &[Token]) -> Result<Option<(Name, &[Token
             },
             rest @ ..,
         ] => {
-            let text = text.copy(alloc)?;
+            let text = text.copy()?;
             Ok(Some((
                 Name {
                     text,
@@ -125,7 +125,7 @@ pub fn eat_name(alloc: Global, tokens: &[Token]) -> Result<Option<(Name, &[Token
             },
             rest @ ..,
         ] => {
-            let text = text.copy(alloc)?;
+            let text = text.copy()?;
             Ok(Some((Name { text, quoted: true }, rest)))
         }
         _ => Ok(None),

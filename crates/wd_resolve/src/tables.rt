@@ -56,8 +56,8 @@ fn scope_columns(alloc: Global, table: &Table, name: &Text) -> Result<Vec<ScopeC
     let mut columns = Vec::with_capacity(alloc, table.columns.len())?;
     for column in &table.columns {
         columns.push(ScopeColumn {
-            table: name.copy(alloc)?,
-            name: column.name.copy(alloc)?,
+            table: name.copy()?,
+            name: column.name.copy()?,
             kind: kind_of_type(column.kind),
         })?;
     }
@@ -94,7 +94,7 @@ pub fn named_table(
         return Err(ResolveError::Refused(Cause::UnknownTable));
     };
     match schema.tables.get_index(number) {
-        Some((_, table)) => scan(alloc, number as u16, table, name.copy(alloc)?),
+        Some((_, table)) => scan(alloc, number as u16, table, name.copy()?),
         None => Err(ResolveError::Refused(Cause::UnknownTable)),
     }
 }
@@ -111,7 +111,7 @@ fn derived_columns(
     let mut columns = Vec::with_capacity(alloc, outputs.len())?;
     for output in outputs {
         columns.push(ScopeColumn {
-            table: name.copy(alloc)?,
+            table: name.copy()?,
             name: output.name,
             kind: output.kind,
         })?;
@@ -130,7 +130,7 @@ pub fn derived_table(
     let LoweredSelect { plan, columns } = lowered;
     let columns = derived_columns(alloc, name, columns)?;
     let mut tables = Vec::new(alloc);
-    tables.push(name.copy(alloc)?)?;
+    tables.push(name.copy()?)?;
     Ok(JoinedTables {
         scope: Scope { tables, columns },
         plan,

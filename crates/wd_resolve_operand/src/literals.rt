@@ -47,7 +47,7 @@ pub fn literal<L: Leaf>(alloc: Global, literal: &Literal) -> Result<Meaning<L>, 
     match literal {
         Literal::Number(n) => number_literal(alloc, *n),
         Literal::Text(text) => {
-            let value = Value::Text(text.copy(alloc)?);
+            let value = Value::Text(text.copy()?);
             Meaning::typed(
                 alloc,
                 Formula::Literal(value, ValueKind::Text),

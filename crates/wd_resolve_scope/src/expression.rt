@@ -410,7 +410,7 @@ fn defined(
     };
     let meaning = window_resolved(alloc, &context, &window.window)?;
     Ok(KnownWindow {
-        name: window.name.text.copy(alloc)?,
+        name: window.name.text.copy()?,
         window: meaning,
     })
 }

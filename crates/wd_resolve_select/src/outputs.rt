@@ -59,7 +59,7 @@ fn column_output(alloc: Global, number: u16, column: &ScopeColumn) -> Result<Out
     ensures { Gives output_of result (Ok (spec.column_meant (number, column.now))) }
 {
     Ok(Output {
-        name: column.name.copy(alloc)?,
+        name: column.name.copy()?,
         expression: Formula::Leaf(SelectLeaf::Column(number)),
         kind: column.kind,
     })

@@ -109,7 +109,7 @@ fn load_table(alloc: Global, table: &Table, text: &[u8]) -> Result<Columns, RunE
 {
     match load_columns(alloc, table, text) {
         Ok(rows) => Ok(rows),
-        Err(error) => match table.name.copy(alloc) {
+        Err(error) => match table.name.copy() {
             Ok(name) => Err(RunError::Data { name, error }),
             Err(_) => Err(RunError::OutOfMemory),
         },

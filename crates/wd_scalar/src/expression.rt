@@ -1,6 +1,6 @@
 //! Expressions, kind by kind.
 
-ghost use Rattle.std.specs.Prelude.{◌≡◌, IfOk, Ok};
+ghost use Rattle.std.specs.Prelude.{◌≡◌, ◌++◌, IfOk, Ok};
 ghost use Rattle.wd_plan.specs.Expressions as spec;
 ghost use Rattle.wd_plan.specs.Expressions.{expression_of};
 ghost use Rattle.wd_scalar.specs.Operands as operands;
@@ -9,20 +9,45 @@ ghost use Rattle.wd_value.specs.Rows.{column_of};
 
 use crate::arithmetic::{arithmetic_result, negated};
 use crate::truth::{and_result, comparison_result, is_null, is_true, not_value, or_result};
+use crate::view::RowView;
 use std::alloc::Global;
 use wd_plan::Expr;
 use wd_value::{Fault, OutOfMemory, Value};
 
 /// The value of an expression over a row, or its fault: operands are evaluated left first, and the
 /// left one's fault is the expression's. A column past the row's last is NULL.
-///
-/// Operators nest to the left as deep as their chains are long, so this function, which goes down
-/// there, keeps its frame on the stack small.
-#[cycle(value_of)]
 pub fn value_of(
     alloc: Global,
     expression: &Expr,
     row: &[Value],
+) -> Result<Result<Value, Fault>, OutOfMemory>
+    ensures { IfOk result (λ r. r ≡ spec.value_of (expression_of expression.now) row.now) }
+{
+    value_over(alloc, expression, &RowView::of_row(row))
+}
+
+/// The same over the values of two rows, the first one's before the second one's, which stay where
+/// they are.
+pub fn value_of_pair(
+    alloc: Global,
+    expression: &Expr,
+    first: &[Value],
+    second: &[Value],
+) -> Result<Result<Value, Fault>, OutOfMemory>
+    ensures { IfOk result (λ r. r ≡ spec.value_of (expression_of expression.now) (first.now ++ second.now)) }
+{
+    value_over(alloc, expression, &RowView::of_pair(first, second))
+}
+
+/// The same over a view of a row.
+///
+/// Operators nest to the left as deep as their chains are long, so this function, which goes down
+/// there, keeps its frame on the stack small.
+#[cycle(value_over)]
+fn value_over(
+    alloc: Global,
+    expression: &Expr,
+    row: &RowView,
 ) -> Result<Result<Value, Fault>, OutOfMemory>
     ensures { IfOk result (λ r. r ≡ spec.value_of (expression_of expression.now) row.now) }
 {
@@ -38,28 +63,28 @@ pub fn value_of(
         | Expr::Compare(_, a, _)
         | Expr::And(a, _)
         | Expr::Or(a, _) => {
-            let first = value_of(alloc, a, row)?;
+            let first = value_over(alloc, a, row)?;
             applied(alloc, expression, first, row)
         }
     }
 }
 
 /// The value of a CASE, of which only what is reached is evaluated.
-#[cycle(value_of)]
+#[cycle(value_over)]
 #[inline(never)]
 fn case_value(
     alloc: Global,
     expression: &Expr,
-    row: &[Value],
+    row: &RowView,
 ) -> Result<Result<Value, Fault>, OutOfMemory>
     ensures { IfOk result (λ r. r ≡ operands.case_value (expression_of expression.now) row.now) }
 {
     match expression {
-        Expr::Case(_, condition, then, otherwise) => match value_of(alloc, condition, row)? {
+        Expr::Case(_, condition, then, otherwise) => match value_over(alloc, condition, row)? {
             Ok(test) => if is_true(&test) {
-                value_of(alloc, then, row)
+                value_over(alloc, then, row)
             } else {
-                value_of(alloc, otherwise, row)
+                value_over(alloc, otherwise, row)
             },
             Err(fault) => Ok(Err(fault)),
         },
@@ -68,13 +93,13 @@ fn case_value(
 }
 
 /// The value of an expression, from the result of its first operand.
-#[cycle(value_of)]
+#[cycle(value_over)]
 #[inline(never)]
 fn applied(
     alloc: Global,
     expression: &Expr,
     first: Result<Value, Fault>,
-    row: &[Value],
+    row: &RowView,
 ) -> Result<Result<Value, Fault>, OutOfMemory>
     ensures { IfOk result (λ r. r ≡ operands.applied (expression_of expression.now) row.now first) }
 {
@@ -85,12 +110,12 @@ fn applied(
 }
 
 /// The value of an expression whose first operand has this value.
-#[cycle(value_of)]
+#[cycle(value_over)]
 fn applied_to(
     alloc: Global,
     expression: &Expr,
     left: &Value,
-    row: &[Value],
+    row: &RowView,
 ) -> Result<Result<Value, Fault>, OutOfMemory>
     ensures { IfOk result (λ r. r ≡ operands.applied_to (expression_of expression.now) row.now left.now) }
 {
@@ -99,15 +124,15 @@ fn applied_to(
         Expr::Not(_) => Ok(Ok(not_value(left))),
         Expr::IsNull(_) => Ok(Ok(Value::Bool(is_null(left)))),
         Expr::IsNotNull(_) => Ok(Ok(Value::Bool(!is_null(left)))),
-        Expr::Arithmetic(op, _, b) => Ok(arithmetic_result(*op, left, value_of(alloc, b, row)?)),
-        Expr::Compare(op, _, b) => Ok(comparison_result(*op, left, value_of(alloc, b, row)?)),
+        Expr::Arithmetic(op, _, b) => Ok(arithmetic_result(*op, left, value_over(alloc, b, row)?)),
+        Expr::Compare(op, _, b) => Ok(comparison_result(*op, left, value_over(alloc, b, row)?)),
         Expr::And(_, b) => match left {
             Value::Bool(false) => Ok(Ok(Value::Bool(false))),
-            _ => Ok(and_result(left, value_of(alloc, b, row)?)),
+            _ => Ok(and_result(left, value_over(alloc, b, row)?)),
         },
         Expr::Or(_, b) => match left {
             Value::Bool(true) => Ok(Ok(Value::Bool(true))),
-            _ => Ok(or_result(left, value_of(alloc, b, row)?)),
+            _ => Ok(or_result(left, value_over(alloc, b, row)?)),
         },
         Expr::Column(_) | Expr::Literal(..) | Expr::Case(..) => Ok(Ok(Value::Null)),
     }
@@ -131,15 +156,13 @@ pub fn has_arithmetic(expression: &Expr) -> bool
 /// A copy of the value in a column, and NULL past the last.
 fn column_value(
     alloc: Global,
-    row: &[Value],
+    row: &RowView,
     column: u16,
 ) -> Result<Result<Value, Fault>, OutOfMemory>
     ensures { IfOk result (λ r. r ≡ Ok (column_of row.now column)) }
 {
-    match row.get(column as usize) {
-        Some(value) => literal_value(alloc, value),
-        None => Ok(Ok(Value::Null)),
-    }
+    let null = Value::Null;
+    literal_value(alloc, row.value(column as usize, &null))
 }
 
 /// A copy of a value.

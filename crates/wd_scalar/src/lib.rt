@@ -4,6 +4,7 @@
 mod arithmetic;
 mod expression;
 mod truth;
+mod view;
 
-pub use expression::{has_arithmetic, value_of};
+pub use expression::{has_arithmetic, value_of, value_of_pair};
 pub use truth::is_true;

@@ -132,7 +132,7 @@ pub fn column_names(alloc: Global, elements: &[Element]) -> Result<Vec<Text>, Al
     let mut names = Vec::new(alloc);
     for element in elements {
         if let Element::Column(column) = element {
-            names.push(column.name.text.copy(alloc)?)?;
+            names.push(column.name.text.copy()?)?;
         }
     }
     Ok(names)
@@ -179,7 +179,7 @@ fn column_key(
     ensures { IfOk result (λ key. said key ≡ record { words = words; columns = name_text name.now ∷ [] }) }
 {
     let mut columns = Vec::new(alloc);
-    columns.push(name.text.copy(alloc)?)?;
+    columns.push(name.text.copy()?)?;
     Ok(KeyAt {
         words,
         columns,
@@ -204,7 +204,7 @@ fn texts_of(alloc: Global, names: &[Name]) -> Result<Vec<Text>, AllocError>
 {
     let mut texts = Vec::with_capacity(alloc, names.len())?;
     for name in names {
-        texts.push(name.text.copy(alloc)?)?;
+        texts.push(name.text.copy()?)?;
     }
     Ok(texts)
 }
@@ -471,7 +471,7 @@ fn declared_column(
     ensures { IfOk result (λ found. found ≡ spec.column_declared (map said keys.now) (column_tree column.now)) }
 {
     Ok(Column {
-        name: column.name.text.copy(alloc)?,
+        name: column.name.text.copy()?,
         kind: type_named(column.kind.text.as_str()).unwrap_or(ColumnType::Text),
         not_null: is_not_null(keys, column),
     })
@@ -531,7 +531,7 @@ pub fn declare(alloc: Global, table: &WrittenTable) -> Result<Table, SchemaError
         return Err(refusal.error);
     }
     Ok(Table {
-        name: table.name.text.copy(alloc)?,
+        name: table.name.text.copy()?,
         columns: declared_columns(alloc, &table.elements, &keys)?,
         keys: declared_keys(alloc, &names, &keys)?,
     })

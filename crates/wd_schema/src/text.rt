@@ -88,7 +88,8 @@ fn declared_schema(alloc: Global, tables: &[WrittenTable]) -> Result<Schema, Sch
             return Err(SchemaError::TooMany);
         }
         let declared = declare(alloc, table)?;
-        schema.insert(name.copy(alloc)?.into_string(), declared)?;
+        let key = String::from_str(alloc, name.as_str())?;
+        schema.insert(key, declared)?;
     }
     Ok(Schema { tables: schema })
 }

@@ -11,11 +11,13 @@ use Rattle.wd_value.specs.declared.value.Fault.{Fault}
 use Rattle.wd_value.specs.declared.value.Fault.TheVariants.{DivisionByZero, OutOfRange}
 use Rattle.wd_value.specs.Bags.{positions}
 use Rattle.wd_value.specs.Rows.{Row, column_of}
-use Rattle.wd_plan.specs.Expressions.{Expression, Column, value_of}
+use Rattle.wd_plan.specs.declared.expression.Expr.{Expr}
+use Rattle.wd_plan.specs.declared.expression.Expr.TheVariants as code
+use Rattle.wd_plan.specs.Expressions.{Expression, Column, expression_of, value_of}
 use Rattle.wd_plan.specs.Faults.{all_ok, has_fault, values_among}
 use Rattle.wd_plan.specs.Outcomes.{map_outcome}
 use Rattle.wd_steps.specs.declared.own.Exchange.{Exchange}
-use Rattle.wd_steps.specs.Selections.{AreWithin, Selects, exchanged, selected}
+use Rattle.wd_steps.specs.Selections.{AreWithin, Selects, exchanged, is_column, selected}
 
 -- ---- no faults
 
@@ -132,3 +134,17 @@ get_or-half_done f (x ∷ xs) (suc i) d = get_or-half_done f xs i d
 pub All-one : {X : Type 0} (P : X → Type 0) (x : X) → P x → All P (x ∷ [])
 All-one P x p zero d at = p
 All-one P x p (suc k) d at = absurd (omega arith)
+
+-- an output that is no column
+pub not_column : (e : Expr) → ((c : ℕ) → e ≡ code.Column c → ⊥) → is_column (expression_of e) ≡ false
+not_column (code.Column c) other = absurd (other c refl)
+not_column (code.Literal v kind) other = refl
+not_column (code.Negate' p a) other = refl
+not_column (code.Arithmetic' op p a q b) other = refl
+not_column (code.Compare' op p a q b) other = refl
+not_column (code.Not' p a) other = refl
+not_column (code.And' p a q b) other = refl
+not_column (code.Or' p a q b) other = refl
+not_column (code.IsNull' p a) other = refl
+not_column (code.IsNotNull' p a) other = refl
+not_column (code.Case' branch p a q b r c) other = refl

@@ -1,8 +1,9 @@
 -- Pairs of rows by their positions, and conditions that are nothing but equalities of columns.
-use Rattle.std.specs.Prelude.{◌≡◌, ℕ, List, ◌++◌, map, length, All, Ok}
+use Rattle.std.specs.Prelude.{◌≡◌, ℕ, ◌+◌, Bool, true, false, ◌&&◌, ◌||◌, nat_lt, nat_le, List, ◌++◌, map, length, All, Ok}
 use Rattle.wd_value.specs.declared.value.Value.{Value}
 use Rattle.wd_value.specs.Rows.{Row, row_at}
-use Rattle.wd_plan.specs.Expressions.{Expression, is_true, value_of}
+use Rattle.wd_plan.specs.declared.expression.ComparisonOp.TheVariants.{Equal}
+use Rattle.wd_plan.specs.Expressions.{Expression, Column, Compare, And, is_true, value_of}
 use Rattle.wd_steps.specs.declared.matching.JoinColumns.{JoinColumns}
 use Rattle.wd_steps.specs.declared.paired.Pair.{Pair}
 use Rattle.wd_steps.specs.Matching.{agree}
@@ -31,3 +32,30 @@ pub record HasExact (left right : ℕ) (e : Expression) (old new : List JoinColu
   pub own : List JoinColumns
   pub grown : new ≡ old ++ own
   pub exact : (l r : Row) → length l ≡ left → length r ≡ right → IsExact e own l r
+
+-- ---- when a condition consists of equalities of a left and a right column
+
+-- of the columns of pairs of rows of these widths, the first is the left row's and the second the right row's
+abbrev pub is_left_and_right : ℕ → ℕ → ℕ → ℕ → Bool
+is_left_and_right left right a b = nat_lt a left && (nat_le left b && nat_lt b (left + right))
+
+-- two columns, one of either row
+abbrev pub are_of_both : ℕ → ℕ → Expression → Expression → Bool
+are_of_both left right (Column a) (Column b) = is_left_and_right left right a b || is_left_and_right left right b a
+are_of_both left right _ _ = false
+
+-- equalities of such columns, joined by AND
+abbrev pub are_equalities : ℕ → ℕ → Expression → Bool
+are_equalities left right (Compare Equal a b) = are_of_both left right a b
+are_equalities left right (And a b) = are_equalities left right a && are_equalities left right b
+are_equalities left right _ = false
+
+-- how many values the first row has
+abbrev pub width_of : List Row → ℕ
+width_of rows = length (row_at rows 0)
+
+-- the rows of either side have one width, and the condition consists of such equalities
+pub record IsOfEqualities (e : Expression) (left right : List Row) : Type 0 where
+  pub left_even : All (λ row. length row ≡ width_of left) left
+  pub right_even : All (λ row. length row ≡ width_of right) right
+  pub equalities : are_equalities (width_of left) (width_of right) e ≡ true

@@ -1,9 +1,14 @@
 -- Some columns of rows, by exchanges of places.
-use Rattle.std.specs.Prelude.{◌≡◌, ℕ, ◌<◌, List, [], ◌∷◌, All, map, take}
+use Rattle.std.specs.Prelude.{◌≡◌, ℕ, ◌<◌, Bool, true, false, List, [], ◌∷◌, All, map, take}
 use Rattle.std.specs.List.{swap}
 use Rattle.wd_value.specs.Bags.{positions}
 use Rattle.wd_plan.specs.Expressions.{Expression, Column}
 use Rattle.wd_steps.specs.declared.own.Exchange.{Exchange}
+
+-- a column of the row
+abbrev pub is_column : Expression → Bool
+is_column (Column c) = true
+is_column _ = false
 
 -- a list after exchanges of two places, one after another
 abbrev pub exchanged : {X : Type 0} → List Exchange → List X → List X

@@ -1,9 +1,9 @@
 //! Conditions that are nothing but equalities of a left and a right column.
 
-ghost use Rattle.std.specs.Prelude.{◌≡◌, true, IfOk, IfSome};
+ghost use Rattle.std.specs.Prelude.{◌≡◌, true, false, IfNone, IfOk, IfSome};
 ghost use Rattle.wd_plan.specs.Expressions.{expression_of};
 ghost use Rattle.wd_steps.specs.Matching as spec;
-ghost use Rattle.wd_steps.specs.Paired.{AreExact, HasExact};
+ghost use Rattle.wd_steps.specs.Paired.{AreExact, HasExact, IsOfEqualities, are_equalities};
 
 use crate::matching::{JoinColumns, Widths, are_wide, compared, first_widths};
 use std::alloc::Global;
@@ -12,18 +12,22 @@ use wd_plan::{ComparisonOp, Expr};
 use wd_value::OutOfMemory;
 
 /// The columns whose equalities a condition consists of, joined by AND: it has no fault, and is true
-/// for exactly the pairs that agree on them. None where it consists of others too, or where rows of
-/// a side differ in width.
+/// for exactly the pairs that agree on them. None where it does not consist of such, or where rows of
+/// a side differ in width, and nowhere else.
 pub(crate) fn exact_columns(
     alloc: Global,
     condition: &Expr,
     left: &RowSource,
     right: &RowSource,
 ) -> Result<Option<Vec<JoinColumns>>, OutOfMemory>
-    ensures { IfOk result (λ o. IfSome o (λ v. AreExact (expression_of condition.now) v.items left.now right.now)) }
+    ensures exact { IfOk result (λ o. IfSome o (λ v. AreExact (expression_of condition.now) v.items left.now right.now)) }
+    ensures none { IfOk result (λ o. IfNone o (IsOfEqualities (expression_of condition.now) left.now right.now → ⊥)) }
 {
     let widths = first_widths(left, right);
-    if !are_wide(left, widths.left) || !are_wide(right, widths.right) {
+    if !are_wide(left, widths.left) {
+        return Ok(None);
+    }
+    if !are_wide(right, widths.right) {
         return Ok(None);
     }
     let mut columns = Vec::new(alloc);
@@ -35,13 +39,14 @@ pub(crate) fn exact_columns(
 }
 
 /// Puts the columns of each equality that the condition consists of after those that are there.
-/// False where it consists of others too.
+/// False where it does not consist of such.
 fn push_exact(
     condition: &Expr,
     widths: Widths,
     columns: &mut Vec<JoinColumns>,
 ) -> Result<bool, OutOfMemory>
-    ensures { IfOk result (λ b. b ≡ true → HasExact widths.left widths.right (expression_of condition.now) columns.old.items columns.new.items) }
+    ensures exact { IfOk result (λ b. b ≡ true → HasExact widths.left widths.right (expression_of condition.now) columns.old.items columns.new.items) }
+    ensures none { IfOk result (λ b. b ≡ false → are_equalities widths.left widths.right (expression_of condition.now) ≡ false) }
 {
     match condition {
         Expr::Compare(ComparisonOp::Equal, a, b) => push_equality(a, b, widths, columns),
@@ -61,7 +66,8 @@ fn push_equality(
     widths: Widths,
     columns: &mut Vec<JoinColumns>,
 ) -> Result<bool, OutOfMemory>
-    ensures { IfOk result (λ b'. b' ≡ true → HasExact widths.left widths.right (spec.equality (expression_of a.now) (expression_of b.now)) columns.old.items columns.new.items) }
+    ensures exact { IfOk result (λ b'. b' ≡ true → HasExact widths.left widths.right (spec.equality (expression_of a.now) (expression_of b.now)) columns.old.items columns.new.items) }
+    ensures none { IfOk result (λ b'. b' ≡ false → are_equalities widths.left widths.right (spec.equality (expression_of a.now) (expression_of b.now)) ≡ false) }
 {
     match compared(a, b, widths) {
         Some(found) => {

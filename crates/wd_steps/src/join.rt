@@ -15,13 +15,12 @@ ghost use Rattle.wd_value.specs.Rows.{rows_of};
 use crate::fault::{rows_or_fault, with_value};
 use crate::filter::passes;
 use crate::matching::{JoinColumns, matching_columns};
-use crate::pairs::{all_pairs, refilled};
+use crate::pairs::{all_pairs, joined_row};
 use crate::walk::{agreeing_rows, positions_in};
 use std::alloc::Global;
-use std::mem::replace;
 use wd_columns::{RowSource, row_in};
 use wd_plan::{Expr, Outcome};
-use wd_scalar::{has_arithmetic, value_of};
+use wd_scalar::{has_arithmetic, value_of_pair};
 use wd_value::{Fault, OutOfMemory, Row, Value};
 
 /// Why a join gives no outcome.
@@ -40,13 +39,11 @@ impl From<OutOfMemory> for JoinError {
     }
 }
 
-/// Rows of a join, the least fault of its condition, and a row that was not kept, whose memory the
-/// next pair takes.
+/// Rows of a join, and the least fault of its condition.
 #[derive(Drop)]
 struct Kept {
     rows: Vec<Row>,
     fault: Option<Fault>,
-    spare: Row,
 }
 
 impl Kept {
@@ -58,11 +55,11 @@ impl Kept {
         Kept {
             rows: Vec::new(alloc),
             fault: None,
-            spare: Vec::new(alloc),
         }
     }
 
-    /// Looks at one more pair: it is added where the condition is true for it and there are not more than `most` rows yet.
+    /// Looks at one more pair where its rows stand: it is added where the condition is true for it and
+    /// there are not more than `most` rows yet.
     fn look_at(
         &mut self,
         alloc: Global,
@@ -74,11 +71,11 @@ impl Kept {
         ensures rows { OnOk result (rows_of self.new.rows.items ≡ joins.with_row most (spec.passes (value.value_of (expression_of condition.now) (first.now ++ second.now))) (rows_of self.old.rows.items) (first.now ++ second.now)) }
         ensures fault { OnOk result (self.new.fault ≡ with_result self.old.fault (value.value_of (expression_of condition.now) (first.now ++ second.now))) }
     {
-        let spare = replace(&mut self.spare, Vec::new(alloc));
-        let row = refilled(alloc, spare, first, second)?;
-        let value = value_of(alloc, condition, &row)?;
+        let value = value_of_pair(alloc, condition, first, second)?;
         self.fault = with_value(self.fault, &value);
-        self.spare = keep_row(alloc, &mut self.rows, row, passes(&value), most)?;
+        if passes(&value) {
+            keep_pair(alloc, &mut self.rows, first, second, most)?;
+        }
         Ok(())
     }
 }
@@ -205,29 +202,28 @@ fn matching_where(
     Ok(kept)
 }
 
-/// Adds a row that passes where there are not more than `most` yet. Another one is given back.
-fn keep_row(
+/// Adds the row of a pair where there are not more than `most` yet.
+fn keep_pair(
     alloc: Global,
     rows: &mut Vec<Row>,
-    row: Row,
-    passes: bool,
+    first: &[Value],
+    second: &[Value],
     most: u64,
-) -> Result<Row, OutOfMemory>
-    ensures { OnOk result (rows_of rows.new.items ≡ joins.with_row most passes (rows_of rows.old.items) row.items) }
+) -> Result<(), OutOfMemory>
+    ensures { OnOk result (rows_of rows.new.items ≡ joins.with_row most true (rows_of rows.old.items) (first.now ++ second.now)) }
 {
-    if passes && rows.len() as u64 <= most {
+    if rows.len() as u64 <= most {
+        let row = joined_row(alloc, first, second)?;
         rows.push(row)?;
-        Ok(Vec::new(alloc))
-    } else {
-        Ok(row)
     }
+    Ok(())
 }
 
 /// The fault where there is one, else the rows where there are not more than `most`.
 fn outcome_within(kept: Kept, most: u64) -> Result<Outcome, JoinError>
     ensures { joins.result_of result ≡ joins.within most (rows_of kept.rows.items) kept.fault }
 {
-    let Kept { rows, fault, .. } = kept;
+    let Kept { rows, fault } = kept;
     match fault {
         Some(fault) => Ok(Outcome::Fault(fault)),
         None => if rows.len() as u64 > most {

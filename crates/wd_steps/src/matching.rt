@@ -1,9 +1,10 @@
 //! The columns on which a pair has to agree for a condition to be true.
 
-ghost use Rattle.std.specs.Prelude.{◌≡◌, true, false, length, All, Contains, IfOk, IfSome, OnOk};
-ghost use Rattle.wd_plan.specs.Expressions.{expression_of, is_null};
+ghost use Rattle.std.specs.Prelude.{◌≡◌, true, false, length, All, Contains, IfNone, IfOk, IfSome, OnOk};
+ghost use Rattle.wd_plan.specs.Expressions.{Column, expression_of, is_null};
 ghost use Rattle.wd_steps.specs.Matching as spec;
 ghost use Rattle.wd_steps.specs.Matching.{AreDeciding, AreSkippable, AreWhole, Equates};
+ghost use Rattle.wd_steps.specs.Paired as pairs;
 ghost use Rattle.wd_value.specs.Rows.{column_of, row_at};
 
 use std::alloc::Global;
@@ -50,7 +51,10 @@ pub(crate) fn matching_columns(
 }
 
 /// The lengths of the first rows, and 0 where there is none.
-pub(crate) fn first_widths(left: &RowSource, right: &RowSource) -> Widths {
+pub(crate) fn first_widths(left: &RowSource, right: &RowSource) -> Widths
+    ensures left { result.left ≡ pairs.width_of left.now }
+    ensures right { result.right ≡ pairs.width_of right.now }
+{
     Widths {
         left: left.width(0),
         right: right.width(0),
@@ -59,7 +63,8 @@ pub(crate) fn first_widths(left: &RowSource, right: &RowSource) -> Widths {
 
 /// Whether each row has so many values.
 pub(crate) fn are_wide(rows: &RowSource, width: usize) -> bool
-    ensures { result ≡ true → All (λ row. length row ≡ width) rows.now }
+    ensures wide { result ≡ true → All (λ row. length row ≡ width) rows.now }
+    ensures uneven { result ≡ false → All (λ row. length row ≡ width) rows.now → ⊥ }
 {
     for position in 0..rows.len() {
         if rows.width(position as u64) != width {
@@ -158,7 +163,8 @@ fn push_compared(
 
 /// The columns of an equality of two columns, one of either side.
 pub(crate) fn compared(a: &Expr, b: &Expr, widths: Widths) -> Option<JoinColumns>
-    ensures { IfSome result (λ c. Equates widths.left widths.right (spec.equality (expression_of a.now) (expression_of b.now)) c) }
+    ensures found { IfSome result (λ c. Equates widths.left widths.right (spec.equality (expression_of a.now) (expression_of b.now)) c) }
+    ensures none { IfNone result (pairs.are_of_both widths.left widths.right (expression_of a.now) (expression_of b.now) ≡ false) }
 {
     match (a, b) {
         (Expr::Column(a), Expr::Column(b)) => sides(*a, *b, widths),
@@ -167,7 +173,8 @@ pub(crate) fn compared(a: &Expr, b: &Expr, widths: Widths) -> Option<JoinColumns
 }
 
 fn sides(a: u16, b: u16, widths: Widths) -> Option<JoinColumns>
-    ensures { IfSome result (λ c. spec.AreSides widths.left widths.right a b c) }
+    ensures found { IfSome result (λ c. spec.AreSides widths.left widths.right a b c) }
+    ensures none { IfNone result (pairs.are_of_both widths.left widths.right (Column a) (Column b) ≡ false) }
 {
     let (first, second) = (a as usize, b as usize);
     if first < widths.left && widths.left <= second && second - widths.left < widths.right {

@@ -1,10 +1,11 @@
 //! A Map over rows that nothing else reads: values stay in the rows that have them.
 
-ghost use Rattle.std.specs.Prelude.{◌≡◌, ◌<◌, All, IfOk, IfSome, true, get_or, length, map, set};
+ghost use Rattle.std.specs.List.{list_all};
+ghost use Rattle.std.specs.Prelude.{◌≡◌, ◌<◌, All, IfNone, IfOk, IfSome, true, false, get_or, length, map, set};
 ghost use Rattle.wd_plan.specs.Expressions.{Column, expression_of};
 ghost use Rattle.wd_plan.specs.Outcomes as spec;
 ghost use Rattle.wd_plan.specs.Outcomes.{outcome_of};
-ghost use Rattle.wd_steps.specs.Selections.{AreWithin, Selects, exchanged, selected};
+ghost use Rattle.wd_steps.specs.Selections.{AreWithin, Selects, exchanged, is_column, selected};
 ghost use Rattle.wd_value.specs.Rows.{row_at, rows_of};
 
 use crate::map::map_rows;
@@ -92,9 +93,10 @@ fn selection_of(
     Ok(Some(Selection { exchanges, count }))
 }
 
-/// The columns that the outputs are, where they are columns.
+/// The columns that the outputs are; none where one of them is no column.
 pub fn shown_columns(alloc: Global, outputs: &[Expr]) -> Result<Option<Vec<u64>>, OutOfMemory>
-    ensures { IfOk result (λ o. IfSome o (λ v. map expression_of outputs.now ≡ map Column v.items)) }
+    ensures columns { IfOk result (λ o. IfSome o (λ v. map expression_of outputs.now ≡ map Column v.items)) }
+    ensures none { IfOk result (λ o. IfNone o (list_all is_column (map expression_of outputs.now) ≡ false)) }
 {
     let mut columns = Vec::with_capacity(alloc, outputs.len())?;
     for output in outputs {

@@ -1,12 +1,12 @@
 //! Pairs of a left and a right row by their positions.
 
-ghost use Rattle.std.specs.Prelude.{◌≡◌, ◌++◌, ◌≤◌, Err, IfOk, IfSome, Ok, OnOk, Some, length, map, nat_lt, true};
+ghost use Rattle.std.specs.Prelude.{◌≡◌, ◌++◌, ◌≤◌, Err, IfNone, IfOk, IfSome, Ok, OnOk, Some, length, map, nat_lt, true};
 ghost use Rattle.wd_plan.specs.Expressions.{expression_of};
 ghost use Rattle.wd_plan.specs.Outcomes as spec;
 ghost use Rattle.wd_plan.specs.Outcomes.{join_outcome};
 ghost use Rattle.wd_steps.specs.Joins.{has_more_rows};
 ghost use Rattle.wd_steps.specs.Matching.{matching};
-ghost use Rattle.wd_steps.specs.Paired.{row_paired, rows_paired, with_each};
+ghost use Rattle.wd_steps.specs.Paired.{IsOfEqualities, row_paired, rows_paired, with_each};
 ghost use Rattle.wd_steps.specs.declared.join.JoinError.TheVariants as error;
 ghost use Rattle.wd_value.specs.Rows.{column_of, columns_of, rows_of};
 ghost use Rattle.wd_value.specs.declared.value.Value.TheVariants as value;
@@ -30,7 +30,8 @@ pub struct Pair {
 
 /// The pairs of a left and a right row, the left one outermost, for which the condition is true, by
 /// their positions, where it consists of equalities of a left and a right column; none where it does
-/// not, or where rows of a side differ in width. Where there are more than `most` they are not made.
+/// not, or where rows of a side differ in width, and nowhere else. Where there are more than `most`
+/// they are not made.
 pub fn equal_pairs(
     alloc: Global,
     condition: &Expr,
@@ -39,6 +40,7 @@ pub fn equal_pairs(
     most: u64,
 ) -> Result<Option<Vec<Pair>>, JoinError>
     ensures pairs { IfOk result (λ o. IfSome o (λ v. join_outcome (Some (expression_of condition.now)) (spec.pairs left.now right.now) ≡ Ok (rows_paired left.now right.now v.items))) }
+    ensures none { IfOk result (λ o. IfNone o (IsOfEqualities (expression_of condition.now) left.now right.now → ⊥)) }
     ensures within { IfOk result (λ o. IfSome o (λ v. length v.items ≤ most)) }
     ensures too_many { result ≡ Err error.TooManyRows → has_more_rows most (join_outcome (Some (expression_of condition.now)) (spec.pairs left.now right.now)) ≡ true }
 {

@@ -24,21 +24,7 @@ pub fn all_pairs(alloc: Global, left: &[Row], right: &[Row]) -> Result<Vec<Row>,
 pub(crate) fn joined_row(alloc: Global, left: &[Value], right: &[Value]) -> Result<Row, OutOfMemory>
     ensures { IfOk result (λ r. r.items ≡ left.now ++ right.now) }
 {
-    refilled(alloc, Vec::new(alloc), left, right)
-}
-
-/// The same in the memory of a row that is not needed.
-pub(crate) fn refilled(
-    alloc: Global,
-    spare: Row,
-    left: &[Value],
-    right: &[Value],
-) -> Result<Row, OutOfMemory>
-    ensures { IfOk result (λ r. r.items ≡ left.now ++ right.now) }
-{
-    let mut row = spare;
-    row.clear();
-    row.reserve_exact(left.len().saturating_add(right.len()))?;
+    let mut row = Vec::with_capacity(alloc, left.len().saturating_add(right.len()))?;
     push_copies(alloc, &mut row, left)?;
     push_copies(alloc, &mut row, right)?;
     Ok(row)

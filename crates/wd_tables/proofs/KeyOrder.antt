@@ -13,15 +13,16 @@ use Rattle.wd_value.proofs.Perms.{count_by-cons, count_by-no, count_by-yes}
 use Rattle.wd_value.proofs.SameLaws.{same_row-Decides}
 use Rattle.wd_value.specs.Bags.{positions, times}
 use Rattle.wd_value.specs.Order.{compare}
+use Rattle.wd_value.specs.declared.order.SortColumn.{SortColumn}
 use Rattle.wd_value.specs.Rows.{Row, column_of, columns_of, row_at, same_row}
 use Rattle.wd_schema.specs.Meets.{is_null, violates}
 use Rattle.wd_schema.specs.Tables.{KeyRule}
 use Rattle.wd_tables.specs.Causes.{RepeatsIn}
-use Rattle.wd_sort.specs.Sorting.{IsSortOf, compare_positions}
+use Rattle.wd_sort.specs.Sorting.{IsSortOf, compare_positions, compare_rows_at}
 use Rattle.wd_value.proofs.KeyLaws.{compare_keys_total}
 use Rattle.wd_value.specs.Keys.{compare_keys}
-use Rattle.wd_sort.proofs.Order.{positions_order}
-use Rattle.wd_tables.specs.Keys.{ViolatesBefore, ascending, sort_columns}
+use Rattle.wd_sort.proofs.Order.{IsSortOf-from_stable, positions_order}
+use Rattle.wd_tables.specs.Keys.{AreInOrder, ViolatesBefore, ascending, sort_columns}
 
 -- ---- the order of rows by columns
 
@@ -166,3 +167,20 @@ module _ (key : KeyRule) (rows : List Row) (order : List ℕ) (s : IsSortOf (sor
       let tie = tie_from (compare_keys (sort_columns key.columns) (row_at rows p) (row_at rows m)) (compare_keys (sort_columns key.columns) (row_at rows m) (row_at rows p)) (total.antisymm (row_at rows p) (row_at rows m)) (λ e. not_less _ _ to_q (alike ∙ e)) (not_less _ _ from_p) in
       let same = compare_columns-exact key.columns (row_at rows p) (row_at rows m) tie in
       (k, rw next j-within, rw next j-is, rw same at bad)
+
+-- ---- rows that stand in the order of columns
+
+pub in_order : (columns : List SortColumn) (rows : List Row) → AreInOrder columns rows → IsSortOf columns rows (positions (length rows))
+in_order columns rows h =
+    let all = positions (length rows) in
+    IsSortOf-from_stable columns rows all (record {
+      rearranged = record { moves = []; below = tt; is = refl };
+      sorted = λ k d low high. (
+          let within : k + 1 < length rows = rw (length-range_with_len 0 (length rows)) at high in
+          let this = get_or-range_with_len 0 (length rows) k d (omega arith) in
+          let next = get_or-range_with_len 0 (length rows) (k + 1) d within in
+          let p : get_or all k d ≡ k = omega arith in
+          let q : get_or all (k + 1) d ≡ k + 1 = omega arith in
+          (λ i. is_lt (compare_rows_at columns rows (q i) (p i))) ∙ h k within);
+      stable = λ x. refl;
+    })

@@ -1,8 +1,10 @@
 -- Positions of rows in the order of a key, and rows that violate it side by side.
 use Rattle.std.specs.Prelude.{◌≡◌, ◌+◌, ◌<◌, ℕ, true, false, List, map, length, Option, Some, None, if◌then◌else◌, nat_lt, slice_index_or}
+use Rattle.std.specs.Ordering.{is_lt}
 use Rattle.wd_value.specs.declared.order.SortKey.{SortKey}
 use Rattle.wd_value.specs.Rows.{Row, row_at}
 use Rattle.wd_value.specs.declared.order.SortColumn.{SortColumn}
+use Rattle.wd_sort.specs.Sorting.{compare_rows_at}
 use Rattle.wd_schema.specs.Tables.{KeyRule}
 use Rattle.wd_schema.specs.Meets.{violates}
 
@@ -12,6 +14,10 @@ ascending = record { desc = false; nulls_first = false }
 
 abbrev pub sort_columns : List ℕ → List SortColumn
 sort_columns columns = map (λ c. record { column = c; key = ascending }) columns
+
+-- the rows stand in the order of the columns; those that tie may stand in any order
+abbrev pub AreInOrder : List SortColumn → List Row → Type 0
+AreInOrder columns rows = (k : ℕ) → k + 1 < length rows → is_lt (compare_rows_at columns rows (k + 1) k) ≡ false
 
 -- the row at position q stands in the order right after one with which it violates the key
 abbrev pub ViolatesBefore : KeyRule → List Row → List ℕ → ℕ → Type 0

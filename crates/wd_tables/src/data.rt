@@ -9,6 +9,7 @@ ghost use Rattle.wd_value.specs.Rows.{rows_of};
 use crate::error::DataError;
 use crate::header::places_of;
 use crate::key::first_repeat;
+use crate::recent::RecentTexts;
 use crate::record::next_record;
 use crate::row::row_of;
 use csv::{Reader, ReaderBuilder, StringRecord};
@@ -93,8 +94,17 @@ fn read_data(
     ensures refused { WhereHeaded table.now.columns.items reader.old places.now (λ text. IfErr result (λ e. HasCause (table_of table.now) text e)) }
 {
     let mut columns = empty_columns(alloc, table.columns.len())?;
+    let mut recent = RecentTexts::new(alloc)?;
     for before in 0..MOST_RECORDS {
-        match next_row(alloc, table, places, reader, fields, before + 1)? {
+        match next_row(
+            alloc,
+            table,
+            places,
+            reader,
+            fields,
+            before + 1,
+            &mut recent,
+        )? {
             Some(row) => push_row(&mut columns, row)?,
             None => return Ok(Columns::new(columns, before as usize)),
         }
@@ -114,6 +124,7 @@ fn next_row(
     reader: &mut Reader<&[u8]>,
     fields: &mut StringRecord,
     number: u64,
+    recent: &mut RecentTexts,
 ) -> Result<Option<Row>, DataError>
     requires { length places.now ≡ length table.now.columns.items }
     ensures read { WhereRead table.now.columns.items number reader.old places.now (λ text. IfOk result (λ o. MatchOption o (length (records_of text) ≡ number) (λ row. HasRead text (number + 1) reader.new × HoldsRecord table.now.columns.items text number row.items))) }
@@ -123,6 +134,6 @@ fn next_row(
     if !found {
         return Ok(None);
     }
-    let row = row_of(alloc, &table.columns, places, fields, number)?;
+    let row = row_of(alloc, &table.columns, places, fields, number, recent)?;
     Ok(Some(row))
 }

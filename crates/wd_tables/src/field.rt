@@ -1,15 +1,18 @@
 ghost use Rattle.std.specs.Prelude.{◌≡◌, [], IfOk, option_and_then};
 ghost use Rattle.wd_tables.specs.Fields as spec;
 
+use crate::recent::RecentTexts;
 use std::alloc::Global;
 use wd_schema::{Column, is_of_type};
 use wd_value::{ColumnType, OutOfMemory, Text, Value};
 
-/// The value that a field denotes in a column, if it denotes one.
+/// The value that a field denotes in a column, if it denotes one. Its text shares the bytes of an equal
+/// one that was read lately.
 pub fn field_value(
     alloc: Global,
     column: &Column,
     field: &str,
+    recent: &mut RecentTexts,
 ) -> Result<Option<Value>, OutOfMemory>
     ensures { IfOk result (λ o. o ≡ spec.field_value column.now field.now) }
 {
@@ -17,7 +20,7 @@ pub fn field_value(
         return Ok(Some(empty_value(alloc, column)?));
     }
     let value = match column.kind {
-        ColumnType::Text => Some(Value::Text(Text::from_str(alloc, field)?)),
+        ColumnType::Text => Some(Value::Text(recent.text_of(alloc, field)?)),
         ColumnType::Boolean => truth_value(field).map(Value::Bool),
         kind => number_value(kind, field),
     };

@@ -1,4 +1,4 @@
-ghost use Rattle.std.specs.Prelude.{◌≡◌, IfOk, map};
+ghost use Rattle.std.specs.Prelude.{◌≡◌, ◌↔◌, IfOk, IsTrue, map};
 ghost use Rattle.std.specs.List.{list_any};
 ghost use Rattle.wd_schema.specs.Meets as meets;
 ghost use Rattle.wd_schema.specs.Tables.{key_of};
@@ -11,7 +11,7 @@ ghost use Rattle.wd_value.specs.Values.{same as same_values};
 use std::alloc::Global;
 use wd_columns::{Columns, RowSource};
 use wd_schema::{Key, is_null};
-use wd_sort::{all_positions, sorted_in};
+use wd_sort::{all_positions, compare_source_at, sorted_in};
 use wd_value::{OutOfMemory, SortColumn, SortKey, Value, same};
 
 /// The first row that repeats an earlier one in some key.
@@ -61,13 +61,31 @@ fn sort_columns(alloc: Global, columns: &[u16]) -> Result<Vec<SortColumn>, OutOf
     Ok(sorted)
 }
 
-// The positions of the rows, sorted by columns; rows that tie on all of them stay as they were.
+// The positions of the rows, sorted by columns; rows that tie on all of them stay as they were. Rows
+// that stand in that order already, as a table is mostly exported, take one look at each.
 fn sorted_by(alloc: Global, rows: &Columns, columns: &[SortColumn]) -> Result<Vec<u64>, OutOfMemory>
     ensures { IfOk result (λ v. IsSortOf columns.now rows.now v.items) }
 {
+    let source = RowSource::of_columns(rows);
     let all = all_positions(alloc, rows.len())?;
-    let order = sorted_in(alloc, &RowSource::of_columns(rows), columns, &all)?;
-    Ok(order)
+    if are_in_order(&source, columns) {
+        Ok(all)
+    } else {
+        let order = sorted_in(alloc, &source, columns, &all)?;
+        Ok(order)
+    }
+}
+
+// Whether the rows stand in the order of the columns.
+fn are_in_order(rows: &RowSource, columns: &[SortColumn]) -> bool
+    ensures { IsTrue result ↔ spec.AreInOrder columns.now rows.now }
+{
+    for i in 1..rows.len() {
+        if compare_source_at(rows, columns, i as u64, (i - 1) as u64).is_lt() {
+            return false;
+        }
+    }
+    true
 }
 
 // The least position whose row violates the key with the row before it in the order.

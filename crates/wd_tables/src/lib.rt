@@ -8,6 +8,7 @@ mod field;
 mod header;
 mod key;
 mod laws;
+mod recent;
 mod record;
 mod row;
 

@@ -9,6 +9,7 @@ ghost use Rattle.wd_tables.specs.Fields as spec;
 
 use crate::error::DataError;
 use crate::field::field_value;
+use crate::recent::RecentTexts;
 use crate::record::field_at;
 use csv::StringRecord;
 use std::alloc::Global;
@@ -22,6 +23,7 @@ pub fn row_of(
     places: &[usize],
     fields: &StringRecord,
     number: u64,
+    recent: &mut RecentTexts,
 ) -> Result<Row, DataError>
     requires { length places.now ≡ length columns.now }
     ensures values { WherePlaced columns.now places.now (λ header. IfOk result (λ r. values_in columns.now header (fields_of fields.now) ≡ map (λ v. Some v) r.items)) }
@@ -30,10 +32,16 @@ pub fn row_of(
 {
     let mut row = Vec::with_capacity(alloc, columns.len())?;
     for c in 0..columns.len() {
-        match value_of(alloc, &columns[c], field_at(fields, places[c]), number) {
+        match value_of(
+            alloc,
+            &columns[c],
+            field_at(fields, places[c]),
+            number,
+            recent,
+        ) {
             Ok(value) => row.push(value)?,
             Err(refusal) => {
-                refuse_first(alloc, columns, places, fields, number)?;
+                refuse_first(alloc, columns, places, fields, number, recent)?;
                 return Err(refusal);
             }
         }
@@ -55,6 +63,7 @@ fn refuse_first(
     places: &[usize],
     fields: &StringRecord,
     number: u64,
+    recent: &mut RecentTexts,
 ) -> Result<(), DataError>
     requires { length places.now ≡ length columns.now }
     ensures passed { WherePlaced columns.now places.now (λ header. IfOk result (λ u. All (λ column. ¬ (IsRefusedIn header (fields_of fields.now) column)) columns.now)) }
@@ -63,7 +72,7 @@ fn refuse_first(
     let mut first = None;
     for c in 0..columns.len() {
         let place = places[c];
-        match value_of(alloc, &columns[c], field_at(fields, place), number) {
+        match value_of(alloc, &columns[c], field_at(fields, place), number, recent) {
             Ok(_) => {}
             Err(refusal) => first = Some(leftmost(first, Refused { place, refusal })),
         }
@@ -85,12 +94,18 @@ fn leftmost(first: Option<Refused>, other: Refused) -> Refused
 }
 
 // The value of a field of a record in a column.
-fn value_of(alloc: Global, column: &Column, field: &str, number: u64) -> Result<Value, DataError>
+fn value_of(
+    alloc: Global,
+    column: &Column,
+    field: &str,
+    number: u64,
+    recent: &mut RecentTexts,
+) -> Result<Value, DataError>
     ensures value { IfOk result (λ v. spec.field_value column.now field.now ≡ Some v) }
     ensures held { IfOk result (λ v. may_hold column.now v ≡ true) }
     ensures refused { IfErr result (λ e. RefusesField column.now field.now number e) }
 {
-    let Some(value) = field_value(alloc, column, field)? else {
+    let Some(value) = field_value(alloc, column, field, recent)? else {
         return Err(DataError::Value { record: number });
     };
     if column.not_null && is_null(&value) {

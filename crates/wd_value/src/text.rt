@@ -1,14 +1,15 @@
-ghost use Rattle.std.specs.Prelude.{◌≡◌, ℕ, List, IfOk};
+ghost use Rattle.std.specs.Prelude.{◌≡◌, ℕ, List, IfOk, IfErr};
 ghost use Rattle.std.specs.String.{string_bytes};
 
 use std::alloc::{AllocError, Global};
 use std::marker::Model;
+use std::rc::Rc;
 
-/// A text in UTF-8, which contracts see as the list of its bytes. It is one pointer wide, so that a
-/// `Value` takes 16 bytes.
+/// A text in UTF-8, which contracts see as the list of its bytes. A copy shares the bytes with the
+/// text that it is of. A text is one pointer wide, so that a `Value` takes 16 bytes.
 #[derive(Debug, Drop)]
 pub struct Text {
-    string: Box<String>,
+    string: Rc<String>,
 }
 
 impl Model for Text {
@@ -22,7 +23,7 @@ impl Text {
     pub fn new(alloc: Global, string: String) -> Result<Text, AllocError>
         ensures { IfOk result (λ t. t ≡ string_bytes string) }
     {
-        let string = Box::new(alloc, string)?;
+        let string = Rc::new(alloc, string)?;
         Ok(Text { string })
     }
 
@@ -45,17 +46,23 @@ impl Text {
         self.string.as_bytes()
     }
 
-    /// Gives the string back, and takes no memory.
-    pub fn into_string(self) -> String
-        ensures { string_bytes result ≡ self }
+    /// Gives the string back, or the text where a copy of it is there still. Takes no memory.
+    pub fn into_string(self) -> Result<String, Text>
+        ensures ok { IfOk result (λ s. string_bytes s ≡ self) }
+        ensures err { IfErr result (λ t. t ≡ self) }
     {
         let Text { string } = self;
-        Box::into_inner(string)
+        match Rc::try_unwrap(string) {
+            Ok(string) => Ok(string),
+            Err(string) => Err(Text { string }),
+        }
     }
 
-    pub fn copy(&self, alloc: Global) -> Result<Text, AllocError>
+    /// An equal text. The bytes are not copied.
+    pub fn copy(&self) -> Result<Text, AllocError>
         ensures { IfOk result (λ t. t ≡ self.now) }
     {
-        Text::from_str(alloc, self.as_str())
+        let string = self.string.clone()?;
+        Ok(Text { string })
     }
 }

@@ -54,14 +54,14 @@ impl<T: Drop> From<AllocFailed<T>> for OutOfMemory {
 }
 
 impl Value {
-    /// An equal value of its own.
-    pub fn copy(&self, alloc: Global) -> Result<Value, OutOfMemory>
+    /// An equal value. The bytes of a text are not copied, and no memory is taken for them.
+    pub fn copy(&self, _alloc: Global) -> Result<Value, OutOfMemory>
         ensures { IfOk result (λ v. v ≡ self.now) }
     {
         match self {
             Value::Null => Ok(Value::Null),
             Value::Int(n) => Ok(Value::Int(*n)),
-            Value::Text(text) => Ok(Value::Text(text.copy(alloc)?)),
+            Value::Text(text) => Ok(Value::Text(text.copy()?)),
             Value::Bool(b) => Ok(Value::Bool(*b)),
         }
     }

@@ -44,12 +44,12 @@ loop-t-preserved c =
     let name = name_text table.name in
     let old = c.loop-t.schema.entries in
     let before : List TableTree = map table_tree (take t tables) in
-    let key = c.into_string.result in
+    let key = c.in_ok-key.key in
     let value = c.in_ok-declared.declared in
     let asked : c.as_str.result.now ≡ name = c.as_str.ensures in
     let none : list_any (bytes_eq name) (map (λ e. string_bytes e.0) old) ≡ false =
     sym (found_name old name) ∙ rw asked at (sym c.contains_key.ensures ∙ c.if-contains_key.false) in
-    let named : string_bytes key ≡ name = c.into_string.ensures ∙ c.in_ok-copy.ensures in
+    let named : string_bytes key ≡ name = c.in_ok-key.ensures.ok ∙ c.as_str-in-loop-t.ensures in
     let entries : c.insert.new.self.entries ≡ old ++ (key, value) ∷ [] = c.in_ok-insert.ensures.entries ∙ insert_new old key value name named none in
     let next : map table_tree (take (t + 1) tables) ≡ before ++ table_tree table ∷ [] =
     ap (map table_tree) (ap (λ n. take n tables) (add-one t) ∙ take-suc tables t table c.loop-t-test.true ∙ ap (λ y. take t tables ++ y ∷ []) (sym c.index-tables-t.is))

@@ -5,11 +5,11 @@ use Rattle.wd_steps.specs.Paired.{HasExact}
 use Rattle.wd_steps.proofs.Pairing.{HasExact-one}
 use Rattle.wd_steps.proofs.exact.push_equality.Goals as goal
 
-pub returns-in_ok-push-in-Some : goal.returns-in_ok-push-in-Some
-returns-in_ok-push-in-Some c = λ told. (
+pub returns-in_ok-push-in-Some-clause-exact : goal.returns-in_ok-push-in-Some-clause-exact
+returns-in_ok-push-in-Some-clause-exact c = λ told. (
     let left = c.args.widths.left in
     let right = c.args.widths.right in
     let e = equality (expression_of c.args.a.now) (expression_of c.args.b.now) in
     let old = c.args.columns.now.items in
-    let found = rw c.in-Some.is at c.compared.ensures in
+    let found = rw c.in-Some.is at c.compared.ensures.found in
     subst (HasExact left right e old) (sym c.in_ok-push-in-Some.ensures.items) (HasExact-one left right e old c.in-Some.found found))

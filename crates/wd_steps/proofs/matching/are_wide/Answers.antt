@@ -12,7 +12,7 @@ loop-position-preserved c =
     let wide : length (row_at rows i) ≡ c.args.width = omega arith in
     All-more (λ row. length row ≡ c.args.width) rows i [] within c.loop-position.invariant wide
 
-pub returns : goal.returns
-returns c told =
+pub returns-clause-wide : goal.returns-clause-wide
+returns-clause-wide c told =
     let all : length c.args.rows.now ≤ c.loop-position.position = omega arith in
     subst (All (λ row. length row ≡ c.args.width)) (take_all c.loop-position.position c.args.rows.now all) c.loop-position.invariant

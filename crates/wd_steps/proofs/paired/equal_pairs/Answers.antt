@@ -13,7 +13,7 @@ returns-in_err-pairs-in-Some-clause-too_many c = λ refused. (
     let right = c.args.right.now in
     let most = c.args.most in
     let columns = c.in-Some.columns.items in
-    let exact : AreExact e columns left right = rw c.in-Some.is at c.in_ok-exact_columns.ensures in
+    let exact : AreExact e columns left right = rw c.in-Some.is at c.in_ok-exact_columns.ensures.exact in
     let many : nat_lt most (length (matching c.deref.result.now left right)) ≡ true = c.in_err-pairs-in-Some.ensures.too_many (search rules) in
     ap (has_more_rows most) (exact_outcome e columns left right exact) ∙ ap (λ cs. nat_lt most (length (matching cs left right))) (sym c.deref.ensures.value) ∙ many)
 
@@ -23,6 +23,6 @@ returns-in_ok-pairs-in-Some-clause-pairs c =
     let left = c.args.left.now in
     let right = c.args.right.now in
     let columns = c.in-Some.columns.items in
-    let exact : AreExact e columns left right = rw c.in-Some.is at c.in_ok-exact_columns.ensures in
+    let exact : AreExact e columns left right = rw c.in-Some.is at c.in_ok-exact_columns.ensures.exact in
     let found = c.in_ok-pairs-in-Some.ensures.pairs ∙ ap (λ cs. matching cs left right) c.deref.ensures.value in
     exact_outcome e columns left right exact ∙ ap Ok (sym found)

@@ -34,12 +34,12 @@ pub returns-in-None-clause-holds : goal.returns-in-None-clause-holds
 returns-in-None-clause-holds c text read places first =
     let (before, held, long, wide) = c.loop-before.invariant text read places first in
     let all = rw c.in-None.is at (c.in_ok-row.ensures.read text before places) in
-    rw c.new.ensures (holds_all (table_of c.args.table.now) text c.loop-before.before (rows_along (rows_of c.loop-before.columns.items) c.loop-before.before) held all (omega arith))
+    rw c.new-in-None.ensures (holds_all (table_of c.args.table.now) text c.loop-before.before (rows_along (rows_of c.loop-before.columns.items) c.loop-before.before) held all (omega arith))
 
 pub returns-in-None-clause-fits : goal.returns-in-None-clause-fits
 returns-in-None-clause-fits c text read places first =
     let (before, held, long, wide) = c.loop-before.invariant text read places first in
-    rw c.new.ensures (fits_all c.args.table.now.columns.items text c.loop-before.before (rows_along (rows_of c.loop-before.columns.items) c.loop-before.before) held)
+    rw c.new-in-None.ensures (fits_all c.args.table.now.columns.items text c.loop-before.before (rows_along (rows_of c.loop-before.columns.items) c.loop-before.before) held)
 
 pub returns-in_err-more-clause-refused : goal.returns-in_err-more-clause-refused
 returns-in_err-more-clause-refused c text read places first =
