@@ -42,7 +42,8 @@ impl RecentTexts {
     }
 }
 
-// The place of a text, by its length and its last bytes, which mostly tell texts of a column apart.
+// The place of a text, by its last eight bytes, which mostly tell texts of a column apart, and of a
+// shorter one by its length too.
 fn place_of(text: &[u8]) -> usize {
     let mut end = text.len() as u64;
     for byte in text.iter().rev().take(8) {
