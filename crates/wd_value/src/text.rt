@@ -58,7 +58,7 @@ impl Text {
         }
     }
 
-    /// An equal text. The bytes are not copied.
+    /// An equal text. The bytes are not copied. An error only where no further copy can be counted.
     pub fn copy(&self) -> Result<Text, AllocError>
         ensures { IfOk result (λ t. t ≡ self.now) }
     {
