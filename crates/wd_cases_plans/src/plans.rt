@@ -5,27 +5,29 @@ ghost use Rattle.wd_plan.specs.Fits as spec;
 ghost use Rattle.wd_plan.specs.Outcomes.{outcome_of};
 ghost use Rattle.wd_plan.specs.Plans.{NamesClasses, plan_of, window_of};
 ghost use Rattle.wd_schema.specs.Schemas.{schema_of};
-ghost use Rattle.wd_window.specs.Windows.{AreFew};
+ghost use Rattle.wd_eval.specs.Windows.{AreFew};
 
 use crate::shown::{push, push_between, push_number, push_outcome, push_refusal, push_truth};
 use crate::steps::{copied, fault_of};
 use std::alloc::Global;
 use wd_cases::Failure;
 use wd_cases_notation::{Line, State, Word};
-use wd_eval::{EvalError, check_choice, eval_with, first_choice, run_plan, tied_choice};
+use wd_eval::{
+    EvalError, check_choice, eval_with, evaluate_window, first_choice, run_plan, tied_choice,
+};
 use wd_plan::{Choice, Outcome, Plan, Window};
 use wd_schema::Schema;
-use wd_value::{Instance, OutOfMemory, Row};
-use wd_window::evaluate_window;
+use wd_value::{Instance, Row};
 
 /// `evaluate_window(FIRST) CLASSES CALLS : ORDERINGS`: the rows with the calls' values, under the
 /// orderings from that number on; over a fault with `evaluate_window(FIRST,FAULT)`.
 pub fn window(alloc: Global, state: &State, word: Word, out: &mut String) -> Result<(), Failure> {
     let first = word.number(0).ok_or(Failure::NoCase)? as usize;
     let input = input_of(alloc, state.rows(), word.argument(1))?;
-    match evaluated(alloc, state, input, first)? {
+    match evaluated(alloc, state, input, first) {
         Ok(outcome) => push_outcome(out, &outcome),
-        Err(place) => push_not_valid(out, place),
+        Err(EvalError::NotValid(place)) => push_not_valid(out, place),
+        Err(EvalError::TooManyRows | EvalError::OutOfMemory) => Err(Failure::OUT_OF_MEMORY),
     }
 }
 
@@ -46,12 +48,12 @@ fn evaluated(
     state: &State,
     input: Outcome,
     first: usize,
-) -> Result<Result<Outcome, u64>, OutOfMemory> {
+) -> Result<Outcome, EvalError> {
     let (window, choice) = (&state.stacks.window, &state.choice.orderings);
     if names_classes(window) && is_few(&input) && first <= choice.len() {
         evaluate_window(alloc, window, input, choice, first)
     } else {
-        Err(OutOfMemory)
+        Err(EvalError::OutOfMemory)
     }
 }
 

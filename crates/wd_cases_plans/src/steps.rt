@@ -4,11 +4,10 @@ use crate::shown::{push, push_fault, push_outcome, push_rows, push_truth, push_v
 use std::alloc::Global;
 use wd_cases::Failure;
 use wd_cases_notation::{Line, State, Word};
+use wd_join::{StepError, join_rows};
 use wd_plan::{Expr, Limit, Outcome};
 use wd_scalar::{has_arithmetic, is_true, value_of};
-use wd_steps::{
-    JoinError, copy_filtered, cut_rows, distinct_rows, filter_rows, join_rows, map_rows, with_fault,
-};
+use wd_steps::{copy_filtered, cut_rows, distinct_rows, filter_rows, map_rows, with_fault};
 use wd_value::{Fault, OutOfMemory, Row, SortColumn, Value, copy_row};
 
 /// What is asked of one expression: over the first row, or as a condition of all rows.
@@ -108,8 +107,8 @@ fn push_joined(alloc: Global, state: &State, word: Word, out: &mut String) -> Re
     let condition = state.stacks.expressions.first();
     match join_rows(alloc, condition, state.rows(), &state.right, most) {
         Ok(outcome) => push_outcome(out, &outcome),
-        Err(JoinError::TooManyRows) => push(out, "too many rows"),
-        Err(JoinError::OutOfMemory) => Err(Failure::OUT_OF_MEMORY),
+        Err(StepError::TooManyRows) => push(out, "too many rows"),
+        Err(StepError::OutOfMemory) => Err(Failure::OUT_OF_MEMORY),
     }
 }
 

@@ -1,8 +1,13 @@
+pub mod Listed
+pub mod Beside
+pub mod Serving
+pub mod Naming
+pub mod Filled
+pub mod CallColumns
+pub mod Asking
 pub mod Sizes
-pub mod Held
 pub mod Wrong
 pub mod Nodes
-pub mod Enough
 pub mod Stable
 pub mod Tying
 pub mod Putting
@@ -10,4 +15,3 @@ pub mod SomeSort
 pub mod SomeTied
 pub mod Walks
 pub mod Taking
-pub mod Selected

@@ -10,15 +10,19 @@ use Rattle.wd_plan.specs.Faults.{and_then}
 use Rattle.wd_plan.specs.Outcomes.{RowsOrFault, distinct, filter_outcome, map_outcome, ordering_at, outcome}
 use Rattle.wd_plan.specs.Plans.{PlanTree, Scan, Join, Filter, Map, Window, Distinct, Limit, LimitRule, WindowRule, ordering_count}
 use Rattle.wd_plan.specs.Sorting.{IsOrdering, limit_class}
-use Rattle.wd_steps.specs.Joins.{has_more_rows}
-use Rattle.wd_eval.specs.Steps.{has_large_step, is_large, most_rows}
-use Rattle.wd_eval.specs.Nodes.{produced_of, IsEvaluated, IsStopped, IsSmall, IsLarge, join_over, cut_over, IsCut, IsUnserved}
+use Rattle.wd_join.specs.Joins.{has_more_rows}
+use Rattle.wd_join.specs.declared.error.StepError.{StepError}
+use Rattle.wd_join.specs.declared.error.StepError.TheVariants as step
+use Rattle.wd_eval.specs.Errors.{error_of}
+use Rattle.wd_eval.specs.Steps.{has_large_step, is_large}
+use Rattle.wd_nodes.specs.Produced.{most_rows, produced_of, IsSmall, IsLarge, join_over}
+use Rattle.wd_eval.specs.Nodes.{IsEvaluated, IsStopped, cut_over, IsCut}
+use Rattle.wd_eval.specs.Windows.{IsUnserved, IsExtended, IsLeast, IsWrong, IsWrongIn, window_over}
 use Rattle.wd_eval.specs.Wrong.{IsWrongFrom}
-use Rattle.wd_window.specs.Windows.{IsExtended, IsLeast, IsWrong, IsWrongIn, window_over}
 use Rattle.wd_eval.specs.declared.error.EvalError.{EvalError}
 use Rattle.wd_eval.specs.declared.error.EvalError.TheVariants.{NotValid, TooManyRows, OutOfMemory}
-use Rattle.wd_eval.specs.declared.produced.Produced.{Produced}
-use Rattle.wd_eval.specs.declared.produced.Produced.TheVariants.{Made}
+use Rattle.wd_nodes.specs.declared.produced.Produced.{Produced}
+use Rattle.wd_nodes.specs.declared.produced.Produced.TheVariants.{Made}
 use Rattle.wd_eval.specs.declared.node.Evaluated.{Evaluated}
 use Rattle.wd_eval.proofs.Wrong.{none_wrong, wrong_within}
 use Rattle.wd_eval.proofs.Sizes.{fewer_filter, fewer_map, fewer_distinct, fewer_window, fewer_cut}
@@ -49,10 +53,9 @@ module _ (tables instance : Instance) (choice : List (List ℕ)) (first : ℕ) w
   pub scan_done : (table columns : ℕ) (o : Produced) → IsSmall (Ok (table_at instance table)) (produced_of tables o) → IsEvaluated (Scan table columns) tables instance choice first (record { outcome = o; next = first })
   scan_done table columns o s = record { is = s.is; next = omega arith; served = record { present = omega arith; lawful = tt }; small = s.small; each = s.small }
 
-  pub scan_stopped : (table columns : ℕ) (e : EvalError) → IsLarge (Ok (table_at instance table)) e → IsStopped (Scan table columns) instance choice first e
-  scan_stopped table columns (NotValid p) h = absurd h
-  scan_stopped table columns TooManyRows h = h
-  scan_stopped table columns OutOfMemory h = tt
+  pub scan_stopped : (table columns : ℕ) (e : StepError) → IsLarge (Ok (table_at instance table)) e → IsStopped (Scan table columns) instance choice first (error_of e)
+  scan_stopped table columns step.TooManyRows h = h
+  scan_stopped table columns step.OutOfMemory h = tt
 
   -- ---- Filter, Map and Distinct
 
@@ -267,7 +270,6 @@ module _ (tables instance : Instance) (choice : List (List ℕ)) (first : ℕ) (
             each = neither (has_large_step left instance all || has_large_step right instance on_right) (is_large (Join condition left right) instance all) (neither (has_large_step left instance all) (has_large_step right instance on_right) a.each (subst (λ ch. has_large_step right instance ch ≡ false) right_is b.each)) (ap (has_more_rows most_rows) (sym below_is) ∙ s.small);
           }
 
-      pub join_stopped : (e : EvalError) → IsLarge below e → IsStopped (Join condition left right) instance choice first e
-      join_stopped (NotValid p) h = absurd h
-      join_stopped TooManyRows h = or_right (has_large_step left instance all || has_large_step right instance on_right) (is_large (Join condition left right) instance all) (ap (has_more_rows most_rows) (sym below_is) ∙ h)
-      join_stopped OutOfMemory h = tt
+      pub join_stopped : (e : StepError) → IsLarge below e → IsStopped (Join condition left right) instance choice first (error_of e)
+      join_stopped step.TooManyRows h = or_right (has_large_step left instance all || has_large_step right instance on_right) (is_large (Join condition left right) instance all) (ap (has_more_rows most_rows) (sym below_is) ∙ h)
+      join_stopped step.OutOfMemory h = tt

@@ -12,12 +12,12 @@ use Rattle.wd_plan.specs.Plans.{ClassRule, LimitRule, WindowRule}
 use Rattle.wd_plan.specs.Sorting.{IsOrdering, limit_class}
 use Rattle.wd_partition.proofs.Grouping.{IsOrdering-from_given}
 use Rattle.wd_eval.specs.Nodes.{IsCut, cut_over}
-use Rattle.wd_window.specs.Windows.{HasOrdering, IsWindowServed}
-use Rattle.wd_window.specs.Listings.{AreListings, IsListingIn}
-use Rattle.wd_window.specs.declared.listing.Listing.{Listing}
+use Rattle.wd_eval.specs.Windows.{HasOrdering, IsWindowServed}
+use Rattle.wd_eval.specs.Listings.{AreListings, IsListingIn}
+use Rattle.wd_eval.specs.declared.listing.Listing.{Listing}
 use Rattle.wd_eval.specs.Tied.{IsSortedOver, is_flipped}
 use Rattle.wd_eval.specs.Ties.{ArePut, AreSortedOver, IsPutEmpty, IsTiedLimit, IsTiedWindow}
-use Rattle.wd_window.proofs.Serving.{all_from_each, listings_more}
+use Rattle.wd_eval.proofs.Serving.{all_from_each, listings_more}
 
 pub lawful_over : (class : ClassRule) (flipped : Bool) (input : RowsOrFault) (ordering : List ℕ) → IsSortedOver class flipped input ordering → AtRows input (λ rows. IsOrdering class rows ordering) (ordering ≡ [])
 lawful_over class flipped (Ok rows) ordering s = IsOrdering-from_given class rows flipped ordering s

@@ -15,9 +15,9 @@ use Rattle.wd_plan.specs.Outcomes.{RowsOrFault, cut, distinct, extended, filter_
 use Rattle.wd_plan.specs.Plans.{LimitRule, WindowRule}
 use Rattle.wd_plan.specs.Sorting.{IsOrdering, limit_class}
 use Rattle.wd_partition.proofs.Marks.{length_once}
-use Rattle.wd_steps.specs.Joins.{has_more_rows}
+use Rattle.wd_join.specs.Joins.{has_more_rows}
 use Rattle.wd_eval.specs.Nodes.{cut_over}
-use Rattle.wd_window.specs.Windows.{window_over}
+use Rattle.wd_eval.specs.Windows.{window_over}
 
 fewer : (most n m : ℕ) → m ≤ n → nat_lt most n ≡ false → nat_lt most m ≡ false
 fewer most n m le h = let few = ltb-false most n h in le-ltb most m (omega arith)

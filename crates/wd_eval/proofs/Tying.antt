@@ -11,17 +11,21 @@ use Rattle.wd_plan.specs.Plans.{ClassRule, PlanTree, Scan, Join, Filter, Map, Wi
 use Rattle.wd_plan.specs.Sorting.{limit_class}
 use Rattle.wd_plan.proofs.ChoiceLaws.{AreLawful-append, outcome-append}
 use Rattle.wd_partition.specs.Columns.{given_positions, sort_columns}
-use Rattle.wd_steps.specs.Joins.{has_more_rows}
+use Rattle.wd_join.specs.Joins.{has_more_rows}
+use Rattle.wd_join.specs.declared.error.StepError.{StepError}
+use Rattle.wd_join.specs.declared.error.StepError.TheVariants as step
+use Rattle.wd_eval.specs.Errors.{error_of}
 use Rattle.wd_eval.specs.Judged.{IsOutcome}
-use Rattle.wd_eval.specs.Nodes.{produced_of, IsEvaluated, IsLarge, IsSmall, cut_over, join_over}
-use Rattle.wd_window.specs.Windows.{window_over}
-use Rattle.wd_eval.specs.Steps.{has_large_step, is_large, most_rows}
+use Rattle.wd_nodes.specs.Produced.{produced_of, IsLarge, IsSmall, join_over, most_rows}
+use Rattle.wd_eval.specs.Nodes.{IsEvaluated, cut_over}
+use Rattle.wd_eval.specs.Windows.{window_over}
+use Rattle.wd_eval.specs.Steps.{has_large_step, is_large}
 use Rattle.wd_eval.specs.Tied.{AreTied, IsSortedOver, IsValidTiedChoice, is_flipped}
 use Rattle.wd_eval.specs.Ties.{IsTied, IsTiedLimit, IsTiedWindow, IsUntied, IsOutOfMemory}
 use Rattle.wd_eval.specs.declared.error.EvalError.{EvalError}
 use Rattle.wd_eval.specs.declared.error.EvalError.TheVariants.{NotValid, TooManyRows, OutOfMemory}
-use Rattle.wd_eval.specs.declared.produced.Produced.{Produced}
-use Rattle.wd_eval.specs.declared.produced.Produced.TheVariants.{Made}
+use Rattle.wd_nodes.specs.declared.produced.Produced.{Produced}
+use Rattle.wd_nodes.specs.declared.produced.Produced.TheVariants.{Made}
 use Rattle.wd_eval.specs.declared.node.Evaluated.{Evaluated}
 use Rattle.wd_eval.proofs.Nodes.{or_left, or_right, scan_done, filter_done, map_done, distinct_done, window_done, limit_done, join_done}
 use Rattle.wd_eval.proofs.Stable.{one_stable_sort}
@@ -152,11 +156,6 @@ module _ (tables instance : Instance) (flipped : Option ℕ) (old : List (List �
     evaluated = scan_done tables instance old (length old) table columns o s;
     tied = tt;
   }
-
-  pub scan_untied : (table columns : ℕ) (e : EvalError) → IsLarge (Ok (table_at instance table)) e → IsUntied (Scan table columns) instance flipped (length old) e
-  scan_untied table columns (NotValid p) h = absurd h
-  scan_untied table columns TooManyRows h = λ choice long s. h
-  scan_untied table columns OutOfMemory h = tt
 
   module _ (input : PlanTree) (new : List (List ℕ)) (below : Produced) (b : IsTied input tables instance flipped old new below) (o : Produced) where
     pub filter_tied : (condition : Expression) → produced_of tables o ≡ and_then (produced_of tables below) (filter_outcome condition) → IsTied (Filter condition input) tables instance flipped old new o
@@ -337,10 +336,9 @@ module _ (tables instance : Instance) (flipped : Option ℕ) (old : List (List �
             let on_right : produced_of tables ro ≡ outcome right instance (drop (ordering_count left) (drop (length old) new)) = r.evaluated.is ∙ ap (outcome right instance) (sym right_rest) in
             ap (has_more_rows most_rows) same ∙ (λ i. has_more_rows most_rows (join_over condition (sym on_left i) (sym on_right i))) ∙ h
 
-        pub join_untied : (e : EvalError) → IsLarge (join_over condition (produced_of tables lo) (produced_of tables ro)) e → IsUntied (Join condition left right) instance flipped (length old) e
-        join_untied (NotValid p) h = absurd h
-        join_untied TooManyRows h = λ choice long s. or_right (has_large_step left instance choice || has_large_step right instance (drop (ordering_count left) choice)) (is_large (Join condition left right) instance choice) (large_here h choice long s)
-        join_untied OutOfMemory h = tt
+        pub join_untied : (e : StepError) → IsLarge (join_over condition (produced_of tables lo) (produced_of tables ro)) e → IsUntied (Join condition left right) instance flipped (length old) (error_of e)
+        join_untied step.TooManyRows h = λ choice long s. or_right (has_large_step left instance choice || has_large_step right instance (drop (ordering_count left) choice)) (is_large (Join condition left right) instance choice) (large_here h choice long s)
+        join_untied step.OutOfMemory h = tt
 
 -- ---- whole plans
 

@@ -11,16 +11,19 @@ use Rattle.wd_plan.specs.Expressions.{Expression}
 use Rattle.wd_plan.specs.Faults.{and_then}
 use Rattle.wd_plan.specs.Outcomes.{RowsOrFault, distinct, filter_outcome, map_outcome, outcome}
 use Rattle.wd_plan.specs.Plans.{PlanTree, Scan, Join, Filter, Map, Window, Distinct, Limit, LimitRule, WindowRule}
-use Rattle.wd_steps.specs.Joins.{has_more_rows}
-use Rattle.wd_window.specs.Windows.{AreFew, orderings_of}
-use Rattle.wd_eval.specs.Nodes.{produced_of, IsStopped, IsSmall, IsLarge, join_over}
-use Rattle.wd_eval.specs.Steps.{most_rows}
+use Rattle.wd_join.specs.Joins.{has_more_rows}
+use Rattle.wd_join.specs.declared.error.StepError.{StepError}
+use Rattle.wd_join.specs.declared.error.StepError.TheVariants as step
+use Rattle.wd_eval.specs.Errors.{error_of}
+use Rattle.wd_eval.specs.Windows.{AreFew, orderings_of}
+use Rattle.wd_nodes.specs.Produced.{produced_of, IsSmall, IsLarge, join_over, most_rows}
+use Rattle.wd_eval.specs.Nodes.{IsStopped}
 use Rattle.wd_eval.specs.Ties.{IsUntied}
 use Rattle.wd_eval.specs.Walks.{IsAt, IsHalted, IsLimitStep, IsWalked, IsWindowStep}
 use Rattle.wd_eval.specs.declared.error.EvalError.{EvalError}
 use Rattle.wd_eval.specs.declared.error.EvalError.TheVariants.{NotValid, TooManyRows, OutOfMemory}
-use Rattle.wd_eval.specs.declared.produced.Produced.{Produced}
-use Rattle.wd_eval.specs.declared.produced.Produced.TheVariants.{Made}
+use Rattle.wd_nodes.specs.declared.produced.Produced.{Produced}
+use Rattle.wd_nodes.specs.declared.produced.Produced.TheVariants.{Made}
 use Rattle.wd_eval.specs.declared.node.Evaluated.{Evaluated}
 use Rattle.wd_eval.specs.declared.orderings.Orderings.{Orderings}
 use Rattle.wd_eval.specs.declared.orderings.Orderings.TheVariants.{Chosen, Sorted}
@@ -96,11 +99,10 @@ module _ (tables instance : Instance) (first : ℕ) (old : List (Vec ℕ Global)
   scan_walked (Chosen choice) table columns o at s = scan_done tables instance (orderings_of choice.now) first table columns o s
   scan_walked (Sorted flipped) table columns o at s = (at, scan_tied tables instance flipped (orderings_of old) table columns o s)
 
-  pub scan_halted : (orderings : Orderings) (table columns : ℕ) (e : EvalError) → IsLarge (Ok (table_at instance table)) e → IsHalted (Scan table columns) instance orderings first e
-  scan_halted (Chosen choice) table columns e h = from_stopped (Scan table columns) instance first choice e (scan_stopped tables instance (orderings_of choice.now) first table columns e h)
-  scan_halted (Sorted flipped) table columns (NotValid p) h = absurd h
-  scan_halted (Sorted flipped) table columns TooManyRows h = λ choice long s. h
-  scan_halted (Sorted flipped) table columns OutOfMemory h = tt
+  pub scan_halted : (orderings : Orderings) (table columns : ℕ) (e : StepError) → IsLarge (Ok (table_at instance table)) e → IsHalted (Scan table columns) instance orderings first (error_of e)
+  scan_halted (Chosen choice) table columns e h = from_stopped (Scan table columns) instance first choice (error_of e) (scan_stopped tables instance (orderings_of choice.now) first table columns e h)
+  scan_halted (Sorted flipped) table columns step.TooManyRows h = λ choice long s. h
+  scan_halted (Sorted flipped) table columns step.OutOfMemory h = tt
 
   -- ---- Filter, Map and Distinct
 
@@ -173,12 +175,12 @@ module _ (tables instance : Instance) (first : ℕ) (old : List (Vec ℕ Global)
       join_walked (Chosen choice) o a b s = join_done tables instance (orderings_of choice.now) first condition left right l a r b o s
       join_walked (Sorted flipped) o a b s = (b.0, join_tied tables instance flipped (orderings_of old) condition left right (orderings_of mid) l.outcome a.1 (orderings_of new) r.outcome b.1 o s)
 
-      pub join_halted : (orderings : Orderings) (e : EvalError) → IsAt orderings first old → IsWalked left tables instance orderings first old mid l → IsWalked right tables instance orderings l.next mid new r
-          → IsLarge (join_over condition (produced_of tables l.outcome) (produced_of tables r.outcome)) e → IsHalted (Join condition left right) instance orderings first e
-      join_halted (Chosen choice) e at a b h = from_stopped (Join condition left right) instance first choice e (join_stopped tables instance (orderings_of choice.now) first condition left right l a r b e h)
+      pub join_halted : (orderings : Orderings) (e : StepError) → IsAt orderings first old → IsWalked left tables instance orderings first old mid l → IsWalked right tables instance orderings l.next mid new r
+          → IsLarge (join_over condition (produced_of tables l.outcome) (produced_of tables r.outcome)) e → IsHalted (Join condition left right) instance orderings first (error_of e)
+      join_halted (Chosen choice) e at a b h = from_stopped (Join condition left right) instance first choice (error_of e) (join_stopped tables instance (orderings_of choice.now) first condition left right l a r b e h)
       join_halted (Sorted flipped) e at a b h =
-          from_untied (Join condition left right) instance first flipped e
-          (subst (λ (n : ℕ). IsUntied (Join condition left right) instance flipped n e) (sym (behind_made old first at))
+          from_untied (Join condition left right) instance first flipped (error_of e)
+          (subst (λ (n : ℕ). IsUntied (Join condition left right) instance flipped n (error_of e)) (sym (behind_made old first at))
           (join_untied tables instance flipped (orderings_of old) condition left right (orderings_of mid) l.outcome a.1 (orderings_of new) r.outcome b.1 e h))
 
 -- ---- out of memory

@@ -7,8 +7,8 @@ use Rattle.wd_plan.specs.Choices.{AreLawful, AreOrderings, AtRows}
 use Rattle.wd_plan.specs.Outcomes.{outcome}
 use Rattle.wd_plan.specs.Plans.{PlanTree, Scan, Join, Filter, Map, Window, Distinct, Limit, ordering_count}
 use Rattle.wd_plan.specs.Sorting.{IsOrdering, limit_class}
-use Rattle.wd_window.specs.Windows.{IsLeast, IsWindowServed}
-use Rattle.wd_window.proofs.Serving.{class_served}
+use Rattle.wd_eval.specs.Windows.{IsLeast, IsWindowServed}
+use Rattle.wd_eval.proofs.Serving.{class_served}
 use Rattle.wd_eval.specs.Laws.{HasNoWrongOrdering}
 use Rattle.wd_eval.specs.Judged.{IsRefused}
 use Rattle.wd_eval.specs.Nodes.{IsServed, IsStopped}

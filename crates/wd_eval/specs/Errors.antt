@@ -1,7 +1,7 @@
 -- The numbers of the refusals, and the place that each names.
 use Rattle.std.specs.Prelude.{ℕ, Option, Some, None}
-use Rattle.wd_steps.specs.declared.join.JoinError.{JoinError}
-use Rattle.wd_steps.specs.declared.join.JoinError.TheVariants as join
+use Rattle.wd_join.specs.declared.error.StepError.{StepError}
+use Rattle.wd_join.specs.declared.error.StepError.TheVariants as step
 use Rattle.wd_eval.specs.declared.error.EvalError.{EvalError}
 use Rattle.wd_eval.specs.declared.error.EvalError.TheVariants.{NotValid, TooManyRows, OutOfMemory}
 
@@ -15,7 +15,7 @@ place_of (NotValid ordering) = Some ordering
 place_of TooManyRows = None
 place_of OutOfMemory = None
 
--- the error that a join's error is here
-abbrev pub error_of : JoinError → EvalError
-error_of join.TooManyRows = TooManyRows
-error_of join.OutOfMemory = OutOfMemory
+-- the error that a step's error is here
+abbrev pub error_of : StepError → EvalError
+error_of step.TooManyRows = TooManyRows
+error_of step.OutOfMemory = OutOfMemory

@@ -1,10 +1,12 @@
 pub mod Errors
+pub mod Windows
+pub mod Listings
+pub mod Columns
+pub mod Beside
 pub mod Steps
 pub mod Wrong
 pub mod Judged
 pub mod Nodes
-pub mod Held
-pub mod Enough
 pub mod Tied
 pub mod Ties
 pub mod Walks

@@ -3,11 +3,8 @@ use Rattle.std.specs.Prelude.{ℕ, Bool, ◌||◌, List, drop}
 use Rattle.wd_value.specs.Rows.{Instance}
 use Rattle.wd_plan.specs.Outcomes.{outcome}
 use Rattle.wd_plan.specs.Plans.{PlanTree, Scan, Join, Filter, Map, Window, Distinct, Limit, ordering_count}
-use Rattle.wd_steps.specs.Joins.{has_more_rows}
-
--- the most rows that a step may have
-abbrev pub most_rows : ℕ
-most_rows = 10000000
+use Rattle.wd_join.specs.Joins.{has_more_rows}
+use Rattle.wd_nodes.specs.Produced.{most_rows}
 
 -- whether the plan's last step has more rows than that
 abbrev pub is_large : PlanTree → Instance → List (List ℕ) → Bool

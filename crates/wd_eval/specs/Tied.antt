@@ -8,7 +8,7 @@ use Rattle.wd_plan.specs.Outcomes.{RowsOrFault, class_at, ordering_at, outcome}
 use Rattle.wd_plan.specs.Plans.{ClassRule, PlanTree, Scan, Join, Filter, Map, Window, Distinct, Limit, ordering_count}
 use Rattle.wd_plan.specs.Sorting.{limit_class}
 use Rattle.wd_partition.specs.Columns.{given_positions, sort_columns}
-use Rattle.wd_window.specs.Windows.{orderings_of}
+use Rattle.wd_eval.specs.Windows.{orderings_of}
 use Rattle.wd_eval.specs.Steps.{has_large_step}
 use Rattle.wd_eval.specs.declared.error.EvalError.{EvalError}
 use Rattle.wd_eval.specs.declared.error.EvalError.TheVariants.{NotValid, TooManyRows, OutOfMemory}

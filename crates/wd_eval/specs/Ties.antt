@@ -8,11 +8,11 @@ use Rattle.wd_plan.specs.Outcomes.{RowsOrFault, class_at, ordering_at}
 use Rattle.wd_plan.specs.Plans.{LimitRule, PlanTree, WindowRule, ordering_count}
 use Rattle.wd_plan.specs.Sorting.{limit_class}
 use Rattle.wd_eval.specs.Nodes.{IsCut, IsEvaluated}
-use Rattle.wd_window.specs.Windows.{IsExtended, orderings_of}
+use Rattle.wd_eval.specs.Windows.{IsExtended, orderings_of}
 use Rattle.wd_eval.specs.Steps.{has_large_step}
 use Rattle.wd_eval.specs.Tied.{AreTied, IsSortedOver, is_flipped}
 use Rattle.wd_eval.specs.declared.error.EvalError.{EvalError}
-use Rattle.wd_eval.specs.declared.produced.Produced.{Produced}
+use Rattle.wd_nodes.specs.declared.produced.Produced.{Produced}
 use Rattle.wd_eval.specs.declared.error.EvalError.TheVariants.{NotValid, TooManyRows, OutOfMemory}
 
 -- the sorted orderings of the first n classes of a Window over its input, the first of them with this number

@@ -6,8 +6,8 @@ use Rattle.wd_value.specs.Rows.{Instance}
 use Rattle.wd_plan.specs.declared.plan.Outcome.{Outcome}
 use Rattle.wd_plan.specs.Outcomes.{RowsOrFault}
 use Rattle.wd_plan.specs.Plans.{LimitRule, PlanTree, WindowRule}
-use Rattle.wd_window.specs.Windows.{IsLeast, orderings_of}
-use Rattle.wd_eval.specs.Nodes.{IsCutOrUnserved, IsEvaluated, IsExtendedOrUnserved}
+use Rattle.wd_eval.specs.Windows.{IsLeast, orderings_of, IsExtendedOrUnserved}
+use Rattle.wd_eval.specs.Nodes.{IsCutOrUnserved, IsEvaluated}
 use Rattle.wd_eval.specs.Steps.{has_large_step}
 use Rattle.wd_eval.specs.Ties.{IsTied, IsTiedLimitOrNoMemory, IsTiedTooLargeFrom, IsTiedWindowOrNoMemory}
 use Rattle.wd_eval.specs.Wrong.{IsWrongFrom}

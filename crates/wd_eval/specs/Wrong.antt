@@ -4,7 +4,7 @@ use Rattle.wd_value.specs.Rows.{Instance}
 use Rattle.wd_plan.specs.Outcomes.{outcome}
 use Rattle.wd_plan.specs.Plans.{PlanTree, Scan, Join, Filter, Map, Window, Distinct, Limit, ordering_count}
 use Rattle.wd_plan.specs.Sorting.{limit_class}
-use Rattle.wd_window.specs.Windows.{IsWrong, IsWrongIn}
+use Rattle.wd_eval.specs.Windows.{IsWrong, IsWrongIn}
 
 -- the place is the number of an ordering of the plan that is missing, or not lawful over its node's input rows, as this choice
 -- makes them; the plan's first ordering has the number `first`

@@ -2,14 +2,14 @@
 
 ghost use Rattle.std.specs.Prelude.{◌≡◌, IfOk};
 ghost use Rattle.wd_eval.specs.Kept.{outcome_kept};
-ghost use Rattle.wd_eval.specs.Nodes.{produced_of};
+ghost use Rattle.wd_nodes.specs.Produced.{produced_of};
 ghost use Rattle.wd_plan.specs.Outcomes.{outcome_of};
 ghost use Rattle.wd_value.specs.Rows.{instance_of};
 
-use crate::produced::{Produced, outcome_from};
 use std::alloc::Global;
 use std::marker::Model;
 use wd_columns::{Columns, RowSource};
+use wd_nodes::{Produced, outcome_from};
 use wd_plan::Outcome;
 use wd_value::{Fault, OutOfMemory, Row};
 

@@ -1,7 +1,8 @@
 //! What a Limit keeps, under an ordering of a choice or under the sorted one.
 
 ghost use Rattle.std.specs.Prelude.{◌≡◌, ◌↔◌, [], IfOk, IsTrue, length};
-ghost use Rattle.wd_eval.specs.Nodes.{IsCutOrUnserved, cut_over, given_of, produced_of};
+ghost use Rattle.wd_eval.specs.Nodes.{IsCutOrUnserved, cut_over};
+ghost use Rattle.wd_nodes.specs.Produced.{given_of, produced_of};
 ghost use Rattle.wd_eval.specs.Tied.{IsSortedOver};
 ghost use Rattle.wd_eval.specs.Ties.{IsTiedLimit};
 ghost use Rattle.wd_eval.specs.Walks.{IsAt, IsLimitStep};
@@ -11,13 +12,13 @@ ghost use Rattle.wd_plan.specs.Plans.{limit_of};
 ghost use Rattle.wd_plan.specs.Sorting.{IsOrdering, limit_class};
 ghost use Rattle.wd_value.specs.Bags.{EachOnce};
 ghost use Rattle.wd_value.specs.Rows.{instance_of, rows_at, rows_of};
-ghost use Rattle.wd_window.specs.Windows.{orderings_of};
+ghost use Rattle.wd_eval.specs.Windows.{orderings_of};
 
 use crate::error::EvalError;
 use crate::orderings::{Orderings, is_flipped};
-use crate::produced::{Given, Produced, gathered, shown, table_in};
 use std::alloc::Global;
 use wd_columns::{RowSource, moved_rows};
+use wd_nodes::{Given, Produced, gathered, shown, table_in};
 use wd_partition::{is_ordering, sorted_ordering};
 use wd_plan::{Limit, Outcome};
 use wd_steps::{cut_rows, kept_positions};

@@ -6,7 +6,7 @@ ghost use Rattle.wd_eval.specs.declared.error.EvalError.TheVariants as error;
 
 use std::alloc::{AllocError, AllocFailed};
 use thiserror::Error;
-use wd_steps::JoinError;
+use wd_join::StepError;
 use wd_value::OutOfMemory;
 
 /// Why a plan has no outcome under a choice.
@@ -54,13 +54,13 @@ impl From<OutOfMemory> for EvalError {
     }
 }
 
-impl From<JoinError> for EvalError {
-    ghost from_gives = { λ j e. e ≡ error_of j };
+impl From<StepError> for EvalError {
+    ghost from_gives = { λ s e. e ≡ error_of s };
 
-    fn from(error: JoinError) -> EvalError {
+    fn from(error: StepError) -> EvalError {
         match error {
-            JoinError::TooManyRows => EvalError::TooManyRows,
-            JoinError::OutOfMemory => EvalError::OutOfMemory,
+            StepError::TooManyRows => EvalError::TooManyRows,
+            StepError::OutOfMemory => EvalError::OutOfMemory,
         }
     }
 }

@@ -2,7 +2,7 @@
 
 ghost use Rattle.std.specs.Prelude.{◌≡◌, true, None, IfOk};
 ghost use Rattle.wd_eval.specs.Judged.{IsAllowedOrRefused, IsOutcomeOrRefused};
-ghost use Rattle.wd_window.specs.Windows.{orderings_of};
+ghost use Rattle.wd_eval.specs.Windows.{orderings_of};
 ghost use Rattle.wd_eval.specs.Runs.{IsRunOrRefused, IsTiedOutcomeOrRefused};
 ghost use Rattle.wd_eval.specs.Tied.{IsTiedOrRefused};
 ghost use Rattle.wd_plan.specs.Fits.{fits};
@@ -13,12 +13,11 @@ ghost use Rattle.wd_value.specs.Rows.{instance_of};
 
 use crate::answer::{Answer, answer_of};
 use crate::error::EvalError;
-use crate::handed::handed_over;
 use crate::node::evaluate;
 use crate::orderings::Orderings;
-use crate::produced::outcome_from;
 use std::alloc::Global;
 use wd_columns::Columns;
+use wd_nodes::{handed_over, outcome_from};
 use wd_plan::{Choice, Outcome, Plan};
 use wd_schema::Schema;
 use wd_value::{Instance, OutOfMemory};

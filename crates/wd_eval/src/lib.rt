@@ -2,17 +2,16 @@
 #![tactic(auto)]
 
 mod answer;
+mod appending;
+mod calls;
+mod column;
 mod cut;
 mod error;
 mod eval;
-mod handed;
 pub mod laws;
+mod listing;
 mod node;
 mod orderings;
-mod pairs;
-mod produced;
-mod side;
-mod step;
 mod window;
 
 pub use answer::Answer;
@@ -21,3 +20,4 @@ pub use eval::{
     TiedOutcome, check_choice, eval_tied, eval_with, first_choice, run_columns, run_plan,
     tied_choice,
 };
+pub use window::evaluate_window;

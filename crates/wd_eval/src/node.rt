@@ -1,6 +1,6 @@
 //! A plan under the orderings of its nodes, node by node.
 
-ghost use Rattle.wd_eval.specs.Held.{IsHeld, IsHeldForSome};
+ghost use Rattle.wd_nodes.specs.Held.{IsHeld, IsHeldForSome};
 ghost use Rattle.wd_eval.specs.Walks.{IsAt, IsWalkedOrHalted};
 ghost use Rattle.wd_plan.specs.Plans.{EachNamesClasses, plan_of};
 ghost use Rattle.wd_value.specs.Rows.{Instance, instance_of};
@@ -8,11 +8,10 @@ ghost use Rattle.wd_value.specs.Rows.{Instance, instance_of};
 use crate::cut::limited;
 use crate::error::EvalError;
 use crate::orderings::Orderings;
-use crate::produced::Produced;
-use crate::step::{distinct, filtered, joined, mapped, scanned};
 use crate::window::extended;
 use std::alloc::Global;
 use wd_columns::Columns;
+use wd_nodes::{Produced, distinct, filtered, joined, mapped, scanned};
 use wd_plan::Plan;
 use wd_value::Row;
 

@@ -1,25 +1,24 @@
 //! A Window of a plan, under the orderings of a choice or under sorted ones.
 
-ghost use Rattle.std.specs.Prelude.{◌≡◌, ◌-◌, ◌^◌, ◌<◌, ◌≤◌, IfOk, Ok, OnOk, length};
-ghost use Rattle.wd_eval.specs.Nodes.{IsExtendedOrUnserved, produced_of};
+ghost use Rattle.std.specs.Prelude.{◌≡◌, ◌↔◌, ◌-◌, ◌^◌, ◌<◌, ◌≤◌, IfOk, IsTrue, Ok, OnOk, length};
+ghost use Rattle.wd_eval.specs.Listings.{AreEmptyOrUnserved, AreListings, IsEmptyAt};
 ghost use Rattle.wd_eval.specs.Ties.{AreAllPut, IsPutEmpty, IsTiedWindow};
 ghost use Rattle.wd_eval.specs.Walks.{IsAt, IsWindowStep};
+ghost use Rattle.wd_eval.specs.Windows.{AreFew, IsExtendedOrUnserved, orderings_of};
+ghost use Rattle.wd_nodes.specs.Produced.{produced_of};
 ghost use Rattle.wd_plan.specs.Outcomes.{outcome_of};
 ghost use Rattle.wd_plan.specs.Plans.{NamesClasses, window_of};
 ghost use Rattle.wd_value.specs.Rows.{Instance, instance_of};
-ghost use Rattle.wd_window.specs.Listings.{AreListings};
-ghost use Rattle.wd_window.specs.Windows.{AreFew, orderings_of};
 
+use crate::calls::{with_calls, with_calls_by_column};
 use crate::error::EvalError;
+use crate::listing::{Listing, SortedListing, listings, sorted_listing};
 use crate::orderings::{Orderings, is_flipped};
-use crate::produced::{Produced, outcome_from};
 use std::alloc::Global;
 use wd_columns::{Columns, RowSource};
+use wd_nodes::{Produced, outcome_from};
 use wd_plan::{Outcome, Window};
 use wd_value::{OutOfMemory, Row};
-use wd_window::{
-    Listing, SortedListing, evaluate_window, sorted_listing, with_calls, with_calls_by_column,
-};
 
 /// The input's rows with the values of the calls after each of them, under the orderings from
 /// `first` on: one for each class, each lawful, and empty where the input is a fault. Sorted ones
@@ -41,7 +40,8 @@ pub(crate) fn extended(
     match orderings {
         Orderings::Chosen(choice) => {
             let input = outcome_from(alloc, instance, input, window.calls.len())?;
-            chosen_window(alloc, window, input, choice, first)
+            let outcome = evaluate_window(alloc, window, input, choice, first)?;
+            Ok(Produced::Made(outcome))
         }
         Orderings::Sorted(flipped) => {
             let produced = sorted_window(alloc, instance, window, input, flipped, made)?;
@@ -50,22 +50,55 @@ pub(crate) fn extended(
     }
 }
 
-/// The same under the choice's orderings, which are judged.
-fn chosen_window(
+/// The rows with the values of the calls after each of them, under the choice's orderings from
+/// `first` on: one for each class, each lawful, and empty where the input is a fault. Refused is the
+/// first of these that is not so, by its number, and nothing for its size.
+pub fn evaluate_window(
     alloc: Global,
     window: &Window,
     input: Outcome,
     choice: &[Vec<u64>],
     first: usize,
-) -> Result<Produced, EvalError>
+) -> Result<Outcome, EvalError>
     requires few { AreFew (2 ^ 32 - 1) (outcome_of input) }
     requires within { first ≤ length choice.now }
     requires named { NamesClasses (window_of window.now) }
-    ensures { (instance : Instance) → IsExtendedOrUnserved (produced_of instance) (window_of window.now) (outcome_of input) (orderings_of choice.now) first result }
+    ensures { IsExtendedOrUnserved outcome_of (window_of window.now) (outcome_of input) (orderings_of choice.now) first result }
 {
-    match evaluate_window(alloc, window, input, choice, first)? {
-        Ok(outcome) => Ok(Produced::Made(outcome)),
-        Err(number) => Err(EvalError::NotValid(number)),
+    match input {
+        Outcome::Fault(fault) => {
+            all_empty(window.classes.len(), choice, first)?;
+            Ok(Outcome::Fault(fault))
+        }
+        Outcome::Rows(rows) => {
+            let listings = listings(alloc, window, &RowSource::of_rows(&rows), choice, first)?;
+            let outcome = with_calls(alloc, window, rows, &listings)?;
+            Ok(outcome)
+        }
+    }
+}
+
+/// Refuses the first of so many orderings from `first` on that is not there or not empty, by its
+/// number.
+fn all_empty(count: usize, choice: &[Vec<u64>], first: usize) -> Result<(), EvalError>
+    requires { first ≤ length choice.now }
+    ensures { AreEmptyOrUnserved count (orderings_of choice.now) first result }
+{
+    for number in 0..count {
+        if !is_empty_at(choice, first + number) {
+            return Err(EvalError::NotValid((first + number) as u64));
+        }
+    }
+    Ok(())
+}
+
+/// Whether the choice's ordering with this number is there and empty.
+fn is_empty_at(choice: &[Vec<u64>], number: usize) -> bool
+    ensures { IsTrue result ↔ IsEmptyAt (orderings_of choice.now) number }
+{
+    match choice.get(number) {
+        Some(ordering) => ordering.is_empty(),
+        None => false,
     }
 }
 

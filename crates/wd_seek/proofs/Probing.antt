@@ -4,7 +4,7 @@ use Rattle.wd_value.specs.Rows.{Instance}
 use Rattle.wd_plan.specs.Outcomes.{Agree, RowsOrFault, outcome}
 use Rattle.wd_plan.specs.Plans.{PlanTree}
 use Rattle.wd_plan.specs.declared.plan.Choice.{Choice}
-use Rattle.wd_window.specs.Windows.{orderings_of}
+use Rattle.wd_eval.specs.Windows.{orderings_of}
 use Rattle.wd_eval.specs.Tied.{IsTiedTooLarge}
 use Rattle.wd_seek.specs.Evaluations.{AllPass, IsTooLargeAt, evaluations, most_evaluations}
 use Rattle.wd_seek.specs.Search.{FindsNothing, FindsTwo}

@@ -3,7 +3,7 @@ use Rattle.std.specs.Prelude.{◌≡◌, ◌⊎◌, ℕ, ◌+◌, ◌<◌, List,
 use Rattle.wd_value.specs.Rows.{Instance}
 use Rattle.wd_plan.specs.Outcomes.{Agree, RowsOrFault, outcome}
 use Rattle.wd_plan.specs.Plans.{PlanTree, ordering_count}
-use Rattle.wd_window.specs.Windows.{orderings_of}
+use Rattle.wd_eval.specs.Windows.{orderings_of}
 use Rattle.wd_eval.specs.Tied.{IsTiedTooLarge, IsValidTiedChoice}
 use Rattle.wd_plan.specs.declared.plan.Choice.{Choice}
 use Rattle.wd_seek.specs.Evaluations.{AllPass, IsTooLargeAt, most_evaluations}

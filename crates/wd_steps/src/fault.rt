@@ -10,7 +10,7 @@ use wd_plan::Outcome;
 use wd_value::{Fault, Row, Value};
 
 /// The least fault, where one value more is looked at.
-pub(crate) fn with_value(fault: Option<Fault>, value: &Result<Value, Fault>) -> Option<Fault>
+pub fn with_value(fault: Option<Fault>, value: &Result<Value, Fault>) -> Option<Fault>
     ensures { result ≡ spec.with_result fault value.now }
 {
     match value {
@@ -30,7 +30,7 @@ pub fn with_fault(fault: Option<Fault>, found: Fault) -> Fault
 }
 
 /// The rows, or the fault where there is one.
-pub(crate) fn rows_or_fault(rows: Vec<Row>, fault: Option<Fault>) -> Outcome
+pub fn rows_or_fault(rows: Vec<Row>, fault: Option<Fault>) -> Outcome
     ensures { outcomes.outcome_of result ≡ unless fault (rows_of rows.items) }
 {
     match fault {

@@ -51,7 +51,7 @@ pub fn copy_filtered(alloc: Global, condition: &Expr, rows: &[Row]) -> Result<Ou
 }
 
 /// Whether a condition is true: not where it is false, NULL or a fault.
-pub(crate) fn passes(value: &Result<Value, Fault>) -> bool
+pub fn passes(value: &Result<Value, Fault>) -> bool
     ensures { result ≡ spec.passes value.now }
 {
     match value {

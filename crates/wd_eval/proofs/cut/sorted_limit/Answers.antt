@@ -5,8 +5,9 @@ use Rattle.wd_plan.specs.Choices.{AtRows}
 use Rattle.wd_plan.specs.Outcomes.{outcome_of}
 use Rattle.wd_plan.specs.Plans.{limit_of}
 use Rattle.wd_plan.specs.Sorting.{IsOrdering, limit_class}
-use Rattle.wd_window.specs.Windows.{orderings_of}
-use Rattle.wd_eval.specs.Nodes.{cut_over, given_of}
+use Rattle.wd_eval.specs.Windows.{orderings_of}
+use Rattle.wd_eval.specs.Nodes.{cut_over}
+use Rattle.wd_nodes.specs.Produced.{given_of}
 use Rattle.wd_eval.proofs.Putting.{lawful_over, limit_tied_from}
 use Rattle.wd_eval.proofs.cut.sorted_limit.Goals as goal
 

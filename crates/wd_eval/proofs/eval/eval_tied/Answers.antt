@@ -5,10 +5,10 @@ use Rattle.wd_schema.specs.Schemas.{schema_of}
 use Rattle.wd_value.specs.Rows.{instance_of}
 use Rattle.wd_plan.specs.Plans.{plan_of}
 use Rattle.wd_plan.specs.Outcomes.{outcome_of}
-use Rattle.wd_window.specs.Windows.{orderings_of}
-use Rattle.wd_eval.specs.Nodes.{produced_of}
+use Rattle.wd_eval.specs.Windows.{orderings_of}
+use Rattle.wd_nodes.specs.Produced.{produced_of}
 use Rattle.wd_eval.specs.Ties.{IsTied, IsUntied}
-use Rattle.wd_eval.proofs.Held.{same_for_some, same_held}
+use Rattle.wd_nodes.proofs.Held.{same_for_some, same_held}
 use Rattle.wd_eval.proofs.SomeTied.{refused_from}
 use Rattle.wd_eval.proofs.Tying.{tied_outcome, tied_valid}
 use Rattle.wd_eval.proofs.Walks.{to_untied}

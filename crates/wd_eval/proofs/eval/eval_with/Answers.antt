@@ -2,13 +2,14 @@ use Rattle.std.proofs.Common.{◌≡◌, ◌<◌, ◌∙◌, subst, length, arit
 use Rattle.std.proofs.lemmas.List.{length-map}
 use Rattle.std.proofs.lemmas.Result.{err_from_is_err_and}
 use Rattle.wd_value.specs.Rows.{instance_of}
-use Rattle.wd_window.specs.Windows.{orderings_of}
+use Rattle.wd_eval.specs.Windows.{orderings_of}
 use Rattle.wd_plan.specs.Plans.{plan_of, ordering_count}
 use Rattle.wd_plan.proofs.Ranges.{names_classes}
 use Rattle.wd_schema.specs.Schemas.{schema_of}
 use Rattle.wd_plan.specs.Outcomes.{outcome_of}
-use Rattle.wd_eval.specs.Nodes.{IsEvaluated, IsStopped, produced_of}
-use Rattle.wd_eval.proofs.Held.{same_for_some, same_held}
+use Rattle.wd_eval.specs.Nodes.{IsEvaluated, IsStopped}
+use Rattle.wd_nodes.specs.Produced.{produced_of}
+use Rattle.wd_nodes.proofs.Held.{same_for_some, same_held}
 use Rattle.wd_eval.proofs.Walks.{to_stopped}
 use Rattle.wd_eval.proofs.Wrong.{stopped_refused, surplus_refused}
 use Rattle.wd_eval.proofs.eval.eval_with.Goals as goal

@@ -4,9 +4,9 @@ use Rattle.wd_plan.proofs.Ranges.{names_classes}
 use Rattle.wd_schema.specs.Schemas.{schema_of}
 use Rattle.wd_value.specs.Rows.{instance_of}
 use Rattle.wd_plan.specs.Plans.{plan_of}
-use Rattle.wd_window.specs.Windows.{orderings_of}
-use Rattle.wd_eval.specs.Held.{IsHeld}
-use Rattle.wd_eval.specs.Nodes.{produced_of}
+use Rattle.wd_eval.specs.Windows.{orderings_of}
+use Rattle.wd_nodes.specs.Held.{IsHeld}
+use Rattle.wd_nodes.specs.Produced.{produced_of}
 use Rattle.wd_eval.specs.Ties.{IsTied}
 use Rattle.wd_eval.proofs.SomeTied.{refused_from}
 use Rattle.wd_eval.proofs.Tying.{tied_outcome, tied_valid}

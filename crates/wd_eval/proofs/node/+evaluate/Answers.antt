@@ -7,11 +7,12 @@ use Rattle.wd_plan.specs.Expressions.{expression_of}
 use Rattle.wd_plan.specs.Faults.{and_then}
 use Rattle.wd_plan.specs.Outcomes.{distinct, filter_outcome, map_outcome, outcome_of}
 use Rattle.wd_plan.specs.Plans.{Filter, Map, Window, Distinct, Limit, Join, class_of, limit_of, plan_of, window_of}
-use Rattle.wd_window.specs.Windows.{orderings_of}
-use Rattle.wd_eval.specs.Held.{IsHeld}
-use Rattle.wd_eval.specs.Nodes.{produced_of}
+use Rattle.wd_eval.specs.Windows.{orderings_of}
+use Rattle.wd_nodes.specs.Held.{IsHeld}
+use Rattle.wd_eval.specs.Errors.{error_of}
+use Rattle.wd_nodes.specs.Produced.{produced_of}
 use Rattle.wd_eval.specs.Walks.{IsHalted, IsWalked}
-use Rattle.wd_eval.specs.declared.produced.Produced.TheVariants.{Made}
+use Rattle.wd_nodes.specs.declared.produced.Produced.TheVariants.{Made}
 use Rattle.wd_eval.proofs.Nodes.{filter_stopped, map_stopped, distinct_stopped, window_stopped_below, limit_stopped_below, join_stopped_left}
 use Rattle.wd_eval.proofs.Tying.{filter_untied, map_untied, distinct_untied, window_untied, limit_untied, join_untied_left}
 use Rattle.wd_eval.proofs.Walks.{halted_below, filter_walked, map_walked, distinct_walked, window_walked, window_halted, limit_walked, limit_halted, join_walked, join_halted, join_halted_right}
@@ -351,4 +352,4 @@ returns-in_err-outcome-in-Join t c = λ instance held. (
     let err = err_from_is_err_and c.from_residual-in_err-outcome-in-Join.result c.from_residual-in_err-outcome-in-Join.ensures.1 in
     let a = subst (λ p. IsWalked (plan_of p) tables instance orderings first old mid l) c.deref.ensures (c.in_ok-left-in-Join.ensures instance left_held).ok in
     let b = subst (λ p. IsWalked (plan_of p) tables instance orderings l.next mid new r) c.deref-in-Join.ensures (c.in_ok-right-in-Join.ensures instance right_held).ok in
-    rw (err.1, err.2) (record { ok = tt; refused = subst (λ p. IsHalted p instance orderings first e) (sym (ap plan_of c.in-Join.is)) (join_halted tables instance first old condition left right mid l new r orderings e c.requires.at a b c.in_err-outcome-in-Join.ensures.refused) }))
+    rw (err.1, err.2) (record { ok = tt; refused = subst (λ p. IsHalted p instance orderings first (error_of e)) (sym (ap plan_of c.in-Join.is)) (join_halted tables instance first old condition left right mid l new r orderings e c.requires.at a b c.in_err-outcome-in-Join.ensures.refused) }))

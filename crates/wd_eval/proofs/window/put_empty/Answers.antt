@@ -1,6 +1,6 @@
 use Rattle.std.proofs.Common.{◌≡◌, ◌++◌, [], ◌∷◌, ◌∙◌, ap}
 use Rattle.std.proofs.lemmas.List.{map_push}
-use Rattle.wd_window.specs.Windows.{orderings_of}
+use Rattle.wd_eval.specs.Windows.{orderings_of}
 use Rattle.wd_eval.proofs.Putting.{none_empty, one_empty}
 use Rattle.wd_eval.proofs.window.put_empty.Goals as goal
 

@@ -1,4 +1,4 @@
-use Rattle.wd_window.specs.Windows.{orderings_of}
+use Rattle.wd_eval.specs.Windows.{orderings_of}
 use Rattle.wd_eval.specs.Ties.{IsPutEmpty}
 use Rattle.wd_eval.proofs.window.put_empty.Given as goal
 

@@ -2,8 +2,8 @@ use Rattle.std.proofs.Common.{◌≡◌, ◌+◌, ◌++◌, [], ◌∷◌, ◌�
 use Rattle.std.proofs.lemmas.List.{length-map, map_push}
 use Rattle.wd_plan.specs.Outcomes.{class_at}
 use Rattle.wd_plan.specs.Plans.{class_of, window_of}
-use Rattle.wd_window.specs.Windows.{orderings_of}
-use Rattle.wd_window.specs.Listings.{AreListings}
+use Rattle.wd_eval.specs.Windows.{orderings_of}
+use Rattle.wd_eval.specs.Listings.{AreListings}
 use Rattle.wd_eval.specs.Tied.{IsSortedOver}
 use Rattle.wd_eval.specs.Ties.{ArePut}
 use Rattle.wd_eval.proofs.Putting.{none_listed, none_put, one_listed, one_put}

@@ -1,7 +1,7 @@
 use Rattle.std.proofs.Common.{length, Ok}
 use Rattle.wd_plan.specs.Plans.{window_of}
-use Rattle.wd_window.specs.Windows.{orderings_of}
-use Rattle.wd_window.specs.Listings.{AreListings}
+use Rattle.wd_eval.specs.Windows.{orderings_of}
+use Rattle.wd_eval.specs.Listings.{AreListings}
 use Rattle.wd_eval.specs.Ties.{ArePut}
 use Rattle.wd_eval.proofs.window.put_sorted.Given as goal
 

@@ -1,8 +1,8 @@
 use Rattle.std.proofs.Common.{◌≡◌, ◌∙◌, sym, subst, length, Ok, Err}
 use Rattle.wd_plan.specs.Plans.{window_of}
-use Rattle.wd_window.specs.Windows.{orderings_of}
-use Rattle.wd_window.specs.Listings.{AreListed, AreListings}
-use Rattle.wd_window.proofs.Serving.{rows_done}
+use Rattle.wd_eval.specs.Windows.{orderings_of}
+use Rattle.wd_eval.specs.Listings.{AreListed, AreListings}
+use Rattle.wd_eval.proofs.Serving.{rows_done}
 use Rattle.wd_eval.specs.Ties.{AreAllPut}
 use Rattle.wd_eval.proofs.window.sorted_by_column.Goals as goal
 

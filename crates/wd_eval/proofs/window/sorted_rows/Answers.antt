@@ -3,9 +3,9 @@ use Rattle.std.proofs.lemmas.List.{length-map}
 use Rattle.wd_value.specs.Rows.{rows_of}
 use Rattle.wd_plan.specs.Outcomes.{RowsOrFault, outcome_of}
 use Rattle.wd_plan.specs.Plans.{class_of, window_of}
-use Rattle.wd_window.specs.Windows.{orderings_of}
-use Rattle.wd_window.specs.Listings.{AreListed, AreListings}
-use Rattle.wd_window.proofs.Serving.{rows_done}
+use Rattle.wd_eval.specs.Windows.{orderings_of}
+use Rattle.wd_eval.specs.Listings.{AreListed, AreListings}
+use Rattle.wd_eval.proofs.Serving.{rows_done}
 use Rattle.wd_eval.specs.Ties.{AreAllPut, IsPutEmpty, IsTiedWindow}
 use Rattle.wd_eval.proofs.Putting.{fault_tied}
 use Rattle.wd_eval.proofs.window.sorted_rows.Goals as goal

@@ -1,7 +1,7 @@
 use Rattle.std.proofs.Common.{◌∷◌, ◌+◌, [], None, subst, sym}
 use Rattle.wd_plan.specs.Plans.{plan_of}
 use Rattle.wd_value.specs.Rows.{instance_of}
-use Rattle.wd_window.specs.Windows.{orderings_of}
+use Rattle.wd_eval.specs.Windows.{orderings_of}
 use Rattle.wd_seek.specs.Search.{FindsNothing}
 use Rattle.wd_seek.specs.Probed.{IsEvaluated, IsOther}
 use Rattle.wd_seek.proofs.Probing.{another, first_too_large, no_other, none_left}

@@ -1,0 +1,20 @@
+use Rattle.std.proofs.Common.{◌<◌, sym, subst, length, arith}
+use Rattle.wd_plan.specs.Outcomes.{class_at, ordering_at}
+use Rattle.wd_eval.specs.Listings.{IsListingIn, asks_keys}
+use Rattle.wd_eval.specs.declared.listing.Listing.{Listing}
+use Rattle.wd_eval.proofs.Filled.{first_below}
+use Rattle.wd_eval.proofs.column.call_column.Goals as goal
+
+pub returns : goal.returns
+returns c = λ w needs orderings listed. (
+    let k = c.args.call.now.class in
+    let rows = c.args.rows.now in
+    let listing = c.index-listings-call.result in
+    let long = listed.long in
+    let there : k < length w.classes = omega arith in
+    let is : IsListingIn w k rows (ordering_at orderings k) listing = subst (λ (l : Listing). IsListingIn w k rows (ordering_at orderings k) l) (sym c.index-listings-call.is) (listed.each k listing there) in
+    let filled = c.in_ok-column.ensures (class_at w k) (asks_keys w k) (ordering_at orderings k) needs is in
+    record {
+      long = filled.long;
+      each = λ p other within. filled.each p other within (first_below (class_at w k) rows (ordering_at orderings k) is.lawful p within);
+    })

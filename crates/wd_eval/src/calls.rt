@@ -1,0 +1,72 @@
+//! A Window's rows with the values of its calls.
+
+ghost use Rattle.std.specs.Prelude.{◌≡◌, IfOk, length};
+ghost use Rattle.wd_eval.specs.Beside.{IsBeside};
+ghost use Rattle.wd_eval.specs.Listings.{WhereListed};
+ghost use Rattle.wd_plan.specs.Outcomes.{outcome_of, window_outcome};
+ghost use Rattle.wd_plan.specs.Plans.{NameBelow, window_of};
+ghost use Rattle.wd_value.specs.Rows.{rows_of};
+
+use crate::appending::{fault_among, with_columns, with_values};
+use crate::column::{Column, call_columns};
+use crate::listing::Listing;
+use std::alloc::Global;
+use wd_columns::{Columns, RowSource};
+use wd_plan::{Outcome, Window};
+use wd_value::{Fault, OutOfMemory, Row};
+
+/// The rows with the values of the calls after each of them, or the least fault of the calls, under
+/// the orderings that make these partitions of the classes. Rows and values are moved.
+pub(crate) fn with_calls(
+    alloc: Global,
+    window: &Window,
+    rows: Vec<Row>,
+    listings: &[Listing],
+) -> Result<Outcome, OutOfMemory>
+    requires { NameBelow (length listings.now) (window_of window.now).calls }
+    ensures { let w = window_of window.now in IfOk result (λ o. WhereListed w (rows_of rows.items) listings.now (λ orderings. outcome_of o ≡ window_outcome w (rows_of rows.items) orderings)) }
+{
+    match values_beside(alloc, window, &RowSource::of_rows(&rows), listings)? {
+        Err(fault) => Ok(Outcome::Fault(fault)),
+        Ok(columns) => {
+            let extended = with_columns(rows, columns)?;
+            Ok(Outcome::Rows(extended))
+        }
+    }
+}
+
+/// The same of rows that are kept column by column, as their extension is.
+pub(crate) fn with_calls_by_column(
+    alloc: Global,
+    window: &Window,
+    rows: Columns,
+    listings: &[Listing],
+) -> Result<Result<Columns, Fault>, OutOfMemory>
+    requires { NameBelow (length listings.now) (window_of window.now).calls }
+    ensures { let w = window_of window.now in IfOk result (λ r. WhereListed w rows listings.now (λ orderings. r ≡ window_outcome w rows orderings)) }
+{
+    match values_beside(alloc, window, &RowSource::of_columns(&rows), listings)? {
+        Err(fault) => Ok(Err(fault)),
+        Ok(columns) => {
+            let extended = with_values(alloc, rows, columns)?;
+            Ok(Ok(extended))
+        }
+    }
+}
+
+/// The columns of the calls, or the least fault of these.
+fn values_beside(
+    alloc: Global,
+    window: &Window,
+    rows: &RowSource,
+    listings: &[Listing],
+) -> Result<Result<Vec<Column>, Fault>, OutOfMemory>
+    requires { NameBelow (length listings.now) (window_of window.now).calls }
+    ensures { let w = window_of window.now in IfOk result (λ r. WhereListed w rows.now listings.now (λ orderings. IsBeside w rows.now orderings r)) }
+{
+    let columns = call_columns(alloc, window, rows, listings)?;
+    match fault_among(&columns, rows.len()) {
+        Some(fault) => Ok(Err(fault)),
+        None => Ok(Ok(columns)),
+    }
+}

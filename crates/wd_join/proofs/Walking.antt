@@ -1,0 +1,102 @@
+-- A walk over the left rows in the order of the columns, one row on and at the end.
+use Rattle.std.proofs.Common.{◌≡◌, ◌≢◌, ℕ, ◌+◌, ◌<◌, ◌≤◌, true, false, List, length, get_or, set, refl, sym, ap, subst, ◌∙◌, arith, inl, inr, Ordering, Less, Equal, Greater}
+use Rattle.std.specs.Ordering.{is_lt, ordering_reverse}
+use Rattle.std.proofs.lemmas.Bool.{cases_eq, cases_lt, false≢true}
+use Rattle.std.proofs.lemmas.Cmp.{alike_right}
+use Rattle.std.proofs.lemmas.List.{get_or-set_other, get_or-set_same, get_or_default, length-set}
+use Rattle.std.proofs.lemmas.List.FromFn.{get_or-range_with_len, length-range_with_len}
+use Rattle.std.proofs.lemmas.List.Sorted.{Contains-permutation, ranks_by, sorted_far}
+use Rattle.wd_value.specs.Bags.{positions}
+use Rattle.wd_value.specs.Rows.{Row, row_at}
+use Rattle.wd_join.specs.declared.matching.JoinColumns.{JoinColumns}
+use Rattle.wd_join.specs.declared.walk.Stretch.{Stretch}
+use Rattle.wd_steps.specs.Repeats.{compare_rows}
+use Rattle.wd_join.specs.Matching.{AreBefore, AreStretches, IsSortedBy, IsStretch, is_before, left_keys}
+use Rattle.wd_join.proofs.Holding.{keys_are-left, left_key, right_key, sides_are}
+use Rattle.wd_steps.proofs.Occurrences.{compare_rows_total}
+
+less_is : (o : Ordering) → is_before false o ≡ true → o ≡ Less
+less_is Less h = refl
+less_is Equal h = absurd (false≢true h)
+less_is Greater h = absurd (false≢true h)
+
+-- what is below a list of values is below one that does not stand before that
+below_up : (x y z : Row) → compare_rows x y ≡ Less → is_lt (compare_rows z y) ≡ false → compare_rows x z ≡ Less
+below_up x y z less up = by (compare_rows z y) refl
+  where
+    by : (o : Ordering) → compare_rows z y ≡ o → compare_rows x z ≡ Less
+    by Less e = absurd (false≢true (sym up ∙ ap is_lt e))
+    by Equal e = alike_right compare_rows_total z y x e ∙ less
+    by Greater e = compare_rows_total.trans x y z less (compare_rows_total.antisymm y z ∙ ap ordering_reverse e)
+
+module _ (columns : List JoinColumns) (left right : List Row) (left_order order : List ℕ) where
+  abbrev row : ℕ → Row
+  row k = row_at left (get_or left_order k 0)
+
+  -- the stretches of the first rows of the left order are there, and so many right rows are before all later left rows
+  pub record AreWalked (i start : ℕ) (stretches : List Stretch) : Type 0 where
+    pub long : length stretches ≡ length left
+    pub within : start ≤ length order
+    pub before : (j : ℕ) → i ≤ j → j < length left_order → AreBefore false columns (row j) right order start
+    pub done : (k : ℕ) (d : Stretch) → k < i → get_or left_order k 0 < length left → IsStretch columns (row k) right order (get_or stretches (get_or left_order k 0) d)
+
+  pub AreWalked-none : (stretches : List Stretch) → length stretches ≡ length left → AreWalked 0 0 stretches
+  AreWalked-none stretches long = record {
+    long = long;
+    within = omega arith;
+    before = λ j low high k h. absurd (omega arith);
+    done = λ k d h within. absurd (omega arith);
+  }
+
+  abbrev key : ℕ → Row
+  key p = left_key columns (row_at left p)
+
+  no_lower : IsSortedBy (left_keys columns) left left_order → (i j : ℕ) → i ≤ j → j < length left_order → is_lt (compare_rows (key (get_or left_order j 0)) (key (get_or left_order i 0))) ≡ false
+  no_lower sorted i j le within =
+      sorted_far (λ p q. is_lt (compare_rows (key p) (key q))) (ranks_by compare_rows_total key) left_order
+      (λ k d low high. sym (ap is_lt (keys_are-left columns (row_at left (get_or left_order (k + 1) d)) (row_at left (get_or left_order k d)))) ∙ sorted.sorted k d low high)
+      i j 0 le within
+
+  pub AreWalked-more : IsSortedBy (left_keys columns) left left_order → (i start : ℕ) (stretches next : List Stretch) (s : Stretch) → i < length left_order → AreWalked i start stretches
+      → IsStretch columns (row i) right order s → AreBefore false columns (row i) right order s.start → next ≡ set stretches (get_or left_order i 0) s → AreWalked (i + 1) s.start next
+  AreWalked-more sorted i start stretches next s within so_far is before put =
+      let p = get_or left_order i 0 in
+      record {
+        long = ap length put ∙ length-set stretches p s ∙ so_far.long;
+        within = (let a = is.forwards in let b = is.within in omega arith);
+        before = λ j low high k h. (
+            let r = row_at right (get_or order k 0) in
+            let here : compare_rows (right_key columns r) (key p) ≡ Less = sym (sides_are columns (row i) r) ∙ less_is _ (before k h) in
+            let there = below_up (right_key columns r) (key p) (key (get_or left_order j 0)) here (no_lower sorted i j (omega arith) high) in
+            ap (is_before false) (sides_are columns (row j) r ∙ there));
+        done = λ k d h low. elim (cases_eq (get_or left_order k 0) p) [
+          | inl same ↦ (
+              let p-within : p < length stretches = omega (arith, so_far.long, low, same) in
+              let at : get_or next (get_or left_order k 0) d ≡ s = (λ n. get_or (put n) (same n) d) ∙ get_or-set_same stretches p s d p-within in
+              subst (IsStretch columns (row k) right order) (sym at) (subst (λ q. IsStretch columns (row_at left q) right order s) (sym same) is))
+          | inr other ↦ (
+              let earlier : k < i = elim (cases_eq k i) [
+                | inl same ↦ absurd (other (ap (λ n. get_or left_order n 0) same))
+                | inr differs ↦ below_if k i h differs
+              ] in
+              let at : get_or next (get_or left_order k 0) d ≡ get_or stretches (get_or left_order k 0) d = ap (λ l. get_or l (get_or left_order k 0) d) put ∙ get_or-set_other stretches p (get_or left_order k 0) s d other in
+              subst (IsStretch columns (row k) right order) (sym at) (so_far.done k d earlier low))
+        ];
+      }
+    where
+      below_if : (k i : ℕ) → k < i + 1 → k ≢ i → k < i
+      below_if k i h differs = elim (cases_lt k i) [
+        | inl less ↦ less
+        | inr more ↦ absurd (differs (omega arith))
+      ]
+
+  pub AreWalked-all : IsSortedBy (left_keys columns) left left_order → (i start : ℕ) (stretches : List Stretch) → length left_order ≤ i → AreWalked i start stretches → AreStretches columns left right order stretches
+  AreWalked-all sorted i start stretches all walked = record {
+    long = walked.long;
+    each = λ n d h. (
+        let there = Contains-permutation (positions (length left)) left_order n sorted.rearranged
+        (n, rw (length-range_with_len 0 (length left)) h, get_or-range_with_len 0 (length left) n n h ∙ omega arith) in
+        let k = there.0 in
+        let at : get_or left_order k 0 ≡ n = get_or_default left_order k 0 n there.1 ∙ there.2 in
+        subst (λ p. IsStretch columns (row_at left p) right order (get_or stretches p d)) at (walked.done k d (omega (arith, there.1)) (omega (arith, at))));
+  }

@@ -1,0 +1,178 @@
+//! Pairs of a left and a right row by their positions.
+
+ghost use Rattle.std.specs.Prelude.{◌≡◌, ◌++◌, ◌≤◌, Err, IfNone, IfOk, IfSome, Ok, OnOk, Some, length, map, nat_lt, true};
+ghost use Rattle.wd_plan.specs.Expressions.{expression_of};
+ghost use Rattle.wd_plan.specs.Outcomes as spec;
+ghost use Rattle.wd_plan.specs.Outcomes.{join_outcome};
+ghost use Rattle.wd_join.specs.Joins.{has_more_rows};
+ghost use Rattle.wd_join.specs.Matching.{matching};
+ghost use Rattle.wd_join.specs.Paired.{IsOfEqualities, row_paired, rows_paired, with_each};
+ghost use Rattle.wd_join.specs.declared.error.StepError.TheVariants as error;
+ghost use Rattle.wd_value.specs.Rows.{column_of, columns_of, rows_of};
+ghost use Rattle.wd_value.specs.declared.value.Value.TheVariants as value;
+
+use crate::error::StepError;
+use crate::exact::exact_columns;
+use crate::matching::JoinColumns;
+use crate::pairs::joined_row;
+use crate::walk::{agreeing_rows, positions_in};
+use std::alloc::Global;
+use wd_columns::{Columns, RowSource, row_in};
+use wd_plan::Expr;
+use wd_value::{OutOfMemory, Row, Value};
+
+/// The positions of a left and of a right row.
+#[derive(Clone, Copy)]
+pub struct Pair {
+    pub left: u64,
+    pub right: u64,
+}
+
+/// The pairs of a left and a right row, the left one outermost, for which the condition is true, by
+/// their positions, where it consists of equalities of a left and a right column; none where it does
+/// not, or where rows of a side differ in width, and nowhere else. Where there are more than `most`
+/// they are not made.
+pub fn equal_pairs(
+    alloc: Global,
+    condition: &Expr,
+    left: &RowSource,
+    right: &RowSource,
+    most: u64,
+) -> Result<Option<Vec<Pair>>, StepError>
+    ensures pairs { IfOk result (λ o. IfSome o (λ v. join_outcome (Some (expression_of condition.now)) (spec.pairs left.now right.now) ≡ Ok (rows_paired left.now right.now v.items))) }
+    ensures none { IfOk result (λ o. IfNone o (IsOfEqualities (expression_of condition.now) left.now right.now → ⊥)) }
+    ensures within { IfOk result (λ o. IfSome o (λ v. length v.items ≤ most)) }
+    ensures too_many { result ≡ Err error.TooManyRows → has_more_rows most (join_outcome (Some (expression_of condition.now)) (spec.pairs left.now right.now)) ≡ true }
+{
+    match exact_columns(alloc, condition, left, right)? {
+        None => Ok(None),
+        Some(columns) => {
+            let pairs = agreeing_pairs(alloc, &columns, left, right, most)?;
+            Ok(Some(pairs))
+        }
+    }
+}
+
+/// The pairs that agree on the columns. Takes time as a sort of either side, and time that goes with
+/// the number of pairs.
+fn agreeing_pairs(
+    alloc: Global,
+    columns: &[JoinColumns],
+    left: &RowSource,
+    right: &RowSource,
+    most: u64,
+) -> Result<Vec<Pair>, StepError>
+    ensures pairs { IfOk result (λ v. rows_paired left.now right.now v.items ≡ matching columns.now left.now right.now) }
+    ensures within { IfOk result (λ v. length v.items ≤ most) }
+    ensures too_many { result ≡ Err error.TooManyRows → nat_lt most (length (matching columns.now left.now right.now)) ≡ true }
+{
+    let agreeing = agreeing_rows(alloc, columns, left, right)?;
+    let mut pairs = Vec::new(alloc);
+    for i in 0..left.len() {
+        let positions = positions_in(&agreeing.order, agreeing.stretches[i]);
+        if positions.len() as u64 > most - pairs.len() as u64 {
+            return Err(StepError::TooManyRows);
+        }
+        push_each(&mut pairs, i as u64, positions)?;
+    }
+    Ok(pairs)
+}
+
+/// Puts a left position with each of some right ones after the pairs that are there.
+fn push_each(pairs: &mut Vec<Pair>, left: u64, positions: &[u64]) -> Result<(), OutOfMemory>
+    ensures { OnOk result (pairs.new.items ≡ pairs.old.items ++ with_each left positions.now) }
+{
+    for position in positions {
+        pairs.push(Pair {
+            left,
+            right: *position,
+        })?;
+    }
+    Ok(())
+}
+
+/// The pairs with these of their columns, the left row's columns first.
+pub fn paired_columns(
+    alloc: Global,
+    left: &RowSource,
+    right: &RowSource,
+    pairs: &[Pair],
+    columns: &[u64],
+) -> Result<Columns, OutOfMemory>
+    ensures { IfOk result (λ c. c ≡ map (columns_of columns.now) (rows_paired left.now right.now pairs.now)) }
+{
+    let mut picked = Vec::with_capacity(alloc, columns.len())?;
+    for column in columns {
+        picked.push(paired_column(alloc, left, right, pairs, *column as usize)?)?;
+    }
+    Ok(Columns::new(picked, pairs.len()))
+}
+
+/// The values of the pairs in a column.
+fn paired_column(
+    alloc: Global,
+    left: &RowSource,
+    right: &RowSource,
+    pairs: &[Pair],
+    column: usize,
+) -> Result<Vec<Value>, OutOfMemory>
+    ensures { IfOk result (λ v. v.items ≡ map (λ row. column_of row column) (rows_paired left.now right.now pairs.now)) }
+{
+    let mut values = Vec::with_capacity(alloc, pairs.len())?;
+    for pair in pairs {
+        let value = copied_value(alloc, left, right, *pair, column)?;
+        values.push(value)?;
+    }
+    Ok(values)
+}
+
+/// The value of a pair in a column, and NULL past the last.
+fn copied_value(
+    alloc: Global,
+    left: &RowSource,
+    right: &RowSource,
+    pair: Pair,
+    column: usize,
+) -> Result<Value, OutOfMemory>
+    ensures { IfOk result (λ v. v ≡ column_of (row_paired left.now right.now pair) column) }
+{
+    let null = Value::Null;
+    let value = paired_value(left, right, pair, column, &null).copy(alloc)?;
+    Ok(value)
+}
+
+/// The value of a pair in a column, where it is, and `null` past the last.
+fn paired_value<'a>(
+    left: &'a RowSource,
+    right: &'a RowSource,
+    pair: Pair,
+    column: usize,
+    null: &'a Value,
+) -> &'a Value
+    requires { null.now ≡ value.Null }
+    ensures { result.now ≡ column_of (row_paired left.now right.now pair) column }
+{
+    let width = left.width(pair.left);
+    if column < width {
+        left.value_at(pair.left, column, null)
+    } else {
+        right.value_at(pair.right, column - width, null)
+    }
+}
+
+/// The rows of the pairs.
+pub fn paired_rows(
+    alloc: Global,
+    left: &[Row],
+    right: &[Row],
+    pairs: &[Pair],
+) -> Result<Vec<Row>, OutOfMemory>
+    ensures { IfOk result (λ v. rows_of v.items ≡ rows_paired (rows_of left.now) (rows_of right.now) pairs.now) }
+{
+    let mut rows = Vec::with_capacity(alloc, pairs.len())?;
+    for pair in pairs {
+        let row = joined_row(alloc, row_in(left, pair.left), row_in(right, pair.right))?;
+        rows.push(row)?;
+    }
+    Ok(rows)
+}

@@ -1,0 +1,245 @@
+//! The right rows that agree with each left row, found by a walk over both sides in the order of
+//! the columns.
+
+ghost use Rattle.std.specs.Prelude.{◌≡◌, ℕ, ◌-◌, ◌<◌, ◌≤◌, true, false, IfOk, drop, get_or, length, map, set, take};
+ghost use Rattle.std.specs.List.{list_any};
+ghost use Rattle.wd_join.specs.Matching as spec;
+ghost use Rattle.wd_join.specs.Matching.{AreAgreeing, AreBefore, AreStretches, IsEnd, IsSortedBy, IsStretch};
+ghost use Rattle.wd_value.specs.Rows.{row_at};
+
+use crate::matching::{JoinColumns, is_null_at};
+use std::alloc::Global;
+use std::cmp::Ordering;
+use wd_columns::RowSource;
+use wd_sort::{all_positions, sorted_in};
+use wd_value::{OutOfMemory, SortColumn, SortKey, Value, compare};
+
+/// Some positions in an order, one after the other.
+#[derive(Clone, Copy)]
+pub struct Stretch {
+    pub start: usize,
+    pub end: usize,
+}
+
+/// The right rows' positions in the order of the columns, and for each left row the stretch of
+/// those that agree with it.
+#[derive(Drop)]
+pub struct Agreeing {
+    pub order: Vec<u64>,
+    pub stretches: Vec<Stretch>,
+}
+
+/// The right rows that agree with each left row. Takes time as a sort of either side.
+pub(crate) fn agreeing_rows(
+    alloc: Global,
+    columns: &[JoinColumns],
+    left: &RowSource,
+    right: &RowSource,
+) -> Result<Agreeing, OutOfMemory>
+    ensures { IfOk result (λ a. AreAgreeing columns.now left.now right.now a) }
+{
+    let left_order = sorted_left(alloc, columns, left)?;
+    let order = sorted_right(alloc, columns, right)?;
+    let stretches = walked(alloc, columns, left, &left_order, right, &order)?;
+    Ok(Agreeing { order, stretches })
+}
+
+/// The positions of a stretch of an order.
+pub(crate) fn positions_in(order: &[u64], stretch: Stretch) -> &[u64]
+    requires forwards { stretch.start ≤ stretch.end }
+    requires within { stretch.end ≤ length order.now }
+    ensures { result.now ≡ take (stretch.end - stretch.start) (drop stretch.start order.now) }
+{
+    let rest = &order[stretch.start..];
+    &rest[..stretch.end - stretch.start]
+}
+
+/// The positions of the left rows, sorted by their columns.
+fn sorted_left(
+    alloc: Global,
+    columns: &[JoinColumns],
+    rows: &RowSource,
+) -> Result<Vec<u64>, OutOfMemory>
+    ensures { IfOk result (λ v. IsSortedBy (spec.left_keys columns.now) rows.now v.items) }
+{
+    let mut keys = Vec::with_capacity(alloc, columns.len())?;
+    for column in columns {
+        keys.push(key(column.left))?;
+    }
+    sorted_by(alloc, rows, &keys)
+}
+
+/// The positions of the right rows, sorted by their columns.
+fn sorted_right(
+    alloc: Global,
+    columns: &[JoinColumns],
+    rows: &RowSource,
+) -> Result<Vec<u64>, OutOfMemory>
+    ensures { IfOk result (λ v. IsSortedBy (spec.right_keys columns.now) rows.now v.items) }
+{
+    let mut keys = Vec::with_capacity(alloc, columns.len())?;
+    for column in columns {
+        keys.push(key(column.right))?;
+    }
+    sorted_by(alloc, rows, &keys)
+}
+
+fn key(column: u16) -> SortColumn
+    ensures { result ≡ spec.key column }
+{
+    SortColumn {
+        column,
+        key: ASCENDING,
+    }
+}
+
+const ASCENDING: SortKey = SortKey {
+    desc: false,
+    nulls_first: false,
+};
+
+fn sorted_by(alloc: Global, rows: &RowSource, keys: &[SortColumn]) -> Result<Vec<u64>, OutOfMemory>
+    ensures { IfOk result (λ v. IsSortedBy keys.now rows.now v.items) }
+{
+    let all = all_positions(alloc, rows.len())?;
+    let order = sorted_in(alloc, rows, keys, &all)?;
+    Ok(order)
+}
+
+/// For each left row the stretch of the right rows that agree with it. In the order of the columns
+/// the stretches of later left rows start no earlier.
+fn walked(
+    alloc: Global,
+    columns: &[JoinColumns],
+    left: &RowSource,
+    left_order: &[u64],
+    right: &RowSource,
+    order: &[u64],
+) -> Result<Vec<Stretch>, OutOfMemory>
+    requires left_sorted { IsSortedBy (spec.left_keys columns.now) left.now left_order.now }
+    requires right_sorted { IsSortedBy (spec.right_keys columns.now) right.now order.now }
+    ensures { IfOk result (λ v. AreStretches columns.now left.now right.now order.now v.items) }
+{
+    let mut stretches = vec![in alloc; Stretch { start: 0, end: 0 }; left.len()]?;
+    let mut start = 0;
+    for position in left_order {
+        let stretch = stretch_from(columns, left, *position, right, order, start);
+        put_stretch(&mut stretches, *position, stretch);
+        start = stretch.start;
+    }
+    Ok(stretches)
+}
+
+/// Puts the stretch at the position, where there is one.
+fn put_stretch(stretches: &mut Vec<Stretch>, position: u64, stretch: Stretch)
+    ensures { stretches.new.items ≡ set stretches.old.items position stretch }
+{
+    if position < stretches.len() as u64 {
+        stretches[position as usize] = stretch;
+    }
+}
+
+/// The stretch of the right rows that agree with the left row at a position, which all rows before
+/// `from` are before.
+fn stretch_from(
+    columns: &[JoinColumns],
+    left: &RowSource,
+    position: u64,
+    right: &RowSource,
+    order: &[u64],
+    from: usize,
+) -> Stretch
+    requires sorted { IsSortedBy (spec.right_keys columns.now) right.now order.now }
+    requires within { from ≤ length order.now }
+    requires before { AreBefore false columns.now (row_at left.now position) right.now order.now from }
+    ensures is { IsStretch columns.now (row_at left.now position) right.now order.now result }
+    ensures before { AreBefore false columns.now (row_at left.now position) right.now order.now result.start }
+{
+    let start = end_from(columns, left, position, right, order, from, false);
+    if lacks_key(columns, left, position) {
+        return Stretch { start, end: start };
+    }
+    let end = end_from(columns, left, position, right, order, start, true);
+    Stretch { start, end }
+}
+
+/// How many rows of the order are before the left row at a position, or with `too` tie with it, of
+/// which so many are known.
+fn end_from(
+    columns: &[JoinColumns],
+    left: &RowSource,
+    position: u64,
+    right: &RowSource,
+    order: &[u64],
+    from: usize,
+    too: bool,
+) -> usize
+    requires sorted { IsSortedBy (spec.right_keys columns.now) right.now order.now }
+    requires within { from ≤ length order.now }
+    requires before { AreBefore too columns.now (row_at left.now position) right.now order.now from }
+    ensures later { from ≤ result }
+    ensures is { IsEnd too columns.now (row_at left.now position) right.now order.now result }
+{
+    for i in from..order.len() {
+        let compared = compare_sides(columns, left, position, right, order[i]);
+        if !is_before(too, compared) {
+            return i;
+        }
+    }
+    order.len()
+}
+
+fn is_before(too: bool, compared: Ordering) -> bool
+    ensures { result ≡ spec.is_before too compared }
+{
+    compared.is_lt() || (too && compared.is_eq())
+}
+
+/// The right row at a position against the left one at a position, at the first columns on which
+/// they differ.
+fn compare_sides(
+    columns: &[JoinColumns],
+    left: &RowSource,
+    first: u64,
+    right: &RowSource,
+    second: u64,
+) -> Ordering
+    ensures { result ≡ spec.compare_sides columns.now (row_at left.now first) (row_at right.now second) }
+{
+    for column in columns {
+        match compare_in(*column, left, first, right, second) {
+            Ordering::Equal => {}
+            found => return found,
+        }
+    }
+    Ordering::Equal
+}
+
+fn compare_in(
+    column: JoinColumns,
+    left: &RowSource,
+    first: u64,
+    right: &RowSource,
+    second: u64,
+) -> Ordering
+    ensures { result ≡ spec.compare_in column (row_at left.now first) (row_at right.now second) }
+{
+    let null = Value::Null;
+    compare(
+        right.value(second, column.right, &null),
+        left.value(first, column.left, &null),
+        ASCENDING,
+    )
+}
+
+/// Whether NULL stands in one of the columns of the left row at a position.
+fn lacks_key(columns: &[JoinColumns], left: &RowSource, position: u64) -> bool
+    ensures { result ≡ spec.lacks_key columns.now (row_at left.now position) }
+{
+    for column in columns {
+        if is_null_at(left, position, column.left) {
+            return true;
+        }
+    }
+    false
+}

@@ -1,0 +1,3 @@
+pub mod Produced
+pub mod Held
+pub mod Enough

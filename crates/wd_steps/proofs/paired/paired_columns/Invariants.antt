@@ -1,8 +1,0 @@
-use Rattle.std.proofs.Common.{◌≡◌, map, take}
-use Rattle.wd_value.specs.Rows.{rows_of}
-use Rattle.wd_steps.specs.Paired.{rows_paired}
-use Rattle.wd_steps.proofs.Pairing.{column_in}
-use Rattle.wd_steps.proofs.paired.paired_columns.Given as goal
-
-abbrev pub invariant-loop-column : goal.invariant-loop-column
-invariant-loop-column l = rows_of l.picked.items ≡ map (column_in (rows_paired l.left l.right l.pairs)) (take l.column-index l.columns)

@@ -1,6 +1,0 @@
-use Rattle.wd_window.specs.Columns.{AreFilled}
-use Rattle.wd_window.specs.Listings.{WhereListing}
-use Rattle.wd_window.proofs.column.column_of.Given as goal
-
-abbrev pub invariant-loop-position : goal.invariant-loop-position
-invariant-loop-position l = WhereListing l.call.frame l.rows l.listing (λ class ordering. AreFilled class l.call l.rows ordering l.position l.column.items)

@@ -1,6 +1,0 @@
-use Rattle.wd_window.specs.Windows.{orderings_of}
-use Rattle.wd_window.specs.Listings.{AreEmpty}
-use Rattle.wd_window.proofs.window.all_empty.Given as goal
-
-abbrev pub invariant-loop-number : goal.invariant-loop-number
-invariant-loop-number l = AreEmpty l.number (orderings_of l.choice) l.first

@@ -1,4 +1,0 @@
-pub mod Windows
-pub mod Listings
-pub mod Columns
-pub mod Beside
