@@ -50,9 +50,10 @@ pub(crate) fn extended(
     }
 }
 
-/// The rows with the values of the calls after each of them, under the choice's orderings from
-/// `first` on: one for each class, each lawful, and empty where the input is a fault. Refused is the
-/// first of these that is not so, by its number, and nothing for its size.
+/// The input's rows with the values of the calls after each of them, under the choice's orderings from
+/// `first` on: one for each class, each lawful, and empty where the input is a fault (SQL, window
+/// clause). The first ordering that is not so is refused by its number, 801; the count of rows is not
+/// judged.
 pub fn evaluate_window(
     alloc: Global,
     window: &Window,

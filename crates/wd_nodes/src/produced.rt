@@ -20,9 +20,9 @@ pub enum Given {
     Made(Outcome),
 }
 
-/// What a node gives to the step above it: that, or pairs of a left and a right row, the left one
-/// outermost, which are not made yet: all of them, since a condition above may want few of these, or
-/// those of a join, since a Map above may want few columns.
+/// What a node gives to the step above it: a table or what a step made, rows by column, or pairs of a
+/// left and a right row, the left one outermost, which are not made yet: all of them, since a condition
+/// above may want few of these, or those of a join, since a Map above may want few columns.
 #[derive(Drop)]
 pub enum Produced {
     Table(u16),
