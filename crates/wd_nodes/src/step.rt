@@ -1,6 +1,6 @@
 //! Each step of a plan over the outcomes below it, but for a Window and a Limit.
 
-ghost use Rattle.std.specs.Prelude.{◌≡◌, ◌<◌, ℕ, true, false, get_or, length, IfOk, IfSome, map, None, Ok, Some};
+ghost use Rattle.std.specs.Prelude.{◌≡◌, ◌↔◌, ◌<◌, ℕ, List, true, false, get_or, length, IfNone, IfOk, IfSome, IsTrue, map, None, Ok, Some};
 ghost use Rattle.wd_columns.specs.Moves.{AreDifferent};
 ghost use Rattle.wd_nodes.specs.Held.{read_at};
 ghost use Rattle.wd_nodes.specs.Produced.{IsSmallOrLarge, given_of, join_over, joined_of, most_rows, produced_of, side_of};
@@ -266,9 +266,10 @@ fn mapped_pairs(
     }
 }
 
-/// The columns that the outputs are, where they are columns and none of them stands there twice.
+/// The columns that the outputs are, exactly where they are columns and none of them stands there twice.
 fn selected_columns(alloc: Global, outputs: &[Expr]) -> Result<Option<Vec<u64>>, OutOfMemory>
-    ensures { IfOk result (λ o. IfSome o (λ v. AreDifferent v.items × (map expression_of outputs.now ≡ map Column v.items))) }
+    ensures columns { IfOk result (λ o. IfSome o (λ v. AreDifferent v.items × (map expression_of outputs.now ≡ map Column v.items))) }
+    ensures none { IfOk result (λ o. IfNone o ((columns : List ℕ) → AreDifferent columns → map expression_of outputs.now ≡ map Column columns → ⊥)) }
 {
     match shown_columns(alloc, outputs)? {
         Some(columns) => Ok(different(columns)),
@@ -276,9 +277,10 @@ fn selected_columns(alloc: Global, outputs: &[Expr]) -> Result<Option<Vec<u64>>,
     }
 }
 
-/// The numbers, where none stands twice among them.
+/// The numbers, exactly where none stands twice among them.
 fn different(numbers: Vec<u64>) -> Option<Vec<u64>>
-    ensures { IfSome result (λ v. AreDifferent v.items × (v.items ≡ numbers.items)) }
+    ensures numbers { IfSome result (λ v. AreDifferent v.items × (v.items ≡ numbers.items)) }
+    ensures none { IfNone result (AreDifferent numbers.items → ⊥) }
 {
     if are_different(&numbers) {
         Some(numbers)
@@ -289,7 +291,7 @@ fn different(numbers: Vec<u64>) -> Option<Vec<u64>>
 
 /// Whether no number stands twice in a list.
 fn are_different(numbers: &[u64]) -> bool
-    ensures { result ≡ true → AreDifferent numbers.now }
+    ensures { IsTrue result ↔ AreDifferent numbers.now }
 {
     for i in 0..numbers.len() {
         if stands_before(numbers, i) {
@@ -302,7 +304,8 @@ fn are_different(numbers: &[u64]) -> bool
 /// Whether the number at a place stands before it too.
 fn stands_before(numbers: &[u64], place: usize) -> bool
     requires { place < length numbers.now }
-    ensures { result ≡ false → (k : ℕ) → k < place → get_or numbers.now k 0 ≡ get_or numbers.now place 0 → ⊥ }
+    ensures before { result ≡ true → AreDifferent numbers.now → ⊥ }
+    ensures not_before { result ≡ false → (k : ℕ) → k < place → get_or numbers.now k 0 ≡ get_or numbers.now place 0 → ⊥ }
 {
     for k in 0..place {
         if numbers[k] == numbers[place] {

@@ -9,7 +9,7 @@ pub returns-in_ok-columns-in-Some : goal.returns-in_ok-columns-in-Some
 returns-in_ok-columns-in-Some c = λ instance. (
     let rows = c.args.columns in
     let selected = c.in-Some.selected.items in
-    let found = rw c.in-Some.is at c.in_ok-selected.ensures in
+    let found = rw c.in-Some.is at c.in_ok-selected.ensures.columns in
     let shown : map expression_of c.args.outputs.now ≡ map Column selected = found.1 in
     ap Ok (c.in_ok-columns-in-Some.ensures ∙ ap (λ columns. map (columns_of columns) rows) c.deref.ensures.value)
     ∙ sym (columns_outcome selected rows)
