@@ -1,7 +1,7 @@
 #!/usr/bin/env python3
 """Tries the wrong bodies of wrong-bodies/: the prover must refuse each of them, in the function that it changes.
 
-    python3 tools/wrong_bodies.py [--after-gate] [--logs FOLDER] [CRATE..]
+    python3 tools/wrong_bodies.py [--after-gate] [--anew] [--cache FOLDER] [--logs FOLDER] [CRATE..]
 
 A file wrong-bodies/CRATE/NAME.edit has the line 'fn: PATH' (the function, as the check names it in its crate) and then
 'file: src/..' with pairs of lines 'old: TEXT' and 'new: TEXT'; each TEXT stands in that file exactly once. A further
@@ -18,11 +18,17 @@ one of them is edited).
 
 An edit is refused where the check says of its own function that it 'did not prove' a goal of it, or that the written proof
 of a goal of it no longer holds. That a function which it calls isn't proved is no refusal, nor is a written proof that
-names what the edit took away. What a run leaves unclear goes into a further run with fewer edits. An edit of a definition
-(a file of specs/) stands in a run of its own; it is refused where the law that it names is not proved any more.
+names what the edit took away. What a run leaves unclear goes into a further run with fewer edits. An edit that changes more
+than the body and the written proof of its own function, as a constant or a definition (a file of specs/), stands in a run of
+its own, so that no other edit is judged over what it changes; that of a definition is refused where the law that it names is
+not proved any more.
+
+That an edit was refused is kept in a folder among the user's caches, and is taken again where the edit, the crate, the
+libraries below it, the kit and this runner are the same; tools/kept_verdicts.py says more. Each edit is still applied, and a
+right one judged, in each run. With --anew all are judged.
 
 With --after-gate the libraries are those that 'rt ci' left in a clean clone; else they are built where they changed.
-The last line is 'N passed, M failed'.
+The last line is 'N passed, M failed'; the one above it says how many edits were judged, and of how many a verdict was kept.
 """
 
 import argparse
@@ -37,6 +43,7 @@ import sys
 import tempfile
 import time
 
+from kept_verdicts import Kept, basis_of, is_basis, usual_folder
 from rt_module import TOP, rt
 
 EDITS = f"{TOP}/wrong-bodies"
@@ -369,13 +376,35 @@ def stands_by_itself(edit, lines):
     return refused is False or refused is None and of_others and not has_error
 
 
+def is_within(text, changed, name):
+    """Whether two texts of a file differ only in the body of one function, which has this name."""
+    begin = len(os.path.commonprefix([text, changed]))
+    after = len(os.path.commonprefix([text[begin:][::-1], changed[begin:][::-1]]))
+    heads = list(FUNCTION.finditer(text[:begin]))
+    if not heads or heads[-1]["name"] != name:
+        return False
+    span = span_of(text, heads[-1])
+    return span.opening <= begin and len(text) - after <= span.closing
+
+
+def changes_own_alone(crate, edit):
+    """Whether the edit changes nothing but the body of its function and that function's written proof."""
+    texts, why = rt.read_edit(edit.path, crate.folder)
+    if why or not edit.function:
+        return False
+    name, folders = edit.function.split("::")[-1], proof_folders(edit.function)
+    of_proof = {path for path in texts if path.startswith(tuple(f"{it}/" for it in folders))}
+    return all(is_within(text_of(f"{crate.folder}/{it}"), texts[it], name) for it in texts.keys() - of_proof)
+
+
 def rounds(crate, edits, with_twins=True):
-    """The edits in groups. A group has one edit of a function in place, and further ones in its twins."""
-    groups = []
+    """The edits in groups. A group has one edit of a function in place, and further ones in its twins; an edit that changes
+    more than its own function is a group."""
+    groups, apart = [], {edit.path for edit in edits if not changes_own_alone(crate, edit)}
     for edit in edits:
         for group in groups:
             twin = edit._replace(twin=sum(edit.function == it.function for it in group) or None)
-            if edit.of_definition or any(it.of_definition for it in group):
+            if edit.path in apart or group[0].path in apart:
                 continue
             if twin.twin is None or with_twins and twin_of(crate, twin) and twin_of(crate, unchanged_twin(crate, edit.function)):
                 group.append(twin)
@@ -385,8 +414,32 @@ def rounds(crate, edits, with_twins=True):
     return groups
 
 
-def judge(crate, edits, logs):
-    """For each edit whether it is as it must be; it is said of each what the check said."""
+def judge(crate, edits, logs, kept):
+    """For each edit whether it is as it must be, and whether that was kept; it is said of each what the check said."""
+    basis, texts = basis_of(crate), {edit.path: text_of(edit.path) for edit in edits}
+    left, judged = [], []
+    for edit in edits:
+        said = kept.taken(basis, texts[edit.path]) if is_applied(crate, edit) and not edit.right else None
+        if said is None:
+            left.append(edit)
+        else:
+            judged.append((True, True))
+            print(f"{edit.crate}/{edit.name}: refused, as was kept: {edit.function}: {said[:200]}", flush=True)
+    for edit, refused, said in judge_anew(crate, left, logs):
+        judged.append((refused is (not edit.right), False))
+        # Of what was changed meanwhile it can't be told what was judged.
+        if text_of(edit.path) == texts[edit.path] and is_basis(basis, crate):
+            kept.note(basis, texts[edit.path], refused and not edit.right, said)
+    return judged
+
+
+def is_applied(crate, edit):
+    """Whether the edit names a function, and its old texts stand in the crate's files as they must."""
+    return bool(edit.function) and not rt.read_edit(edit.path, crate.folder)[1]
+
+
+def judge_anew(crate, edits, logs):
+    """Each edit with whether the check refused it, None where that can't be told, and with what it said."""
     groups = rounds(crate, edits)
     judged, number = [], 0
     while groups:
@@ -401,7 +454,7 @@ def judge(crate, edits, logs):
                 unclear.append(edit)
                 continue
             word = {True: "refused", False: "NOT REFUSED" if not edit.right else "proved, as it must be", None: "UNCLEAR"}[refused]
-            judged.append(refused is (not edit.right))
+            judged.append((edit, refused, said))
             print(f"{edit.crate}/{edit.name}: {word}: {edit.function}: {said[:200]}", flush=True)
         alone = [[edit._replace(twin=None)] for edit in unclear]
         groups += rounds(crate, unclear, with_twins=False) if len(unclear) < len(group) else alone
@@ -423,11 +476,14 @@ def main():
     parser = argparse.ArgumentParser(description=__doc__.split("\n")[0])
     parser.add_argument("crates", nargs="*", metavar="CRATE")
     parser.add_argument("--after-gate", action="store_true", help="use the libraries that rt ci left")
+    parser.add_argument("--anew", action="store_true", help="judge all edits, also those of which a verdict is kept")
+    parser.add_argument("--cache", metavar="FOLDER", default=usual_folder(), help="where verdicts are kept (usually %(default)s)")
     parser.add_argument("--logs", metavar="FOLDER", help="keep there what each check said")
     arguments = parser.parse_args()
     if arguments.logs:
         os.makedirs(arguments.logs, exist_ok=True)
     logs = arguments.logs and os.path.abspath(arguments.logs)
+    kept = Kept(os.path.abspath(arguments.cache), arguments.anew)
     os.chdir(TOP)
     known = {crate.name: crate for crate in rt.rtlib.crates_below(TOP)}
     edits = {}
@@ -443,12 +499,14 @@ def main():
     tasks = {}
     for crate in crates:
         size = crate.count(rb"\n") + 30 * len(edits[crate.name])
-        tasks[crate.name, "edits"] = [], size, rt.need(crate), lambda _given, _jobs, it=crate: judge(it, edits[it.name], logs)
-    judged = [well for each in rt.in_lanes(tasks).values() for well in each]
+        tasks[crate.name, "edits"] = [], size, rt.need(crate), lambda _given, _jobs, it=crate: judge(it, edits[it.name], logs, kept)
+    judged = [it for each in rt.in_lanes(tasks).values() for it in each]
+    passed, of_kept = sum(well for well, _ in judged), sum(was_kept for _, was_kept in judged)
     used = resource.getrusage(resource.RUSAGE_CHILDREN)
     print(f"processor seconds: {used.ru_utime + used.ru_stime:.0f}")
-    print(f"{sum(judged)} passed, {judged.count(False)} failed")
-    return 0 if judged and all(judged) else 1
+    print(f"{len(judged) - of_kept} judged, {of_kept} kept")
+    print(f"{passed} passed, {len(judged) - passed} failed")
+    return 0 if judged and passed == len(judged) else 1
 
 
 if __name__ == "__main__":
