@@ -4,11 +4,13 @@
     python3 tools/build_program.py
 
 Proved is a crate whose library or program stands in its out/ beside a mark of the very files, kit and libraries below that it was
-made of. The others are proved from nothing; what stands above a library loads its statements alone, and no test is proved. A line
-on standard error for each crate says how many functions are done of all. Ends with status 1 where a crate isn't proved.
+made of. The others are proved from nothing; what stands above a library loads its statements alone, and no test is proved. Standard
+error says at once about how long it will take, and then by a line for each crate how many functions are done of all. Ends with
+status 1 where a crate isn't proved.
 """
 
 import hashlib
+import math
 import os
 import sys
 import tempfile
@@ -17,6 +19,8 @@ import threading
 from rt_module import TOP, rt
 
 PROGRAM = "wdcheck"
+# Processor seconds to prove a crate and each function of it: the 43 crates with their 1,649 functions took some 7,000 of them.
+SECONDS_A_CRATE, SECONDS_A_FUNCTION = 20, 3.7
 FUNCTION = rb"(?m)^ *(?:pub(?:\([a-z]+\))? )?(?:const )?fn \w"
 
 
@@ -51,9 +55,21 @@ class Made:
         words = repr((self.kit, sorted(crate.of_kit), below, sum_of(rt.rtlib.files_of(crate.folder), crate.folder)))
         return hashlib.sha256(words.encode()).hexdigest()
 
+    def is_current(self, crate):
+        """Whether what stands there was made of the very files, kit and libraries below that stand there too."""
+        return rt.rtlib.text_of(f"{crate.folder}/out/built") == f"{self.sources(crate)}\n{self.output(crate)}\n"
+
+    def left(self, crates):
+        """The crates that are not proved yet, each with those above it; the lowest come first, as they are given."""
+        left = []
+        for crate in crates:
+            if any(below in left for below in crate.below()) or not self.is_current(crate):
+                left.append(crate)
+        return left
+
     def stands(self, crate):
         """Whether the crate is proved already; else what stands there is taken away."""
-        if rt.rtlib.text_of(f"{crate.folder}/out/built") == f"{self.sources(crate)}\n{self.output(crate)}\n":
+        if self.is_current(crate):
             return True
         for name in ("built", "rlib", crate.name):
             rt.clear(f"{crate.folder}/out/{name}")
@@ -77,6 +93,29 @@ class Progress:
         with self.printing:
             self.done += self.of[crate.name] * is_done
             print(f"{said}{self.done} of {sum(self.of.values())} functions: {crate.name} {word}", file=sys.stderr, flush=True)
+
+
+def minutes(left, processors):
+    """About how many minutes of processors these crates take, and how many by the clock: a crate waits for those below it."""
+    seconds, chains = {}, {}
+    for crate in left:
+        seconds[crate.name] = SECONDS_A_CRATE + SECONDS_A_FUNCTION * crate.count(FUNCTION)
+        waits = max((chains.get(below.name, 0) for below in crate.below()), default=0)
+        chains[crate.name] = waits + seconds[crate.name]
+    used = sum(seconds.values())
+    return math.ceil(used / 60), math.ceil(max(used / processors, max(chains.values())) / 60)
+
+
+def tell_time(left, crates, processors):
+    """Says what is to be done, and about how long it takes."""
+    of_left, of_all = (sum(crate.count(FUNCTION) for crate in those) for those in (left, crates))
+    used, by_clock = minutes(left, processors)
+    said = [
+        f"{of_left} of {of_all} functions are to be proved: about {used} processor minutes, here some {by_clock} minutes by the clock",
+        f"(processors: {processors}), more beside other work. To prove a function is to show that it does what its contract says, on every",
+        "input; only then it is built. A line tells of each crate that is done: it stays done if this is stopped and begun again.",
+    ]
+    print("\n".join(said), file=sys.stderr, flush=True)
 
 
 def prove(crate, given, jobs, made, progress):
@@ -108,6 +147,9 @@ def main():
     crates = [*program.below(), program]
     held = rt.rtlib.lock(crates)
     made, progress = Made(), Progress(crates)
+    left = made.left(crates)
+    if left:
+        tell_time(left, crates, rt.processors())
     tasks = {}
     for crate in crates:
         waits = [(below.name, "proof") for below in crate.below()]
