@@ -19,7 +19,7 @@ import tempfile
 TOP = os.path.dirname(os.path.dirname(os.path.abspath(__file__)))
 PAGE = f"{TOP}/docs/REFUSALS.md"
 # The numbers that a command of the program answers.
-NUMBERS = {*range(101, 108), 201, 202, *range(301, 310), *range(401, 416), *range(501, 511), *range(601, 605), *range(701, 708), 802}
+NUMBERS = {*range(101, 108), 201, 202, *range(301, 310), *range(401, 416), *range(501, 512), *range(601, 605), *range(701, 708), 802}
 FAULTS = {"F1", "F2"}
 FILES = {"schema": "schema.sql", "query": "query.sql", "certificate": "certificate.json", "witness": "witness.json", "data": "t.csv"}
 # The command that a section's examples are tried with, what it reads, and the kind of an example without a name before it.
@@ -28,6 +28,7 @@ SECTIONS = {
     "Queries": ("check", "query"),
     "Schemas": ("check", "schema"),
     "Certificates": ("verify", "certificate"),
+    "Certificates of lists": ("verify --list", "certificate"),
     "Witnesses": ("refute", "witness"),
     "Data": ("run", "data"),
     "Runs": ("run", "query"),
@@ -80,8 +81,9 @@ def run(program, command, texts):
         for kind, name in FILES.items():
             with open(f"{folder}/{name}", "wb") as file:
                 file.write(texts[kind])
-        words = {"verify": ["certificate.json"], "refute": ["witness.json"], "run": texts["words"].decode().split()}.get(command, [])
-        line = [program, command, "schema.sql", "query.sql", *words]
+        name, *flags = command.split()
+        words = {"verify": ["certificate.json"], "refute": ["witness.json"], "run": texts["words"].decode().split()}.get(name, [])
+        line = [program, name, *flags, "schema.sql", "query.sql", *words]
         return subprocess.run(line, cwd=folder, stdin=subprocess.DEVNULL, capture_output=True, timeout=300)
 
 

@@ -5,10 +5,10 @@
 
 Each folder of examples/ has schema.sql, query.sql, a CSV file for each table and answer.csv, which `run` prints, and
 check.txt: what `check` prints, but for the certificate, which may use other facts and which `verify` must accept. In a folder
-other_order stand the same tables in another order, with the answer over them.
-Where there is explain.txt too, `explain` prints it, where there is certificate.json, `verify`
-accepts it, and where there is witness.json, `refute` does. A folder with refusal.txt has a query that is not read, and the line
-that `check` and `explain` say of it in place of all these. tests/frames has one schema and one table and many queries, each
+other_order stand the same tables in another order, with the answer over them. Where there is list.txt, it is to `check --list` and
+`verify --list` what check.txt is to these commands without the flag. Where there is explain.txt too, `explain` prints it, where
+there is certificate.json, `verify` accepts it, and where there is witness.json, `refute` does. A folder with refusal.txt has a
+query that is not read, and the line that `check` and `explain` say of it in place of all these. tests/frames has one schema and one table and many queries, each
 beside its answer: each function of a window in each mode of frame with each exclusion; those answers are PostgreSQL 15's. Each
 run must end with the status of its answer, print exactly what is stored and nothing on standard error. A missing answer is a
 failure, and so is a folder without queries. The last line is 'N passed, M failed'.
@@ -45,7 +45,7 @@ def frames():
         yield f"{folder}/schema.sql", query, [f"{folder}/t.csv"], query.removesuffix(".sql") + ".csv"
 
 
-STATUSES = {"DETERMINISTIC": 0, "DEPENDS": 1, "UNKNOWN": 2}
+STATUSES = {"DETERMINISTIC": 0, "LISTED": 0, "DEPENDS": 1, "LIST OPEN": 2, "UNKNOWN": 2}
 
 
 def complaint(words, status, wanted, said=b""):
@@ -69,21 +69,21 @@ def wrong_answer(program, schema, query, tables, answer):
     return complaint([program, "run", schema, query, *words], 0, stored(answer))
 
 
-def wrong_verdict(program, folder):
+def wrong_verdict(program, folder, file, *flags):
     """What is wrong with what `check` says of an example, or None."""
-    texts = [f"{folder}/schema.sql", f"{folder}/query.sql"]
-    wanted = stored(f"{folder}/check.txt")
+    words = [program, "check", *flags, f"{folder}/schema.sql", f"{folder}/query.sql"]
+    wanted = stored(f"{folder}/{file}")
     word = wanted.decode().splitlines()[0]
-    if word != "DETERMINISTIC":
-        return complaint([program, "check", *texts], STATUSES[word], wanted)
-    ran = subprocess.run([program, "check", *texts], stdin=subprocess.DEVNULL, capture_output=True, timeout=300)
+    if wanted != f"{word}\n".encode():
+        return complaint(words, STATUSES[word], wanted)
+    ran = subprocess.run(words, stdin=subprocess.DEVNULL, capture_output=True, timeout=300)
     lines = ran.stdout.split(b"\n")
-    if (ran.returncode, ran.stderr, len(lines), lines[0], lines[-1]) != (0, b"", 3, b"DETERMINISTIC", b""):
+    if (ran.returncode, ran.stderr, len(lines), lines[0], lines[-1]) != (0, b"", 3, word.encode(), b""):
         return f"status {ran.returncode}, {ran.stdout[:300]!r}, standard error {ran.stderr[:300]!r}"
     with tempfile.NamedTemporaryFile() as certificate:
         certificate.write(lines[1])
         certificate.flush()
-        return wrong_certificate(program, folder, certificate.name)
+        return wrong_certificate(program, folder, certificate.name, *flags)
 
 
 def wrong_explanation(program, folder):
@@ -93,9 +93,9 @@ def wrong_explanation(program, folder):
     return complaint([program, "explain", f"{folder}/schema.sql", f"{folder}/query.sql"], STATUSES[word], wanted)
 
 
-def wrong_certificate(program, folder, certificate):
+def wrong_certificate(program, folder, certificate, *flags):
     """What is wrong where the program does not accept a certificate for an example, or None."""
-    return complaint([program, "verify", f"{folder}/schema.sql", f"{folder}/query.sql", certificate], 0, b"ACCEPTED\n")
+    return complaint([program, "verify", *flags, f"{folder}/schema.sql", f"{folder}/query.sql", certificate], 0, b"ACCEPTED\n")
 
 
 def wrong_witness(program, folder):
@@ -117,7 +117,9 @@ def trials(program):
     for folder in folders(True):
         yield f"{folder}/refusal.txt", wrong_refusal(program, folder)
     for folder in folders(False):
-        yield f"{folder}/check.txt", wrong_verdict(program, folder)
+        yield f"{folder}/check.txt", wrong_verdict(program, folder, "check.txt")
+        if os.path.exists(f"{folder}/list.txt"):
+            yield f"{folder}/list.txt", wrong_verdict(program, folder, "list.txt", "--list")
         if os.path.exists(f"{folder}/explain.txt"):
             yield f"{folder}/explain.txt", wrong_explanation(program, folder)
         if os.path.exists(f"{folder}/certificate.json"):

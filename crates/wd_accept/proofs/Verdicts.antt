@@ -1,5 +1,5 @@
 -- What an accepted certificate implies for each reading of the texts.
-use Rattle.std.proofs.Common.{◌≡◌, ℕ, List, Option, Some, None, ◌∙◌, ap, subst, sym, true, is_some, inl, inr}
+use Rattle.std.proofs.Common.{◌≡◌, ℕ, List, Option, Some, None, ◌∙◌, ap, subst, sym, true, is_some, inl, inr, refl}
 use Rattle.std.proofs.lemmas.Bool.{false≢true}
 use Rattle.wd_schema.specs.Laws.{HasOneMeaning}
 use Rattle.wd_schema.specs.Tables.{TableRule}
@@ -8,18 +8,23 @@ use Rattle.wd_certificate.specs.Laws.{IsReadBack, SpellsOne}
 use Rattle.wd_certificate.specs.Refusals.{number_of}
 use Rattle.wd_certificate.specs.declared.error.CertError.{CertError}
 use Rattle.wd_resolve.specs.Answers.{Answer}
-use Rattle.wd_query.specs.Laws.{HasOnePlan}
+use Rattle.wd_query.specs.Causes.{text_number}
+use Rattle.wd_query.specs.Laws.{HasMeaningOrCause, HasOnePlan}
 use Rattle.wd_resolve.specs.Laws.{PlansFit, Reads}
 use Rattle.wd_rules.specs.Laws.{ValidHasOne}
 use Rattle.wd_rules.specs.Validity.{first_refusal}
 use Rattle.wd_accept.specs.Acceptance.{RefusesPlan, SpellsValid}
-use Rattle.wd_accept.specs.Laws.{AcceptedHasOne, NotBoth}
+use Rattle.wd_accept.specs.Laws.{AcceptedHasOne, AcceptedIsTaken, NotBoth}
+use Rattle.wd_accept.specs.declared.error.VerifyError.TheVariants as error
 
 -- what holds of one reading holds of each
+pub each_answer : HasOneMeaning → HasOnePlan → (schema query : List ℕ) (P : List TableRule → Answer → Type 0) (first second : Answer) (a : Reads schema query first) (b : Reads schema query second) → P a.tables first → P b.tables second
+each_answer one_meaning one_plan schema query P first second a b h =
+    subst (λ tables. P tables second) (one_meaning schema a.tables b.tables a.declares b.declares)
+    (subst (λ (read : Answer). P a.tables read) (one_plan schema query first second a b) h)
+
 pub every : HasOneMeaning → HasOnePlan → (schema query : List ℕ) (P : List TableRule → PlanTree → Type 0) (first second : Answer) (a : Reads schema query first) (b : Reads schema query second) → P a.tables first.plan → P b.tables second.plan
-every one_meaning one_plan schema query P first second a b h =
-    subst (λ tables. P tables second.plan) (one_meaning schema a.tables b.tables a.declares b.declares)
-    (subst (λ (read : Answer). P a.tables read.plan) (one_plan schema query first second a b) h)
+every one_meaning one_plan schema query P first second a b h = each_answer one_meaning one_plan schema query (λ tables read. P tables read.plan) first second a b h
 
 pub accepted_has_one : HasOneMeaning → HasOnePlan → PlansFit → ValidHasOne → AcceptedHasOne
 accepted_has_one one_meaning one_plan plans_fit valid_has_one schema query certificate accepted read reads =
@@ -42,3 +47,15 @@ not_both one_meaning one_plan spells_one is_read_back schema query certificate r
     by : SpellsValid certificate tables plan → RefusesPlan refusal certificate tables plan → ⊥
     by valid (inl cause) = false≢true (subst (λ e. is_some (number_of e) ≡ true) ((is_read_back certificate valid.0 valid.1).1 refusal cause) some)
     by valid (inr cause) = no_refusal (first_refusal tables plan cause.0) refusal (subst (λ nodes. first_refusal tables plan nodes ≡ None) (sym (spells_one certificate 1 1 cause.0 valid.0 cause.1 valid.1).1) valid.2) cause.2
+
+-- ---- what is accepted is taken
+
+-- an error without a number says that memory ran out
+pub no_number : (number : Option ℕ) → (is_some number ≡ true → ⊥) → number ≡ None
+no_number None h = refl
+no_number (Some n) h = absurd (h refl)
+
+pub accepted_is_taken : HasMeaningOrCause → NotBoth → AcceptedIsTaken
+accepted_is_taken meaning_or_cause not_both schema query certificate (error.Texts refusal) meaning accepted cause = no_number (text_number refusal) (λ some. meaning_or_cause schema query refusal meaning some cause)
+accepted_is_taken meaning_or_cause not_both schema query certificate (error.Certificate refusal) meaning accepted cause = no_number (number_of refusal) (λ some. not_both schema query certificate refusal accepted some cause)
+accepted_is_taken meaning_or_cause not_both schema query certificate error.Unlisted meaning accepted cause = absurd cause

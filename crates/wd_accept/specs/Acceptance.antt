@@ -1,5 +1,5 @@
 -- Which certificates are accepted for the texts of a schema and a query, and why others are refused.
-use Rattle.std.specs.Prelude.{◌≡◌, ◌⊎◌, ℕ, List, Option, Some}
+use Rattle.std.specs.Prelude.{◌≡◌, ◌⊎◌, ℕ, List, Option, Some, None}
 use Rattle.wd_schema.specs.Tables.{TableRule}
 use Rattle.wd_plan.specs.Plans.{PlanTree}
 use Rattle.wd_certificate.specs.Certificates.{NodeRecord}
@@ -36,22 +36,26 @@ abbrev pub RefusesPlan : CertError → List ℕ → List TableRule → PlanTree 
 RefusesPlan refusal certificate tables plan =
     certificates.HasCause refusal certificate ⊎ ((nodes : List NodeRecord) × Spells 1 nodes certificate × (first_refusal tables plan nodes ≡ Some refusal))
 
--- why the texts of a schema, a query and a certificate are refused
+-- why the texts of a schema, a query and a certificate are refused; of the order of the rows nothing is asked
 abbrev pub HasCause : List ℕ → List ℕ → List ℕ → VerifyError → Type 0
 HasCause schema query certificate (error.Texts refusal) = HasTextCause schema query refusal
 HasCause schema query certificate (error.Certificate refusal) = ForReading schema query (RefusesPlan refusal certificate)
+HasCause schema query certificate error.Unlisted = ⊥
 
 -- ---- numbers, places and origins
 
 abbrev pub verify_number : VerifyError → Option ℕ
 verify_number (error.Texts refusal) = text_number refusal
 verify_number (error.Certificate refusal) = certificates.number_of refusal
+verify_number error.Unlisted = Some 511
 
 abbrev pub verify_place : VerifyError → Option ℕ
 verify_place (error.Texts refusal) = text_place refusal
 verify_place (error.Certificate refusal) = certificates.place_of refusal
+verify_place error.Unlisted = None
 
 abbrev pub origin_of : VerifyError → VerifyOrigin
 origin_of (error.Texts (text.Schema refusal)) = origin.Schema
 origin_of (error.Texts (text.Query refusal)) = origin.Query
 origin_of (error.Certificate refusal) = origin.Certificate
+origin_of error.Unlisted = origin.Certificate

@@ -16,6 +16,9 @@ pub enum VerifyError {
     /// 501 to 510: the certificate's text is refused, or the certificate is not valid for the plan.
     #[error(transparent)]
     Certificate(CertError),
+    /// 511: the certificate is valid, and shows no order of the answer's rows.
+    #[error("the certificate shows no order of the answer's rows")]
+    Unlisted,
 }
 
 /// Which of its inputs a refusal is about.
@@ -34,6 +37,7 @@ impl VerifyError {
         match self {
             VerifyError::Texts(error) => error.number(),
             VerifyError::Certificate(error) => error.number(),
+            VerifyError::Unlisted => Some(511),
         }
     }
 
@@ -44,6 +48,7 @@ impl VerifyError {
         match self {
             VerifyError::Texts(error) => error.place(),
             VerifyError::Certificate(error) => error.place(),
+            VerifyError::Unlisted => None,
         }
     }
 
@@ -54,7 +59,7 @@ impl VerifyError {
         match self {
             VerifyError::Texts(TextError::Schema(_)) => VerifyOrigin::Schema,
             VerifyError::Texts(TextError::Query(_)) => VerifyOrigin::Query,
-            VerifyError::Certificate(_) => VerifyOrigin::Certificate,
+            VerifyError::Certificate(_) | VerifyError::Unlisted => VerifyOrigin::Certificate,
         }
     }
 }

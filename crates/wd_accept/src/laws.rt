@@ -1,11 +1,12 @@
 //! Laws over the definitions alone.
 
-ghost use Rattle.wd_accept.specs.Laws.{AcceptedHasOne, NotBoth};
+ghost use Rattle.wd_accept.specs.Laws.{AcceptedHasOne, AcceptedIsTaken, NotBoth};
+ghost use Rattle.wd_accept.specs.Lists.{ListedHasOneList, ListedIsTaken, OrderedHaveLimit};
 
 use wd_certificate::laws::{is_read_back, spells_one};
-use wd_query::laws::one_plan;
-use wd_resolve::laws::plans_fit;
-use wd_rules::laws::valid_has_one;
+use wd_query::laws::{meaning_or_cause, one_plan};
+use wd_resolve::laws::{ordered_end_in_limit, plans_fit};
+use wd_rules::laws::{listed_has_one, valid_has_one};
 use wd_schema::laws::one_meaning;
 
 /// A query with an accepted certificate has one answer.
@@ -26,4 +27,40 @@ pub fn not_both()
     one_plan();
     spells_one();
     is_read_back();
+}
+
+/// A certificate that is accepted is refused for nothing that stands in the texts, where these have a meaning.
+pub fn accepted_is_taken()
+    ensures { AcceptedIsTaken }
+{
+    meaning_or_cause();
+    not_both();
+}
+
+/// A query with a certificate by which the answer's Limit goes by `keys` has one list.
+pub fn listed_has_one_list()
+    ensures { ListedHasOneList }
+{
+    one_meaning();
+    one_plan();
+    plans_fit();
+    listed_has_one();
+}
+
+/// A certificate that is accepted for a list is refused for nothing that stands in the texts, where these have a meaning.
+pub fn listed_is_taken()
+    ensures { ListedIsTaken }
+{
+    one_meaning();
+    one_plan();
+    spells_one();
+    listed_has_one_list();
+    accepted_is_taken();
+}
+
+/// There is an answer's Limit exactly where the outermost select has ORDER BY.
+pub fn ordered_have_limit()
+    ensures { OrderedHaveLimit }
+{
+    ordered_end_in_limit();
 }

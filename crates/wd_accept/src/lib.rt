@@ -3,7 +3,9 @@
 
 mod error;
 pub mod laws;
+mod limits;
 mod texts;
 
 pub use error::{VerifyError, VerifyOrigin};
-pub use texts::{Accepted, verify};
+pub use limits::{answer_limit, goes_by_keys};
+pub use texts::{Accepted, verify, verify_list};

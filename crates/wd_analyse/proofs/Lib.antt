@@ -19,3 +19,5 @@ pub mod Sound
 pub mod Composed
 pub mod Answered
 pub mod Unique
+pub mod Lists
+mod Peers

@@ -15,18 +15,18 @@ use Rattle.wd_analyse.specs.declared.analysis.Reason.{Reason}
 
 -- ---- entries with more behind them
 
-at_front : (ns more : List NodeRecord) (n : ℕ) → n < length ns → entry_at (ns ++ more) n ≡ entry_at ns n
+pub at_front : (ns more : List NodeRecord) (n : ℕ) → n < length ns → entry_at (ns ++ more) n ≡ entry_at ns n
 at_front [] more n h = absurd (omega arith)
 at_front (x ∷ ns) more zero h = refl
 at_front (x ∷ ns) more (suc n) h = at_front ns more n (omega (arith, h))
 
-at_end : (ns : List NodeRecord) (e : NodeRecord) (n : ℕ) → n ≡ length ns → entry_at (ns ++ e ∷ []) n ≡ e
+pub at_end : (ns : List NodeRecord) (e : NodeRecord) (n : ℕ) → n ≡ length ns → entry_at (ns ++ e ∷ []) n ≡ e
 at_end [] e zero h = refl
 at_end [] e (suc n) h = absurd (omega (arith, h))
 at_end (x ∷ ns) e zero h = absurd (omega (arith, h))
 at_end (x ∷ ns) e (suc n) h = at_end ns e n (omega (arith, h))
 
-top_low : (plan : PlanTree) (first : ℕ) → top_number plan first < first + node_count plan
+pub top_low : (plan : PlanTree) (first : ℕ) → top_number plan first < first + node_count plan
 top_low (Scan table columns) first = omega arith
 top_low (Join condition left right) first = omega arith
 top_low (Filter condition input) first = omega arith

@@ -5,10 +5,9 @@ use Rattle.std.proofs.lemmas.List.{length-map}
 use Rattle.wd_plan.specs.Fits.{width}
 use Rattle.wd_plan.specs.Plans.{LimitRule, PlanTree, WindowRule, Scan, Join, Filter, Map, Window, Distinct, Limit}
 use Rattle.wd_facts.specs.Facts.{FactList}
-use Rattle.wd_rules.specs.Rules.{is_whole_or_ties}
 use Rattle.wd_analyse.specs.declared.closed.Closed.{Closed}
 use Rattle.wd_analyse.specs.Evidence.{closing_of}
-use Rattle.wd_analyse.specs.Findings.{Finding, IsBare, IsOfKeys, IsOfLimit, IsOfWhole, IsOfWindow, IsSaid}
+use Rattle.wd_analyse.specs.Findings.{Finding, IsBare, IsOfLimit, IsOfWindow, IsSaid}
 use Rattle.wd_analyse.specs.Steps.{is_without_rules}
 
 pub number : (claims : List Closed) → length (map closing_of claims) ≡ length claims
@@ -27,11 +26,8 @@ module _ (facts : FactList) (plan input : PlanTree) (node : ℕ) (f : Finding) w
   pub window_said : (w : WindowRule) → plan ≡ Window w input → IsOfWindow facts w input node f → IsSaid facts plan node f
   window_said w is h = subst (λ p. IsSaid facts p node f) (sym is) h
 
-  pub whole_said : (limit : LimitRule) → plan ≡ Limit limit input → is_whole_or_ties limit ≡ true → IsOfWhole limit input node f → IsSaid facts plan node f
-  whole_said limit is e h = subst (λ p. IsSaid facts p node f) (sym is) (subst (λ b. IsOfLimit b facts limit input node f) (sym e) h)
-
-  pub keys_said : (limit : LimitRule) → plan ≡ Limit limit input → is_whole_or_ties limit ≡ false → IsOfKeys facts limit input node f → IsSaid facts plan node f
-  keys_said limit is e h = subst (λ p. IsSaid facts p node f) (sym is) (subst (λ b. IsOfLimit b facts limit input node f) (sym e) h)
+  pub limit_said : (limit : LimitRule) → plan ≡ Limit limit input → IsOfLimit facts limit input node f → IsSaid facts plan node f
+  limit_said limit is h = subst (λ p. IsSaid facts p node f) (sym is) h
 
 -- three facts of a value that is there
 pub all_three : {A E : Type 0} (r : Result A E) (P Q R S : A → Type 0) → ((v : A) → P v → Q v → R v → S v) → IfOk r P → IfOk r Q → IfOk r R → IfOk r S

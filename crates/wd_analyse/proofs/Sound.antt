@@ -1,5 +1,5 @@
 -- What is found at the nodes of a plan makes entries that are not refused, where there are no reasons.
-use Rattle.std.proofs.Common.{◌≡◌, ℕ, ◌+◌, Bool, true, false, List, [], ◌∷◌, ◌++◌, append_assoc, length, refl, sym, ◌∙◌, ap, subst, Option, Some, None}
+use Rattle.std.proofs.Common.{◌≡◌, ℕ, ◌+◌, Bool, true, false, cond, List, [], ◌∷◌, ◌++◌, append_assoc, length, refl, sym, ◌∙◌, ap, subst, Option, Some, None}
 use Rattle.std.proofs.lemmas.Grind.{flat_map-append}
 use Rattle.std.proofs.lemmas.List.{append-nil, length-append, length-map, map-append}
 use Rattle.wd_schema.specs.Tables.{TableRule}
@@ -13,7 +13,8 @@ use Rattle.wd_facts.specs.Laws.{AreOfChildren, ArePlain}
 use Rattle.wd_rules.specs.Rules.{is_whole_or_ties}
 use Rattle.wd_analyse.specs.declared.analysis.Mark.{Mark}
 use Rattle.wd_analyse.specs.declared.analysis.Reason.{Reason}
-use Rattle.wd_analyse.specs.Findings.{AreFindings, Finding, IsBare, IsFinding, IsOfKeys, IsOfLimit, IsSaid, OverOne, OverTwo, entries_in, entry_by_keys, facts_kept, lacking, limit_reason, marks_in, reasons_by_keys, reasons_in}
+use Rattle.wd_analyse.specs.Entry.{entry_by}
+use Rattle.wd_analyse.specs.Findings.{AreFindings, Finding, IsBare, IsFinding, IsOfLimit, IsSaid, OverOne, OverTwo, entries_in, entry_by_keys, facts_kept, lacking, limit_reason, marks_in, reasons_by_keys, reasons_in}
 use Rattle.wd_analyse.specs.Sources.{sources}
 use Rattle.wd_analyse.specs.Steps.{is_without_rules}
 use Rattle.wd_analyse.proofs.Claims.{are_claims, sources_low}
@@ -45,19 +46,21 @@ module _ (facts : FactList) (node : ℕ) (f : Finding) (before : List Reason) wh
   bare plan e c b = plain_found facts node f.claims f.entry before (before ++ f.reasons) plan e c (ap (λ l. before ++ l) b.reasons ∙ append-nil before) b.entry
 
   module _ (limit : LimitRule) (input : PlanTree) (c : AreClaims facts (width (Limit limit input)) f.claims) where
-    of_keys : (h : IsOfKeys facts limit input node f) (o : Option ℕ) → lacking (width input) h.keys ≡ o → IsFound facts (Limit limit input) node f.claims f.entry before (before ++ f.reasons)
-    of_keys h None e =
-        keys_found facts node f.claims f.entry before (before ++ f.reasons) limit input (Limit limit input) h.keys refl c h.closing h.columns e
-        (ap (λ l. before ++ l) (h.reasons ∙ ap (reasons_by_keys node) e) ∙ append-nil before)
-        (h.entry ∙ ap (entry_by_keys (width (Limit limit input)) f.claims h.keys) e)
-    of_keys h (Some d) e =
-        open_found facts node f.claims f.entry before (before ++ f.reasons) (Limit limit input) (limit_reason node d)
-        (ap (λ l. before ++ l) (h.reasons ∙ ap (reasons_by_keys node) e))
-        (h.entry ∙ ap (entry_by_keys (width (Limit limit input)) f.claims h.keys) e)
+    -- whose sort keys lack a column
+    of_lack : (column : ℕ) (b : Bool) → is_whole_or_ties limit ≡ b → before ++ f.reasons ≡ before ++ cond b [] (limit_reason node column ∷ []) → f.entry ≡ entry_by (width (Limit limit input)) f.claims [] [] None
+        → IsFound facts (Limit limit input) node f.claims f.entry before (before ++ f.reasons)
+    of_lack column true e r is = whole_found facts node f.claims f.entry before (before ++ f.reasons) limit input (Limit limit input) refl c e (r ∙ append-nil before) is
+    of_lack column false e r is = open_found facts node f.claims f.entry before (before ++ f.reasons) (Limit limit input) (limit_reason node column) r is
 
-    of_limit : (b : Bool) → is_whole_or_ties limit ≡ b → IsOfLimit b facts limit input node f → IsFound facts (Limit limit input) node f.claims f.entry before (before ++ f.reasons)
-    of_limit true e h = whole_found facts node f.claims f.entry before (before ++ f.reasons) limit input (Limit limit input) refl c e (ap (λ l. before ++ l) h.reasons ∙ append-nil before) h.entry
-    of_limit false e h = of_keys h (lacking (width input) h.keys) refl
+    of_limit : (h : IsOfLimit facts limit input node f) (o : Option ℕ) → lacking (width input) h.keys ≡ o → IsFound facts (Limit limit input) node f.claims f.entry before (before ++ f.reasons)
+    of_limit h None e =
+        keys_found facts node f.claims f.entry before (before ++ f.reasons) limit input (Limit limit input) h.keys refl c h.closing h.columns e
+        (ap (λ l. before ++ l) (h.reasons ∙ ap (reasons_by_keys node limit) e) ∙ append-nil before)
+        (h.entry ∙ ap (entry_by_keys (width (Limit limit input)) f.claims h.keys) e)
+    of_limit h (Some d) e =
+        of_lack d (is_whole_or_ties limit) refl
+        (ap (λ l. before ++ l) (h.reasons ∙ ap (reasons_by_keys node limit) e))
+        (h.entry ∙ ap (entry_by_keys (width (Limit limit input)) f.claims h.keys) e)
 
   pub said_found : (plan : PlanTree) → AreClaims facts (width plan) f.claims → IsSaid facts plan node f → IsFound facts plan node f.claims f.entry before (before ++ f.reasons)
   said_found (Scan table columns) c s = bare (Scan table columns) refl c s
@@ -67,7 +70,7 @@ module _ (facts : FactList) (node : ℕ) (f : Finding) (before : List Reason) wh
   said_found (Window w input) c s =
       window_found facts node f.claims f.entry before (before ++ f.reasons) w input s.classes (Window w input) refl c s.closings s.columns (ap (λ l. before ++ l) s.reasons) s.entry
   said_found (Distinct input) c s = bare (Distinct input) refl c s
-  said_found (Limit limit input) c s = of_limit limit input c (is_whole_or_ties limit) refl s
+  said_found (Limit limit input) c s = of_limit limit input c s (lacking (width input) s.keys) refl
 
 module _ (tables : List TableRule) where
   pub finding_claims : (plan : PlanTree) (kept more : List Fact) (node : ℕ) (f : Finding) → AreOfChildren plan kept more → IsFinding tables plan kept more node f → AreClaims (given tables plan kept more) (width plan) f.claims

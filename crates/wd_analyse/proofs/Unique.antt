@@ -12,7 +12,6 @@ use Rattle.wd_facts.specs.declared.facts.Member.{Member}
 use Rattle.wd_facts.specs.Facts.{Fact, FactList}
 use Rattle.wd_facts.specs.Given.{given}
 use Rattle.wd_close.specs.Closure.{Follows, is_named}
-use Rattle.wd_rules.specs.Rules.{is_whole_or_ties}
 use Rattle.wd_analyse.specs.declared.analysis.Analysis.{Analysis}
 use Rattle.wd_analyse.specs.declared.analysis.Analysis.TheVariants.{Certified, Open}
 use Rattle.wd_analyse.specs.Alike.{AnswersAreAlike, AreAlike, entry_without_uses, without_uses}
@@ -20,20 +19,20 @@ use Rattle.wd_analyse.specs.Analysis.{Tells}
 use Rattle.wd_analyse.specs.Decisions.{decide_of, decided_calls, next_exchange, rules_in}
 use Rattle.wd_analyse.specs.Entry.{entry_by}
 use Rattle.wd_analyse.specs.Evidence.{Closing, IsClosing, trace_by}
-use Rattle.wd_analyse.specs.Findings.{AreFindings, Finding, IsBare, IsFinding, IsOfKeys, IsOfLimit, IsOfWindow, IsSaid, OverOne, decided_at, entries_in, entry_by_keys, facts_kept, lacking, marks_by_keys, marks_in, marks_of, reasons_by_keys, reasons_in, reasons_of}
+use Rattle.wd_analyse.specs.Findings.{AreFindings, Finding, IsBare, IsFinding, IsOfLimit, IsOfWindow, IsSaid, OverOne, decided_at, entries_in, entry_by_keys, facts_kept, lacking, marks_by_keys, marks_in, marks_of, reasons_by_keys, reasons_in, reasons_of}
 use Rattle.wd_analyse.specs.Kept.{keep_by, kept_fact}
 use Rattle.wd_analyse.specs.Sources.{AreClosings, Keeps, gives_some, sources, starts}
 
 -- ---- closings
 
-abbrev bare : Closing → Closing
+abbrev pub bare : Closing → Closing
 bare c = record { from = c.from; has = c.has; uses = [] }
 
 module _ (facts : FactList) where
-  abbrev Given : List ℕ → Member → Type 0
+  abbrev pub Given : List ℕ → Member → Type 0
   Given X m = (is_named facts m ≡ true) × Follows facts X m
 
-  closing_same : (c d : Closing) → IsClosing facts c → IsClosing facts d → c.from ≡ d.from → bare c ≡ bare d
+  pub closing_same : (c d : Closing) → IsClosing facts c → IsClosing facts d → c.from ≡ d.from → bare c ≡ bare d
   closing_same c d p q e = λ i. record { from = e i; has = λ m. same m i; uses = [] }
     where
       same : (m : Member) → c.has m ≡ d.has m
@@ -153,7 +152,7 @@ decided_same cs ds m n columns calls e f =
 -- ---- a node
 
 -- a finding without uses
-abbrev told : Finding → Finding
+abbrev pub told : Finding → Finding
 told f = record { claims = map bare f.claims; entry = entry_without_uses f.entry; reasons = f.reasons; marks = f.marks }
 
 module _ (facts : FactList) (node : ℕ) (f g : Finding) (claims : map bare f.claims ≡ map bare g.claims) where
@@ -172,27 +171,21 @@ module _ (facts : FactList) (node : ℕ) (f g : Finding) (claims : map bare f.cl
       ∙ ap entry_without_uses (sym q.entry) in
       λ i. record { claims = claims i; entry = entry i; reasons = (p.reasons ∙ ap (reasons_of node 0) decided ∙ sym q.reasons) i; marks = (p.marks ∙ ap (marks_of node 0) decided ∙ sym q.marks) i }
 
-  keys_same : (limit : LimitRule) (input : PlanTree) → IsOfKeys facts limit input node f → IsOfKeys facts limit input node g → told f ≡ told g
-  keys_same limit input p q =
+  limit_same : (limit : LimitRule) (input : PlanTree) → IsOfLimit facts limit input node f → IsOfLimit facts limit input node g → told f ≡ told g
+  limit_same limit input p q =
       let keys = closing_same facts p.keys q.keys p.closing q.closing (p.columns ∙ sym q.columns) in
       let lack : lacking (width input) p.keys ≡ lacking (width input) q.keys = ap (lacking (width input)) keys in
       let entry = ap entry_without_uses p.entry
       ∙ by keys (lacking (width input) p.keys)
       ∙ ap (λ o. entry_without_uses (entry_by_keys (width (Limit limit input)) g.claims q.keys o)) lack
       ∙ ap entry_without_uses (sym q.entry) in
-      λ i. record { claims = claims i; entry = entry i; reasons = (p.reasons ∙ ap (reasons_by_keys node) lack ∙ sym q.reasons) i; marks = (p.marks ∙ ap (marks_by_keys node) lack ∙ sym q.marks) i }
+      λ i. record { claims = claims i; entry = entry i; reasons = (p.reasons ∙ ap (reasons_by_keys node limit) lack ∙ sym q.reasons) i; marks = (p.marks ∙ ap (marks_by_keys node limit) lack ∙ sym q.marks) i }
     where
       by : bare p.keys ≡ bare q.keys → (o : Option ℕ) → entry_without_uses (entry_by_keys (width (Limit limit input)) f.claims p.keys o) ≡ entry_without_uses (entry_by_keys (width (Limit limit input)) g.claims q.keys o)
       by keys None =
           ap (λ n. entry_without_uses (entry_by (width (Limit limit input)) f.claims (p.keys ∷ []) [] (Some n))) (same_long f.claims g.claims claims)
           ∙ entry_same (width (Limit limit input)) f.claims g.claims (p.keys ∷ []) (q.keys ∷ []) [] (Some (length g.claims)) claims (ap (λ c. c ∷ []) keys)
       by keys (Some d) = entry_same (width (Limit limit input)) f.claims g.claims [] [] [] None claims refl
-
-  limit_same : (limit : LimitRule) (input : PlanTree) (b : Bool) → IsOfLimit b facts limit input node f → IsOfLimit b facts limit input node g → told f ≡ told g
-  limit_same limit input true p q =
-      let entry = ap entry_without_uses p.entry ∙ entry_same (width (Limit limit input)) f.claims g.claims [] [] [] None claims refl ∙ ap entry_without_uses (sym q.entry) in
-      λ i. record { claims = claims i; entry = entry i; reasons = (p.reasons ∙ sym q.reasons) i; marks = (p.marks ∙ sym q.marks) i }
-  limit_same limit input false p q = keys_same limit input p q
 
   said_same : (plan : PlanTree) → IsSaid facts plan node f → IsSaid facts plan node g → told f ≡ told g
   said_same (Scan table columns) p q = bare_same (width (Scan table columns)) p q
@@ -201,7 +194,7 @@ module _ (facts : FactList) (node : ℕ) (f g : Finding) (claims : map bare f.cl
   said_same (Map outputs input) p q = bare_same (width (Map outputs input)) p q
   said_same (Window w input) p q = window_same w input p q
   said_same (Distinct input) p q = bare_same (width (Distinct input)) p q
-  said_same (Limit limit input) p q = limit_same limit input (is_whole_or_ties limit) p q
+  said_same (Limit limit input) p q = limit_same limit input p q
 
 -- ---- a plan
 
@@ -211,7 +204,7 @@ more_told fs gs f g e h = map-append told fs (f ∷ []) ∙ (λ i. e i ++ h i �
 told_long : (fs gs : List Finding) → map told fs ≡ map told gs → length fs ≡ length gs
 told_long fs gs e = sym (length-map fs told) ∙ ap length e ∙ length-map gs told
 
-told_facts : (plan : PlanTree) (f g : Finding) → told f ≡ told g → facts_kept plan f ≡ facts_kept plan g
+pub told_facts : (plan : PlanTree) (f g : Finding) → told f ≡ told g → facts_kept plan f ≡ facts_kept plan g
 told_facts plan f g e = sym (facts_bare (width plan) f.claims) ∙ ap (λ (h : Finding). map (kept_fact (width plan)) h.claims) e ∙ facts_bare (width plan) g.claims
 
 module _ (tables : List TableRule) where
@@ -221,7 +214,7 @@ module _ (tables : List TableRule) where
       let facts = given tables plan kept more in
       said_same facts node f g (claims_same facts (width plan) (sources plan facts.list kept more) f.claims g.claims p.keeps r.keeps) plan p.said r.said
 
-  abbrev Same : PlanTree → ℕ → Type 0
+  abbrev pub Same : PlanTree → ℕ → Type 0
   Same plan first = (fs gs : List Finding) (f g : Finding) → AreFindings tables plan first fs f → AreFindings tables plan first gs g → (map told fs ≡ map told gs) × (told f ≡ told g)
 
   over_one : (plan input : PlanTree) (first : ℕ) (fs gs : List Finding) (f g : Finding) → Same input first → OverOne tables plan input first (AreFindings tables input first) fs f → OverOne tables plan input first (AreFindings tables input first) gs g → (map told fs ≡ map told gs) × (told f ≡ told g)

@@ -1,5 +1,5 @@
 -- What is found at the nodes of a plan.
-use Rattle.std.specs.Prelude.{◌≡◌, ℕ, ◌+◌, Bool, true, false, List, [], ◌∷◌, ◌++◌, flat_map, length, map, Option, None, Some, is_some, if◌then◌else◌}
+use Rattle.std.specs.Prelude.{◌≡◌, ℕ, ◌+◌, List, [], ◌∷◌, ◌++◌, flat_map, length, map, Option, None, Some, is_some, if◌then◌else◌}
 use Rattle.wd_value.specs.Keys.{key_columns}
 use Rattle.wd_schema.specs.Tables.{TableRule}
 use Rattle.wd_plan.specs.Fits.{width}
@@ -86,40 +86,32 @@ pub record IsOfWindow (facts : FactList) (w : WindowRule) (input : PlanTree) (no
 abbrev pub whole_or_ties : LimitRule → RuleName
 whole_or_ties limit = if is_some limit.count then name.Ties else name.Whole
 
-pub record IsOfWhole (limit : LimitRule) (input : PlanTree) (node : ℕ) (f : Finding) : Type 0 where
-  pub entry : f.entry ≡ entry_by (width (Limit limit input)) f.claims [] [] None
-  pub reasons : f.reasons ≡ []
-  pub marks : f.marks ≡ limit_mark node (whole_or_ties limit) ∷ []
-
 -- by the least column that the sort keys do not give, if there is one
 abbrev pub entry_by_keys : ℕ → List Closing → Closing → Option ℕ → NodeRecord
 entry_by_keys width claims keys None = entry_by width claims (keys ∷ []) [] (Some (length claims))
 entry_by_keys width claims keys (Some column) = entry_by width claims [] [] None
 
-abbrev pub reasons_by_keys : ℕ → Option ℕ → List Reason
-reasons_by_keys node None = []
-reasons_by_keys node (Some column) = limit_reason node column ∷ []
+-- without such a column the limit goes by `keys`; else by `whole` or `ties`, where it keeps all rows, or all that tie
+abbrev pub reasons_by_keys : ℕ → LimitRule → Option ℕ → List Reason
+reasons_by_keys node limit None = []
+reasons_by_keys node limit (Some column) = if is_whole_or_ties limit then [] else limit_reason node column ∷ []
 
-abbrev pub marks_by_keys : ℕ → Option ℕ → List Mark
-marks_by_keys node None = limit_mark node name.Keys ∷ []
-marks_by_keys node (Some column) = []
+abbrev pub marks_by_keys : ℕ → LimitRule → Option ℕ → List Mark
+marks_by_keys node limit None = limit_mark node name.Keys ∷ []
+marks_by_keys node limit (Some column) = if is_whole_or_ties limit then limit_mark node (whole_or_ties limit) ∷ [] else []
 
 -- the least of the first so many columns that others do not give
 abbrev pub lacking : ℕ → Closing → Option ℕ
 lacking columns c = missing_of c.has (all_columns columns)
 
-pub record IsOfKeys (facts : FactList) (limit : LimitRule) (input : PlanTree) (node : ℕ) (f : Finding) : Type 0 where
+-- `keys` comes first at each Limit
+pub record IsOfLimit (facts : FactList) (limit : LimitRule) (input : PlanTree) (node : ℕ) (f : Finding) : Type 0 where
   pub keys : Closing
   pub closing : IsClosing facts keys
   pub columns : keys.from ≡ key_columns limit.keys
   pub entry : f.entry ≡ entry_by_keys (width (Limit limit input)) f.claims keys (lacking (width input) keys)
-  pub reasons : f.reasons ≡ reasons_by_keys node (lacking (width input) keys)
-  pub marks : f.marks ≡ marks_by_keys node (lacking (width input) keys)
-
--- whether it keeps all rows, or all that tie
-abbrev pub IsOfLimit : Bool → FactList → LimitRule → PlanTree → ℕ → Finding → Type 0
-IsOfLimit true facts limit input node f = IsOfWhole limit input node f
-IsOfLimit false facts limit input node f = IsOfKeys facts limit input node f
+  pub reasons : f.reasons ≡ reasons_by_keys node limit (lacking (width input) keys)
+  pub marks : f.marks ≡ marks_by_keys node limit (lacking (width input) keys)
 
 -- the entry, the reasons and the marks of a plan's top node, which has this number and these given facts, by what it keeps
 abbrev pub IsSaid : FactList → PlanTree → ℕ → Finding → Type 0
@@ -129,7 +121,7 @@ IsSaid facts (Filter condition input) node f = IsBare (width (Filter condition i
 IsSaid facts (Map outputs input) node f = IsBare (width (Map outputs input)) f
 IsSaid facts (Window w input) node f = IsOfWindow facts w input node f
 IsSaid facts (Distinct input) node f = IsBare (width (Distinct input)) f
-IsSaid facts (Limit limit input) node f = IsOfLimit (is_whole_or_ties limit) facts limit input node f
+IsSaid facts (Limit limit input) node f = IsOfLimit facts limit input node f
 
 -- what is found at a plan's top node, whose children keep these
 pub record IsFinding (tables : List TableRule) (plan : PlanTree) (kept more : List Fact) (node : ℕ) (f : Finding) : Type 0 where

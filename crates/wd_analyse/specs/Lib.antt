@@ -7,3 +7,5 @@ pub mod Findings
 pub mod Steps
 pub mod Analysis
 pub mod Alike
+pub mod Lists
+pub mod Peers

@@ -55,7 +55,7 @@ fn class_columns(alloc: Global, class: &Class) -> Result<Vec<u16>, OutOfMemory>
 }
 
 /// The columns of sort keys.
-fn key_columns(alloc: Global, keys: &[SortColumn]) -> Result<Vec<u16>, OutOfMemory>
+pub(crate) fn key_columns(alloc: Global, keys: &[SortColumn]) -> Result<Vec<u16>, OutOfMemory>
     ensures { IfOk result (λ v. v.items ≡ columns_of_keys keys.now) }
 {
     let mut columns = Vec::with_capacity(alloc, keys.len())?;
@@ -251,19 +251,37 @@ fn say_lack(node: u64, column: u16, findings: &mut Findings) -> Result<(), OutOf
     Ok(())
 }
 
+/// Says what a limit goes by whose sort keys lack a column.
+fn say_without_keys(
+    node: u64,
+    limit: &Limit,
+    column: u16,
+    findings: &mut Findings,
+) -> Result<(), OutOfMemory>
+    ensures reasons { IfOk result (λ _. findings.new.reasons.items ≡ findings.old.reasons.items ++ spec.reasons_by_keys node (limit_of limit.now) (Some column)) }
+    ensures marks { IfOk result (λ _. findings.new.marks.items ≡ findings.old.marks.items ++ spec.marks_by_keys node (limit_of limit.now) (Some column)) }
+{
+    if is_whole_or_ties(limit) {
+        say_limit(node, whole_or_ties(limit), findings)
+    } else {
+        say_lack(node, column, findings)
+    }
+}
+
 /// The entry of a Limit with so many columns whose sort keys give these, and what is said of it.
 #[tactic(auto, using(crate::proofs::Says::number))]
 fn keys_entry(
     alloc: Global,
     here: &Here<'_>,
     columns: u16,
+    limit: &Limit,
     keys: Closed,
     findings: &mut Findings,
 ) -> Result<Node, OutOfMemory>
     requires { length here.now.claims.items ≤ 64 }
     ensures entry { IfOk result (λ n. node_of n ≡ spec.entry_by_keys columns (map closing_of here.now.claims.items) (closing_of keys) (spec.lacking columns (closing_of keys))) }
-    ensures reasons { IfOk result (λ _. findings.new.reasons.items ≡ findings.old.reasons.items ++ spec.reasons_by_keys here.now.node (spec.lacking columns (closing_of keys))) }
-    ensures marks { IfOk result (λ _. findings.new.marks.items ≡ findings.old.marks.items ++ spec.marks_by_keys here.now.node (spec.lacking columns (closing_of keys))) }
+    ensures reasons { IfOk result (λ _. findings.new.reasons.items ≡ findings.old.reasons.items ++ spec.reasons_by_keys here.now.node (limit_of limit.now) (spec.lacking columns (closing_of keys))) }
+    ensures marks { IfOk result (λ _. findings.new.marks.items ≡ findings.old.marks.items ++ spec.marks_by_keys here.now.node (limit_of limit.now) (spec.lacking columns (closing_of keys))) }
 {
     match missing(&keys, columns) {
         None => {
@@ -271,13 +289,13 @@ fn keys_entry(
             shown_entry(alloc, here, columns, keys)
         }
         Some(column) => {
-            say_lack(here.node, column, findings)?;
+            say_without_keys(here.node, limit, column, findings)?;
             bare_entry(alloc, here, columns)
         }
     }
 }
 
-/// The entry of a Limit, and what is said of it.
+/// The entry of a Limit, and what is said of it: it goes by `keys` where its sort keys give every column.
 #[tactic(auto, using(wd_plan::proofs::Ranges::narrow))]
 fn limit_entry(
     alloc: Global,
@@ -294,14 +312,9 @@ fn limit_entry(
     requires few { length here.now.claims.items ≤ 64 }
     ensures { IfOk result (λ n. Says here.now.facts (plan_of plan.now) here.now.node (map closing_of here.now.claims.items) (node_of n) (told_of findings.old) (told_of findings.new)) }
 {
-    if is_whole_or_ties(limit) {
-        say_limit(here.node, whole_or_ties(limit), findings)?;
-        bare_entry(alloc, here, width(plan))
-    } else {
-        let columns = key_columns(alloc, &limit.keys)?;
-        let closed = close(alloc, &here.facts, &columns)?;
-        keys_entry(alloc, here, width(input), closed, findings)
-    }
+    let columns = key_columns(alloc, &limit.keys)?;
+    let closed = close(alloc, &here.facts, &columns)?;
+    keys_entry(alloc, here, width(input), limit, closed, findings)
 }
 
 /// The entry of a node that has neither calls nor a limit.

@@ -15,4 +15,4 @@ mod tried;
 
 pub use analysis::{Analysis, Mark, Reason, RuleName};
 pub use decided::Lack;
-pub use nodes::analyse;
+pub use nodes::{analyse, lacking_column};

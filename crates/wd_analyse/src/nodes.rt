@@ -1,16 +1,20 @@
 //! The nodes of a plan in postorder.
 
-ghost use Rattle.std.specs.Prelude.{◌≡◌, true, map, IfOk};
+ghost use Rattle.std.specs.Prelude.{◌≡◌, true, [], map, IfOk};
 ghost use Rattle.wd_facts.specs.Facts.{fact_of, kept_by};
 ghost use Rattle.wd_facts.specs.Laws.{AreOfChildren};
 ghost use Rattle.wd_plan.specs.Fits.{fits};
-ghost use Rattle.wd_plan.specs.Plans.{plan_of};
+ghost use Rattle.wd_plan.specs.Plans.{limit_of, plan_of};
+ghost use Rattle.wd_plan.specs.Plans as plans;
 ghost use Rattle.wd_schema.specs.Schemas.{schema_of};
 ghost use Rattle.wd_analyse.specs.Analysis.{IsAnswer};
+ghost use Rattle.wd_analyse.specs.Lists.{IsLack, IsLackOf};
 ghost use Rattle.wd_analyse.specs.Steps.{Finds, FindsTop};
 
 use crate::analysis::Analysis;
-use crate::entry::{Findings, Here, found_entry};
+use crate::closed::close;
+use crate::decided::missing;
+use crate::entry::{Findings, Here, found_entry, key_columns};
 use crate::kept::kept_facts;
 use crate::search::claims_of;
 use crate::sources::{sources_of, width};
@@ -18,7 +22,7 @@ use std::alloc::Global;
 use wd_certificate::{Certificate, Node};
 use wd_close::Prepared;
 use wd_facts::{Given, given};
-use wd_plan::Plan;
+use wd_plan::{Limit, Plan};
 use wd_schema::Schema;
 use wd_value::OutOfMemory;
 
@@ -27,6 +31,21 @@ use wd_value::OutOfMemory;
 struct Found {
     nodes: Vec<Node>,
     findings: Findings,
+}
+
+/// Nothing is found yet.
+fn nothing(alloc: Global) -> Found
+    ensures nodes { result.nodes.items ≡ [] }
+    ensures reasons { result.findings.reasons.items ≡ [] }
+    ensures marks { result.findings.marks.items ≡ [] }
+{
+    Found {
+        nodes: Vec::new(alloc),
+        findings: Findings {
+            reasons: Vec::new(alloc),
+            marks: Vec::new(alloc),
+        },
+    }
 }
 
 /// Analyses a plan's top node, whose inputs keep these facts; what it keeps.
@@ -96,13 +115,7 @@ pub fn analyse(alloc: Global, plan: &Plan, schema: &Schema) -> Result<Analysis, 
     requires { fits (schema_of schema.now) (plan_of plan.now) ≡ true }
     ensures { IfOk result (IsAnswer (schema_of schema.now) (plan_of plan.now)) }
 {
-    let mut found = Found {
-        nodes: Vec::new(alloc),
-        findings: Findings {
-            reasons: Vec::new(alloc),
-            marks: Vec::new(alloc),
-        },
-    };
+    let mut found = nothing(alloc);
     analyse_nodes(alloc, plan, schema, &mut found)?;
     let Found { nodes, findings } = found;
     let Findings { reasons, marks } = findings;
@@ -110,5 +123,48 @@ pub fn analyse(alloc: Global, plan: &Plan, schema: &Schema) -> Result<Analysis, 
         Ok(Analysis::Certified(Certificate { nodes }))
     } else {
         Ok(Analysis::Open(reasons, marks))
+    }
+}
+
+/// The least column that the sort keys of a Limit do not give, by the facts that its input keeps.
+#[tactic(auto, using(wd_plan::proofs::Ranges::narrow))]
+fn limit_lack(
+    alloc: Global,
+    plan: &Plan,
+    input: &Plan,
+    limit: &Limit,
+    schema: &Schema,
+) -> Result<Option<u16>, OutOfMemory>
+    requires is { plan_of plan.now ≡ plans.Limit (limit_of limit.now) (plan_of input.now) }
+    requires fits { fits (schema_of schema.now) (plan_of plan.now) ≡ true }
+    ensures { IfOk result (IsLackOf (schema_of schema.now) (limit_of limit.now) (plan_of input.now)) }
+{
+    let mut found = nothing(alloc);
+    let kept = analyse_nodes(alloc, input, schema, &mut found)?;
+    let facts = given(alloc, plan, schema, &[&kept])?;
+    let prepared = Prepared::new(alloc, &facts)?;
+    let columns = key_columns(alloc, &limit.keys)?;
+    let closed = close(alloc, &prepared, &columns)?;
+    Ok(missing(&closed, width(input)))
+}
+
+/// The least column of the rows that a plan's last Limit reads which its sort keys do not give, by
+/// the facts that its input keeps; none where they give every column, or where the plan's top node
+/// is no Limit, nor the node below the Maps at its top.
+///
+/// # Errors
+/// Where memory runs out.
+pub fn lacking_column(
+    alloc: Global,
+    plan: &Plan,
+    schema: &Schema,
+) -> Result<Option<u16>, OutOfMemory>
+    requires { fits (schema_of schema.now) (plan_of plan.now) ≡ true }
+    ensures { IfOk result (IsLack (schema_of schema.now) (plan_of plan.now)) }
+{
+    match plan {
+        Plan::Map { input, .. } => lacking_column(alloc, input, schema),
+        Plan::Limit { input, limit } => limit_lack(alloc, plan, input, limit, schema),
+        _ => Ok(None),
     }
 }

@@ -1,7 +1,6 @@
 use crate::subject::Subject;
 use std::alloc::Global;
 use wd_cases::{Cases, Failure};
-use wd_cases_analysis::AnalysisCases;
 use wd_cases_certificates::CertificateCases;
 use wd_cases_command::CommandCases;
 use wd_cases_meaning::MeaningCases;
@@ -16,7 +15,6 @@ pub struct AllCases {
     meaning: MeaningCases,
     plans: PlanCases,
     certificates: CertificateCases,
-    analysis: AnalysisCases,
     command: CommandCases,
 }
 
@@ -29,7 +27,6 @@ impl AllCases {
             meaning: MeaningCases::new(alloc),
             plans: PlanCases::new(alloc),
             certificates: CertificateCases::new(alloc),
-            analysis: AnalysisCases::new(alloc),
             command: CommandCases::new(alloc),
         }
     }
@@ -47,7 +44,6 @@ impl AllCases {
             Subject::Meaning => self.meaning.answer(alloc, word, text),
             Subject::Plans => self.plans.answer(alloc, word, text),
             Subject::Certificates => self.certificates.answer(alloc, word, text),
-            Subject::Analysis => self.analysis.answer(alloc, word, text),
             Subject::Command => self.command.answer(alloc, word, text),
         }
     }

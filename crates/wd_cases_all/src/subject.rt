@@ -7,7 +7,6 @@ pub enum Subject {
     Meaning,
     Plans,
     Certificates,
-    Analysis,
     Command,
 }
 
@@ -19,7 +18,6 @@ impl Subject {
             "meaning" => Ok(Subject::Meaning),
             "plans" => Ok(Subject::Plans),
             "certificates" => Ok(Subject::Certificates),
-            "analysis" => Ok(Subject::Analysis),
             "command" => Ok(Subject::Command),
             _ => Err(Failure::NoCase),
         }

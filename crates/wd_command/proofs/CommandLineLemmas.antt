@@ -1,4 +1,4 @@
--- What `clap` makes of words of which none begins with a hyphen: the first word, which names a command, and the words of a command one by one.
+-- What `clap` makes of words that begin with no hyphen: the first word, which names a command, and the words of a command one by one.
 use Rattle.std.proofs.Common.{arith, ◌≡◌, ◌∙◌, ◌==◌, ◌++◌, ◌⊎◌, ℕ, Bool, true, false, suc, List, [], ◌∷◌, map, Option, Some, None, inl, inr, codes, refl, sym, ap, ap₂, ne_eqb}
 use Rattle.std.specs.Prelude.{find, fold, is_some}
 use Rattle.std.specs.List.{All}

@@ -7,11 +7,12 @@ use Rattle.clap.specs.declared.error.Error.{Error}
 use Rattle.clap.specs.declared.error.kind.ErrorKind.TheVariants as kind
 use Rattle.wd_command.proofs.FilesLemmas.{HandsOver-trans}
 use Rattle.wd_run.specs.Causes as runs
+use Rattle.wd_command.specs.CommandLine.{AreWordsOf, AskFor}
 use Rattle.wd_command.specs.Commands.{data_in, text_at}
 use Rattle.wd_command.specs.Failures.{AskNext, FailsRun, HasReason, IsDecideRefusal, IsFaultOfWords, IsRefusalBy, IsTableWord, IsUnanswered, IsRunRefusal, IsUncut, IsUnread, IsVerifyRefusal, IsWitnessRefusal, Says}
 use Rattle.wd_command.specs.Files.{File, HandsOver, Reads, ReadsNothing, reads}
 use Rattle.wd_command.specs.Statuses.{IsEnding}
-use Rattle.wd_command.specs.Words.{AreTaskWords, AskFor, HasNoEquals, Task, Check, Explain, Verify, Refute, Run, paths_of}
+use Rattle.wd_command.specs.Words.{Asked, Task, Check, CheckList, Explain, Verify, VerifyList, Refute, Run, paths_of}
 use Rattle.wd_command.specs.declared.failure.Failure.{Failure}
 use Rattle.wd_command.specs.declared.failure.Input.{Input}
 use Rattle.wd_command.specs.declared.failure.Failure.TheVariants.{CommandLine, NotText, Unassigned, Refused, Fault, CannotRead, CannotWrite, OutOfMemory}
@@ -104,8 +105,10 @@ run_of_files tables files CannotWrite h = absurd h
 
 of_files : (task : Task) (files : List File) (failure : Failure) → IsUnanswered task files failure → IsOfFiles failure
 of_files (Check s q) files failure h = refusal_of_files _ IsDecideRefusal failure h
+of_files (CheckList s q) files failure h = refusal_of_files _ IsDecideRefusal failure h
 of_files (Explain s q) files failure h = refusal_of_files _ IsDecideRefusal failure h
 of_files (Verify s q c) files failure h = refusal_of_files _ IsVerifyRefusal failure h
+of_files (VerifyList s q c) files failure h = refusal_of_files _ IsVerifyRefusal failure h
 of_files (Refute s q w) files failure h = refusal_of_files _ IsWitnessRefusal failure h
 of_files (Run s q tables) files failure h = run_of_files tables files failure h
 
@@ -123,9 +126,9 @@ module _ (words : List (List ℕ)) (before after : Reads) where
   HasReason-from_files task files asked named read CannotWrite h = absurd (of_files task files CannotWrite h)
 
   -- `clap` refused the words
-  pub HasReason-from_words : ReadsNothing before after → (error : Error) → words ≢ [] → (AreTaskWords words → kind_of error ≡ kind.OutOfMemory)
+  pub HasReason-from_words : ReadsNothing before after → (error : Error) → words ≢ [] → ((asked : Asked) → AreWordsOf words asked → kind_of error ≡ kind.OutOfMemory)
       → (failure : Failure) → IsFaultOfWords error failure → HasReason words before after failure
-  HasReason-from_words nothing error some memory (CommandLine fault) h = (record { some = some; other = λ form. h (memory form) }, nothing)
+  HasReason-from_words nothing error some memory (CommandLine fault) h = (record { some = some; other = λ asked are. h (memory asked are) }, nothing)
   HasReason-from_words nothing error some memory OutOfMemory h = tt
   HasReason-from_words nothing error some memory (Refused refusal) h = absurd h
   HasReason-from_words nothing error some memory (Fault fault) h = absurd h
@@ -135,17 +138,16 @@ module _ (words : List (List ℕ)) (before after : Reads) where
   HasReason-from_words nothing error some memory CannotWrite h = absurd h
 
   -- a word has no `=`
-  pub HasReason-from_uncut : ReadsNothing before after → (tables : List (List ℕ)) → words ≢ [] → (AreTaskWords words → (word : List ℕ) → HasNoEquals word → Any (λ w. w ≡ word) tables → ⊥)
-      → ((word : List ℕ) → Any (λ w. w ≡ word) tables → IsTableWord words word)
+  pub HasReason-from_uncut : ReadsNothing before after → (tables : List (List ℕ)) → ((word : List ℕ) → Any (λ w. w ≡ word) tables → IsTableWord words word)
       → (failure : Failure) → IsUncut tables failure → HasReason words before after failure
-  HasReason-from_uncut nothing tables some none there (Unassigned word) h = (record { some = some; other = λ form. none form word.now h.0 h.1 }, h.0, there word.now h.1, nothing)
-  HasReason-from_uncut nothing tables some none there OutOfMemory h = tt
-  HasReason-from_uncut nothing tables some none there (CommandLine error) h = absurd h
-  HasReason-from_uncut nothing tables some none there (Refused refusal) h = absurd h
-  HasReason-from_uncut nothing tables some none there (Fault fault) h = absurd h
-  HasReason-from_uncut nothing tables some none there NotText h = absurd h
-  HasReason-from_uncut nothing tables some none there (CannotRead path) h = absurd h
-  HasReason-from_uncut nothing tables some none there CannotWrite h = absurd h
+  HasReason-from_uncut nothing tables there (Unassigned word) h = (h.0, there word.now h.1, nothing)
+  HasReason-from_uncut nothing tables there OutOfMemory h = tt
+  HasReason-from_uncut nothing tables there (CommandLine error) h = absurd h
+  HasReason-from_uncut nothing tables there (Refused refusal) h = absurd h
+  HasReason-from_uncut nothing tables there (Fault fault) h = absurd h
+  HasReason-from_uncut nothing tables there NotText h = absurd h
+  HasReason-from_uncut nothing tables there (CannotRead path) h = absurd h
+  HasReason-from_uncut nothing tables there CannotWrite h = absurd h
 
   -- a file could not be read
   pub HasReason-from_unread : (Known : List File → List ℕ → Type 0) → ((files : List File) (path : List ℕ) → Known files path → AskNext words files path)

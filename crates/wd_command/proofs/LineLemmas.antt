@@ -1,18 +1,20 @@
--- The lines of the commands, where no word begins with a hyphen: `clap` takes them and no others, and finds what they ask for.
-use Rattle.std.proofs.Common.{arith, ◌≡◌, ◌∙◌, ◌≤◌, List, [], ◌∷◌, Some, inl, inr, length, codes, refl, sym, ap, subst}
-use Rattle.std.specs.Prelude.{⊤, option_map}
+-- The lines of the commands, where no word but a flag behind the name begins with a hyphen: `clap` takes them and no others, and finds what they ask for.
+use Rattle.std.proofs.Common.{arith, ◌≡◌, ◌∙◌, ◌≤◌, Bool, true, false, List, [], ◌∷◌, Some, inl, inr, length, codes, refl, sym, ap, subst}
+use Rattle.std.specs.Prelude.{⊤, drop, unwrap_or}
 use Rattle.std.specs.List.{All}
+use Rattle.std.specs.Str.{bytes_eq}
+use lib.Pointwise.{bytes_decides}
 use Rattle.clap.specs.Lexer.{usize_max}
-use Rattle.clap.specs.Walk.{Row, Text, rows_after}
+use Rattle.clap.specs.Walk.{Text, rows_after}
 use Rattle.clap.specs.Simple.{Shape, subcommand_of}
 use Rattle.clap.specs.Faults.{fault_of}
 use Rattle.clap.proofs.OnLiterals.{clap_on_literals}
-use Rattle.wd_command.specs.CommandLine.{Asked, Check, Explain, Refute, Run, Verify, asked_after, asked_in, command_line, line_of, three_paths, two_paths}
-use Rattle.wd_command.specs.Words.{IsPlain}
-use Rattle.wd_command.proofs.CommandLineLemmas.{IsCommand, IsName, all_names, command_fault, command_rows, first_word, no_help, plain_first, plain_rest}
-use Rattle.wd_command.proofs.CommandWordsLemmas.{file_passes, file_rows, file_shape, file_words, paths_pass, paths_rows, paths_shape, paths_words, tables_pass, tables_rows, tables_shape, tables_words}
+use Rattle.wd_command.specs.CommandLine.{AreWordsOf, asked_after, asked_in, check_of, command_line, verify_of}
+use Rattle.wd_command.specs.Words.{ArePlain, Asked, Check, CheckList, Explain, IsPlain, Refute, Run, Verify, VerifyList, arguments_of, words_of}
+use Rattle.wd_command.proofs.CommandLineLemmas.{IsCommand, IsName, all_names, command_fault, command_rows, first_word, level, no_help, plain_first, plain_rest}
+use Rattle.wd_command.proofs.CommandWordsLemmas.{check_found, explain_found, file_fine, file_refuses, file_shape, file_wanted, flagged, list_file_fine, list_file_shape, list_file_taken, list_file_wanted, list_fine, list_shape, list_taken, list_wanted, paths_fine, paths_refuse, paths_shape, paths_wanted, refute_found, tables_pass, tables_refuse, tables_rows, tables_shape, tables_words, three_pass, three_rows, three_words, two_pass, two_rows, two_words, verify_found}
 
-check : IsCommand (codes "check") (paths_shape (codes "check"))
+check : IsCommand (codes "check") (list_shape (codes "check"))
 unfolding clap_on_literals
 check = record { step = refl; turn = refl; is = refl }
 
@@ -20,7 +22,7 @@ explain : IsCommand (codes "explain") (paths_shape (codes "explain"))
 unfolding clap_on_literals
 explain = record { step = refl; turn = refl; is = refl }
 
-verify : IsCommand (codes "verify") (file_shape (codes "verify"))
+verify : IsCommand (codes "verify") (list_file_shape (codes "verify"))
 unfolding clap_on_literals
 verify = record { step = refl; turn = refl; is = refl }
 
@@ -37,50 +39,78 @@ run = record { step = refl; turn = refl; is = refl }
 -- the words are those of a command, and a parse finds what they ask for
 pub record IsLine (words : List Text) : Type 0 where
   pub asked : Asked
-  pub line : words ≡ line_of asked
+  pub line : words ≡ words_of asked
   pub found : asked_in (subcommand_of command_line words) ≡ Some asked
 
--- after the name of a command
+-- after the name of a command, and a flag or none
 abbrev IsLineAfter : Text → Type 0
-IsLineAfter name = (words : List Text) → All IsPlain words → fault_of command_line (name ∷ words) ≡ [] → IsLine (name ∷ words)
+IsLineAfter name = (given : Bool) (words : List Text) → All IsPlain words → fault_of command_line (name ∷ flagged given words) ≡ [] → IsLine (name ∷ flagged given words)
 
-line_is : (name : Text) (s : Shape) (asked : Asked) (words rest : List Text) → IsCommand name s → words ≡ rest → line_of asked ≡ name ∷ rest
-    → asked_after s.name (rows_after s.rules [] rest) ≡ Some asked → IsLine (name ∷ words)
-line_is name s asked words rest command is line finds = record {
+line_is : (name : Text) (s : Shape) (asked : Asked) (given : Bool) (words rest : List Text) → IsCommand name s → words ≡ rest → words_of asked ≡ name ∷ flagged given rest
+    → asked_after s.name (rows_after s.rules [] (flagged given rest)) ≡ Some asked → IsLine (name ∷ flagged given words)
+line_is name s asked given words rest command is line finds = record {
   asked = asked;
-  line = ap (λ (ws : List Text). name ∷ ws) is ∙ sym line;
-  found = ap asked_in (ap (λ (ws : List Text). subcommand_of command_line (name ∷ ws)) is ∙ command_rows name s command rest) ∙ finds;
+  line = ap (λ (ws : List Text). name ∷ flagged given ws) is ∙ sym line;
+  found = ap asked_in (ap (λ (ws : List Text). subcommand_of command_line (name ∷ flagged given ws)) is ∙ command_rows name s command (flagged given rest)) ∙ finds;
 }
 
--- a command that wants the paths of a schema and a query
-line_of_paths : (name : Text) (asked : Text → Text → Asked) → IsCommand name (paths_shape name) → ((s q : Text) → line_of (asked s q) ≡ name ∷ s ∷ q ∷ [])
-    → ((rows : List Row) → asked_after name rows ≡ option_map (λ paths. asked paths.0 paths.1) (two_paths rows)) → IsLineAfter name
-line_of_paths name asked command line finds words plain none =
-    let given = paths_words name words plain (sym (command_fault name (paths_shape name) command words) ∙ none) in
-    let rest = given.0 ∷ given.1 ∷ [] in
-    line_is name (paths_shape name) (asked given.0 given.1) words rest command given.2 (line given.0 given.1)
-    (finds (rows_after (paths_shape name).rules [] rest)
-    ∙ ap (option_map (λ (paths : Text × Text). asked paths.0 paths.1)) (paths_rows name given.0 given.1 (subst (All IsPlain) given.2 plain)))
+-- the words behind the name have no fault
+behind_name : (name : Text) (s : Shape) → IsCommand name s → (words : List Text) → fault_of command_line (name ∷ words) ≡ [] → level s words ≡ []
+behind_name name s command words none = sym (command_fault name s command words) ∙ none
 
--- a command that wants one more path
-line_of_file : (name : Text) (asked : Text → Text → Text → Asked) → IsCommand name (file_shape name) → ((s q f : Text) → line_of (asked s q f) ≡ name ∷ s ∷ q ∷ f ∷ [])
-    → ((rows : List Row) → asked_after name rows ≡ option_map (λ paths. asked paths.0 paths.1 paths.2) (three_paths rows)) → IsLineAfter name
-line_of_file name asked command line finds words plain none =
-    let given = file_words name words plain (sym (command_fault name (file_shape name) command words) ∙ none) in
-    let rest = given.0 ∷ given.1 ∷ given.2 ∷ [] in
-    line_is name (file_shape name) (asked given.0 given.1 given.2) words rest command given.3 (line given.0 given.1 given.2)
-    (finds (rows_after (file_shape name).rules [] rest)
-    ∙ ap (option_map (λ (paths : Text × Text × Text). asked paths.0 paths.1 paths.2)) (file_rows name given.0 given.1 given.2 (subst (All IsPlain) given.3 plain)))
+not_given : {X : Type 0} → false ≡ true → X
+not_given same = cc
+
+check_line : (given : Bool) (s q : Text) → words_of (check_of given (s, q)) ≡ codes "check" ∷ flagged given (s ∷ q ∷ [])
+check_line true s q = refl
+check_line false s q = refl
+
+line_of_check : IsLineAfter (codes "check")
+line_of_check given words plain none =
+    let s = list_shape (codes "check") in
+    let takes = λ (is : given ≡ true). list_taken (codes "check") in
+    let paths = two_words (codes "check") (drop 2 s.rules) given takes (list_wanted (codes "check") given) words plain (behind_name (codes "check") s check (flagged given words) none) in
+    line_is (codes "check") s (check_of given (paths.0, paths.1)) given words (paths.0 ∷ paths.1 ∷ []) check paths.2 (check_line given paths.0 paths.1)
+    (ap (asked_after (codes "check")) (two_rows (codes "check") (drop 2 s.rules) given takes paths.0 paths.1 (subst (All IsPlain) paths.2 plain)) ∙ check_found given paths.0 paths.1)
+
+line_of_explain : IsLineAfter (codes "explain")
+line_of_explain true words plain none = absurd (paths_refuse (codes "explain") words (behind_name (codes "explain") (paths_shape (codes "explain")) explain (flagged true words) none))
+line_of_explain false words plain none =
+    let s = paths_shape (codes "explain") in
+    let paths = two_words (codes "explain") (drop 2 s.rules) false not_given (paths_wanted (codes "explain")) words plain (behind_name (codes "explain") s explain words none) in
+    line_is (codes "explain") s (Explain paths.0 paths.1) false words (paths.0 ∷ paths.1 ∷ []) explain paths.2 refl
+    (ap (asked_after (codes "explain")) (two_rows (codes "explain") (drop 2 s.rules) false not_given paths.0 paths.1 (subst (All IsPlain) paths.2 plain)) ∙ explain_found paths.0 paths.1)
+
+verify_line : (given : Bool) (s q f : Text) → words_of (verify_of given (s, q, f)) ≡ codes "verify" ∷ flagged given (s ∷ q ∷ f ∷ [])
+verify_line true s q f = refl
+verify_line false s q f = refl
+
+line_of_verify : IsLineAfter (codes "verify")
+line_of_verify given words plain none =
+    let s = list_file_shape (codes "verify") in
+    let takes = λ (is : given ≡ true). list_file_taken (codes "verify") in
+    let paths = three_words (codes "verify") (drop 3 s.rules) given takes (list_file_wanted (codes "verify") given) words plain (behind_name (codes "verify") s verify (flagged given words) none) in
+    line_is (codes "verify") s (verify_of given (paths.0, paths.1, paths.2)) given words (paths.0 ∷ paths.1 ∷ paths.2 ∷ []) verify paths.3 (verify_line given paths.0 paths.1 paths.2)
+    (ap (asked_after (codes "verify")) (three_rows (codes "verify") (drop 3 s.rules) given takes paths.0 paths.1 paths.2 (subst (All IsPlain) paths.3 plain)) ∙ verify_found given paths.0 paths.1 paths.2)
+
+line_of_refute : IsLineAfter (codes "refute")
+line_of_refute true words plain none = absurd (file_refuses (codes "refute") words (behind_name (codes "refute") (file_shape (codes "refute")) refute (flagged true words) none))
+line_of_refute false words plain none =
+    let s = file_shape (codes "refute") in
+    let paths = three_words (codes "refute") (drop 3 s.rules) false not_given (file_wanted (codes "refute")) words plain (behind_name (codes "refute") s refute words none) in
+    line_is (codes "refute") s (Refute paths.0 paths.1 paths.2) false words (paths.0 ∷ paths.1 ∷ paths.2 ∷ []) refute paths.3 refl
+    (ap (asked_after (codes "refute")) (three_rows (codes "refute") (drop 3 s.rules) false not_given paths.0 paths.1 paths.2 (subst (All IsPlain) paths.3 plain)) ∙ refute_found paths.0 paths.1 paths.2)
 
 line_of_run : IsLineAfter (codes "run")
-line_of_run words plain none =
+line_of_run true words plain none = absurd (tables_refuse (codes "run") words (behind_name (codes "run") (tables_shape (codes "run")) run (flagged true words) none))
+line_of_run false words plain none =
     let name = codes "run" in
-    let given = tables_words name words plain (sym (command_fault name (tables_shape name) run words) ∙ none) in
-    line_is name (tables_shape name) (Run given.0 given.1 given.2) words (given.0 ∷ given.1 ∷ given.2) run given.3 refl
+    let given = tables_words name words plain (behind_name name (tables_shape name) run words none) in
+    line_is name (tables_shape name) (Run given.0 given.1 given.2) false words (given.0 ∷ given.1 ∷ given.2) run given.3 refl
     (tables_rows name given.0 given.1 given.2 (subst (All IsPlain) given.3 plain))
 
 line_of_help : IsLineAfter (codes "help")
-line_of_help words plain none = absurd (no_help words none)
+line_of_help given words plain none = absurd (no_help (flagged given words) none)
 
 -- after each of the names
 abbrev EachLine : List Text → Type 0
@@ -88,48 +118,78 @@ EachLine [] = ⊤
 EachLine (name ∷ names) = IsLineAfter name × EachLine names
 
 each_line : EachLine all_names
-each_line = (
-  line_of_paths (codes "check") Check check (λ s q. refl) (λ rows. refl),
-  (
-    line_of_paths (codes "explain") Explain explain (λ s q. refl) (λ rows. refl),
-    (
-      line_of_file (codes "verify") Verify verify (λ s q f. refl) (λ rows. refl),
-      (
-        line_of_file (codes "refute") Refute refute (λ s q f. refl) (λ rows. refl),
-        (
-          line_of_run,
-          (line_of_help, tt),
-        ),
-      ),
-    ),
-  ),
-)
+each_line = (line_of_check, (line_of_explain, (line_of_verify, (line_of_refute, (line_of_run, (line_of_help, tt))))))
 
-line_among : (names : List Text) → EachLine names → (word : Text) (words : List Text) → All IsPlain (word ∷ words) → fault_of command_line (word ∷ words) ≡ [] → IsName names word → IsLine (word ∷ words)
-line_among [] lines word words plain none there = absurd there
-line_among (name ∷ names) lines word words plain none (inl is) =
-    subst (λ (w : Text). IsLine (w ∷ words)) (sym is) (lines.0 words (plain_rest word words plain) (subst (λ (w : Text). fault_of command_line (w ∷ words) ≡ []) is none))
-line_among (name ∷ names) lines word words plain none (inr there) = line_among names lines.1 word words plain none there
+line_among : (names : List Text) → EachLine names → (word : Text) (given : Bool) (words : List Text) → All IsPlain words
+    → fault_of command_line (word ∷ flagged given words) ≡ [] → IsName names word → IsLine (word ∷ flagged given words)
+line_among [] lines word given words plain none there = absurd there
+line_among (name ∷ names) lines word given words plain none (inl is) =
+    subst (λ (w : Text). IsLine (w ∷ flagged given words)) (sym is)
+    (lines.0 given words plain (subst (λ (w : Text). fault_of command_line (w ∷ flagged given words) ≡ []) is none))
+line_among (name ∷ names) lines word given words plain none (inr there) = line_among names lines.1 word given words plain none there
 
-pub line_found : (words : List Text) → All IsPlain words → fault_of command_line words ≡ [] → IsLine words
+line_with : (given : Bool) (word : Text) (words : List Text) → All IsPlain (word ∷ words) → fault_of command_line (word ∷ flagged given words) ≡ [] → IsLine (word ∷ flagged given words)
+line_with given word words plain none =
+    line_among all_names each_line word given words (plain_rest word words plain) none (first_word word (flagged given words) (plain_first word words plain) none)
+
+pub line_found : (words : List Text) → ArePlain words → fault_of command_line words ≡ [] → IsLine words
 line_found [] plain none = unfold clap_on_literals in cc
-line_found (word ∷ words) plain none = line_among all_names each_line word words plain none (first_word word words (plain_first word words plain) none)
+line_found (name ∷ []) plain none = line_with false name [] plain none
+line_found (name ∷ word ∷ words) plain none = go (bytes_eq word (codes "--list")) refl
+  where
+    go : (is : Bool) → bytes_eq word (codes "--list") ≡ is → IsLine (name ∷ word ∷ words)
+    go true is =
+        let same = (bytes_decides word (codes "--list")).0 is in
+        subst (λ (w : Text). IsLine (name ∷ w ∷ words)) (sym same)
+        (line_with true name words (rw is at plain) (subst (λ (w : Text). fault_of command_line (name ∷ w ∷ words) ≡ []) same none))
+    go false is = line_with false name (word ∷ words) (rw is at plain) none
 
--- ---- the lines of the commands have no fault
+-- they ask for nothing else
+pub only_line : (words : List Text) (asked : Asked) → ArePlain words → AreWordsOf words asked → words ≡ words_of asked
+only_line words asked plain are =
+    let line = line_found words plain are.fine in
+    line.line ∙ ap (λ found. words_of (unwrap_or found asked)) (sym line.found ∙ are.found)
 
-paths_line_passes : (name : Text) → IsCommand name (paths_shape name) → (s q : Text) → All IsPlain (name ∷ s ∷ q ∷ []) → fault_of command_line (name ∷ s ∷ q ∷ []) ≡ []
-paths_line_passes name command s q plain =
-    command_fault name (paths_shape name) command (s ∷ q ∷ []) ∙ paths_pass name s q (plain_rest name (s ∷ q ∷ []) plain)
+-- ---- the lines of the commands have no fault, and ask for what they say
 
-file_line_passes : (name : Text) → IsCommand name (file_shape name) → (s q f : Text) → All IsPlain (name ∷ s ∷ q ∷ f ∷ []) → fault_of command_line (name ∷ s ∷ q ∷ f ∷ []) ≡ []
-file_line_passes name command s q f plain =
-    command_fault name (file_shape name) command (s ∷ q ∷ f ∷ []) ∙ file_passes name s q f (plain_rest name (s ∷ q ∷ f ∷ []) plain)
+are_words : (name : Text) (s : Shape) (asked : Asked) (words : List Text) → IsCommand name s → level s words ≡ [] → asked_after s.name (rows_after s.rules [] words) ≡ Some asked
+    → AreWordsOf (name ∷ words) asked
+are_words name s asked words command none finds = record {
+  fine = command_fault name s command words ∙ none;
+  found = ap asked_in (command_rows name s command words) ∙ finds;
+}
 
-pub line_passes : (asked : Asked) → All IsPlain (line_of asked) → length (line_of asked) ≤ usize_max → fault_of command_line (line_of asked) ≡ []
-line_passes (Check s q) plain below = paths_line_passes (codes "check") check s q plain
-line_passes (Explain s q) plain below = paths_line_passes (codes "explain") explain s q plain
-line_passes (Verify s q f) plain below = file_line_passes (codes "verify") verify s q f plain
-line_passes (Refute s q f) plain below = file_line_passes (codes "refute") refute s q f plain
-line_passes (Run s q tables) plain below =
-    let name = codes "run" in
-    command_fault name (tables_shape name) run (s ∷ q ∷ tables) ∙ tables_pass name s q tables (plain_rest name (s ∷ q ∷ tables) plain) (omega (arith, below))
+check_taken : (given : Bool) (s q : Text) → All IsPlain (s ∷ q ∷ []) → AreWordsOf (codes "check" ∷ flagged given (s ∷ q ∷ [])) (check_of given (s, q))
+check_taken given s q plain =
+    let shape = list_shape (codes "check") in
+    let takes = λ (is : given ≡ true). list_taken (codes "check") in
+    are_words (codes "check") shape (check_of given (s, q)) (flagged given (s ∷ q ∷ [])) check
+    (two_pass (codes "check") (drop 2 shape.rules) given takes s q (list_fine (codes "check") given s q) plain)
+    (ap (asked_after (codes "check")) (two_rows (codes "check") (drop 2 shape.rules) given takes s q plain) ∙ check_found given s q)
+
+verify_taken : (given : Bool) (s q f : Text) → All IsPlain (s ∷ q ∷ f ∷ []) → AreWordsOf (codes "verify" ∷ flagged given (s ∷ q ∷ f ∷ [])) (verify_of given (s, q, f))
+verify_taken given s q f plain =
+    let shape = list_file_shape (codes "verify") in
+    let takes = λ (is : given ≡ true). list_file_taken (codes "verify") in
+    are_words (codes "verify") shape (verify_of given (s, q, f)) (flagged given (s ∷ q ∷ f ∷ [])) verify
+    (three_pass (codes "verify") (drop 3 shape.rules) given takes s q f (list_file_fine (codes "verify") given s q f) plain)
+    (ap (asked_after (codes "verify")) (three_rows (codes "verify") (drop 3 shape.rules) given takes s q f plain) ∙ verify_found given s q f)
+
+pub line_taken : (asked : Asked) → All IsPlain (arguments_of asked) → length (arguments_of asked) ≤ usize_max → AreWordsOf (words_of asked) asked
+line_taken (Check s q) plain below = check_taken false s q plain
+line_taken (CheckList s q) plain below = check_taken true s q plain
+line_taken (Explain s q) plain below =
+    let shape = paths_shape (codes "explain") in
+    are_words (codes "explain") shape (Explain s q) (s ∷ q ∷ []) explain
+    (two_pass (codes "explain") (drop 2 shape.rules) false not_given s q (paths_fine (codes "explain") s q) plain)
+    (ap (asked_after (codes "explain")) (two_rows (codes "explain") (drop 2 shape.rules) false not_given s q plain) ∙ explain_found s q)
+line_taken (Verify s q f) plain below = verify_taken false s q f plain
+line_taken (VerifyList s q f) plain below = verify_taken true s q f plain
+line_taken (Refute s q f) plain below =
+    let shape = file_shape (codes "refute") in
+    are_words (codes "refute") shape (Refute s q f) (s ∷ q ∷ f ∷ []) refute
+    (three_pass (codes "refute") (drop 3 shape.rules) false not_given s q f (file_fine (codes "refute") s q f) plain)
+    (ap (asked_after (codes "refute")) (three_rows (codes "refute") (drop 3 shape.rules) false not_given s q f plain) ∙ refute_found s q f)
+line_taken (Run s q tables) plain below =
+    are_words (codes "run") (tables_shape (codes "run")) (Run s q tables) (s ∷ q ∷ tables) run
+    (tables_pass (codes "run") s q tables plain (omega (arith, below))) (tables_rows (codes "run") s q tables plain)

@@ -1,56 +1,14 @@
--- The command line: what its words ask for, and its shape in the words of `clap`.
-use Rattle.std.specs.Prelude.{◌≡◌, ℕ, List, [], ◌∷◌, map, codes, if◌then◌else◌, All, Option, Some, None, option_and_then, option_map, fold, true, unwrap_or}
+-- The command line: its shape in the words of `clap`, and what words ask for.
+use Rattle.std.specs.Prelude.{◌≡◌, ◌≢◌, ℕ, Bool, List, [], ◌∷◌, map, codes, if◌then◌else◌, Option, Some, None, option_and_then, option_map, fold, false, true, unwrap_or}
+use Rattle.std.specs.Option.{option_map_or}
 use Rattle.std.specs.Str.{bytes_eq}
-use Rattle.clap.specs.Words.{App, Row, Rule, all_of, first_of, new_app, new_rule, with_rule, with_subcommand}
+use Rattle.clap.specs.Words.{App, Row, Rule, all_of, fault_of, first_of, new_app, new_rule, one_of, subcommand_of, with_rule, with_subcommand}
 use Rattle.clap.specs.Simple.{on_top}
 use Rattle.clap.specs.Lexer.{usize_max}
-use Rattle.wd_command.specs.Words.{IsPlain}
+use Rattle.clap.specs.declared.builder.action.ArgAction.TheVariants.{SetTrue}
+use Rattle.wd_command.specs.Words.{Asked, Task, Check, CheckList, Explain, Verify, VerifyList, Refute, Run, IsCut, asked_of}
 use Rattle.wd_command.specs.declared.words.Request.{Request}
 use Rattle.wd_command.specs.declared.words.Request.TheVariants as request
-
--- ---- what the words ask for
-
--- what a command line asks for: the paths, and at `run` the words NAME=PATH
-pub data Asked : Type 0 where
-  Check : (schema query : List ℕ) → Asked
-  Explain : (schema query : List ℕ) → Asked
-  Verify : (schema query certificate : List ℕ) → Asked
-  Refute : (schema query witness : List ℕ) → Asked
-  Run : (schema query : List ℕ) (tables : List (List ℕ)) → Asked
-
--- its words
-abbrev pub line_of : Asked → List (List ℕ)
-line_of (Check schema query) = codes "check" ∷ schema ∷ query ∷ []
-line_of (Explain schema query) = codes "explain" ∷ schema ∷ query ∷ []
-line_of (Verify schema query certificate) = codes "verify" ∷ schema ∷ query ∷ certificate ∷ []
-line_of (Refute schema query witness) = codes "refute" ∷ schema ∷ query ∷ witness ∷ []
-line_of (Run schema query tables) = codes "run" ∷ schema ∷ query ∷ tables
-
--- the words NAME=PATH
-abbrev pub table_words : Asked → List (List ℕ)
-table_words (Check schema query) = []
-table_words (Explain schema query) = []
-table_words (Verify schema query certificate) = []
-table_words (Refute schema query witness) = []
-table_words (Run schema query tables) = tables
-
--- what a request of the code asks for
-abbrev pub asked_by : Request → Asked
-asked_by (request.Check schema query) = Check schema.now query.now
-asked_by (request.Explain schema query) = Explain schema.now query.now
-asked_by (request.Verify schema query certificate) = Verify schema.now query.now certificate.now
-asked_by (request.Refute schema query witness) = Refute schema.now query.now witness.now
-asked_by (request.Run schema query tables) = Run schema.now query.now (map (λ w. w.now) tables.items)
-
--- the words are those of the request, where none begins with a hyphen; others are read as `clap` reads them
-abbrev pub AreWordsOf : List (List ℕ) → Request → Type 0
-AreWordsOf words request = All IsPlain words → words ≡ line_of (asked_by request)
-
--- the words are those of a command, and none begins with a hyphen
-pub record AreCommandLine (words : List (List ℕ)) : Type 0 where
-  pub asked : Asked
-  pub line : words ≡ line_of asked
-  pub plain : All IsPlain words
 
 -- ---- the commands, in the words of `clap`
 
@@ -61,6 +19,10 @@ wanted id = record (new_rule id) { required = true; value_names = 1 }
 -- positional words, as many as there are
 abbrev pub any_number : List ℕ → Rule
 any_number id = record (new_rule id) { range = Some (record { start_inclusive = 0; end_inclusive = usize_max }); value_names = 1 }
+
+-- a flag
+abbrev pub flag : List ℕ → Rule
+flag id = record (new_rule id) { long = Some id; action = Some SetTrue }
 
 -- `NAME SCHEMA QUERY`
 abbrev pub paths_command : List ℕ → App
@@ -74,14 +36,18 @@ file_command name = with_rule (paths_command name) (wanted (codes "file"))
 abbrev pub tables_command : List ℕ → App
 tables_command name = with_rule (paths_command name) (any_number (codes "tables"))
 
+-- a command that has the flag `--list` too
+abbrev pub with_list : App → App
+with_list command = with_rule command (flag (codes "list"))
+
 -- the program's name, where a command is wanted after it
 abbrev pub program : App
 program = on_top (λ top. record top { no_binary_name = true; subcommand_required = true }) (new_app (codes "wdcheck"))
 
 -- the program's commands
 abbrev pub commands : List App
-commands = paths_command (codes "check") ∷ paths_command (codes "explain") ∷ file_command (codes "verify") ∷ file_command (codes "refute")
-    ∷ tables_command (codes "run") ∷ []
+commands = with_list (paths_command (codes "check")) ∷ paths_command (codes "explain") ∷ with_list (file_command (codes "verify"))
+    ∷ file_command (codes "refute") ∷ tables_command (codes "run") ∷ []
 
 abbrev pub command_line : App
 command_line = fold (λ above command. with_subcommand above command.top) program commands
@@ -96,15 +62,26 @@ two_paths rows = option_and_then (λ schema. option_map (λ query. (schema, quer
 abbrev pub three_paths : List Row → Option (List ℕ × List ℕ × List ℕ)
 three_paths rows = option_and_then (λ file. option_map (λ paths. (paths.0, paths.1, file)) (two_paths rows)) (first_of (codes "file") rows)
 
+-- the flag `--list` was given
+abbrev pub is_listed : List Row → Bool
+is_listed rows = option_map_or (λ text. bytes_eq text (codes "true")) (one_of (codes "list") rows) false
+
 -- words NAME=PATH
 abbrev pub tables_in : List Row → List (List ℕ)
 tables_in rows = unwrap_or (all_of (codes "tables") rows) []
 
+-- what `check` and `verify` are asked for, by the flag and the paths
+abbrev pub check_of : Bool → List ℕ × List ℕ → Asked
+check_of listed paths = if listed then CheckList paths.0 paths.1 else Check paths.0 paths.1
+
+abbrev pub verify_of : Bool → List ℕ × List ℕ × List ℕ → Asked
+verify_of listed paths = if listed then VerifyList paths.0 paths.1 paths.2 else Verify paths.0 paths.1 paths.2
+
 -- what is asked for by a command's name and what stands after it
 abbrev pub asked_after : List ℕ → List Row → Option Asked
-asked_after name rows = if bytes_eq name (codes "check") then option_map (λ paths. Check paths.0 paths.1) (two_paths rows)
+asked_after name rows = if bytes_eq name (codes "check") then option_map (check_of (is_listed rows)) (two_paths rows)
     else (if bytes_eq name (codes "explain") then option_map (λ paths. Explain paths.0 paths.1) (two_paths rows)
-    else (if bytes_eq name (codes "verify") then option_map (λ paths. Verify paths.0 paths.1 paths.2) (three_paths rows)
+    else (if bytes_eq name (codes "verify") then option_map (verify_of (is_listed rows)) (three_paths rows)
     else (if bytes_eq name (codes "refute") then option_map (λ paths. Refute paths.0 paths.1 paths.2) (three_paths rows)
     else (if bytes_eq name (codes "run") then option_map (λ paths. Run paths.0 paths.1 (tables_in rows)) (two_paths rows)
     else None))))
@@ -112,3 +89,30 @@ asked_after name rows = if bytes_eq name (codes "check") then option_map (λ pat
 -- what is asked for by the command that a parse has met
 abbrev pub asked_in : Option (List ℕ × List Row) → Option Asked
 asked_in met = option_and_then (λ command. asked_after command.0 command.1) met
+
+-- what a request of the code asks for
+abbrev pub asked_by : Request → Asked
+asked_by (request.Check schema query) = Check schema.now query.now
+asked_by (request.CheckList schema query) = CheckList schema.now query.now
+asked_by (request.Explain schema query) = Explain schema.now query.now
+asked_by (request.Verify schema query certificate) = Verify schema.now query.now certificate.now
+asked_by (request.VerifyList schema query certificate) = VerifyList schema.now query.now certificate.now
+asked_by (request.Refute schema query witness) = Refute schema.now query.now witness.now
+asked_by (request.Run schema query tables) = Run schema.now query.now (map (λ w. w.now) tables.items)
+
+-- ---- what words ask for
+
+-- `clap` finds no fault in the words, and what a parse of them finds asks for this
+pub record AreWordsOf (words : List (List ℕ)) (asked : Asked) : Type 0 where
+  pub fine : fault_of command_line words ≡ []
+  pub found : asked_in (subcommand_of command_line words) ≡ Some asked
+
+-- the words ask for the task, each word NAME=PATH of which is cut at its first `=`
+pub record AskFor (words : List (List ℕ)) (task : Task) : Type 0 where
+  pub asked : AreWordsOf words (asked_of task)
+  pub cut : IsCut task
+
+-- there are words, and they ask for nothing
+pub record AreOtherWords (words : List (List ℕ)) : Type 0 where
+  pub some : words ≢ []
+  pub other : (asked : Asked) → AreWordsOf words asked → ⊥

@@ -5,20 +5,24 @@ use Rattle.wd_value.specs.declared.value.Fault.{Fault}
 use Rattle.wd_tables.specs.Answers.{answer_text}
 use Rattle.wd_run.specs.Runs.{IsAnswer}
 use Rattle.wd_accept.specs.Acceptance.{IsAccepted}
+use Rattle.wd_accept.specs.Lists.{IsListAccepted}
 use Rattle.wd_refute.specs.Refutation.{IsRefuted}
+use Rattle.wd_decide.specs.Lists.{IsListVerdict}
 use Rattle.wd_decide.specs.Verdicts.{IsExamined, IsVerdict}
+use Rattle.wd_decide.specs.declared.list.ListVerdict.{ListVerdict}
 use Rattle.wd_decide.specs.declared.verdict.Examined.{Examined}
 use Rattle.wd_decide.specs.declared.verdict.Verdict.{Verdict}
 use Rattle.wd_report.specs.Plans.{Explains}
-use Rattle.wd_report.specs.Verdicts.{verdict_status, verdict_text}
+use Rattle.wd_report.specs.Verdicts.{list_status, list_text, verdict_status, verdict_text}
 use Rattle.wd_report.specs.Words.{line}
+use Rattle.wd_command.specs.CommandLine.{AskFor}
 use Rattle.wd_command.specs.Files.{File}
-use Rattle.wd_command.specs.Words.{AskFor, Task, Check, Explain, Verify, Refute, Run, paths_of}
+use Rattle.wd_command.specs.Words.{Task, Check, CheckList, Explain, Verify, VerifyList, Refute, Run, paths_of}
 
 -- the forms of the command line, one a line
 abbrev pub usage_text : List ℕ
-usage_text = line (codes "wdcheck check SCHEMA QUERY") ++ line (codes "wdcheck explain SCHEMA QUERY")
-    ++ line (codes "wdcheck verify SCHEMA QUERY CERT") ++ line (codes "wdcheck refute SCHEMA QUERY WITNESS")
+usage_text = line (codes "wdcheck check [--list] SCHEMA QUERY") ++ line (codes "wdcheck explain SCHEMA QUERY")
+    ++ line (codes "wdcheck verify [--list] SCHEMA QUERY CERT") ++ line (codes "wdcheck refute SCHEMA QUERY WITNESS")
     ++ line (codes "wdcheck run SCHEMA QUERY [NAME=PATH]...")
 
 -- the text of the file with a number
@@ -49,6 +53,10 @@ pub record HasFault (schema query : List ℕ) (given : List (List ℕ × List �
 abbrev pub AnswersCheck : List File → List ℕ → ℕ → Type 0
 AnswersCheck files text status = (verdict : Verdict) × IsVerdict (text_at files 0) (text_at files 1) verdict × (text ≡ verdict_text verdict) × (status ≡ verdict_status verdict)
 
+-- and what `check --list` prints
+abbrev pub AnswersCheckList : List File → List ℕ → ℕ → Type 0
+AnswersCheckList files text status = (verdict : ListVerdict) × IsListVerdict (text_at files 0) (text_at files 1) verdict × (text ≡ list_text verdict) × (status ≡ list_status verdict)
+
 -- what `explain` prints for them
 abbrev pub AnswersExplain : List File → List ℕ → ℕ → Type 0
 AnswersExplain files text status = (examined : Examined) × IsExamined (text_at files 0) (text_at files 1) examined × Explains examined text status
@@ -56,6 +64,10 @@ AnswersExplain files text status = (examined : Examined) × IsExamined (text_at 
 -- what `verify` prints for the files of a schema, a query and a certificate
 abbrev pub AnswersVerify : List File → List ℕ → ℕ → Type 0
 AnswersVerify files text status = IsAccepted (text_at files 0) (text_at files 1) (text_at files 2) × (text ≡ line (codes "ACCEPTED")) × (status ≡ 0)
+
+-- and what `verify --list` prints
+abbrev pub AnswersVerifyList : List File → List ℕ → ℕ → Type 0
+AnswersVerifyList files text status = IsListAccepted (text_at files 0) (text_at files 1) (text_at files 2) × (text ≡ line (codes "ACCEPTED")) × (status ≡ 0)
 
 -- what `refute` prints for the files of a schema, a query and a witness
 abbrev pub AnswersRefute : List File → List ℕ → ℕ → Type 0
@@ -68,8 +80,10 @@ AnswersRun tables files text status = IsAnswerText (text_at files 0) (text_at fi
 -- what is printed for a task over its files
 abbrev pub HasAnswer : Task → List File → List ℕ → ℕ → Type 0
 HasAnswer (Check schema query) files text status = AnswersCheck files text status
+HasAnswer (CheckList schema query) files text status = AnswersCheckList files text status
 HasAnswer (Explain schema query) files text status = AnswersExplain files text status
 HasAnswer (Verify schema query certificate) files text status = AnswersVerify files text status
+HasAnswer (VerifyList schema query certificate) files text status = AnswersVerifyList files text status
 HasAnswer (Refute schema query witness) files text status = AnswersRefute files text status
 HasAnswer (Run schema query tables) files text status = AnswersRun tables files text status
 

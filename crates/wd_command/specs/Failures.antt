@@ -1,5 +1,5 @@
 -- Why the program ends without its output: the exit status, the line on standard error, and what stands after it.
-use Rattle.std.specs.Prelude.{◌≡◌, ◌≢◌, ℕ, ⊤, List, [], ◌∷◌, ◌++◌, codes, drop, map, All, Any, Option, Some, None, IfSome}
+use Rattle.std.specs.Prelude.{◌≡◌, ◌≢◌, ℕ, ⊤, List, [], ◌++◌, codes, drop, map, Any, Option, Some, None, IfSome}
 use Rattle.std.specs.Fmt.{decimal}
 use Rattle.clap.specs.Values.{kind_of}
 use Rattle.clap.specs.declared.error.Error.{Error}
@@ -12,6 +12,7 @@ use Rattle.wd_run.specs.Causes as runs
 use Rattle.wd_run.specs.declared.error.RunError.{RunError}
 use Rattle.wd_run.specs.declared.error.RunError.TheVariants as run
 use Rattle.wd_accept.specs.Acceptance as acceptance
+use Rattle.wd_accept.specs.Lists as lists
 use Rattle.wd_accept.specs.declared.error.VerifyError.{VerifyError}
 use Rattle.wd_accept.specs.declared.error.VerifyError.TheVariants as verify
 use Rattle.wd_refute.specs.Refutation as refutation
@@ -22,10 +23,11 @@ use Rattle.wd_decide.specs.Verdicts as verdicts
 use Rattle.wd_decide.specs.declared.error.DecideError.{DecideError}
 use Rattle.wd_decide.specs.declared.error.DecideError.TheVariants as decide
 use Rattle.wd_report.specs.Words.{line}
+use Rattle.wd_command.specs.CommandLine.{AreOtherWords, AreWordsOf, AskFor}
 use Rattle.wd_command.specs.Commands.{HasFault, data_in, text_at}
 use Rattle.wd_command.specs.Files.{File, HandsOver, Reads, ReadsNothing, StandsNext, StopsAt}
 use Rattle.wd_command.specs.Streams.{AppendsPart}
-use Rattle.wd_command.specs.Words.{AreOtherWords, AskFor, HasNoEquals, IsPlain, Task, Check, Explain, Verify, Refute, Run, paths_of}
+use Rattle.wd_command.specs.Words.{HasNoEquals, Task, Check, CheckList, Explain, Verify, VerifyList, Refute, Run, paths_of}
 use Rattle.wd_command.specs.declared.failure.Failure.{Failure}
 use Rattle.wd_command.specs.declared.failure.Failure.TheVariants.{CommandLine, NotText, Unassigned, Refused, Fault, CannotRead, CannotWrite, OutOfMemory}
 use Rattle.wd_command.specs.declared.failure.Input.{Input}
@@ -108,6 +110,7 @@ run_input run.OutOfMemory = input.Run
 abbrev pub verify_input : VerifyError → Input
 verify_input (verify.Texts error) = text_input error
 verify_input (verify.Certificate error) = input.Certificate
+verify_input verify.Unlisted = input.Certificate
 
 -- or that of a witness; 802 is about the run
 abbrev pub witness_input : WitnessError → Input
@@ -168,13 +171,17 @@ IsRefusalBy {E = E} HasCause IsRefusal (Refused refusal) = (error : E) × HasCau
 IsRefusalBy HasCause IsRefusal OutOfMemory = ⊤
 IsRefusalBy HasCause IsRefusal failure = ⊥
 
--- `check` and `explain` over the files of a schema and a query are refused
+-- `check`, with the flag or without, and `explain` over the files of a schema and a query are refused
 abbrev pub FailsDecide : List File → Failure → Type 0
 FailsDecide files failure = IsRefusalBy (verdicts.HasCause (text_at files 0) (text_at files 1)) IsDecideRefusal failure
 
 -- `verify` over the files of a schema, a query and a certificate is refused
 abbrev pub FailsVerify : List File → Failure → Type 0
 FailsVerify files failure = IsRefusalBy (acceptance.HasCause (text_at files 0) (text_at files 1) (text_at files 2)) IsVerifyRefusal failure
+
+-- and `verify --list` over them
+abbrev pub FailsVerifyList : List File → Failure → Type 0
+FailsVerifyList files failure = IsRefusalBy (lists.HasListCause (text_at files 0) (text_at files 1) (text_at files 2)) IsVerifyRefusal failure
 
 -- `refute` over the files of a schema, a query and a witness is refused
 abbrev pub FailsRefute : List File → Failure → Type 0
@@ -188,8 +195,10 @@ FailsRun tables files failure = IsRefusalBy (runs.HasCause (text_at files 0) (te
 -- a task over its files has no answer
 abbrev pub IsUnanswered : Task → List File → Failure → Type 0
 IsUnanswered (Check schema query) files failure = FailsDecide files failure
+IsUnanswered (CheckList schema query) files failure = FailsDecide files failure
 IsUnanswered (Explain schema query) files failure = FailsDecide files failure
 IsUnanswered (Verify schema query certificate) files failure = FailsVerify files failure
+IsUnanswered (VerifyList schema query certificate) files failure = FailsVerifyList files failure
 IsUnanswered (Refute schema query witness) files failure = FailsRefute files failure
 IsUnanswered (Run schema query tables) files failure = FailsRun tables files failure
 
@@ -202,21 +211,21 @@ pub record ComesOfFiles (words : List (List ℕ)) (before after : Reads) (failur
   pub read : HandsOver before.handed after.handed files
   pub unanswered : IsUnanswered task files failure
 
--- where none begins with a hyphen, the words ask for the paths of these files, in their order, and then for this one
+-- the words ask for the paths of these files, in their order, and then for this one
 abbrev pub AskNext : List (List ℕ) → List File → List ℕ → Type 0
-AskNext words files path = All IsPlain words → (task : Task) × AskFor words task × StandsNext (paths_of task) files path
+AskNext words files path = (task : Task) × AskFor words task × StandsNext (paths_of task) files path
 
--- where none begins with a hyphen, the word stands in the place of NAME=PATH in the words of `run`
+-- the word stands in the place of NAME=PATH in the words of `run`
 abbrev pub IsTableWord : List (List ℕ) → List ℕ → Type 0
-IsTableWord words word = All IsPlain words → (schema query : List ℕ) × (tables : List (List ℕ)) × (words ≡ codes "run" ∷ schema ∷ query ∷ tables) × Any (λ w. w ≡ word) tables
+IsTableWord words word = (schema query : List ℕ) × (tables : List (List ℕ)) × AreWordsOf words (Run schema query tables) × Any (λ w. w ≡ word) tables
 
 -- The reason of a failure to make the output. A fault of the command line and a word without an `=` come before any file is read. A file cannot be read only
 -- where one read failed, of a path that the words ask for; what was handed over is what the words before that one ask for. A refusal and a fault come of the
--- files. Words of which one begins with a hyphen are read as `clap` reads them.
+-- files.
 abbrev pub HasReason : List (List ℕ) → Reads → Reads → Failure → Type 0
 HasReason words before after (CommandLine error) = AreOtherWords words × ReadsNothing before after
 HasReason words before after NotText = ⊥
-HasReason words before after (Unassigned word) = AreOtherWords words × HasNoEquals word.now × IsTableWord words word.now × ReadsNothing before after
+HasReason words before after (Unassigned word) = HasNoEquals word.now × IsTableWord words word.now × ReadsNothing before after
 HasReason words before after (Refused refusal) = ComesOfFiles words before after (Refused refusal)
 HasReason words before after (Fault fault) = ComesOfFiles words before after (Fault fault)
 HasReason words before after (CannotRead path) = StopsAt (AskNext words) before after path.now

@@ -1,7 +1,7 @@
 -- How contracts see what the code has read.
 use Rattle.std.specs.Prelude.{ℕ, List, map}
 use Rattle.wd_command.specs.Files.{File}
-use Rattle.wd_command.specs.Words.{Task, Check, Explain, Verify, Refute, Run}
+use Rattle.wd_command.specs.Words.{Task, Check, CheckList, Explain, Verify, VerifyList, Refute, Run}
 use Rattle.wd_command.specs.declared.inputs.InputFile.{InputFile}
 use Rattle.wd_command.specs.declared.inputs.Inputs.{Inputs}
 use Rattle.wd_command.specs.declared.inputs.Task.{Task as CodeTask}
@@ -23,7 +23,9 @@ name_of assignment = (assignment.name.now, assignment.path.now)
 -- the task of the words
 abbrev pub task_of : CodeTask → Task
 task_of (code.Check schema query) = Check schema.now query.now
+task_of (code.CheckList schema query) = CheckList schema.now query.now
 task_of (code.Explain schema query) = Explain schema.now query.now
 task_of (code.Verify schema query certificate) = Verify schema.now query.now certificate.now
+task_of (code.VerifyList schema query certificate) = VerifyList schema.now query.now certificate.now
 task_of (code.Refute schema query witness) = Refute schema.now query.now witness.now
 task_of (code.Run schema query tables) = Run schema.now query.now (map name_of tables.items)

@@ -9,3 +9,4 @@ pub mod Streams
 pub mod Failures
 pub mod Statuses
 pub mod Outputs
+pub mod Laws

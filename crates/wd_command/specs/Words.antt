@@ -1,5 +1,6 @@
 -- What the words of the command line ask for.
-use Rattle.std.specs.Prelude.{◌≡◌, ◌≢◌, ℕ, List, [], ◌∷◌, ◌++◌, map, codes, All, Contains, ⊤}
+use Rattle.std.specs.Prelude.{◌≡◌, ◌≢◌, ℕ, List, [], ◌∷◌, ◌++◌, map, codes, if◌then◌else◌, All, Contains, ⊤}
+use Rattle.std.specs.Str.{bytes_eq}
 use Rattle.wd_command.specs.declared.words.Assignment.{Assignment}
 
 -- a word that does not begin with a hyphen
@@ -22,50 +23,82 @@ pub record AreCut (words : List (List ℕ)) (assignments : List Assignment) : Ty
 
 -- ---- tasks
 
--- what is asked of the program: a command, and the paths that it names; at `run` the tables' names with theirs
-pub data Task : Type 0 where
-  Check : (schema query : List ℕ) → Task
-  Explain : (schema query : List ℕ) → Task
-  Verify : (schema query certificate : List ℕ) → Task
-  Refute : (schema query witness : List ℕ) → Task
-  Run : (schema query : List ℕ) (tables : List (List ℕ × List ℕ)) → Task
+-- what is asked of the program: a command and the paths that it names; at `run` also tables, each told as a T
+pub data TaskOf (T : Type 0) : Type 0 where
+  Check : (schema query : List ℕ) → TaskOf T
+  CheckList : (schema query : List ℕ) → TaskOf T
+  Explain : (schema query : List ℕ) → TaskOf T
+  Verify : (schema query certificate : List ℕ) → TaskOf T
+  VerifyList : (schema query certificate : List ℕ) → TaskOf T
+  Refute : (schema query witness : List ℕ) → TaskOf T
+  Run : (schema query : List ℕ) (tables : List T) → TaskOf T
 
--- its words
-abbrev pub words_of : Task → List (List ℕ)
-words_of (Check schema query) = codes "check" ∷ schema ∷ query ∷ []
-words_of (Explain schema query) = codes "explain" ∷ schema ∷ query ∷ []
-words_of (Verify schema query certificate) = codes "verify" ∷ schema ∷ query ∷ certificate ∷ []
-words_of (Refute schema query witness) = codes "refute" ∷ schema ∷ query ∷ witness ∷ []
-words_of (Run schema query tables) = codes "run" ∷ schema ∷ query ∷ map (λ t. word_of t.0 t.1) tables
+-- as the words ask for it: a table is a word NAME=PATH
+abbrev pub Asked : Type 0
+Asked = TaskOf (List ℕ)
 
--- the paths that it names, in the order of its words
-abbrev pub paths_of : Task → List (List ℕ)
-paths_of (Check schema query) = schema ∷ query ∷ []
-paths_of (Explain schema query) = schema ∷ query ∷ []
-paths_of (Verify schema query certificate) = schema ∷ query ∷ certificate ∷ []
-paths_of (Refute schema query witness) = schema ∷ query ∷ witness ∷ []
-paths_of (Run schema query tables) = schema ∷ query ∷ map (λ t. t.1) tables
+-- as it is done: a table is a name with a path
+abbrev pub Task : Type 0
+Task = TaskOf (List ℕ × List ℕ)
+
+-- the tables
+abbrev pub tables_of : {T : Type 0} → TaskOf T → List T
+tables_of (Run schema query tables) = tables
+tables_of task = []
+
+-- the same, with each table told otherwise
+abbrev pub with_tables : {T U : Type 0} → (T → U) → TaskOf T → TaskOf U
+with_tables f (Check schema query) = Check schema query
+with_tables f (CheckList schema query) = CheckList schema query
+with_tables f (Explain schema query) = Explain schema query
+with_tables f (Verify schema query certificate) = Verify schema query certificate
+with_tables f (VerifyList schema query certificate) = VerifyList schema query certificate
+with_tables f (Refute schema query witness) = Refute schema query witness
+with_tables f (Run schema query tables) = Run schema query (map f tables)
+
+-- the words for it
+abbrev pub asked_of : Task → Asked
+asked_of task = with_tables (λ t. word_of t.0 t.1) task
 
 -- each word NAME=PATH is cut at its first `=`
 abbrev pub IsCut : Task → Type 0
-IsCut (Check schema query) = ⊤
-IsCut (Explain schema query) = ⊤
-IsCut (Verify schema query certificate) = ⊤
-IsCut (Refute schema query witness) = ⊤
-IsCut (Run schema query tables) = All (λ t. HasNoEquals t.0) tables
+IsCut task = All (λ t. HasNoEquals t.0) (tables_of task)
 
--- the words are those of the task, where none begins with a hyphen; others are read as `clap` reads them
-pub record AskFor (words : List (List ℕ)) (task : Task) : Type 0 where
-  pub named : All IsPlain words → words ≡ words_of task
-  pub cut : IsCut task
+-- ---- their words
 
--- the words are those of a task, and none begins with a hyphen
-pub record AreTaskWords (words : List (List ℕ)) : Type 0 where
-  pub task : Task
-  pub line : words ≡ words_of task
-  pub plain : All IsPlain words
+-- the name of the command, and the flag behind it
+abbrev pub head_of : Asked → List (List ℕ)
+head_of (Check schema query) = codes "check" ∷ []
+head_of (CheckList schema query) = codes "check" ∷ codes "--list" ∷ []
+head_of (Explain schema query) = codes "explain" ∷ []
+head_of (Verify schema query certificate) = codes "verify" ∷ []
+head_of (VerifyList schema query certificate) = codes "verify" ∷ codes "--list" ∷ []
+head_of (Refute schema query witness) = codes "refute" ∷ []
+head_of (Run schema query tables) = codes "run" ∷ []
 
--- there are words, and they are those of no task
-pub record AreOtherWords (words : List (List ℕ)) : Type 0 where
-  pub some : words ≢ []
-  pub other : AreTaskWords words → ⊥
+-- what stands behind these
+abbrev pub arguments_of : Asked → List (List ℕ)
+arguments_of (Check schema query) = schema ∷ query ∷ []
+arguments_of (CheckList schema query) = schema ∷ query ∷ []
+arguments_of (Explain schema query) = schema ∷ query ∷ []
+arguments_of (Verify schema query certificate) = schema ∷ query ∷ certificate ∷ []
+arguments_of (VerifyList schema query certificate) = schema ∷ query ∷ certificate ∷ []
+arguments_of (Refute schema query witness) = schema ∷ query ∷ witness ∷ []
+arguments_of (Run schema query tables) = schema ∷ query ∷ tables
+
+-- the words that ask for it
+abbrev pub words_of : Asked → List (List ℕ)
+words_of asked = head_of asked ++ arguments_of asked
+
+-- the paths that it names, in the order of its words
+abbrev pub paths_of : Task → List (List ℕ)
+paths_of task = arguments_of (with_tables (λ t. t.1) task)
+
+-- the words without a flag `--list` right behind the first one
+abbrev pub without_flag : List (List ℕ) → List (List ℕ)
+without_flag (name ∷ word ∷ words) = if bytes_eq word (codes "--list") then name ∷ words else name ∷ word ∷ words
+without_flag words = words
+
+-- none begins with a hyphen, but for that flag
+abbrev pub ArePlain : List (List ℕ) → Type 0
+ArePlain words = All IsPlain (without_flag words)

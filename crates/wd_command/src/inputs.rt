@@ -1,12 +1,12 @@
 //! What a task reads: the files that its words name.
 
 ghost use Rattle.std.specs.Prelude.{◌≡◌, ◌≢◌, ◌-◌, ◌^◌, ◌<◌, [], ◌∷◌, map, IfOk, IfErr};
-ghost use Rattle.wd_command.specs.CommandLine.{asked_by, line_of, table_words};
+ghost use Rattle.wd_command.specs.CommandLine.{AskFor, asked_by};
 ghost use Rattle.wd_command.specs.Failures.{HasReason, IsUncut, IsUnread};
 ghost use Rattle.wd_command.specs.Files.{HandsOver, StandsNext, reads};
 ghost use Rattle.wd_command.specs.Inputs.{file_of, files_of};
 ghost use Rattle.wd_command.specs.Inputs as spec;
-ghost use Rattle.wd_command.specs.Words.{AskFor, IsCut, paths_of, words_of};
+ghost use Rattle.wd_command.specs.Words.{IsCut, asked_of, paths_of, tables_of};
 
 use crate::failure::Failure;
 use crate::files::{Files, ReadFault};
@@ -20,11 +20,20 @@ pub enum Task<'a> {
         schema: &'a str,
         query: &'a str,
     },
+    CheckList {
+        schema: &'a str,
+        query: &'a str,
+    },
     Explain {
         schema: &'a str,
         query: &'a str,
     },
     Verify {
+        schema: &'a str,
+        query: &'a str,
+        certificate: &'a str,
+    },
+    VerifyList {
         schema: &'a str,
         query: &'a str,
         certificate: &'a str,
@@ -78,18 +87,28 @@ pub fn read_inputs<'a, F: Files>(
 
 // The task of a request: each word NAME=PATH is cut at its first `=`.
 fn task_of<'a>(alloc: Global, request: Request<'a>) -> Result<Task<'a>, Failure<'a>>
-    ensures words { IfOk result (λ task. words_of (spec.task_of task) ≡ line_of (asked_by request.entry)) }
+    ensures asked { IfOk result (λ task. asked_of (spec.task_of task) ≡ asked_by request.entry) }
     ensures cut { IfOk result (λ task. IsCut (spec.task_of task)) }
-    ensures err { IfErr result (IsUncut (table_words (asked_by request.entry))) }
+    ensures err { IfErr result (IsUncut (tables_of (asked_by request.entry))) }
 {
     match request {
         Request::Check { schema, query } => Ok(Task::Check { schema, query }),
+        Request::CheckList { schema, query } => Ok(Task::CheckList { schema, query }),
         Request::Explain { schema, query } => Ok(Task::Explain { schema, query }),
         Request::Verify {
             schema,
             query,
             certificate,
         } => Ok(Task::Verify {
+            schema,
+            query,
+            certificate,
+        }),
+        Request::VerifyList {
+            schema,
+            query,
+            certificate,
+        } => Ok(Task::VerifyList {
             schema,
             query,
             certificate,
@@ -123,11 +142,18 @@ fn paths_named<'a>(alloc: Global, task: &Task<'a>) -> Result<Vec<&'a str>, Alloc
     ensures { IfOk result (λ v. map (λ p. p.now) v.items ≡ paths_of (spec.task_of task.now)) }
 {
     match task {
-        Task::Check { schema, query } | Task::Explain { schema, query } => {
+        Task::Check { schema, query }
+        | Task::CheckList { schema, query }
+        | Task::Explain { schema, query } => {
             let list = Vec::from_slice(alloc, &[*schema, *query])?;
             Ok(list)
         }
         Task::Verify {
+            schema,
+            query,
+            certificate: file,
+        }
+        | Task::VerifyList {
             schema,
             query,
             certificate: file,

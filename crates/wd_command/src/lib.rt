@@ -4,6 +4,7 @@
 mod failure;
 mod files;
 mod inputs;
+pub mod laws;
 mod memory;
 mod program;
 mod streams;

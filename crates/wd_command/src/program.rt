@@ -2,8 +2,8 @@
 
 ghost use Rattle.std.specs.Prelude.{◌≡◌, ◌≢◌, ◌+◌, ◌-◌, ◌^◌, ◌<◌, ◌≤◌, List, length, map, OnOk, IfOk, IfErr};
 ghost use Rattle.wd_run.specs.Runs.{data_of};
-ghost use Rattle.wd_command.specs.Commands.{AnswersCheck, AnswersExplain, AnswersRefute, AnswersRun, AnswersVerify, HasAnswer, data_in, text_at};
-ghost use Rattle.wd_command.specs.Failures.{FailsDecide, FailsRefute, FailsRun, FailsVerify, HasReason, IsUnanswered};
+ghost use Rattle.wd_command.specs.Commands.{AnswersCheck, AnswersCheckList, AnswersExplain, AnswersRefute, AnswersRun, AnswersVerify, AnswersVerifyList, HasAnswer, data_in, text_at};
+ghost use Rattle.wd_command.specs.Failures.{FailsDecide, FailsRefute, FailsRun, FailsVerify, FailsVerifyList, HasReason, IsUnanswered};
 ghost use Rattle.wd_command.specs.Files.{reads};
 ghost use Rattle.wd_command.specs.Inputs.{file_of, files_of, name_of, task_of};
 ghost use Rattle.wd_command.specs.Outputs.{Makes};
@@ -17,16 +17,16 @@ use crate::streams::write_and_flush;
 use crate::words::Assignment;
 use std::alloc::{AllocError, Global};
 use std::io::Write;
-use wd_accept::verify;
-use wd_decide::{decide, examine};
+use wd_accept::{verify, verify_list};
+use wd_decide::{decide, decide_list, examine};
 use wd_refute::refute;
-use wd_report::{Output, explain};
+use wd_report::{Output, explain, report_list};
 use wd_run::run_kept;
 use wd_tables::answer_text_from;
 
-const USAGE: &str = "wdcheck check SCHEMA QUERY
+const USAGE: &str = "wdcheck check [--list] SCHEMA QUERY
 wdcheck explain SCHEMA QUERY
-wdcheck verify SCHEMA QUERY CERT
+wdcheck verify [--list] SCHEMA QUERY CERT
 wdcheck refute SCHEMA QUERY WITNESS
 wdcheck run SCHEMA QUERY [NAME=PATH]...
 ";
@@ -107,8 +107,10 @@ fn answer<'a>(alloc: Global, inputs: &Inputs<'a>) -> Result<Output, Failure<'a>>
     let files = inputs.files.as_slice();
     match &inputs.task {
         Task::Check { .. } => check_output(alloc, files),
+        Task::CheckList { .. } => check_list_output(alloc, files),
         Task::Explain { .. } => explain_output(alloc, files),
         Task::Verify { .. } => verify_output(alloc, files),
+        Task::VerifyList { .. } => verify_list_output(alloc, files),
         Task::Refute { .. } => refute_output(alloc, files),
         Task::Run { tables, .. } => run_output(alloc, tables.as_slice(), files),
     }
@@ -134,6 +136,18 @@ fn check_output<'a>(alloc: Global, files: &[InputFile<'a>]) -> Result<Output, Fa
     Ok(output)
 }
 
+// The answer of `check --list` over the files of a schema and a query.
+fn check_list_output<'a>(alloc: Global, files: &[InputFile<'a>]) -> Result<Output, Failure<'a>>
+    requires { length files.now ≡ 2 }
+    ensures small { IfOk result (λ output. output.status < 3) }
+    ensures ok { IfOk result (λ output. AnswersCheckList (map file_of files.now) output.text.items output.status) }
+    ensures err { IfErr result (FailsDecide (map file_of files.now)) }
+{
+    let verdict = decide_list(alloc, text_of(files, 0), text_of(files, 1))?;
+    let output = report_list(alloc, &verdict)?;
+    Ok(output)
+}
+
 // The answer of `explain` over the files of a schema and a query.
 fn explain_output<'a>(alloc: Global, files: &[InputFile<'a>]) -> Result<Output, Failure<'a>>
     requires { length files.now ≡ 2 }
@@ -155,6 +169,19 @@ fn verify_output<'a>(alloc: Global, files: &[InputFile<'a>]) -> Result<Output, F
 {
     let certificate = text_of(files, 2);
     verify(alloc, text_of(files, 0), text_of(files, 1), certificate)?;
+    let text = Vec::from_slice(alloc, b"ACCEPTED\n")?;
+    Ok(Output { text, status: 0 })
+}
+
+// The answer of `verify --list` over these files.
+fn verify_list_output<'a>(alloc: Global, files: &[InputFile<'a>]) -> Result<Output, Failure<'a>>
+    requires { length files.now ≡ 3 }
+    ensures small { IfOk result (λ output. output.status < 3) }
+    ensures ok { IfOk result (λ output. AnswersVerifyList (map file_of files.now) output.text.items output.status) }
+    ensures err { IfErr result (FailsVerifyList (map file_of files.now)) }
+{
+    let certificate = text_of(files, 2);
+    verify_list(alloc, text_of(files, 0), text_of(files, 1), certificate)?;
     let text = Vec::from_slice(alloc, b"ACCEPTED\n")?;
     Ok(Output { text, status: 0 })
 }

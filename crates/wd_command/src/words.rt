@@ -6,13 +6,13 @@ ghost use Rattle.clap.specs.Words.{app_of, found_of, rows_of, rule_of, subcomman
 ghost use Rattle.clap.specs.declared.builder.command.Command.TheViews.{out-Command as fields_of};
 ghost use Rattle.clap.specs.declared.error.kind.ErrorKind.TheVariants as kind;
 ghost use Rattle.wd_command.specs.CommandLine as spec;
-ghost use Rattle.wd_command.specs.CommandLine.{AreCommandLine, AreWordsOf, asked_after, asked_by, asked_in};
+ghost use Rattle.wd_command.specs.CommandLine.{AreWordsOf, asked_after, asked_by, asked_in};
 ghost use Rattle.wd_command.specs.Failures.{IsUncut};
-ghost use Rattle.wd_command.specs.Words.{AreCut, HasNoEquals, word_of};
+ghost use Rattle.wd_command.specs.Words.{Asked, AreCut, HasNoEquals, word_of};
 
 use crate::failure::Failure;
 use clap::error::ErrorKind;
-use clap::{Arg, ArgMatches, Command, Error};
+use clap::{Arg, ArgAction, ArgMatches, Command, Error};
 use std::alloc::{AllocError, Global};
 
 /// What the words of the command line ask for, by paths; a table has a word NAME=PATH.
@@ -22,11 +22,20 @@ pub enum Request<'a> {
         schema: &'a str,
         query: &'a str,
     },
+    CheckList {
+        schema: &'a str,
+        query: &'a str,
+    },
     Explain {
         schema: &'a str,
         query: &'a str,
     },
     Verify {
+        schema: &'a str,
+        query: &'a str,
+        certificate: &'a str,
+    },
+    VerifyList {
         schema: &'a str,
         query: &'a str,
         certificate: &'a str,
@@ -45,8 +54,8 @@ pub enum Request<'a> {
 
 /// Reads the words after the program's own name.
 pub fn read_words<'a>(alloc: Global, words: &'a [&'a str]) -> Result<Request<'a>, Error>
-    ensures ok { IfOk result (AreWordsOf (map (λ w. w.now) words.now)) }
-    ensures err { IfErr result (λ e. AreCommandLine (map (λ w. w.now) words.now) → kind_of e ≡ kind.OutOfMemory) }
+    ensures ok { IfOk result (λ request. AreWordsOf (map (λ w. w.now) words.now) (asked_by request)) }
+    ensures err { IfErr result (λ e. (asked : Asked) → AreWordsOf (map (λ w. w.now) words.now) asked → kind_of e ≡ kind.OutOfMemory) }
 {
     let mut command = command_line(alloc)?;
     let matches = command.try_get_matches_from_mut(words)?;
@@ -61,9 +70,9 @@ pub fn read_words<'a>(alloc: Global, words: &'a [&'a str]) -> Result<Request<'a>
 
 // What stands below the commands in the program's help.
 const STATUSES: &str = "Exit status:
-  0  DETERMINISTIC, ACCEPTED, or the rows of the answer
+  0  DETERMINISTIC, LISTED, ACCEPTED, or the rows of the answer
   1  DEPENDS or REFUTED: two orders of rows that tie give two answers
-  2  UNKNOWN: neither is shown
+  2  UNKNOWN: neither is shown; LIST OPEN: one answer is, but no order of its rows
   3  an input is refused (WHERE: refused N), or the command line
   4  the query ends in a fault (fault F1, fault F2)
   5  a file can't be read, the output can't be written, or memory runs out";
@@ -96,10 +105,10 @@ fn program<'a>(alloc: Global) -> Result<Command<'a>, AllocError>
 }
 
 fn check_command<'a>(alloc: Global) -> Result<Command<'a>, AllocError>
-    ensures app { IfOk result (λ command. app_of command ≡ spec.paths_command (codes "check")) }
+    ensures app { IfOk result (λ command. app_of command ≡ spec.with_list (spec.paths_command (codes "check"))) }
     ensures local { IfOk result (λ command. (fields_of command).has_globals ≡ false) }
 {
-    let command = paths_command(alloc, "check")?;
+    let command = paths_command(alloc, "check")?.arg(list_flag(alloc))?;
     Ok(command.about("Prints the verdict: DETERMINISTIC, DEPENDS or UNKNOWN, and what shows it"))
 }
 
@@ -112,11 +121,13 @@ fn explain_command<'a>(alloc: Global) -> Result<Command<'a>, AllocError>
 }
 
 fn verify_command<'a>(alloc: Global) -> Result<Command<'a>, AllocError>
-    ensures app { IfOk result (λ command. app_of command ≡ spec.file_command (codes "verify")) }
+    ensures app { IfOk result (λ command. app_of command ≡ spec.with_list (spec.file_command (codes "verify"))) }
     ensures local { IfOk result (λ command. (fields_of command).has_globals ≡ false) }
 {
     let certificate = file_word(alloc, "CERT").help("A file with the certificate's line");
-    let command = paths_command(alloc, "verify")?.arg(certificate)?;
+    let command = paths_command(alloc, "verify")?
+        .arg(certificate)?
+        .arg(list_flag(alloc))?;
     Ok(command.about(
         "Prints ACCEPTED where the certificate is valid, so that the query has one answer",
     ))
@@ -170,6 +181,17 @@ fn file_word<'a>(alloc: Global, value_name: &'a str) -> Arg<'a>
         .value_name(value_name)
 }
 
+// The flag `--list`.
+fn list_flag<'a>(alloc: Global) -> Arg<'a>
+    ensures rule { rule_of result ≡ spec.flag (codes "list") }
+    ensures local { result.global ≡ false }
+{
+    Arg::new(alloc, "list")
+        .long("list")
+        .action(ArgAction::SetTrue)
+        .help("Asks for one list of rows: their order must be fixed too")
+}
+
 // What a parse has found.
 fn found<'a>(alloc: Global, matches: &ArgMatches<'a>) -> Result<Option<Request<'a>>, AllocError>
     ensures { IfOk result (λ request. option_map asked_by request ≡ asked_in (subcommand_rows_of matches.now)) }
@@ -209,10 +231,21 @@ fn three_paths<'a>(given: &ArgMatches<'a>) -> Option<(&'a str, &'a str, &'a str)
     Some((schema, query, file))
 }
 
+// Whether the flag `--list` was given. `get_flag` reads it so too, but what it makes of a text that is
+// neither `true` nor `false` its clauses leave open.
+fn is_listed(given: &ArgMatches<'_>) -> bool
+    ensures { result ≡ spec.is_listed (rows_of (found_of given.now)) }
+{
+    given.get_one("list").unwrap_or(false)
+}
+
 fn check_request<'a>(given: &ArgMatches<'a>) -> Option<Request<'a>>
     ensures { option_map asked_by result ≡ asked_after (codes "check") (rows_of (found_of given.now)) }
 {
     let (schema, query) = two_paths(given)?;
+    if is_listed(given) {
+        return Some(Request::CheckList { schema, query });
+    }
     Some(Request::Check { schema, query })
 }
 
@@ -227,6 +260,13 @@ fn verify_request<'a>(given: &ArgMatches<'a>) -> Option<Request<'a>>
     ensures { option_map asked_by result ≡ asked_after (codes "verify") (rows_of (found_of given.now)) }
 {
     let (schema, query, certificate) = three_paths(given)?;
+    if is_listed(given) {
+        return Some(Request::VerifyList {
+            schema,
+            query,
+            certificate,
+        });
+    }
     Some(Request::Verify {
         schema,
         query,

@@ -1,2 +1,5 @@
 mod Sound
 mod Shown
+mod Lists
+mod Plain
+mod Taken

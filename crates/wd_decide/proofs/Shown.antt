@@ -24,7 +24,7 @@ shown_of tables plan (Open reasons marks) witness (n, found) = found_is_shown ta
 pub true_of : HasOneMeaning → HasOnePlan → ShownIsNotRefused → ReportedAreTrue
 true_of one_meaning one_plan shown_is_not_refused schema query witness (read, reads, found) = record {
   shown = (read, reads, shown);
-  refuted = λ text spells. (read, reads, record { said = witness_of witness; spelled = spells; of_tables = shown.of_tables; is_true = shown.is_true });
+  refuted = λ text spells. (read, reads, record { said = witness_of witness; spelled = spells; of_tables = shown.of_tables; fits = shown.fits; is_true = shown.is_true });
   unrefused = λ text spells refusal numbered refused.
       let shown_there = every one_meaning one_plan schema query (λ tables plan. IsShown tables plan (witness_of witness)) read refused.0 reads refused.1 shown in
       shown_is_not_refused refused.1.tables refused.0.plan (witness_of witness) text refusal shown_there spells numbered refused.2;

@@ -8,7 +8,6 @@ use Rattle.wd_certificate.specs.Certificates.{nodes_of}
 use Rattle.wd_analyse.specs.Analysis.{IsAnswer}
 use Rattle.wd_analyse.specs.declared.analysis.Analysis.TheVariants.{Certified, Open}
 use Rattle.wd_rules.specs.Validity.{IsValidCertificate}
-use Rattle.wd_accept.specs.Laws.{NotBoth}
 use Rattle.wd_decide.specs.Laws.{ReportedAreSound}
 use Rattle.wd_decide.specs.Verdicts.{IsVerdictOf}
 use Rattle.wd_decide.specs.declared.verdict.Verdict.TheVariants.{Deterministic}
@@ -17,11 +16,10 @@ pub valid_of : (tables : List TableRule) (plan : PlanTree) (analysis : Analysis)
 valid_of tables plan (Certified c) certificate answer is = subst (λ c. IsValidCertificate tables plan (nodes_of c)) is answer.sound
 valid_of tables plan (Open reasons marks) certificate answer is = absurd is
 
-pub sound : NotBoth → ReportedAreSound
-sound not_both schema query certificate (read, reads, found) = record {
+pub sound : ReportedAreSound
+sound schema query certificate (read, reads, found) = record {
   valid = (read, reads, well);
   accepted = λ text spells. (read, reads, (nodes_of certificate, spells, well));
-  unrefused = λ text spells refusal numbered cause. not_both schema query text refusal (read, reads, (nodes_of certificate, spells, well)) numbered cause;
 }
   where
     well : IsValidCertificate reads.tables read.plan (nodes_of certificate)

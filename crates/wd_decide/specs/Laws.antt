@@ -1,28 +1,28 @@
 -- What a reported certificate is worth, and a reported witness.
-use Rattle.std.specs.Prelude.{ℕ, List, IsSome}
+use Rattle.std.specs.Prelude.{◌≡◌, ℕ, List, IsSome, None}
 use Rattle.wd_certificate.specs.Certificates.{nodes_of}
 use Rattle.wd_certificate.specs.Json as certificates
-use Rattle.wd_certificate.specs.Refusals.{number_of}
 use Rattle.wd_certificate.specs.declared.certificate.Certificate.{Certificate}
-use Rattle.wd_certificate.specs.declared.error.CertError.{CertError}
 use Rattle.wd_rules.specs.Validity.{IsValidCertificate}
 use Rattle.wd_query.specs.Readings.{ForReading}
-use Rattle.wd_accept.specs.Acceptance.{IsAccepted, RefusesPlan}
+use Rattle.wd_query.specs.Laws.{HaveMeaning}
+use Rattle.wd_accept.specs.Acceptance.{IsAccepted}
 use Rattle.wd_witness.specs.Json as witnesses
 use Rattle.wd_witness.specs.Witnesses.{witness_of}
 use Rattle.wd_witness.specs.declared.witness.Witness.{Witness}
 use Rattle.wd_refute.specs.Laws.{IsShown}
-use Rattle.wd_refute.specs.Refutation.{IsRefuted, RefusesText, refusal_number}
+use Rattle.wd_refute.specs.Refutation as refutation
+use Rattle.wd_refute.specs.Refutation.{IsRefuted, RefusesText, refusal_number, number_of as witness_number}
+use Rattle.wd_refute.specs.declared.error.WitnessError.{WitnessError}
 use Rattle.wd_refute.specs.declared.error.Refusal.{Refusal}
-use Rattle.wd_decide.specs.Verdicts.{IsVerdict}
+use Rattle.wd_decide.specs.Verdicts.{IsDecidedIfPlain, IsVerdict}
+use Rattle.wd_decide.specs.declared.verdict.Verdict.{Verdict}
 use Rattle.wd_decide.specs.declared.verdict.Verdict.TheVariants.{Deterministic, Depends}
 
--- a certificate is valid for the plan that reads the texts, and a text that spells it is accepted; nothing there refuses that text
--- by a number
+-- a certificate is valid for the plan that reads the texts, and a text that spells it is accepted, so that `verify` takes it
 pub record IsSound (schema query : List ℕ) (certificate : Certificate) : Type 0 where
   pub valid : ForReading schema query (λ tables plan. IsValidCertificate tables plan (nodes_of certificate))
   pub accepted : (text : List ℕ) → certificates.Spells 1 (nodes_of certificate) text → IsAccepted schema query text
-  pub unrefused : (text : List ℕ) → certificates.Spells 1 (nodes_of certificate) text → (refusal : CertError) → IsSome (number_of refusal) → ForReading schema query (RefusesPlan refusal text) → ⊥
 
 -- each certificate that is reported is so
 abbrev pub ReportedAreSound : Type 0
@@ -38,3 +38,13 @@ pub record IsTrueOf (schema query : List ℕ) (witness : Witness) : Type 0 where
 -- each witness that is reported is so
 abbrev pub ReportedAreTrue : Type 0
 ReportedAreTrue = (schema query : List ℕ) (witness : Witness) → IsVerdict schema query (Depends witness) → IsTrueOf schema query witness
+
+-- the verdict on a query of the plain class is never UNKNOWN
+abbrev pub PlainAreDecided : Type 0
+PlainAreDecided = (schema query : List ℕ) (verdict : Verdict) → IsVerdict schema query verdict → IsDecidedIfPlain schema query verdict
+
+-- over texts that have a meaning, `refute` refuses no text of a witness that is reported, but where memory runs out
+abbrev pub WitnessesAreTaken : Type 0
+WitnessesAreTaken = (schema query text : List ℕ) (witness : Witness) (error : WitnessError)
+    → HaveMeaning schema query → IsVerdict schema query (Depends witness) → witnesses.Spells (witness_of witness) text
+    → refutation.HasCause schema query text error → witness_number error ≡ None

@@ -8,6 +8,9 @@ use Rattle.wd_analyse.specs.Analysis.{IsAnswer}
 use Rattle.wd_analyse.specs.declared.analysis.Analysis.{Analysis}
 use Rattle.wd_analyse.specs.declared.analysis.Analysis.TheVariants.{Certified, Open}
 use Rattle.wd_analyse.specs.declared.analysis.Reason.{Reason}
+use Rattle.wd_resolve.specs.Answers.{Answer}
+use Rattle.wd_resolve.specs.Laws.{Reads}
+use Rattle.wd_complete.specs.Queries.{IsPlainQuery}
 use Rattle.wd_query.specs.Causes.{HasTextCause, text_number, text_place}
 use Rattle.wd_query.specs.Readings.{ForReading, IsRead}
 use Rattle.wd_witness.specs.declared.witness.Witness.{Witness}
@@ -40,6 +43,16 @@ IsVerdictOf tables plan (Open found marks) (Unknown reasons) = (found ≡ reason
 -- it is that of the analysis of the plan that reads the two texts
 abbrev pub IsVerdict : List ℕ → List ℕ → Verdict → Type 0
 IsVerdict schema query verdict = ForReading schema query (λ tables plan. (analysis : Analysis) × IsAnswer tables plan analysis × IsVerdictOf tables plan analysis verdict)
+
+-- a certificate or a witness is reported
+abbrev pub IsDecided : Verdict → Type 0
+IsDecided (Deterministic certificate) = ⊤
+IsDecided (Depends witness) = ⊤
+IsDecided (Unknown reasons) = ⊥
+
+-- where a plan reads the two texts and the query is of the plain class, one is
+abbrev pub IsDecidedIfPlain : List ℕ → List ℕ → Verdict → Type 0
+IsDecidedIfPlain schema query verdict = (read : Answer) (reads : Reads schema query read) → IsPlainQuery reads.tables reads.tree → IsDecided verdict
 
 -- ---- why there is none
 

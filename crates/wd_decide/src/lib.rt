@@ -3,7 +3,9 @@
 
 mod error;
 pub mod laws;
+mod list;
 mod verdict;
 
 pub use error::DecideError;
+pub use list::{ListReason, ListVerdict, decide_list};
 pub use verdict::{Examined, Verdict, decide, examine};

@@ -6,9 +6,11 @@ ghost use Rattle.wd_plan.specs.Plans.{PlanTree, plan_of};
 ghost use Rattle.wd_schema.specs.Schemas.{schema_of};
 ghost use Rattle.wd_schema.specs.Tables.{TableRule};
 ghost use Rattle.wd_seek.specs.Sought.{reasons_of};
-ghost use Rattle.wd_decide.specs.Verdicts.{EndsWith, HasCause, IsExamined, IsVerdict, IsVerdictOf};
+ghost use Rattle.wd_decide.specs.Verdicts.{EndsWith, HasCause, IsDecidedIfPlain, IsExamined, IsVerdict, IsVerdictOf};
+ghost use Rattle.wd_query.specs.Laws.{HaveMeaning};
 
 use crate::error::DecideError;
+use crate::laws::plain_are_decided;
 use std::alloc::Global;
 use wd_analyse::{Analysis, Reason, analyse};
 use wd_certificate::Certificate;
@@ -60,8 +62,15 @@ pub fn examine(alloc: Global, schema: &[u8], query: &[u8]) -> Result<Examined, D
 /// Each refusal comes only where its cause stands, as `examine` says.
 pub fn decide(alloc: Global, schema: &[u8], query: &[u8]) -> Result<Verdict, DecideError>
     ensures verdict { IfOk result (IsVerdict schema.now query.now) }
+
+    // The texts have a plan, and the query's tree keeps the limits of trees.
+    ensures meaning { IfOk result (λ _. HaveMeaning schema.now query.now) }
+
+    // A query of the plain class is decided: FROM names one table; columns and one ROW_NUMBER over columns are selected.
+    ensures plain { IfOk result (IsDecidedIfPlain schema.now query.now) }
     ensures refused { IfErr result (HasCause schema.now query.now) }
 {
+    plain_are_decided();
     let examined = examine(alloc, schema, query)?;
     Ok(examined.verdict(alloc)?)
 }
@@ -79,7 +88,7 @@ impl Examined {
 }
 
 /// The verdict where the search for a witness ends so.
-fn verdict_of(analysis: Analysis, witness: Option<Witness>) -> Verdict
+pub(crate) fn verdict_of(analysis: Analysis, witness: Option<Witness>) -> Verdict
     ensures { (tables : List TableRule) → (plan : PlanTree) → EndsWith tables plan (reasons_of analysis) witness → IsVerdictOf tables plan analysis result }
 {
     match (analysis, witness) {

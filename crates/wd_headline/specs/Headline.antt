@@ -11,7 +11,9 @@ use Rattle.wd_plan.specs.Plans.{PlanTree}
 use Rattle.wd_laws.specs.Laws.{SameTables}
 use Rattle.wd_resolve.specs.Answers.{Answer}
 use Rattle.wd_resolve.specs.Laws.{Reads}
+use Rattle.wd_rules.specs.Lists.{AgreeAsLists}
 use Rattle.wd_accept.specs.Acceptance.{IsAccepted}
+use Rattle.wd_accept.specs.Lists.{IsListAccepted}
 use Rattle.wd_refute.specs.Refutation.{IsRefuted}
 use Rattle.wd_run.specs.Runs.{IsAnswer}
 
@@ -32,6 +34,22 @@ RunsGiveIt = (schema query certificate : List ℕ) (given : List (List ℕ × Li
     → IsAccepted schema query certificate → (run : IsAnswer schema query given names answer)
     → (other : Instance) (choice : List (List ℕ)) → SameTables run.instance other → IsValidChoice run.read.plan other choice
     → Agree answer (outcome run.read.plan other choice)
+
+-- The list headline: if `verify_list` accepts a certificate for the texts, then under the premises of the headline the outcomes agree
+-- as lists: the same fault, or equal lists of rows.
+abbrev pub ListHeadline : Type 0
+ListHeadline = (schema query certificate : List ℕ) → IsListAccepted schema query certificate
+    → (read : Answer) (reads : Reads schema query read)
+    → (instance other : Instance) (c1 c2 : List (List ℕ)) → Meets reads.tables instance → SameTables instance other
+    → IsValidChoice read.plan instance c1 → IsValidChoice read.plan other c2
+    → AgreeAsLists (outcome read.plan instance c1) (outcome read.plan other c2)
+
+-- What `run` answers over data is that list or fault.
+abbrev pub RunsGiveTheList : Type 0
+RunsGiveTheList = (schema query certificate : List ℕ) (given : List (List ℕ × List ℕ)) (names : List (List ℕ)) (answer : RowsOrFault)
+    → IsListAccepted schema query certificate → (run : IsAnswer schema query given names answer)
+    → (other : Instance) (choice : List (List ℕ)) → SameTables run.instance other → IsValidChoice run.read.plan other choice
+    → AgreeAsLists answer (outcome run.read.plan other choice)
 
 -- No schema and query have both a certificate that is accepted and a witness that is.
 abbrev pub AcceptedIsNotRefuted : Type 0

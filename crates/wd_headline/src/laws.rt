@@ -1,8 +1,8 @@
 //! Laws over the definitions that the public calls promise.
 
-ghost use Rattle.wd_headline.specs.Headline.{AcceptedIsNotRefuted, Headline, IsNotEmpty, RunsGiveIt};
+ghost use Rattle.wd_headline.specs.Headline.{AcceptedIsNotRefuted, Headline, IsNotEmpty, ListHeadline, RunsGiveIt, RunsGiveTheList};
 
-use wd_accept::laws::accepted_has_one;
+use wd_accept::laws::{accepted_has_one, listed_has_one_list};
 use wd_laws::laws::has_valid_choice;
 use wd_refute::laws::refuted_has_no_certificate;
 use wd_run::laws::data_meets;
@@ -20,6 +20,22 @@ pub fn runs_give_it()
     ensures { RunsGiveIt }
 {
     accepted_has_one();
+    data_meets();
+}
+
+/// Where `verify_list` accepts a certificate, the query has one list of rows, or one fault, over every instance that meets the schema,
+/// in any order of its rows and under all lawful orderings.
+pub fn list_headline()
+    ensures { ListHeadline }
+{
+    listed_has_one_list();
+}
+
+/// And every answer of `run` is that one.
+pub fn runs_give_the_list()
+    ensures { RunsGiveTheList }
+{
+    listed_has_one_list();
     data_meets();
 }
 

@@ -1,15 +1,17 @@
 //! From the texts of a schema and a query to the query's plan.
 
-ghost use Rattle.std.specs.Prelude.{◌≡◌, true, IfOk, IfErr};
+ghost use Rattle.std.specs.Prelude.{◌≡◌, true, IfOk, IfErr, IsSome};
 ghost use Rattle.wd_plan.specs.Fits.{fits};
 ghost use Rattle.wd_plan.specs.Plans.{plan_of};
-ghost use Rattle.wd_query.specs.Causes.{HasQueryCause, HasTextCause};
+ghost use Rattle.wd_query.specs.Causes.{HasQueryCause, HasTextCause, text_number};
+ghost use Rattle.wd_query.specs.Laws.{HaveMeaning};
 ghost use Rattle.wd_query.specs.Readings.{IsPlanned, IsRead};
 ghost use Rattle.wd_resolve.specs.Answers.{resolved_of};
 ghost use Rattle.wd_schema.specs.Schemas.{schema_of};
 ghost use Rattle.wd_schema.specs.WellFormed.{IsWellFormed};
 
 use crate::error::{QueryError, TextError};
+use crate::laws::meaning_or_cause;
 use std::alloc::Global;
 use wd_lex::lex;
 use wd_parse::parse;
@@ -32,7 +34,11 @@ pub fn read_texts(alloc: Global, schema: &[u8], query: &[u8]) -> Result<PlannedQ
     ensures well_formed { IfOk result (λ p. IsWellFormed (schema_of p.schema)) }
     ensures fits { IfOk result (λ p. fits (schema_of p.schema) (plan_of p.resolved.plan) ≡ true) }
     ensures refused { IfErr result (λ e. HasTextCause schema.now query.now e) }
+
+    // Texts that a plan reads, whose tree keeps the limits, are refused only where memory runs out.
+    ensures given { IfErr result (λ e. HaveMeaning schema.now query.now → IsSome (text_number e) → ⊥) }
 {
+    meaning_or_cause();
     let schema = match read_schema(alloc, schema) {
         Ok(schema) => schema,
         Err(error) => return Err(TextError::Schema(error)),

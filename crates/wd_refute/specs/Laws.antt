@@ -2,15 +2,21 @@
 use Rattle.std.specs.Prelude.{◌≡◌, ℕ, List, false, IsSome}
 use Rattle.wd_schema.specs.Tables.{TableRule}
 use Rattle.wd_plan.specs.Plans.{PlanTree}
+use Rattle.wd_query.specs.Laws.{HaveMeaning}
 use Rattle.wd_eval.specs.Steps.{has_large_step}
 use Rattle.wd_witness.specs.Json.{Spells}
 use Rattle.wd_witness.specs.Witnesses.{AllFit64, IsOf, WitnessRecord, instance_under}
-use Rattle.wd_refute.specs.Refutation.{HaveNoCertificate, IsRefuted, IsTrue, RefusesText, refusal_number}
+use Rattle.wd_refute.specs.Refutation.{HasCause, HaveNoCertificate, IsRefuted, IsTaken, IsTrue, RefusesText, refusal_number}
 use Rattle.wd_refute.specs.declared.error.Refusal.{Refusal}
+use Rattle.wd_refute.specs.declared.error.WitnessError.{WitnessError}
 
 -- where a witness is accepted for the texts of a schema and a query, no certificate is
 abbrev pub RefutedHasNoCertificate : Type 0
 RefutedHasNoCertificate = (schema query witness : List ℕ) → IsRefuted schema query witness → HaveNoCertificate schema query
+
+-- Texts that have a meaning, and a witness that is accepted for them, have the cause of no refusal but that memory runs out, or 802.
+abbrev pub RefutedIsTaken : Type 0
+RefutedIsTaken = (schema query witness : List ℕ) (e : WitnessError) → HaveMeaning schema query → IsRefuted schema query witness → HasCause schema query witness e → IsTaken e
 
 -- a witness over tables of the schema that is true of a plan, no step of which is too large under its choices
 pub record IsShown (tables : List TableRule) (plan : PlanTree) (w : WitnessRecord) : Type 0 where

@@ -14,7 +14,7 @@ use Rattle.wd_query.specs.Readings.{ForReading}
 use Rattle.wd_query.specs.declared.error.TextError.TheVariants as text
 use Rattle.wd_witness.specs.Json.{Spells}
 use Rattle.wd_witness.specs.Refusals as witnesses
-use Rattle.wd_witness.specs.Witnesses.{IsOf, WitnessRecord, instance_under}
+use Rattle.wd_witness.specs.Witnesses.{AllFit64, IsOf, WitnessRecord, instance_under}
 use Rattle.wd_refute.specs.declared.error.Refusal.{Refusal}
 use Rattle.wd_refute.specs.declared.error.Refusal.TheVariants as refusal
 use Rattle.wd_refute.specs.declared.error.WitnessError.{WitnessError}
@@ -28,11 +28,12 @@ use Rattle.wd_refute.specs.declared.error.WitnessOrigin.TheVariants as origin
 abbrev pub IsTrue : List TableRule → PlanTree → WitnessRecord → Type 0
 IsTrue tables plan w = IsTrueWitness tables plan (instance_under tables w) w.first w.second
 
--- a text spells a witness over tables of the schema which is true of a plan
+-- a text spells a witness over tables of the schema, in numbers of 64 bits, which is true of a plan
 pub record SpellsTrue (witness : List ℕ) (tables : List TableRule) (plan : PlanTree) : Type 0 where
   pub said : WitnessRecord
   pub spelled : Spells said witness
   pub of_tables : IsOf tables said
+  pub fits : AllFit64 said
   pub is_true : IsTrue tables plan said
 
 -- it is true of the plan that reads the texts of a schema and a query
@@ -105,6 +106,10 @@ refusal_number refusal.OutOfMemory = None
 abbrev pub number_of : WitnessError → Option ℕ
 number_of (error.Texts e) = text_number e
 number_of (error.Witness r) = refusal_number r
+
+-- a refusal that says nothing against the witness: memory ran out, or a step has too many rows to be evaluated
+abbrev pub IsTaken : WitnessError → Type 0
+IsTaken e = (number_of e ≡ None) ⊎ (number_of e ≡ Some 802)
 
 abbrev pub place_of : WitnessError → Option ℕ
 place_of (error.Texts e) = text_place e

@@ -1,8 +1,8 @@
 //! Laws over the definitions.
 
-ghost use Rattle.wd_refute.specs.Laws.{RefutedHasNoCertificate, ShownIsNotRefused};
+ghost use Rattle.wd_refute.specs.Laws.{RefutedHasNoCertificate, RefutedIsTaken, ShownIsNotRefused};
 
-use wd_query::laws::one_plan;
+use wd_query::laws::{meaning_or_cause, one_plan};
 use wd_resolve::laws::plans_fit;
 use wd_rules::laws::never_both;
 use wd_schema::laws::one_meaning;
@@ -22,6 +22,18 @@ pub fn refuted_has_no_certificate()
 pub fn shown_is_not_refused()
     ensures { ShownIsNotRefused }
 {
+    spells_one();
+    is_read_back();
+}
+
+/// A witness that is accepted is refused for nothing that stands in the texts, where these have a meaning: only where memory runs
+/// out, or a step is too large to be evaluated.
+pub fn refuted_is_taken()
+    ensures { RefutedIsTaken }
+{
+    meaning_or_cause();
+    one_meaning();
+    one_plan();
     spells_one();
     is_read_back();
 }

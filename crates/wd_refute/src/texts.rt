@@ -1,11 +1,12 @@
 //! From the texts of a schema, a query and a witness to whether the witness is true.
 
 ghost use Rattle.std.specs.Prelude.{IfOk, IfErr};
-ghost use Rattle.wd_refute.specs.Refutation.{HasCause, HaveNoCertificate, IsRefuted};
+ghost use Rattle.wd_query.specs.Laws.{HaveMeaning};
+ghost use Rattle.wd_refute.specs.Refutation.{HasCause, HaveNoCertificate, IsRefuted, IsTaken};
 
 use crate::error::WitnessError;
 use crate::judge::refute_plan;
-use crate::laws::refuted_has_no_certificate;
+use crate::laws::{refuted_has_no_certificate, refuted_is_taken};
 use std::alloc::Global;
 use wd_query::read_texts;
 
@@ -30,8 +31,12 @@ pub fn refute(
     ensures refuted { IfOk result (λ _. IsRefuted schema.now query.now witness.now) }
     ensures uncertified { IfOk result (λ _. HaveNoCertificate schema.now query.now) }
     ensures refused { IfErr result (λ e. HasCause schema.now query.now witness.now e) }
+
+    // For texts that have a meaning a true witness is refused only where memory runs out, or by 802.
+    ensures taken { IfErr result (λ e. HaveMeaning schema.now query.now → IsRefuted schema.now query.now witness.now → IsTaken e) }
 {
     refuted_has_no_certificate();
+    refuted_is_taken();
     let planned = match read_texts(alloc, schema, query) {
         Ok(planned) => planned,
         Err(error) => return Err(WitnessError::Texts(error)),

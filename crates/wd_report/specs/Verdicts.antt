@@ -5,9 +5,11 @@ use Rattle.wd_certificate.specs.Json.{certificate_text}
 use Rattle.wd_analyse.specs.declared.analysis.Reason.{Reason}
 use Rattle.wd_witness.specs.Json.{witness_text}
 use Rattle.wd_witness.specs.Witnesses.{witness_of}
+use Rattle.wd_decide.specs.declared.list.ListVerdict.{ListVerdict}
+use Rattle.wd_decide.specs.declared.list.ListVerdict.TheVariants as list
 use Rattle.wd_decide.specs.declared.verdict.Verdict.{Verdict}
 use Rattle.wd_decide.specs.declared.verdict.Verdict.TheVariants.{Deterministic, Depends, Unknown}
-use Rattle.wd_report.specs.Words.{lack_words, line, place_words, verdict_word}
+use Rattle.wd_report.specs.Words.{lack_words, line, list_word, order_words, place_words, verdict_word}
 
 abbrev pub reason_line : Reason → List ℕ
 reason_line reason = line (place_words reason.node reason.call ++ codes ": " ++ lack_words reason.lack)
@@ -27,3 +29,19 @@ abbrev pub verdict_status : Verdict → ℕ
 verdict_status (Deterministic certificate) = 0
 verdict_status (Depends witness) = 1
 verdict_status (Unknown reasons) = 2
+
+-- of a verdict on a list: the certificate on a line, why the order is open, or as of a verdict
+abbrev pub list_lines : ListVerdict → List ℕ
+list_lines (list.Listed certificate) = line (certificate_text (nodes_of certificate))
+list_lines (list.Unlisted reason) = line (order_words reason)
+list_lines (list.Depends witness) = line (witness_text (witness_of witness))
+list_lines (list.Unknown reasons) = flat_map reason_line reasons.items
+
+abbrev pub list_text : ListVerdict → List ℕ
+list_text verdict = line (list_word verdict) ++ list_lines verdict
+
+abbrev pub list_status : ListVerdict → ℕ
+list_status (list.Listed certificate) = 0
+list_status (list.Unlisted reason) = 2
+list_status (list.Depends witness) = 1
+list_status (list.Unknown reasons) = 2

@@ -5,6 +5,10 @@ use Rattle.wd_analyse.specs.declared.analysis.RuleName.{RuleName}
 use Rattle.wd_analyse.specs.declared.analysis.RuleName.TheVariants.{Peers, Unique, Values, Exchange, Whole, Ties, Keys}
 use Rattle.wd_analyse.specs.declared.decided.Lack.{Lack}
 use Rattle.wd_analyse.specs.declared.decided.Lack.TheVariants as lack
+use Rattle.wd_decide.specs.declared.list.ListReason.{ListReason}
+use Rattle.wd_decide.specs.declared.list.ListReason.TheVariants as reason
+use Rattle.wd_decide.specs.declared.list.ListVerdict.{ListVerdict}
+use Rattle.wd_decide.specs.declared.list.ListVerdict.TheVariants as list
 use Rattle.wd_decide.specs.declared.verdict.Verdict.{Verdict}
 use Rattle.wd_decide.specs.declared.verdict.Verdict.TheVariants.{Deterministic, Depends, Unknown}
 
@@ -16,6 +20,17 @@ abbrev pub verdict_word : Verdict → List ℕ
 verdict_word (Deterministic certificate) = codes "DETERMINISTIC"
 verdict_word (Depends witness) = codes "DEPENDS"
 verdict_word (Unknown reasons) = codes "UNKNOWN"
+
+abbrev pub list_word : ListVerdict → List ℕ
+list_word (list.Listed certificate) = codes "LISTED"
+list_word (list.Unlisted reason) = codes "LIST OPEN"
+list_word (list.Depends witness) = codes "DEPENDS"
+list_word (list.Unknown reasons) = codes "UNKNOWN"
+
+-- why the order of an answer's rows is open
+abbrev pub order_words : ListReason → List ℕ
+order_words reason.NoOrder = codes "list: no final order"
+order_words (reason.Column node column) = codes "node " ++ decimal node ++ codes " list: keys do not give column " ++ decimal column
 
 -- a rule's name; what has no rule is open
 abbrev pub rule_word : Option RuleName → List ℕ

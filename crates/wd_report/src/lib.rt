@@ -8,4 +8,4 @@ mod verdict;
 mod words;
 
 pub use plan::explain;
-pub use verdict::{Output, report};
+pub use verdict::{Output, report, report_list};

@@ -7,13 +7,13 @@ ghost use Rattle.wd_certificate.specs.Json.{certificate_text};
 ghost use Rattle.wd_witness.specs.Json.{witness_text};
 ghost use Rattle.wd_witness.specs.Witnesses.{witness_of};
 ghost use Rattle.wd_report.specs.Verdicts as spec;
-ghost use Rattle.wd_report.specs.Words.{lack_words, line, place_words, verdict_word};
+ghost use Rattle.wd_report.specs.Words.{lack_words, line, order_words, place_words, verdict_word};
 
 use std::alloc::Global;
 use std::fmt::Write;
 use wd_analyse::{Lack, Reason};
 use wd_certificate::Certificate;
-use wd_decide::Verdict;
+use wd_decide::{ListReason, ListVerdict, Verdict};
 use wd_value::OutOfMemory;
 use wd_witness::Witness;
 
@@ -37,6 +37,33 @@ pub fn report(alloc: Global, verdict: &Verdict) -> Result<Output, OutOfMemory>
         Verdict::Unknown(reasons) => unknown(alloc, reasons)?,
     };
     Ok(Output { text, status })
+}
+
+/// The word of a verdict on a list on a line, then the certificate on a line, why the order is open, the witness on a line, or the
+/// reasons, one a line; status 0 for `LISTED`, 1 for `DEPENDS`, 2 for `LIST OPEN` and `UNKNOWN`.
+pub fn report_list(alloc: Global, verdict: &ListVerdict) -> Result<Output, OutOfMemory>
+    ensures text { IfOk result (λ r. r.text.items ≡ spec.list_text verdict.now) }
+    ensures status { IfOk result (λ r. r.status ≡ spec.list_status verdict.now) }
+{
+    let status = list_status(verdict);
+    let text = match verdict {
+        ListVerdict::Listed(certificate) => listed(alloc, certificate)?,
+        ListVerdict::Unlisted(reason) => unlisted(alloc, *reason)?,
+        ListVerdict::Depends(witness) => refuted(alloc, witness)?,
+        ListVerdict::Unknown(reasons) => unknown(alloc, reasons)?,
+    };
+    Ok(Output { text, status })
+}
+
+/// The exit status for a verdict on a list.
+fn list_status(verdict: &ListVerdict) -> u8
+    ensures { result ≡ spec.list_status verdict.now }
+{
+    match verdict {
+        ListVerdict::Listed(_) => 0,
+        ListVerdict::Depends(_) => 1,
+        ListVerdict::Unlisted(_) | ListVerdict::Unknown(_) => 2,
+    }
 }
 
 /// The exit status for a verdict.
@@ -67,6 +94,37 @@ fn certified(alloc: Global, certificate: &Certificate) -> Result<Vec<u8>, OutOfM
 {
     let certificate = certificate.to_json(alloc)?;
     with_evidence(alloc, b"DETERMINISTIC\n", &certificate)
+}
+
+/// What is printed of a list's verdict with this certificate.
+fn listed(alloc: Global, certificate: &Certificate) -> Result<Vec<u8>, OutOfMemory>
+    ensures { IfOk result (λ t. t.items ≡ line (codes "LISTED") ++ line (certificate_text (nodes_of certificate.now))) }
+{
+    let certificate = certificate.to_json(alloc)?;
+    with_evidence(alloc, b"LISTED\n", &certificate)
+}
+
+/// What is printed where the order of the answer's rows is open.
+fn unlisted(alloc: Global, reason: ListReason) -> Result<Vec<u8>, OutOfMemory>
+    ensures { IfOk result (λ t. t.items ≡ line (codes "LIST OPEN") ++ line (order_words reason)) }
+{
+    let mut text = String::from_str(alloc, "LIST OPEN\n")?;
+    add_order(&mut text, reason)?;
+    text.push('\n')?;
+    Ok(text.into_bytes())
+}
+
+/// Adds why the order is open.
+fn add_order(text: &mut String, reason: ListReason) -> Result<(), OutOfMemory>
+    ensures { IfOk result (λ _. string_bytes text.new ≡ string_bytes text.old ++ order_words reason) }
+{
+    match reason {
+        ListReason::NoOrder => Ok(text.push_str("list: no final order")?),
+        ListReason::Column { node, column } => Ok(write!(
+            text,
+            "node {node} list: keys do not give column {column}"
+        )?),
+    }
 }
 
 /// What is printed of a verdict with this witness.

@@ -24,7 +24,7 @@ use Rattle.wd_resolve_select.specs.declared.output.OutputColumn.{OutputColumn}
 use Rattle.wd_resolve_select.specs.Steps.{Lowered}
 use Rattle.wd_resolve.specs.Selected.{FromSoFar, JoinedTables, admitted, called, derived_column, derived_table, first_admitted, is_too_large, joined, next_admitted, scan, scan_at, scope_so_far, table_column, table_number, together}
 use Rattle.wd_resolve.specs.Lowering.{behind_comma, behind_from, crossed, join_meant, joined_on, joined_to, joins_meant, lowered, lowering, table_meant}
-use Rattle.wd_resolve.specs.Answers.{Answer, name_in}
+use Rattle.wd_resolve.specs.Answers.{Answer, is_ordered, name_in}
 use Rattle.wd_resolve.specs.Laws.{PlansFit}
 use Rattle.wd_resolve_select.proofs.PlanKinds.{HasKinds, join_is, output_kinds, over_plan, scope_kinds}
 use Rattle.wd_resolve.proofs.ShownFits.{IsLowered, behind_from_is}
@@ -218,5 +218,5 @@ lowering_is tables (query s semicolon) l e = lowered_is tables s l e
 
 pub plans_fit : PlansFit
 plans_fit tables tree a e =
-    let l = bound (lowering tables tree) (λ (x : Lowered). Ok (record { plan = x.plan; names = map name_in x.columns })) a e in
+    let l = bound (lowering tables tree) (λ (x : Lowered). Ok (record { plan = x.plan; names = map name_in x.columns; ordered = is_ordered tree })) a e in
     subst (λ (x : Answer). fits tables x.plan ≡ true) (ok_is _ _ l.2) (lowering_is tables tree l.0 l.1).fits_is

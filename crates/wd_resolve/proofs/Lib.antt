@@ -5,3 +5,4 @@ mod More
 pub mod SortedShown
 pub mod ShownFits
 pub mod FromFits
+pub mod Ordered

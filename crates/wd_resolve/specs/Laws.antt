@@ -1,5 +1,5 @@
 -- Laws of plans and of the texts that they read, over the definitions alone.
-use Rattle.std.specs.Prelude.{◌≡◌, ℕ, true, List, Ok}
+use Rattle.std.specs.Prelude.{◌≡◌, ◌⊎◌, ℕ, true, List, Ok}
 use Rattle.wd_lex.specs.declared.token.Token.{Token}
 use Rattle.wd_lex.specs.Lexed.{IsLexed, kinds_of}
 use Rattle.wd_syntax.specs.Levels.{IsWellLevelled}
@@ -7,7 +7,9 @@ use Rattle.wd_syntax.specs.Spelling.{spell}
 use Rattle.wd_syntax.specs.Tree.{QueryTree}
 use Rattle.wd_schema.specs.Tables.{TableRule}
 use Rattle.wd_schema.specs.Texts.{Declares}
+use Rattle.wd_plan.specs.Expressions.{Expression}
 use Rattle.wd_plan.specs.Fits.{fits}
+use Rattle.wd_plan.specs.Plans.{LimitRule, PlanTree, Limit, Map}
 use Rattle.wd_resolve.specs.Answers.{Answer, answer}
 
 -- The plan and the names read a schema's text and a query's text: they are those of the well-levelled tree that spells the
@@ -25,3 +27,11 @@ pub record Reads (schema query : List ℕ) (a : Answer) : Type 0 where
 -- Each plan that a query has under a schema fits the schema.
 abbrev pub PlansFit : Type 0
 PlansFit = (tables : List TableRule) (tree : QueryTree) (a : Answer) → answer tables tree ≡ Ok a → fits tables a.plan ≡ true
+
+-- a Limit is a plan's top node, or stands right below a Map at its top
+abbrev pub EndsInLimit : PlanTree → Type 0
+EndsInLimit plan = (limit : LimitRule) × (input : PlanTree) × ((plan ≡ Limit limit input) ⊎ ((outputs : List Expression) × (plan ≡ Map outputs (Limit limit input))))
+
+-- So does the plan of each query whose outermost select has ORDER BY: the Map drops hidden sort keys.
+abbrev pub OrderedEndInLimit : Type 0
+OrderedEndInLimit = (tables : List TableRule) (tree : QueryTree) (a : Answer) → answer tables tree ≡ Ok a → a.ordered ≡ true → EndsInLimit a.plan

@@ -9,7 +9,7 @@ ghost use Rattle.wd_syntax.specs.View.{view_query};
 ghost use Rattle.wd_resolve.specs.Answers.{resolved_of, answer, name_in};
 
 use crate::part::LoweredSelect;
-use crate::select::lowered;
+use crate::select::{is_sorted, lowered};
 use std::alloc::Global;
 use wd_plan::Plan;
 use wd_resolve_operand::ResolveError;
@@ -18,14 +18,15 @@ use wd_schema::Schema;
 use wd_syntax::Query;
 use wd_value::{OutOfMemory, Text};
 
-/// The plan of a query, and the names of its outputs.
+/// The plan of a query, the names of its outputs, and whether its outermost select has ORDER BY.
 #[derive(Drop)]
 pub struct Resolved {
     pub plan: Plan,
     pub names: Vec<Text>,
+    pub ordered: bool,
 }
 
-/// The plan of a query under a schema, and the names of its outputs. Each name stands for the one column in scope that carries
+/// The plan of a query under a schema, the names of its outputs, and whether it is ordered. Each name stands for the one column in scope that carries
 /// it. Refused by 401 to 415 just where one of these causes stands in the query. The plan fits the schema.
 pub fn resolve(alloc: Global, schema: &Schema, query: &Query) -> Result<Resolved, ResolveError>
     ensures fitting { IfOk result (λ r. fits (schema_of schema.now) (plan_of r.plan) ≡ true) }
@@ -34,7 +35,12 @@ pub fn resolve(alloc: Global, schema: &Schema, query: &Query) -> Result<Resolved
     let select = lowered(alloc, schema, &query.select)?;
     let LoweredSelect { plan, columns } = select;
     let names = names_of(alloc, columns)?;
-    Ok(Resolved { plan, names })
+    let ordered = is_sorted(&query.select.order);
+    Ok(Resolved {
+        plan,
+        names,
+        ordered,
+    })
 }
 
 /// The names of outputs.

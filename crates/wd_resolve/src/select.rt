@@ -255,7 +255,7 @@ fn are_wide(outputs: &[Output], needs: &Needs) -> bool
 }
 
 /// Whether there are sort keys.
-fn is_sorted(keys: &[SortKey]) -> bool
+pub(crate) fn is_sorted(keys: &[SortKey]) -> bool
     ensures { result ≡ spec.is_sorted (keys_of (map view_key keys.now)) }
 {
     match keys {

@@ -3,3 +3,5 @@ pub mod Traces
 pub mod Kept
 pub mod Settled
 pub mod Sound
+pub mod Lists
+pub mod Listed

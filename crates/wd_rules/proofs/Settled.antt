@@ -9,7 +9,7 @@ use Rattle.wd_plan.specs.declared.function.Function.{Function}
 use Rattle.wd_plan.specs.declared.function.Function.TheVariants.{Ranking as Ranked, Shift as Shifted, OfFrame}
 use Rattle.wd_plan.specs.declared.window.Call.{Call}
 use Rattle.wd_plan.specs.declared.window.Frame.{Frame}
-use Rattle.wd_plan.specs.Facts.{HasWidth}
+use Rattle.wd_plan.specs.Facts.{DeterminesAll, HasWidth}
 use Rattle.wd_plan.specs.Fits.{AreBelow, Kinds}
 use Rattle.wd_plan.specs.Frames.{is_stable}
 use Rattle.wd_plan.specs.Outcomes.{class_at}
@@ -57,6 +57,15 @@ count_none None e = refl
 count_none (Some n) e = absurd (false≢true e)
 
 module _ (rows : List RowValues) (facts : FactList) (sides : HasSides (unpaired rows) facts.split facts.columns) (shown : List Traced) (hold : AllByRecursion (IsTrue (unpaired rows)) shown) where
+  -- a trace of it shows that its sort keys give every column
+  pub keys_give : (node width : ℕ) (limit : LimitRule) (trace : Option ℕ) → is_some trace ≡ true → limit_refusal node facts width shown limit trace ≡ None → DeterminesAll rows width (order_columns (limit_class limit))
+  keys_give node width limit None t e = absurd (false≢true t)
+  keys_give node width limit (Some i) t e =
+      let keys = order_columns (limit_class limit) in
+      let all = columns_named (all_columns width) in
+      let there = shown_there (λ fact. Gives (unpaired rows) facts sides shown hold keys all) node (UnjustifiedLimit node) (shows facts (is_in keys) all) (slice_get shown i) e (gives (unpaired rows) facts sides shown hold keys all i) in
+      λ c l p q k m same. range_pick (Same (unpaired rows) p q) 0 width c (there.1 p q k m (named_same (unpaired rows) p q keys same)) (omega arith) (omega arith)
+
   pub limit_settled : (node width : ℕ) (limit : LimitRule) (trace : Option ℕ) → limit_refusal node facts width shown limit trace ≡ None → IsSettledLimit limit width rows
   limit_settled node width limit None e =
       let parts = and_parts (nat_eq limit.offset 0) (not (is_some limit.count) || limit.ties) (passed (is_whole_or_ties limit) (UnjustifiedLimit node) e) in
@@ -65,11 +74,7 @@ module _ (rows : List RowValues) (facts : FactList) (sides : HasSides (unpaired 
       by : limit.offset ≡ 0 → (not (is_some limit.count) ≡ true) ⊎ (limit.ties ≡ true) → IsSettledLimit limit width rows
       by offset (inl f) = inl (count_none limit.count f, offset)
       by offset (inr f) = inr (inl (f, offset))
-  limit_settled node width limit (Some i) e =
-      let keys = order_columns (limit_class limit) in
-      let all = columns_named (all_columns width) in
-      let there = shown_there (λ fact. Gives (unpaired rows) facts sides shown hold keys all) node (UnjustifiedLimit node) (shows facts (is_in keys) all) (slice_get shown i) e (gives (unpaired rows) facts sides shown hold keys all i) in
-      inr (inr (λ c l p q k m same. range_pick (Same (unpaired rows) p q) 0 width c (there.1 p q k m (named_same (unpaired rows) p q keys same)) (omega arith) (omega arith)))
+  limit_settled node width limit (Some i) e = inr (inr (keys_give node width limit (Some i) refl e))
 
 -- ---- a Window's calls
 

@@ -47,10 +47,10 @@ at_step (Ok xs) f P Q h g = at_end (f xs) (λ ys e. g xs ys refl h e)
     at_end (Err d) k = tt
 at_step (Err d) f P Q h g = tt
 
-at_rows : (o : RowsOrFault) (rows : List RowValues) (P : List RowValues → Type 0) (Q : Type 0) → o ≡ Ok rows → AtRows o P Q → P rows
+pub at_rows : (o : RowsOrFault) (rows : List RowValues) (P : List RowValues → Type 0) (Q : Type 0) → o ≡ Ok rows → AtRows o P Q → P rows
 at_rows o rows P Q e h = let family : RowsOrFault → Type 0 = λ v. AtRows v P Q in subst family e h
 
-at_map : (o : RowsOrFault) (P Q : List RowValues → Type 0) → AtRows o P (Unit {0}) → ((rows : List RowValues) → o ≡ Ok rows → P rows → Q rows) → AtRows o Q (Unit {0})
+pub at_map : (o : RowsOrFault) (P Q : List RowValues → Type 0) → AtRows o P (Unit {0}) → ((rows : List RowValues) → o ≡ Ok rows → P rows → Q rows) → AtRows o Q (Unit {0})
 at_map (Ok rows) P Q h g = g rows refl h
 at_map (Err f) P Q h g = tt
 
@@ -100,31 +100,31 @@ pairs_sides ls rs n wl wr wide_left wide_right paired = sides ls rs n.rows (reco
 
 module _ (tables : List TableRule) (instance : Instance) (nodes : List NodeRecord) (meets : Meets tables instance) where
   -- what holds of a plan whose entries begin at a number
-  record IsSoundPlan (plan : PlanTree) (choice : List (List ℕ)) (first : ℕ) : Type 0 where
-    settled : IsSettledPlan plan instance choice
-    facts : FactsHold tables plan instance choice first nodes
-    kept : KeptHold plan instance choice first nodes
+  pub record IsSoundPlan (plan : PlanTree) (choice : List (List ℕ)) (first : ℕ) : Type 0 where
+    pub settled : IsSettledPlan plan instance choice
+    pub facts : FactsHold tables plan instance choice first nodes
+    pub kept : KeptHold plan instance choice first nodes
 
-  abbrev Keeps : PlanTree → ℕ → List RowValues → Type 0
+  abbrev pub Keeps : PlanTree → ℕ → List RowValues → Type 0
   Keeps plan first rows = AreKept (width plan) (kept_facts (top_at plan first nodes)) rows
 
-  abbrev Good : PlanTree → ℕ → Type 0
+  abbrev pub Good : PlanTree → ℕ → Type 0
   Good plan first = IsGood (top_number plan first) (given_at tables plan first nodes) plan (top_at plan first nodes)
 
-  good : (plan : PlanTree) (first : ℕ) → top_refusal tables plan first nodes ≡ None → Good plan first
+  pub good : (plan : PlanTree) (first : ℕ) → top_refusal tables plan first nodes ≡ None → Good plan first
   good plan first e = is_good (top_number plan first) (given_at tables plan first nodes) plan (top_at plan first nodes) e
 
   -- in the rows of a node whose positions have no sides
   kept_in : (plan : PlanTree) (first : ℕ) (rows : List RowValues) → Good plan first → HasSides (unpaired rows) (given_at tables plan first nodes).split (given_at tables plan first nodes).columns → InRows tables plan (kept_below plan first nodes) (kept_right plan first nodes) rows → Keeps plan first rows
   kept_in plan first rows g none hold = (entry_keeps (unpaired rows) (top_number plan first) (given_at tables plan first nodes) plan (top_at plan first nodes) g none hold).0
 
-  known : (plan : PlanTree) (choice : List (List ℕ)) → fits tables plan ≡ true → AreLawful plan instance choice → AtRows (outcome plan instance choice) (Known tables plan) (Unit {0})
+  pub known : (plan : PlanTree) (choice : List (List ℕ)) → fits tables plan ≡ true → AreLawful plan instance choice → AtRows (outcome plan instance choice) (Known tables plan) (Unit {0})
   known plan choice f l = known_holds tables plan instance choice f meets l
 
   given_here : (plan : PlanTree) (choice : List (List ℕ)) (first : ℕ) → fits tables plan ≡ true → AreLawful plan instance choice → ChildrenKeep plan instance choice (kept_below plan first nodes) (kept_right plan first nodes) → GivenHoldAt tables plan instance choice first nodes
   given_here plan choice first f l a = given_facts_hold tables plan instance choice (kept_below plan first nodes) (kept_right plan first nodes) f meets l a
 
-  sound : (plan : PlanTree) (choice : List (List ℕ)) (first : ℕ) → fits tables plan ≡ true → nodes_refusal tables plan first nodes ≡ None → AreLawful plan instance choice → IsSoundPlan plan choice first
+  pub sound : (plan : PlanTree) (choice : List (List ℕ)) (first : ℕ) → fits tables plan ≡ true → nodes_refusal tables plan first nodes ≡ None → AreLawful plan instance choice → IsSoundPlan plan choice first
   sound (Scan table columns) choice first f v l =
       let plan = Scan table columns in
       let given = given_here plan choice first f l tt in

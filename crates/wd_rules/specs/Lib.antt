@@ -3,3 +3,4 @@ pub mod Rules
 pub mod Validity
 pub mod Laws
 pub mod Examples
+pub mod Lists

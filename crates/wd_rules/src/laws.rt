@@ -2,6 +2,7 @@
 
 ghost use Rattle.wd_rules.specs.Examples.{CertificatesComeOut};
 ghost use Rattle.wd_rules.specs.Laws.{NeverBoth, ValidHasOne, ValidShows};
+ghost use Rattle.wd_rules.specs.Lists.{ListedHasOne, PlanHasOneList};
 
 /// Where a plan fits a schema and a certificate is valid for them, each given and each kept fact
 /// holds in its node's rows, and each call and limit is settled.
@@ -22,4 +23,15 @@ pub fn never_both()
 /// By what some certificates are refused, and that others are valid.
 pub fn certificates_come_out()
     ensures { CertificatesComeOut }
+{}
+
+/// A settled plan whose last Limit is ordered by keys that give every column has outcomes that agree as lists, under any valid
+/// choices, over the same tables in any row order.
+pub fn plan_has_one_list()
+    ensures { PlanHasOneList }
+{}
+
+/// A plan with a valid certificate by which its last Limit goes by `keys` has one list.
+pub fn listed_has_one()
+    ensures { ListedHasOne }
 {}

@@ -8,10 +8,10 @@ use Rattle.wd_lex.specs.Lexed.{kinds_of}
 use Rattle.wd_schema.specs.declared.error.SchemaError.{SchemaError}
 use Rattle.wd_schema.specs.declared.error.SchemaError.TheVariants.{Tokens, TableTwice, ColumnTwice, UnknownColumn, SecondPrimaryKey, KeyColumnTwice, TooMany, UnknownType, NullForbidden, Unexpected, OutOfMemory}
 use Rattle.wd_schema.specs.Declares.{AllKeep, ColumnsDiffer, HasOnePrimary, IsSmall, KeyColumnsDiffer, KeysNameColumns, NullsAreAllowed, TypesAreKnown, table_declared}
-use Rattle.wd_schema.specs.Laws.{HasMeaningOrCause, HasOneMeaning}
+use Rattle.wd_schema.specs.Laws.{HasMeaningOrCause, HasOneMeaning, UnexpectedIsNoSchema}
 use Rattle.wd_schema.specs.Schemas.{schema_of}
 use Rattle.wd_schema.specs.Tables.{TableRule}
-use Rattle.wd_schema.specs.Texts.{Breaks, Declares, GivesTables, HasCause, Stops}
+use Rattle.wd_schema.specs.Texts.{Breaks, Declares, GivesTables, HasCause}
 use Rattle.wd_schema.specs.WellFormed.{IsWellFormed}
 use Rattle.wd_schema.specs.declared.schema.Schema.{Schema}
 use Rattle.wd_read_statements.specs.Grammar.{Begins, spell_schema}
@@ -64,14 +64,14 @@ not_broken text tables refusal d breaks =
     let front = (schema_statements d.tree d.whole).all breaks.tables (subst (λ ks. Begins ks breaks.tables) same breaks.begins) in
     breaks.broken (keeps_front refusal breaks.tables front.0 (subst (AllKeep refusal) front.1 (d.kept refusal)))
 
-not_unexpected : (text : List ℕ) (tables : List TableRule) (place : ℕ) → Declares text tables → Stops text place → ⊥
-not_unexpected text tables place d stops =
-    let same : kinds_of stops.tokens ≡ spell_schema d.tree = ap kinds_of (one_list_of_tokens text stops.tokens d.tokens stops.lexed d.lexed) ∙ d.spelled in
-    stops.stops.none d.tree d.whole (ap (take (suc place)) (sym same))
+pub unexpected_is_no_schema : UnexpectedIsNoSchema
+unexpected_is_no_schema text place tokens tree stops lexed whole spelled =
+    let same : kinds_of stops.tokens ≡ spell_schema tree = ap kinds_of (one_list_of_tokens text stops.tokens tokens stops.lexed lexed) ∙ spelled in
+    stops.stops.none tree whole (ap (take (suc place)) (sym same))
 
 pub meaning_or_cause : HasMeaningOrCause
 meaning_or_cause text tables (Tokens error) d cause = no_cause text d.tokens error d.lexed cause
-meaning_or_cause text tables (Unexpected place) d cause = not_unexpected text tables place d cause
+meaning_or_cause text tables (Unexpected place) d cause = unexpected_is_no_schema text place d.tokens d.tree cause d.lexed d.whole d.spelled
 meaning_or_cause text tables OutOfMemory d cause = cause
 meaning_or_cause text tables TableTwice d cause = not_broken text tables TableTwice d cause
 meaning_or_cause text tables ColumnTwice d cause = not_broken text tables ColumnTwice d cause

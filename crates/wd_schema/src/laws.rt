@@ -1,6 +1,6 @@
 //! The laws of schema texts, over the definitions alone.
 
-ghost use Rattle.wd_schema.specs.Laws.{HasMeaningOrCause, HasOneMeaning};
+ghost use Rattle.wd_schema.specs.Laws.{HasMeaningOrCause, HasOneMeaning, UnexpectedIsNoSchema};
 
 /// A text declares at most one list of tables.
 pub fn one_meaning()
@@ -10,4 +10,9 @@ pub fn one_meaning()
 /// No refusal's cause stands in a text that declares tables.
 pub fn meaning_or_cause()
     ensures { HasMeaningOrCause }
+{}
+
+/// Where a text is refused for an unexpected token, its tokens are no schema.
+pub fn unexpected_is_no_schema()
+    ensures { UnexpectedIsNoSchema }
 {}

@@ -2,7 +2,7 @@
 use Rattle.std.proofs.Common.{◌≡◌, ◌≢◌, ℕ, Bool, true, false, cond, Option, Some, None, List, [], ◌∷◌, ◌++◌, map, All, String, Vec, Global, Ordering, Less, Equal, Greater, string_bytes, string_cmp, nat_cmp, refl, ap, ◌∙◌}
 use Rattle.std.proofs.lemmas.Cmp.{nat_list_cmp_total}
 use Rattle.std.proofs.lemmas.Map.Text.{is_eq-slice_cmp}
-use Rattle.std.proofs.lemmas.List.Elements.{All-head, All-tail}
+use Rattle.std.proofs.lemmas.List.Elements.{All-cons, All-head, All-nil, All-tail}
 use Rattle.std.specs.BTreeMap.{insert_entry}
 use Rattle.std.specs.Cmp.Lexicographic.{slice_cmp}
 use Rattle.std.specs.List.{AllByRecursion}
@@ -34,6 +34,26 @@ at_ordering Greater a b c = refl
 pub members-insert_entry : (es : List Entry) (k : String Global) (v : Vec (Vec Value Global) Global) → members_of_entries (insert_entry string_cmp es k v) ≡ put (string_bytes k) (rows_json (rows_of v.items)) (members_of_entries es)
 members-insert_entry [] k v = refl
 members-insert_entry (e ∷ es) k v = at_ordering (string_cmp k e.0) _ _ _ ∙ rw (members-insert_entry es k v)
+
+-- the rows of each entry have numbers of 64 bits
+abbrev pub AllFit : List Entry → Type 0
+AllFit es = All (λ t. All (All Fits64) t.rows) (map table_rows es)
+
+fit_at_ordering : (o : Ordering) (a b c : List Entry) → AllFit a → AllFit b → AllFit c → AllFit (match_ordering o a b c)
+fit_at_ordering Less a b c f g h = f
+fit_at_ordering Equal a b c f g h = g
+fit_at_ordering Greater a b c f g h = h
+
+-- with one more table they still have
+pub fit-insert_entry : (es : List Entry) (k : String Global) (v : Vec (Vec Value Global) Global) → AllFit es → All (All Fits64) (rows_of v.items) → AllFit (insert_entry string_cmp es k v)
+fit-insert_entry [] k v all h = All-cons (λ t. All (All Fits64) t.rows) (table_rows (k, v)) [] h (All-nil (λ t. All (All Fits64) t.rows))
+fit-insert_entry (e ∷ es) k v all h =
+    let head = All-head (λ t. All (All Fits64) t.rows) (table_rows e) (map table_rows es) all in
+    let tail = All-tail (λ t. All (All Fits64) t.rows) (table_rows e) (map table_rows es) all in
+    fit_at_ordering (string_cmp k e.0) _ _ _
+    (All-cons (λ t. All (All Fits64) t.rows) (table_rows (k, v)) (map table_rows (e ∷ es)) h all)
+    (All-cons (λ t. All (All Fits64) t.rows) (table_rows (e.0, v)) (map table_rows es) h tail)
+    (All-cons (λ t. All (All Fits64) t.rows) (table_rows e) (map table_rows (insert_entry string_cmp es k v)) head (fit-insert_entry es k v tail h))
 
 below_middle : (first : Entry) (es : List Entry) (e : Entry) (more : List Entry) → AllByRecursion (λ y. string_cmp first.0 y ≡ Less) (keys_of (es ++ e ∷ more)) → string_cmp first.0 e.0 ≡ Less
 below_middle first [] e more h = h.0

@@ -29,6 +29,7 @@ use wd_value::{Row, Text, Value};
 /// A whole number of 64 bits, written without a fraction or an exponent.
 fn read_integer(value: &Json) -> Result<i64, Misread>
     ensures ok { IfOk result (λ n. view value.now ≡ value_json (Int n)) }
+    ensures fits { IfOk result (λ n. FitsSigned w64 n) }
     ensures refused { IfErr result (λ e. (n : ℤ) → FitsSigned w64 n → view value.now ≢ value_json (Int n)) }
 {
     match value.as_i64() {
@@ -39,6 +40,7 @@ fn read_integer(value: &Json) -> Result<i64, Misread>
 
 fn read_value(alloc: Global, value: &Json) -> Result<Value, Misread>
     ensures ok { IfOk result (λ v. view value.now ≡ value_json v) }
+    ensures fits { IfOk result (λ v. Fits64 v) }
     ensures refused { IfErr result (λ e. e ≡ misread.Shape → (v : SpecValue) → Fits64 v → view value.now ≢ value_json v) }
 {
     match value {
@@ -51,6 +53,7 @@ fn read_value(alloc: Global, value: &Json) -> Result<Value, Misread>
 
 fn read_row(alloc: Global, value: &Json) -> Result<Row, Misread>
     ensures ok { IfOk result (λ r. view value.now ≡ row_json r.items) }
+    ensures fits { IfOk result (λ r. All Fits64 r.items) }
     ensures refused { IfErr result (λ e. e ≡ misread.Shape → (row : SpecRow) → All Fits64 row → view value.now ≢ row_json row) }
 {
     let values = list(value)?;
@@ -64,6 +67,7 @@ fn read_row(alloc: Global, value: &Json) -> Result<Row, Misread>
 
 fn read_rows(alloc: Global, value: &Json) -> Result<Vec<Row>, Misread>
     ensures ok { IfOk result (λ v. view value.now ≡ rows_json (rows_of v.items)) }
+    ensures fits { IfOk result (λ v. All (All Fits64) (rows_of v.items)) }
     ensures refused { IfErr result (λ e. e ≡ misread.Shape → (rows : List SpecRow) → All (All Fits64) rows → view value.now ≢ rows_json rows) }
 {
     let values = list(value)?;
@@ -80,6 +84,7 @@ fn read_members(
     members: &Map<String, Json>,
 ) -> Result<BTreeMap<String, Vec<Row>>, Misread>
     ensures ok { IfOk result (λ m. members_view members.now.entries ≡ table_members (map table_rows m.entries)) }
+    ensures fits { IfOk result (λ m. All (λ t. All (All Fits64) t.rows) (map table_rows m.entries)) }
     ensures refused { IfErr result (λ e. e ≡ misread.Shape → (tables : List TableRows) → All (λ t. All (All Fits64) t.rows) tables → members_view members.now.entries ≢ table_members tables) }
 {
     let mut found = BTreeMap::new(alloc);
@@ -93,6 +98,7 @@ fn read_members(
 
 fn read_tables(alloc: Global, value: &Json) -> Result<BTreeMap<String, Vec<Row>>, Misread>
     ensures ok { IfOk result (λ m. view value.now ≡ tables_json (map table_rows m.entries)) }
+    ensures fits { IfOk result (λ m. All (λ t. All (All Fits64) t.rows) (map table_rows m.entries)) }
     ensures refused { IfErr result (λ e. e ≡ misread.Shape → (tables : List TableRows) → All (λ t. All (All Fits64) t.rows) tables → view value.now ≢ tables_json tables) }
 {
     read_members(alloc, object(value)?)
@@ -132,6 +138,7 @@ fn witness_members<'v>(value: &'v Json) -> Result<WitnessMembers<'v>, Misread>
 
 fn read_parts(alloc: Global, value: &Json) -> Result<Witness, Misread>
     ensures ok { IfOk result (λ w. view value.now ≡ witness_json (witness_of w)) }
+    ensures fits { IfOk result (λ w. AllFit64 (witness_of w)) }
     ensures refused { IfErr result (λ e. e ≡ misread.Shape → (w : WitnessRecord) → AllFit64 w → view value.now ≢ witness_json w) }
 {
     let members = witness_members(value)?;
@@ -163,6 +170,7 @@ fn value_of(alloc: Global, bytes: &[u8]) -> Result<Json, WitnessTextError>
 
 fn spelled(alloc: Global, bytes: &[u8]) -> Result<Witness, WitnessTextError>
     ensures ok { IfOk result (λ w. Spells (witness_of w) bytes.now) }
+    ensures fits { IfOk result (λ w. AllFit64 (witness_of w)) }
     ensures refused { IfErr result (λ e. (schema : List TableRule) → HasCause schema e bytes.now) }
 {
     let value = value_of(alloc, bytes)?;
@@ -184,7 +192,8 @@ pub fn read_witness(
     bytes: &[u8],
 ) -> Result<Witness, WitnessTextError>
     ensures ok { IfOk result (λ w. Spells (witness_of w) bytes.now) }
-    ensures fits { IfOk result (λ w. IsOf (schema_of schema.now) (witness_of w)) }
+    ensures of_tables { IfOk result (λ w. IsOf (schema_of schema.now) (witness_of w)) }
+    ensures fits { IfOk result (λ w. AllFit64 (witness_of w)) }
     ensures refused { IfErr result (λ e. HasCause (schema_of schema.now) e bytes.now) }
 {
     let witness = spelled(alloc, bytes)?;

@@ -13,7 +13,7 @@ returns-then-is_empty c =
     let reasons = c.analyse_nodes.new.found.findings.reasons.items in
     let long : vec_len c.analyse_nodes.new.found.findings.reasons ≡ length reasons = search rules in
     certified (schema_of c.args.schema.now) (plan_of c.args.plan.now) _ c.analyse_nodes.new.found (map fact_of c.in_ok-analyse_nodes.field-0.items)
-    (ap (map node_of) c.new.ensures.items) c.new-2.ensures.items c.new-3.ensures.items c.in_ok-analyse_nodes.ensures
+    (ap (map node_of) c.nothing-found.ensures.nodes) c.nothing-found.ensures.reasons c.nothing-found.ensures.marks c.in_ok-analyse_nodes.ensures
     (nil_from_length reasons (sym long ∙ eqb-true (vec_len c.analyse_nodes.new.found.findings.reasons) 0 (sym c.if-is_empty.ensures)))
 
 pub returns-else-is_empty : goal.returns-else-is_empty
@@ -21,5 +21,5 @@ returns-else-is_empty c =
     let reasons = c.analyse_nodes.new.found.findings.reasons.items in
     let long : vec_len c.analyse_nodes.new.found.findings.reasons ≡ length reasons = search rules in
     opened (schema_of c.args.schema.now) (plan_of c.args.plan.now) _ c.analyse_nodes.new.found (map fact_of c.in_ok-analyse_nodes.field-0.items)
-    (ap (map node_of) c.new.ensures.items) c.new-2.ensures.items c.new-3.ensures.items c.in_ok-analyse_nodes.ensures
+    (ap (map node_of) c.nothing-found.ensures.nodes) c.nothing-found.ensures.reasons c.nothing-found.ensures.marks c.in_ok-analyse_nodes.ensures
     (λ e. false≢true (c.if-is_empty.ensures ∙ ap (λ n. nat_eq n 0) (long ∙ ap length e)))

@@ -13,6 +13,7 @@ returns-in-Ok-resolve-clause-planned c =
       lexed = c.in-Ok.ensures.tokens;
       spelled = subst (λ ts. IsTreeOf (kinds_of ts) tree) c.as_slice.ensures.value c.in-Ok-parse.ensures.tree;
       means = c.in-Ok-resolve.ensures.meant;
+      limits = c.in-Ok-parse.ensures.limits;
     }
 
 pub returns-clause-refused : goal.returns-clause-refused

@@ -5,7 +5,7 @@ use Rattle.std.specs.String.{string_cmp}
 use Rattle.serde_json.proofs.Views.{Entry, put_last}
 use Rattle.serde_json.specs.View.{members_view}
 use Rattle.wd_json.specs.declared.misread.Misread.TheVariants as misread
-use Rattle.wd_witness.proofs.Tables.{members-insert_entry, are_no_tables}
+use Rattle.wd_witness.proofs.Tables.{AllFit, are_no_tables, fit-insert_entry, members-insert_entry}
 use Rattle.wd_witness.specs.Json.{table_members}
 use Rattle.wd_witness.specs.Witnesses.{Fits64, TableRows, table_rows}
 use Rattle.wd_witness.proofs.read.read_members.Goals as goal
@@ -23,6 +23,7 @@ loop-name-preserved c =
       done ++ e ∷ [],
       all ∙ sym (append_assoc done (e ∷ []) left),
       sym inserted,
+      subst AllFit (sym c.in_ok-insert.ensures.entries) (fit-insert_entry l.found.entries c.in_ok-name.name c.in_ok-rows.rows l.invariant.3 c.in_ok-rows.ensures.fits),
     )
 
 pub returns-in_err-rows-clause-refused : goal.returns-in_err-rows-clause-refused

@@ -1,0 +1,58 @@
+-- The example is of the plain class.
+use Rattle.std.proofs.Common.{◌≡◌, false, refl, subst, List, [], ◌∷◌, None, Ok}
+use Rattle.std.specs.Prelude.{codes}
+use Rattle.wd_syntax.specs.Tree as tree
+use Rattle.wd_syntax.specs.Tree.{shown}
+use Rattle.wd_plan.specs.declared.expression.ValueKind.TheVariants.{Text, Truth}
+use Rattle.wd_plan.specs.Expressions.{Column}
+use Rattle.wd_plan.specs.Plans.{Scan}
+use Rattle.wd_resolve_scope.proofs.Typing.{ok_is}
+use Rattle.wd_resolve_scope.specs.Resolving.{all_defined, over_meant}
+use Rattle.wd_resolve_scope.specs.Windows.{KnownMeaning, WindowMeaning, default_frame}
+use Rattle.wd_resolve_scope.specs.declared.context.Place.TheVariants.{SelectList}
+use Rattle.wd_resolve.specs.Selected.{JoinedTables}
+use Rattle.wd_complete.specs.Examples.{ExampleIsPlain, the_over, unquoted}
+use Rattle.wd_complete.specs.Queries.{IsPlainWindow}
+
+-- the columns in scope
+abbrev the_from : JoinedTables
+the_from = record {
+  scope = record {
+    tables = codes "p" ∷ [];
+    columns = record { table = codes "p"; name = codes "a"; kind = Truth } ∷ record { table = codes "p"; name = codes "b"; kind = Text } ∷ [];
+  };
+  plan = Scan 0 2;
+}
+
+-- the window: no partition, in the order of the first column
+abbrev the_window : WindowMeaning
+the_window = record { partition = []; order = record { expression = Column 0; kind = Truth; key = record { desc = false; nulls_first = false } } ∷ []; frame = default_frame; framed = false }
+
+the_window_is : IsPlainWindow the_window
+the_window_is = record { partition = tt; order = (tt, tt) }
+
+abbrev PlainKnown : List KnownMeaning → Type 0
+PlainKnown known = (w : WindowMeaning) → over_meant (record { scope = the_from.scope; windows = known; place = SelectList }) the_over ≡ Ok w → IsPlainWindow w
+
+abbrev PlainFrom : JoinedTables → Type 0
+PlainFrom from = (known : List KnownMeaning) → all_defined from.scope [] [] ≡ Ok known → (w : WindowMeaning) → over_meant (record { scope = from.scope; windows = known; place = SelectList }) the_over ≡ Ok w → IsPlainWindow w
+
+pub example : ExampleIsPlain
+example = record {
+  table = unquoted (codes "p");
+  alias = None;
+  quantifier = None;
+  windows = [];
+  before = shown (tree.Column (unquoted (codes "b"))) None ∷ [];
+  function = unquoted (codes "row_number");
+  over = the_over;
+  output = None;
+  after = [];
+  semicolon = false;
+  is = refl;
+  all = refl;
+  plain_before = (tt, tt);
+  plain_after = tt;
+  row_number = refl;
+  window = λ from e. subst PlainFrom (ok_is the_from from e) (λ known f. subst PlainKnown (ok_is [] known f) (λ w g. subst IsPlainWindow (ok_is the_window w g) the_window_is));
+}

@@ -1,0 +1,11 @@
+pub mod Lists
+pub mod Tried
+pub mod Gives
+pub mod Reached
+pub mod Opened
+pub mod Candidate
+pub mod Evaluated
+pub mod Meeting
+pub mod Found
+pub mod Lowered
+pub mod Examples

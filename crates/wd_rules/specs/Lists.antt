@@ -1,0 +1,66 @@
+-- When outcomes agree as lists, and which plans have one list of rows.
+use Rattle.std.specs.Prelude.{◌≡◌, ℕ, Bool, true, false, List, Option, Some, None, is_some, Ok, Err, ⊤}
+use Rattle.wd_value.specs.Rows.{Instance}
+use Rattle.wd_schema.specs.Meets.{Meets}
+use Rattle.wd_schema.specs.Tables.{TableRule}
+use Rattle.wd_plan.specs.Choices.{AtRows, IsValidChoice}
+use Rattle.wd_plan.specs.Facts.{DeterminesAll, HasWidth}
+use Rattle.wd_plan.specs.Fits.{fits}
+use Rattle.wd_plan.specs.Outcomes.{RowsOrFault, outcome}
+use Rattle.wd_plan.specs.Plans.{PlanTree, Scan, Join, Filter, Map, Window, Distinct, Limit}
+use Rattle.wd_plan.specs.Settled.{IsSettledPlan}
+use Rattle.wd_plan.specs.Sorting.{limit_class, order_columns}
+use Rattle.wd_laws.specs.Laws.{SameTables}
+use Rattle.wd_certificate.specs.Certificates.{NodeRecord}
+use Rattle.wd_rules.specs.Validity.{IsValidCertificate, entry_at, top_number}
+
+-- outcomes agree as lists where they are the same fault, or equal lists of rows
+abbrev pub AgreeAsLists : RowsOrFault → RowsOrFault → Type 0
+AgreeAsLists (Ok rows) (Ok others) = rows ≡ others
+AgreeAsLists (Ok rows) (Err g) = ⊥
+AgreeAsLists (Err f) (Ok others) = ⊥
+AgreeAsLists (Err f) (Err g) = f ≡ g
+
+-- The number of the Limit that gives a plan's rows their order, the last one in postorder: the plan's top node, or the first node
+-- that is no Map below its top, since a Map keeps the order. There is none where that node is no Limit. The plan's nodes begin at
+-- a number.
+abbrev pub final_limit : PlanTree → ℕ → Option ℕ
+final_limit (Scan table columns) first = None
+final_limit (Join condition left right) first = None
+final_limit (Filter condition input) first = None
+final_limit (Map outputs input) first = final_limit input first
+final_limit (Window w input) first = None
+final_limit (Distinct input) first = None
+final_limit (Limit limit input) first = Some (top_number (Limit limit input) first)
+
+-- there is such a Limit, and its entry names a trace: it goes by `keys`
+abbrev pub goes_by_keys : List NodeRecord → Option ℕ → Bool
+goes_by_keys nodes None = false
+goes_by_keys nodes (Some n) = is_some (entry_at nodes n).limit
+
+-- the sort keys of that Limit give every column of the rows that it reads
+abbrev pub IsListedPlan : PlanTree → Instance → List (List ℕ) → Type 0
+IsListedPlan (Scan table columns) instance choice = ⊥
+IsListedPlan (Join condition left right) instance choice = ⊥
+IsListedPlan (Filter condition input) instance choice = ⊥
+IsListedPlan (Map outputs input) instance choice = IsListedPlan input instance choice
+IsListedPlan (Window w input) instance choice = ⊥
+IsListedPlan (Distinct input) instance choice = ⊥
+IsListedPlan (Limit limit input) instance choice = AtRows (outcome input instance choice) (λ rows. (width : ℕ) × HasWidth width rows × DeterminesAll rows width (order_columns (limit_class limit))) ⊤
+
+-- The list law: a plan that is settled under one valid choice, and whose last Limit is ordered by keys that give every column, has
+-- outcomes that agree as lists under every valid choice, over the same tables in any row order, faults included.
+abbrev pub PlanHasOneList : Type 0
+PlanHasOneList = (plan : PlanTree) (instance other : Instance) (c1 c2 : List (List ℕ))
+    → SameTables instance other → IsValidChoice plan instance c1 → IsValidChoice plan other c2 → IsSettledPlan plan instance c1 → IsListedPlan plan instance c1
+    → AgreeAsLists (outcome plan instance c1) (outcome plan other c2)
+
+-- a plan has one list over every instance that meets the schema: in any row order, under any valid choices
+abbrev pub HasOneList : List TableRule → PlanTree → Type 0
+HasOneList tables plan = (instance other : Instance) (c1 c2 : List (List ℕ))
+    → Meets tables instance → SameTables instance other → IsValidChoice plan instance c1 → IsValidChoice plan other c2 → AgreeAsLists (outcome plan instance c1) (outcome plan other c2)
+
+-- a plan that fits and has a valid certificate by which its last Limit goes by `keys` has one list
+abbrev pub ListedHasOne : Type 0
+ListedHasOne = (tables : List TableRule) (plan : PlanTree) (nodes : List NodeRecord)
+    → fits tables plan ≡ true → IsValidCertificate tables plan nodes → goes_by_keys nodes (final_limit plan 0) ≡ true → HasOneList tables plan
