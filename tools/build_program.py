@@ -16,21 +16,12 @@ import sys
 import tempfile
 import threading
 
-from rt_module import TOP, rt
+from rt_module import TOP, rt, sum_of
 
 PROGRAM = "wdcheck"
 # Processor seconds to prove a crate and each function of it: the 43 crates with their 1,649 functions took some 7,000 of them.
 SECONDS_A_CRATE, SECONDS_A_FUNCTION = 20, 3.7
 FUNCTION = rb"(?m)^ *(?:pub(?:\([a-z]+\))? )?(?:const )?fn \w"
-
-
-def sum_of(files, folder):
-    """A sum of the files' names below the folder and of what they hold."""
-    found = hashlib.sha256()
-    for path in sorted(files):
-        with open(path, "rb") as file:
-            found.update(repr((os.path.relpath(path, folder), file.read())).encode())
-    return found.hexdigest()
 
 
 class Made:

@@ -21,7 +21,7 @@ import re
 import tempfile
 import time
 
-from rt_module import TOP, rt
+from rt_module import TOP, rt, sum_of
 
 RUNNER = [f"{TOP}/tools/{name}" for name in ("wrong_bodies.py", "kept_verdicts.py", "rt_module.py")]
 # A verdict that no run took for so many days is thrown away.
@@ -33,17 +33,6 @@ def usual_folder():
     caches = os.environ.get("XDG_CACHE_HOME", "")
     # A path from the working directory on is no value of that variable.
     return f"{caches if os.path.isabs(caches) else os.path.expanduser('~/.cache')}/wdcheck/wrong-bodies"
-
-
-def sum_of(files, folder):
-    """A checksum of the files' names below the folder and of what they hold."""
-    found = hashlib.sha256()
-    for path in sorted(files):
-        with open(path, "rb") as file:
-            held = file.read()
-        found.update(f"{os.path.relpath(path, folder)}\n{len(held)}\n".encode())
-        found.update(held)
-    return found.hexdigest()
 
 
 @functools.cache

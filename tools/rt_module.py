@@ -1,5 +1,7 @@
-"""The kit's command rt as a module: it knows a crate's libraries, the words of a check, and how many checks fit side by side."""
+"""The kit's command rt as a module: it knows a crate's libraries, the words of a check, and how many checks fit side by side; and
+checksums of files."""
 
+import hashlib
 import importlib.machinery
 import importlib.util
 import os
@@ -23,3 +25,14 @@ def load():
 
 
 rt = load()
+
+
+def sum_of(files, folder):
+    """A checksum of the files' names below the folder and of what they hold."""
+    found = hashlib.sha256()
+    for path in sorted(files):
+        with open(path, "rb") as file:
+            held = file.read()
+        found.update(f"{os.path.relpath(path, folder)}\n{len(held)}\n".encode())
+        found.update(held)
+    return found.hexdigest()
