@@ -4,7 +4,8 @@
     python3 tools/build_program.py
 
 Proved is a crate whose library or program stands in its out/ beside a mark of the very files, kit and libraries below that it was
-made of. The others are proved from nothing; what stands above a library loads its statements alone, and no test is proved. Standard
+made of; what 'rt ci' passed of these on this machine, and kept, is put there first. The others are proved from nothing; what stands
+above a library loads its statements alone, and no test is proved. Standard
 error says at once about how long it will take, and then by a line for each crate how many functions are done of all. Ends with
 status 1 where a crate isn't proved.
 """
@@ -50,6 +51,19 @@ class Made:
         """Whether what stands there was made of the very files, kit and libraries below that stand there too."""
         return rt.rtlib.text_of(f"{crate.folder}/out/built") == f"{self.sources(crate)}\n{self.output(crate)}\n"
 
+    def take_kept(self, crates):
+        """Puts what 'rt ci' kept of the very same files, kit and libraries below into the crates' out/; the lowest come first."""
+        kept = rt.Kept(crates)
+        for crate in crates:
+            if not all(self.is_current(below) for below in crate.below()):
+                continue
+            if not self.stands(crate):
+                sources = self.sources(crate)
+                if not kept.give(crate, False, kept.key(crate)):
+                    continue
+                self.note(crate, sources)
+            kept.is_built(crate)
+
     def left(self, crates):
         """The crates that are not proved yet, each with those above it; the lowest come first, as they are given."""
         left = []
@@ -64,6 +78,7 @@ class Made:
             return True
         for name in ("built", "rlib", crate.name):
             rt.clear(f"{crate.folder}/out/{name}")
+        self.outputs.pop(crate.name, None)
         return False
 
     def note(self, crate, sources):
@@ -138,6 +153,7 @@ def main():
     crates = [*program.below(), program]
     held = rt.rtlib.lock(crates)
     made, progress = Made(), Progress(crates)
+    made.take_kept(crates)
     left = made.left(crates)
     if left:
         tell_time(left, crates, rt.processors())

@@ -4,8 +4,9 @@ use Rattle.std.proofs.lemmas.Bool.{eqb-true, false≢true}
 use Rattle.wd_schema.specs.Laws.{HasOneMeaning}
 use Rattle.wd_schema.specs.Tables.{TableRule}
 use Rattle.wd_plan.specs.Plans.{PlanTree, node_count}
-use Rattle.wd_certificate.specs.Certificates.{NodeRecord}
-use Rattle.wd_certificate.specs.Laws.{SpellsOne}
+use Rattle.wd_certificate.specs.Certificates.{CertificateRecord, NodeRecord}
+use Rattle.wd_certificate.specs.Laws.{IsReadBack}
+use Rattle.wd_certificate.specs.declared.certificate.Version.{Version}
 use Rattle.wd_certificate.specs.declared.error.CertError.TheVariants.{Count}
 use Rattle.wd_resolve.specs.Laws.{EndsInLimit, OrderedEndInLimit, PlansFit}
 use Rattle.wd_query.specs.Laws.{HasOnePlan}
@@ -13,6 +14,7 @@ use Rattle.wd_rules.specs.Lists.{ListedHasOne, final_limit, goes_by_keys}
 use Rattle.wd_rules.specs.Rules.{refuse_unless}
 use Rattle.wd_rules.specs.Validity.{IsValidCertificate, form_refusal, nodes_refusal}
 use Rattle.wd_rules.proofs.Refused.{first_passed, passed}
+use Rattle.wd_rules.proofs.Sound.{entries_passed}
 use Rattle.wd_accept.specs.Acceptance.{HasCause}
 use Rattle.wd_accept.specs.declared.error.VerifyError.{VerifyError}
 use Rattle.wd_accept.specs.declared.error.VerifyError.TheVariants as error
@@ -21,11 +23,12 @@ use Rattle.wd_accept.specs.Lists.{HasListCause, IsListAccepted, ListedHasOneList
 use Rattle.wd_accept.proofs.Verdicts.{each_answer}
 
 -- a valid certificate has an entry for each node
-pub valid_long : (tables : List TableRule) (plan : PlanTree) (nodes : List NodeRecord) → IsValidCertificate tables plan nodes → length nodes ≡ node_count plan
-valid_long tables plan nodes v =
+pub valid_long : (tables : List TableRule) (plan : PlanTree) (nodes : List NodeRecord) (version : Version) → IsValidCertificate tables plan (record { nodes = nodes; version = version }) → length nodes ≡ node_count plan
+valid_long tables plan nodes version v =
     eqb-true (length nodes) (node_count plan)
     (passed (nat_eq (length nodes) (node_count plan)) Count
-    (first_passed (refuse_unless (nat_eq (length nodes) (node_count plan)) Count) _ (first_passed (form_refusal plan nodes) (nodes_refusal tables plan 0 nodes) v)))
+    (first_passed (refuse_unless (nat_eq (length nodes) (node_count plan)) Count) _
+    (first_passed (form_refusal plan nodes) (nodes_refusal tables plan 0 nodes) (entries_passed tables plan (record { nodes = nodes; version = version }) v))))
 
 -- what refuses a certificate refuses it as a list's
 pub list_cause : (schema query certificate : List ℕ) (e : VerifyError) → HasCause schema query certificate e → HasListCause schema query certificate e
@@ -39,24 +42,24 @@ by_order nodes limit true e = e
 by_order nodes limit false e = absurd (false≢true e)
 
 pub listed_has_one_list : HasOneMeaning → HasOnePlan → PlansFit → ListedHasOne → ListedHasOneList
-listed_has_one_list one_meaning one_plan plans_fit listed_has_one schema query certificate (first, a, (nodes, spells, valid, keys)) = (
-  (first, a, (nodes, spells, valid)),
+listed_has_one_list one_meaning one_plan plans_fit listed_has_one schema query certificate (first, a, (said, spells, valid, keys)) = (
+  (first, a, (said, spells, valid)),
   λ read reads.
-      let there : SpellsListed true certificate reads.tables read = each_answer one_meaning one_plan schema query (SpellsListed true certificate) first read a reads (nodes, spells, valid, keys) in
-      listed_has_one reads.tables read.plan there.0 (plans_fit reads.tables reads.tree read reads.means) there.2 (by_order there.0 (final_limit read.plan 0) read.ordered there.3),
+      let there : SpellsListed true certificate reads.tables read = each_answer one_meaning one_plan schema query (SpellsListed true certificate) first read a reads (said, spells, valid, keys) in
+      listed_has_one reads.tables read.plan there.0 (plans_fit reads.tables reads.tree read reads.means) there.2 (by_order there.0.nodes (final_limit read.plan 0) read.ordered there.3),
 )
 
 -- a valid certificate does not go both ways
-not_both : HasOneMeaning → HasOnePlan → SpellsOne → (schema query certificate : List ℕ) → IsListAccepted schema query certificate → HasListCause schema query certificate error.Unlisted → ⊥
-not_both one_meaning one_plan spells_one schema query certificate (first, a, listed) (second, b, unlisted) =
+not_both : HasOneMeaning → HasOnePlan → IsReadBack → (schema query certificate : List ℕ) → IsListAccepted schema query certificate → HasListCause schema query certificate error.Unlisted → ⊥
+not_both one_meaning one_plan is_read_back schema query certificate (first, a, listed) (second, b, unlisted) =
     let there : SpellsListed true certificate b.tables second = each_answer one_meaning one_plan schema query (SpellsListed true certificate) first second a b listed in
-    let same : unlisted.0 ≡ there.0 = (spells_one certificate 1 1 unlisted.0 there.0 unlisted.1 there.1).1 in
-    false≢true (sym unlisted.3 ∙ ap (λ nodes. goes_by_keys nodes (answer_limit second)) same ∙ there.3)
+    let same : unlisted.0 ≡ there.0 = (is_read_back certificate there.0 there.1).0 unlisted.0 unlisted.1 in
+    false≢true (sym unlisted.3 ∙ ap (λ (said : CertificateRecord). goes_by_keys said.nodes (answer_limit second)) same ∙ there.3)
 
-pub listed_is_taken : HasOneMeaning → HasOnePlan → SpellsOne → ListedHasOneList → AcceptedIsTaken → ListedIsTaken
-listed_is_taken one_meaning one_plan spells_one listed taken schema query certificate (error.Texts refusal) meaning accepted cause = taken schema query certificate (error.Texts refusal) meaning (listed schema query certificate accepted).0 cause
-listed_is_taken one_meaning one_plan spells_one listed taken schema query certificate (error.Certificate refusal) meaning accepted cause = taken schema query certificate (error.Certificate refusal) meaning (listed schema query certificate accepted).0 cause
-listed_is_taken one_meaning one_plan spells_one listed taken schema query certificate error.Unlisted meaning accepted cause = absurd (not_both one_meaning one_plan spells_one schema query certificate accepted cause)
+pub listed_is_taken : HasOneMeaning → HasOnePlan → IsReadBack → ListedHasOneList → AcceptedIsTaken → ListedIsTaken
+listed_is_taken one_meaning one_plan is_read_back listed taken schema query certificate (error.Texts refusal) meaning accepted cause = taken schema query certificate (error.Texts refusal) meaning (listed schema query certificate accepted).0 cause
+listed_is_taken one_meaning one_plan is_read_back listed taken schema query certificate (error.Certificate refusal) meaning accepted cause = taken schema query certificate (error.Certificate refusal) meaning (listed schema query certificate accepted).0 cause
+listed_is_taken one_meaning one_plan is_read_back listed taken schema query certificate error.Unlisted meaning accepted cause = absurd (not_both one_meaning one_plan is_read_back schema query certificate accepted cause)
 
 -- a plan that ends in a Limit has a last one
 has_last : (plan : PlanTree) → EndsInLimit plan → is_some (final_limit plan 0) ≡ true

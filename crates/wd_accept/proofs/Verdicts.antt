@@ -1,12 +1,16 @@
 -- What an accepted certificate implies for each reading of the texts.
-use Rattle.std.proofs.Common.{◌≡◌, ℕ, List, Option, Some, None, ◌∙◌, ap, subst, sym, true, is_some, inl, inr, refl}
+use Rattle.std.proofs.Common.{◌≡◌, ◌≢◌, ℕ, List, Option, Some, None, ◌∙◌, ap, subst, sym, true, is_some, inl, inr, refl}
 use Rattle.std.proofs.lemmas.Bool.{false≢true}
 use Rattle.wd_schema.specs.Laws.{HasOneMeaning}
 use Rattle.wd_schema.specs.Tables.{TableRule}
 use Rattle.wd_plan.specs.Plans.{PlanTree}
-use Rattle.wd_certificate.specs.Laws.{IsReadBack, SpellsOne}
+use Rattle.wd_certificate.specs.Certificates.{NodeRecord}
+use Rattle.wd_certificate.specs.Json.{Spells}
+use Rattle.wd_certificate.specs.Laws.{IsReadBack}
 use Rattle.wd_certificate.specs.Refusals.{number_of}
+use Rattle.wd_certificate.specs.declared.certificate.Version.{Version}
 use Rattle.wd_certificate.specs.declared.error.CertError.{CertError}
+use Rattle.wd_certificate.specs.declared.error.CertError.TheVariants as why
 use Rattle.wd_resolve.specs.Answers.{Answer}
 use Rattle.wd_query.specs.Causes.{text_number}
 use Rattle.wd_query.specs.Laws.{HasMeaningOrCause, HasOnePlan}
@@ -34,8 +38,8 @@ accepted_has_one one_meaning one_plan plans_fit valid_has_one schema query certi
 no_refusal : (o : Option CertError) (refusal : CertError) → o ≡ None → o ≡ Some refusal → ⊥
 no_refusal o refusal e f = false≢true (ap is_some (sym e ∙ f))
 
-pub not_both : HasOneMeaning → HasOnePlan → SpellsOne → IsReadBack → NotBoth
-not_both one_meaning one_plan spells_one is_read_back schema query certificate refusal accepted some refused =
+pub not_both : HasOneMeaning → HasOnePlan → IsReadBack → NotBoth
+not_both one_meaning one_plan is_read_back schema query certificate refusal accepted some refused =
     by (every one_meaning one_plan schema query (SpellsValid certificate) accepted.0 refused.0 accepted.1 refused.1 accepted.2) refused.2
   where
     tables : List TableRule
@@ -46,7 +50,23 @@ not_both one_meaning one_plan spells_one is_read_back schema query certificate r
 
     by : SpellsValid certificate tables plan → RefusesPlan refusal certificate tables plan → ⊥
     by valid (inl cause) = false≢true (subst (λ e. is_some (number_of e) ≡ true) ((is_read_back certificate valid.0 valid.1).1 refusal cause) some)
-    by valid (inr cause) = no_refusal (first_refusal tables plan cause.0) refusal (subst (λ nodes. first_refusal tables plan nodes ≡ None) (sym (spells_one certificate 1 1 cause.0 valid.0 cause.1 valid.1).1) valid.2) cause.2
+    by valid (inr cause) = no_refusal (first_refusal tables plan cause.0) refusal (subst (λ said. first_refusal tables plan said ≡ None) (sym ((is_read_back certificate valid.0 valid.1).0 cause.0 cause.1)) valid.2) cause.2
+
+-- what refuses the certificate that a text spells refuses the text, and so does a want of memory
+pub refuses : (certificate : List ℕ) (tables : List TableRule) (plan : PlanTree) (nodes : List NodeRecord) (version : Version) (e : CertError)
+    → Spells (record { nodes = nodes; version = version }) certificate → (e ≢ why.OutOfMemory → first_refusal tables plan (record { nodes = nodes; version = version }) ≡ Some e)
+    → RefusesPlan e certificate tables plan
+refuses certificate tables plan nodes version why.NotJson s h = inr (_, s, h (λ e. absurd (cc)))
+refuses certificate tables plan nodes version why.Shape s h = inr (_, s, h (λ e. absurd (cc)))
+refuses certificate tables plan nodes version why.Version s h = inr (_, s, h (λ e. absurd (cc)))
+refuses certificate tables plan nodes version why.Count s h = inr (_, s, h (λ e. absurd (cc)))
+refuses certificate tables plan nodes version (why.UnreachedUse node) s h = inr (_, s, h (λ e. absurd (cc)))
+refuses certificate tables plan nodes version (why.UnreachedClaim node) s h = inr (_, s, h (λ e. absurd (cc)))
+refuses certificate tables plan nodes version (why.UnjustifiedCall node) s h = inr (_, s, h (λ e. absurd (cc)))
+refuses certificate tables plan nodes version (why.SecondExchange node) s h = inr (_, s, h (λ e. absurd (cc)))
+refuses certificate tables plan nodes version (why.UnjustifiedLimit node) s h = inr (_, s, h (λ e. absurd (cc)))
+refuses certificate tables plan nodes version (why.OutOfRange node) s h = inr (_, s, h (λ e. absurd (cc)))
+refuses certificate tables plan nodes version why.OutOfMemory s h = inl tt
 
 -- ---- what is accepted is taken
 

@@ -2,7 +2,7 @@
 use Rattle.std.specs.Prelude.{◌≡◌, ◌⊎◌, ℕ, List, Option, Some, None}
 use Rattle.wd_schema.specs.Tables.{TableRule}
 use Rattle.wd_plan.specs.Plans.{PlanTree}
-use Rattle.wd_certificate.specs.Certificates.{NodeRecord}
+use Rattle.wd_certificate.specs.Certificates.{CertificateRecord}
 use Rattle.wd_certificate.specs.Json.{Spells}
 use Rattle.wd_certificate.specs.Refusals as certificates
 use Rattle.wd_certificate.specs.declared.error.CertError.{CertError}
@@ -20,7 +20,7 @@ use Rattle.wd_accept.specs.declared.error.VerifyOrigin.TheVariants as origin
 
 -- a text spells a certificate that is valid for a plan
 abbrev pub SpellsValid : List ℕ → List TableRule → PlanTree → Type 0
-SpellsValid certificate tables plan = (nodes : List NodeRecord) × Spells 1 nodes certificate × IsValidCertificate tables plan nodes
+SpellsValid certificate tables plan = (said : CertificateRecord) × Spells said certificate × IsValidCertificate tables plan said
 
 -- it is valid for the plan that reads the texts of a schema and a query
 abbrev pub IsAccepted : List ℕ → List ℕ → List ℕ → Type 0
@@ -34,7 +34,7 @@ HaveOneAnswer schema query = (read : Answer) (reads : Reads schema query read) �
 -- why a certificate is refused for a plan: for its text alone, or by the first check that the certificate it spells fails
 abbrev pub RefusesPlan : CertError → List ℕ → List TableRule → PlanTree → Type 0
 RefusesPlan refusal certificate tables plan =
-    certificates.HasCause refusal certificate ⊎ ((nodes : List NodeRecord) × Spells 1 nodes certificate × (first_refusal tables plan nodes ≡ Some refusal))
+    certificates.HasCause refusal certificate ⊎ ((said : CertificateRecord) × Spells said certificate × (first_refusal tables plan said ≡ Some refusal))
 
 -- why the texts of a schema, a query and a certificate are refused; of the order of the rows nothing is asked
 abbrev pub HasCause : List ℕ → List ℕ → List ℕ → VerifyError → Type 0

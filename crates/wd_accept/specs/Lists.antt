@@ -1,7 +1,7 @@
 -- Which certificates show that the texts of a schema and a query have one list, and why others do not.
 use Rattle.std.specs.Prelude.{◌≡◌, ℕ, Bool, true, false, List, Option, None, is_some, if◌then◌else◌}
 use Rattle.wd_schema.specs.Tables.{TableRule}
-use Rattle.wd_certificate.specs.Certificates.{NodeRecord}
+use Rattle.wd_certificate.specs.Certificates.{CertificateRecord}
 use Rattle.wd_certificate.specs.Json.{Spells}
 use Rattle.wd_resolve.specs.Answers.{Answer}
 use Rattle.wd_resolve.specs.Laws.{Reads}
@@ -21,7 +21,7 @@ answer_limit read = if read.ordered then final_limit read.plan 0 else None
 -- a text spells a valid certificate of a plan, by which the answer's Limit goes by `keys`, or does not
 abbrev pub SpellsListed : Bool → List ℕ → List TableRule → Answer → Type 0
 SpellsListed listed certificate tables read =
-    (nodes : List NodeRecord) × Spells 1 nodes certificate × IsValidCertificate tables read.plan nodes × (goes_by_keys nodes (answer_limit read) ≡ listed)
+    (said : CertificateRecord) × Spells said certificate × IsValidCertificate tables read.plan said × (goes_by_keys said.nodes (answer_limit read) ≡ listed)
 
 -- it is a valid certificate of the plan that reads the texts of a schema and a query, and the answer's Limit goes by `keys`
 abbrev pub IsListAccepted : List ℕ → List ℕ → List ℕ → Type 0

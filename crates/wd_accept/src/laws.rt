@@ -3,7 +3,7 @@
 ghost use Rattle.wd_accept.specs.Laws.{AcceptedHasOne, AcceptedIsTaken, NotBoth};
 ghost use Rattle.wd_accept.specs.Lists.{ListedHasOneList, ListedIsTaken, OrderedHaveLimit};
 
-use wd_certificate::laws::{is_read_back, spells_one};
+use wd_certificate::laws::is_read_back;
 use wd_query::laws::{meaning_or_cause, one_plan};
 use wd_resolve::laws::{ordered_end_in_limit, plans_fit};
 use wd_rules::laws::{listed_has_one, valid_has_one};
@@ -25,7 +25,6 @@ pub fn not_both()
 {
     one_meaning();
     one_plan();
-    spells_one();
     is_read_back();
 }
 
@@ -53,7 +52,7 @@ pub fn listed_is_taken()
 {
     one_meaning();
     one_plan();
-    spells_one();
+    is_read_back();
     listed_has_one_list();
     accepted_is_taken();
 }

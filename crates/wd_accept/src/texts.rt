@@ -1,7 +1,7 @@
 //! From the texts of a schema, a query and a certificate to whether the certificate is valid.
 
 ghost use Rattle.std.specs.Prelude.{◌≡◌, true, None, IfOk, IfErr};
-ghost use Rattle.wd_certificate.specs.Certificates.{nodes_of};
+ghost use Rattle.wd_certificate.specs.Certificates.{certificate_of, nodes_of};
 ghost use Rattle.wd_certificate.specs.Json.{Spells};
 ghost use Rattle.wd_query.specs.Laws.{HaveMeaning};
 ghost use Rattle.wd_query.specs.Readings.{IsRead};
@@ -40,7 +40,7 @@ struct Verified {
 /// rows that tie, one multiset of rows or one fault. No query is evaluated.
 ///
 /// Each refusal comes only where its cause stands, in this order: 101 to 107 and 301 to 309 of the schema; 101 to 107, 201, 202 and
-/// 401 to 415 of the query; 501 to 503 of the certificate's text; 504, or 502 for a limit at a node that is no Limit; 505 to 510 at
+/// 401 to 415 of the query; 501 to 503 of the certificate's text; 503 for version 1 where the plan has a Group; 504, or 502 for a limit at a node that is no Limit; 505 to 510 at
 /// the first node in postorder whose entry is not valid.
 pub fn verify(
     alloc: Global,
@@ -97,7 +97,7 @@ pub fn verify_list(
 
 /// Whether the answer's Limit goes by `keys`.
 fn is_listed(verified: &Verified) -> bool
-    requires { IsValidCertificate (schema_of verified.now.planned.schema) (plan_of verified.now.planned.resolved.plan) (nodes_of verified.now.certificate) }
+    requires { IsValidCertificate (schema_of verified.now.planned.schema) (plan_of verified.now.planned.resolved.plan) (certificate_of verified.now.certificate) }
     ensures { result ≡ goes_by_keys (nodes_of verified.now.certificate) (answer_limit (resolved_of verified.now.planned.resolved)) }
 {
     let nodes = &verified.certificate.nodes;
@@ -113,8 +113,8 @@ fn verify_texts(
     certificate: &[u8],
 ) -> Result<Verified, VerifyError>
     ensures read { IfOk result (λ v. IsRead schema.now query.now v.planned) }
-    ensures spelled { IfOk result (λ v. Spells 1 (nodes_of v.certificate) certificate.now) }
-    ensures valid { IfOk result (λ v. IsValidCertificate (schema_of v.planned.schema) (plan_of v.planned.resolved.plan) (nodes_of v.certificate)) }
+    ensures spelled { IfOk result (λ v. Spells (certificate_of v.certificate) certificate.now) }
+    ensures valid { IfOk result (λ v. IsValidCertificate (schema_of v.planned.schema) (plan_of v.planned.resolved.plan) (certificate_of v.certificate)) }
     ensures refused { IfErr result (λ e. HasCause schema.now query.now certificate.now e) }
 {
     let planned = match read_texts(alloc, schema, query) {
@@ -131,6 +131,7 @@ fn verify_texts(
 }
 
 /// The certificate that a text spells, which is valid for a plan.
+#[tactic(auto, using(crate::proofs::Verdicts::refuses))]
 fn verify_text(
     alloc: Global,
     plan: &Plan,
@@ -138,8 +139,8 @@ fn verify_text(
     certificate: &[u8],
 ) -> Result<Certificate, CertError>
     requires { fits (schema_of schema.now) (plan_of plan.now) ≡ true }
-    ensures spelled { IfOk result (λ c. Spells 1 (nodes_of c) certificate.now) }
-    ensures valid { IfOk result (λ c. IsValidCertificate (schema_of schema.now) (plan_of plan.now) (nodes_of c)) }
+    ensures spelled { IfOk result (λ c. Spells (certificate_of c) certificate.now) }
+    ensures valid { IfOk result (λ c. IsValidCertificate (schema_of schema.now) (plan_of plan.now) (certificate_of c)) }
     ensures refused { IfErr result (λ e. RefusesPlan e certificate.now (schema_of schema.now) (plan_of plan.now)) }
 {
     let certificate = from_json(alloc, certificate)?;

@@ -3,7 +3,8 @@ use Rattle.std.proofs.Common.{◌≡◌, ◌≢◌, List, [], ◌∷◌, ◌++�
 use Rattle.wd_schema.specs.Tables.{TableRule}
 use Rattle.wd_plan.specs.Plans.{PlanTree}
 use Rattle.wd_facts.specs.Facts.{Fact}
-use Rattle.wd_rules.specs.Validity.{IsValidCertificate}
+use Rattle.wd_certificate.specs.declared.certificate.Version.{Version}
+use Rattle.wd_rules.specs.Validity.{IsValidCertificate, version_needed}
 use Rattle.wd_analyse.specs.declared.analysis.Analysis.TheVariants.{Certified, Open}
 use Rattle.wd_analyse.specs.declared.nodes.Found.{Found}
 use Rattle.wd_analyse.specs.Analysis.{IsAnswer}
@@ -22,13 +23,14 @@ module _ (tables : List TableRule) (plan : PlanTree) (old new : Found) (facts : 
   reasons_are : new.findings.reasons.items ≡ reasons_in all
   reasons_are = f.reasons ∙ ap (λ l. l ++ reasons_in all) no_reasons
 
-  pub certified : new.findings.reasons.items ≡ [] → IsAnswer tables plan (Certified (record { nodes = new.nodes }))
-  certified e =
+  pub certified : (version : Version) → version ≡ version_needed plan → new.findings.reasons.items ≡ [] → IsAnswer tables plan (Certified (record { nodes = new.nodes; version = version }))
+  certified version needed e =
       let silent : reasons_in all ≡ [] = sym reasons_are ∙ e in
       let entries : entries_of new ≡ entries_in all = f.entries ∙ ap (λ l. l ++ entries_in all) none in
       record {
-        sound = subst (IsValidCertificate tables plan) (sym entries) (is_valid tables plan (entries_in all) (facts_kept plan f.top) (reasons_in all) (are_analysed tables plan [] [] f.before f.top from_first) silent);
-        exact = record { before = f.before; top = f.top; are = from_first; tells = (silent, entries) };
+        sound = subst (λ v. IsValidCertificate tables plan (record { nodes = entries_of new; version = v })) (sym needed)
+            (subst (λ nodes. IsValidCertificate tables plan (record { nodes = nodes; version = version_needed plan })) (sym entries) (is_valid tables plan (entries_in all) (facts_kept plan f.top) (reasons_in all) (are_analysed tables plan [] [] f.before f.top from_first) silent));
+        exact = record { before = f.before; top = f.top; are = from_first; tells = (silent, entries, needed) };
       }
 
   pub opened : new.findings.reasons.items ≢ [] → IsAnswer tables plan (Open new.findings.reasons new.findings.marks)

@@ -3,7 +3,7 @@ use Rattle.std.proofs.Common.{◌≡◌, ℕ, ◌+◌, ◌≤◌, Bool, true, fa
 use Rattle.std.specs.List.{AllByRecursion}
 use Rattle.wd_plan.specs.Expressions.{Expression}
 use Rattle.wd_plan.specs.Fits.{AreBelow, width}
-use Rattle.wd_plan.specs.Plans.{PlanTree, Scan, Join, Filter, Map, Window, Distinct, Limit}
+use Rattle.wd_plan.specs.Plans.{PlanTree, Scan, Join, Filter, Map, Group, Window, Distinct, Limit}
 use Rattle.wd_facts.specs.Facts.{Fact, FactList}
 use Rattle.wd_facts.specs.Given.{if_copied}
 use Rattle.wd_facts.specs.Laws.{AreOfChildren, ArePlain}
@@ -52,6 +52,7 @@ sources_low (Join condition left right) facts kept more p = sources_by (Join con
 sources_low (Filter condition input) facts kept more p = sources_by (Filter condition input) facts kept more (omega arith) tt
 sources_low (Map outputs input) facts kept more p = sources_by (Map outputs input) facts kept more (omega arith) tt
 sources_low (Window w input) facts kept more p = sources_by (Window w input) facts kept more (omega arith) tt
+sources_low (Group g input) facts kept more p = sources_by (Group g input) facts kept more (omega arith) tt
 sources_low (Distinct input) facts kept more p = sources_by (Distinct input) facts kept more (omega arith) tt
 sources_low (Limit limit input) facts kept more p = sources_by (Limit limit input) facts kept more (omega arith) tt
 

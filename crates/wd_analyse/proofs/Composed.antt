@@ -6,7 +6,7 @@ use Rattle.std.proofs.lemmas.List.{append-nil, map-append}
 use Rattle.wd_schema.specs.Tables.{TableRule}
 use Rattle.wd_plan.specs.Expressions.{Expression}
 use Rattle.wd_plan.specs.Fits.{width}
-use Rattle.wd_plan.specs.Plans.{PlanTree, Scan, Join, Filter, Map, Window, Distinct, Limit}
+use Rattle.wd_plan.specs.Plans.{PlanTree, Scan, Join, Filter, Map, Group, Window, Distinct, Limit}
 use Rattle.wd_certificate.specs.Certificates.{NodeRecord}
 use Rattle.wd_facts.specs.Facts.{Fact, FactList}
 use Rattle.wd_facts.specs.Given.{given}
@@ -62,6 +62,7 @@ module _ (tables : List TableRule) where
   over_one (Filter condition input) first deeper f top e a is = record { deeper = deeper; child = f; below = a; are = refl; finding = is }
   over_one (Map outputs input) first deeper f top e a is = record { deeper = deeper; child = f; below = a; are = refl; finding = is }
   over_one (Window w input) first deeper f top e a is = record { deeper = deeper; child = f; below = a; are = refl; finding = is }
+  over_one (Group g input) first deeper f top e a is = record { deeper = deeper; child = f; below = a; are = refl; finding = is }
   over_one (Distinct input) first deeper f top e a is = record { deeper = deeper; child = f; below = a; are = refl; finding = is }
   over_one (Limit limit input) first deeper f top e a is = record { deeper = deeper; child = f; below = a; are = refl; finding = is }
 

@@ -6,7 +6,7 @@ use Rattle.wd_schema.specs.Tables.{TableRule}
 use Rattle.wd_value.specs.declared.order.SortColumn.{SortColumn}
 use Rattle.wd_value.specs.Keys.{key_columns}
 use Rattle.wd_plan.specs.Fits.{AreBelow, Kinds, fits, has_class, has_columns, has_keys, is_call, is_limit, is_narrow, is_window, kinds_of, width}
-use Rattle.wd_plan.specs.Plans.{ClassRule, LimitRule, PlanTree, WindowRule, Scan, Join, Filter, Map, Window, Distinct, Limit}
+use Rattle.wd_plan.specs.Plans.{ClassRule, LimitRule, PlanTree, WindowRule, Scan, Join, Filter, Map, Group, Window, Distinct, Limit}
 use Rattle.wd_plan.specs.Sorting.{class_columns, order_columns}
 use Rattle.wd_plan.proofs.Ranges.{kinds_below, narrow}
 use Rattle.wd_certificate.specs.Certificates.{NodeRecord}
@@ -139,6 +139,7 @@ module _ (facts : FactList) (node : ℕ) (claims : List Closing) (entry : NodeRe
   plain_passes (Filter condition input) e c = (entry_passes node facts (Filter condition input) claims [] [] None c.claims tt refl, refl, refl)
   plain_passes (Map outputs input) e c = (entry_passes node facts (Map outputs input) claims [] [] None c.claims tt refl, refl, refl)
   plain_passes (Window w input) e c = absurd (false≢true e)
+  plain_passes (Group g input) e c = (entry_passes node facts (Group g input) claims [] [] None c.claims tt refl, refl, refl)
   plain_passes (Distinct input) e c = (entry_passes node facts (Distinct input) claims [] [] None c.claims tt refl, refl, refl)
   plain_passes (Limit limit input) e c = absurd (false≢true e)
 

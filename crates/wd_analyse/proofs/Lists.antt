@@ -3,7 +3,7 @@ use Rattle.std.proofs.Common.{◌≡◌, ℕ, ◌+◌, ◌<◌, true, not, List,
 use Rattle.std.proofs.lemmas.Bool.{false≢true}
 use Rattle.wd_schema.specs.Tables.{TableRule}
 use Rattle.wd_plan.specs.Fits.{fits, width}
-use Rattle.wd_plan.specs.Plans.{LimitRule, PlanTree, Scan, Join, Filter, Map, Window, Distinct, Limit, node_count}
+use Rattle.wd_plan.specs.Plans.{LimitRule, PlanTree, Scan, Join, Filter, Map, Window, Distinct, Group, Limit, node_count}
 use Rattle.wd_certificate.specs.Certificates.{NodeRecord}
 use Rattle.wd_facts.specs.Facts.{Fact, FactList}
 use Rattle.wd_facts.specs.Given.{given}
@@ -31,6 +31,7 @@ final_low (Filter condition input) first n e = cc
 final_low (Map outputs input) first n e = let low = final_low input first n e in omega (arith, low)
 final_low (Window w input) first n e = cc
 final_low (Distinct input) first n e = cc
+final_low (Group g input) first n e = cc
 final_low (Limit limit input) first n e =
     let is : top_number (Limit limit input) first ≡ n = some_is _ _ e in
     let low = top_low (Limit limit input) first in
@@ -74,6 +75,7 @@ module _ (tables : List TableRule) where
       ∙ ap (λ ns. not (goes_by_keys ns (final_limit input 0))) (sym all)
   keys_first (Window w input) before top o a l t = absurd (false≢true t)
   keys_first (Distinct input) before top o a l t = absurd (false≢true t)
+  keys_first (Group g input) before top o a l t = absurd (false≢true t)
   keys_first (Limit limit input) before top o a l t =
       let inner = entries_in (a.deeper ++ a.child ∷ []) in
       let number = long input a.deeper a.child a.below in

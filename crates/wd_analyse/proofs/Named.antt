@@ -1,6 +1,6 @@
 -- The given facts of a node name columns on their left sides, and on their right sides what they may, where what its children
 -- keep names columns and the row alone.
-use Rattle.std.proofs.Common.{◌≡◌, ℕ, zero, suc, ◌+◌, ◌<◌, ◌≤◌, Bool, true, false, ◌&&◌, List, [], ◌∷◌, ◌++◌, map, filter, length, refl, sym, subst, arith, nat_lt, slice_get, is_some, Option, Some, None}
+use Rattle.std.proofs.Common.{◌≡◌, ℕ, zero, suc, ◌+◌, ◌<◌, ◌≤◌, Bool, true, false, cond, ◌&&◌, List, [], ◌∷◌, ◌++◌, map, filter, flat_map, length, refl, sym, subst, arith, nat_eq, nat_lt, slice_get, is_some, Option, Some, None}
 use Rattle.std.specs.List.{AllByRecursion, list_all, range_with_len}
 use Rattle.std.proofs.lemmas.Bool.{and_parts, false≢true, le-leb, lt-ltb, ltb-true}
 use Rattle.wd_schema.specs.Tables.{KeyRule, TableRule}
@@ -16,15 +16,16 @@ use Rattle.wd_plan.specs.Expressions.{Expression, Column, Literal, Negate, Arith
 use Rattle.wd_plan.specs.Fits.{AreBelow, are_outputs, fits, has_table, is_condition, is_join, is_kind, is_narrow, is_typed, is_window, kind_of, kinds_of, may_join, width}
 use Rattle.wd_plan.specs.declared.expression.ValueKind.TheVariants.{Truth}
 use Rattle.wd_plan.specs.Outcomes.{class_at}
-use Rattle.wd_plan.specs.Plans.{ClassRule, PlanTree, WindowRule, Scan, Join, Filter, Map, Window, Distinct, Limit}
+use Rattle.wd_plan.specs.Plans.{ClassRule, GroupCall, OfRows, Grouping, GroupRule, PlanTree, WindowRule, Scan, Join, Filter, Map, Group, Window, Distinct, Limit}
 use Rattle.wd_plan.specs.Sorting.{class_columns, order_columns}
 use Rattle.wd_plan.proofs.Ranges.{IsSound, calls_sound, has_the_table, kinds_below, table_columns}
 use Rattle.wd_facts.specs.declared.facts.Member.{Member}
 use Rattle.wd_facts.specs.declared.facts.Member.TheVariants as member
 use Rattle.wd_facts.specs.Facts.{Fact, FactList, columns_named, is_column, is_plain, key_fact, moved, moved_facts}
-use Rattle.wd_facts.specs.Given.{Side, Plain, Fixed, Other, all_columns, call_facts, calls_facts, comparison_facts, conjunct_facts, conjuncts, conjuncts_of, copy_facts, equality_facts, facts_of_conjuncts, full_keys, given, goes_by_key, gives_row, is_not_null, keys_facts, names_columns, null_facts, nullable_keys, output_facts, outputs_facts, over_frame, row_keys, side_of, table_rule, used, value_fact, rank_fact}
+use Rattle.wd_facts.specs.Given.{Side, Plain, Fixed, Other, all_columns, are_told_apart, call_facts, cut_fact, facts_of_group, group_key, group_key_facts, grouping_arguments, grouping_columns, calls_facts, comparison_facts, conjunct_facts, conjuncts, conjuncts_of, copy_facts, equality_facts, facts_of_conjuncts, full_keys, given, goes_by_key, gives_row, is_not_null, keys_facts, names_columns, null_facts, nullable_keys, output_facts, outputs_facts, over_frame, row_keys, side_of, table_rule, used, value_fact, rank_fact}
 use Rattle.wd_facts.specs.Laws.{AreOfChildren, ArePlain}
 use Rattle.wd_facts.proofs.Embeds.{same_facts}
+use Rattle.wd_facts.proofs.Groupings.{cut_named}
 use Rattle.wd_facts.proofs.KeyRanges.{nullable_keys_below, wider}
 use Rattle.wd_facts.proofs.Lists.{all_append}
 use Rattle.wd_facts.proofs.UsedBelow.{below_append, used_below}
@@ -278,6 +279,32 @@ row_keys_below t (key ∷ keys) = by (row_keys_below t keys) (names_columns t ke
     by later true e = rw e ((and_parts (names_columns t key) (gives_row t key) e).0, later)
     by later false e = rw e later
 
+-- ---- Groups
+
+grouping_below : (n w : ℕ) (calls : List GroupCall) → w + length calls ≤ n → AreBelow n (grouping_columns w calls)
+grouping_below n w [] h = refl
+grouping_below n w (OfRows aggregate ∷ calls) h = grouping_below n (w + 1) calls (omega arith)
+grouping_below n w (Grouping arguments ∷ calls) h = λ i. lt-ltb w n (omega arith) i && grouping_below n (w + 1) calls (omega arith) i
+
+group_key_below : (g : GroupRule) → AreBelow (g.columns + length g.calls) (group_key g)
+group_key_below g = by (nat_lt 1 (length g.sets))
+  where
+    by : (b : Bool) → AreBelow (g.columns + length g.calls) (all_columns g.columns ++ cond b (grouping_columns g.columns g.calls) [])
+    by true = below_append (g.columns + length g.calls) (all_columns g.columns) (grouping_columns g.columns g.calls) (below_range (g.columns + length g.calls) 0 g.columns (omega arith)) (grouping_below (g.columns + length g.calls) g.columns g.calls (omega arith))
+    by false = below_append (g.columns + length g.calls) (all_columns g.columns) [] (below_range (g.columns + length g.calls) 0 g.columns (omega arith)) refl
+
+group_given : (g : GroupRule) (kept : List Fact) (facts : FactList) → facts.columns ≡ g.columns + length g.calls → AreGiven facts (group_key_facts g ++ facts_of_group g kept)
+group_given g kept facts is =
+    all_append (IsGiven facts) (group_key_facts g) (facts_of_group g kept) (of_key (are_told_apart (grouping_arguments g.calls) g.sets)) (of_one_set (nat_eq (length g.sets) 1))
+  where
+    of_key : (b : Bool) → AreGiven facts (cond b (key_fact member.Row (group_key g) ∷ []) [])
+    of_key true = (key_given facts member.Row refl (group_key g) (subst (λ n. AreBelow n (group_key g)) (sym is) (group_key_below g)), tt)
+    of_key false = tt
+
+    of_one_set : (b : Bool) → AreGiven facts (cond b (flat_map (cut_fact g.columns) kept) [])
+    of_one_set true = kept_given facts g.columns (omega (arith, is)) (flat_map (cut_fact g.columns) kept) (cut_named g.columns kept)
+    of_one_set false = tt
+
 module _ (tables : List TableRule) where
   table_is : (table : ℕ) (t : TableRule) → slice_get tables table ≡ Some t → table_rule tables table ≡ t
   table_is table t e = rw e refl
@@ -354,6 +381,7 @@ module _ (tables : List TableRule) where
       all_append (IsGiven facts) kept (calls_facts w (width input) w.calls)
       (kept_given facts (width input) (omega arith) kept h)
       (calls_given facts w (width input) w.calls (omega arith) (within_of w input p.0 facts (omega arith) w.calls (calls_sound (kinds_of tables input) (width input) (kinds_below tables input p.0) w p.1)))
+  all_given (Group g input) kept more f h = group_given g kept (given tables (Group g input) kept more) refl
   all_given (Distinct input) kept more f h =
       let facts = given tables (Distinct input) kept more in
       all_append (IsGiven facts) kept (key_fact member.Row (all_columns (width input)) ∷ [])
@@ -383,5 +411,6 @@ given_split tables (Join condition left right) kept more = le-leb (width left) (
 given_split tables (Filter condition input) kept more = refl
 given_split tables (Map outputs input) kept more = refl
 given_split tables (Window w input) kept more = refl
+given_split tables (Group g input) kept more = refl
 given_split tables (Distinct input) kept more = refl
 given_split tables (Limit limit input) kept more = refl

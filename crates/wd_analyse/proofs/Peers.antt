@@ -5,7 +5,7 @@ use Rattle.std.proofs.lemmas.Grind.{flat_map-append}
 use Rattle.std.proofs.lemmas.List.{length-map}
 use Rattle.wd_schema.specs.Tables.{TableRule}
 use Rattle.wd_plan.specs.Fits.{width}
-use Rattle.wd_plan.specs.Plans.{EachNamesClasses, LimitRule, NameBelow, PlanTree, WindowRule, Scan, Join, Filter, Map, Window, Distinct, Limit}
+use Rattle.wd_plan.specs.Plans.{EachNamesClasses, LimitRule, NameBelow, PlanTree, WindowRule, Scan, Join, Filter, Map, Window, Distinct, Group, Limit}
 use Rattle.wd_plan.specs.Settled.{is_by_peers}
 use Rattle.wd_plan.specs.Sorting.{class_columns}
 use Rattle.wd_plan.specs.declared.window.Call.{Call}
@@ -79,6 +79,7 @@ module _ (tables : List TableRule) where
       of_one (Window w input) input first before top over (no_reasons input first over.deeper over.child names.0 peers.0 over.below)
       (of_window _ _ top w input names.1 peers.1 over.finding.said)
   no_reasons (Distinct input) first before top names peers over = of_one (Distinct input) input first before top over (no_reasons input first over.deeper over.child names peers over.below) over.finding.said.reasons
+  no_reasons (Group g input) first before top names peers over = of_one (Group g input) input first before top over (no_reasons input first over.deeper over.child names.0 peers over.below) over.finding.said.reasons
   no_reasons (Limit limit input) first before top names peers over =
       of_one (Limit limit input) input first before top over (no_reasons input first over.deeper over.child names peers.0 over.below)
       (of_limit _ _ top limit input peers.1 over.finding.said)

@@ -4,7 +4,7 @@ use Rattle.std.proofs.lemmas.Bool.{false≢true}
 use Rattle.std.proofs.lemmas.List.{length_push}
 use Rattle.wd_schema.specs.Tables.{TableRule}
 use Rattle.wd_plan.specs.Expressions.{Expression}
-use Rattle.wd_plan.specs.Plans.{PlanTree, Scan, Join, Filter, Map, Window, Distinct, Limit, node_count}
+use Rattle.wd_plan.specs.Plans.{PlanTree, Scan, Join, Filter, Map, Group, Window, Distinct, Limit, node_count}
 use Rattle.wd_certificate.specs.Certificates.{NodeRecord}
 use Rattle.wd_facts.specs.Facts.{Fact}
 use Rattle.wd_facts.specs.Given.{given}
@@ -32,6 +32,7 @@ top_low (Join condition left right) first = omega arith
 top_low (Filter condition input) first = omega arith
 top_low (Map outputs input) first = omega arith
 top_low (Window w input) first = omega arith
+top_low (Group g input) first = omega arith
 top_low (Distinct input) first = omega arith
 top_low (Limit limit input) first = omega arith
 
@@ -45,6 +46,7 @@ module _ (ns more : List NodeRecord) where
   below_front (Filter condition input) first h = ap kept_facts (top_front input first (omega (arith, h)))
   below_front (Map outputs input) first h = ap kept_facts (top_front input first (omega (arith, h)))
   below_front (Window w input) first h = ap kept_facts (top_front input first (omega (arith, h)))
+  below_front (Group g input) first h = ap kept_facts (top_front input first (omega (arith, h)))
   below_front (Distinct input) first h = ap kept_facts (top_front input first (omega (arith, h)))
   below_front (Limit limit input) first h = ap kept_facts (top_front input first (omega (arith, h)))
 
@@ -54,6 +56,7 @@ module _ (ns more : List NodeRecord) where
   right_front (Filter condition input) first h = refl
   right_front (Map outputs input) first h = refl
   right_front (Window w input) first h = refl
+  right_front (Group g input) first h = refl
   right_front (Distinct input) first h = refl
   right_front (Limit limit input) first h = refl
 
@@ -68,6 +71,7 @@ module _ (ns more : List NodeRecord) where
     nodes_front (Filter condition input) first h = λ i. or_else (nodes_front input first (omega (arith, h)) i) (own_front (Filter condition input) first h i)
     nodes_front (Map outputs input) first h = λ i. or_else (nodes_front input first (omega (arith, h)) i) (own_front (Map outputs input) first h i)
     nodes_front (Window w input) first h = λ i. or_else (nodes_front input first (omega (arith, h)) i) (own_front (Window w input) first h i)
+    nodes_front (Group g input) first h = λ i. or_else (nodes_front input first (omega (arith, h)) i) (own_front (Group g input) first h i)
     nodes_front (Distinct input) first h = λ i. or_else (nodes_front input first (omega (arith, h)) i) (own_front (Distinct input) first h i)
     nodes_front (Limit limit input) first h = λ i. or_else (nodes_front input first (omega (arith, h)) i) (own_front (Limit limit input) first h i)
 
@@ -78,6 +82,7 @@ module _ (ns more : List NodeRecord) where
   all_front test (Filter condition input) first h = λ i. all_front test input first (omega (arith, h)) i && test (Filter condition input) (top_front (Filter condition input) first h i)
   all_front test (Map outputs input) first h = λ i. all_front test input first (omega (arith, h)) i && test (Map outputs input) (top_front (Map outputs input) first h i)
   all_front test (Window w input) first h = λ i. all_front test input first (omega (arith, h)) i && test (Window w input) (top_front (Window w input) first h i)
+  all_front test (Group g input) first h = λ i. all_front test input first (omega (arith, h)) i && test (Group g input) (top_front (Group g input) first h i)
   all_front test (Distinct input) first h = λ i. all_front test input first (omega (arith, h)) i && test (Distinct input) (top_front (Distinct input) first h i)
   all_front test (Limit limit input) first h = λ i. all_front test input first (omega (arith, h)) i && test (Limit limit input) (top_front (Limit limit input) first h i)
 
@@ -100,6 +105,7 @@ child (Join condition left right) = left
 child (Filter condition input) = input
 child (Map outputs input) = input
 child (Window w input) = input
+child (Group g input) = input
 child (Distinct input) = input
 child (Limit limit input) = input
 
@@ -109,6 +115,7 @@ is_over_one (Join condition left right) = false
 is_over_one (Filter condition input) = true
 is_over_one (Map outputs input) = true
 is_over_one (Window w input) = true
+is_over_one (Group g input) = true
 is_over_one (Distinct input) = true
 is_over_one (Limit limit input) = true
 
@@ -186,6 +193,30 @@ module _ (tables : List TableRule) (old : List NodeRecord) (r0 : List Reason) wh
         }
     one_step (Window w input) is no_more b t =
         let plan = Window w input in
+        let first = length old in
+        let number : first + node_count input ≡ length mid = sym b.long in
+        let top : top_at plan first new ≡ t.entry = ap (top_at plan first) t.is ∙ at_end mid t.entry (first + node_count input) number in
+        let low : first + node_count input ≤ length mid = omega (arith, number) in
+        let under : kept_below plan first new ≡ below = ap (kept_below plan first) t.is ∙ ap kept_facts (top_front mid (t.entry ∷ []) input first low) ∙ b.kept in
+        record {
+          long = omega (arith, ap length t.is, length_push mid t.entry, b.long);
+          grows = (b.grows.0 ++ t.entry ∷ [], t.is ∙ ap (λ l. l ++ t.entry ∷ []) b.grows.1 ∙ append_assoc old b.grows.0 (t.entry ∷ []));
+          kept = ap kept_facts top ∙ t.keeps;
+          plain = t.plain;
+          settled = λ e.
+              let own = t.settled e in
+              let before = b.settled own.0 in
+              let inner = subst (AreEntries tables input first) (sym t.is) (entries_front mid (t.entry ∷ []) tables input first low before.1) in (
+                before.0,
+                record {
+                  passed = λ i. or_else (inner.passed i) (top_passes tables plan first (length mid) new t.entry below more number top under (sym no_more) own.1.passed i);
+                  limits = λ i. inner.limits i && (ap (has_its_limit plan) top ∙ own.1.limit) i;
+                  calls = λ i. inner.calls i && (ap (has_its_calls plan) top ∙ own.1.calls) i;
+                },
+              );
+        }
+    one_step (Group g input) is no_more b t =
+        let plan = Group g input in
         let first = length old in
         let number : first + node_count input ≡ length mid = sym b.long in
         let top : top_at plan first new ≡ t.entry = ap (top_at plan first) t.is ∙ at_end mid t.entry (first + node_count input) number in

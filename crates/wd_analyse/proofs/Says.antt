@@ -3,7 +3,7 @@ use Rattle.std.proofs.Common.{◌≡◌, ℕ, true, false, List, length, map, If
 use Rattle.std.proofs.lemmas.Bool.{false≢true}
 use Rattle.std.proofs.lemmas.List.{length-map}
 use Rattle.wd_plan.specs.Fits.{width}
-use Rattle.wd_plan.specs.Plans.{LimitRule, PlanTree, WindowRule, Scan, Join, Filter, Map, Window, Distinct, Limit}
+use Rattle.wd_plan.specs.Plans.{LimitRule, PlanTree, WindowRule, Scan, Join, Filter, Map, Group, Window, Distinct, Limit}
 use Rattle.wd_facts.specs.Facts.{FactList}
 use Rattle.wd_analyse.specs.declared.closed.Closed.{Closed}
 use Rattle.wd_analyse.specs.Evidence.{closing_of}
@@ -19,6 +19,7 @@ bare_said facts (Join condition left right) node f e b = b
 bare_said facts (Filter condition input) node f e b = b
 bare_said facts (Map outputs input) node f e b = b
 bare_said facts (Window w input) node f e b = absurd (false≢true e)
+bare_said facts (Group g input) node f e b = b
 bare_said facts (Distinct input) node f e b = b
 bare_said facts (Limit limit input) node f e b = absurd (false≢true e)
 

@@ -5,7 +5,7 @@ use Rattle.std.proofs.lemmas.List.{append-nil, length-append, length-map, map-ap
 use Rattle.wd_schema.specs.Tables.{TableRule}
 use Rattle.wd_plan.specs.Expressions.{Expression}
 use Rattle.wd_plan.specs.Fits.{width}
-use Rattle.wd_plan.specs.Plans.{LimitRule, PlanTree, Scan, Join, Filter, Map, Window, Distinct, Limit}
+use Rattle.wd_plan.specs.Plans.{LimitRule, PlanTree, Scan, Join, Filter, Map, Group, Window, Distinct, Limit}
 use Rattle.wd_certificate.specs.Certificates.{NodeRecord}
 use Rattle.wd_facts.specs.Facts.{Fact, FactList}
 use Rattle.wd_facts.specs.Given.{given}
@@ -69,6 +69,7 @@ module _ (facts : FactList) (node : ℕ) (f : Finding) (before : List Reason) wh
   said_found (Map outputs input) c s = bare (Map outputs input) refl c s
   said_found (Window w input) c s =
       window_found facts node f.claims f.entry before (before ++ f.reasons) w input s.classes (Window w input) refl c s.closings s.columns (ap (λ l. before ++ l) s.reasons) s.entry
+  said_found (Group g input) c s = bare (Group g input) refl c s
   said_found (Distinct input) c s = bare (Distinct input) refl c s
   said_found (Limit limit input) c s = of_limit limit input c s (lacking (width input) s.keys) refl
 
@@ -141,5 +142,6 @@ module _ (tables : List TableRule) where
   are_analysed (Filter condition input) old r before top o = one_below old r before top (Filter condition input) input refl refl (λ kept p. p) o (are_analysed input old r o.deeper o.child o.below)
   are_analysed (Map outputs input) old r before top o = one_below old r before top (Map outputs input) input refl refl (λ kept p. p) o (are_analysed input old r o.deeper o.child o.below)
   are_analysed (Window w input) old r before top o = one_below old r before top (Window w input) input refl refl (λ kept p. p) o (are_analysed input old r o.deeper o.child o.below)
+  are_analysed (Group g input) old r before top o = one_below old r before top (Group g input) input refl refl (λ kept p. p) o (are_analysed input old r o.deeper o.child o.below)
   are_analysed (Distinct input) old r before top o = one_below old r before top (Distinct input) input refl refl (λ kept p. p) o (are_analysed input old r o.deeper o.child o.below)
   are_analysed (Limit limit input) old r before top o = one_below old r before top (Limit limit input) input refl refl (λ kept p. p) o (are_analysed input old r o.deeper o.child o.below)

@@ -5,7 +5,7 @@ use Rattle.std.proofs.lemmas.Bool.{ltb-false, ltb-true}
 use Rattle.std.proofs.lemmas.List.{length-map, map-append, nil_from_length}
 use Rattle.wd_schema.specs.Tables.{TableRule}
 use Rattle.wd_plan.specs.Fits.{width}
-use Rattle.wd_plan.specs.Plans.{LimitRule, PlanTree, WindowRule, Scan, Join, Filter, Map, Window, Distinct, Limit}
+use Rattle.wd_plan.specs.Plans.{LimitRule, PlanTree, WindowRule, Scan, Join, Filter, Map, Group, Window, Distinct, Limit}
 use Rattle.wd_plan.specs.declared.window.Call.{Call}
 use Rattle.wd_certificate.specs.declared.certificate.Rule.{Rule}
 use Rattle.wd_facts.specs.declared.facts.Member.{Member}
@@ -193,6 +193,7 @@ module _ (facts : FactList) (node : ℕ) (f g : Finding) (claims : map bare f.cl
   said_same (Filter condition input) p q = bare_same (width (Filter condition input)) p q
   said_same (Map outputs input) p q = bare_same (width (Map outputs input)) p q
   said_same (Window w input) p q = window_same w input p q
+  said_same (Group g input) p q = bare_same (width (Group g input)) p q
   said_same (Distinct input) p q = bare_same (width (Distinct input)) p q
   said_same (Limit limit input) p q = limit_same limit input p q
 
@@ -239,6 +240,7 @@ module _ (tables : List TableRule) where
   are_same (Filter condition input) first fs gs f g a b = over_one (Filter condition input) input first fs gs f g (are_same input first) a b
   are_same (Map outputs input) first fs gs f g a b = over_one (Map outputs input) input first fs gs f g (are_same input first) a b
   are_same (Window w input) first fs gs f g a b = over_one (Window w input) input first fs gs f g (are_same input first) a b
+  are_same (Group rule input) first fs gs f g a b = over_one (Group rule input) input first fs gs f g (are_same input first) a b
   are_same (Distinct input) first fs gs f g a b = over_one (Distinct input) input first fs gs f g (are_same input first) a b
   are_same (Limit limit input) first fs gs f g a b = over_one (Limit limit input) input first fs gs f g (are_same input first) a b
 
@@ -266,13 +268,13 @@ module _ (fs gs : List Finding) (e : map told fs ≡ map told gs) where
   same_marks : marks_in fs ≡ marks_in gs
   same_marks = sym (told_marks fs) ∙ ap marks_in e ∙ told_marks gs
 
-alike : (a b : Analysis) (fs gs : List Finding) → map told fs ≡ map told gs → Tells fs a → Tells gs b → AreAlike a b
-alike (Certified c) (Certified d) fs gs e p q = ap (map entry_without_uses) p.1 ∙ same_entries fs gs e ∙ ap (map entry_without_uses) (sym q.1)
-alike (Certified c) (Open reasons marks) fs gs e p q = q.0 (q.1 ∙ sym (same_reasons fs gs e) ∙ p.0)
-alike (Open reasons marks) (Certified c) fs gs e p q = p.0 (p.1 ∙ same_reasons fs gs e ∙ q.0)
-alike (Open reasons marks) (Open others other_marks) fs gs e p q = (p.1 ∙ same_reasons fs gs e ∙ sym q.1, p.2 ∙ same_marks fs gs e ∙ sym q.2)
+alike : (plan : PlanTree) (a b : Analysis) (fs gs : List Finding) → map told fs ≡ map told gs → Tells plan fs a → Tells plan gs b → AreAlike a b
+alike plan (Certified c) (Certified d) fs gs e p q = (ap (map entry_without_uses) p.1 ∙ same_entries fs gs e ∙ ap (map entry_without_uses) (sym q.1), p.2 ∙ sym q.2)
+alike plan (Certified c) (Open reasons marks) fs gs e p q = q.0 (q.1 ∙ sym (same_reasons fs gs e) ∙ p.0)
+alike plan (Open reasons marks) (Certified c) fs gs e p q = p.0 (p.1 ∙ same_reasons fs gs e ∙ q.0)
+alike plan (Open reasons marks) (Open others other_marks) fs gs e p q = (p.1 ∙ same_reasons fs gs e ∙ sym q.1, p.2 ∙ same_marks fs gs e ∙ sym q.2)
 
 pub answers_alike : AnswersAreAlike
 answers_alike tables plan a b p q =
     let same = are_same tables plan 0 p.exact.before q.exact.before p.exact.top q.exact.top p.exact.are q.exact.are in
-    alike a b (p.exact.before ++ p.exact.top ∷ []) (q.exact.before ++ q.exact.top ∷ []) (more_told p.exact.before q.exact.before p.exact.top q.exact.top same.0 same.1) p.exact.tells q.exact.tells
+    alike plan a b (p.exact.before ++ p.exact.top ∷ []) (q.exact.before ++ q.exact.top ∷ []) (more_told p.exact.before q.exact.before p.exact.top q.exact.top same.0 same.1) p.exact.tells q.exact.tells

@@ -14,7 +14,7 @@ abbrev pub entry_without_uses : NodeRecord → NodeRecord
 entry_without_uses e = record { calls = e.calls; keep = e.keep; limit = e.limit; traces = map without_uses e.traces }
 
 abbrev pub AreAlike : Analysis → Analysis → Type 0
-AreAlike (Certified a) (Certified b) = map entry_without_uses (nodes_of a) ≡ map entry_without_uses (nodes_of b)
+AreAlike (Certified a) (Certified b) = (map entry_without_uses (nodes_of a) ≡ map entry_without_uses (nodes_of b)) × (a.version ≡ b.version)
 AreAlike (Certified a) (Open reasons marks) = ⊥
 AreAlike (Open reasons marks) (Certified a) = ⊥
 AreAlike (Open reasons marks) (Open others other_marks) = (reasons.items ≡ others.items) × (marks.items ≡ other_marks.items)

@@ -3,7 +3,7 @@ use Rattle.std.specs.Prelude.{◌≡◌, ℕ, ◌+◌, List, [], ◌∷◌, ◌+
 use Rattle.wd_value.specs.Keys.{key_columns}
 use Rattle.wd_schema.specs.Tables.{TableRule}
 use Rattle.wd_plan.specs.Fits.{width}
-use Rattle.wd_plan.specs.Plans.{LimitRule, PlanTree, WindowRule, Scan, Join, Filter, Map, Window, Distinct, Limit}
+use Rattle.wd_plan.specs.Plans.{LimitRule, PlanTree, WindowRule, Scan, Join, Filter, Map, Group, Window, Distinct, Limit}
 use Rattle.wd_plan.specs.Sorting.{class_columns}
 use Rattle.wd_certificate.specs.Certificates.{NodeRecord}
 use Rattle.wd_certificate.specs.declared.certificate.Rule.{Rule}
@@ -120,6 +120,7 @@ IsSaid facts (Join condition left right) node f = IsBare (width (Join condition 
 IsSaid facts (Filter condition input) node f = IsBare (width (Filter condition input)) f
 IsSaid facts (Map outputs input) node f = IsBare (width (Map outputs input)) f
 IsSaid facts (Window w input) node f = IsOfWindow facts w input node f
+IsSaid facts (Group g input) node f = IsBare (width (Group g input)) f
 IsSaid facts (Distinct input) node f = IsBare (width (Distinct input)) f
 IsSaid facts (Limit limit input) node f = IsOfLimit facts limit input node f
 
@@ -161,6 +162,7 @@ AreFindings tables (Join condition left right) first before top =
 AreFindings tables (Filter condition input) first before top = OverOne tables (Filter condition input) input first (AreFindings tables input first) before top
 AreFindings tables (Map outputs input) first before top = OverOne tables (Map outputs input) input first (AreFindings tables input first) before top
 AreFindings tables (Window w input) first before top = OverOne tables (Window w input) input first (AreFindings tables input first) before top
+AreFindings tables (Group g input) first before top = OverOne tables (Group g input) input first (AreFindings tables input first) before top
 AreFindings tables (Distinct input) first before top = OverOne tables (Distinct input) input first (AreFindings tables input first) before top
 AreFindings tables (Limit limit input) first before top = OverOne tables (Limit limit input) input first (AreFindings tables input first) before top
 

@@ -3,7 +3,7 @@ use Rattle.std.specs.Prelude.{◌≡◌, ℕ, true, not, List, [], Option, None,
 use Rattle.wd_value.specs.Keys.{key_columns}
 use Rattle.wd_schema.specs.Tables.{TableRule}
 use Rattle.wd_plan.specs.Fits.{width}
-use Rattle.wd_plan.specs.Plans.{LimitRule, PlanTree, Scan, Join, Filter, Map, Window, Distinct, Limit}
+use Rattle.wd_plan.specs.Plans.{LimitRule, PlanTree, Scan, Join, Filter, Map, Window, Distinct, Group, Limit}
 use Rattle.wd_certificate.specs.Certificates.{nodes_of}
 use Rattle.wd_certificate.specs.declared.certificate.Certificate.{Certificate}
 use Rattle.wd_facts.specs.Given.{given}
@@ -31,6 +31,7 @@ IsLack tables (Filter condition input) lack = lack ≡ None
 IsLack tables (Map outputs input) lack = IsLack tables input lack
 IsLack tables (Window w input) lack = lack ≡ None
 IsLack tables (Distinct input) lack = lack ≡ None
+IsLack tables (Group g input) lack = lack ≡ None
 IsLack tables (Limit limit input) lack = IsLackOf tables limit input lack
 
 -- `keys` comes first: by the certificate of an analysis the last Limit goes by `keys` exactly where its sort keys lack no column

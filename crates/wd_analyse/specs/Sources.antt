@@ -3,7 +3,7 @@ use Rattle.std.specs.Prelude.{◌≡◌, ℕ, ◌+◌, ◌-◌, ◌<◌, ◌≤�
 use Rattle.std.specs.List.{AllByRecursion, list_all, list_any}
 use Rattle.wd_plan.specs.Expressions.{Expression}
 use Rattle.wd_plan.specs.Fits.{width}
-use Rattle.wd_plan.specs.Plans.{PlanTree, Scan, Join, Filter, Map, Window, Distinct, Limit}
+use Rattle.wd_plan.specs.Plans.{PlanTree, Scan, Join, Filter, Map, Group, Window, Distinct, Limit}
 use Rattle.wd_facts.specs.declared.facts.Member.{Member}
 use Rattle.wd_facts.specs.declared.facts.Member.TheVariants.{Column, Left, Right, Row}
 use Rattle.wd_facts.specs.Facts.{Fact, FactList}
@@ -57,6 +57,7 @@ unions_at (Join condition left right) kept more = unions kept (width left) more
 unions_at (Filter condition input) kept more = []
 unions_at (Map outputs input) kept more = []
 unions_at (Window w input) kept more = []
+unions_at (Group g input) kept more = []
 unions_at (Distinct input) kept more = []
 unions_at (Limit limit input) kept more = []
 
@@ -67,6 +68,7 @@ outputs_in (Join condition left right) = []
 outputs_in (Filter condition input) = []
 outputs_in (Map outputs input) = outputs
 outputs_in (Window w input) = []
+outputs_in (Group g input) = []
 outputs_in (Distinct input) = []
 outputs_in (Limit limit input) = []
 

@@ -23,6 +23,7 @@ use wd_certificate::{Certificate, Node};
 use wd_close::Prepared;
 use wd_facts::{Given, given};
 use wd_plan::{Limit, Plan};
+use wd_rules::version_needed;
 use wd_schema::Schema;
 use wd_value::OutOfMemory;
 
@@ -95,6 +96,7 @@ fn analyse_nodes(
         }
         Plan::Filter { input, .. }
         | Plan::Map { input, .. }
+        | Plan::Group { input, .. }
         | Plan::Window { input, .. }
         | Plan::Distinct { input }
         | Plan::Limit { input, .. } => {
@@ -105,9 +107,9 @@ fn analyse_nodes(
 }
 
 /// Looks for a rule for each window call and each limit of a plan that fits the schema. Where each
-/// has one the plan has one answer, and the certificate says why: it is valid for the plan. Else the
-/// answer is open: a reason for each call and limit without a rule, of which there is one at least,
-/// and a mark for each that has one.
+/// has one the plan has one answer, and the certificate says why: it is valid for the plan, and of
+/// version 1 where the plan has no Group. Else the answer is open: a reason for each call and limit
+/// without a rule, of which there is one at least, and a mark for each that has one.
 ///
 /// # Errors
 /// Where memory runs out.
@@ -120,7 +122,8 @@ pub fn analyse(alloc: Global, plan: &Plan, schema: &Schema) -> Result<Analysis, 
     let Found { nodes, findings } = found;
     let Findings { reasons, marks } = findings;
     if reasons.is_empty() {
-        Ok(Analysis::Certified(Certificate { nodes }))
+        let version = version_needed(plan);
+        Ok(Analysis::Certified(Certificate { nodes, version }))
     } else {
         Ok(Analysis::Open(reasons, marks))
     }

@@ -22,7 +22,7 @@ use Rattle.wd_calls.specs.Values.{first_values, value_in, values_at}
 use Rattle.wd_calls.proofs.Columns.{any_present, flat, numbers-addends, picked-addends, picked-first, total-addends}
 use Rattle.wd_calls.proofs.FrameCalls.{present_is}
 
-answer-is : (v : Value) → value_of (answer_of v) ≡ Ok v
+pub answer-is : (v : Value) → value_of (answer_of v) ≡ Ok v
 answer-is Null = refl
 answer-is (Int n) = refl
 answer-is (Text t) = refl
@@ -37,13 +37,13 @@ fits n l = rw (low, high) refl
     high : int_le (pos n) (pos (2 ^ 63 - 1)) ≡ true
     high = grind (arith, ints)
 
-in-64 : (n : ℕ) → n < 2 ^ 63 → in_64 (pos n) ≡ Ok (Int (pos n))
+pub in-64 : (n : ℕ) → n < 2 ^ 63 → in_64 (pos n) ≡ Ok (Int (pos n))
 in-64 n l = rw (fits n l) refl
 
 abbrev sum_from : ℕ → ℤ → Plain
 sum_from n t = cond (nat_eq n 0) Nothing (Number t)
 
-sum-is : (vs : List Value) → value_of (sum_over (map addend vs)) ≡ sum_of vs
+pub sum-is : (vs : List Value) → value_of (sum_over (map addend vs)) ≡ sum_of vs
 sum-is vs = ap (λ n. value_of (sum_from n (total (map addend vs)))) (numbers-addends vs) ∙ ap (λ t. value_of (sum_from (present vs) t)) (total-addends vs) ∙ by (cases_eq (present vs) 0)
   where
     by : (present vs ≡ 0) ⊎ (present vs ≡ 0 → ⊥) → value_of (sum_from (present vs) (total vs)) ≡ sum_of vs

@@ -5,4 +5,5 @@ pub mod InOrder
 pub mod Starts
 pub mod FramePlaces
 pub mod AnswerCalls
+pub mod Whole
 pub mod SourceCalls

@@ -6,13 +6,14 @@ ghost use Rattle.wd_calls.specs.Answers.{AreAnswersOf, AreCounts};
 ghost use Rattle.wd_calls.specs.Parts.{partition_of};
 ghost use Rattle.wd_frame.specs.Slides.{seen, shown};
 ghost use Rattle.wd_frame.specs.Stretches.{AreLists, lists_of};
+ghost use Rattle.wd_plan.specs.Calls.{aggregate_value};
 ghost use Rattle.wd_plan.specs.Expressions as expressions;
 ghost use Rattle.wd_value.specs.declared.value.Value.TheVariants as variant;
 
 use crate::partition::{Partition, column_values};
 use crate::places::count_at;
 use std::alloc::Global;
-use wd_frame::{Answer, Count, Greatest, Least, Stretch, Sum, over_lists};
+use wd_frame::{Answer, Count, Greatest, Least, Stretch, Sum, over_all, over_lists};
 use wd_plan::Aggregate;
 use wd_value::{Fault, OutOfMemory, Value};
 
@@ -49,6 +50,55 @@ pub(crate) fn answers<'a>(
         Aggregate::Max(column) => {
             let values = column_values(alloc, partition, column, count, null)?;
             over_lists(alloc, lists, &values, Greatest::new(alloc))
+        }
+    }
+}
+
+/// The value of an aggregate over all rows of a partition, or its fault.
+pub fn aggregate_over(
+    alloc: Global,
+    aggregate: Aggregate,
+    partition: &Partition,
+) -> Result<Result<Value, Fault>, OutOfMemory>
+    ensures { IfOk result (λ r. r ≡ aggregate_value aggregate (partition_of partition.now)) }
+{
+    let null = Value::Null;
+    let zero = Value::Int(0);
+    let answer = answer_over(alloc, aggregate, &*partition, &null, &zero)?;
+    value_of(alloc, &answer)
+}
+
+/// The answer of an aggregate over all rows of a partition.
+fn answer_over<'a>(
+    alloc: Global,
+    aggregate: Aggregate,
+    partition: &'a Partition,
+    null: &'a Value,
+    zero: &'a Value,
+) -> Result<Answer<'a>, OutOfMemory>
+    requires null { null.now ≡ variant.Null }
+    requires zero { zero.now ≡ variant.Int (pos 0) }
+    ensures { IfOk result (λ a. spec.value_of (shown a) ≡ aggregate_value aggregate (partition_of partition.now)) }
+{
+    let count = partition.positions.len();
+    match aggregate {
+        Aggregate::CountRows => Ok(Answer::Number(count as i128)),
+        Aggregate::Count(column) => {
+            let values = column_values(alloc, partition, column, count, null)?;
+            over_all(&values, Count::new(alloc))
+        }
+        Aggregate::Sum(column) => {
+            let values = column_values(alloc, partition, column, count, null)?;
+            let addends = addends(alloc, &values, zero)?;
+            over_all(&addends, Sum::new(alloc))
+        }
+        Aggregate::Min(column) => {
+            let values = column_values(alloc, partition, column, count, null)?;
+            over_all(&values, Least::new(alloc))
+        }
+        Aggregate::Max(column) => {
+            let values = column_values(alloc, partition, column, count, null)?;
+            over_all(&values, Greatest::new(alloc))
         }
     }
 }

@@ -9,5 +9,6 @@ mod places;
 mod ranking;
 mod shift;
 
+pub use aggregate::aggregate_over;
 pub use call::call_values;
 pub use partition::Partition;

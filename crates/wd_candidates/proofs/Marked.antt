@@ -11,9 +11,9 @@ use Rattle.std.proofs.lemmas.Bool.{cases_lt}
 use Rattle.std.proofs.lemmas.Option.{slice_get_past}
 use Rattle.wd_schema.specs.Tables.{KeyRule, TableRule}
 use Rattle.wd_facts.specs.Given.{table_rule}
+use Rattle.wd_plan.specs.Plans.{has}
 use Rattle.wd_candidates.specs.Candidates.{is_keyed}
 use Rattle.wd_candidates.specs.Marks.{MarksMore, is_marked, marks_of}
-use Rattle.wd_candidates.specs.Origins.{is_in}
 
 -- no mark more
 pub marks_none : (old : List Bool) (more : ℕ → Bool) → ((c : ℕ) → more c ≡ false) → MarksMore old more old
@@ -60,28 +60,28 @@ marks_past old column h = record { long = refl; each = λ c k. by c (nat_eq c co
 
 -- ---- lists of columns
 
-pub in_append : (xs ys : List ℕ) (c : ℕ) → (is_in c xs || is_in c ys) ≡ is_in c (xs ++ ys)
+pub in_append : (xs ys : List ℕ) (c : ℕ) → (has xs c || has ys c) ≡ has (xs ++ ys) c
 in_append xs ys c = sym (list_any-append (nat_eq c) xs ys)
 
-pub in_one : (x c : ℕ) → nat_eq c x ≡ is_in c (x ∷ [])
+pub in_one : (x c : ℕ) → nat_eq c x ≡ has (x ∷ []) c
 in_one x c = sym (or-false (nat_eq c x))
 
 -- marks of two lists are those of the two together
-pub marks_append : (a b d : List Bool) (xs ys : List ℕ) → MarksMore a (λ c. is_in c xs) b → MarksMore b (λ c. is_in c ys) d → MarksMore a (λ c. is_in c (xs ++ ys)) d
-marks_append a b d xs ys m n = marks_both a b d (λ c. is_in c xs) (λ c. is_in c ys) (λ c. is_in c (xs ++ ys)) (in_append xs ys) m n
+pub marks_append : (a b d : List Bool) (xs ys : List ℕ) → MarksMore a (λ c. has xs c) b → MarksMore b (λ c. has ys c) d → MarksMore a (λ c. has (xs ++ ys) c) d
+marks_append a b d xs ys m n = marks_both a b d (λ c. has xs c) (λ c. has ys c) (λ c. has (xs ++ ys) c) (in_append xs ys) m n
 
-pub marks_one : (a b : List Bool) (x : ℕ) → MarksMore a (λ c. nat_eq c x) b → MarksMore a (λ c. is_in c (x ∷ [])) b
-marks_one a b x m = marks_same a b (λ c. nat_eq c x) (λ c. is_in c (x ∷ [])) (λ c h. in_one x c) m
+pub marks_one : (a b : List Bool) (x : ℕ) → MarksMore a (λ c. nat_eq c x) b → MarksMore a (λ c. has (x ∷ []) c) b
+marks_one a b x m = marks_same a b (λ c. nat_eq c x) (λ c. has (x ∷ []) c) (λ c h. in_one x c) m
 
 -- one column more of a list
-pub marks_next : (a b d : List Bool) (xs : List ℕ) (i x : ℕ) → i < length xs → x ≡ get_or xs i 0 → MarksMore a (λ c. is_in c (take i xs)) b → MarksMore b (λ c. nat_eq c x) d → MarksMore a (λ c. is_in c (take (i + 1) xs)) d
+pub marks_next : (a b d : List Bool) (xs : List ℕ) (i x : ℕ) → i < length xs → x ≡ get_or xs i 0 → MarksMore a (λ c. has (take i xs) c) b → MarksMore b (λ c. nat_eq c x) d → MarksMore a (λ c. has (take (i + 1) xs) c) d
 marks_next a b d xs i x h is m n =
-    marks_both a b d (λ c. is_in c (take i xs)) (λ c. nat_eq c x) (λ c. is_in c (take (i + 1) xs))
-    (λ c. ap (λ y. is_in c (take i xs) || nat_eq c y) is ∙ sym (list_any_more (nat_eq c) xs i 0 h)) m n
+    marks_both a b d (λ c. has (take i xs) c) (λ c. nat_eq c x) (λ c. has (take (i + 1) xs) c)
+    (λ c. ap (λ y. has (take i xs) c || nat_eq c y) is ∙ sym (list_any_more (nat_eq c) xs i 0 h)) m n
 
 -- none yet
-pub marks_start : (a : List Bool) (xs : List ℕ) → MarksMore a (λ c. is_in c (take 0 xs)) a
-marks_start a xs = marks_none a (λ c. is_in c (take 0 xs)) (λ c. refl)
+pub marks_start : (a : List Bool) (xs : List ℕ) → MarksMore a (λ c. has (take 0 xs) c) a
+marks_start a xs = marks_none a (λ c. has (take 0 xs) c) (λ c. refl)
 
 -- ---- marks that were written back to the list
 
@@ -124,11 +124,11 @@ marks_table f tables i x y more h is m table = subst (λ l. MarksMore (get_or (m
 -- ---- keys
 
 -- one key more
-pub keyed_next : (keys : List KeyRule) (i : ℕ) (key : KeyRule) (columns : ℕ) (a b : List Bool) → i < length keys → key ≡ get_or keys i key → length a ≡ columns → MarksMore a (λ c. is_in c key.columns) b → ((c : ℕ) → c < columns → is_marked a c ≡ is_keyed (take i keys) c) → (c : ℕ) → c < columns → is_marked b c ≡ is_keyed (take (i + 1) keys) c
+pub keyed_next : (keys : List KeyRule) (i : ℕ) (key : KeyRule) (columns : ℕ) (a b : List Bool) → i < length keys → key ≡ get_or keys i key → length a ≡ columns → MarksMore a (λ c. has key.columns c) b → ((c : ℕ) → c < columns → is_marked a c ≡ is_keyed (take i keys) c) → (c : ℕ) → c < columns → is_marked b c ≡ is_keyed (take (i + 1) keys) c
 keyed_next keys i key columns a b h is long m before c k =
     m.each c (subst (λ n. c < n) (sym long) k)
-    ∙ (λ j. before c k j || is_in c (is j).columns)
-    ∙ sym (list_any_more (λ (x : KeyRule). is_in c x.columns) keys i key h)
+    ∙ (λ j. before c k j || has (is j).columns c)
+    ∙ sym (list_any_more (λ (x : KeyRule). has x.columns c) keys i key h)
 
 -- ---- tables of a schema
 

@@ -1,18 +1,21 @@
 -- The table columns from which wanted columns are computed, node by node.
-use Rattle.std.proofs.Common.{◌≡◌, ℕ, zero, suc, ◌+◌, ◌<◌, ◌≤◌, Bool, true, false, ◌||◌, ◌&&◌, List, [], ◌∷◌, length, take, drop, get_or, map, nat_eq, nat_lt, refl, sym, ◌∙◌, ap, subst, arith, Option}
+use Rattle.std.proofs.Common.{◌≡◌, ℕ, zero, suc, ◌+◌, ◌<◌, ◌≤◌, Bool, true, false, ◌||◌, ◌&&◌, List, [], ◌∷◌, ◌-◌, length, take, drop, get_or, map, nat_eq, nat_lt, refl, sym, ◌∙◌, ap, subst, arith, Option}
 use Rattle.std.specs.declared.alloc.Global.{Global}
 use Rattle.std.specs.declared.vec.Vec.{Vec}
 use Rattle.std.proofs.lemmas.Bool.{ltb-false, ltb-true}
-use Rattle.std.proofs.lemmas.List.{get_or-drop, get_or-map, length-map, length-take-le}
+use Rattle.std.proofs.lemmas.List.{get_or-append_right, get_or-drop, get_or-map, get_or_append_left, length-append, length-map, length-take-le}
+use Rattle.std.proofs.lemmas.List.FromFn.{get_or-map-range_with_len, length-map-range_with_len}
+use Rattle.wd_value.specs.Bags.{positions}
+use Rattle.wd_plan.specs.declared.group.GroupCall.{GroupCall as CodeGroupCall}
 use Rattle.wd_schema.specs.Tables.{TableRule}
 use Rattle.wd_plan.specs.declared.expression.Expr.{Expr}
 use Rattle.wd_plan.specs.declared.window.Call.{Call}
 use Rattle.wd_plan.specs.Expressions.{Expression, expression_of}
 use Rattle.wd_plan.specs.Fits.{width}
-use Rattle.wd_plan.specs.Plans.{WindowRule, PlanTree, Scan, Join, Filter, Map, Window, Distinct, Limit}
+use Rattle.wd_plan.specs.Plans.{GroupRule, WindowRule, PlanTree, Scan, Join, Filter, Map, Group, Window, Distinct, Limit, group_call_of, has}
 use Rattle.wd_facts.specs.Given.{table_rule, used}
 use Rattle.wd_candidates.specs.Marks.{MarkMore, MarksMore, is_marked, marks_of}
-use Rattle.wd_candidates.specs.Origins.{call_columns, is_in, is_in_wanted, is_source}
+use Rattle.wd_candidates.specs.Origins.{call_columns, group_call_columns, group_columns, is_in_wanted, is_source}
 use Rattle.wd_candidates.specs.Outlines.{AreTied, tied_in}
 use Rattle.wd_candidates.specs.declared.tied.TiedColumns.{TiedColumns}
 use Rattle.wd_candidates.proofs.Marked.{marks_both, marks_same}
@@ -26,6 +29,9 @@ scan_same of columns v w same table c = ap (λ b. nat_eq of table && b) (by (nat
     by true h = same c (ltb-true c columns h)
     by false h = refl
 
+pub group_columns_long : (g : GroupRule) → length (group_columns g) ≡ g.columns + length g.calls
+group_columns_long g = length-append (map (λ (c : ℕ). c ∷ []) (positions g.columns)) (map group_call_columns g.calls) ∙ (λ i. length-map-range_with_len (λ (c : ℕ). c ∷ []) 0 g.columns i + length-map g.calls group_call_columns i)
+
 -- it goes by which of the node's own columns are wanted
 pub source_same : (plan : PlanTree) (v w : ℕ → Bool) → ((n : ℕ) → n < width plan → v n ≡ w n) → (table c : ℕ) → is_source plan v table c ≡ is_source plan w table c
 source_same (Scan of columns) v w same table c = scan_same of columns v w same table c
@@ -37,6 +43,9 @@ source_same (Filter condition input) v w same table c = source_same input v w sa
 source_same (Map outputs input) v w same table c =
     source_same input (is_in_wanted (map used outputs) v) (is_in_wanted (map used outputs) w)
     (λ n h. wanted_same (map used outputs) v w n (λ k l. same k (let e = length-map outputs used in omega arith))) table c
+source_same (Group g input) v w same table c =
+    source_same input (is_in_wanted (group_columns g) v) (is_in_wanted (group_columns g) w)
+    (λ n h. wanted_same (group_columns g) v w n (λ k l. same k (let e = group_columns_long g in omega arith))) table c
 source_same (Window rule input) v w same table c =
     source_same input (λ n. v n || is_in_wanted (map (call_columns rule) rule.calls) (λ call. v (width input + call)) n) (λ n. w n || is_in_wanted (map (call_columns rule) rule.calls) (λ call. w (width input + call)) n)
     (λ n h.
@@ -64,6 +73,9 @@ module _ (a b : List (Vec Bool Global)) where
 
   pub sources_map : (outputs : List Expression) (input : PlanTree) (wanted v : List Bool) → ((c : ℕ) → c < width input → is_marked v c ≡ is_in_wanted (map used outputs) (is_marked wanted) c) → MarkMore a (is_source input (is_marked v)) b → MarkMore a (is_source (Map outputs input) (is_marked wanted)) b
   sources_map outputs input wanted v is m = mark_same_as (is_source input (is_marked v)) (is_source (Map outputs input) (is_marked wanted)) (source_same input (is_marked v) (is_in_wanted (map used outputs) (is_marked wanted)) is) m
+
+  pub sources_group : (g : GroupRule) (input : PlanTree) (wanted v : List Bool) → ((c : ℕ) → c < width input → is_marked v c ≡ is_in_wanted (group_columns g) (is_marked wanted) c) → MarkMore a (is_source input (is_marked v)) b → MarkMore a (is_source (Group g input) (is_marked wanted)) b
+  sources_group g input wanted v is m = mark_same_as (is_source input (is_marked v)) (is_source (Group g input) (is_marked wanted)) (source_same input (is_marked v) (is_in_wanted (group_columns g) (is_marked wanted)) is) m
 
   pub sources_window : (w : WindowRule) (input : PlanTree) (wanted v : List Bool) → ((c : ℕ) → c < width input → is_marked v c ≡ (is_marked wanted c || is_in_wanted (map (call_columns w) w.calls) (λ call. is_marked wanted (width input + call)) c)) → MarkMore a (is_source input (is_marked v)) b → MarkMore a (is_source (Window w input) (is_marked wanted)) b
   sources_window w input wanted v is m =
@@ -112,6 +124,12 @@ map_marked a b outputs os input p q wanted items v of_os of_p of_q of_v each m =
     (coe 0 1 (i. (c : ℕ) → c < width (of_p i) → is_marked items c ≡ is_in_wanted (map used (of_os i)) (is_marked wanted) c) each)
     (coe 0 1 (i. MarkMore a (is_source (of_q i) (is_marked (of_v i))) b) m)
 
+pub group_marked : (a b : List (Vec Bool Global)) (g : GroupRule) (input p q : PlanTree) (wanted items v : List Bool) → p ≡ input → q ≡ input → v ≡ items → ((c : ℕ) → c < width p → is_marked items c ≡ is_in_wanted (group_columns g) (is_marked wanted) c) → MarkMore a (is_source q (is_marked v)) b → MarkMore a (is_source (Group g input) (is_marked wanted)) b
+group_marked a b g input p q wanted items v of_p of_q of_v each m =
+    sources_group a b g input wanted items
+    (coe 0 1 (i. (c : ℕ) → c < width (of_p i) → is_marked items c ≡ is_in_wanted (group_columns g) (is_marked wanted) c) each)
+    (coe 0 1 (i. MarkMore a (is_source (of_q i) (is_marked (of_v i))) b) m)
+
 pub window_marked : (a b : List (Vec Bool Global)) (w : WindowRule) (input p q : PlanTree) (wanted items v : List Bool) → p ≡ input → q ≡ input → v ≡ items → ((c : ℕ) → c < width p → is_marked items c ≡ (is_marked wanted c || is_in_wanted (map (call_columns w) w.calls) (λ call. is_marked wanted (width p + call)) c)) → MarkMore a (is_source q (is_marked v)) b → MarkMore a (is_source (Window w input) (is_marked wanted)) b
 window_marked a b w input p q wanted items v of_p of_q of_v each m =
     sources_window a b w input wanted items
@@ -125,6 +143,22 @@ output_at outputs i x h is =
     let inside : i < length (map expression_of outputs) = subst (λ n. i < n) (sym (length-map outputs expression_of)) h in
     ap (λ e. used (expression_of e)) is ∙ ap used (sym (get_or-map expression_of outputs i x (expression_of x) h)) ∙ sym (get_or-map used (map expression_of outputs) i (expression_of x) [] inside)
 
+-- a grouping column
+pub group_column_at : (g : GroupRule) (n : ℕ) → n < g.columns → n ∷ [] ≡ get_or (group_columns g) n []
+group_column_at g n h =
+    let long = length-map-range_with_len (λ (c : ℕ). c ∷ []) 0 g.columns in
+    sym (get_or_append_left (map (λ (c : ℕ). c ∷ []) (positions g.columns)) (map group_call_columns g.calls) [] n (omega (arith, long)) ∙ get_or-map-range_with_len (λ (c : ℕ). c ∷ []) 0 g.columns n n [] h (omega arith))
+
+-- and a call behind them
+pub group_call_at : (columns : ℕ) (sets : List (List ℕ)) (calls : List CodeGroupCall) (n : ℕ) (x : CodeGroupCall) → columns ≤ n → n - columns < length calls → x ≡ get_or calls (n - columns) x
+    → group_call_columns (group_call_of x) ≡ get_or (group_columns (record { columns = columns; sets = sets; calls = map group_call_of calls })) n []
+group_call_at columns sets calls n x past h is =
+    let inside : n - columns < length (map group_call_of calls) = subst (λ m. n - columns < m) (sym (length-map calls group_call_of)) h in
+    ap (λ y. group_call_columns (group_call_of y)) is
+    ∙ ap group_call_columns (sym (get_or-map group_call_of calls (n - columns) x (group_call_of x) h))
+    ∙ sym (get_or-map group_call_columns (map group_call_of calls) (n - columns) (group_call_of x) [] inside)
+    ∙ sym (get_or-append_right (map (λ (c : ℕ). c ∷ []) (positions columns)) (map group_call_columns (map group_call_of calls)) columns n [] (length-map-range_with_len (λ (c : ℕ). c ∷ []) 0 columns) past)
+
 pub call_at : (w : WindowRule) (calls : List Call) (i : ℕ) (x : Call) → i < length calls → x ≡ get_or calls i x → call_columns w x ≡ get_or (map (call_columns w) calls) i []
 call_at w calls i x h is = ap (call_columns w) is ∙ sym (get_or-map (call_columns w) calls i x [] h)
 
@@ -135,5 +169,5 @@ passed_on marks wanted k lists c m few h =
     m.each c (subst (λ n. c < n) (sym (length-take-le k wanted few)) h) ∙ (λ j. marked_before wanted k c h j || calls j)
 
 -- what is tied, where the wanted columns are those of a class or of sort keys
-pub tied_of : (tables : List TableRule) (plan : PlanTree) (columns : List ℕ) (wanted : List Bool) (t : TiedColumns) → ((c : ℕ) → c < width plan → is_marked wanted c ≡ is_in c columns) → ((table c : ℕ) → c < length (table_rule tables table).columns → tied_in t table c ≡ is_source plan (is_marked wanted) table c) → AreTied tables (record { node = plan; columns = columns }) t
-tied_of tables plan columns wanted t of_columns each = record { is = λ table c h k. each table c k ∙ source_same plan (is_marked wanted) (λ n. is_in n columns) of_columns table c }
+pub tied_of : (tables : List TableRule) (plan : PlanTree) (columns : List ℕ) (wanted : List Bool) (t : TiedColumns) → ((c : ℕ) → c < width plan → is_marked wanted c ≡ has columns c) → ((table c : ℕ) → c < length (table_rule tables table).columns → tied_in t table c ≡ is_source plan (is_marked wanted) table c) → AreTied tables (record { node = plan; columns = columns }) t
+tied_of tables plan columns wanted t of_columns each = record { is = λ table c h k. each table c k ∙ source_same plan (is_marked wanted) (λ n. has columns n) of_columns table c }

@@ -9,10 +9,10 @@ use Rattle.wd_value.specs.Bags.{positions}
 use Rattle.wd_value.specs.Rows.{Row, Instance}
 use Rattle.wd_schema.specs.declared.table.Column.{Column}
 use Rattle.wd_schema.specs.Tables.{KeyRule, TableRule}
-use Rattle.wd_plan.specs.Plans.{PlanTree}
+use Rattle.wd_plan.specs.Plans.{PlanTree, has}
 use Rattle.wd_facts.specs.Given.{table_rule}
 use Rattle.wd_candidates.specs.Fixed.{fixed_value}
-use Rattle.wd_candidates.specs.Origins.{is_in, is_scanned}
+use Rattle.wd_candidates.specs.Origins.{is_scanned}
 use Rattle.wd_candidates.specs.Tied.{NodeColumns, is_tied, ordered_by}
 use Rattle.wd_candidates.specs.declared.shape.Shape.{Shape}
 use Rattle.wd_candidates.specs.declared.shape.Style.{Style}
@@ -54,7 +54,7 @@ cell (Some fixed) v = fixed
 -- ---- tables
 
 abbrev pub is_keyed : List KeyRule → ℕ → Bool
-is_keyed keys c = list_any (λ (key : KeyRule). is_in c key.columns) keys
+is_keyed keys c = list_any (λ (key : KeyRule). has key.columns c) keys
 
 -- the cells of a row from column c on, by what each column holds
 abbrev pub cells : (ℕ → Column → Value) → ℕ → List Column → Row

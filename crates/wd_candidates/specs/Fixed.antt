@@ -7,7 +7,7 @@ use Rattle.wd_schema.specs.Meets.{is_of_type}
 use Rattle.wd_plan.specs.declared.expression.ComparisonOp.{ComparisonOp}
 use Rattle.wd_plan.specs.declared.expression.ComparisonOp.TheVariants as op
 use Rattle.wd_plan.specs.Expressions.{Expression, Column, Literal, Negate, Arithmetic, Compare, Not, And, Or, IsNull, IsNotNull, Case, is_null}
-use Rattle.wd_plan.specs.Plans.{PlanTree, Scan, Join, Filter, Map, Window, Distinct, Limit}
+use Rattle.wd_plan.specs.Plans.{PlanTree, Scan, Join, Filter, Map, Group, Window, Distinct, Limit}
 use Rattle.wd_facts.specs.Given.{Side, Plain, Fixed, Other, side_of, conjuncts, conjuncts_of}
 use Rattle.wd_candidates.specs.declared.origins.TableColumn.{TableColumn}
 use Rattle.wd_candidates.specs.declared.fixed.Fixing.{Fixing}
@@ -82,6 +82,7 @@ fixings (Scan table columns) = []
 fixings (Join condition left right) = (fixings left ++ fixings right) ++ fixings_in (origin (Join condition left right)) (conjuncts_of condition)
 fixings (Filter condition input) = fixings input ++ fixings_in (origin input) (conjuncts condition)
 fixings (Map outputs input) = fixings input
+fixings (Group g input) = fixings input
 fixings (Window w input) = fixings input
 fixings (Distinct input) = fixings input
 fixings (Limit limit input) = fixings input

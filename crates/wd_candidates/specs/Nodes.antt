@@ -1,7 +1,7 @@
 -- The nodes of a plan: how wide they are, and a walk to the one with a number.
 use Rattle.std.specs.Prelude.{ℕ, zero, suc, ◌+◌, ◌≤◌, length, Result, Ok, Err}
 use Rattle.wd_plan.specs.Fits.{width}
-use Rattle.wd_plan.specs.Plans.{PlanTree, Scan, Join, Filter, Map, Window, Distinct, Limit}
+use Rattle.wd_plan.specs.Plans.{PlanTree, Scan, Join, Filter, Map, Group, Window, Distinct, Limit}
 
 -- no node has more than 1,024 columns
 abbrev pub AreNarrow : PlanTree → Type 0
@@ -9,6 +9,7 @@ AreNarrow (Scan table columns) = columns ≤ 1024
 AreNarrow (Join condition left right) = (AreNarrow left × AreNarrow right) × (width left + width right ≤ 1024)
 AreNarrow (Filter condition input) = AreNarrow input
 AreNarrow (Map outputs input) = AreNarrow input × (length outputs ≤ 1024)
+AreNarrow (Group g input) = AreNarrow input × (g.columns + length g.calls ≤ 1024)
 AreNarrow (Window w input) = AreNarrow input × (width input + length w.calls ≤ 1024)
 AreNarrow (Distinct input) = AreNarrow input
 AreNarrow (Limit limit input) = AreNarrow input
@@ -30,6 +31,7 @@ found (Scan table columns) number = or_own (Scan table columns) (Err number)
 found (Join condition left right) number = or_own (Join condition left right) (or_right (found left number) (found right))
 found (Filter condition input) number = or_own (Filter condition input) (found input number)
 found (Map outputs input) number = or_own (Map outputs input) (found input number)
+found (Group g input) number = or_own (Group g input) (found input number)
 found (Window w input) number = or_own (Window w input) (found input number)
 found (Distinct input) number = or_own (Distinct input) (found input number)
 found (Limit limit input) number = or_own (Limit limit input) (found input number)

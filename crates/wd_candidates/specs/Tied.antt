@@ -3,9 +3,9 @@ use Rattle.std.specs.Prelude.{ℕ, ◌+◌, ◌-◌, Bool, List, nat_eq, nat_lt,
 use Rattle.wd_value.specs.Keys.{key_columns}
 use Rattle.wd_plan.specs.declared.window.Call.{Call}
 use Rattle.wd_plan.specs.Outcomes.{class_at}
-use Rattle.wd_plan.specs.Plans.{LimitRule, WindowRule, PlanTree, Scan, Join, Filter, Map, Window, Distinct, Limit, node_count}
+use Rattle.wd_plan.specs.Plans.{LimitRule, WindowRule, PlanTree, Scan, Join, Filter, Map, Group, Window, Distinct, Limit, node_count, has}
 use Rattle.wd_plan.specs.Sorting.{class_columns}
-use Rattle.wd_candidates.specs.Origins.{is_in, is_source}
+use Rattle.wd_candidates.specs.Origins.{is_source}
 
 -- some columns of a node
 pub record NodeColumns : Type 0 where
@@ -28,6 +28,7 @@ node_at (Scan table columns) number = if nat_eq number 0 then Some (Scan table c
 node_at (Join condition left right) number = if nat_eq number (node_count left + node_count right) then Some (Join condition left right) else if nat_lt number (node_count left) then node_at left number else node_at right (number - node_count left)
 node_at (Filter condition input) number = if nat_eq number (node_count input) then Some (Filter condition input) else node_at input number
 node_at (Map outputs input) number = if nat_eq number (node_count input) then Some (Map outputs input) else node_at input number
+node_at (Group g input) number = if nat_eq number (node_count input) then Some (Group g input) else node_at input number
 node_at (Window w input) number = if nat_eq number (node_count input) then Some (Window w input) else node_at input number
 node_at (Distinct input) number = if nat_eq number (node_count input) then Some (Distinct input) else node_at input number
 node_at (Limit limit input) number = if nat_eq number (node_count input) then Some (Limit limit input) else node_at input number
@@ -38,6 +39,7 @@ ordered_at call (Scan table columns) = None
 ordered_at call (Join condition left right) = None
 ordered_at call (Filter condition input) = None
 ordered_at call (Map outputs input) = None
+ordered_at call (Group g input) = None
 ordered_at call (Window w input) = of_call w input call
 ordered_at call (Distinct input) = None
 ordered_at call (Limit limit input) = of_limit limit input call
@@ -48,4 +50,4 @@ ordered_by plan node call = option_and_then (ordered_at call) (node_at plan node
 
 -- whether a table's column is tied: one from which these columns are computed
 abbrev pub is_tied : NodeColumns → ℕ → ℕ → Bool
-is_tied o table c = is_source o.node (λ n. is_in n o.columns) table c
+is_tied o table c = is_source o.node (has o.columns) table c

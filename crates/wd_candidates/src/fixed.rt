@@ -7,7 +7,9 @@ ghost use Rattle.wd_facts.specs.Given.{conjuncts, conjuncts_of, side_of};
 ghost use Rattle.wd_candidates.specs.Fixed as spec;
 ghost use Rattle.wd_candidates.specs.Listed as listed;
 
-use crate::origins::{TableColumn, add_calls, origin_in, output_origins, table_origins};
+use crate::origins::{
+    TableColumn, add_calls, group_origins, origin_in, output_origins, table_origins,
+};
 use std::alloc::Global;
 use wd_plan::{ComparisonOp, Expr, Plan};
 use wd_value::{OutOfMemory, Value};
@@ -182,6 +184,10 @@ pub(crate) fn add_plan_fixings(
         Plan::Map { input, outputs } => {
             let origins = add_plan_fixings(alloc, input, list)?;
             output_origins(alloc, &origins, outputs)
+        }
+        Plan::Group { input, group } => {
+            let origins = add_plan_fixings(alloc, input, list)?;
+            group_origins(alloc, &origins, group)
         }
         Plan::Window { input, window } => {
             let mut origins = add_plan_fixings(alloc, input, list)?;

@@ -2,10 +2,9 @@
 
 ghost use Rattle.std.specs.Prelude.{◌≡◌, ◌&&◌, ℕ, false, length, nat_eq, option_to_list, IfOk};
 ghost use Rattle.wd_candidates.specs.Marks.{MarkMore, MarksMore, is_marked, marks_of};
-ghost use Rattle.wd_candidates.specs.Origins.{is_in};
 ghost use Rattle.wd_facts.specs.Given.{table_rule, used};
 ghost use Rattle.wd_plan.specs.Expressions.{expression_of};
-ghost use Rattle.wd_plan.specs.Plans.{class_of};
+ghost use Rattle.wd_plan.specs.Plans.{class_of, has};
 ghost use Rattle.wd_plan.specs.Sorting.{class_columns};
 ghost use Rattle.wd_schema.specs.Schemas.{schema_of};
 ghost use Rattle.wd_value.specs.Keys.{key_columns};
@@ -46,7 +45,7 @@ fn mark_column(marks: &mut [bool], column: u16)
 
 /// Marks these columns.
 pub(crate) fn mark_columns(marks: &mut [bool], columns: &[u16])
-    ensures { MarksMore marks.old (λ c. is_in c columns.now) marks.new }
+    ensures { MarksMore marks.old (λ c. has columns.now c) marks.new }
 {
     for column in columns {
         mark_column(marks, *column);
@@ -55,7 +54,7 @@ pub(crate) fn mark_columns(marks: &mut [bool], columns: &[u16])
 
 /// Marks the columns of sort keys.
 pub(crate) fn mark_keys(marks: &mut [bool], keys: &[SortColumn])
-    ensures { MarksMore marks.old (λ c. is_in c (key_columns keys.now)) marks.new }
+    ensures { MarksMore marks.old (λ c. has (key_columns keys.now) c) marks.new }
 {
     for key in keys {
         mark_column(marks, key.column);
@@ -64,7 +63,7 @@ pub(crate) fn mark_keys(marks: &mut [bool], keys: &[SortColumn])
 
 /// Marks the columns of a class.
 pub(crate) fn mark_class(marks: &mut [bool], class: &Class)
-    ensures { MarksMore marks.old (λ c. is_in c (class_columns (class_of class.now))) marks.new }
+    ensures { MarksMore marks.old (λ c. has (class_columns (class_of class.now)) c) marks.new }
 {
     mark_columns(marks, &class.partition);
     mark_keys(marks, &class.order);
@@ -72,7 +71,7 @@ pub(crate) fn mark_class(marks: &mut [bool], class: &Class)
 
 /// Marks a value argument, where there is one.
 pub(crate) fn mark_argument(marks: &mut [bool], argument: Option<u16>)
-    ensures { MarksMore marks.old (λ c. is_in c (option_to_list argument)) marks.new }
+    ensures { MarksMore marks.old (λ c. has (option_to_list argument) c) marks.new }
 {
     if let Some(column) = argument {
         mark_column(marks, column);
@@ -81,7 +80,7 @@ pub(crate) fn mark_argument(marks: &mut [bool], argument: Option<u16>)
 
 /// Marks the columns that an expression uses.
 pub(crate) fn mark_used(marks: &mut [bool], expression: &Expr)
-    ensures { MarksMore marks.old (λ c. is_in c (used (expression_of expression.now))) marks.new }
+    ensures { MarksMore marks.old (λ c. has (used (expression_of expression.now)) c) marks.new }
 {
     match expression {
         Expr::Column(column) => mark_column(marks, *column),

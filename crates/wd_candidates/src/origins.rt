@@ -2,10 +2,12 @@
 
 ghost use Rattle.std.specs.Prelude.{◌≡◌, ◌++◌, map, IfOk};
 ghost use Rattle.wd_plan.specs.Expressions.{expression_of};
+ghost use Rattle.wd_plan.specs.Plans.{group_call_of};
+ghost use Rattle.wd_value.specs.Bags.{positions};
 ghost use Rattle.wd_candidates.specs.Listed as spec;
 
 use std::alloc::Global;
-use wd_plan::{Call, Expr};
+use wd_plan::{Call, Expr, Group, GroupCall};
 use wd_value::OutOfMemory;
 
 /// A column of a table, both by number.
@@ -72,6 +74,48 @@ pub(crate) fn add_calls(
     origins: &mut Vec<Option<TableColumn>>,
 ) -> Result<(), OutOfMemory>
     ensures { IfOk result (λ _. origins.new.items ≡ origins.old.items ++ map (λ call. None) calls.now) }
+{
+    for _call in calls {
+        origins.push(None)?;
+    }
+    Ok(())
+}
+
+/// The origins of the columns of a Group, by those of its input's columns: a call has none.
+pub(crate) fn group_origins(
+    alloc: Global,
+    origins: &[Option<TableColumn>],
+    group: &Group,
+) -> Result<Vec<Option<TableColumn>>, OutOfMemory>
+    ensures { IfOk result (λ v. v.items ≡ map (spec.origin_in origins.now) (positions group.now.columns) ++ map (λ call. None) (map group_call_of group.now.calls.items)) }
+{
+    let mut list = first_origins(alloc, origins, group.columns)?;
+    add_group_calls(&group.calls, &mut list)?;
+    Ok(list)
+}
+
+/// Those of the first so many columns.
+#[tactic(auto, using(crate::proofs::Copies::first_origins_more))]
+fn first_origins(
+    alloc: Global,
+    origins: &[Option<TableColumn>],
+    count: u16,
+) -> Result<Vec<Option<TableColumn>>, OutOfMemory>
+    ensures { IfOk result (λ v. v.items ≡ map (spec.origin_in origins.now) (positions count)) }
+{
+    let mut list = Vec::with_capacity(alloc, usize::from(count))?;
+    for column in 0..count {
+        list.push(origin_in(origins, column))?;
+    }
+    Ok(list)
+}
+
+/// Appends that the columns of a Group's calls have no origin.
+fn add_group_calls(
+    calls: &[GroupCall],
+    origins: &mut Vec<Option<TableColumn>>,
+) -> Result<(), OutOfMemory>
+    ensures { IfOk result (λ _. origins.new.items ≡ origins.old.items ++ map (λ call. None) (map group_call_of calls.now)) }
 {
     for _call in calls {
         origins.push(None)?;

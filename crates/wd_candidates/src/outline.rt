@@ -55,6 +55,7 @@ fn mark_scanned(plan: &Plan, scanned: &mut [bool])
         }
         Plan::Filter { input, .. } => mark_scanned(input, scanned),
         Plan::Map { input, .. } => mark_scanned(input, scanned),
+        Plan::Group { input, .. } => mark_scanned(input, scanned),
         Plan::Window { input, .. } => mark_scanned(input, scanned),
         Plan::Distinct { input } => mark_scanned(input, scanned),
         Plan::Limit { input, .. } => mark_scanned(input, scanned),

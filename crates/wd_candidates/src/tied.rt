@@ -1,18 +1,18 @@
 //! The table columns from which the columns of a class or the keys of a limit are computed.
 
-ghost use Rattle.std.specs.Prelude.{◌≡◌, ◌<◌, ◌≤◌, ◌+◌, ◌||◌, ℕ, true, drop, length, map, take, IfOk};
+ghost use Rattle.std.specs.Prelude.{◌≡◌, ◌<◌, ◌≤◌, ◌+◌, ◌||◌, ℕ, true, [], drop, length, map, option_to_list, slice_index_or, take, IfOk};
 ghost use Rattle.std.specs.Result.{result_map_both};
 ghost use Rattle.wd_candidates.specs.Marks.{MarkMore, MarksMore, is_marked};
 ghost use Rattle.wd_candidates.specs.Nodes.{AreNarrow, found};
 ghost use Rattle.wd_candidates.specs.Nodes as nodes;
-ghost use Rattle.wd_candidates.specs.Origins.{call_columns, is_in_wanted, is_in, is_source};
+ghost use Rattle.wd_candidates.specs.Origins.{call_columns, group_call_columns, group_columns, is_in_wanted, is_source};
 ghost use Rattle.wd_candidates.specs.Outlines.{AreTied, AreTiedBy, tied_in};
 ghost use Rattle.wd_candidates.specs.Tied.{of_call, ordered_at, ordered_by};
 ghost use Rattle.wd_facts.specs.Given.{table_rule, used};
 ghost use Rattle.wd_plan.specs.Expressions.{expression_of};
 ghost use Rattle.wd_plan.specs.Fits.{fits, width};
 ghost use Rattle.wd_plan.specs.Outcomes.{class_at};
-ghost use Rattle.wd_plan.specs.Plans.{plan_of, window_of};
+ghost use Rattle.wd_plan.specs.Plans.{group_call_of, grouping_of, plan_of, window_of, has};
 ghost use Rattle.wd_plan.specs.Sorting.{class_columns};
 ghost use Rattle.wd_schema.specs.Schemas.{schema_of};
 ghost use Rattle.wd_value.specs.Keys.{key_columns};
@@ -22,7 +22,7 @@ use crate::marks::{
     unmarked_tables,
 };
 use std::alloc::Global;
-use wd_plan::{Call, Expr, Plan, Window};
+use wd_plan::{Call, Expr, FrameFunction, Function, Group, GroupCall, Plan, Window};
 use wd_schema::Schema;
 use wd_value::{OutOfMemory, SortColumn};
 
@@ -62,6 +62,7 @@ fn find_node(plan: &Plan, number: u64) -> Result<&Plan, u64>
         },
         Plan::Filter { input, .. } => or_own(plan, find_node(input, number)),
         Plan::Map { input, .. } => or_own(plan, find_node(input, number)),
+        Plan::Group { input, .. } => or_own(plan, find_node(input, number)),
         Plan::Window { input, .. } => or_own(plan, find_node(input, number)),
         Plan::Distinct { input } => or_own(plan, find_node(input, number)),
         Plan::Limit { input, .. } => or_own(plan, find_node(input, number)),
@@ -201,6 +202,11 @@ fn mark_sources(
             mark_sources(alloc, input, &used, tables)?;
             Ok(())
         }
+        Plan::Group { input, group } => {
+            let used = used_by_groups(alloc, input, group, wanted)?;
+            mark_sources(alloc, input, &used, tables)?;
+            Ok(())
+        }
         Plan::Window { input, window } => {
             let used = used_by_calls(alloc, input, window, wanted)?;
             mark_sources(alloc, input, &used, tables)?;
@@ -254,6 +260,60 @@ fn mark_outputs(marks: &mut [bool], outputs: &[Expr], wanted: &[bool])
     }
 }
 
+/// The columns of a Group's input from which its wanted columns are computed.
+fn used_by_groups(
+    alloc: Global,
+    input: &Plan,
+    group: &Group,
+    wanted: &[bool],
+) -> Result<Vec<bool>, OutOfMemory>
+    requires narrow { AreNarrow (plan_of input.now) }
+    requires few { (grouping_of group.now).columns + length (grouping_of group.now).calls ≤ 1024 }
+    ensures long { IfOk result (λ v. length v.items ≡ width (plan_of input.now)) }
+    ensures used { IfOk result (λ v. (c : ℕ) → c < width (plan_of input.now) → is_marked v.items c ≡ is_in_wanted (group_columns (grouping_of group.now)) (is_marked wanted.now) c) }
+{
+    let mut marks = unmarked(alloc, input.width() as usize)?;
+    mark_groups(&mut marks, group, wanted);
+    Ok(marks)
+}
+
+/// Marks the columns from which the wanted columns of a Group are computed.
+fn mark_groups(marks: &mut [bool], group: &Group, wanted: &[bool])
+    requires { (grouping_of group.now).columns + length (grouping_of group.now).calls ≤ 1024 }
+    ensures { MarksMore marks.old (is_in_wanted (group_columns (grouping_of group.now)) (is_marked wanted.now)) marks.new }
+{
+    for number in 0..usize::from(group.columns) + group.calls.len() {
+        if is_marked(wanted, number) {
+            mark_argument(marks, column_of_group(group, number));
+        }
+    }
+}
+
+/// The column from which a column of a Group is computed, if there is one.
+fn column_of_group(group: &Group, number: usize) -> Option<u16>
+    requires { number < group.now.columns + length group.now.calls.items }
+    ensures { option_to_list result ≡ slice_index_or (group_columns (grouping_of group.now)) number [] }
+{
+    let columns = usize::from(group.columns);
+    if number < columns {
+        Some(number as u16)
+    } else {
+        argument_of(&group.calls[number - columns])
+    }
+}
+
+/// The argument of an aggregate that has one.
+fn argument_of(call: &GroupCall) -> Option<u16>
+    ensures { option_to_list result ≡ group_call_columns (group_call_of call.now) }
+{
+    match call {
+        GroupCall::OfRows(aggregate) => {
+            Function::OfFrame(FrameFunction::Aggregate(*aggregate)).argument()
+        }
+        GroupCall::Grouping(_) => None,
+    }
+}
+
 /// The columns of a Window's input that are wanted, or that its wanted calls are computed from.
 fn used_by_calls(
     alloc: Global,
@@ -285,7 +345,7 @@ fn mark_calls(marks: &mut [bool], window: &Window, wanted: &[bool])
 
 /// Marks the columns that a call is computed from: its argument, and those of its class.
 fn mark_call(marks: &mut [bool], window: &Window, call: &Call)
-    ensures { MarksMore marks.old (λ c. is_in c (call_columns (window_of window.now) call.now)) marks.new }
+    ensures { MarksMore marks.old (λ c. has (call_columns (window_of window.now) call.now) c) marks.new }
 {
     mark_argument(marks, call.function.argument());
     mark_class_of(marks, window, call);
@@ -293,7 +353,7 @@ fn mark_call(marks: &mut [bool], window: &Window, call: &Call)
 
 /// Marks the columns of a call's class.
 fn mark_class_of(marks: &mut [bool], window: &Window, call: &Call)
-    ensures { MarksMore marks.old (λ c. is_in c (class_columns (class_at (window_of window.now) call.now.class))) marks.new }
+    ensures { MarksMore marks.old (λ c. has (class_columns (class_at (window_of window.now) call.now.class)) c) marks.new }
 {
     if let Some(class) = window.classes.get(usize::from(call.class)) {
         mark_class(marks, class);

@@ -58,6 +58,7 @@ fn node_at(plan: &Plan, number: u32) -> Option<&Plan> {
         }
         Plan::Filter { input, .. }
         | Plan::Map { input, .. }
+        | Plan::Group { input, .. }
         | Plan::Window { input, .. }
         | Plan::Distinct { input }
         | Plan::Limit { input, .. } => node_at(input, number),

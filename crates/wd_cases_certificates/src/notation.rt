@@ -2,18 +2,23 @@
 //!
 //! The entries of a certificate are parted by `;`, and the words of one by blanks; `-` is an entry that says nothing.
 //! `0,1>2,0` is a trace from columns 0 and 1 by the facts 2 and 0; `3,row@0` keeps column 3 and the row by trace 0; the rules
-//! are `peers`, `unique@0`, `values@0` and `exchange@0`, and `keys@0` is the limit's trace. A fact is `0,1>2,row`.
+//! are `peers`, `unique@0`, `values@0` and `exchange@0`, and `keys@0` is the limit's trace. Behind `version 2:` stand the entries
+//! of a certificate of version 2, else they are of version 1. A fact is `0,1>2,row`.
 use std::alloc::Global;
 use wd_cases::{Failure, is_nothing};
-use wd_certificate::{Certificate, Kept, Node, Rule, Target, Trace};
+use wd_certificate::{Certificate, Kept, Node, Rule, Target, Trace, Version};
 use wd_facts::{Facts, Given, Member};
 
 pub fn certificate_of(alloc: Global, text: &str) -> Result<Certificate, Failure> {
+    let (version, entries) = match text.strip_prefix("version 2:") {
+        Some(entries) => (Version::Two, entries),
+        None => (Version::One, text),
+    };
     let mut nodes = Vec::new(alloc);
-    for entry in text.split(';') {
+    for entry in entries.split(';') {
         nodes.push(node_of(alloc, entry)?)?;
     }
-    Ok(Certificate { nodes })
+    Ok(Certificate { nodes, version })
 }
 
 fn node_of(alloc: Global, entry: &str) -> Result<Node, Failure> {

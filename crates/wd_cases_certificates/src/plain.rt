@@ -79,6 +79,7 @@ pub fn are_of_children(plan: &Plan, first: &[Given], second: &[Given]) -> bool
         Plan::Join { left, right, .. } => are_of(left, first) && are_of(right, second),
         Plan::Filter { input, .. }
         | Plan::Map { input, .. }
+        | Plan::Group { input, .. }
         | Plan::Window { input, .. }
         | Plan::Distinct { input }
         | Plan::Limit { input, .. } => are_of(input, first),

@@ -35,7 +35,7 @@ pub fn refusal(alloc: Global, text: &str) -> Result<String, Failure> {
 pub fn laws(alloc: Global) -> Result<String, Failure> {
     wd_certificate::laws::spells_one();
     wd_certificate::laws::is_read_back();
-    wd_certificate::laws::example_text();
+    wd_certificate::laws::example_texts();
     wd_facts::laws::known_holds();
     wd_facts::laws::given_facts_hold();
     wd_close::laws::closures_come_out();

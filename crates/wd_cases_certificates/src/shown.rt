@@ -13,6 +13,7 @@ pub fn push_nodes(out: &mut String, plan: &Plan) -> Result<(), Failure> {
         }
         Plan::Filter { input, .. }
         | Plan::Map { input, .. }
+        | Plan::Group { input, .. }
         | Plan::Window { input, .. }
         | Plan::Distinct { input }
         | Plan::Limit { input, .. } => push_nodes(out, input)?,
@@ -32,6 +33,7 @@ fn kind_of(plan: &Plan) -> &'static str {
         Plan::Join { .. } => "Join",
         Plan::Filter { .. } => "Filter",
         Plan::Map { .. } => "Map",
+        Plan::Group { .. } => "Group",
         Plan::Window { .. } => "Window",
         Plan::Distinct { .. } => "Distinct",
         Plan::Limit { .. } => "Limit",

@@ -85,6 +85,14 @@ fn aggregate(name: &str, column: u16) -> Option<Aggregate> {
     }
 }
 
+/// The aggregate that a function is, if it is one.
+pub fn aggregate_of(function: &Function) -> Option<Aggregate> {
+    match function {
+        Function::OfFrame(FrameFunction::Aggregate(aggregate)) => Some(*aggregate),
+        _ => None,
+    }
+}
+
 /// The function of a word such as `lag(c0,1,null)`, whose default is given.
 pub fn neighbour(word: Word, default: Value) -> Option<Function> {
     let direction = match word.name {

@@ -1,12 +1,14 @@
 //! Words in postfix notation: an operand goes onto the stack of its kind, and an operator takes
 //! what it needs from the stacks.
 
-use crate::operators::{Binary, function, neighbour, operator_of};
+use crate::operators::{Binary, aggregate_of, function, neighbour, operator_of};
 use crate::words::{Cut, DEFAULT_FRAME, Word, column_of, frame_of, item_of, kind_of, table_of};
 use std::alloc::Global;
 use std::mem::replace;
-use wd_cases::{Failure, value_of};
-use wd_plan::{Branch, Call, Class, Expr, Frame, Function, Limit, Plan, ValueKind, Window};
+use wd_cases::{Failure, is_nothing, value_of};
+use wd_plan::{
+    Branch, Call, Class, Expr, Frame, Function, Group, GroupCall, Limit, Plan, ValueKind, Window,
+};
 use wd_value::{SortColumn, Value};
 
 /// What the words of a line have left.
@@ -18,6 +20,8 @@ pub struct Stacks {
     pub expressions: Vec<Expr>,
     pub items: Vec<SortColumn>,
     pub window: Window,
+    /// The calls of the Group that follows.
+    group_calls: Vec<GroupCall>,
     pub plans: Vec<Plan>,
     /// The frame of the calls that follow.
     pub frame: Frame,
@@ -40,6 +44,7 @@ impl Stacks {
             expressions: Vec::new(alloc),
             items: Vec::new(alloc),
             window: no_calls(alloc),
+            group_calls: Vec::new(alloc),
             plans: Vec::new(alloc),
             frame: DEFAULT_FRAME,
         }
@@ -77,6 +82,7 @@ impl Stacks {
             "map" => self.push_map(),
             "join" => self.push_join(),
             "window" => self.push_window(),
+            "of_group" => self.push_of_group(),
             "distinct" => self.push_distinct(),
             _ => self.push_named(Word::of(word)),
         }
@@ -97,6 +103,8 @@ impl Stacks {
             "lag" | "lead" => self.push_neighbour(word),
             "over" => self.push_class(word.arguments),
             "class" => self.set_class(word.arguments),
+            "grouping" => self.push_grouping(word.arguments),
+            "group" => self.push_group(word.arguments),
             "limit" => self.push_limit(word),
             _ => self.push_literal(word),
         }
@@ -208,6 +216,36 @@ impl Stacks {
         self.push_plan(Plan::Window { input, window })
     }
 
+    /// The call that stands last, an aggregate, as one of the group's rows.
+    fn push_of_group(&mut self) -> Result<(), Failure> {
+        let call = self.window.calls.pop().ok_or(Failure::NoCase)?;
+        let aggregate = aggregate_of(&call.function).ok_or(Failure::NoCase)?;
+        Ok(self.group_calls.push(GroupCall::OfRows(aggregate))?)
+    }
+
+    /// `grouping(0,1)`: which of these grouping columns the set lacks.
+    fn push_grouping(&mut self, arguments: &str) -> Result<(), Failure> {
+        let columns = columns_of(self.alloc, arguments)?;
+        Ok(self.group_calls.push(GroupCall::Grouping(columns))?)
+    }
+
+    /// `group(2;0,1;0;-)`: a Group by the first two columns, with these three sets, of the calls that stand there.
+    fn push_group(&mut self, arguments: &str) -> Result<(), Failure> {
+        let (columns, sets) = arguments.split_once(';').ok_or(Failure::NoCase)?;
+        let columns = columns.parse::<u16>()?;
+        let sets = sets_of(self.alloc, sets)?;
+        let input = self.plan()?;
+        let calls = replace(&mut self.group_calls, Vec::new(self.alloc));
+        self.push_plan(Plan::Group {
+            input,
+            group: Group {
+                columns,
+                sets,
+                calls,
+            },
+        })
+    }
+
     fn push_distinct(&mut self) -> Result<(), Failure> {
         let input = self.plan()?;
         self.push_plan(Plan::Distinct { input })
@@ -281,4 +319,24 @@ fn push_key(class: &mut Class, word: &str) -> Result<(), Failure> {
         return Err(Failure::NoCase);
     }
     Ok(())
+}
+
+/// Grouping sets parted by `;`.
+fn sets_of(alloc: Global, words: &str) -> Result<Vec<Vec<u16>>, Failure> {
+    let mut sets = Vec::new(alloc);
+    for set in words.split(';') {
+        sets.push(columns_of(alloc, set)?)?;
+    }
+    Ok(sets)
+}
+
+/// Numbers of columns parted by `,`, or `-` for none.
+fn columns_of(alloc: Global, words: &str) -> Result<Vec<u16>, Failure> {
+    let mut columns = Vec::new(alloc);
+    for word in words.split(',') {
+        if !is_nothing(word) {
+            columns.push(word.parse::<u16>()?)?;
+        }
+    }
+    Ok(columns)
 }

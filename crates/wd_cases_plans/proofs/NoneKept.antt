@@ -1,5 +1,5 @@
 -- Children that keep no facts.
-use Rattle.wd_plan.specs.Plans.{PlanTree, Scan, Join, Filter, Map, Window, Distinct, Limit}
+use Rattle.wd_plan.specs.Plans.{PlanTree, Scan, Join, Filter, Map, Group, Window, Distinct, Limit}
 use Rattle.wd_facts.specs.Laws.{AreOfChildren}
 use Rattle.std.specs.Prelude.{[]}
 
@@ -8,6 +8,7 @@ none_kept (Scan table columns) = tt
 none_kept (Join condition left right) = (tt, tt)
 none_kept (Filter condition input) = tt
 none_kept (Map outputs input) = tt
+none_kept (Group rule input) = tt
 none_kept (Window w input) = tt
 none_kept (Distinct input) = tt
 none_kept (Limit limit input) = tt

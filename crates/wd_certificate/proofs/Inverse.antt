@@ -1,15 +1,17 @@
 -- A JSON value spells one certificate.
-use Rattle.std.proofs.Common.{◌≡◌, ℕ, List, [], ◌∷◌, Option, Some, None, refl, sym, ap, ap₂, ◌∙◌, arith}
+use Rattle.std.proofs.Common.{◌≡◌, ◌≢◌, ℕ, List, [], ◌∷◌, Option, Some, None, refl, sym, ap, ap₂, ◌∙◌, arith}
 use Rattle.std.specs.Prelude.{codes}
 use Rattle.wd_json.proofs.Inverse.{One, one_list, one_number, one_optional, two_same, string_same, some_same}
-use Rattle.wd_certificate.specs.Certificates.{TraceRecord, KeptRecord, NodeRecord}
+use Rattle.wd_certificate.specs.Certificates.{TraceRecord, KeptRecord, NodeRecord, CertificateRecord}
 use Rattle.wd_json.specs.Json.{number_json, list_json, optional_json}
-use Rattle.wd_certificate.specs.Json.{trace_json, target_json, kept_json, rule_json, rule_word, rule_trace, node_json, certificate_json, Spells}
+use Rattle.wd_certificate.specs.Json.{trace_json, target_json, kept_json, rule_json, rule_word, rule_trace, node_json, certificate_json, Spells, version_number}
 use Rattle.wd_certificate.specs.Refusals.{HasCause}
 use Rattle.wd_certificate.specs.Laws.{SpellsOne, IsReadBack}
 use Rattle.wd_certificate.specs.declared.certificate.Rule.{Rule}
 use Rattle.wd_certificate.specs.declared.certificate.Rule.TheVariants as rule
 use Rattle.wd_certificate.specs.declared.certificate.Target.TheVariants as target
+use Rattle.wd_certificate.specs.declared.certificate.Version.{Version}
+use Rattle.wd_certificate.specs.declared.certificate.Version.TheVariants as version
 use Rattle.wd_certificate.specs.declared.error.CertError.{CertError}
 use Rattle.wd_certificate.specs.declared.error.CertError.TheVariants as error
 
@@ -85,18 +87,37 @@ one_certificate v w a b e =
 pub spells_one : SpellsOne
 spells_one bytes v w a b first second = one_certificate v w a b (some_same _ _ (sym first.1 ∙ second.1))
 
-refused_not : (bytes : List ℕ) (nodes : List NodeRecord) → Spells 1 nodes bytes → (e : CertError) → HasCause e bytes → e ≡ error.OutOfMemory
-refused_not bytes nodes spelled error.NotJson r = absurd (r (certificate_json 1 nodes) spelled)
-refused_not bytes nodes spelled error.Shape r = absurd (r.2 1 nodes (some_same _ _ (sym r.1.1 ∙ spelled.1)))
-refused_not bytes nodes spelled error.Version r = absurd (r.3 (sym (spells_one bytes 1 r.0 nodes r.1 spelled r.2).0))
-refused_not bytes nodes spelled error.Count r = absurd r
-refused_not bytes nodes spelled (error.UnreachedUse node) r = absurd r
-refused_not bytes nodes spelled (error.UnreachedClaim node) r = absurd r
-refused_not bytes nodes spelled (error.UnjustifiedCall node) r = absurd r
-refused_not bytes nodes spelled (error.SecondExchange node) r = absurd r
-refused_not bytes nodes spelled (error.UnjustifiedLimit node) r = absurd r
-refused_not bytes nodes spelled (error.OutOfRange node) r = absurd r
-refused_not bytes nodes spelled error.OutOfMemory r = refl
+-- versions with one number are the same
+one_version : (v w : Version) → version_number v ≡ version_number w → v ≡ w
+one_version version.One version.One e = refl
+one_version version.One version.Two e = absurd (omega (arith, e))
+one_version version.Two version.One e = absurd (omega (arith, e))
+one_version version.Two version.Two e = refl
+
+one_record : (bytes : List ℕ) (a b : CertificateRecord) → Spells a bytes → Spells b bytes → a ≡ b
+one_record bytes a b first second =
+    let both = spells_one bytes (version_number a.version) (version_number b.version) a.nodes b.nodes first second in
+    ap₂ (λ n v. record { nodes = n; version = v }) both.1 (one_version a.version b.version both.0)
+
+-- a version that is read has no other number than 1 and 2
+read_version : (v : Version) → version_number v ≢ 1 → version_number v ≢ 2 → ⊥
+read_version version.One not_1 not_2 = not_1 refl
+read_version version.Two not_1 not_2 = not_2 refl
+
+refused_not : (bytes : List ℕ) (certificate : CertificateRecord) → Spells certificate bytes → (e : CertError) → HasCause e bytes → e ≡ error.OutOfMemory
+refused_not bytes certificate spelled error.NotJson r = absurd (r _ spelled)
+refused_not bytes certificate spelled error.Shape r = absurd (r.2 (version_number certificate.version) certificate.nodes (some_same _ _ (sym r.1.1 ∙ spelled.1)))
+refused_not bytes certificate spelled error.Version r =
+    let same : r.0 ≡ version_number certificate.version = (spells_one bytes r.0 (version_number certificate.version) r.1 certificate.nodes r.2 spelled).0 in
+    absurd (read_version certificate.version (λ e. r.3 (same ∙ e)) (λ e. r.4 (same ∙ e)))
+refused_not bytes certificate spelled error.Count r = absurd r
+refused_not bytes certificate spelled (error.UnreachedUse node) r = absurd r
+refused_not bytes certificate spelled (error.UnreachedClaim node) r = absurd r
+refused_not bytes certificate spelled (error.UnjustifiedCall node) r = absurd r
+refused_not bytes certificate spelled (error.SecondExchange node) r = absurd r
+refused_not bytes certificate spelled (error.UnjustifiedLimit node) r = absurd r
+refused_not bytes certificate spelled (error.OutOfRange node) r = absurd r
+refused_not bytes certificate spelled error.OutOfMemory r = refl
 
 pub is_read_back : IsReadBack
-is_read_back bytes nodes spelled = (λ others h. sym (spells_one bytes 1 1 nodes others spelled h).1, refused_not bytes nodes spelled)
+is_read_back bytes certificate spelled = (λ other h. one_record bytes other certificate h spelled, refused_not bytes certificate spelled)

@@ -6,6 +6,7 @@ use Rattle.wd_certificate.specs.declared.certificate.Node.{Node}
 use Rattle.wd_certificate.specs.declared.certificate.Rule.{Rule}
 use Rattle.wd_certificate.specs.declared.certificate.Target.{Target}
 use Rattle.wd_certificate.specs.declared.certificate.Trace.{Trace}
+use Rattle.wd_certificate.specs.declared.certificate.Version.{Version}
 
 -- the columns from which a trace starts, and the facts that it uses, in order
 pub record TraceRecord : Type 0 where
@@ -24,6 +25,11 @@ pub record NodeRecord : Type 0 where
   pub limit : Option ℕ
   pub traces : List TraceRecord
 
+-- a certificate: its nodes in postorder and its version
+pub record CertificateRecord : Type 0 where
+  pub nodes : List NodeRecord
+  pub version : Version
+
 -- what a trace of the code says
 abbrev pub trace_of : Trace → TraceRecord
 trace_of t = record { from = t.from.items; uses = t.uses.items }
@@ -39,3 +45,7 @@ node_of n = record { calls = n.calls.items; keep = map kept_of n.keep.items; lim
 -- the nodes of a certificate
 abbrev pub nodes_of : Certificate → List NodeRecord
 nodes_of certificate = map node_of certificate.nodes.items
+
+-- what a certificate of the code says
+abbrev pub certificate_of : Certificate → CertificateRecord
+certificate_of certificate = record { nodes = nodes_of certificate; version = certificate.version }

@@ -1,10 +1,11 @@
--- The text of a certificate, byte for byte.
+-- The texts of two certificates, byte for byte.
 use Rattle.std.specs.Prelude.{◌≡◌, ℕ, List, [], ◌∷◌, codes, None}
-use Rattle.wd_certificate.specs.Certificates.{TraceRecord, KeptRecord, NodeRecord}
+use Rattle.wd_certificate.specs.Certificates.{TraceRecord, KeptRecord, NodeRecord, CertificateRecord}
 use Rattle.wd_certificate.specs.Json.{certificate_text}
 use Rattle.wd_certificate.specs.declared.certificate.Rule.{Rule}
 use Rattle.wd_certificate.specs.declared.certificate.Rule.TheVariants as rule
 use Rattle.wd_certificate.specs.declared.certificate.Target.TheVariants as target
+use Rattle.wd_certificate.specs.declared.certificate.Version.TheVariants.{One, Two}
 
 -- a trace with these columns and uses
 abbrev pub trace : List ℕ → List ℕ → TraceRecord
@@ -27,6 +28,15 @@ numbered_by_key =
     ∷ node [] [] []
     ∷ []
 
--- its text
-abbrev pub HasExampleText : Type 0
-HasExampleText = certificate_text numbered_by_key ≡ codes "{\"nodes\":[{\"calls\":[],\"keep\":[{\"to\":[\"row\"],\"trace\":0}],\"limit\":null,\"traces\":[{\"from\":[0],\"uses\":[0]}]},{\"calls\":[],\"keep\":[{\"to\":[\"row\"],\"trace\":0}],\"limit\":null,\"traces\":[{\"from\":[0],\"uses\":[2,0]}]},{\"calls\":[{\"rule\":\"unique\",\"trace\":0}],\"keep\":[],\"limit\":null,\"traces\":[{\"from\":[0],\"uses\":[0]}]},{\"calls\":[],\"keep\":[],\"limit\":null,\"traces\":[]}],\"version\":1}"
+-- it, of version 1
+abbrev pub version_1 : CertificateRecord
+version_1 = record { nodes = numbered_by_key; version = One }
+
+-- a certificate of version 2, of a Scan alone
+abbrev pub version_2 : CertificateRecord
+version_2 = record { nodes = node [] [] [] ∷ []; version = Two }
+
+-- the texts of both
+pub record HaveExampleTexts : Type 0 where
+  pub of_version_1 : certificate_text version_1 ≡ codes "{\"nodes\":[{\"calls\":[],\"keep\":[{\"to\":[\"row\"],\"trace\":0}],\"limit\":null,\"traces\":[{\"from\":[0],\"uses\":[0]}]},{\"calls\":[],\"keep\":[{\"to\":[\"row\"],\"trace\":0}],\"limit\":null,\"traces\":[{\"from\":[0],\"uses\":[2,0]}]},{\"calls\":[{\"rule\":\"unique\",\"trace\":0}],\"keep\":[],\"limit\":null,\"traces\":[{\"from\":[0],\"uses\":[0]}]},{\"calls\":[],\"keep\":[],\"limit\":null,\"traces\":[]}],\"version\":1}"
+  pub of_version_2 : certificate_text version_2 ≡ codes "{\"nodes\":[{\"calls\":[],\"keep\":[],\"limit\":null,\"traces\":[]}],\"version\":2}"

@@ -3,11 +3,13 @@ use Rattle.std.specs.Prelude.{ℕ, List, codes, Option, Some, None}
 use Rattle.serde_json.specs.Data.{Data, string, object, member, no_members}
 use Rattle.serde_json.specs.Written.{compact_text}
 use Rattle.wd_json.specs.Json.{number_json, list_json, optional_json, two_members_json, IsJsonOf}
-use Rattle.wd_certificate.specs.Certificates.{TraceRecord, KeptRecord, NodeRecord}
+use Rattle.wd_certificate.specs.Certificates.{TraceRecord, KeptRecord, NodeRecord, CertificateRecord}
 use Rattle.wd_certificate.specs.declared.certificate.Rule.{Rule}
 use Rattle.wd_certificate.specs.declared.certificate.Rule.TheVariants as rule
 use Rattle.wd_certificate.specs.declared.certificate.Target.{Target}
 use Rattle.wd_certificate.specs.declared.certificate.Target.TheVariants as target
+use Rattle.wd_certificate.specs.declared.certificate.Version.{Version}
+use Rattle.wd_certificate.specs.declared.certificate.Version.TheVariants.{One, Two}
 
 -- a trace: its columns and its uses
 abbrev pub trace_json : TraceRecord → Data
@@ -48,14 +50,23 @@ node_members_json calls keep limit traces = object (member (codes "calls") calls
 abbrev pub node_json : NodeRecord → Data
 node_json n = node_members_json (list_json rule_json n.calls) (list_json kept_json n.keep) (optional_json n.limit) (list_json trace_json n.traces)
 
--- a certificate: its nodes and its version
+-- the number of a version
+abbrev pub version_number : Version → ℕ
+version_number One = 1
+version_number Two = 2
+
+-- a certificate: its nodes and the number of its version, which may be any
 abbrev pub certificate_json : ℕ → List NodeRecord → Data
 certificate_json version nodes = two_members_json (codes "nodes") (list_json node_json nodes) (codes "version") (number_json version)
 
--- the text of a certificate of version 1: JSON without white space, members in alphabetical order of their names
-abbrev pub certificate_text : List NodeRecord → List ℕ
-certificate_text nodes = compact_text (certificate_json 1 nodes)
+-- the text of a certificate: JSON without white space, members in alphabetical order of their names
+abbrev pub certificate_text : CertificateRecord → List ℕ
+certificate_text certificate = compact_text (certificate_json (version_number certificate.version) certificate.nodes)
 
--- the bytes spell a certificate of this version with these nodes
-abbrev pub Spells : ℕ → List NodeRecord → List ℕ → Type 0
-Spells version nodes bytes = IsJsonOf (certificate_json version nodes) bytes
+-- the bytes spell a certificate of the version with this number, be it read or not, with these nodes
+abbrev pub SpellsVersion : ℕ → List NodeRecord → List ℕ → Type 0
+SpellsVersion version nodes bytes = IsJsonOf (certificate_json version nodes) bytes
+
+-- the bytes spell this certificate
+abbrev pub Spells : CertificateRecord → List ℕ → Type 0
+Spells certificate bytes = SpellsVersion (version_number certificate.version) certificate.nodes bytes

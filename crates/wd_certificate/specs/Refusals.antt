@@ -3,7 +3,7 @@ use Rattle.std.specs.Prelude.{◌≢◌, ℕ, List, Option, Some, None, ⊤}
 use Rattle.serde_json.specs.Data.{Data}
 use Rattle.wd_certificate.specs.Certificates.{NodeRecord}
 use Rattle.wd_json.specs.Json.{IsJsonOf}
-use Rattle.wd_certificate.specs.Json.{certificate_json, Spells}
+use Rattle.wd_certificate.specs.Json.{certificate_json, SpellsVersion}
 use Rattle.wd_certificate.specs.declared.error.CertError.{CertError}
 use Rattle.wd_certificate.specs.declared.error.CertError.TheVariants.{NotJson, Shape, Version, Count, UnreachedUse, UnreachedClaim, UnjustifiedCall, SecondExchange, UnjustifiedLimit, OutOfRange, OutOfMemory}
 
@@ -36,11 +36,11 @@ place_of (OutOfRange node) = Some node
 place_of OutOfMemory = None
 
 -- why a text is refused: it is no JSON; its JSON is of no certificate of any version; it spells a
--- certificate of another version than 1. What a certificate says of a plan refuses no text.
+-- certificate of another version than 1 and 2. What a certificate says of a plan refuses no text.
 abbrev pub HasCause : CertError → List ℕ → Type 0
 HasCause NotJson bytes = (d : Data) → ¬ IsJsonOf d bytes
 HasCause Shape bytes = (d : Data) × IsJsonOf d bytes × ((version : ℕ) (nodes : List NodeRecord) → d ≢ certificate_json version nodes)
-HasCause Version bytes = (version : ℕ) × (nodes : List NodeRecord) × Spells version nodes bytes × (version ≢ 1)
+HasCause Version bytes = (version : ℕ) × (nodes : List NodeRecord) × SpellsVersion version nodes bytes × (version ≢ 1) × (version ≢ 2)
 HasCause Count bytes = ⊥
 HasCause (UnreachedUse node) bytes = ⊥
 HasCause (UnreachedClaim node) bytes = ⊥

@@ -55,9 +55,19 @@ pub struct Node {
     pub traces: Vec<Trace>,
 }
 
-/// A certificate of version 1: what justifies each call and each limit of a plan.
+/// The version of a certificate, which says of which plans it may speak.
+#[derive(Clone, Copy)]
+pub enum Version {
+    /// Of plans without groups.
+    One,
+    /// Of every plan.
+    Two,
+}
+
+/// A certificate: what justifies each call and each limit of a plan.
 #[derive(Drop)]
 pub struct Certificate {
     /// The plan's nodes in postorder.
     pub nodes: Vec<Node>,
+    pub version: Version,
 }

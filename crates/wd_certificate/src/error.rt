@@ -7,7 +7,7 @@ ghost use Rattle.wd_certificate.specs.declared.error.CertError.TheVariants as er
 use thiserror::Error;
 use wd_value::OutOfMemory;
 
-/// A certificate's refusal: 501 to 503 of its text alone, 504 to 510 of what it says of a plan.
+/// A certificate's refusal: 501 to 503 of its text alone, 503 to 510 of it and a plan.
 /// A node is named by its number in postorder, from 0.
 #[derive(Clone, Copy, Debug, Error)]
 pub enum CertError {
@@ -17,8 +17,8 @@ pub enum CertError {
     /// 502: the JSON is that of no certificate of any version.
     #[error("not of the shape of a certificate")]
     Shape,
-    /// 503: a certificate of another version than 1.
-    #[error("not of version 1")]
+    /// 503: a certificate of another version than 1 and 2, or of version 1 for a plan that groups.
+    #[error("not of a version that is read for the plan")]
     Version,
     /// 504: another number of nodes than the plan has, or of calls than a node has.
     #[error("another number of nodes or calls than the plan has")]

@@ -1,8 +1,8 @@
 //! Laws over the definitions, and what writing and reading a certificate give together.
 
 ghost use Rattle.std.specs.Prelude.{◌≡◌, IfOk, IfErr};
-ghost use Rattle.wd_certificate.specs.Certificates.{nodes_of};
-ghost use Rattle.wd_certificate.specs.Examples.{HasExampleText};
+ghost use Rattle.wd_certificate.specs.Certificates.{certificate_of};
+ghost use Rattle.wd_certificate.specs.Examples.{HaveExampleTexts};
 ghost use Rattle.wd_certificate.specs.Laws.{SpellsOne, IsReadBack};
 ghost use Rattle.wd_certificate.specs.declared.error.CertError.TheVariants as error;
 
@@ -16,19 +16,19 @@ pub fn spells_one()
     ensures { SpellsOne }
 {}
 
-/// Bytes that spell a certificate spell no other, and are refused only where memory runs out.
+/// Bytes that spell a certificate of version 1 or 2 spell no other, and are refused only where memory runs out.
 pub fn is_read_back()
     ensures { IsReadBack }
 {}
 
-/// The text of a certificate of four nodes, byte for byte.
-pub fn example_text()
-    ensures { HasExampleText }
+/// The texts of a certificate of each version, byte for byte.
+pub fn example_texts()
+    ensures { HaveExampleTexts }
 {}
 
 /// A certificate that is written and read again comes back, or memory is wanting.
 pub fn read_back(alloc: Global, certificate: &Certificate) -> Result<Certificate, CertError>
-    ensures same { IfOk result (λ c. nodes_of c ≡ nodes_of certificate.now) }
+    ensures same { IfOk result (λ c. certificate_of c ≡ certificate_of certificate.now) }
     ensures memory { IfErr result (λ e. e ≡ error.OutOfMemory) }
 {
     let bytes = certificate.to_json(alloc)?;

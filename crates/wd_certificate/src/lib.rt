@@ -8,6 +8,6 @@ pub mod laws;
 mod read;
 mod write;
 
-pub use certificate::{Certificate, Kept, Node, Rule, Target, Trace};
+pub use certificate::{Certificate, Kept, Node, Rule, Target, Trace, Version};
 pub use error::CertError;
 pub use read::from_json;

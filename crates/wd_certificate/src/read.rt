@@ -1,14 +1,14 @@
 //! A certificate from its text.
 
-ghost use Rattle.std.specs.Prelude.{◌≡◌, ◌≢◌, ℕ, List, map, IfOk, IfErr};
+ghost use Rattle.std.specs.Prelude.{◌≡◌, ◌≢◌, ℕ, List, map, None, IfSome, IfOk, IfErr};
 ghost use Rattle.serde_json.specs.View.{view};
-ghost use Rattle.wd_certificate.specs.Certificates.{NodeRecord, node_of, nodes_of};
+ghost use Rattle.wd_certificate.specs.Certificates.{NodeRecord, certificate_of, node_of};
 ghost use Rattle.wd_json.specs.Json.{IsJsonOf};
-ghost use Rattle.wd_certificate.specs.Json.{certificate_json, Spells};
+ghost use Rattle.wd_certificate.specs.Json.{certificate_json, Spells, version_number};
 ghost use Rattle.wd_certificate.specs.Refusals.{HasCause};
 ghost use Rattle.wd_json.specs.declared.misread.Misread.TheVariants as misread;
 
-use crate::certificate::{Certificate, Node};
+use crate::certificate::{Certificate, Node, Version};
 use crate::error::CertError;
 use serde_json::Value;
 use std::alloc::Global;
@@ -41,23 +41,32 @@ fn value_of(alloc: Global, bytes: &[u8]) -> Result<Value, CertError>
     }
 }
 
+/// The version with a number; only 1 and 2 are read.
+fn version_of_number(number: u64) -> Option<Version>
+    ensures read { IfSome result (λ v. number ≡ version_number v) }
+    ensures unread { result ≡ None → (number ≢ 1) × (number ≢ 2) }
+{
+    match number {
+        1 => Some(Version::One),
+        2 => Some(Version::Two),
+        _ => None,
+    }
+}
+
 /// The certificate that a text spells. Members may stand in any order, with white space between
 /// them, and the last of equal ones counts, as RFC 8259 leaves open; a number is whole, from 0 to
 /// 2^64 - 1, and written in digits alone. Refused are, in this order, a text that is not JSON (501),
-/// JSON of another shape (502) and another version than 1 (503).
+/// JSON of another shape (502) and another version than 1 and 2 (503).
 pub fn from_json(alloc: Global, bytes: &[u8]) -> Result<Certificate, CertError>
-    ensures ok { IfOk result (λ c. Spells 1 (nodes_of c) bytes.now) }
+    ensures ok { IfOk result (λ c. Spells (certificate_of c) bytes.now) }
     ensures refused { IfErr result (λ e. HasCause e bytes.now) }
 {
     let value = value_of(alloc, bytes)?;
     match certificate(alloc, &value) {
-        Ok((nodes, version)) => {
-            if version == 1 {
-                Ok(Certificate { nodes })
-            } else {
-                Err(CertError::Version)
-            }
-        }
+        Ok((nodes, number)) => match version_of_number(number) {
+            Some(version) => Ok(Certificate { nodes, version }),
+            None => Err(CertError::Version),
+        },
         Err(Misread::Shape) => Err(CertError::Shape),
         Err(Misread::OutOfMemory) => Err(CertError::OutOfMemory),
     }

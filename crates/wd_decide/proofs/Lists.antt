@@ -5,7 +5,7 @@ use Rattle.std.specs.declared.alloc.Global.{Global}
 use Rattle.std.specs.declared.vec.Vec.{Vec}
 use Rattle.wd_schema.specs.Tables.{TableRule}
 use Rattle.wd_plan.specs.Plans.{PlanTree}
-use Rattle.wd_certificate.specs.Certificates.{NodeRecord, nodes_of}
+use Rattle.wd_certificate.specs.Certificates.{NodeRecord, certificate_of, nodes_of}
 use Rattle.wd_certificate.specs.declared.certificate.Certificate.{Certificate}
 use Rattle.wd_rules.specs.Lists.{final_limit, goes_by_keys}
 use Rattle.wd_analyse.specs.Analysis.{IsAnswer}
@@ -58,7 +58,7 @@ listed_are_sound schema query certificate (read, reads, v) = by v.verdict v.of_a
         let valid = valid_of reads.tables read.plan v.analysis certificate v.analysed plain in
         record {
           plain = (read, reads, (v.analysis, v.analysed, plain));
-          accepted = λ text spells. (read, reads, (nodes_of certificate, spells, valid, keys));
+          accepted = λ text spells. (read, reads, (certificate_of certificate, spells, valid, keys));
         }
     by (Depends found) is h = absurd h
     by (Unknown found) is h = absurd h

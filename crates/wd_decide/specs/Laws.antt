@@ -1,6 +1,6 @@
 -- What a reported certificate is worth, and a reported witness.
 use Rattle.std.specs.Prelude.{◌≡◌, ℕ, List, IsSome, None}
-use Rattle.wd_certificate.specs.Certificates.{nodes_of}
+use Rattle.wd_certificate.specs.Certificates.{certificate_of}
 use Rattle.wd_certificate.specs.Json as certificates
 use Rattle.wd_certificate.specs.declared.certificate.Certificate.{Certificate}
 use Rattle.wd_rules.specs.Validity.{IsValidCertificate}
@@ -21,8 +21,8 @@ use Rattle.wd_decide.specs.declared.verdict.Verdict.TheVariants.{Deterministic, 
 
 -- a certificate is valid for the plan that reads the texts, and a text that spells it is accepted, so that `verify` takes it
 pub record IsSound (schema query : List ℕ) (certificate : Certificate) : Type 0 where
-  pub valid : ForReading schema query (λ tables plan. IsValidCertificate tables plan (nodes_of certificate))
-  pub accepted : (text : List ℕ) → certificates.Spells 1 (nodes_of certificate) text → IsAccepted schema query text
+  pub valid : ForReading schema query (λ tables plan. IsValidCertificate tables plan (certificate_of certificate))
+  pub accepted : (text : List ℕ) → certificates.Spells (certificate_of certificate) text → IsAccepted schema query text
 
 -- each certificate that is reported is so
 abbrev pub ReportedAreSound : Type 0

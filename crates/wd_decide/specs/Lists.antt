@@ -3,7 +3,7 @@ use Rattle.std.specs.Prelude.{◌≡◌, ℕ, true, List, Option, Some, None}
 use Rattle.std.specs.declared.alloc.Global.{Global}
 use Rattle.std.specs.declared.vec.Vec.{Vec}
 use Rattle.wd_schema.specs.Tables.{TableRule}
-use Rattle.wd_certificate.specs.Certificates.{nodes_of}
+use Rattle.wd_certificate.specs.Certificates.{certificate_of, nodes_of}
 use Rattle.wd_certificate.specs.Json.{Spells}
 use Rattle.wd_certificate.specs.declared.certificate.Certificate.{Certificate}
 use Rattle.wd_rules.specs.Lists.{goes_by_keys}
@@ -67,7 +67,7 @@ IsListVerdict schema query listed = ForAnswer schema query (λ tables read. IsLi
 -- a certificate that is reported is a verdict's, and a text that spells it is accepted for the list, so that `verify_list` takes it
 pub record IsListSound (schema query : List ℕ) (certificate : Certificate) : Type 0 where
   pub plain : IsVerdict schema query (Deterministic certificate)
-  pub accepted : (text : List ℕ) → Spells 1 (nodes_of certificate) text → IsListAccepted schema query text
+  pub accepted : (text : List ℕ) → Spells (certificate_of certificate) text → IsListAccepted schema query text
 
 abbrev pub ListedAreSound : Type 0
 ListedAreSound = (schema query : List ℕ) (certificate : Certificate) → IsListVerdict schema query (list.Listed certificate) → IsListSound schema query certificate

@@ -7,15 +7,15 @@ use Rattle.wd_plan.specs.declared.plan.Outcome.{Outcome}
 use Rattle.wd_plan.specs.Choices.{AtRows, AreOrderings, AreLawful}
 use Rattle.wd_plan.specs.Expressions.{Expression}
 use Rattle.wd_plan.specs.Faults.{and_then}
-use Rattle.wd_plan.specs.Outcomes.{RowsOrFault, distinct, filter_outcome, map_outcome, ordering_at, outcome}
-use Rattle.wd_plan.specs.Plans.{PlanTree, Scan, Join, Filter, Map, Window, Distinct, Limit, LimitRule, WindowRule, ordering_count}
+use Rattle.wd_plan.specs.Outcomes.{RowsOrFault, distinct, filter_outcome, map_outcome, ordering_at, outcome, outcome_of}
+use Rattle.wd_plan.specs.Plans.{PlanTree, Scan, Join, Filter, Map, Group, Window, Distinct, Limit, GroupRule, LimitRule, WindowRule, ordering_count}
 use Rattle.wd_plan.specs.Sorting.{IsOrdering, limit_class}
 use Rattle.wd_join.specs.Joins.{has_more_rows}
 use Rattle.wd_join.specs.declared.error.StepError.{StepError}
 use Rattle.wd_join.specs.declared.error.StepError.TheVariants as step
 use Rattle.wd_eval.specs.Errors.{error_of}
 use Rattle.wd_eval.specs.Steps.{has_large_step, is_large}
-use Rattle.wd_nodes.specs.Produced.{most_rows, produced_of, IsSmall, IsLarge, join_over}
+use Rattle.wd_nodes.specs.Produced.{most_rows, produced_of, IsSmall, IsLarge, group_over, join_over}
 use Rattle.wd_eval.specs.Nodes.{IsEvaluated, IsStopped, cut_over, IsCut}
 use Rattle.wd_eval.specs.Windows.{IsUnserved, IsExtended, IsLeast, IsWrong, IsWrongIn, window_over}
 use Rattle.wd_eval.specs.Wrong.{IsWrongFrom}
@@ -101,6 +101,30 @@ module _ (tables instance : Instance) (choice : List (List ℕ)) (first : ℕ) w
   distinct_stopped input (NotValid p) h = h
   distinct_stopped input TooManyRows h = or_left (has_large_step input instance rest) (is_large (Distinct input) instance rest) h
   distinct_stopped input OutOfMemory h = tt
+
+  -- ---- Group
+
+  module _ (rule : GroupRule) (input : PlanTree) (below : Evaluated) (b : IsEvaluated input tables instance choice first below) where
+    group_is : group_over rule (produced_of tables below.outcome) ≡ outcome (Group rule input) instance rest
+    group_is = ap (group_over rule) b.is
+
+    pub group_done : (o : Outcome) → IsSmall (group_over rule (produced_of tables below.outcome)) (outcome_of o) → IsEvaluated (Group rule input) tables instance choice first (record { outcome = Made o; next = below.next })
+    group_done o s = record {
+      is = s.is ∙ group_is;
+      next = b.next;
+      served = record { present = b.served.present; lawful = b.served.lawful };
+      small = ap (has_more_rows most_rows) (sym group_is) ∙ s.small;
+      each = neither (has_large_step input instance rest) (is_large (Group rule input) instance rest) b.each (ap (has_more_rows most_rows) (sym group_is) ∙ s.small);
+    }
+
+    pub group_stopped : (e : StepError) → IsLarge (group_over rule (produced_of tables below.outcome)) e → IsStopped (Group rule input) instance choice first (error_of e)
+    group_stopped step.TooManyRows h = or_right (has_large_step input instance rest) (is_large (Group rule input) instance rest) (ap (has_more_rows most_rows) (sym group_is) ∙ h)
+    group_stopped step.OutOfMemory h = tt
+
+  pub group_stopped_below : (rule : GroupRule) (input : PlanTree) (e : EvalError) → IsStopped input instance choice first e → IsStopped (Group rule input) instance choice first e
+  group_stopped_below rule input (NotValid p) h = h
+  group_stopped_below rule input TooManyRows h = or_left (has_large_step input instance rest) (is_large (Group rule input) instance rest) h
+  group_stopped_below rule input OutOfMemory h = tt
 
   -- ---- Window
 

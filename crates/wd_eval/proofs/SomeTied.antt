@@ -4,7 +4,7 @@ use Rattle.std.proofs.Math.Seq.{drop-append_seam, get_or-append_seam}
 use Rattle.std.proofs.lemmas.List.{get_or-append-add}
 use Rattle.wd_value.specs.Rows.{Instance}
 use Rattle.wd_plan.specs.Outcomes.{RowsOrFault, class_at, ordering_at, outcome}
-use Rattle.wd_plan.specs.Plans.{ClassRule, PlanTree, Scan, Join, Filter, Map, Window, Distinct, Limit, ordering_count}
+use Rattle.wd_plan.specs.Plans.{ClassRule, PlanTree, Scan, Join, Filter, Map, Group, Window, Distinct, Limit, ordering_count}
 use Rattle.wd_plan.specs.Sorting.{limit_class}
 use Rattle.wd_plan.proofs.ChoiceLaws.{outcome-append}
 use Rattle.wd_partition.specs.Columns.{given_positions, sort_columns}
@@ -53,6 +53,7 @@ module _ (instance : Instance) (flipped : Option ℕ) where
       )
   some_tied (Filter condition input) first = some_tied input first
   some_tied (Map outputs input) first = some_tied input first
+  some_tied (Group g input) first = some_tied input first
   some_tied (Window w input) first =
       let n = ordering_count input in
       let b = some_tied input first in

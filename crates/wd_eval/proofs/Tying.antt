@@ -7,7 +7,7 @@ use Rattle.wd_plan.specs.Choices.{AreLawful}
 use Rattle.wd_plan.specs.Expressions.{Expression}
 use Rattle.wd_plan.specs.Faults.{and_then}
 use Rattle.wd_plan.specs.Outcomes.{RowsOrFault, class_at, distinct, filter_outcome, map_outcome, ordering_at, outcome, outcome_of}
-use Rattle.wd_plan.specs.Plans.{ClassRule, PlanTree, Scan, Join, Filter, Map, Window, Distinct, Limit, LimitRule, WindowRule, ordering_count}
+use Rattle.wd_plan.specs.Plans.{ClassRule, PlanTree, Scan, Join, Filter, Map, Group, Window, Distinct, Limit, GroupRule, LimitRule, WindowRule, ordering_count}
 use Rattle.wd_plan.specs.Sorting.{limit_class}
 use Rattle.wd_plan.proofs.ChoiceLaws.{AreLawful-append, outcome-append}
 use Rattle.wd_partition.specs.Columns.{given_positions, sort_columns}
@@ -16,7 +16,7 @@ use Rattle.wd_join.specs.declared.error.StepError.{StepError}
 use Rattle.wd_join.specs.declared.error.StepError.TheVariants as step
 use Rattle.wd_eval.specs.Errors.{error_of}
 use Rattle.wd_eval.specs.Judged.{IsOutcome}
-use Rattle.wd_nodes.specs.Produced.{produced_of, IsLarge, IsSmall, join_over, most_rows}
+use Rattle.wd_nodes.specs.Produced.{produced_of, IsLarge, IsSmall, group_over, join_over, most_rows}
 use Rattle.wd_eval.specs.Nodes.{IsEvaluated, cut_over}
 use Rattle.wd_eval.specs.Windows.{window_over}
 use Rattle.wd_eval.specs.Steps.{has_large_step, is_large}
@@ -27,7 +27,7 @@ use Rattle.wd_eval.specs.declared.error.EvalError.TheVariants.{NotValid, TooMany
 use Rattle.wd_nodes.specs.declared.produced.Produced.{Produced}
 use Rattle.wd_nodes.specs.declared.produced.Produced.TheVariants.{Made}
 use Rattle.wd_eval.specs.declared.node.Evaluated.{Evaluated}
-use Rattle.wd_eval.proofs.Nodes.{or_left, or_right, scan_done, filter_done, map_done, distinct_done, window_done, limit_done, join_done}
+use Rattle.wd_eval.proofs.Nodes.{or_left, or_right, scan_done, filter_done, map_done, group_done, distinct_done, window_done, limit_done, join_done}
 use Rattle.wd_eval.proofs.Stable.{one_stable_sort}
 
 -- ---- the sorted ordering is the only one
@@ -55,6 +55,7 @@ module _ (instance : Instance) (flipped : Option ℕ) where
       λ i. join_over condition (on_left i) (on_right i)
   one_outcome (Filter condition input) first a b h g s t = ap (λ o. and_then o (filter_outcome condition)) (one_outcome input first a b h g s t)
   one_outcome (Map outputs input) first a b h g s t = ap (λ o. and_then o (map_outcome outputs)) (one_outcome input first a b h g s t)
+  one_outcome (Group rule input) first a b h g s t = ap (group_over rule) (one_outcome input first a b h g s t)
   one_outcome (Window w input) first a b h g s t =
       let n = ordering_count input in
       let m = length w.classes in
@@ -87,6 +88,7 @@ module _ (instance : Instance) (flipped : Option ℕ) where
       )
   tied_append (Filter condition input) first choice more h s = tied_append input first choice more h s
   tied_append (Map outputs input) first choice more h s = tied_append input first choice more h s
+  tied_append (Group rule input) first choice more h s = tied_append input first choice more h s
   tied_append (Window w input) first choice more h s =
       let n = ordering_count input in
       let below = outcome-append input instance choice more (omega arith) in (
@@ -117,6 +119,7 @@ large-append instance (Join condition left right) choice more h =
     λ i. (large-append instance left choice more (omega arith) i || rest i) || here i
 large-append instance (Filter condition input) choice more h = λ i. large-append instance input choice more h i || has_more_rows most_rows (outcome-append (Filter condition input) instance choice more h i)
 large-append instance (Map outputs input) choice more h = λ i. large-append instance input choice more h i || has_more_rows most_rows (outcome-append (Map outputs input) instance choice more h i)
+large-append instance (Group rule input) choice more h = λ i. large-append instance input choice more h i || has_more_rows most_rows (outcome-append (Group rule input) instance choice more h i)
 large-append instance (Window w input) choice more h = λ i. large-append instance input choice more (omega arith) i || has_more_rows most_rows (outcome-append (Window w input) instance choice more h i)
 large-append instance (Distinct input) choice more h = λ i. large-append instance input choice more h i || has_more_rows most_rows (outcome-append (Distinct input) instance choice more h i)
 large-append instance (Limit limit input) choice more h = λ i. large-append instance input choice more (omega arith) i || has_more_rows most_rows (outcome-append (Limit limit input) instance choice more h i)
@@ -196,6 +199,29 @@ module _ (tables instance : Instance) (flipped : Option ℕ) (old : List (List �
   distinct_untied input (NotValid p) h = h
   distinct_untied input TooManyRows h = λ choice long s. or_left (has_large_step input instance choice) (is_large (Distinct input) instance choice) (h choice long s)
   distinct_untied input OutOfMemory h = tt
+
+  pub group_untied_below : (rule : GroupRule) (input : PlanTree) (e : EvalError) → IsUntied input instance flipped (length old) e → IsUntied (Group rule input) instance flipped (length old) e
+  group_untied_below rule input (NotValid p) h = h
+  group_untied_below rule input TooManyRows h = λ choice long s. or_left (has_large_step input instance choice) (is_large (Group rule input) instance choice) (h choice long s)
+  group_untied_below rule input OutOfMemory h = tt
+
+  module _ (rule : GroupRule) (input : PlanTree) (new : List (List ℕ)) (below : Produced) (b : IsTied input tables instance flipped old new below) where
+    pub group_tied : (o : Outcome) → IsSmall (group_over rule (produced_of tables below)) (outcome_of o) → IsTied (Group rule input) tables instance flipped old new (Made o)
+    group_tied o s = record {
+      own = b.own;
+      grown = b.grown;
+      evaluated = group_done tables instance new (length old) rule input (record { outcome = below; next = length new }) b.evaluated o s;
+      tied = b.tied;
+    }
+
+    large_group : has_more_rows most_rows (group_over rule (produced_of tables below)) ≡ true → (choice : List (List ℕ)) → ordering_count input ≤ length choice → AreTied input instance flipped (length old) choice → is_large (Group rule input) instance choice ≡ true
+    large_group h choice long s =
+        let same : outcome input instance choice ≡ outcome input instance (drop (length old) new) = one_outcome instance flipped input (length old) choice (drop (length old) new) long b.evaluated.served.present s b.tied in
+        ap (λ r. has_more_rows most_rows (group_over rule r)) (same ∙ sym b.evaluated.is) ∙ h
+
+    pub group_untied : (e : StepError) → IsLarge (group_over rule (produced_of tables below)) e → IsUntied (Group rule input) instance flipped (length old) (error_of e)
+    group_untied step.TooManyRows h = λ choice long s. or_right (has_large_step input instance choice) (is_large (Group rule input) instance choice) (large_group h choice long s)
+    group_untied step.OutOfMemory h = tt
 
   pub window_untied : (w : WindowRule) (input : PlanTree) (e : EvalError) → IsUntied input instance flipped (length old) e → IsUntied (Window w input) instance flipped (length old) e
   window_untied w input (NotValid p) h = h

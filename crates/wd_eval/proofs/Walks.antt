@@ -9,14 +9,14 @@ use Rattle.wd_value.specs.Rows.{Instance, table_at}
 use Rattle.wd_plan.specs.declared.plan.Outcome.{Outcome}
 use Rattle.wd_plan.specs.Expressions.{Expression}
 use Rattle.wd_plan.specs.Faults.{and_then}
-use Rattle.wd_plan.specs.Outcomes.{RowsOrFault, distinct, filter_outcome, map_outcome, outcome}
-use Rattle.wd_plan.specs.Plans.{PlanTree, Scan, Join, Filter, Map, Window, Distinct, Limit, LimitRule, WindowRule}
+use Rattle.wd_plan.specs.Outcomes.{RowsOrFault, distinct, filter_outcome, map_outcome, outcome, outcome_of}
+use Rattle.wd_plan.specs.Plans.{PlanTree, Scan, Join, Filter, Map, Group, Window, Distinct, Limit, GroupRule, LimitRule, WindowRule}
 use Rattle.wd_join.specs.Joins.{has_more_rows}
 use Rattle.wd_join.specs.declared.error.StepError.{StepError}
 use Rattle.wd_join.specs.declared.error.StepError.TheVariants as step
 use Rattle.wd_eval.specs.Errors.{error_of}
 use Rattle.wd_eval.specs.Windows.{AreFew, orderings_of}
-use Rattle.wd_nodes.specs.Produced.{produced_of, IsSmall, IsLarge, join_over, most_rows}
+use Rattle.wd_nodes.specs.Produced.{produced_of, IsSmall, IsLarge, group_over, join_over, most_rows}
 use Rattle.wd_eval.specs.Nodes.{IsStopped}
 use Rattle.wd_eval.specs.Ties.{IsUntied}
 use Rattle.wd_eval.specs.Walks.{IsAt, IsHalted, IsLimitStep, IsWalked, IsWindowStep}
@@ -27,8 +27,8 @@ use Rattle.wd_nodes.specs.declared.produced.Produced.TheVariants.{Made}
 use Rattle.wd_eval.specs.declared.node.Evaluated.{Evaluated}
 use Rattle.wd_eval.specs.declared.orderings.Orderings.{Orderings}
 use Rattle.wd_eval.specs.declared.orderings.Orderings.TheVariants.{Chosen, Sorted}
-use Rattle.wd_eval.proofs.Nodes.{scan_done, scan_stopped, filter_done, map_done, distinct_done, window_done, window_stopped, limit_done, limit_stopped, join_done, join_stopped, join_stopped_right}
-use Rattle.wd_eval.proofs.Tying.{scan_tied, filter_tied, map_tied, distinct_tied, window_tied, limit_tied, join_tied, join_untied, join_untied_right, memory_untied}
+use Rattle.wd_eval.proofs.Nodes.{scan_done, scan_stopped, filter_done, map_done, group_done, group_stopped, distinct_done, window_done, window_stopped, limit_done, limit_stopped, join_done, join_stopped, join_stopped_right}
+use Rattle.wd_eval.proofs.Tying.{scan_tied, filter_tied, map_tied, group_tied, group_untied, distinct_tied, window_tied, limit_tied, join_tied, join_untied, join_untied_right, memory_untied}
 
 few_from : (r : RowsOrFault) → has_more_rows most_rows r ≡ false → AreFew (2 ^ 32 - 1) r
 few_from (Ok rows) h = let few = ltb-false most_rows (length rows) h in omega arith
@@ -80,6 +80,10 @@ module _ (tables instance : Instance) (first : ℕ) (old new : List (Vec ℕ Glo
   few_below (Chosen choice) plan e b = subst (AreFew (2 ^ 32 - 1)) (sym b.is) (few_from (outcome plan instance (drop first (orderings_of choice.now))) b.small)
   few_below (Sorted flipped) plan e b = subst (AreFew (2 ^ 32 - 1)) (sym b.1.evaluated.is) (few_from (outcome plan instance (drop (length (orderings_of old)) (orderings_of new))) b.1.evaluated.small)
 
+  pub small_below : (orderings : Orderings) (plan : PlanTree) (e : Evaluated) → IsWalked plan tables instance orderings first old new e → has_more_rows most_rows (produced_of tables e.outcome) ≡ false
+  small_below (Chosen choice) plan e b = ap (has_more_rows most_rows) b.is ∙ b.small
+  small_below (Sorted flipped) plan e b = ap (has_more_rows most_rows) b.1.evaluated.is ∙ b.1.evaluated.small
+
 module _ (tables instance : Instance) (first : ℕ) (old : List (Vec ℕ Global)) where
   -- a node stops where one below it does
   pub halted_below : (orderings : Orderings) (plan above : PlanTree) (e : EvalError) → IsAt orderings first old
@@ -121,6 +125,22 @@ module _ (tables instance : Instance) (first : ℕ) (old : List (Vec ℕ Global)
         → IsWalked (Distinct input) tables instance orderings first old new (record { outcome = o; next = below.next })
     distinct_walked (Chosen choice) b is = distinct_done tables instance (orderings_of choice.now) first input below b o is
     distinct_walked (Sorted flipped) b is = (b.0, distinct_tied tables instance flipped (orderings_of old) input (orderings_of new) below.outcome b.1 o is)
+
+  -- ---- Group
+
+  module _ (rule : GroupRule) (input : PlanTree) (new : List (Vec ℕ Global)) (below : Evaluated) where
+    pub group_walked : (orderings : Orderings) (o : Outcome) → IsWalked input tables instance orderings first old new below → IsSmall (group_over rule (produced_of tables below.outcome)) (outcome_of o)
+        → IsWalked (Group rule input) tables instance orderings first old new (record { outcome = Made o; next = below.next })
+    group_walked (Chosen choice) o b s = group_done tables instance (orderings_of choice.now) first rule input below b o s
+    group_walked (Sorted flipped) o b s = (b.0, group_tied tables instance flipped (orderings_of old) rule input (orderings_of new) below.outcome b.1 o s)
+
+    pub group_halted : (orderings : Orderings) (e : StepError) → IsAt orderings first old → IsWalked input tables instance orderings first old new below
+        → IsLarge (group_over rule (produced_of tables below.outcome)) e → IsHalted (Group rule input) instance orderings first (error_of e)
+    group_halted (Chosen choice) e at b h = from_stopped (Group rule input) instance first choice (error_of e) (group_stopped tables instance (orderings_of choice.now) first rule input below b e h)
+    group_halted (Sorted flipped) e at b h =
+        from_untied (Group rule input) instance first flipped (error_of e)
+        (subst (λ (n : ℕ). IsUntied (Group rule input) instance flipped n (error_of e)) (sym (behind_made old first at))
+        (group_untied tables instance flipped (orderings_of old) rule input (orderings_of new) below.outcome b.1 e h))
 
   -- ---- Window and Limit
 

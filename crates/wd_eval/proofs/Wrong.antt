@@ -5,7 +5,7 @@ use Rattle.std.proofs.lemmas.List.{get_or-drop}
 use Rattle.wd_value.specs.Rows.{Instance}
 use Rattle.wd_plan.specs.Choices.{AreLawful, AreOrderings, AtRows}
 use Rattle.wd_plan.specs.Outcomes.{outcome}
-use Rattle.wd_plan.specs.Plans.{PlanTree, Scan, Join, Filter, Map, Window, Distinct, Limit, ordering_count}
+use Rattle.wd_plan.specs.Plans.{PlanTree, Scan, Join, Filter, Map, Group, Window, Distinct, Limit, ordering_count}
 use Rattle.wd_plan.specs.Sorting.{IsOrdering, limit_class}
 use Rattle.wd_eval.specs.Windows.{IsLeast, IsWindowServed}
 use Rattle.wd_eval.proofs.Serving.{class_served}
@@ -24,6 +24,7 @@ module _ (instance : Instance) (choice : List (List ℕ)) (place : ℕ) where
   wrong_within (Join condition left right) first (inr w) = let range = wrong_within right (first + ordering_count left) w in let a = range.0 in let b = range.1 in (omega arith, omega arith)
   wrong_within (Filter condition input) first w = wrong_within input first w
   wrong_within (Map outputs input) first w = wrong_within input first w
+  wrong_within (Group g input) first w = wrong_within input first w
   wrong_within (Window rule input) first (inl w) = let range = wrong_within input first w in let a = range.0 in let b = range.1 in (a, omega arith)
   wrong_within (Window rule input) first (inr w) = let at = w.wrong.0 in let small = w.within in (omega arith, omega arith)
   wrong_within (Distinct input) first w = wrong_within input first w
@@ -40,6 +41,7 @@ module _ (instance : Instance) (choice : List (List ℕ)) (place : ℕ) where
       none_wrong right (first + ordering_count left) (omega arith) (subst (AreLawful right instance) (drop-drop (ordering_count left) first choice) s.1) w
   none_wrong (Filter condition input) first h s w = none_wrong input first h s w
   none_wrong (Map outputs input) first h s w = none_wrong input first h s w
+  none_wrong (Group g input) first h s w = none_wrong input first h s w
   none_wrong (Window rule input) first h s (inl w) = none_wrong input first (omega arith) s.0 w
   none_wrong (Window rule input) first h s (inr w) = w.wrong.1 (class_served rule (outcome input instance (drop first choice)) choice (first + ordering_count input) w.number served w.within)
     where

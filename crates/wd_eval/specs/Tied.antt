@@ -5,7 +5,7 @@ use Rattle.wd_sort.specs.Sorting.{IsStableSortOf}
 use Rattle.wd_plan.specs.declared.plan.Choice.{Choice}
 use Rattle.wd_plan.specs.Choices.{AtRows, IsValidChoice}
 use Rattle.wd_plan.specs.Outcomes.{RowsOrFault, class_at, ordering_at, outcome}
-use Rattle.wd_plan.specs.Plans.{ClassRule, PlanTree, Scan, Join, Filter, Map, Window, Distinct, Limit, ordering_count}
+use Rattle.wd_plan.specs.Plans.{ClassRule, PlanTree, Scan, Join, Filter, Map, Group, Window, Distinct, Limit, ordering_count}
 use Rattle.wd_plan.specs.Sorting.{limit_class}
 use Rattle.wd_partition.specs.Columns.{given_positions, sort_columns}
 use Rattle.wd_eval.specs.Windows.{orderings_of}
@@ -35,6 +35,7 @@ AreTied (Join condition left right) instance flipped first choice =
     AreTied left instance flipped first choice × AreTied right instance flipped (first + ordering_count left) (drop (ordering_count left) choice)
 AreTied (Filter condition input) instance flipped first choice = AreTied input instance flipped first choice
 AreTied (Map outputs input) instance flipped first choice = AreTied input instance flipped first choice
+AreTied (Group rule input) instance flipped first choice = AreTied input instance flipped first choice
 AreTied (Window w input) instance flipped first choice =
     AreTied input instance flipped first choice
     × ((n : ℕ) → n < length w.classes → IsSortedOver (class_at w n) (is_flipped flipped (first + ordering_count input + n)) (outcome input instance choice) (ordering_at choice (ordering_count input + n)))

@@ -2,7 +2,7 @@
 use Rattle.std.specs.Prelude.{ℕ, ◌+◌, ◌<◌, ◌≤◌, List, drop, length, ◌⊎◌}
 use Rattle.wd_value.specs.Rows.{Instance}
 use Rattle.wd_plan.specs.Outcomes.{outcome}
-use Rattle.wd_plan.specs.Plans.{PlanTree, Scan, Join, Filter, Map, Window, Distinct, Limit, ordering_count}
+use Rattle.wd_plan.specs.Plans.{PlanTree, Scan, Join, Filter, Map, Group, Window, Distinct, Limit, ordering_count}
 use Rattle.wd_plan.specs.Sorting.{limit_class}
 use Rattle.wd_eval.specs.Windows.{IsWrong, IsWrongIn}
 
@@ -13,6 +13,7 @@ IsWrongFrom (Scan table columns) instance choice first place = ⊥
 IsWrongFrom (Join condition left right) instance choice first place = IsWrongFrom left instance choice first place ⊎ IsWrongFrom right instance choice (first + ordering_count left) place
 IsWrongFrom (Filter condition input) instance choice first place = IsWrongFrom input instance choice first place
 IsWrongFrom (Map outputs input) instance choice first place = IsWrongFrom input instance choice first place
+IsWrongFrom (Group rule input) instance choice first place = IsWrongFrom input instance choice first place
 IsWrongFrom (Window w input) instance choice first place =
     IsWrongFrom input instance choice first place ⊎ IsWrongIn w (outcome input instance (drop first choice)) choice (first + ordering_count input) place
 IsWrongFrom (Distinct input) instance choice first place = IsWrongFrom input instance choice first place

@@ -11,7 +11,7 @@ use crate::orderings::Orderings;
 use crate::window::extended;
 use std::alloc::Global;
 use wd_columns::Columns;
-use wd_nodes::{Produced, distinct, filtered, joined, mapped, scanned};
+use wd_nodes::{Produced, distinct, filtered, grouped, joined, mapped, scanned};
 use wd_plan::Plan;
 use wd_value::Row;
 
@@ -76,6 +76,14 @@ pub(crate) fn evaluate(
             let outcome = mapped(alloc, tables, outputs, below.outcome, room)?;
             Ok(Evaluated {
                 outcome,
+                next: below.next,
+            })
+        }
+        Plan::Group { input, group } => {
+            let below = evaluate(alloc, input, tables, handed, orderings, first, made, 0)?;
+            let outcome = grouped(alloc, tables, group, below.outcome)?;
+            Ok(Evaluated {
+                outcome: Produced::Made(outcome),
                 next: below.next,
             })
         }

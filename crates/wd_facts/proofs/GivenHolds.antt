@@ -9,17 +9,18 @@ use Rattle.wd_schema.specs.Tables.{TableRule}
 use Rattle.wd_plan.specs.Choices.{AreLawful, AreOrderings, AtRows}
 use Rattle.wd_plan.specs.Facts.{HasWidth, IsNotNullIn}
 use Rattle.wd_plan.specs.Faults.{and_then}
-use Rattle.wd_plan.specs.Fits.{AreBelow, are_outputs, fits, has_table, is_condition, is_join, is_limit, is_narrow, is_window, kinds_of, width}
-use Rattle.wd_plan.specs.Outcomes.{RowsOrFault, cut, distinct, filter_outcome, join_outcome, map_outcome, ordering_at, outcome, pairs, window_outcome}
-use Rattle.wd_plan.specs.Plans.{WindowRule, PlanTree, Scan, Join, Filter, Map, Window, Distinct, Limit, ordering_count}
+use Rattle.wd_plan.specs.Fits.{AreBelow, are_outputs, fits, has_table, is_condition, is_group, is_join, is_limit, is_narrow, is_window, kinds_of, width}
+use Rattle.wd_plan.specs.Outcomes.{RowsOrFault, cut, distinct, filter_outcome, group_outcome, join_outcome, map_outcome, ordering_at, outcome, pairs, window_outcome}
+use Rattle.wd_plan.specs.Plans.{GroupRule, WindowRule, PlanTree, Scan, Join, Filter, Map, Group, Window, Distinct, Limit, has, ordering_count}
 use Rattle.wd_plan.specs.Sorting.{IsOrdering, limit_class}
 use Rattle.wd_plan.specs.declared.window.Call.{Call}
-use Rattle.wd_plan.proofs.Ranges.{IsSound, calls_sound, has_the_table, kinds_below, table_columns}
+use Rattle.wd_plan.proofs.Ranges.{IsSound, calls_sound, group_parts, has_the_table, kinds_below, table_columns}
 use Rattle.wd_facts.specs.declared.facts.Member.TheVariants as member
 use Rattle.wd_facts.specs.Facts.{Fact, Holds, beside, unpaired}
-use Rattle.wd_facts.specs.Given.{calls_facts, is_call_not_null, is_not_null, nullable_keys}
+use Rattle.wd_facts.specs.Given.{calls_facts, facts_of_group, group_key_facts, is_call_not_null, is_group_call_not_null, is_not_null, nullable_keys}
 use Rattle.wd_facts.specs.Laws.{AreKept, ChildrenKeep, GivenFactsHold, GivenHold, InPairs, InRows, Known, KnownHolds}
 use Rattle.wd_facts.proofs.Embeds.{Embeds-cut, Embeds-distinct, hold_moved, same_facts}
+use Rattle.wd_facts.proofs.Groupings.{group_call_not_null, group_kept_hold, group_key_holds, group_not_null, group_wide}
 use Rattle.wd_facts.proofs.Lists.{all_append}
 use Rattle.wd_facts.proofs.Nodes.{given_among, given_distinct, given_filter, given_join, given_map, given_scan, join_paired, joined, known_distinct, known_filter, known_join, known_limit, known_map, known_scan, pairing}
 use Rattle.wd_facts.proofs.Windows.{IsWell, call_not_null, calls_hold, input_keys, input_not_null, out_is, shown_carries, shown_rows, shown_wide}
@@ -83,6 +84,21 @@ all_well : (tables : List TableRule) (input : PlanTree) (f : fits tables input �
 all_well tables input f w rows os wide [] a = tt
 all_well tables input f w rows os wide (call ∷ calls) a = (record { names = a.0.names; in_partition = a.0.in_partition; in_order = a.0.in_order }, all_well tables input f w rows os wide calls a.1)
 
+-- ---- Groups
+
+module _ (tables : List TableRule) (g : GroupRule) (input : PlanTree) (xs ys : List RowValues) (known : Known tables input xs) (is : group_outcome g xs ≡ Ok ys) where
+  grouped_not_null : (c : ℕ) (b : Bool) → nat_lt c g.columns ≡ b → cond b (is_not_null tables input c && list_all (λ set. has set c) g.sets) (is_group_call_not_null (slice_get g.calls (c - g.columns))) ≡ true → IsNotNullIn ys c
+  grouped_not_null c true h e =
+      let parts = and_parts (is_not_null tables input c) (list_all (λ set. has set c) g.sets) e in
+      group_not_null g xs ys is c (ltb-true c g.columns h) (known.not_null c parts.0) parts.1
+  grouped_not_null c false h e =
+      let f = ltb-false c g.columns h in
+      let d : g.columns + (c - g.columns) ≡ c = omega arith in
+      subst (IsNotNullIn ys) d (group_call_not_null g xs ys is (c - g.columns) e)
+
+  known_group : Known tables (Group g input) ys
+  known_group = record { wide = group_wide g xs ys is; not_null = λ c e. grouped_not_null c (nat_lt c g.columns) refl e; keys = tt; range = tt }
+
 -- ---- what plan and schema say
 
 module _ (tables : List TableRule) where
@@ -99,6 +115,10 @@ module _ (tables : List TableRule) where
       at_step (outcome input instance choice) (map_outcome outputs) (Known tables input) (Known tables (Map outputs input))
       (known input instance choice (and_parts (fits tables input) (are_outputs (kinds_of tables input) outputs) f).0 l m)
       (λ xs ys e k is. known_map tables outputs input xs ys k is)
+  known (Group g input) instance choice f l m =
+      at_step (outcome input instance choice) (group_outcome g) (Known tables input) (Known tables (Group g input))
+      (known input instance choice (and_parts (fits tables input) (is_group (kinds_of tables input) (width input) g) f).0 l m)
+      (λ xs ys e k is. known_group tables g input xs ys k is)
   known (Distinct input) instance choice f l m =
       at_step (outcome input instance choice) (λ rows. Ok (distinct rows)) (Known tables input) (Known tables (Distinct input))
       (known input instance choice f l m)
@@ -150,6 +170,13 @@ module _ (tables : List TableRule) where
       (both input instance choice kept (and_parts (fits tables input) (are_outputs (kinds_of tables input) outputs) f).0 l m a)
       (λ xs e k. at_end (outcome plan instance choice) (λ outs. InRows tables plan kept more (beside outs xs)) (λ ys is.
       given_map tables outputs input xs ys k.0 (ap (λ o. and_then o (map_outcome outputs)) (sym e) ∙ is) kept more k.1))
+  given_hold (Group g input) instance choice kept more f l m a =
+      let fitting = and_parts (fits tables input) (is_group (kinds_of tables input) (width input) g) f in
+      at_step (outcome input instance choice) (group_outcome g) (Both input kept) (InRows tables (Group g input) kept more)
+      (both input instance choice kept fitting.0 l m a)
+      (λ xs ys e k is.
+      all_append (Holds (unpaired ys)) (group_key_facts g) (facts_of_group g kept) (group_key_holds g xs ys is)
+      (group_kept_hold g xs ys is (group_parts (kinds_of tables input) (width input) g fitting.1).each kept k.1.hold))
   given_hold (Distinct input) instance choice kept more f l m a =
       at_step (outcome input instance choice) (λ rows. Ok (distinct rows)) (Both input kept) (InRows tables (Distinct input) kept more)
       (both input instance choice kept f l m a)

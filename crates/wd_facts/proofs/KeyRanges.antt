@@ -5,7 +5,7 @@ use Rattle.std.proofs.lemmas.Bool.{and_parts, lt-ltb, ltb-true}
 use Rattle.wd_schema.specs.Tables.{KeyRule, TableRule}
 use Rattle.wd_plan.specs.Expressions.{Expression}
 use Rattle.wd_plan.specs.Fits.{AreBelow, fits, has_table, is_condition, is_limit, is_narrow, is_window, kinds_of, width}
-use Rattle.wd_plan.specs.Plans.{PlanTree, Scan, Join, Filter, Map, Window, Distinct, Limit}
+use Rattle.wd_plan.specs.Plans.{PlanTree, Scan, Join, Filter, Map, Group, Window, Distinct, Limit}
 use Rattle.wd_plan.proofs.Ranges.{has_the_table, table_columns}
 use Rattle.wd_facts.specs.Given.{both_copied, copied_keys, copies, copy_from, gives_row, if_copied, is_side, names_columns, null_keys, nullable_keys, side_of, table_rule}
 
@@ -91,6 +91,7 @@ nullable_keys_below tables (Scan table columns) f = let has = (and_parts (is_nar
 nullable_keys_below tables (Join condition left right) f = tt
 nullable_keys_below tables (Filter condition input) f = nullable_keys_below tables input (and_parts (fits tables input) (is_condition (kinds_of tables input) condition) f).0
 nullable_keys_below tables (Map outputs input) f = copied_keys_below outputs (nullable_keys tables input)
+nullable_keys_below tables (Group g input) f = tt
 nullable_keys_below tables (Window w input) f = all_wider (width input) (width input + length w.calls) (omega arith) (nullable_keys tables input) (nullable_keys_below tables input (and_parts (fits tables input) (is_window (kinds_of tables input) (width input) w) f).0)
 nullable_keys_below tables (Distinct input) f = nullable_keys_below tables input f
 nullable_keys_below tables (Limit limit input) f = nullable_keys_below tables input (and_parts (fits tables input) (is_limit (kinds_of tables input) limit) f).0

@@ -8,6 +8,8 @@ pub mod Outputs
 pub mod CallFacts
 pub mod Windows
 pub mod Nodes
+pub mod Groupings
+pub mod GroupsAdded
 pub mod GivenHolds
 pub mod Appended
 pub mod UsedBelow

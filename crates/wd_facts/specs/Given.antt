@@ -19,13 +19,13 @@ use Rattle.wd_plan.specs.declared.window.Frame.{Frame}
 use Rattle.wd_plan.specs.Expressions.{Expression, Column, Literal, Negate, Arithmetic, Compare, Not, And, Or, IsNull, IsNotNull, Case, is_null}
 use Rattle.wd_plan.specs.Fits.{width}
 use Rattle.wd_plan.specs.Frames.{is_stable}
-use Rattle.wd_plan.specs.Functions.{name_of, signature}
+use Rattle.wd_plan.specs.Functions.{name_of, name_of_aggregate, signature}
 use Rattle.wd_plan.specs.Outcomes.{class_at}
-use Rattle.wd_plan.specs.Plans.{ClassRule, WindowRule, PlanTree, Scan, Join, Filter, Map, Window, Distinct, Limit}
+use Rattle.wd_plan.specs.Plans.{ClassRule, GroupCall, OfRows, Grouping, GroupRule, WindowRule, PlanTree, Scan, Join, Filter, Map, Group, Window, Distinct, Limit, has}
 use Rattle.wd_plan.specs.Sorting.{class_columns, order_columns}
 use Rattle.wd_facts.specs.declared.facts.Member.{Member}
 use Rattle.wd_facts.specs.declared.facts.Member.TheVariants as member
-use Rattle.wd_facts.specs.Facts.{Fact, FactList, columns_named, key_fact, moved_facts}
+use Rattle.wd_facts.specs.Facts.{Fact, FactList, columns_named, is_column, is_plain, key_fact, moved_facts}
 
 -- ---- expressions
 
@@ -291,6 +291,56 @@ abbrev pub calls_facts : WindowRule → ℕ → List Call → List Fact
 calls_facts rule w [] = []
 calls_facts rule w (call ∷ calls) = call_facts (class_at rule call.class) call.frame call.function w ++ calls_facts rule (w + 1) calls
 
+-- ---- groups
+
+abbrev pub all_columns : ℕ → List ℕ
+all_columns n = range_with_len 0 n
+
+-- one of two sets has the column, and the other one has not
+abbrev pub differ_in : List ℕ → List ℕ → ℕ → Bool
+differ_in set other c = if has set c then not (has other c) else has other c
+
+-- the arguments of all GROUPING calls
+abbrev pub grouping_arguments_of : GroupCall → List ℕ
+grouping_arguments_of (OfRows a) = []
+grouping_arguments_of (Grouping arguments) = arguments
+
+abbrev pub grouping_arguments : List GroupCall → List ℕ
+grouping_arguments calls = flat_map grouping_arguments_of calls
+
+-- the columns of the GROUPING calls, where the first call has column w
+abbrev pub grouping_columns : ℕ → List GroupCall → List ℕ
+grouping_columns w [] = []
+grouping_columns w (OfRows a ∷ calls) = grouping_columns (w + 1) calls
+grouping_columns w (Grouping arguments ∷ calls) = w ∷ grouping_columns (w + 1) calls
+
+-- every two sets differ in one of the columns: a repeated set never does
+abbrev pub are_told_apart : List ℕ → List (List ℕ) → Bool
+are_told_apart columns [] = true
+are_told_apart columns (set ∷ sets) = list_all (λ other. list_any (differ_in set other) columns) sets && are_told_apart columns sets
+
+-- the grouping columns, and with several sets the GROUPING columns
+abbrev pub group_key : GroupRule → List ℕ
+group_key g = all_columns g.columns ++ (if nat_lt 1 (length g.sets) then grouping_columns g.columns g.calls else [])
+
+-- they give the row where every two sets differ in an argument of GROUPING, as where there is one set
+abbrev pub group_key_facts : GroupRule → List Fact
+group_key_facts g = if are_told_apart (grouping_arguments g.calls) g.sets then key_fact member.Row (group_key g) ∷ [] else []
+
+-- of a fact whose left side is of the first so many columns, the targets that are such columns or the row
+abbrev pub cut_fact : ℕ → Fact → List Fact
+cut_fact columns fact = if list_all (is_column columns) fact.from then record { from = fact.from; to = filter (is_plain columns) fact.to } ∷ [] else []
+
+-- with one set, what the child keeps of the grouping columns
+abbrev pub facts_of_group : GroupRule → List Fact → List Fact
+facts_of_group g kept = if nat_eq (length g.sets) 1 then flat_map (cut_fact g.columns) kept else []
+
+-- a call whose values are never NULL: COUNT and GROUPING
+abbrev pub is_group_call_not_null : Option GroupCall → Bool
+is_group_call_not_null None = false
+is_group_call_not_null (Some (OfRows a)) = not (signature (name_of_aggregate a)).nullable
+is_group_call_not_null (Some (Grouping arguments)) = true
+
 -- ---- nodes
 
 -- whether a column of a node's rows is known not null
@@ -299,6 +349,7 @@ is_not_null tables (Scan table columns) c = is_not_null_column (table_rule table
 is_not_null tables (Join condition left right) c = (if nat_lt c (width left) then is_not_null tables left c else is_not_null tables right (c - width left)) || some_rules_out_null (conjuncts_of condition) c
 is_not_null tables (Filter condition input) c = is_not_null tables input c || some_rules_out_null (conjuncts condition) c
 is_not_null tables (Map outputs input) c = is_output_not_null (is_not_null tables input) (slice_get outputs c)
+is_not_null tables (Group g input) c = if nat_lt c g.columns then (is_not_null tables input c && list_all (λ set. has set c) g.sets) else is_group_call_not_null (slice_get g.calls (c - g.columns))
 is_not_null tables (Window w input) c = if nat_lt c (width input) then is_not_null tables input c else is_call_not_null (slice_get w.calls (c - width input))
 is_not_null tables (Distinct input) c = is_not_null tables input c
 is_not_null tables (Limit limit input) c = is_not_null tables input c
@@ -308,6 +359,7 @@ nullable_keys tables (Scan table columns) = null_keys (table_rule tables table)
 nullable_keys tables (Join condition left right) = []
 nullable_keys tables (Filter condition input) = nullable_keys tables input
 nullable_keys tables (Map outputs input) = copied_keys outputs (nullable_keys tables input)
+nullable_keys tables (Group g input) = []
 nullable_keys tables (Window w input) = nullable_keys tables input
 nullable_keys tables (Distinct input) = nullable_keys tables input
 nullable_keys tables (Limit limit input) = nullable_keys tables input
@@ -318,9 +370,6 @@ full_keys not_null keys = filter (list_all not_null) keys
 
 abbrev pub keys_facts : Member → List (List ℕ) → List Fact
 keys_facts row keys = map (key_fact row) keys
-
-abbrev pub all_columns : ℕ → List ℕ
-all_columns n = range_with_len 0 n
 
 -- the given facts of a node whose children keep these; a node with one child has the first list
 abbrev pub given : List TableRule → PlanTree → List Fact → List Fact → FactList
@@ -344,6 +393,7 @@ given tables (Map outputs input) kept more = record {
   split = None;
   list = moved_facts (λ c. length outputs + c) member.Row kept ++ outputs_facts (length outputs) 0 outputs;
 }
+given tables (Group g input) kept more = record { columns = g.columns + length g.calls; split = None; list = group_key_facts g ++ facts_of_group g kept }
 given tables (Window w input) kept more = record { columns = width input + length w.calls; split = None; list = kept ++ calls_facts w (width input) w.calls }
 given tables (Distinct input) kept more = record { columns = width input; split = None; list = kept ++ key_fact member.Row (all_columns (width input)) ∷ [] }
 given tables (Limit limit input) kept more = record { columns = width input; split = None; list = kept }

@@ -8,7 +8,7 @@ use Rattle.wd_plan.specs.Choices.{AreLawful, AtRows}
 use Rattle.wd_plan.specs.Facts.{Determines, DeterminesRow, HasWidth, IsNotNullIn, IsNullableKey}
 use Rattle.wd_plan.specs.Fits.{AreBelow, fits, width}
 use Rattle.wd_plan.specs.Outcomes.{outcome}
-use Rattle.wd_plan.specs.Plans.{PlanTree, Scan, Join, Filter, Map, Window, Distinct, Limit, ordering_count}
+use Rattle.wd_plan.specs.Plans.{PlanTree, Scan, Join, Filter, Map, Group, Window, Distinct, Limit, ordering_count}
 use Rattle.wd_facts.specs.declared.facts.Member.TheVariants as member
 use Rattle.wd_facts.specs.Facts.{Fact, Holds, Paired, PairsRows, beside, columns_named, is_plain_fact, key_fact, unpaired}
 use Rattle.wd_facts.specs.Given.{given, is_not_null, nullable_keys}
@@ -41,6 +41,7 @@ ChildrenKeep (Join condition left right) instance choice kept more =
     AtRows (outcome left instance choice) (AreKept (width left) kept) ⊤ × AtRows (outcome right instance (drop (ordering_count left) choice)) (AreKept (width right) more) ⊤
 ChildrenKeep (Filter condition input) instance choice kept more = AtRows (outcome input instance choice) (AreKept (width input) kept) ⊤
 ChildrenKeep (Map outputs input) instance choice kept more = AtRows (outcome input instance choice) (AreKept (width input) kept) ⊤
+ChildrenKeep (Group g input) instance choice kept more = AtRows (outcome input instance choice) (AreKept (width input) kept) ⊤
 ChildrenKeep (Window w input) instance choice kept more = AtRows (outcome input instance choice) (AreKept (width input) kept) ⊤
 ChildrenKeep (Distinct input) instance choice kept more = AtRows (outcome input instance choice) (AreKept (width input) kept) ⊤
 ChildrenKeep (Limit limit input) instance choice kept more = AtRows (outcome input instance choice) (AreKept (width input) kept) ⊤
@@ -64,6 +65,7 @@ GivenHold tables (Filter condition input) instance choice kept more = let plan =
 GivenHold tables (Map outputs input) instance choice kept more =
     let plan = Map outputs input in
     AtRows (outcome input instance choice) (λ ins. AtRows (outcome plan instance choice) (λ outs. InRows tables plan kept more (beside outs ins)) ⊤) ⊤
+GivenHold tables (Group g input) instance choice kept more = let plan = Group g input in AtRows (outcome plan instance choice) (InRows tables plan kept more) ⊤
 GivenHold tables (Window w input) instance choice kept more = let plan = Window w input in AtRows (outcome plan instance choice) (InRows tables plan kept more) ⊤
 GivenHold tables (Distinct input) instance choice kept more = let plan = Distinct input in AtRows (outcome plan instance choice) (InRows tables plan kept more) ⊤
 GivenHold tables (Limit limit input) instance choice kept more = let plan = Limit limit input in AtRows (outcome plan instance choice) (InRows tables plan kept more) ⊤
@@ -80,6 +82,7 @@ AreOfChildren (Scan table columns) kept more = ⊤
 AreOfChildren (Join condition left right) kept more = ArePlain (width left) kept × ArePlain (width right) more
 AreOfChildren (Filter condition input) kept more = ArePlain (width input) kept
 AreOfChildren (Map outputs input) kept more = ArePlain (width input) kept
+AreOfChildren (Group g input) kept more = ArePlain (width input) kept
 AreOfChildren (Window w input) kept more = ArePlain (width input) kept
 AreOfChildren (Distinct input) kept more = ArePlain (width input) kept
 AreOfChildren (Limit limit input) kept more = ArePlain (width input) kept

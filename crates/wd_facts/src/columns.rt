@@ -1,14 +1,15 @@
 //! Which columns of a node's rows are not null, by plan and schema.
 
-ghost use Rattle.std.specs.Prelude.{◌≡◌, ◌<◌, true, option_map, slice_get};
+ghost use Rattle.std.specs.Prelude.{◌≡◌, ◌<◌, true, map, option_map, slice_get};
 ghost use Rattle.wd_schema.specs.Schemas.{schema_of};
 ghost use Rattle.wd_schema.specs.Tables.{table_of};
 ghost use Rattle.wd_plan.specs.Expressions.{expression_of};
 ghost use Rattle.wd_plan.specs.Fits as fitting;
-ghost use Rattle.wd_plan.specs.Plans.{plan_of};
+ghost use Rattle.std.specs.List.{list_all};
+ghost use Rattle.wd_plan.specs.Plans.{group_call_of, has, plan_of, sets_of};
 ghost use Rattle.wd_facts.specs.Given as spec;
 
-use wd_plan::{Call, Expr, Plan};
+use wd_plan::{Call, Expr, GroupCall, Plan, has_column};
 use wd_schema::{Column, Schema};
 use wd_value::Value;
 
@@ -91,6 +92,29 @@ fn is_call_not_null(calls: &[Call], number: u16) -> bool
     }
 }
 
+/// Whether each grouping set has the column.
+fn is_in_each(sets: &[Vec<u16>], column: u16) -> bool
+    ensures { result ≡ list_all (λ set. has set column) (sets_of sets.now) }
+{
+    for set in sets {
+        if !has_column(set, column) {
+            return false;
+        }
+    }
+    true
+}
+
+/// Whether the call of a Group with this number is never NULL.
+fn is_group_call_not_null(calls: &[GroupCall], number: u16) -> bool
+    ensures { result ≡ spec.is_group_call_not_null (slice_get (map group_call_of calls.now) number) }
+{
+    match calls.get(usize::from(number)) {
+        Some(GroupCall::OfRows(aggregate)) => !aggregate.name().signature().nullable,
+        Some(GroupCall::Grouping(_)) => true,
+        None => false,
+    }
+}
+
 /// Whether a column of a node's rows is known not null.
 #[tactic(auto, using(wd_plan::proofs::Ranges::narrow))]
 pub(crate) fn is_not_null(plan: &Plan, schema: &Schema, column: u16) -> bool
@@ -119,6 +143,13 @@ pub(crate) fn is_not_null(plan: &Plan, schema: &Schema, column: u16) -> bool
             Some(Expr::Literal(value, _)) => !matches!(value, Value::Null),
             _ => false,
         },
+        Plan::Group { input, group } => {
+            if column < group.columns {
+                is_not_null(input, schema, column) && is_in_each(&group.sets, column)
+            } else {
+                is_group_call_not_null(&group.calls, column - group.columns)
+            }
+        }
         Plan::Window { input, window } => {
             if column < width(input) {
                 is_not_null(input, schema, column)

@@ -6,6 +6,7 @@ mod calls;
 mod columns;
 mod conditions;
 mod facts;
+mod groups;
 pub mod laws;
 mod maps;
 mod members;

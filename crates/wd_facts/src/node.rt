@@ -16,6 +16,7 @@ use crate::calls::add_calls;
 use crate::columns::width;
 use crate::conditions::{add_conjuncts, add_join_conjuncts};
 use crate::facts::{Facts, Given, Member};
+use crate::groups::group_facts;
 use crate::maps::add_outputs;
 use crate::members::{add_key, copied_facts, first_columns};
 use crate::moved::add_moved_facts;
@@ -60,6 +61,10 @@ pub fn given(
         Plan::Map { input, outputs } => {
             let list = map_facts(alloc, outputs, first)?;
             Ok(unsplit(outputs.len() as u16 + width(input), list))
+        }
+        Plan::Group { group, .. } => {
+            let list = group_facts(alloc, group, first)?;
+            Ok(unsplit(width(plan), list))
         }
         Plan::Window { input, window } => {
             let list = window_facts(alloc, width(input), window, first)?;

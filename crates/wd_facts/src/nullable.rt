@@ -87,6 +87,7 @@ pub(crate) fn nullable_keys(
             let keys = nullable_keys(alloc, input, schema)?;
             copied_keys(alloc, outputs, &keys)
         }
+        Plan::Group { .. } => Ok(Vec::new(alloc)),
         Plan::Window { input, .. } => nullable_keys(alloc, input, schema),
         Plan::Distinct { input } => nullable_keys(alloc, input, schema),
         Plan::Limit { input, .. } => nullable_keys(alloc, input, schema),

@@ -23,6 +23,6 @@ pub use extent::{Stretch, all_bounds, bounds};
 pub use frame::{Part, members};
 pub use greatest::Greatest;
 pub use least::Least;
-pub use over::{over_frames, over_lists, over_stretches};
+pub use over::{over_all, over_frames, over_lists, over_stretches};
 pub use slide::{Join, Slide};
 pub use sum::Sum;

@@ -3,7 +3,7 @@
 ghost use Rattle.std.specs.Prelude.{◌≡◌, ℕ, ◌+◌, ◌-◌, ◌^◌, ◌<◌, ◌≤◌, ◌++◌, [], length, drop, IfOk, OnOk};
 ghost use Rattle.wd_frame.specs.Places.{part_of};
 ghost use Rattle.wd_plan.specs.declared.window.Exclusion.TheVariants as exclusion;
-ghost use Rattle.wd_frame.specs.Slides.{Values, seen};
+ghost use Rattle.wd_frame.specs.Slides.{Values, seen, shown};
 ghost use Rattle.wd_frame.specs.Stretches.{AreAnswers, AreFrameAnswers, AreLists, AreStretches, lists_of, picked, places_along, places_in, stretch_at, values_in};
 
 use crate::answer::Answer;
@@ -79,6 +79,16 @@ pub fn over_lists<'a, S: Join<'a>>(
         join_all::<S>(&mut answers, &more);
     }
     Ok(answers)
+}
+
+/// The function of all of the values.
+pub fn over_all<'a, S: Slide<'a>>(values: &[&'a Value], empty: S) -> Result<Answer<'a>, OutOfMemory>
+    requires empty { S.values empty ≡ [] }
+    ensures { IfOk result (λ a. shown a ≡ S.plain (seen values.now)) }
+{
+    let mut slide = empty;
+    fill(&mut slide, values, 0, 0, values.len())?;
+    Ok(slide.answer())
 }
 
 /// The answers over each list of values and another behind it.

@@ -7,6 +7,8 @@ pub mod Peers
 pub mod Exchange
 pub mod Calls
 pub mod Outcomes
+pub mod Grouping
+pub mod GroupWindows
 pub mod WindowLaw
 pub mod LimitLaw
 pub mod PlanLaw

@@ -63,7 +63,7 @@ Alike-join (Some condition) xs ys p = Alike-filter condition xs ys p
 pub Alike-map : (outputs : List Expression) (xs ys : List Row) → Perm Row xs ys → Alike (map_outcome outputs xs) (map_outcome outputs ys)
 Alike-map outputs xs ys p = Alike-all_ok _ _ (Perm-map (λ row. all_ok (map (λ output. value_of output row) outputs)) p)
 
-flat_map_each : {X Y : Type 0} (f g : X → List Y) (xs : List X) → ((x : X) → Perm Y (f x) (g x)) → Perm Y (flat_map f xs) (flat_map g xs)
+pub flat_map_each : {X Y : Type 0} (f g : X → List Y) (xs : List X) → ((x : X) → Perm Y (f x) (g x)) → Perm Y (flat_map f xs) (flat_map g xs)
 flat_map_each f g [] h = done
 flat_map_each f g (x ∷ xs) h = Perm-append (h x) (flat_map_each f g xs h)
 

@@ -103,7 +103,7 @@ Perm-first_by key p = Perm-keeps (first_by key) (λ v w. cond (is_gt (compare ke
 Perm-column : (c : ℕ) {rows others : List Row} → Perm Row rows others → Perm Value (column_values c rows) (column_values c others)
 Perm-column c p = Perm-map (λ r. column_of r c) p
 
-Perm-aggregate : (aggregate : AggregateFunction) {rows others : List Row} → Perm Row rows others → aggregate_value aggregate rows ≡ aggregate_value aggregate others
+pub Perm-aggregate : (aggregate : AggregateFunction) {rows others : List Row} → Perm Row rows others → aggregate_value aggregate rows ≡ aggregate_value aggregate others
 Perm-aggregate CountRows p = ap (λ n. Ok (Int (pos n))) (Perm-length p)
 Perm-aggregate (Count c) p = ap (λ n. Ok (Int (pos n))) (Perm-count_by (λ r. not (is_null (column_of r c))) p)
 Perm-aggregate (Sum c) p = Perm-sum_of (Perm-column c p)

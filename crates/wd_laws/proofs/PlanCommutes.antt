@@ -5,6 +5,7 @@ use Rattle.std.proofs.Math.Seq.{drop-append_seam, get_or-append_seam}
 use Rattle.std.proofs.lemmas.Bool.Decides.{Decides-eqb}
 use Rattle.std.proofs.lemmas.List.{length-append, length-map, take_all}
 use Rattle.wd_plan.proofs.ChoiceLaws.{AreLawful-append, outcome-append}
+use Rattle.wd_laws.proofs.Grouping.{Alike-group}
 use Rattle.wd_laws.proofs.NodesCommute.{rearranged}
 use Rattle.wd_laws.proofs.Outcomes.{Agree-from_Alike, Alike, Alike-all_ok, Alike-filter, Alike-join, Alike-map, Perm-distinct, Perm-pairs}
 use Rattle.wd_laws.proofs.Parts.{rows_at_positions}
@@ -12,8 +13,8 @@ use Rattle.wd_laws.proofs.Renaming.{commutes, renamed_order, renamed_ordering}
 use Rattle.wd_plan.specs.Choices.{AreLawful, AreOrderings, AtRows, IsValidChoice}
 use Rattle.wd_plan.specs.Faults.{and_then}
 use Rattle.wd_laws.specs.Laws.{Commutes, PlanCommutes, SameTables, renamed}
-use Rattle.wd_plan.specs.Outcomes.{RowsOrFault, cut, distinct, extended, filter_outcome, join_outcome, map_outcome, ordering_at, outcome, pairs, window_outcome}
-use Rattle.wd_plan.specs.Plans.{ClassRule, Distinct, Filter, Join, Limit, LimitRule, Map, PlanTree, Scan, Window, WindowRule, ordering_count}
+use Rattle.wd_plan.specs.Outcomes.{RowsOrFault, cut, distinct, extended, filter_outcome, group_outcome, join_outcome, map_outcome, ordering_at, outcome, pairs, window_outcome}
+use Rattle.wd_plan.specs.Plans.{ClassRule, Distinct, Filter, Group, Join, Limit, LimitRule, Map, PlanTree, Scan, Window, WindowRule, ordering_count}
 use Rattle.wd_plan.specs.Sorting.{IsOrdering, limit_class}
 use Rattle.wd_value.proofs.Perms.{Perm, Perm-map, Perm-refl, SameBag-from_Perm, both, done, flip, keep}
 use Rattle.wd_value.specs.Bags.{EachOnce, positions}
@@ -195,6 +196,9 @@ matched (Filter condition input) instance other choice same v =
 matched (Map outputs input) instance other choice same v =
     let m = matched input instance other choice same v in
     record { choice = m.choice; valid = record { number = m.valid.number; lawful = m.valid.lawful }; alike = over _ _ (map_outcome outputs) (map_outcome outputs) m.alike (Alike-map outputs) }
+matched (Group rule input) instance other choice same v =
+    let m = matched input instance other choice same v in
+    record { choice = m.choice; valid = record { number = m.valid.number; lawful = m.valid.lawful }; alike = over _ _ (group_outcome rule) (group_outcome rule) m.alike (Alike-group rule) }
 matched (Window w input) instance other choice same v =
     let m = matched input instance other choice same v.0 in
     let os = take (length w.classes) (drop (ordering_count input) choice) in

@@ -1,6 +1,7 @@
 -- The nodes compose: over the same tables, a settled plan has outcomes that agree.
 use Rattle.std.proofs.Common.{◌≡◌, ℕ, List, [], map, length, take, drop, refl, subst, Ok, Err}
 use Rattle.std.specs.List.{AllByRecursion}
+use Rattle.wd_laws.proofs.Grouping.{Alike-group}
 use Rattle.wd_laws.proofs.LimitLaw.{Perm-cut}
 use Rattle.wd_laws.proofs.Outcomes.{Alike, Alike-filter, Alike-join, Alike-map, Perm-distinct, Perm-pairs}
 use Rattle.wd_laws.proofs.WindowLaw.{Alike-window}
@@ -9,8 +10,8 @@ use Rattle.wd_plan.specs.Facts.{HasWidth}
 use Rattle.wd_plan.specs.Faults.{and_then}
 use Rattle.wd_plan.specs.Settled.{IsSettledCall, IsSettledLimit, IsSettledPlan}
 use Rattle.wd_laws.specs.Laws.{SameTables}
-use Rattle.wd_plan.specs.Outcomes.{RowsOrFault, cut, distinct, filter_outcome, join_outcome, map_outcome, ordering_at, outcome, pairs, window_outcome}
-use Rattle.wd_plan.specs.Plans.{Distinct, Filter, Join, Limit, Map, PlanTree, Scan, Window, ordering_count}
+use Rattle.wd_plan.specs.Outcomes.{RowsOrFault, cut, distinct, filter_outcome, group_outcome, join_outcome, map_outcome, ordering_at, outcome, pairs, window_outcome}
+use Rattle.wd_plan.specs.Plans.{Distinct, Filter, Group, Join, Limit, Map, PlanTree, Scan, Window, ordering_count}
 use Rattle.wd_plan.specs.Sorting.{IsOrdering, limit_class}
 use Rattle.wd_value.proofs.Perms.{Perm, Perm-from_SameBag}
 use Rattle.wd_value.proofs.SameLaws.{same_row-Decides}
@@ -33,6 +34,8 @@ one_outcome (Filter condition child) instance other c1 c2 same v1 v2 h =
     Alike-and_then _ _ (filter_outcome condition) (filter_outcome condition) (one_outcome child instance other c1 c2 same v1 v2 h) (λ xs ys e f p. Alike-filter condition xs ys p)
 one_outcome (Map exprs child) instance other c1 c2 same v1 v2 h =
     Alike-and_then _ _ (map_outcome exprs) (map_outcome exprs) (one_outcome child instance other c1 c2 same v1 v2 h) (λ xs ys e f p. Alike-map exprs xs ys p)
+one_outcome (Group rule child) instance other c1 c2 same v1 v2 h =
+    Alike-and_then _ _ (group_outcome rule) (group_outcome rule) (one_outcome child instance other c1 c2 same v1 v2 h) (λ xs ys e f p. Alike-group rule xs ys p)
 one_outcome (Join condition left right) instance other c1 c2 same v1 v2 h =
     let d1 = drop (ordering_count left) c1 in
     let d2 = drop (ordering_count left) c2 in

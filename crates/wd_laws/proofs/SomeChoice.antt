@@ -12,7 +12,7 @@ use Rattle.wd_plan.specs.Choices.{AtRows, AreOrderings, AreLawful}
 use Rattle.wd_value.specs.Keys.{compare_keys}
 use Rattle.wd_laws.specs.Laws.{HasValidChoice}
 use Rattle.wd_plan.specs.Outcomes.{RowsOrFault, outcome, class_at, ordering_at}
-use Rattle.wd_plan.specs.Plans.{ClassRule, WindowRule, LimitRule, Scan, Join, Filter, Map, Window, Distinct, Limit, ordering_count}
+use Rattle.wd_plan.specs.Plans.{ClassRule, WindowRule, LimitRule, Scan, Join, Filter, Map, Group, Window, Distinct, Limit, ordering_count}
 use Rattle.wd_plan.specs.Sorting.{IsInOrder, IsOrdering, same_partition, limit_class}
 use Rattle.wd_plan.proofs.ChoiceLaws.{AreLawful-append, outcome-append}
 use Rattle.wd_value.proofs.KeyLaws.{compare_keys_total}
@@ -149,6 +149,7 @@ has_valid_choice (Join condition left right) instance =
     )
 has_valid_choice (Filter condition input) instance = let b = has_valid_choice input instance in (b.0, record { number = b.1.number; lawful = b.1.lawful })
 has_valid_choice (Map outputs input) instance = let b = has_valid_choice input instance in (b.0, record { number = b.1.number; lawful = b.1.lawful })
+has_valid_choice (Group rule input) instance = let b = has_valid_choice input instance in (b.0, record { number = b.1.number; lawful = b.1.lawful })
 has_valid_choice (Window w input) instance =
     let b = has_valid_choice input instance in
     let n : length b.0 ≡ ordering_count input = b.1.number in

@@ -199,7 +199,7 @@ either_is : (P : Value → Type 0) (b : Bool) (r s : Result Value Fault) → Eac
 either_is P true r s h g = h
 either_is P false r s h g = g
 
-as_kind : (a kind : ValueKind) (r : Result Value Fault) → Some a ≡ Some kind → Each (IsOf a) r → Each (IsOf kind) r
+pub as_kind : (a kind : ValueKind) (r : Result Value Fault) → Some a ≡ Some kind → Each (IsOf a) r → Each (IsOf kind) r
 as_kind a kind r e h = subst (λ k. Each (IsOf k) r) (kind_is a kind e) h
 
 -- a typed expression over a row of these kinds has a value of its kind, or a fault
@@ -282,7 +282,7 @@ module _ (kinds : Kinds) (rows : List Row) (are : AllByRecursion (IsOfKinds kind
   values_are : (c : ℕ) (kind : ValueKind) → kinds c ≡ Some kind → AllByRecursion (IsOf kind) (column_values c rows)
   values_are c kind e = all_map (IsOfKinds kinds) (IsOf kind) (λ r. column_of r c) (λ r is. is c kind e) rows are
 
-  aggregate_is : (a : AggregateFunction) (kind : ValueKind) → kind_of_function kinds (OfFrame (Aggregate a)) ≡ Some kind → Each (IsOf kind) (aggregate_value a rows)
+  pub aggregate_is : (a : AggregateFunction) (kind : ValueKind) → kind_of_function kinds (OfFrame (Aggregate a)) ≡ Some kind → Each (IsOf kind) (aggregate_value a rows)
   aggregate_is CountRows kind e = as_kind Number kind (aggregate_value CountRows rows) e refl
   aggregate_is (Count c) kind e = as_kind Number kind (aggregate_value (Count c) rows) e refl
   aggregate_is (Sum c) kind e = as_kind Number kind (aggregate_value (Sum c) rows) e (sum_is (column_values c rows))

@@ -1,5 +1,5 @@
 -- The rows of a node have its width, and their values its columns' kinds.
-use Rattle.std.proofs.Common.{◌≡◌, ℕ, zero, suc, ◌+◌, ◌-◌, ◌<◌, Bool, true, false, cond, not, ◌&&◌, List, [], ◌∷◌, ◌++◌, map, length, take, take_while, drop, refl, sym, ◌∙◌, ap, subst, arith, nat_lt, Option, Some, None, option_and_then, option_map, slice_get, Result, Ok, Err}
+use Rattle.std.proofs.Common.{◌≡◌, ℕ, zero, suc, ◌+◌, ◌-◌, ◌<◌, ◌≤◌, ◌⊎◌, inl, inr, Bool, true, false, cond, not, ◌&&◌, List, [], ◌∷◌, ◌++◌, map, flat_map, length, take, take_while, drop, refl, sym, ◌∙◌, ap, subst, arith, nat_lt, Option, Some, None, option_and_then, option_map, slice_get, Result, Ok, Err}
 use Rattle.std.specs.List.{AllByRecursion, list_all}
 use Rattle.std.proofs.lemmas.Bool.{and_parts, false≢true, ltb-false, ltb-true}
 use Rattle.std.proofs.lemmas.List.{get_or-append_right, get_or_append_left, length-append}
@@ -17,21 +17,26 @@ use Rattle.wd_schema.specs.declared.table.Column.{Column as TableColumn}
 use Rattle.wd_schema.specs.Meets.{Meets, MeetsTable, fits_columns, is_null as is_null_there, is_of_type, may_hold}
 use Rattle.wd_schema.specs.Tables.{TableRule}
 use Rattle.wd_plan.specs.declared.expression.ValueKind.{ValueKind}
+use Rattle.wd_plan.specs.declared.expression.ValueKind.TheVariants.{Number}
 use Rattle.wd_value.specs.declared.order.SortColumn.{SortColumn}
 use Rattle.wd_plan.specs.declared.window.Call.{Call}
 use Rattle.wd_plan.specs.Choices.{AreLawful, AtRows}
 use Rattle.wd_plan.specs.Expressions.{Expression, value_of}
 use Rattle.wd_plan.specs.Faults.{all_ok, and_then, least_fault, unless, values_among}
-use Rattle.wd_plan.specs.Fits.{Kinds, are_bounds, are_outputs, fits, has_class, has_keys_for, has_table, is_call, is_condition, is_join, is_limit, is_narrow, is_of_kind, is_typed, is_window, kind_of, kind_of_call, kind_of_type, kinds_of, table_kind, takes, width}
-use Rattle.wd_plan.specs.Outcomes.{RowsOrFault, call_at, class_at, cut, distinct, extended, filter_outcome, first_rows, join_outcome, map_outcome, ordering_at, outcome, pairs, passes, peers, window_outcome}
+use Rattle.wd_plan.specs.Fits.{Kinds, are_bounds, are_outputs, fits, has_class, has_keys_for, has_table, is_call, is_condition, is_join, is_limit, is_narrow, is_of_kind, is_typed, is_group, is_window, kind_of, kind_of_call, kind_of_group_call, kind_of_type, kinds_of, table_kind, takes, width}
+use Rattle.wd_plan.specs.Outcomes.{RowsOrFault, call_at, class_at, cut, distinct, extended, filter_outcome, first_rows, group_outcome, group_row, group_value, groups, join_outcome, map_outcome, ordering_at, outcome, pairs, passes, peers, rows_of_group, set_rows, shown, window_outcome}
 use Rattle.wd_plan.specs.Partitions.{members, partition_of, place_in}
-use Rattle.wd_plan.specs.Plans.{ClassRule, LimitRule, PlanTree, Scan, Join, Filter, Map, Window, Distinct, Limit, WindowRule, ordering_count}
+use Rattle.wd_plan.specs.Plans.{ClassRule, GroupCall, OfRows, Grouping, GroupRule, LimitRule, PlanTree, Scan, Join, Filter, Map, Group, Window, Distinct, Limit, WindowRule, has, ordering_count}
 use Rattle.wd_plan.specs.Sorting.{IsOrdering, limit_class}
 use Rattle.wd_plan.proofs.Parts.{all_filter}
 use Rattle.wd_plan.proofs.Ranges.{has_the_table, table_columns}
 use Rattle.wd_laws.proofs.AllValues.{AllOk, all_ok_each}
+use Rattle.std.proofs.lemmas.Bool.{cases_lt}
+use Rattle.std.proofs.lemmas.List.{get_or_past}
+use Rattle.std.proofs.lemmas.List.FromFn.{length-map-range_with_len}
+use Rattle.wd_laws.proofs.Grouping.{shown_at}
 use Rattle.wd_laws.proofs.Parts.{Perm-ordered, below_all}
-use Rattle.wd_laws.proofs.ValueKinds.{Each, IsOf, call_is, rows_at_are, value_is}
+use Rattle.wd_laws.proofs.ValueKinds.{Each, IsOf, aggregate_is, all_map, as_kind, call_is, empty_is, null_is_of, rows_at_are, value_is}
 use Rattle.wd_laws.specs.Laws.{HasKinds, HasWidths, IsOfKinds}
 
 -- a row of so many values, each of its column's kind
@@ -107,6 +112,18 @@ all_among G P f h (a ∷ as') g = among_step P (f a) (map f as') (h a g.0) (all_
 -- rows that are made one by one
 all_made : {A : Type 0} (G : A → Type 0) (P : Row → Type 0) (f : A → Result Row Fault) → ((a : A) → G a → Each P (f a)) → (as' : List A) → AllByRecursion G as' → AllRows P (all_ok (map f as'))
 all_made G P f h as' g = all_unless P (least_fault (map f as')) (values_among (map f as')) (all_among G P f h as' g)
+
+-- and rows among results
+among_all : (P : Row → Type 0) (rs : List (Result Row Fault)) → AllByRecursion (Each P) rs → AllByRecursion P (values_among rs)
+among_all P [] a = tt
+among_all P (r ∷ rs) a = among_step P r rs a.0 (among_all P rs a.1)
+
+all_results : (P : Row → Type 0) (rs : List (Result Row Fault)) → AllByRecursion (Each P) rs → AllRows P (all_ok rs)
+all_results P rs a = all_unless P (least_fault rs) (values_among rs) (among_all P rs a)
+
+all_behind_all : {X : Type 0} (P : X → Type 0) (xs ys : List X) → AllByRecursion P xs → AllByRecursion P ys → AllByRecursion P (xs ++ ys)
+all_behind_all P [] ys a b = b
+all_behind_all P (x ∷ xs) ys a b = (a.0, all_behind_all P xs ys a.1 b)
 
 -- a left row and a right row beside each other
 beside_good : (first second : ℕ) (kinds more : Kinds) (l r : Row) → IsGood first kinds l → IsGood second more r → IsGood (first + second) (λ c. cond (nat_lt c first) (kinds c) (more (c - first))) (l ++ r)
@@ -259,6 +276,53 @@ window_good kinds columns w are orderings rows a =
     call_is kinds (partition_of class rows ordering p) (place_in (members class rows ordering p) p) (rows_at_are kinds rows (members class rows ordering p) (kinds_only columns kinds rows a)) class call.frame call.function (call_takes kinds w.classes call (holds_at (is_call kinds w.classes) w.calls n call are at)) kind e)))
     (positions (length rows)) (below_all 0 (length rows) (length rows) (omega arith))
 
+-- ---- Group
+
+-- a row of a group: of its set's group, and of the values of its calls
+module _ (kinds : Kinds) (columns : ℕ) (g : GroupRule) (rows : List Row) (are : AllByRecursion (IsOfKinds kinds) rows) where
+  either_is_shown : (row : Row) (c : ℕ) (kind : ValueKind) (t : Bool) → IsOf kind (column_of row c) → IsOf kind (cond t (column_of row c) Null)
+  either_is_shown row c kind true own = own
+  either_is_shown row c kind false own = null_is_of kind
+
+  shown_good : (set : List ℕ) (row : Row) → IsOfKinds kinds row → IsGood g.columns kinds (shown g.columns set row)
+  shown_good set row is = (long, λ c kind e. at c kind e (cases_lt c g.columns))
+    where
+      long : length (shown g.columns set row) ≡ g.columns
+      long = length-map-range_with_len (λ c. cond (has set c) (column_of row c) Null) 0 g.columns
+
+      at : (c : ℕ) (kind : ValueKind) → kinds c ≡ Some kind → (c < g.columns) ⊎ (g.columns ≤ c) → IsOf kind (column_of (shown g.columns set row) c)
+      at c kind e (inl h) = subst (IsOf kind) (sym (shown_at g.columns set row c h)) (either_is_shown row c kind (has set c) (is c kind e))
+      at c kind e (inr h) = subst (IsOf kind) (sym (get_or_past (shown g.columns set row) c Null (omega (arith, long)))) (null_is_of kind)
+
+  groups_good : (set : List ℕ) → AllByRecursion (IsGood g.columns kinds) (groups g.columns set rows)
+  groups_good [] = (shown_good [] [] (empty_is kinds), tt)
+  groups_good (c ∷ set) = all_distinct (IsGood g.columns kinds) (map (shown g.columns (c ∷ set)) rows) (all_map (IsOfKinds kinds) (IsGood g.columns kinds) (shown g.columns (c ∷ set)) (shown_good (c ∷ set)) rows are)
+
+  group_value_is : (set : List ℕ) (group : Row) (call : GroupCall) (kind : ValueKind) → kind_of_group_call kinds call ≡ Some kind → Each (IsOf kind) (group_value set (rows_of_group g.columns set rows group) call)
+  group_value_is set group (OfRows a) kind e =
+      let test : Row → Bool = λ row. same_row group (shown g.columns set row) in
+      aggregate_is kinds (rows_of_group g.columns set rows group) (all_filter test (IsOfKinds kinds) (IsOfKinds kinds) (λ r p t. p) rows are) a kind e
+  group_value_is set group (Grouping arguments) kind e = as_kind Number kind (group_value set (rows_of_group g.columns set rows group) (Grouping arguments)) e refl
+
+  abbrev of_group : Kinds
+  of_group c = cond (nat_lt c g.columns) (kinds c) (option_and_then (kind_of_group_call kinds) (slice_get g.calls (c - g.columns)))
+
+  group_row_good : (set : List ℕ) (group : Row) → IsGood g.columns kinds group → Each (IsGood (g.columns + length g.calls) of_group) (group_row g rows set group)
+  group_row_good set group good =
+      let more : Kinds = λ c. option_and_then (kind_of_group_call kinds) (slice_get g.calls c) in
+      extended_good (IsGood g.columns kinds) (IsGood (length g.calls) more) (IsGood (g.columns + length g.calls) of_group) (beside_good g.columns (length g.calls) kinds more) group (all_ok (map (group_value set (rows_of_group g.columns set rows group)) g.calls)) good
+      (items_good (kind_of_group_call kinds) (group_value set (rows_of_group g.columns set rows group)) g.calls (λ n call at kind e. group_value_is set group call kind e))
+
+  sets_good : (sets : List (List ℕ)) → AllByRecursion (Each (IsGood (g.columns + length g.calls) of_group)) (flat_map (set_rows g rows) sets)
+  sets_good [] = tt
+  sets_good (set ∷ sets) =
+      all_behind_all (Each (IsGood (g.columns + length g.calls) of_group)) (set_rows g rows set) (flat_map (set_rows g rows) sets)
+      (all_map (IsGood g.columns kinds) (Each (IsGood (g.columns + length g.calls) of_group)) (group_row g rows set) (group_row_good set) (groups g.columns set rows) (groups_good set))
+      (sets_good sets)
+
+  group_good : AllRows (IsGood (g.columns + length g.calls) of_group) (group_outcome g rows)
+  group_good = all_results (IsGood (g.columns + length g.calls) of_group) (flat_map (set_rows g rows) g.sets) (sets_good g.sets)
+
 -- ---- plans
 
 all_good : (tables : List TableRule) (instance : Instance) → Meets tables instance → (plan : PlanTree) (choice : List (List ℕ)) → fits tables plan ≡ true → AreLawful plan instance choice → AllRows (IsGood (width plan) (kinds_of tables plan)) (outcome plan instance choice)
@@ -276,6 +340,10 @@ all_good tables instance meets (Map outputs input) choice f lawful =
     let parts = and_parts (fits tables input) (are_outputs (kinds_of tables input) outputs) f in
     let typed = and_parts (is_narrow (length outputs)) (list_all (is_typed (kinds_of tables input)) outputs) parts.1 in
     all_then (IsGood (width input) (kinds_of tables input)) (IsGood (length outputs) (kinds_of tables (Map outputs input))) (outcome input instance choice) (map_outcome outputs) (map_good (kinds_of tables input) (width input) outputs typed.1) (all_good tables instance meets input choice parts.0 lawful)
+all_good tables instance meets (Group g input) choice f lawful =
+    let parts = and_parts (fits tables input) (is_group (kinds_of tables input) (width input) g) f in
+    all_then (IsGood (width input) (kinds_of tables input)) (IsGood (g.columns + length g.calls) (kinds_of tables (Group g input))) (outcome input instance choice) (group_outcome g)
+    (λ rows a. group_good (kinds_of tables input) (width input) g rows (kinds_only (width input) (kinds_of tables input) rows a)) (all_good tables instance meets input choice parts.0 lawful)
 all_good tables instance meets (Window w input) choice f lawful =
     let parts = and_parts (fits tables input) (is_window (kinds_of tables input) (width input) w) f in
     let own = and_parts (is_narrow (width input + length w.calls)) (list_all (has_class (kinds_of tables input)) w.classes && list_all (is_call (kinds_of tables input) w.classes) w.calls) parts.1 in

@@ -1,33 +1,36 @@
 -- Laws over the definitions.
-use Rattle.std.specs.Prelude.{◌≡◌, ℕ, pos, ◌+◌, ◌/◌, ◌%◌, ◌<◌, ◌≤◌, Bool, true, false, List, map, length, take, drop, count_by, nat_eq, nat_lt, slice_index_or, if◌then◌else◌, Option, Some, Result, Ok, ⊤}
-use Rattle.std.specs.List.{AllByRecursion, sum_by}
+use Rattle.std.specs.Prelude.{◌≡◌, ℕ, pos, ◌+◌, ◌/◌, ◌%◌, ◌<◌, ◌≤◌, Bool, true, false, not, List, [], ◌++◌, map, filter, length, take, drop, count_by, nat_eq, nat_lt, slice_index_or, if◌then◌else◌, Option, Some, Result, Ok, ⊤}
+use Rattle.std.specs.List.{AllByRecursion, list_any, sum_by}
 use Rattle.std.specs.Ordering.{is_gt, is_lt}
-use Rattle.wd_value.specs.Bags.{SameBag, EachOnce, positions}
+use Rattle.wd_value.specs.Bags.{SameBag, EachOnce, positions, times}
 use Rattle.wd_value.specs.Order.{compare_ascending}
-use Rattle.wd_value.specs.Rows.{Row, Instance, same_row, column_of, row_at, rows_at, table_at}
+use Rattle.wd_value.specs.Rows.{Row, Instance, same_row, column_of, columns_of, row_at, rows_at, table_at}
 use Rattle.wd_value.specs.declared.value.Fault.{Fault}
 use Rattle.wd_value.specs.declared.value.Value.{Value}
 use Rattle.wd_value.specs.declared.value.Value.TheVariants.{Int, Null}
 use Rattle.wd_schema.specs.Meets.{Meets}
 use Rattle.wd_schema.specs.Tables.{TableRule}
 use Rattle.wd_plan.specs.declared.expression.ValueKind.{ValueKind}
+use Rattle.wd_plan.specs.declared.function.Aggregate.{Aggregate as AggregateFunction}
+use Rattle.wd_plan.specs.declared.function.FrameFunction.TheVariants.{Aggregate}
 use Rattle.wd_plan.specs.declared.function.Function.{Function}
-use Rattle.wd_plan.specs.declared.function.Function.TheVariants.{Ranking as Ranked}
+use Rattle.wd_plan.specs.declared.function.Function.TheVariants.{OfFrame, Ranking as Ranked}
 use Rattle.wd_plan.specs.declared.function.Ranking.TheVariants.{Ntile, RowNumber}
 use Rattle.wd_plan.specs.declared.window.Bound.TheVariants.{UnboundedFollowing, UnboundedPreceding}
 use Rattle.wd_plan.specs.declared.window.Exclusion.TheVariants.{NoOthers}
 use Rattle.wd_plan.specs.declared.window.Frame.{Frame}
-use Rattle.wd_plan.specs.Calls.{call_value, greatest, least, value_at}
+use Rattle.wd_plan.specs.declared.window.FrameMode.TheVariants.{Rows}
+use Rattle.wd_plan.specs.Calls.{aggregate_value, call_value, greatest, least, value_at}
 use Rattle.wd_plan.specs.Choices.{AreLawful, AreOrderings, AtRows, IsAnswerOf, IsValidChoice}
 use Rattle.wd_plan.specs.Expressions.{Expression, is_null}
 use Rattle.wd_plan.specs.Facts.{DeterminesAll, HasWidth}
-use Rattle.wd_plan.specs.Faults.{all_ok}
-use Rattle.wd_plan.specs.Fits.{Kinds, fits, is_of_kind, kinds_of, width}
+use Rattle.wd_plan.specs.Faults.{all_ok, and_then}
+use Rattle.wd_plan.specs.Fits.{AreBelow, Kinds, fits, is_of_kind, kinds_of, width}
 use Rattle.wd_plan.specs.Frames.{frame_of, in_frame}
 use Rattle.wd_plan.specs.Settled.{IsByRow, IsSettledCall, IsSettledLimit, IsSettledPlan}
-use Rattle.wd_plan.specs.Outcomes.{RowsOrFault, Agree, outcome, filter_outcome, map_outcome, join_outcome, pairs, distinct, window_outcome, extended, cut}
+use Rattle.wd_plan.specs.Outcomes.{RowsOrFault, Agree, outcome, filter_outcome, map_outcome, join_outcome, pairs, distinct, window_outcome, extended, cut, group_outcome, groups, mask, rows_of_group, set_rows, shown}
 use Rattle.wd_plan.specs.Partitions.{GroupsRise, members, partition_of, group_of}
-use Rattle.wd_plan.specs.Plans.{ClassRule, WindowRule, LimitRule, PlanTree, NamesClasses}
+use Rattle.wd_plan.specs.Plans.{ClassRule, GroupCall, OfRows, Grouping, GroupRule, WindowRule, LimitRule, PlanTree, NamesClasses}
 use Rattle.wd_plan.specs.Sorting.{IsOrdering, class_columns, limit_class}
 
 -- agreeing is reflexive, symmetric and transitive
@@ -113,13 +116,58 @@ PeerGroupsRise = (class : ClassRule) (rows : List Row) (ordering : List ℕ) (p 
 abbrev pub HasValidChoice : Type 0
 HasValidChoice = (plan : PlanTree) (instance : Instance) → (choice : List (List ℕ)) × IsValidChoice plan instance choice
 
--- rearranged rows, on both sides of a Join, have rearranged outcomes under a Filter, a Map, a Join and a Distinct, faults included
+-- rearranged rows, on both sides of a Join, have rearranged outcomes under a Filter, a Map, a Group, a Join and a Distinct,
+-- faults included
 pub record StepsCommute : Type 0 where
   pub filter : (condition : Expression) (rows others : List Row) → SameBag same_row rows others → Agree (filter_outcome condition rows) (filter_outcome condition others)
   pub map : (outputs : List Expression) (rows others : List Row) → SameBag same_row rows others → Agree (map_outcome outputs rows) (map_outcome outputs others)
+  pub group : (rule : GroupRule) (rows others : List Row) → SameBag same_row rows others → Agree (group_outcome rule rows) (group_outcome rule others)
   pub join : (condition : Option Expression) (left others right more : List Row) → SameBag same_row left others → SameBag same_row right more
       → Agree (join_outcome condition (pairs left right)) (join_outcome condition (pairs others more))
   pub distinct : (rows others : List Row) → SameBag same_row rows others → SameBag same_row (distinct rows) (distinct others)
+
+-- the groups of a set are those of its columns: rows show the same exactly where they are the same on these
+abbrev pub GroupsGoByColumns : Type 0
+GroupsGoByColumns = (columns : ℕ) (set : List ℕ) (a b : Row) → AreBelow columns set → same_row (shown columns set a) (shown columns set b) ≡ same_row (columns_of set a) (columns_of set b)
+
+-- each row is of one group of a set, and each group of a set with columns has a row
+pub record AreGroups (columns : ℕ) (set : List ℕ) (rows : List Row) : Type 0 where
+  pub once : (p : ℕ) → p < length rows → times same_row (shown columns set (row_at rows p)) (groups columns set rows) ≡ 1
+  pub no_other : (group : Row) → 0 < times same_row group (groups columns set rows) → 0 < length set → (p : ℕ) × (p < length rows) × (group ≡ shown columns set (row_at rows p))
+
+abbrev pub GroupsPartRows : Type 0
+GroupsPartRows = (columns : ℕ) (set : List ℕ) (rows : List Row) → AreGroups columns set rows
+
+-- the frame of all rows of the partition
+abbrev pub whole_frame : Frame
+whole_frame = record { mode = Rows; start = UnboundedPreceding; end = UnboundedFollowing; exclusion = NoOthers }
+
+-- an aggregate of a row's group is what a window call of it gives at the row, partitioned by the set's columns, over the whole
+-- partition, under any ordering
+abbrev pub GroupsAreWindows : Type 0
+GroupsAreWindows = (columns : ℕ) (set : List ℕ) (aggregate : AggregateFunction) (rows : List Row) (ordering : List ℕ) (r : ℕ)
+    → AreBelow columns set → EachOnce (length rows) ordering
+    → aggregate_value aggregate (rows_of_group columns set rows (shown columns set (row_at rows r))) ≡ value_at (record { partition = set; order = [] }) whole_frame (OfFrame (Aggregate aggregate)) rows ordering r
+
+-- whether no earlier row is the same as the one at a position
+abbrev pub is_first : List Row → ℕ → Bool
+is_first rows p = not (list_any (λ q. same_row q (row_at rows p)) (take p rows))
+
+-- at a row of a group: an aggregate as a window call over the whole partition by the set's columns, or the mask of GROUPING
+abbrev pub value_beside : List ℕ → List Row → List ℕ → ℕ → GroupCall → Result Value Fault
+value_beside set rows ordering p (OfRows aggregate) = value_at (record { partition = set; order = [] }) whole_frame (OfFrame (Aggregate aggregate)) rows ordering p
+value_beside set rows ordering p (Grouping columns) = Ok (Int (pos (mask set columns)))
+
+-- what the row at a position shows of the grouping columns, and these values
+abbrev pub row_beside : GroupRule → List ℕ → List Row → List ℕ → ℕ → Result Row Fault
+row_beside rule set rows ordering p = and_then (all_ok (map (value_beside set rows ordering p) rule.calls)) (λ values. Ok (shown rule.columns set (row_at rows p) ++ values))
+
+-- A set with columns gives the rows that show what no earlier one does, with the values of a window that is partitioned by its
+-- columns: so groups are evaluated as windows are.
+abbrev pub SetsAreWindows : Type 0
+SetsAreWindows = (rule : GroupRule) (set : List ℕ) (rows : List Row) (ordering : List ℕ)
+    → 0 < length set → AreBelow rule.columns set → EachOnce (length rows) ordering
+    → set_rows rule rows set ≡ map (row_beside rule set rows ordering) (filter (is_first (map (shown rule.columns set) rows)) (positions (length rows)))
 
 -- over rearranged rows a Limit keeps the very list that it keeps under the renamed ordering, which is lawful too
 pub record CutCommutes (limit : LimitRule) (rows : List Row) (ps ordering : List ℕ) : Type 0 where

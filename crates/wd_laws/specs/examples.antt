@@ -4,6 +4,7 @@ pub mod Frames
 pub mod Values
 pub mod Joins
 pub mod Limits
+pub mod Grouping
 pub mod Faults
 pub mod Choosing
 pub mod Agreeing

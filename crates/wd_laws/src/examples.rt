@@ -4,6 +4,7 @@ ghost use Rattle.wd_laws.specs.examples.Functions.{FunctionsComeOut};
 ghost use Rattle.wd_laws.specs.examples.Frames.{FramesComeOut};
 ghost use Rattle.wd_laws.specs.examples.Values.{ValuesComeOut};
 ghost use Rattle.wd_laws.specs.examples.Joins.{JoinsComeOut};
+ghost use Rattle.wd_laws.specs.examples.Grouping.{GroupsComeOut};
 ghost use Rattle.wd_laws.specs.examples.Limits.{LimitsComeOut};
 ghost use Rattle.wd_laws.specs.examples.Faults.{FaultsComeOut};
 ghost use Rattle.wd_laws.specs.examples.Choosing.{ChoicesComeOut};
@@ -27,6 +28,11 @@ pub fn values_come_out()
 /// The rows of joins, conditions and DISTINCT.
 pub fn joins_come_out()
     ensures { JoinsComeOut }
+{}
+
+/// The rows of grouping sets, and windows over them.
+pub fn groups_come_out()
+    ensures { GroupsComeOut }
 {}
 
 /// The rows that OFFSET, FETCH and LIMIT leave.

@@ -1,10 +1,10 @@
 //! Laws over the definitions of plans alone.
 
-ghost use Rattle.wd_laws.specs.Laws.{AgreeingIsAnEquivalence, ValuesGoByRows, SameRowsAtPlaces, SameResults, WindowHasOne, LimitHasOne, PlanHasOne, WindowCommutes, HasValidChoice, PeerGroupsRise, RowNumbersCount, StepsCommute, LimitCommutes, PlanCommutes, FramesAreContiguous, NtileIsEven, ExtremesAreFirst, HasWidths, HasKinds};
+ghost use Rattle.wd_laws.specs.Laws.{AgreeingIsAnEquivalence, ValuesGoByRows, SameRowsAtPlaces, SameResults, WindowHasOne, LimitHasOne, PlanHasOne, WindowCommutes, HasValidChoice, PeerGroupsRise, RowNumbersCount, StepsCommute, GroupsGoByColumns, GroupsPartRows, GroupsAreWindows, SetsAreWindows, LimitCommutes, PlanCommutes, FramesAreContiguous, NtileIsEven, ExtremesAreFirst, HasWidths, HasKinds};
 
 pub use crate::examples::{
     agreeing_comes_out, choices_come_out, faults_come_out, frames_come_out, functions_come_out,
-    joins_come_out, limits_come_out, values_come_out,
+    groups_come_out, joins_come_out, limits_come_out, values_come_out,
 };
 
 /// That two outcomes agree is an equivalence.
@@ -66,10 +66,32 @@ pub fn row_numbers_count()
     ensures { RowNumbersCount }
 {}
 
-/// Over rearranged rows a Filter, a Map, a Join and a Distinct have rearranged outcomes, faults
-/// included.
+/// Over rearranged rows a Filter, a Map, a Group, a Join and a Distinct have rearranged outcomes,
+/// faults included.
 pub fn steps_commute()
     ensures { StepsCommute }
+{}
+
+/// Rows are of one group of a grouping set exactly where they are the same on its columns.
+pub fn groups_go_by_columns()
+    ensures { GroupsGoByColumns }
+{}
+
+/// Each row is of one group of a grouping set, and each group of a set with columns has a row.
+pub fn groups_part_rows()
+    ensures { GroupsPartRows }
+{}
+
+/// An aggregate of a row's group is what a window call of it gives at the row, over the whole partition
+/// by the set's columns.
+pub fn groups_are_windows()
+    ensures { GroupsAreWindows }
+{}
+
+/// A grouping set with columns gives the first rows of the partitions of a window over its columns,
+/// with the window's values.
+pub fn sets_are_windows()
+    ensures { SetsAreWindows }
 {}
 
 /// Over rearranged rows a Limit keeps the rows of the renamed ordering, in the same order.

@@ -2,7 +2,7 @@
 use Rattle.std.proofs.Common.{◌≡◌, ℕ, zero, suc, ◌∷◌, Bool, true, false, ◌&&◌, ◌||◌, not, List, [], set, None, Some, refl, sym, ap, ◌∙◌}
 use Rattle.std.proofs.lemmas.Bool.{eqb-false}
 use Rattle.wd_value.specs.Rows.{Instance, Row, table_at}
-use Rattle.wd_plan.specs.Plans.{PlanTree, Scan, Join, Filter, Map, Window, Distinct, Limit}
+use Rattle.wd_plan.specs.Plans.{PlanTree, Scan, Join, Filter, Map, Group, Window, Distinct, Limit}
 use Rattle.wd_nodes.specs.Held.{IsHeld, IsHeldForSome, first_table, scans, scans_first_alone}
 
 left_true : (a b : Bool) → (a && b) ≡ true → a ≡ true
@@ -30,6 +30,7 @@ same_held (Scan table columns) instance = refl
 same_held (Join condition left right) instance = (same_held left instance, same_held right instance)
 same_held (Filter condition input) instance = same_held input instance
 same_held (Map outputs input) instance = same_held input instance
+same_held (Group rule input) instance = same_held input instance
 same_held (Window w input) instance = same_held input instance
 same_held (Distinct input) instance = same_held input instance
 same_held (Limit limit input) instance = same_held input instance
@@ -47,6 +48,7 @@ module _ (tables instance : Instance) (number : ℕ) (others : (k : ℕ) → (k 
   )
   others_held (Filter condition input) h = others_held input h
   others_held (Map outputs input) h = others_held input h
+  others_held (Group rule input) h = others_held input h
   others_held (Window w input) h = others_held input h
   others_held (Distinct input) h = others_held input h
   others_held (Limit limit input) h = others_held input h
@@ -59,6 +61,7 @@ module _ (tables instance : Instance) (number : ℕ) (others : (k : ℕ) → (k 
   )
   first_held rows (Filter condition input) is first h = first_held rows input is first h
   first_held rows (Map outputs input) is first h = first_held rows input is first h
+  first_held rows (Group rule input) is first h = first_held rows input is first h
   first_held rows (Window w input) is first h = first_held rows input is first h
   first_held rows (Distinct input) is first h = first_held rows input is first h
   first_held rows (Limit limit input) is first h = first_held rows input is first h

@@ -1,7 +1,7 @@
 -- Tables that stay where they are, and the rows of a plan's first table, which may be handed over.
 use Rattle.std.specs.Prelude.{◌≡◌, ℕ, Bool, ◌&&◌, ◌||◌, true, not, Option, None, Some, nat_eq, List}
 use Rattle.wd_value.specs.Rows.{Instance, Row, table_at}
-use Rattle.wd_plan.specs.Plans.{PlanTree, Scan, Join, Filter, Map, Window, Distinct, Limit}
+use Rattle.wd_plan.specs.Plans.{PlanTree, Scan, Join, Filter, Map, Group, Window, Distinct, Limit}
 
 -- rows that are handed over
 abbrev pub Handed : Type 0
@@ -18,6 +18,7 @@ IsHeld (Scan table columns) tables handed instance = read_at tables handed table
 IsHeld (Join condition left right) tables handed instance = IsHeld left tables handed instance × IsHeld right tables None instance
 IsHeld (Filter condition input) tables handed instance = IsHeld input tables handed instance
 IsHeld (Map outputs input) tables handed instance = IsHeld input tables handed instance
+IsHeld (Group rule input) tables handed instance = IsHeld input tables handed instance
 IsHeld (Window w input) tables handed instance = IsHeld input tables handed instance
 IsHeld (Distinct input) tables handed instance = IsHeld input tables handed instance
 IsHeld (Limit limit input) tables handed instance = IsHeld input tables handed instance
@@ -35,6 +36,7 @@ first_table (Scan table columns) = table
 first_table (Join condition left right) = first_table left
 first_table (Filter condition input) = first_table input
 first_table (Map outputs input) = first_table input
+first_table (Group rule input) = first_table input
 first_table (Window w input) = first_table input
 first_table (Distinct input) = first_table input
 first_table (Limit limit input) = first_table input
@@ -45,6 +47,7 @@ scans number (Scan table columns) = nat_eq number table
 scans number (Join condition left right) = scans number left || scans number right
 scans number (Filter condition input) = scans number input
 scans number (Map outputs input) = scans number input
+scans number (Group rule input) = scans number input
 scans number (Window w input) = scans number input
 scans number (Distinct input) = scans number input
 scans number (Limit limit input) = scans number input
@@ -55,6 +58,7 @@ scans_first_alone number (Scan table columns) = true
 scans_first_alone number (Join condition left right) = scans_first_alone number left && not (scans number right)
 scans_first_alone number (Filter condition input) = scans_first_alone number input
 scans_first_alone number (Map outputs input) = scans_first_alone number input
+scans_first_alone number (Group rule input) = scans_first_alone number input
 scans_first_alone number (Window w input) = scans_first_alone number input
 scans_first_alone number (Distinct input) = scans_first_alone number input
 scans_first_alone number (Limit limit input) = scans_first_alone number input

@@ -9,7 +9,8 @@ use Rattle.wd_value.specs.Rows.{Instance, Row, rows_of, table_at}
 use Rattle.wd_plan.specs.declared.expression.Expr.{Expr}
 use Rattle.wd_plan.specs.Expressions.{Expression, expression_of}
 use Rattle.wd_plan.specs.Faults.{and_then}
-use Rattle.wd_plan.specs.Outcomes.{RowsOrFault, join_outcome, outcome_of, pairs}
+use Rattle.wd_plan.specs.Outcomes.{RowsOrFault, group_outcome, join_outcome, outcome_of, pairs}
+use Rattle.wd_plan.specs.Plans.{GroupRule}
 use Rattle.wd_join.specs.declared.error.StepError.{StepError}
 use Rattle.wd_join.specs.declared.error.StepError.TheVariants.{TooManyRows, OutOfMemory}
 use Rattle.wd_join.specs.Joins.{has_more_rows}
@@ -54,6 +55,10 @@ produced_of instance (Made o) = outcome_of o
 produced_of instance (ByColumn rows) = Ok rows
 produced_of instance (Pairs' p left right) = join_over None (produced_of instance left) (given_of instance right)
 produced_of instance (Joined left right pairs) = Ok (rows_paired (side_of instance left) (side_of instance right) pairs.items)
+
+-- what a Group gives over what is below it
+abbrev pub group_over : GroupRule → RowsOrFault → RowsOrFault
+group_over rule input = and_then input (group_outcome rule)
 
 -- rows by reference, or a fault
 abbrev pub shown_of : Result (Bor (List (Vec Value Global))) Fault → RowsOrFault

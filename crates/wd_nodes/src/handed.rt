@@ -30,6 +30,7 @@ fn first_table(plan: &Plan) -> u16
         Plan::Join { left, .. } => first_table(left),
         Plan::Filter { input, .. } => first_table(input),
         Plan::Map { input, .. } => first_table(input),
+        Plan::Group { input, .. } => first_table(input),
         Plan::Window { input, .. } => first_table(input),
         Plan::Distinct { input } => first_table(input),
         Plan::Limit { input, .. } => first_table(input),
@@ -45,6 +46,7 @@ fn scans(number: u16, plan: &Plan) -> bool
         Plan::Join { left, right, .. } => scans(number, left) || scans(number, right),
         Plan::Filter { input, .. } => scans(number, input),
         Plan::Map { input, .. } => scans(number, input),
+        Plan::Group { input, .. } => scans(number, input),
         Plan::Window { input, .. } => scans(number, input),
         Plan::Distinct { input } => scans(number, input),
         Plan::Limit { input, .. } => scans(number, input),
@@ -62,6 +64,7 @@ fn scans_first_alone(number: u16, plan: &Plan) -> bool
         }
         Plan::Filter { input, .. } => scans_first_alone(number, input),
         Plan::Map { input, .. } => scans_first_alone(number, input),
+        Plan::Group { input, .. } => scans_first_alone(number, input),
         Plan::Window { input, .. } => scans_first_alone(number, input),
         Plan::Distinct { input } => scans_first_alone(number, input),
         Plan::Limit { input, .. } => scans_first_alone(number, input),

@@ -10,4 +10,4 @@ mod step;
 pub use handed::handed_over;
 pub use produced::{Given, Produced, gathered, outcome_from, owned, shown, table_in};
 pub use side::{Listed, Side};
-pub use step::{distinct, filtered, joined, mapped, scanned};
+pub use step::{distinct, filtered, grouped, joined, mapped, scanned};

@@ -3,22 +3,24 @@
 ghost use Rattle.std.specs.Prelude.{◌≡◌, ◌↔◌, ◌<◌, ℕ, List, true, false, get_or, length, IfNone, IfOk, IfSome, IsTrue, map, None, Ok, Some};
 ghost use Rattle.wd_columns.specs.Moves.{AreDifferent};
 ghost use Rattle.wd_nodes.specs.Held.{read_at};
-ghost use Rattle.wd_nodes.specs.Produced.{IsSmallOrLarge, given_of, join_over, joined_of, most_rows, produced_of, side_of};
+ghost use Rattle.wd_nodes.specs.Produced.{IsSmallOrLarge, given_of, group_over, join_over, joined_of, most_rows, produced_of, side_of};
 ghost use Rattle.wd_plan.specs.Expressions.{Column, expression_of};
 ghost use Rattle.wd_plan.specs.Faults.{and_then};
 ghost use Rattle.wd_plan.specs.Outcomes as spec;
 ghost use Rattle.wd_plan.specs.Outcomes.{outcome_of};
+ghost use Rattle.wd_plan.specs.Plans.{HaveMasks, grouping_of};
 ghost use Rattle.wd_join.specs.Joins.{has_more_rows};
 ghost use Rattle.wd_join.specs.Paired.{rows_paired};
 ghost use Rattle.wd_value.specs.Rows.{Instance, instance_of};
 
 use crate::pairs::{has_more, narrowed};
-use crate::produced::{Given, Produced, gathered, outcome_from, owned, shown, table_in};
+use crate::produced::{Given, Produced, gathered, outcome_from, shown, table_in};
 use crate::side::{Side, joined_rows, list_from, narrowed_side, rows_in, side_from, source};
 use std::alloc::Global;
-use wd_columns::Columns;
+use wd_columns::{Columns, RowSource};
+use wd_group::group_rows;
 use wd_join::{Pair, StepError, equal_pairs, filter_pairs, join_rows, paired_columns};
-use wd_plan::{Expr, Outcome};
+use wd_plan::{Expr, Group, Outcome};
 use wd_steps::{
     copy_filtered, distinct_rows, filter_rows, map_own_rows, map_rows_with_room, shown_columns,
 };
@@ -331,6 +333,49 @@ fn mapped_rows(
         }
         Given::Made(Outcome::Rows(rows)) => map_own_rows(alloc, outputs, rows),
         Given::Made(Outcome::Fault(fault)) => Ok(Outcome::Fault(fault)),
+    }
+}
+
+/// The rows of a Group's sets over the input's rows, or the error that there are too many.
+pub fn grouped(
+    alloc: Global,
+    instance: &[Vec<Row>],
+    group: &Group,
+    input: Produced,
+) -> Result<Outcome, StepError>
+    requires small { has_more_rows most_rows (produced_of (instance_of instance.now) input) ≡ false }
+    requires masks { HaveMasks (grouping_of group.now) }
+    ensures { IsSmallOrLarge (group_over (grouping_of group.now) (produced_of (instance_of instance.now) input)) outcome_of result }
+{
+    match input {
+        Produced::ByColumn(columns) => {
+            let outcome = group_rows(alloc, group, &RowSource::of_columns(&columns), MOST_ROWS)?;
+            Ok(outcome)
+        }
+        other => {
+            let given = gathered(alloc, instance, other, 0)?;
+            grouped_rows(alloc, instance, group, &given)
+        }
+    }
+}
+
+/// The same of a list of rows.
+fn grouped_rows(
+    alloc: Global,
+    instance: &[Vec<Row>],
+    group: &Group,
+    input: &Given,
+) -> Result<Outcome, StepError>
+    requires small { has_more_rows most_rows (given_of (instance_of instance.now) input.now) ≡ false }
+    requires masks { HaveMasks (grouping_of group.now) }
+    ensures { IsSmallOrLarge (group_over (grouping_of group.now) (given_of (instance_of instance.now) input.now)) outcome_of result }
+{
+    match shown(input, instance) {
+        Err(fault) => Ok(Outcome::Fault(fault)),
+        Ok(rows) => {
+            let outcome = group_rows(alloc, group, &RowSource::of_rows(rows), MOST_ROWS)?;
+            Ok(outcome)
+        }
     }
 }
 

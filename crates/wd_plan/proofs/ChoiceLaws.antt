@@ -3,9 +3,9 @@ use Rattle.std.proofs.Common.{◌≡◌, ℕ, ◌+◌, ◌≤◌, List, [], ◌+
 use Rattle.std.specs.List.{AllByRecursion}
 use Rattle.std.proofs.lemmas.List.{get_or_append_left, length-drop, take-append-le, drop-append-le}
 use Rattle.wd_value.specs.Rows.{Instance, rows_at}
-use Rattle.wd_plan.specs.Plans.{PlanTree, Scan, Join, Filter, Map, Window, Distinct, Limit, ordering_count}
+use Rattle.wd_plan.specs.Plans.{PlanTree, Scan, Join, Filter, Map, Group, Window, Distinct, Limit, ordering_count}
 use Rattle.wd_plan.specs.Faults.{and_then}
-use Rattle.wd_plan.specs.Outcomes.{RowsOrFault, outcome, filter_outcome, join_outcome, map_outcome, window_outcome, distinct, pairs, ordering_at, cut}
+use Rattle.wd_plan.specs.Outcomes.{RowsOrFault, outcome, filter_outcome, group_outcome, join_outcome, map_outcome, window_outcome, distinct, pairs, ordering_at, cut}
 use Rattle.wd_plan.specs.Choices.{AtRows, AreOrderings, AreLawful}
 use Rattle.wd_plan.specs.Sorting.{IsOrdering, limit_class}
 
@@ -27,6 +27,7 @@ outcome-append (Join condition left right) instance choice more h =
     (λ i. and_then (outcome-append left instance choice more (omega arith) i) (λ ls. and_then (right_is i) (λ rs. join_outcome condition (pairs ls rs))))
 outcome-append (Filter condition input) instance choice more h = ap (λ o. and_then o (filter_outcome condition)) (outcome-append input instance choice more h)
 outcome-append (Map outputs input) instance choice more h = ap (λ o. and_then o (map_outcome outputs)) (outcome-append input instance choice more h)
+outcome-append (Group rule input) instance choice more h = ap (λ o. and_then o (group_outcome rule)) (outcome-append input instance choice more h)
 outcome-append (Window w input) instance choice more h =
     (λ i. and_then (outcome-append input instance choice more (omega arith) i) (λ rows. window_outcome w rows (window_orderings choice more (ordering_count input) (length w.classes) h i)))
 outcome-append (Distinct input) instance choice more h = ap (λ o. and_then o (λ rows. Ok (distinct rows))) (outcome-append input instance choice more h)
@@ -43,6 +44,7 @@ AreLawful-append (Join condition left right) instance choice more h lawful =
     )
 AreLawful-append (Filter condition input) instance choice more h lawful = AreLawful-append input instance choice more h lawful
 AreLawful-append (Map outputs input) instance choice more h lawful = AreLawful-append input instance choice more h lawful
+AreLawful-append (Group rule input) instance choice more h lawful = AreLawful-append input instance choice more h lawful
 AreLawful-append (Window w input) instance choice more h lawful =
     let own = window_orderings choice more (ordering_count input) (length w.classes) h in
     let below = outcome-append input instance choice more (omega arith) in (

@@ -1,11 +1,13 @@
 -- A node over inputs that fit: whether it fits is what its own rule says.
-use Rattle.std.proofs.Common.{◌≡◌, ◌+◌, ◌∙◌, sym, ap, ℕ, Bool, true, ◌&&◌, List, Option, option_and_then, slice_get}
+use Rattle.std.proofs.Common.{◌≡◌, ◌+◌, ◌-◌, ◌<◌, ◌≤◌, ◌∙◌, sym, ap, arith, ℕ, suc, Bool, true, false, cond, ◌&&◌, List, Option, option_and_then, slice_get, nat_lt}
+use Rattle.std.proofs.lemmas.Bool.{le-ltb}
+use Rattle.std.specs.List.{list_all, range_with_len}
 use Rattle.wd_schema.specs.Tables.{TableRule}
 use Rattle.wd_plan.specs.Expressions.{Expression}
-use Rattle.wd_plan.specs.Fits.{Kinds, fits, kind_of, kinds_of, width, is_join, is_condition, are_outputs, is_window}
+use Rattle.wd_plan.specs.Fits.{Kinds, fits, kind_of, kinds_of, width, is_join, kind_of_group_call, is_condition, are_outputs, is_group, is_window}
 use Rattle.wd_plan.specs.declared.fits.KindSource.{KindSource}
 use Rattle.wd_plan.specs.Sources.{kind_from}
-use Rattle.wd_plan.specs.Plans.{PlanTree, WindowRule, Join, Filter, Map, Window}
+use Rattle.wd_plan.specs.Plans.{PlanTree, GroupRule, WindowRule, Join, Filter, Map, Group, Window}
 
 -- a first answer that is true leaves the second
 second : (a b r : Bool) → a ≡ true → r ≡ b → r ≡ (a && b)
@@ -16,6 +18,9 @@ fits-filter tables plan input e r is h own = second (fits tables input) (is_cond
 
 pub fits-map : (tables : List TableRule) (plan input : PlanTree) (outputs : List Expression) (r : Bool) → plan ≡ Map outputs input → fits tables input ≡ true → r ≡ are_outputs (kinds_of tables input) outputs → r ≡ fits tables plan
 fits-map tables plan input outputs r is h own = second (fits tables input) (are_outputs (kinds_of tables input) outputs) r h own ∙ ap (fits tables) (sym is)
+
+pub fits-group : (tables : List TableRule) (plan input : PlanTree) (g : GroupRule) (r : Bool) → plan ≡ Group g input → fits tables input ≡ true → r ≡ is_group (kinds_of tables input) (width input) g → r ≡ fits tables plan
+fits-group tables plan input g r is h own = second (fits tables input) (is_group (kinds_of tables input) (width input) g) r h own ∙ ap (fits tables) (sym is)
 
 pub fits-window : (tables : List TableRule) (plan input : PlanTree) (w : WindowRule) (r : Bool) → plan ≡ Window w input → fits tables input ≡ true → r ≡ is_window (kinds_of tables input) (width input) w → r ≡ fits tables plan
 fits-window tables plan input w r is h own = second (fits tables input) (is_window (kinds_of tables input) (width input) w) r h own ∙ ap (fits tables) (sym is)
@@ -30,3 +35,18 @@ pub kinds-map : (tables : List TableRule) (plan input : PlanTree) (outputs : Lis
     → ((kinds : Kinds) → option_and_then (kind_from kinds) source ≡ option_and_then (kind_of kinds) (slice_get outputs column))
     → option_and_then (kind_from (kinds_of tables input)) source ≡ kinds_of tables plan column
 kinds-map tables plan input outputs column source is gives = gives (kinds_of tables input) ∙ ap (λ p. kinds_of tables p column) (sym is)
+
+-- and of a Group's call
+pub kinds-group : (tables : List TableRule) (plan input : PlanTree) (g : GroupRule) (column : ℕ) (source : Option KindSource) → plan ≡ Group g input → g.columns ≤ column
+    → ((kinds : Kinds) → option_and_then (kind_from kinds) source ≡ option_and_then (kind_of_group_call kinds) (slice_get g.calls (column - g.columns)))
+    → option_and_then (kind_from (kinds_of tables input)) source ≡ kinds_of tables plan column
+kinds-group tables plan input g column source is past gives =
+    let call = option_and_then (kind_of_group_call (kinds_of tables input)) (slice_get g.calls (column - g.columns)) in
+    let at : nat_lt column g.columns ≡ false = le-ltb column g.columns past in
+    gives (kinds_of tables input) ∙ ap (λ b. cond b (kinds_of tables input column) call) (sym at) ∙ ap (λ p. kinds_of tables p column) (sym is)
+
+-- a test of the numbers from one on that passes it goes by the numbers after it
+pub range_tested : (test : ℕ → Bool) (i n : ℕ) → i < n → test i ≡ true → list_all test (range_with_len (i + 1) (n - (i + 1))) ≡ list_all test (range_with_len i (n - i))
+range_tested test i n h e =
+    let more : n - i ≡ suc (n - (i + 1)) = omega arith in
+    sym (ap (λ k. list_all test (range_with_len i k)) more ∙ ap (λ b. b && list_all test (range_with_len (i + 1) (n - (i + 1)))) e)

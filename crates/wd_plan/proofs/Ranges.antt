@@ -1,17 +1,18 @@
 -- What a plan that fits names: its columns are those of its inputs, its calls' classes are there.
-use Rattle.std.proofs.Common.{◌≡◌, ℕ, zero, suc, ◌+◌, ◌-◌, ◌<◌, ◌≤◌, Bool, true, false, cond, ◌&&◌, List, [], ◌∷◌, length, refl, sym, ◌∙◌, ap, subst, arith, nat_lt, nat_eq, nat_le, Option, Some, None, slice_get, is_some, option_and_then, option_map}
-use Rattle.std.specs.List.{AllByRecursion, list_all}
-use Rattle.std.proofs.lemmas.Bool.{and_parts, false≢true, leb-true, lt-ltb, eqb-true}
+use Rattle.std.proofs.Common.{◌≡◌, ℕ, zero, suc, ◌+◌, ◌-◌, ◌<◌, ◌≤◌, Bool, true, false, cond, ◌&&◌, List, [], ◌∷◌, length, refl, sym, ◌∙◌, ap, arith, nat_lt, nat_eq, nat_le, Option, Some, None, slice_get, is_some, option_and_then}
+use Rattle.std.specs.List.{AllByRecursion, list_all, list_any}
+use Rattle.std.proofs.lemmas.Bool.{and_parts, false≢true, leb-true, lt-ltb, ltb-false, ltb-true, eqb-true}
 use Rattle.std.proofs.lemmas.Option.{get_or_from_slice_get, slice_get_within}
 use Rattle.wd_schema.specs.declared.table.Column.{Column as TableColumn}
 use Rattle.wd_schema.specs.Tables.{TableRule}
 use Rattle.wd_value.specs.declared.order.SortColumn.{SortColumn}
 use Rattle.wd_plan.specs.declared.window.Call.{Call}
 use Rattle.wd_plan.specs.Expressions.{Expression}
-use Rattle.wd_plan.specs.Fits.{AreBelow, Kinds, are_bounds, fits, has_class, has_columns, has_keys, has_keys_for, has_table, is_call, is_condition, is_join, is_limit, is_narrow, is_typed, may_join, is_window, are_outputs, kind_of, kind_of_call, kinds_of, table_kind, takes, width}
+use Rattle.wd_plan.specs.Fits.{AreBelow, Kinds, are_bounds, fits, has_class, has_columns, has_keys, has_keys_for, has_table, is_call, is_condition, is_join, is_limit, is_narrow, is_typed, may_join, is_window, are_outputs, are_sets, is_group, is_group_call, kind_of, kind_of_call, kind_of_group_call, kinds_of, table_kind, takes, width}
+use Rattle.wd_value.specs.Bags.{positions}
 use Rattle.wd_value.specs.Keys.{key_columns}
 use Rattle.wd_plan.specs.Outcomes.{class_at}
-use Rattle.wd_plan.specs.Plans.{ClassRule, EachNamesClasses, NameBelow, WindowRule, PlanTree, Scan, Join, Filter, Map, Window, Distinct, Limit}
+use Rattle.wd_plan.specs.Plans.{ClassRule, EachNamesClasses, GroupCall, OfRows, Grouping, GroupRule, HasMask, NameBelow, WindowRule, PlanTree, Scan, Join, Filter, Map, Group, Window, Distinct, Limit, has}
 use Rattle.wd_plan.specs.Sorting.{order_columns}
 
 -- ---- a table's columns
@@ -53,6 +54,15 @@ kinds_below tables (Map outputs input) f c e = by (slice_get outputs c) refl e
     by : (o : Option Expression) → slice_get outputs c ≡ o → is_some (option_and_then (kind_of (kinds_of tables input)) o) ≡ true → c < length outputs
     by None h g = absurd (false≢true g)
     by (Some x) h g = slice_get_within outputs c x h
+kinds_below tables (Group g input) f c e = by (nat_lt c g.columns) refl e
+  where
+    by_call : (o : Option GroupCall) → slice_get g.calls (c - g.columns) ≡ o → is_some (option_and_then (kind_of_group_call (kinds_of tables input)) o) ≡ true → g.columns ≤ c → c < g.columns + length g.calls
+    by_call None h k l = absurd (false≢true k)
+    by_call (Some call) h k l = let m = slice_get_within g.calls (c - g.columns) call h in omega arith
+
+    by : (b : Bool) → nat_lt c g.columns ≡ b → is_some (cond b (kinds_of tables input c) (option_and_then (kind_of_group_call (kinds_of tables input)) (slice_get g.calls (c - g.columns)))) ≡ true → c < g.columns + length g.calls
+    by true h k = let l = ltb-true c g.columns h in omega arith
+    by false h k = by_call (slice_get g.calls (c - g.columns)) refl k (ltb-false c g.columns h)
 kinds_below tables (Window w input) f c e =
     let parts = and_parts (fits tables input) (is_window (kinds_of tables input) (width input) w) f in
     by (nat_lt c (width input)) refl e (kinds_below tables input parts.0 c)
@@ -122,6 +132,24 @@ module _ (kinds : Kinds) (columns : ℕ) (below : (c : ℕ) → is_some (kinds c
       let parts = and_parts (list_all (has_class kinds) w.classes) (list_all (is_call kinds w.classes) w.calls) first.1 in
       calls_sound_from w parts.0 w.calls parts.1
 
+-- ---- a Group's rule
+
+-- what is asked of a Group, part by part
+pub record GroupParts (kinds : Kinds) (columns : ℕ) (g : GroupRule) : Type 0 where
+  pub narrow : is_narrow (g.columns + length g.calls) ≡ true
+  pub there : g.columns ≤ columns
+  pub named : list_all (list_all (λ c. nat_lt c g.columns)) g.sets ≡ true
+  pub each : list_all (λ c. list_any (λ set. has set c) g.sets) (positions g.columns) ≡ true
+  pub calls : list_all (is_group_call kinds g.columns) g.calls ≡ true
+
+pub group_parts : (kinds : Kinds) (columns : ℕ) (g : GroupRule) → is_group kinds columns g ≡ true → GroupParts kinds columns g
+group_parts kinds columns g e =
+    let first = and_parts (is_narrow (g.columns + length g.calls)) (nat_le g.columns columns && (are_sets g.columns g.sets && list_all (is_group_call kinds g.columns) g.calls)) e in
+    let second = and_parts (nat_le g.columns columns) (are_sets g.columns g.sets && list_all (is_group_call kinds g.columns) g.calls) first.1 in
+    let third = and_parts (are_sets g.columns g.sets) (list_all (is_group_call kinds g.columns) g.calls) second.1 in
+    let sets = and_parts (list_all (list_all (λ c. nat_lt c g.columns)) g.sets) (list_all (λ c. list_any (λ set. has set c) g.sets) (positions g.columns)) third.0 in
+    record { narrow = first.0; there = leb-true g.columns columns second.0; named = sets.0; each = sets.1; calls = third.1 }
+
 -- ---- a plan that fits is narrow
 
 pub narrow : (tables : List TableRule) (plan : PlanTree) → fits tables plan ≡ true → width plan ≤ 1024
@@ -133,6 +161,7 @@ narrow tables (Filter condition input) f = narrow tables input (and_parts (fits 
 narrow tables (Map outputs input) f =
     let own = (and_parts (fits tables input) (are_outputs (kinds_of tables input) outputs) f).1 in
     leb-true (length outputs) 1024 (and_parts (is_narrow (length outputs)) (list_all (is_typed (kinds_of tables input)) outputs) own).0
+narrow tables (Group g input) f = leb-true (g.columns + length g.calls) 1024 (group_parts (kinds_of tables input) (width input) g (and_parts (fits tables input) (is_group (kinds_of tables input) (width input) g) f).1).narrow
 narrow tables (Window w input) f =
     let own = (and_parts (fits tables input) (is_window (kinds_of tables input) (width input) w) f).1 in
     leb-true (width input + length w.calls) 1024 (and_parts (is_narrow (width input + length w.calls)) (list_all (has_class (kinds_of tables input)) w.classes && list_all (is_call (kinds_of tables input) w.classes) w.calls) own).0
@@ -145,6 +174,16 @@ named : (kinds : Kinds) (columns : ℕ) (below : (c : ℕ) → is_some (kinds c)
 named kinds columns below w [] a = tt
 named kinds columns below w (call ∷ calls) a = (a.0.names, named kinds columns below w calls a.1)
 
+-- each GROUPING of a Group that fits has a mask
+have_masks : (kinds : Kinds) (columns : ℕ) (calls : List GroupCall) → list_all (is_group_call kinds columns) calls ≡ true → AllByRecursion (λ (call : GroupCall). HasMask call) calls
+have_masks kinds columns [] e = tt
+have_masks kinds columns (OfRows a ∷ calls) e = (tt, have_masks kinds columns calls (and_parts (is_group_call kinds columns (OfRows a)) (list_all (is_group_call kinds columns) calls) e).1)
+have_masks kinds columns (Grouping arguments ∷ calls) e =
+    let parts = and_parts (is_group_call kinds columns (Grouping arguments)) (list_all (is_group_call kinds columns) calls) e in
+    let own = and_parts (nat_lt 0 (length arguments) && nat_le (length arguments) 31) (list_all (λ c. nat_lt c columns) arguments) parts.0 in
+    let long = and_parts (nat_lt 0 (length arguments)) (nat_le (length arguments) 31) own.0 in
+    (leb-true (length arguments) 31 long.1, have_masks kinds columns calls parts.1)
+
 pub names_classes : (tables : List TableRule) (plan : PlanTree) → fits tables plan ≡ true → EachNamesClasses plan
 names_classes tables (Scan table columns) f = tt
 names_classes tables (Join condition left right) f =
@@ -153,6 +192,9 @@ names_classes tables (Join condition left right) f =
     (names_classes tables left sides.0, names_classes tables right sides.1)
 names_classes tables (Filter condition input) f = names_classes tables input (and_parts (fits tables input) (is_condition (kinds_of tables input) condition) f).0
 names_classes tables (Map outputs input) f = names_classes tables input (and_parts (fits tables input) (are_outputs (kinds_of tables input) outputs) f).0
+names_classes tables (Group g input) f =
+    let parts = and_parts (fits tables input) (is_group (kinds_of tables input) (width input) g) f in
+    (names_classes tables input parts.0, have_masks (kinds_of tables input) g.columns g.calls (group_parts (kinds_of tables input) (width input) g parts.1).calls)
 names_classes tables (Window w input) f =
     let parts = and_parts (fits tables input) (is_window (kinds_of tables input) (width input) w) f in
     let below = kinds_below tables input parts.0 in

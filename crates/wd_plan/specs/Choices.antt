@@ -2,7 +2,7 @@
 use Rattle.std.specs.Prelude.{◌≡◌, ℕ, ◌<◌, List, [], length, take, drop, Ok, Err, ⊤}
 use Rattle.std.specs.List.{AllByRecursion}
 use Rattle.wd_value.specs.Rows.{Row, Instance}
-use Rattle.wd_plan.specs.Plans.{WindowRule, PlanTree, Scan, Join, Filter, Map, Window, Distinct, Limit, ordering_count}
+use Rattle.wd_plan.specs.Plans.{WindowRule, PlanTree, Scan, Join, Filter, Map, Group, Window, Distinct, Limit, ordering_count}
 use Rattle.wd_plan.specs.Outcomes.{RowsOrFault, outcome, class_at, ordering_at}
 use Rattle.wd_plan.specs.Sorting.{IsOrdering, limit_class}
 
@@ -22,6 +22,7 @@ AreLawful (Scan table columns) instance choice = ⊤
 AreLawful (Join condition left right) instance choice = AreLawful left instance choice × AreLawful right instance (drop (ordering_count left) choice)
 AreLawful (Filter condition input) instance choice = AreLawful input instance choice
 AreLawful (Map outputs input) instance choice = AreLawful input instance choice
+AreLawful (Group rule input) instance choice = AreLawful input instance choice
 AreLawful (Window w input) instance choice =
     AreLawful input instance choice
     × (let own = take (length w.classes) (drop (ordering_count input) choice) in AtRows (outcome input instance choice) (λ rows. AreOrderings w rows own) (AllByRecursion (λ o. o ≡ []) own))

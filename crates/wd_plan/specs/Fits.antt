@@ -2,7 +2,7 @@
 -- place asks for, and no node has more than 1,024 columns (SQL, value expression, window clause, window function; PG,
 -- Window Function Calls; the limit is this project's choice).
 use Rattle.std.specs.Prelude.{◌≡◌, ℕ, ◌+◌, ◌-◌, Bool, true, false, not, ◌&&◌, ◌||◌, List, [], ◌∷◌, length, nat_eq, nat_lt, nat_le, slice_get, if◌then◌else◌, Option, Some, None, is_some, option_map, option_and_then}
-use Rattle.std.specs.List.{list_all}
+use Rattle.std.specs.List.{list_all, list_any}
 use Rattle.wd_value.specs.declared.value.Value.{Value}
 use Rattle.wd_value.specs.declared.value.Value.TheVariants.{Null, Int, Text as TextValue, Bool as TruthValue}
 use Rattle.wd_value.specs.declared.value.ColumnType.{ColumnType}
@@ -23,6 +23,7 @@ use Rattle.wd_plan.specs.declared.function.Ranking.{Ranking}
 use Rattle.wd_plan.specs.declared.function.Ranking.TheVariants.{RowNumber, Rank, DenseRank, Ntile}
 use Rattle.wd_plan.specs.declared.function.ResultKind.{ResultKind}
 use Rattle.wd_plan.specs.declared.function.ResultKind.TheVariants.{Number as Numbers, OfArgument}
+use Rattle.wd_value.specs.Bags.{positions}
 use Rattle.wd_value.specs.declared.order.SortColumn.{SortColumn}
 use Rattle.wd_plan.specs.declared.window.Bound.{Bound}
 use Rattle.wd_plan.specs.declared.window.Bound.TheVariants.{UnboundedPreceding, Preceding, CurrentRow, Following, UnboundedFollowing}
@@ -32,7 +33,7 @@ use Rattle.wd_plan.specs.declared.window.FrameMode.{FrameMode}
 use Rattle.wd_plan.specs.declared.window.FrameMode.TheVariants as mode
 use Rattle.wd_plan.specs.Expressions.{Expression, Column, Literal, Negate, Arithmetic, Compare, Not, And, Or, IsNull, IsNotNull, Case}
 use Rattle.wd_plan.specs.Functions.{argument_of, name_of, signature}
-use Rattle.wd_plan.specs.Plans.{ClassRule, LimitRule, WindowRule, PlanTree, Scan, Join, Filter, Map, Window, Distinct, Limit}
+use Rattle.wd_plan.specs.Plans.{ClassRule, GroupCall, OfRows, Grouping, GroupRule, LimitRule, WindowRule, PlanTree, Scan, Join, Filter, Map, Group, Window, Distinct, Limit, has}
 
 -- ---- kinds of values
 
@@ -229,6 +230,21 @@ is_call kinds classes call = of_class (slice_get classes call.class)
     of_class None = false
     of_class (Some class) = takes kinds call.function && (are_bounds call.frame.start call.frame.end && has_keys_for kinds class.order call.frame)
 
+-- ---- groups
+
+-- each set names grouping columns, and each of these stands in some set
+abbrev pub are_sets : ℕ → List (List ℕ) → Bool
+are_sets columns sets = list_all (list_all (λ c. nat_lt c columns)) sets && list_all (λ c. list_any (λ set. has set c) sets) (positions columns)
+
+abbrev pub kind_of_group_call : Kinds → GroupCall → Option ValueKind
+kind_of_group_call kinds (OfRows a) = kind_of_function kinds (OfFrame (Aggregate a))
+kind_of_group_call kinds (Grouping arguments) = Some Number
+
+-- an aggregate with its argument, or GROUPING of 1 to 31 grouping columns
+abbrev pub is_group_call : Kinds → ℕ → GroupCall → Bool
+is_group_call kinds columns (OfRows a) = takes kinds (OfFrame (Aggregate a))
+is_group_call kinds columns (Grouping arguments) = (nat_lt 0 (length arguments) && nat_le (length arguments) 31) && list_all (λ c. nat_lt c columns) arguments
+
 -- ---- nodes
 
 -- columns of a node with so many
@@ -241,6 +257,7 @@ width (Scan table columns) = columns
 width (Join condition left right) = width left + width right
 width (Filter condition input) = width input
 width (Map outputs input) = length outputs
+width (Group g input) = g.columns + length g.calls
 width (Window w input) = width input + length w.calls
 width (Distinct input) = width input
 width (Limit limit input) = width input
@@ -249,13 +266,14 @@ width (Limit limit input) = width input
 abbrev pub table_kind : List TableRule → ℕ → Kinds
 table_kind tables table c = option_and_then (λ (t : TableRule). option_map (λ (column : TableColumn). kind_of_type column.kind) (slice_get t.columns c)) (slice_get tables table)
 
--- the kinds of the columns of a node's rows: of a table's columns; left, then right; the input's; the outputs'; the input's,
--- then the calls'
+-- the kinds of the columns of a node's rows: of a table's columns; left, then right; the input's; the outputs'; the grouping
+-- columns' or the input's, then the calls'
 abbrev pub kinds_of : List TableRule → PlanTree → Kinds
 kinds_of tables (Scan table columns) c = table_kind tables table c
 kinds_of tables (Join condition left right) c = if nat_lt c (width left) then kinds_of tables left c else kinds_of tables right (c - width left)
 kinds_of tables (Filter condition input) c = kinds_of tables input c
 kinds_of tables (Map outputs input) c = option_and_then (kind_of (kinds_of tables input)) (slice_get outputs c)
+kinds_of tables (Group g input) c = if nat_lt c g.columns then kinds_of tables input c else option_and_then (kind_of_group_call (kinds_of tables input)) (slice_get g.calls (c - g.columns))
 kinds_of tables (Window w input) c = if nat_lt c (width input) then kinds_of tables input c else option_and_then (kind_of_call (kinds_of tables input)) (slice_get w.calls (c - width input))
 kinds_of tables (Distinct input) c = kinds_of tables input c
 kinds_of tables (Limit limit input) c = kinds_of tables input c
@@ -284,6 +302,10 @@ are_outputs kinds outputs = is_narrow (length outputs) && list_all (is_typed kin
 abbrev pub is_window : Kinds → ℕ → WindowRule → Bool
 is_window kinds columns w = is_narrow (columns + length w.calls) && (list_all (has_class kinds) w.classes && list_all (is_call kinds w.classes) w.calls)
 
+-- the sets and calls of a Group, over the number and the kinds of its input's columns
+abbrev pub is_group : Kinds → ℕ → GroupRule → Bool
+is_group kinds columns g = is_narrow (g.columns + length g.calls) && (nat_le g.columns columns && (are_sets g.columns g.sets && list_all (is_group_call kinds g.columns) g.calls))
+
 -- the sort keys of a Limit; WITH TIES needs some
 abbrev pub is_limit : Kinds → LimitRule → Bool
 is_limit kinds limit = has_keys kinds limit.keys && (not limit.ties || nat_lt 0 (length limit.keys))
@@ -294,6 +316,7 @@ fits tables (Scan table columns) = is_narrow columns && has_table tables table c
 fits tables (Join condition left right) = (fits tables left && fits tables right) && is_join (kinds_of tables (Join condition left right)) (width left + width right) condition
 fits tables (Filter condition input) = fits tables input && is_condition (kinds_of tables input) condition
 fits tables (Map outputs input) = fits tables input && are_outputs (kinds_of tables input) outputs
+fits tables (Group g input) = fits tables input && is_group (kinds_of tables input) (width input) g
 fits tables (Window w input) = fits tables input && is_window (kinds_of tables input) (width input) w
 fits tables (Distinct input) = fits tables input
 fits tables (Limit limit input) = fits tables input && is_limit (kinds_of tables input) limit

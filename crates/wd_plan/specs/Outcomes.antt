@@ -1,19 +1,20 @@
 -- What a plan gives over an instance under a choice of orderings, and when two outcomes agree.
-use Rattle.std.specs.Prelude.{◌≡◌, ℕ, zero, suc, Bool, false, not, List, [], ◌∷◌, ◌++◌, map, filter, flat_map, length, take, drop, take_while, Option, Some, None, Result, Ok, Err, slice_index_or, if◌then◌else◌}
+use Rattle.std.specs.Prelude.{◌≡◌, ℕ, zero, suc, ◌+◌, ◌^◌, pos, Bool, false, not, List, [], ◌∷◌, ◌++◌, map, filter, flat_map, length, take, drop, take_while, Option, Some, None, Result, Ok, Err, slice_index_or, if◌then◌else◌}
 use Rattle.std.specs.Ordering.{is_eq}
 use Rattle.wd_value.specs.declared.value.Value.{Value}
+use Rattle.wd_value.specs.declared.value.Value.TheVariants.{Int, Null}
 use Rattle.wd_value.specs.declared.value.Fault.{Fault as StepFault}
 use Rattle.wd_value.specs.Bags.{SameBag, positions}
-use Rattle.wd_value.specs.Rows.{Row, Instance, same_row, rows_of, row_at, rows_at, table_at}
+use Rattle.wd_value.specs.Rows.{Row, Instance, column_of, same_row, rows_of, row_at, rows_at, table_at}
 use Rattle.wd_value.specs.declared.order.SortColumn.{SortColumn}
 use Rattle.wd_plan.specs.declared.plan.Outcome.{Outcome}
 use Rattle.wd_plan.specs.declared.plan.Outcome.TheVariants.{Rows, Fault}
 use Rattle.wd_plan.specs.declared.window.Call.{Call}
-use Rattle.wd_plan.specs.Calls.{value_at}
+use Rattle.wd_plan.specs.Calls.{aggregate_value, value_at}
 use Rattle.wd_plan.specs.Expressions.{Expression, value_of, is_true}
 use Rattle.wd_plan.specs.Faults.{all_ok, and_then, least_fault, unless}
 use Rattle.wd_value.specs.Keys.{compare_keys}
-use Rattle.wd_plan.specs.Plans.{ClassRule, WindowRule, LimitRule, PlanTree, Scan, Join, Filter, Map, Window, Distinct, Limit, ordering_count}
+use Rattle.wd_plan.specs.Plans.{ClassRule, GroupCall, OfRows, Grouping, GroupRule, WindowRule, LimitRule, PlanTree, Scan, Join, Filter, Map, Group, Window, Distinct, Limit, has, ordering_count}
 
 -- an outcome: rows as a list, or a fault
 abbrev pub RowsOrFault : Type 0
@@ -52,6 +53,43 @@ pairs left right = flat_map (λ l. map (λ r. l ++ r) right) left
 abbrev pub distinct : List Row → List Row
 distinct [] = []
 distinct (r ∷ rs) = r ∷ filter (λ q. not (same_row r q)) (distinct rs)
+
+-- ---- groups (SQL, group by clause, set function specification; PG, Table Expressions, Aggregate Functions)
+
+-- what a row shows in the grouping columns, the first so many, under a set: NULL outside the set
+abbrev pub shown : ℕ → List ℕ → Row → Row
+shown columns set row = map (λ c. if has set c then column_of row c else Null) (positions columns)
+
+-- the groups of a set, each by what its rows show, in order of their first row; the empty set has one, also of no rows
+abbrev pub groups : ℕ → List ℕ → List Row → List Row
+groups columns [] rows = shown columns [] [] ∷ []
+groups columns (c ∷ set) rows = distinct (map (shown columns (c ∷ set)) rows)
+
+-- the rows of a group: those that show it
+abbrev pub rows_of_group : ℕ → List ℕ → List Row → Row → List Row
+rows_of_group columns set rows group = filter (λ row. same_row group (shown columns set row)) rows
+
+-- GROUPING is a mask: a bit for each argument, the last one's lowest, which is 0 where the column is in the set
+abbrev pub mask : List ℕ → List ℕ → ℕ
+mask set [] = 0
+mask set (c ∷ columns) = (if has set c then 0 else 2 ^ length columns) + mask set columns
+
+-- the value of a call for a group of a set
+abbrev pub group_value : List ℕ → List Row → GroupCall → Result Value StepFault
+group_value set rows (OfRows aggregate) = aggregate_value aggregate rows
+group_value set rows (Grouping columns) = Ok (Int (pos (mask set columns)))
+
+-- a group and the values of its calls
+abbrev pub group_row : GroupRule → List Row → List ℕ → Row → Result Row StepFault
+group_row rule rows set group = and_then (all_ok (map (group_value set (rows_of_group rule.columns set rows group)) rule.calls)) (λ values. Ok (group ++ values))
+
+-- the rows of a set's groups
+abbrev pub set_rows : GroupRule → List Row → List ℕ → List (Result Row StepFault)
+set_rows rule rows set = map (group_row rule rows set) (groups rule.columns set rows)
+
+-- for each set in order the rows of its groups, or the least fault of the step
+abbrev pub group_outcome : GroupRule → List Row → RowsOrFault
+group_outcome rule rows = all_ok (flat_map (set_rows rule rows) rule.sets)
 
 -- ---- windows
 
@@ -104,6 +142,7 @@ outcome (Scan table columns) instance choice = Ok (table_at instance table)
 outcome (Join condition left right) instance choice = and_then (outcome left instance choice) (λ ls. and_then (outcome right instance (drop (ordering_count left) choice)) (λ rs. join_outcome condition (pairs ls rs)))
 outcome (Filter condition input) instance choice = and_then (outcome input instance choice) (filter_outcome condition)
 outcome (Map outputs input) instance choice = and_then (outcome input instance choice) (map_outcome outputs)
+outcome (Group rule input) instance choice = and_then (outcome input instance choice) (group_outcome rule)
 outcome (Window w input) instance choice = and_then (outcome input instance choice) (λ rows. window_outcome w rows (take (length w.classes) (drop (ordering_count input) choice)))
 outcome (Distinct input) instance choice = and_then (outcome input instance choice) (λ rows. Ok (distinct rows))
 outcome (Limit limit input) instance choice = and_then (outcome input instance choice) (λ rows. Ok (cut limit (rows_at rows (ordering_at choice (ordering_count input)))))

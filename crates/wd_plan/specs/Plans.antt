@@ -1,10 +1,16 @@
 -- Plans as pure data, and how contracts see those of the code.
-use Rattle.std.specs.Prelude.{ℕ, ◌+◌, ◌<◌, Bool, List, map, length, Option, option_map, ⊤}
-use Rattle.std.specs.List.{AllByRecursion}
+use Rattle.std.specs.Prelude.{ℕ, ◌+◌, ◌<◌, ◌≤◌, Bool, List, map, length, nat_eq, Option, option_map, ⊤}
+use Rattle.std.specs.List.{AllByRecursion, list_any}
+use Rattle.std.specs.declared.alloc.Global.{Global}
+use Rattle.std.specs.declared.vec.Vec.{Vec}
 use Rattle.wd_value.specs.declared.order.SortColumn.{SortColumn}
 use Rattle.wd_plan.specs.declared.plan.Plan.{Plan}
 use Rattle.wd_plan.specs.declared.plan.Plan.TheVariants as code
 use Rattle.wd_plan.specs.declared.plan.Limit.{Limit as CodeLimit}
+use Rattle.wd_plan.specs.declared.function.Aggregate.{Aggregate}
+use Rattle.wd_plan.specs.declared.group.Group.{Group as CodeGroup}
+use Rattle.wd_plan.specs.declared.group.GroupCall.{GroupCall as CodeGroupCall}
+use Rattle.wd_plan.specs.declared.group.GroupCall.TheVariants as shown
 use Rattle.wd_plan.specs.declared.window.Window.{Window as CodeWindow}
 use Rattle.wd_plan.specs.declared.window.Call.{Call}
 use Rattle.wd_plan.specs.declared.window.Class.{Class}
@@ -26,6 +32,33 @@ pub record WindowRule : Type 0 where
 abbrev pub window_of : CodeWindow → WindowRule
 window_of window = record { classes = map class_of window.classes.items; calls = window.calls.items }
 
+-- what a Group shows of a group beside its grouping columns: an aggregate of its rows, or which of these grouping columns its
+-- set lacks
+pub data GroupCall : Type 0 where
+  OfRows : Aggregate → GroupCall
+  Grouping : List ℕ → GroupCall
+
+abbrev pub group_call_of : CodeGroupCall → GroupCall
+group_call_of (shown.OfRows aggregate) = OfRows aggregate
+group_call_of (shown.Grouping columns) = Grouping columns.items
+
+-- what a Group asks: the first so many columns of its input are the grouping columns, and each set is a list of these
+pub record GroupRule : Type 0 where
+  pub columns : ℕ
+  pub sets : List (List ℕ)
+  pub calls : List GroupCall
+
+-- the sets that a list of the code shows
+abbrev pub sets_of : List (Vec ℕ Global) → List (List ℕ)
+sets_of sets = map (λ set. set.items) sets
+
+abbrev pub grouping_of : CodeGroup → GroupRule
+grouping_of group = record { columns = group.columns; sets = sets_of group.sets.items; calls = map group_call_of group.calls.items }
+
+-- whether a grouping set has a column
+abbrev pub has : List ℕ → ℕ → Bool
+has set c = list_any (nat_eq c) set
+
 -- what a Limit asks: its sort keys, how many rows it leaves out, how many it then gives at most, and whether with ties
 pub record LimitRule : Type 0 where
   pub keys : List SortColumn
@@ -42,6 +75,7 @@ pub data PlanTree : Type 0 where
   Join : Option Expression → PlanTree → PlanTree → PlanTree
   Filter : Expression → PlanTree → PlanTree
   Map : List Expression → PlanTree → PlanTree
+  Group : GroupRule → PlanTree → PlanTree
   Window : WindowRule → PlanTree → PlanTree
   Distinct : PlanTree → PlanTree
   Limit : LimitRule → PlanTree → PlanTree
@@ -52,6 +86,7 @@ plan_of (code.Scan table columns) = Scan table columns
 plan_of (code.Join' p left q right condition) = Join (option_map expression_of condition) (plan_of left) (plan_of right)
 plan_of (code.Filter' p input condition) = Filter (expression_of condition) (plan_of input)
 plan_of (code.Map' p input outputs) = Map (map expression_of outputs.items) (plan_of input)
+plan_of (code.Group' p input group) = Group (grouping_of group) (plan_of input)
 plan_of (code.Window' p input window) = Window (window_of window) (plan_of input)
 plan_of (code.Distinct' p input) = Distinct (plan_of input)
 plan_of (code.Limit' p input limit) = Limit (limit_of limit) (plan_of input)
@@ -62,6 +97,7 @@ ordering_count (Scan table columns) = 0
 ordering_count (Join condition left right) = ordering_count left + ordering_count right
 ordering_count (Filter condition input) = ordering_count input
 ordering_count (Map outputs input) = ordering_count input
+ordering_count (Group rule input) = ordering_count input
 ordering_count (Window rule input) = ordering_count input + length rule.classes
 ordering_count (Distinct input) = ordering_count input
 ordering_count (Limit rule input) = ordering_count input + 1
@@ -72,9 +108,19 @@ node_count (Scan table columns) = 1
 node_count (Join condition left right) = node_count left + node_count right + 1
 node_count (Filter condition input) = node_count input + 1
 node_count (Map outputs input) = node_count input + 1
+node_count (Group rule input) = node_count input + 1
 node_count (Window rule input) = node_count input + 1
 node_count (Distinct input) = node_count input + 1
 node_count (Limit rule input) = node_count input + 1
+
+-- a mask of at most 31 grouping columns
+abbrev pub HasMask : GroupCall → Type 0
+HasMask (OfRows aggregate) = ⊤
+HasMask (Grouping columns) = length columns ≤ 31
+
+-- each GROUPING of a Group is one
+abbrev pub HaveMasks : GroupRule → Type 0
+HaveMasks g = AllByRecursion (λ (call : GroupCall). HasMask call) g.calls
 
 -- each call names one of so many classes
 abbrev pub NameBelow : ℕ → List Call → Type 0
@@ -84,12 +130,13 @@ NameBelow classes calls = AllByRecursion (λ (call : Call). call.class < classes
 abbrev pub NamesClasses : WindowRule → Type 0
 NamesClasses w = NameBelow (length w.classes) w.calls
 
--- and so in each Window of a plan
+-- and so in each Window of a plan; and each Group has its masks
 abbrev pub EachNamesClasses : PlanTree → Type 0
 EachNamesClasses (Scan table columns) = ⊤
 EachNamesClasses (Join condition left right) = EachNamesClasses left × EachNamesClasses right
 EachNamesClasses (Filter condition input) = EachNamesClasses input
 EachNamesClasses (Map outputs input) = EachNamesClasses input
+EachNamesClasses (Group rule input) = EachNamesClasses input × HaveMasks rule
 EachNamesClasses (Window rule input) = EachNamesClasses input × NamesClasses rule
 EachNamesClasses (Distinct input) = EachNamesClasses input
 EachNamesClasses (Limit rule input) = EachNamesClasses input

@@ -1,5 +1,5 @@
 -- When no choice of orderings changes a call or a limit, in the rows of a node's input.
-use Rattle.std.specs.Prelude.{◌≡◌, ℕ, ◌<◌, Bool, true, false, List, length, drop, ◌⊎◌, None, ⊤}
+use Rattle.std.specs.Prelude.{◌≡◌, ℕ, Bool, true, false, List, drop, ◌⊎◌, None, ⊤}
 use Rattle.std.specs.List.{AllByRecursion}
 use Rattle.wd_value.specs.Rows.{Row, Instance}
 use Rattle.wd_plan.specs.declared.window.Call.{Call}
@@ -15,7 +15,7 @@ use Rattle.wd_plan.specs.Facts.{Determines, DeterminesRow, DeterminesAll, HasWid
 use Rattle.wd_plan.specs.Frames.{is_stable}
 use Rattle.wd_plan.specs.Functions.{name_of, signature}
 use Rattle.wd_plan.specs.Outcomes.{outcome, class_at}
-use Rattle.wd_plan.specs.Plans.{ClassRule, NamesClasses, WindowRule, LimitRule, PlanTree, Scan, Join, Filter, Map, Window, Distinct, Limit, ordering_count}
+use Rattle.wd_plan.specs.Plans.{ClassRule, NamesClasses, WindowRule, LimitRule, PlanTree, Scan, Join, Filter, Map, Group, Window, Distinct, Limit, ordering_count}
 use Rattle.wd_plan.specs.Sorting.{class_columns, order_columns, limit_class}
 
 -- whether a function goes by peers over a frame
@@ -54,6 +54,7 @@ IsSettledPlan (Scan table columns) instance choice = ⊤
 IsSettledPlan (Join condition left right) instance choice = IsSettledPlan left instance choice × IsSettledPlan right instance (drop (ordering_count left) choice)
 IsSettledPlan (Filter condition input) instance choice = IsSettledPlan input instance choice
 IsSettledPlan (Map outputs input) instance choice = IsSettledPlan input instance choice
+IsSettledPlan (Group rule input) instance choice = IsSettledPlan input instance choice
 IsSettledPlan (Window w input) instance choice =
     IsSettledPlan input instance choice × NamesClasses w
     × AtRows (outcome input instance choice) (λ rows. (exchange : ℕ) × (width : ℕ) × HasWidth width rows × AllByRecursion (IsSettledCall w exchange width rows) w.calls) ⊤

@@ -1,15 +1,21 @@
 //! Whether a plan fits a schema.
 
-ghost use Rattle.std.specs.Prelude.{◌≡◌, ◌-◌, ◌^◌, min, map, option_and_then, option_map, slice_get};
-ghost use Rattle.std.specs.List.{list_all};
+ghost use Rattle.std.specs.Prelude.{◌≡◌, ◌-◌, ◌^◌, min, map, nat_lt, option_and_then, option_map, slice_get};
+ghost use Rattle.std.specs.List.{list_all, list_any};
 ghost use Rattle.wd_schema.specs.Schemas.{schema_of};
 ghost use Rattle.wd_plan.specs.Expressions.{expression_of};
 ghost use Rattle.wd_plan.specs.Fits as spec;
-ghost use Rattle.wd_plan.specs.Plans.{class_of, limit_of, plan_of, window_of};
+ghost use Rattle.wd_value.specs.Bags.{positions};
+ghost use Rattle.wd_plan.specs.Plans.{class_of, group_call_of, grouping_of, has, limit_of, plan_of, sets_of, window_of};
+ghost use Rattle.wd_plan.specs.declared.function.FrameFunction.TheVariants as frame_function;
+ghost use Rattle.wd_plan.specs.declared.function.Function.TheVariants as function;
 ghost use Rattle.wd_plan.specs.Sources.{kind_from};
 
 use crate::expression::{Expr, ValueKind};
-use crate::function::{Argument, FrameFunction, FrameRow, Function, Ranking, ResultKind};
+use crate::function::{
+    Aggregate, Argument, FrameFunction, FrameRow, Function, Ranking, ResultKind,
+};
+use crate::group::{Group, GroupCall, has_column};
 use crate::plan::{Limit, Plan, capped};
 use crate::window::{Bound, Call, Class, Frame, FrameMode, Window};
 use wd_schema::Schema;
@@ -44,6 +50,7 @@ impl Plan {
                 && condition.is_condition(input, schema),
             Plan::Map { input, outputs } => input.fits(schema)
                 && are_outputs(outputs, input, schema),
+            Plan::Group { input, group } => input.fits(schema) && is_group(group, input, schema),
             Plan::Window { input, window } => input.fits(schema)
                 && is_window(window, input, schema),
             Plan::Distinct { input } => input.fits(schema),
@@ -60,6 +67,9 @@ impl Plan {
             Plan::Join { left, right, .. } => left.width().saturating_add(right.width()),
             Plan::Filter { input, .. } => input.width(),
             Plan::Map { outputs, .. } => capped(outputs.len()),
+            Plan::Group { group, .. } => u32::from(group.columns).saturating_add(capped(
+                group.calls.len(),
+            )),
             Plan::Window { input, window } => input
                 .width()
                 .saturating_add(capped(window.calls.len())),
@@ -87,6 +97,15 @@ impl Plan {
                 KindSource::OfColumn(c) => input.kind(c, schema),
                 KindSource::Always(kind) => Some(kind),
             },
+            Plan::Group { input, group } => {
+                if column < group.columns {
+                    return input.kind(column, schema);
+                }
+                match group_source(&group.calls, column - group.columns)? {
+                    KindSource::OfColumn(c) => input.kind(c, schema),
+                    KindSource::Always(kind) => Some(kind),
+                }
+            }
             Plan::Window { input, window } => {
                 let width = input.width();
                 if u32::from(column) < width {
@@ -153,6 +172,57 @@ fn call_source(calls: &[Call], number: u16) -> Option<KindSource>
 {
     let call = calls.get(usize::from(number))?;
     call.function.source()
+}
+
+/// What gives the kind of the call of a Group with this number.
+fn group_source(calls: &[GroupCall], number: u16) -> Option<KindSource>
+    ensures { (kinds : spec.Kinds) → option_and_then (kind_from kinds) result ≡ option_and_then (spec.kind_of_group_call kinds) (slice_get (map group_call_of calls.now) number) }
+{
+    let call = calls.get(usize::from(number))?;
+    call.source()
+}
+
+impl GroupCall {
+    /// What gives the kind of the call's values; None where it would be that of an argument that is not there.
+    fn source(&self) -> Option<KindSource>
+        ensures { (kinds : spec.Kinds) → option_and_then (kind_from kinds) result ≡ spec.kind_of_group_call kinds (group_call_of self.now) }
+    {
+        match self {
+            GroupCall::OfRows(aggregate) => of_rows(*aggregate).source(),
+            GroupCall::Grouping(_) => Some(KindSource::Always(ValueKind::Number)),
+        }
+    }
+
+    /// Whether the arguments are such as the call takes.
+    fn takes(&self, columns: u16, input: &Plan, schema: &Schema) -> bool
+        ensures { result ≡ spec.is_group_call (spec.kinds_of (schema_of schema.now) (plan_of input.now)) columns (group_call_of self.now) }
+    {
+        match self {
+            GroupCall::OfRows(aggregate) => of_rows(*aggregate).takes(input, schema),
+            GroupCall::Grouping(arguments) => {
+                0 < arguments.len() && arguments.len() <= 31 && are_below(arguments, columns)
+            }
+        }
+    }
+}
+
+/// An aggregate as a function of rows.
+fn of_rows(aggregate: Aggregate) -> Function
+    ensures { result ≡ function.OfFrame (frame_function.Aggregate aggregate) }
+{
+    Function::OfFrame(FrameFunction::Aggregate(aggregate))
+}
+
+/// Whether these are among the first so many columns.
+fn are_below(columns: &[u16], count: u16) -> bool
+    ensures { result ≡ list_all (λ c. nat_lt c count) columns.now }
+{
+    for column in columns {
+        if !(*column < count) {
+            return false;
+        }
+    }
+    true
 }
 
 impl KindSource {
@@ -492,6 +562,67 @@ fn is_window(window: &Window, input: &Plan, schema: &Schema) -> bool
     is_narrow(input.width().saturating_add(capped(window.calls.len())))
         && has_classes(&window.classes, input, schema)
         && are_calls(&window.calls, &window.classes, input, schema)
+}
+
+fn is_group(group: &Group, input: &Plan, schema: &Schema) -> bool
+    ensures { let tree = plan_of input.now in result ≡ spec.is_group (spec.kinds_of (schema_of schema.now) tree) (spec.width tree) (grouping_of group.now) }
+{
+    is_narrow(u32::from(group.columns).saturating_add(capped(group.calls.len())))
+        && u32::from(group.columns) <= input.width()
+        && are_sets(&group.sets, group.columns)
+        && are_group_calls(&group.calls, group.columns, input, schema)
+}
+
+/// Whether each set names grouping columns, the first so many, and each of these stands in some set.
+fn are_sets(sets: &[Vec<u16>], columns: u16) -> bool
+    ensures { result ≡ spec.are_sets columns (sets_of sets.now) }
+{
+    are_each_below(sets, columns) && is_each_in_some(sets, columns)
+}
+
+fn are_each_below(sets: &[Vec<u16>], columns: u16) -> bool
+    ensures { result ≡ list_all (list_all (λ c. nat_lt c columns)) (sets_of sets.now) }
+{
+    for set in sets {
+        if !are_below(set, columns) {
+            return false;
+        }
+    }
+    true
+}
+
+#[tactic(auto, using(crate::proofs::FitsNodes::range_tested))]
+fn is_each_in_some(sets: &[Vec<u16>], columns: u16) -> bool
+    ensures { result ≡ list_all (λ c. list_any (λ set. has set c) (sets_of sets.now)) (positions columns) }
+{
+    for column in 0..columns {
+        if !is_in_some(sets, column) {
+            return false;
+        }
+    }
+    true
+}
+
+fn is_in_some(sets: &[Vec<u16>], column: u16) -> bool
+    ensures { result ≡ list_any (λ set. has set column) (sets_of sets.now) }
+{
+    for set in sets {
+        if has_column(set, column) {
+            return true;
+        }
+    }
+    false
+}
+
+fn are_group_calls(calls: &[GroupCall], columns: u16, input: &Plan, schema: &Schema) -> bool
+    ensures { result ≡ list_all (spec.is_group_call (spec.kinds_of (schema_of schema.now) (plan_of input.now)) columns) (map group_call_of calls.now) }
+{
+    for call in calls {
+        if !call.takes(columns, input, schema) {
+            return false;
+        }
+    }
+    true
 }
 
 fn is_limit(limit: &Limit, input: &Plan, schema: &Schema) -> bool

@@ -269,7 +269,8 @@ impl FrameFunction {
 }
 
 impl Aggregate {
-    fn name(self) -> FunctionName
+    /// The name of the function.
+    pub fn name(self) -> FunctionName
         ensures { result ≡ spec.name_of_aggregate self }
     {
         match self {

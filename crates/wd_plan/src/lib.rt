@@ -5,6 +5,7 @@ mod equality;
 mod expression;
 mod fits;
 mod function;
+mod group;
 mod plan;
 mod window;
 
@@ -15,5 +16,6 @@ pub use function::{
     Aggregate, Argument, ByPeers, Direction, FrameFunction, FrameRow, Function, FunctionName,
     Ranking, ResultKind, Shift, Signature,
 };
+pub use group::{Group, GroupCall, has_column};
 pub use plan::{Choice, Limit, Outcome, Plan};
 pub use window::{Bound, Call, Class, Exclusion, Frame, FrameMode, Window};

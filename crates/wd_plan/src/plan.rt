@@ -2,6 +2,7 @@ ghost use Rattle.std.specs.Prelude.{◌≡◌, ◌-◌, ◌^◌, min};
 ghost use Rattle.wd_plan.specs.Plans.{node_count, ordering_count, plan_of};
 
 use crate::expression::Expr;
+use crate::group::Group;
 use crate::window::Window;
 use wd_value::{Fault, Row, SortColumn};
 
@@ -28,6 +29,11 @@ pub enum Plan {
     Map {
         input: Box<Plan>,
         outputs: Vec<Expr>,
+    },
+    /// A row for each group of each grouping set: its grouping columns, then its calls.
+    Group {
+        input: Box<Plan>,
+        group: Group,
     },
     /// Each row of the input with the value of each call.
     Window {
@@ -79,6 +85,7 @@ impl Plan {
             Plan::Join { left, right, .. } => left.orderings().saturating_add(right.orderings()),
             Plan::Filter { input, .. } => input.orderings(),
             Plan::Map { input, .. } => input.orderings(),
+            Plan::Group { input, .. } => input.orderings(),
             Plan::Window { input, window } => input
                 .orderings()
                 .saturating_add(capped(window.classes.len())),
@@ -99,6 +106,7 @@ impl Plan {
                 .saturating_add(1),
             Plan::Filter { input, .. } => input.nodes().saturating_add(1),
             Plan::Map { input, .. } => input.nodes().saturating_add(1),
+            Plan::Group { input, .. } => input.nodes().saturating_add(1),
             Plan::Window { input, .. } => input.nodes().saturating_add(1),
             Plan::Distinct { input } => input.nodes().saturating_add(1),
             Plan::Limit { input, .. } => input.nodes().saturating_add(1),

@@ -1,6 +1,6 @@
 -- What is printed of a verdict.
 use Rattle.std.specs.Prelude.{ℕ, List, ◌++◌, codes, flat_map}
-use Rattle.wd_certificate.specs.Certificates.{nodes_of}
+use Rattle.wd_certificate.specs.Certificates.{certificate_of}
 use Rattle.wd_certificate.specs.Json.{certificate_text}
 use Rattle.wd_analyse.specs.declared.analysis.Reason.{Reason}
 use Rattle.wd_witness.specs.Json.{witness_text}
@@ -16,7 +16,7 @@ reason_line reason = line (place_words reason.node reason.call ++ codes ": " ++ 
 
 -- the certificate on a line, the witness on a line, or the reasons, one a line
 abbrev pub evidence_lines : Verdict → List ℕ
-evidence_lines (Deterministic certificate) = line (certificate_text (nodes_of certificate))
+evidence_lines (Deterministic certificate) = line (certificate_text (certificate_of certificate))
 evidence_lines (Depends witness) = line (witness_text (witness_of witness))
 evidence_lines (Unknown reasons) = flat_map reason_line reasons.items
 
@@ -32,7 +32,7 @@ verdict_status (Unknown reasons) = 2
 
 -- of a verdict on a list: the certificate on a line, why the order is open, or as of a verdict
 abbrev pub list_lines : ListVerdict → List ℕ
-list_lines (list.Listed certificate) = line (certificate_text (nodes_of certificate))
+list_lines (list.Listed certificate) = line (certificate_text (certificate_of certificate))
 list_lines (list.Unlisted reason) = line (order_words reason)
 list_lines (list.Depends witness) = line (witness_text (witness_of witness))
 list_lines (list.Unknown reasons) = flat_map reason_line reasons.items

@@ -75,6 +75,7 @@ fn add_plan(
         }
         Plan::Filter { input, .. }
         | Plan::Map { input, .. }
+        | Plan::Group { input, .. }
         | Plan::Window { input, .. }
         | Plan::Distinct { input }
         | Plan::Limit { input, .. } => {
@@ -123,6 +124,7 @@ fn add_lines(
         Plan::Join { .. } => Ok(writeln!(text, "{node} Join {columns}")?),
         Plan::Filter { .. } => Ok(writeln!(text, "{node} Filter {columns}")?),
         Plan::Map { .. } => Ok(writeln!(text, "{node} Map {columns}")?),
+        Plan::Group { .. } => Ok(writeln!(text, "{node} Group {columns}")?),
         Plan::Window { window, .. } => {
             writeln!(text, "{node} Window {columns}")?;
             add_calls(text, rules, node, &window.calls)

@@ -2,7 +2,7 @@
 
 ghost use Rattle.std.specs.Prelude.{◌≡◌, ◌++◌, codes, flat_map, IfOk};
 ghost use Rattle.std.specs.String.{string_bytes};
-ghost use Rattle.wd_certificate.specs.Certificates.{nodes_of};
+ghost use Rattle.wd_certificate.specs.Certificates.{certificate_of};
 ghost use Rattle.wd_certificate.specs.Json.{certificate_text};
 ghost use Rattle.wd_witness.specs.Json.{witness_text};
 ghost use Rattle.wd_witness.specs.Witnesses.{witness_of};
@@ -90,7 +90,7 @@ pub(crate) fn verdict_word(verdict: &Verdict) -> &'static str
 
 /// What is printed of a verdict with this certificate.
 fn certified(alloc: Global, certificate: &Certificate) -> Result<Vec<u8>, OutOfMemory>
-    ensures { IfOk result (λ t. t.items ≡ line (codes "DETERMINISTIC") ++ line (certificate_text (nodes_of certificate.now))) }
+    ensures { IfOk result (λ t. t.items ≡ line (codes "DETERMINISTIC") ++ line (certificate_text (certificate_of certificate.now))) }
 {
     let certificate = certificate.to_json(alloc)?;
     with_evidence(alloc, b"DETERMINISTIC\n", &certificate)
@@ -98,7 +98,7 @@ fn certified(alloc: Global, certificate: &Certificate) -> Result<Vec<u8>, OutOfM
 
 /// What is printed of a list's verdict with this certificate.
 fn listed(alloc: Global, certificate: &Certificate) -> Result<Vec<u8>, OutOfMemory>
-    ensures { IfOk result (λ t. t.items ≡ line (codes "LISTED") ++ line (certificate_text (nodes_of certificate.now))) }
+    ensures { IfOk result (λ t. t.items ≡ line (codes "LISTED") ++ line (certificate_text (certificate_of certificate.now))) }
 {
     let certificate = certificate.to_json(alloc)?;
     with_evidence(alloc, b"LISTED\n", &certificate)

@@ -8,17 +8,17 @@ use Rattle.wd_plan.specs.Choices.{AreLawful}
 use Rattle.wd_plan.specs.Facts.{DeterminesAll, HasWidth}
 use Rattle.wd_plan.specs.Fits.{are_outputs, fits, is_limit, kinds_of, width}
 use Rattle.wd_plan.specs.Outcomes.{outcome}
-use Rattle.wd_plan.specs.Plans.{PlanTree, Scan, Join, Filter, Map, Window, Distinct, Limit}
+use Rattle.wd_plan.specs.Plans.{PlanTree, Scan, Join, Filter, Map, Window, Distinct, Group, Limit}
 use Rattle.wd_plan.specs.Sorting.{limit_class, order_columns}
 use Rattle.wd_certificate.specs.Certificates.{NodeRecord}
 use Rattle.wd_facts.specs.Facts.{unpaired}
 use Rattle.wd_facts.specs.Laws.{Known}
 use Rattle.wd_rules.specs.Lists.{IsListedPlan, ListedHasOne, final_limit, goes_by_keys}
-use Rattle.wd_rules.specs.Validity.{form_refusal, given_at, nodes_refusal, top_at, top_number, top_refusal}
+use Rattle.wd_rules.specs.Validity.{given_at, nodes_refusal, top_at, top_number, top_refusal}
 use Rattle.wd_rules.proofs.Lists.{plan_has_one_list}
 use Rattle.wd_rules.proofs.Refused.{first_passed, later_passed}
 use Rattle.wd_rules.proofs.Settled.{keys_give}
-use Rattle.wd_rules.proofs.Sound.{Keeps, at_map, at_rows, good, known, sound, valid_shows}
+use Rattle.wd_rules.proofs.Sound.{Keeps, at_map, at_rows, good, known, nodes_passed, sound, valid_shows}
 use Rattle.wd_rules.proofs.Traces.{each_true}
 
 module _ (tables : List TableRule) (instance : Instance) (nodes : List NodeRecord) (meets : Meets tables instance) where
@@ -31,6 +31,7 @@ module _ (tables : List TableRule) (instance : Instance) (nodes : List NodeRecor
       listed input choice first fitting (first_passed (nodes_refusal tables input first nodes) (top_refusal tables (Map outputs input) first nodes) v) l t
   listed (Window w input) choice first f v l t = absurd (false≢true t)
   listed (Distinct input) choice first f v l t = absurd (false≢true t)
+  listed (Group g input) choice first f v l t = absurd (false≢true t)
   listed (Limit limit input) choice first f v l t =
       let plan = Limit limit input in
       let below = nodes_refusal tables input first nodes in
@@ -47,7 +48,7 @@ module _ (tables : List TableRule) (instance : Instance) (nodes : List NodeRecor
       ))
 
 pub listed_has_one : ListedHasOne
-listed_has_one tables plan nodes f v t instance other c1 c2 meets same v1 v2 =
+listed_has_one tables plan certificate f v t instance other c1 c2 meets same v1 v2 =
     plan_has_one_list plan instance other c1 c2 same v1 v2
-    (valid_shows tables plan nodes f v instance c1 meets v1).settled
-    (listed tables instance nodes meets plan c1 0 f (later_passed (form_refusal plan nodes) (nodes_refusal tables plan 0 nodes) v) v1.lawful t)
+    (valid_shows tables plan certificate f v instance c1 meets v1).settled
+    (listed tables instance certificate.nodes meets plan c1 0 f (nodes_passed tables plan certificate v) v1.lawful t)

@@ -10,7 +10,7 @@ use Rattle.wd_plan.specs.Choices.{AreLawful, AtRows}
 use Rattle.wd_plan.specs.Facts.{DeterminesAll, HasWidth}
 use Rattle.wd_plan.specs.Faults.{and_then}
 use Rattle.wd_plan.specs.Outcomes.{RowsOrFault, cut, map_outcome, ordering_at, outcome}
-use Rattle.wd_plan.specs.Plans.{Distinct, Filter, Join, Limit, LimitRule, Map, PlanTree, Scan, Window, ordering_count}
+use Rattle.wd_plan.specs.Plans.{Distinct, Group, Filter, Join, Limit, LimitRule, Map, PlanTree, Scan, Window, ordering_count}
 use Rattle.wd_plan.specs.Settled.{IsSettledPlan}
 use Rattle.wd_plan.specs.Sorting.{IsOrdering, limit_class, order_columns}
 use Rattle.wd_value.proofs.Perms.{Perm, both}
@@ -62,6 +62,7 @@ one_list (Filter condition input) instance other c1 c2 same v1 v2 h l = absurd l
 one_list (Map outputs input) instance other c1 c2 same v1 v2 h l = ap (λ o. and_then o (map_outcome outputs)) (one_list input instance other c1 c2 same v1 v2 h l)
 one_list (Window w input) instance other c1 c2 same v1 v2 h l = absurd l
 one_list (Distinct input) instance other c1 c2 same v1 v2 h l = absurd l
+one_list (Group g input) instance other c1 c2 same v1 v2 h l = absurd l
 one_list (Limit limit input) instance other c1 c2 same v1 v2 h l =
     let o1 = ordering_at c1 (ordering_count input) in
     let o2 = ordering_at c2 (ordering_count input) in

@@ -9,14 +9,15 @@ use Rattle.wd_plan.specs.declared.window.Call.{Call}
 use Rattle.wd_plan.specs.Choices.{AreLawful, AreOrderings, AtRows}
 use Rattle.wd_plan.specs.Facts.{HasWidth}
 use Rattle.wd_plan.specs.Faults.{and_then}
-use Rattle.wd_plan.specs.Fits.{are_outputs, fits, is_condition, is_join, is_limit, is_window, kinds_of, width}
+use Rattle.wd_plan.specs.Fits.{are_outputs, fits, is_condition, is_group, is_join, is_limit, is_window, kinds_of, width}
 use Rattle.wd_plan.specs.Outcomes.{RowsOrFault, join_outcome, map_outcome, outcome, pairs}
-use Rattle.wd_plan.specs.Plans.{WindowRule, PlanTree, Scan, Join, Filter, Map, Window, Distinct, Limit, node_count, ordering_count}
+use Rattle.wd_plan.specs.Plans.{WindowRule, PlanTree, Scan, Join, Filter, Map, Group, Window, Distinct, Limit, node_count, ordering_count}
 use Rattle.wd_plan.specs.Settled.{IsSettledCall, IsSettledLimit, IsSettledPlan}
 use Rattle.wd_plan.proofs.Ranges.{IsSound, calls_sound, kinds_below, names_classes}
 use Rattle.wd_laws.proofs.TheLaws.{plan_has_one}
-use Rattle.wd_certificate.specs.Certificates.{NodeRecord}
+use Rattle.wd_certificate.specs.Certificates.{CertificateRecord, NodeRecord}
 use Rattle.wd_certificate.specs.declared.error.CertError.{CertError}
+use Rattle.wd_certificate.specs.declared.error.CertError.TheVariants.{Version}
 use Rattle.wd_facts.specs.declared.facts.Member.TheVariants as member
 use Rattle.wd_facts.specs.Facts.{Fact, FactList, Holds, Paired, PairsRows, beside, unpaired}
 use Rattle.wd_facts.specs.Given.{calls_facts}
@@ -29,9 +30,9 @@ use Rattle.wd_facts.proofs.Pairs.{sides}
 use Rattle.wd_facts.proofs.Sides.{AreSides, HasSides}
 use Rattle.wd_facts.proofs.Windows.{IsWell, calls_hold, shown_carries, shown_rows}
 use Rattle.wd_rules.specs.Laws.{FactsHold, GivenHoldAt, KeptHold, NeverBoth, ValidHasOne, ValidShows}
-use Rattle.wd_rules.specs.Rules.{claims_refusal, entry_refusal, keep_refusal, kept_facts, or_else, rules_refusal}
+use Rattle.wd_rules.specs.Rules.{claims_refusal, entry_refusal, keep_refusal, kept_facts, or_else, refuse_unless, rules_refusal}
 use Rattle.wd_rules.specs.Traces.{Traced, each_traced}
-use Rattle.wd_rules.specs.Validity.{form_refusal, given_at, kept_below, kept_right, nodes_refusal, top_at, top_number, top_refusal}
+use Rattle.wd_rules.specs.Validity.{IsValidCertificate, entries_refusal, form_refusal, given_at, is_read_for, kept_below, kept_right, nodes_refusal, top_at, top_number, top_refusal}
 use Rattle.wd_rules.proofs.Kept.{keeps}
 use Rattle.wd_rules.proofs.Refused.{first_passed, later_passed}
 use Rattle.wd_rules.proofs.Settled.{in_range, limit_settled, window_settled}
@@ -151,6 +152,14 @@ module _ (tables : List TableRule) (instance : Instance) (nodes : List NodeRecor
       let both = kept_in plan first (beside ys xs) (good plan first (later_passed below own v)) tt hold in
       record { named = both.named; hold = kept_map tables outputs input xs ys (at_rows (outcome input instance choice) xs (Known tables input) (Unit {0}) e (known input choice fitting l)) is (kept_facts (top_at plan first nodes)) both.named both.hold })) in
       record { settled = under.settled; facts = ((given, kept), under.facts); kept = kept }
+  sound (Group g input) choice first f v l =
+      let plan = Group g input in
+      let below = nodes_refusal tables input first nodes in
+      let own = top_refusal tables plan first nodes in
+      let under = sound input choice first (and_parts (fits tables input) (is_group (kinds_of tables input) (width input) g) f).0 (first_passed below own v) l in
+      let given = given_here plan choice first f l under.kept in
+      let kept = at_map (outcome plan instance choice) (InRows tables plan (kept_below plan first nodes) []) (Keeps plan first) given (λ rows e h. kept_in plan first rows (good plan first (later_passed below own v)) tt h) in
+      record { settled = under.settled; facts = ((given, kept), under.facts); kept = kept }
   sound (Distinct input) choice first f v l =
       let plan = Distinct input in
       let below = nodes_refusal tables input first nodes in
@@ -224,13 +233,21 @@ module _ (tables : List TableRule) (instance : Instance) (nodes : List NodeRecor
       subst (Keeps plan first) p.1 (entry_keeps p.0 (top_number plan first) facts plan (top_at plan first nodes) g (pairs_sides ls rs p.0 (width left) (width right) wide_left wide_right p.2) p.3).0)))) in
       record { settled = (at_left.settled, at_right.settled); facts = ((given, kept), at_left.facts, at_right.facts); kept = kept }
 
+-- a valid certificate's entries are not refused
+pub entries_passed : (tables : List TableRule) (plan : PlanTree) (certificate : CertificateRecord) → IsValidCertificate tables plan certificate → entries_refusal tables plan certificate.nodes ≡ None
+entries_passed tables plan certificate v = later_passed (refuse_unless (is_read_for plan certificate.version) Version) (entries_refusal tables plan certificate.nodes) v
+
+-- and none of them is in postorder
+pub nodes_passed : (tables : List TableRule) (plan : PlanTree) (certificate : CertificateRecord) → IsValidCertificate tables plan certificate → nodes_refusal tables plan 0 certificate.nodes ≡ None
+nodes_passed tables plan certificate v = later_passed (form_refusal plan certificate.nodes) (nodes_refusal tables plan 0 certificate.nodes) (entries_passed tables plan certificate v)
+
 pub valid_shows : ValidShows
-valid_shows tables plan nodes f v instance choice meets valid =
-    let is = sound tables instance nodes meets plan choice 0 f (later_passed (form_refusal plan nodes) (nodes_refusal tables plan 0 nodes) v) valid.lawful in
+valid_shows tables plan certificate f v instance choice meets valid =
+    let is = sound tables instance certificate.nodes meets plan choice 0 f (nodes_passed tables plan certificate v) valid.lawful in
     record { facts = is.facts; settled = is.settled }
 
 pub valid_has_one : ValidHasOne
-valid_has_one tables plan nodes f v instance other c1 c2 meets same v1 v2 = plan_has_one plan instance other c1 c2 same v1 v2 (valid_shows tables plan nodes f v instance c1 meets v1).settled
+valid_has_one tables plan certificate f v instance other c1 c2 meets same v1 v2 = plan_has_one plan instance other c1 c2 same v1 v2 (valid_shows tables plan certificate f v instance c1 meets v1).settled
 
 pub never_both : NeverBoth
-never_both tables plan nodes instance c1 c2 f v w = w.differ (valid_has_one tables plan nodes f v instance instance c1 c2 w.meets (λ table row. refl) w.first w.second)
+never_both tables plan certificate instance c1 c2 f v w = w.differ (valid_has_one tables plan certificate f v instance instance c1 c2 w.meets (λ table row. refl) w.first w.second)

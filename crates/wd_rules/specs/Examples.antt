@@ -11,11 +11,12 @@ use Rattle.wd_plan.specs.Expressions.{Column, Compare, IsNotNull}
 use Rattle.wd_plan.specs.Fits.{fits}
 use Rattle.wd_plan.specs.Plans.{PlanTree, Filter, Join}
 use Rattle.wd_laws.specs.examples.Literals.{ascending, between, call, call_in, descending, first_value, limited, over, row_number, scan_t, select, sum, window}
-use Rattle.wd_certificate.specs.Certificates.{NodeRecord, TraceRecord}
+use Rattle.wd_certificate.specs.Certificates.{CertificateRecord, NodeRecord, TraceRecord}
 use Rattle.wd_certificate.specs.declared.certificate.Rule.{Rule}
 use Rattle.wd_certificate.specs.declared.certificate.Rule.TheVariants.{Peers, Unique, Values, Exchange}
 use Rattle.wd_certificate.specs.declared.certificate.Target.{Target}
 use Rattle.wd_certificate.specs.declared.certificate.Target.TheVariants as target
+use Rattle.wd_certificate.specs.declared.certificate.Version.TheVariants.{One, Two}
 use Rattle.wd_certificate.specs.declared.error.CertError.TheVariants as refused
 use Rattle.wd_facts.specs.declared.facts.Member.TheVariants as member
 use Rattle.wd_rules.specs.Validity.{IsValidCertificate, first_refusal, given_at}
@@ -149,57 +150,66 @@ keyed = of_table ∷ keeps_row (0 ∷ []) (2 ∷ 0 ∷ []) ∷ by_keys (Some 0) 
 abbrev pub bare : List NodeRecord
 bare = nothing ∷ nothing ∷ nothing ∷ []
 
+-- certificates with these nodes
+abbrev pub version_1 : List NodeRecord → CertificateRecord
+version_1 nodes = record { nodes = nodes; version = One }
+
+abbrev pub version_2 : List NodeRecord → CertificateRecord
+version_2 nodes = record { nodes = nodes; version = Two }
+
 pub record CertificatesComeOut : Type 0 where
   -- an order by the primary key is unique
   pub numbered_fits : fits schema numbered ≡ true
-  pub unique : IsValidCertificate schema numbered (with_uses (2 ∷ 0 ∷ []))
+  pub unique : IsValidCertificate schema numbered (version_1 (with_uses (2 ∷ 0 ∷ [])))
+  -- version 2 is read for every plan
+  pub later_version : IsValidCertificate schema numbered (version_2 (with_uses (2 ∷ 0 ∷ [])))
   -- facts are used in their order: the first here isn't reached yet
-  pub early_use : first_refusal schema numbered (with_uses (0 ∷ 2 ∷ [])) ≡ Some (refused.UnreachedUse 1)
+  pub early_use : first_refusal schema numbered (version_1 (with_uses (0 ∷ 2 ∷ []))) ≡ Some (refused.UnreachedUse 1)
   -- a fact that isn't given
-  pub no_fact : first_refusal schema numbered (with_uses (2 ∷ 0 ∷ 3 ∷ [])) ≡ Some (refused.OutOfRange 1)
+  pub no_fact : first_refusal schema numbered (version_1 (with_uses (2 ∷ 0 ∷ 3 ∷ []))) ≡ Some (refused.OutOfRange 1)
   -- a trace that stops before the row
-  pub short_trace : first_refusal schema numbered (with_uses (2 ∷ [])) ≡ Some (refused.UnreachedClaim 1)
+  pub short_trace : first_refusal schema numbered (version_1 (with_uses (2 ∷ []))) ≡ Some (refused.UnreachedClaim 1)
   -- a trace from a column that the Map doesn't have: of its one output and four inputs the last is 4
-  pub no_column : first_refusal schema numbered (with_kept (target.Row ∷ []) (5 ∷ []) (2 ∷ 0 ∷ [])) ≡ Some (refused.OutOfRange 1)
+  pub no_column : first_refusal schema numbered (version_1 (with_kept (target.Row ∷ []) (5 ∷ []) (2 ∷ 0 ∷ []))) ≡ Some (refused.OutOfRange 1)
   -- a Map keeps no fact from its inputs, though the trace is good
-  pub from_input : first_refusal schema numbered (with_kept (target.Row ∷ []) (1 ∷ []) (0 ∷ [])) ≡ Some (refused.UnreachedClaim 1)
+  pub from_input : first_refusal schema numbered (version_1 (with_kept (target.Row ∷ []) (1 ∷ []) (0 ∷ []))) ≡ Some (refused.UnreachedClaim 1)
   -- and none to its inputs
-  pub to_input : first_refusal schema numbered (with_kept (target.Column 1 ∷ []) (0 ∷ []) (2 ∷ [])) ≡ Some (refused.OutOfRange 1)
+  pub to_input : first_refusal schema numbered (version_1 (with_kept (target.Column 1 ∷ []) (0 ∷ []) (2 ∷ []))) ≡ Some (refused.OutOfRange 1)
   -- a rule without its trace
-  pub no_trace : first_refusal schema numbered (numbered_by of_table (keeps_row (0 ∷ []) (2 ∷ 0 ∷ [])) (Unique 1)) ≡ Some (refused.OutOfRange 2)
+  pub no_trace : first_refusal schema numbered (version_1 (numbered_by of_table (keeps_row (0 ∷ []) (2 ∷ 0 ∷ [])) (Unique 1))) ≡ Some (refused.OutOfRange 2)
   -- ROW_NUMBER doesn't go by peers
-  pub no_peers : first_refusal schema numbered (numbered_by of_table (keeps_row (0 ∷ []) (2 ∷ 0 ∷ [])) Peers) ≡ Some (refused.UnjustifiedCall 2)
+  pub no_peers : first_refusal schema numbered (version_1 (numbered_by of_table (keeps_row (0 ∷ []) (2 ∷ 0 ∷ [])) Peers)) ≡ Some (refused.UnjustifiedCall 2)
   -- one entry for each node
-  pub missing_node : first_refusal schema numbered bare ≡ Some refused.Count
+  pub missing_node : first_refusal schema numbered (version_1 bare) ≡ Some refused.Count
   -- one rule for each call, which is looked at before any trace
-  pub missing_rule : first_refusal schema numbered (of_table ∷ keeps_row (0 ∷ []) (0 ∷ 2 ∷ []) ∷ nothing ∷ nothing ∷ []) ≡ Some refused.Count
+  pub missing_rule : first_refusal schema numbered (version_1 (of_table ∷ keeps_row (0 ∷ []) (0 ∷ 2 ∷ []) ∷ nothing ∷ nothing ∷ [])) ≡ Some refused.Count
   -- no rule but at a Window
-  pub stray_rule : first_refusal schema (first_of_v 0 true) (nothing ∷ nothing ∷ rules (Peers ∷ []) [] ∷ []) ≡ Some refused.Count
+  pub stray_rule : first_refusal schema (first_of_v 0 true) (version_1 (nothing ∷ nothing ∷ rules (Peers ∷ []) [] ∷ [])) ≡ Some refused.Count
   -- no limit but at a Limit, which is looked at before the numbers of rules
-  pub stray_limit : first_refusal schema numbered (nothing ∷ by_keys (Some 0) [] ∷ nothing ∷ nothing ∷ []) ≡ Some refused.Shape
+  pub stray_limit : first_refusal schema numbered (version_1 (nothing ∷ by_keys (Some 0) [] ∷ nothing ∷ nothing ∷ [])) ≡ Some refused.Shape
   -- an order by another column isn't unique
-  pub other_order : first_refusal schema by_v (with_uses (2 ∷ 0 ∷ [])) ≡ Some (refused.UnjustifiedCall 2)
+  pub other_order : first_refusal schema by_v (version_1 (with_uses (2 ∷ 0 ∷ []))) ≡ Some (refused.UnjustifiedCall 2)
   -- a class whose columns are all columns exchanges whole rows
-  pub exchange : IsValidCertificate schema v_by_v exchanged
-  pub second_exchange : first_refusal schema two_classes exchanged_twice ≡ Some (refused.SecondExchange 2)
+  pub exchange : IsValidCertificate schema v_by_v (version_1 exchanged)
+  pub second_exchange : first_refusal schema two_classes (version_1 exchanged_twice) ≡ Some (refused.SecondExchange 2)
   -- a nullable key gives the row where it is not null
-  pub full_key : IsValidCertificate schema not_null_u by_u
-  pub nullable_key : first_refusal schema not_null_u (keeps_row (3 ∷ []) (1 ∷ []) ∷ nothing ∷ nothing ∷ rules (Peers ∷ []) [] ∷ nothing ∷ []) ≡ Some (refused.OutOfRange 0)
+  pub full_key : IsValidCertificate schema not_null_u (version_1 by_u)
+  pub nullable_key : first_refusal schema not_null_u (version_1 (keeps_row (3 ∷ []) (1 ∷ []) ∷ nothing ∷ nothing ∷ rules (Peers ∷ []) [] ∷ nothing ∷ [])) ≡ Some (refused.OutOfRange 0)
   -- a total over a stable frame goes by peers, a running one over rows doesn't
-  pub stable_frame : IsValidCertificate schema summed peers
-  pub running_frame : first_refusal schema running peers ≡ Some (refused.UnjustifiedCall 2)
+  pub stable_frame : IsValidCertificate schema summed (version_1 peers)
+  pub running_frame : first_refusal schema running (version_1 peers) ≡ Some (refused.UnjustifiedCall 2)
   -- FIRST_VALUE of a column of its class
-  pub values : IsValidCertificate schema first_v valued
+  pub values : IsValidCertificate schema first_v (version_1 valued)
   -- both sides of a Join give its row, one doesn't
   pub join_fits : fits schema joined ≡ true
-  pub both_sides : IsValidCertificate schema joined (joined_by (0 ∷ 1 ∷ []))
-  pub one_side : first_refusal schema joined (joined_by (0 ∷ [])) ≡ Some (refused.UnreachedClaim 2)
+  pub both_sides : IsValidCertificate schema joined (version_1 (joined_by (0 ∷ 1 ∷ [])))
+  pub one_side : first_refusal schema joined (version_1 (joined_by (0 ∷ []))) ≡ Some (refused.UnreachedClaim 2)
   -- a limit with ties and no offset, without either, with both, and by keys
-  pub ties : IsValidCertificate schema (first_of_v 0 true) bare
-  pub no_ties : first_refusal schema (first_of_v 0 false) bare ≡ Some (refused.UnjustifiedLimit 2)
-  pub ties_behind_an_offset : first_refusal schema (first_of_v 1 true) bare ≡ Some (refused.UnjustifiedLimit 2)
-  pub keys : IsValidCertificate schema first_id keyed
-  pub other_keys : first_refusal schema (first_of_v 0 false) keyed ≡ Some (refused.UnjustifiedLimit 2)
+  pub ties : IsValidCertificate schema (first_of_v 0 true) (version_1 bare)
+  pub no_ties : first_refusal schema (first_of_v 0 false) (version_1 bare) ≡ Some (refused.UnjustifiedLimit 2)
+  pub ties_behind_an_offset : first_refusal schema (first_of_v 1 true) (version_1 bare) ≡ Some (refused.UnjustifiedLimit 2)
+  pub keys : IsValidCertificate schema first_id (version_1 keyed)
+  pub other_keys : first_refusal schema (first_of_v 0 false) (version_1 keyed) ≡ Some (refused.UnjustifiedLimit 2)
   -- the facts of a Map of one column: the input's key gives the row, the input gives the output, and the output the input
   pub map_facts : (given_at schema (select (0 ∷ []) scan_t) 0 (with_uses [])).list
       ≡ record { from = member.Column 1 ∷ []; to = member.Row ∷ [] }

@@ -6,10 +6,10 @@ use Rattle.wd_schema.specs.Tables.{TableRule}
 use Rattle.wd_plan.specs.Choices.{AtRows, IsValidChoice}
 use Rattle.wd_plan.specs.Fits.{fits, width}
 use Rattle.wd_plan.specs.Outcomes.{Agree, outcome}
-use Rattle.wd_plan.specs.Plans.{PlanTree, Scan, Join, Filter, Map, Window, Distinct, Limit, node_count, ordering_count}
+use Rattle.wd_plan.specs.Plans.{PlanTree, Scan, Join, Filter, Map, Group, Window, Distinct, Limit, node_count, ordering_count}
 use Rattle.wd_plan.specs.Settled.{IsSettledPlan}
 use Rattle.wd_laws.specs.Laws.{SameTables}
-use Rattle.wd_certificate.specs.Certificates.{NodeRecord}
+use Rattle.wd_certificate.specs.Certificates.{CertificateRecord, NodeRecord}
 use Rattle.wd_facts.specs.Laws.{AreKept, GivenHold}
 use Rattle.wd_rules.specs.Rules.{kept_facts}
 use Rattle.wd_rules.specs.Validity.{IsValidCertificate, kept_below, kept_right, top_at}
@@ -34,6 +34,7 @@ FactsHold tables (Join condition left right) instance choice first nodes =
     × FactsHold tables right instance (drop (ordering_count left) choice) (first + node_count left) nodes
 FactsHold tables (Filter condition input) instance choice first nodes = BothHold tables (Filter condition input) instance choice first nodes × FactsHold tables input instance choice first nodes
 FactsHold tables (Map outputs input) instance choice first nodes = BothHold tables (Map outputs input) instance choice first nodes × FactsHold tables input instance choice first nodes
+FactsHold tables (Group g input) instance choice first nodes = BothHold tables (Group g input) instance choice first nodes × FactsHold tables input instance choice first nodes
 FactsHold tables (Window w input) instance choice first nodes = BothHold tables (Window w input) instance choice first nodes × FactsHold tables input instance choice first nodes
 FactsHold tables (Distinct input) instance choice first nodes = BothHold tables (Distinct input) instance choice first nodes × FactsHold tables input instance choice first nodes
 FactsHold tables (Limit limit input) instance choice first nodes = BothHold tables (Limit limit input) instance choice first nodes × FactsHold tables input instance choice first nodes
@@ -54,11 +55,11 @@ HasOneAnswer tables plan = (instance other : Instance) (c1 c2 : List (List ℕ))
 
 -- what a valid certificate of a plan that fits keeps and uses is true
 abbrev pub ValidShows : Type 0
-ValidShows = (tables : List TableRule) (plan : PlanTree) (nodes : List NodeRecord) → fits tables plan ≡ true → IsValidCertificate tables plan nodes → AlwaysShows tables plan nodes
+ValidShows = (tables : List TableRule) (plan : PlanTree) (certificate : CertificateRecord) → fits tables plan ≡ true → IsValidCertificate tables plan certificate → AlwaysShows tables plan certificate.nodes
 
 -- a plan that fits and has a valid certificate has one answer
 abbrev pub ValidHasOne : Type 0
-ValidHasOne = (tables : List TableRule) (plan : PlanTree) (nodes : List NodeRecord) → fits tables plan ≡ true → IsValidCertificate tables plan nodes → HasOneAnswer tables plan
+ValidHasOne = (tables : List TableRule) (plan : PlanTree) (certificate : CertificateRecord) → fits tables plan ≡ true → IsValidCertificate tables plan certificate → HasOneAnswer tables plan
 
 -- two valid choices over an instance that meets the schema, whose outcomes do not agree
 pub record IsTrueWitness (tables : List TableRule) (plan : PlanTree) (instance : Instance) (c1 c2 : List (List ℕ)) : Type 0 where
@@ -69,5 +70,5 @@ pub record IsTrueWitness (tables : List TableRule) (plan : PlanTree) (instance :
 
 -- no plan that fits a schema has both a valid certificate and a true witness
 abbrev pub NeverBoth : Type 0
-NeverBoth = (tables : List TableRule) (plan : PlanTree) (nodes : List NodeRecord) (instance : Instance) (c1 c2 : List (List ℕ))
-    → fits tables plan ≡ true → IsValidCertificate tables plan nodes → ¬ IsTrueWitness tables plan instance c1 c2
+NeverBoth = (tables : List TableRule) (plan : PlanTree) (certificate : CertificateRecord) (instance : Instance) (c1 c2 : List (List ℕ))
+    → fits tables plan ≡ true → IsValidCertificate tables plan certificate → ¬ IsTrueWitness tables plan instance c1 c2

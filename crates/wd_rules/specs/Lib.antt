@@ -4,3 +4,4 @@ pub mod Validity
 pub mod Laws
 pub mod Examples
 pub mod Lists
+pub mod GroupExamples

@@ -7,11 +7,11 @@ use Rattle.wd_plan.specs.Choices.{AtRows, IsValidChoice}
 use Rattle.wd_plan.specs.Facts.{DeterminesAll, HasWidth}
 use Rattle.wd_plan.specs.Fits.{fits}
 use Rattle.wd_plan.specs.Outcomes.{RowsOrFault, outcome}
-use Rattle.wd_plan.specs.Plans.{PlanTree, Scan, Join, Filter, Map, Window, Distinct, Limit}
+use Rattle.wd_plan.specs.Plans.{PlanTree, Scan, Join, Filter, Map, Window, Distinct, Group, Limit}
 use Rattle.wd_plan.specs.Settled.{IsSettledPlan}
 use Rattle.wd_plan.specs.Sorting.{limit_class, order_columns}
 use Rattle.wd_laws.specs.Laws.{SameTables}
-use Rattle.wd_certificate.specs.Certificates.{NodeRecord}
+use Rattle.wd_certificate.specs.Certificates.{CertificateRecord, NodeRecord}
 use Rattle.wd_rules.specs.Validity.{IsValidCertificate, entry_at, top_number}
 
 -- outcomes agree as lists where they are the same fault, or equal lists of rows
@@ -31,6 +31,7 @@ final_limit (Filter condition input) first = None
 final_limit (Map outputs input) first = final_limit input first
 final_limit (Window w input) first = None
 final_limit (Distinct input) first = None
+final_limit (Group g input) first = None
 final_limit (Limit limit input) first = Some (top_number (Limit limit input) first)
 
 -- there is such a Limit, and its entry names a trace: it goes by `keys`
@@ -46,6 +47,7 @@ IsListedPlan (Filter condition input) instance choice = ⊥
 IsListedPlan (Map outputs input) instance choice = IsListedPlan input instance choice
 IsListedPlan (Window w input) instance choice = ⊥
 IsListedPlan (Distinct input) instance choice = ⊥
+IsListedPlan (Group g input) instance choice = ⊥
 IsListedPlan (Limit limit input) instance choice = AtRows (outcome input instance choice) (λ rows. (width : ℕ) × HasWidth width rows × DeterminesAll rows width (order_columns (limit_class limit))) ⊤
 
 -- The list law: a plan that is settled under one valid choice, and whose last Limit is ordered by keys that give every column, has
@@ -62,5 +64,5 @@ HasOneList tables plan = (instance other : Instance) (c1 c2 : List (List ℕ))
 
 -- a plan that fits and has a valid certificate by which its last Limit goes by `keys` has one list
 abbrev pub ListedHasOne : Type 0
-ListedHasOne = (tables : List TableRule) (plan : PlanTree) (nodes : List NodeRecord)
-    → fits tables plan ≡ true → IsValidCertificate tables plan nodes → goes_by_keys nodes (final_limit plan 0) ≡ true → HasOneList tables plan
+ListedHasOne = (tables : List TableRule) (plan : PlanTree) (certificate : CertificateRecord)
+    → fits tables plan ≡ true → IsValidCertificate tables plan certificate → goes_by_keys certificate.nodes (final_limit plan 0) ≡ true → HasOneList tables plan

@@ -9,7 +9,7 @@ use Rattle.wd_plan.specs.declared.window.Call.{Call}
 use Rattle.wd_plan.specs.Fits.{width}
 use Rattle.wd_plan.specs.Frames.{is_stable}
 use Rattle.wd_plan.specs.Outcomes.{class_at}
-use Rattle.wd_plan.specs.Plans.{WindowRule, LimitRule, PlanTree, Scan, Join, Filter, Map, Window, Distinct, Limit}
+use Rattle.wd_plan.specs.Plans.{WindowRule, LimitRule, PlanTree, Scan, Join, Filter, Map, Group, Window, Distinct, Limit}
 use Rattle.wd_plan.specs.Settled.{is_by_peers}
 use Rattle.wd_plan.specs.Sorting.{class_columns, order_columns, limit_class}
 use Rattle.wd_certificate.specs.Certificates.{KeptRecord, NodeRecord, TraceRecord}
@@ -167,6 +167,7 @@ rules_refusal node facts shown (Scan table columns) entry = None
 rules_refusal node facts shown (Join condition left right) entry = None
 rules_refusal node facts shown (Filter condition input) entry = None
 rules_refusal node facts shown (Map outputs input) entry = None
+rules_refusal node facts shown (Group g input) entry = None
 rules_refusal node facts shown (Window w input) entry = window_refusal node facts (width input) shown w entry.calls
 rules_refusal node facts shown (Distinct input) entry = None
 rules_refusal node facts shown (Limit limit input) entry = limit_refusal node facts (width input) shown limit entry.limit

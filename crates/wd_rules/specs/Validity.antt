@@ -1,10 +1,12 @@
 -- When a certificate is valid for a plan and a schema, and by what it is refused where it is not.
-use Rattle.std.specs.Prelude.{◌≡◌, ℕ, ◌+◌, Bool, true, not, ◌&&◌, List, [], length, nat_eq, slice_index_or, Option, None, is_some}
+use Rattle.std.specs.Prelude.{◌≡◌, ℕ, ◌+◌, Bool, true, false, not, ◌&&◌, ◌||◌, List, [], length, nat_eq, slice_index_or, Option, None, is_some, if◌then◌else◌}
 use Rattle.wd_schema.specs.Tables.{TableRule}
-use Rattle.wd_plan.specs.Plans.{PlanTree, Scan, Join, Filter, Map, Window, Distinct, Limit, node_count}
-use Rattle.wd_certificate.specs.Certificates.{NodeRecord}
+use Rattle.wd_plan.specs.Plans.{PlanTree, Scan, Join, Filter, Map, Group, Window, Distinct, Limit, node_count}
+use Rattle.wd_certificate.specs.Certificates.{CertificateRecord, NodeRecord}
+use Rattle.wd_certificate.specs.declared.certificate.Version.{Version}
+use Rattle.wd_certificate.specs.declared.certificate.Version.TheVariants.{One, Two}
 use Rattle.wd_certificate.specs.declared.error.CertError.{CertError}
-use Rattle.wd_certificate.specs.declared.error.CertError.TheVariants.{Count, Shape}
+use Rattle.wd_certificate.specs.declared.error.CertError.TheVariants as refused
 use Rattle.wd_facts.specs.Facts.{Fact, FactList}
 use Rattle.wd_facts.specs.Given.{given}
 use Rattle.wd_rules.specs.Rules.{entry_refusal, kept_facts, or_else, refuse_unless}
@@ -23,6 +25,7 @@ top_number (Scan table columns) first = first
 top_number (Join condition left right) first = (first + node_count left) + node_count right
 top_number (Filter condition input) first = first + node_count input
 top_number (Map outputs input) first = first + node_count input
+top_number (Group g input) first = first + node_count input
 top_number (Window w input) first = first + node_count input
 top_number (Distinct input) first = first + node_count input
 top_number (Limit limit input) first = first + node_count input
@@ -38,6 +41,7 @@ all_entries test (Join condition left right) first nodes = let plan = Join condi
     (all_entries test left first nodes && all_entries test right (first + node_count left) nodes) && test plan (top_at plan first nodes)
 all_entries test (Filter condition input) first nodes = let plan = Filter condition input in all_entries test input first nodes && test plan (top_at plan first nodes)
 all_entries test (Map outputs input) first nodes = let plan = Map outputs input in all_entries test input first nodes && test plan (top_at plan first nodes)
+all_entries test (Group g input) first nodes = let plan = Group g input in all_entries test input first nodes && test plan (top_at plan first nodes)
 all_entries test (Window w input) first nodes = let plan = Window w input in all_entries test input first nodes && test plan (top_at plan first nodes)
 all_entries test (Distinct input) first nodes = let plan = Distinct input in all_entries test input first nodes && test plan (top_at plan first nodes)
 all_entries test (Limit limit input) first nodes = let plan = Limit limit input in all_entries test input first nodes && test plan (top_at plan first nodes)
@@ -48,6 +52,7 @@ has_its_limit (Scan table columns) entry = not (is_some entry.limit)
 has_its_limit (Join condition left right) entry = not (is_some entry.limit)
 has_its_limit (Filter condition input) entry = not (is_some entry.limit)
 has_its_limit (Map outputs input) entry = not (is_some entry.limit)
+has_its_limit (Group g input) entry = not (is_some entry.limit)
 has_its_limit (Window w input) entry = not (is_some entry.limit)
 has_its_limit (Distinct input) entry = not (is_some entry.limit)
 has_its_limit (Limit limit input) entry = true
@@ -58,12 +63,35 @@ call_count (Scan table columns) = 0
 call_count (Join condition left right) = 0
 call_count (Filter condition input) = 0
 call_count (Map outputs input) = 0
+call_count (Group g input) = 0
 call_count (Window w input) = length w.calls
 call_count (Distinct input) = 0
 call_count (Limit limit input) = 0
 
 abbrev pub has_its_calls : PlanTree → NodeRecord → Bool
 has_its_calls plan entry = nat_eq (length entry.calls) (call_count plan)
+
+-- ---- versions
+
+-- some node of a plan is a Group
+abbrev pub has_group : PlanTree → Bool
+has_group (Scan table columns) = false
+has_group (Join condition left right) = has_group left || has_group right
+has_group (Filter condition input) = has_group input
+has_group (Map outputs input) = has_group input
+has_group (Group g input) = true
+has_group (Window w input) = has_group input
+has_group (Distinct input) = has_group input
+has_group (Limit limit input) = has_group input
+
+-- the least version whose certificates may speak of a plan
+abbrev pub version_needed : PlanTree → Version
+version_needed plan = if has_group plan then Two else One
+
+-- version 1 is read for a plan without a Group, version 2 for every plan
+abbrev pub is_read_for : PlanTree → Version → Bool
+is_read_for plan One = not (has_group plan)
+is_read_for plan Two = true
 
 -- ---- given facts
 
@@ -73,6 +101,7 @@ kept_below (Scan table columns) first nodes = []
 kept_below (Join condition left right) first nodes = kept_facts (top_at left first nodes)
 kept_below (Filter condition input) first nodes = kept_facts (top_at input first nodes)
 kept_below (Map outputs input) first nodes = kept_facts (top_at input first nodes)
+kept_below (Group g input) first nodes = kept_facts (top_at input first nodes)
 kept_below (Window w input) first nodes = kept_facts (top_at input first nodes)
 kept_below (Distinct input) first nodes = kept_facts (top_at input first nodes)
 kept_below (Limit limit input) first nodes = kept_facts (top_at input first nodes)
@@ -83,6 +112,7 @@ kept_right (Scan table columns) first nodes = []
 kept_right (Join condition left right) first nodes = kept_facts (top_at right (first + node_count left) nodes)
 kept_right (Filter condition input) first nodes = []
 kept_right (Map outputs input) first nodes = []
+kept_right (Group g input) first nodes = []
 kept_right (Window w input) first nodes = []
 kept_right (Distinct input) first nodes = []
 kept_right (Limit limit input) first nodes = []
@@ -104,6 +134,7 @@ nodes_refusal tables (Join condition left right) first nodes =
     or_else (nodes_refusal tables left first nodes) (or_else (nodes_refusal tables right (first + node_count left) nodes) (top_refusal tables (Join condition left right) first nodes))
 nodes_refusal tables (Filter condition input) first nodes = or_else (nodes_refusal tables input first nodes) (top_refusal tables (Filter condition input) first nodes)
 nodes_refusal tables (Map outputs input) first nodes = or_else (nodes_refusal tables input first nodes) (top_refusal tables (Map outputs input) first nodes)
+nodes_refusal tables (Group g input) first nodes = or_else (nodes_refusal tables input first nodes) (top_refusal tables (Group g input) first nodes)
 nodes_refusal tables (Window w input) first nodes = or_else (nodes_refusal tables input first nodes) (top_refusal tables (Window w input) first nodes)
 nodes_refusal tables (Distinct input) first nodes = or_else (nodes_refusal tables input first nodes) (top_refusal tables (Distinct input) first nodes)
 nodes_refusal tables (Limit limit input) first nodes = or_else (nodes_refusal tables input first nodes) (top_refusal tables (Limit limit input) first nodes)
@@ -111,14 +142,18 @@ nodes_refusal tables (Limit limit input) first nodes = or_else (nodes_refusal ta
 -- a plan's entries have its form: one for each node; limits at Limits alone; as many rules as a node has calls
 abbrev pub form_refusal : PlanTree → List NodeRecord → Option CertError
 form_refusal plan nodes =
-    or_else (refuse_unless (nat_eq (length nodes) (node_count plan)) Count)
-    (or_else (refuse_unless (all_entries has_its_limit plan 0 nodes) Shape)
-    (refuse_unless (all_entries has_its_calls plan 0 nodes) Count))
+    or_else (refuse_unless (nat_eq (length nodes) (node_count plan)) refused.Count)
+    (or_else (refuse_unless (all_entries has_its_limit plan 0 nodes) refused.Shape)
+    (refuse_unless (all_entries has_its_calls plan 0 nodes) refused.Count))
 
--- by what a certificate is refused: by its form, then by the first refusal in postorder
-abbrev pub first_refusal : List TableRule → PlanTree → List NodeRecord → Option CertError
-first_refusal tables plan nodes = or_else (form_refusal plan nodes) (nodes_refusal tables plan 0 nodes)
+-- by what a plan's entries are refused: by their form, then by the first refusal in postorder
+abbrev pub entries_refusal : List TableRule → PlanTree → List NodeRecord → Option CertError
+entries_refusal tables plan nodes = or_else (form_refusal plan nodes) (nodes_refusal tables plan 0 nodes)
+
+-- by what a certificate is refused: by its version, then by its entries
+abbrev pub first_refusal : List TableRule → PlanTree → CertificateRecord → Option CertError
+first_refusal tables plan certificate = or_else (refuse_unless (is_read_for plan certificate.version) refused.Version) (entries_refusal tables plan certificate.nodes)
 
 -- a valid certificate is one that is not refused
-abbrev pub IsValidCertificate : List TableRule → PlanTree → List NodeRecord → Type 0
-IsValidCertificate tables plan nodes = first_refusal tables plan nodes ≡ None
+abbrev pub IsValidCertificate : List TableRule → PlanTree → CertificateRecord → Type 0
+IsValidCertificate tables plan certificate = first_refusal tables plan certificate ≡ None

@@ -1,6 +1,7 @@
 //! Laws over the definitions alone.
 
 ghost use Rattle.wd_rules.specs.Examples.{CertificatesComeOut};
+ghost use Rattle.wd_rules.specs.GroupExamples.{GroupsAreCertified};
 ghost use Rattle.wd_rules.specs.Laws.{NeverBoth, ValidHasOne, ValidShows};
 ghost use Rattle.wd_rules.specs.Lists.{ListedHasOne, PlanHasOneList};
 
@@ -23,6 +24,11 @@ pub fn never_both()
 /// By what some certificates are refused, and that others are valid.
 pub fn certificates_come_out()
     ensures { CertificatesComeOut }
+{}
+
+/// The same of grouped queries, and which facts their groups give.
+pub fn groups_are_certified()
+    ensures { GroupsAreCertified }
 {}
 
 /// A settled plan whose last Limit is ordered by keys that give every column has outcomes that agree as lists, under any valid

@@ -3,3 +3,6 @@
 #![tactic(auto)]
 
 pub mod laws;
+mod versions;
+
+pub use versions::{is_read_for, version_needed};

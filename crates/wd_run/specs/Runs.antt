@@ -6,7 +6,7 @@ use Rattle.wd_value.specs.Rows.{Row, Instance, table_at}
 use Rattle.wd_schema.specs.Meets.{MeetsTable}
 use Rattle.wd_schema.specs.Tables.{TableRule}
 use Rattle.wd_plan.specs.Outcomes.{RowsOrFault}
-use Rattle.wd_plan.specs.Plans.{PlanTree, Scan, Join, Filter, Map, Window, Distinct, Limit}
+use Rattle.wd_plan.specs.Plans.{PlanTree, Scan, Join, Filter, Map, Group, Window, Distinct, Limit}
 use Rattle.wd_eval.specs.Runs.{IsAnswerWithin}
 use Rattle.wd_tables.specs.Data.{HoldsRows}
 use Rattle.wd_resolve.specs.Answers.{Answer}
@@ -49,6 +49,7 @@ tables_read (Scan table columns) = table ∷ []
 tables_read (Join condition left right) = tables_read left ++ tables_read right
 tables_read (Filter condition input) = tables_read input
 tables_read (Map outputs input) = tables_read input
+tables_read (Group rule input) = tables_read input
 tables_read (Window w input) = tables_read input
 tables_read (Distinct input) = tables_read input
 tables_read (Limit limit input) = tables_read input

@@ -10,7 +10,7 @@ ghost use Rattle.wd_schema.specs.Tables.{table_of};
 ghost use Rattle.wd_tables.specs.Data.{HoldsRows};
 ghost use Rattle.wd_run.specs.Causes.{LacksData};
 ghost use Rattle.wd_run.specs.Loads.{FindsTable, RefusesData, RefusesName, RefusesPlan, RefusesRows, RefusesText};
-ghost use Rattle.wd_run.specs.Runs.{HasData, HasDataAt, HoldsData, IsGiven, IsNamed, NamesDiffer, ReadsTable, data_of, tables_read};
+ghost use Rattle.wd_run.specs.Runs.{HasData, HasDataAt, HoldsData, IsNamed, NamesDiffer, data_of, tables_read};
 
 use crate::error::RunError;
 use std::alloc::Global;
@@ -174,6 +174,7 @@ fn scans_table(plan: &Plan, number: usize) -> bool
         Plan::Join { left, right, .. } => scans_table(left, number) || scans_table(right, number),
         Plan::Filter { input, .. } => scans_table(input, number),
         Plan::Map { input, .. } => scans_table(input, number),
+        Plan::Group { input, .. } => scans_table(input, number),
         Plan::Window { input, .. } => scans_table(input, number),
         Plan::Distinct { input } => scans_table(input, number),
         Plan::Limit { input, .. } => scans_table(input, number),

@@ -2,6 +2,8 @@
 use Rattle.std.specs.Prelude.{ℕ, ◌+◌, ◌/◌, ◌%◌, Bool, true, false, List, nat_eq, get_or}
 use Rattle.std.specs.Int.{bit_at}
 use Rattle.std.specs.List.{list_any}
+-- whether a column is among some
+pub use Rattle.wd_plan.specs.Plans.{has as is_in}
 use Rattle.wd_facts.specs.declared.facts.Member.{Member}
 use Rattle.wd_facts.specs.declared.facts.Member.TheVariants.{Column, Left, Right, Row}
 use Rattle.wd_sets.specs.declared.set.Set.{Set}
@@ -15,10 +17,6 @@ same_member a b = false
 
 abbrev pub stands_in : List Member → Member → Bool
 stands_in s m = list_any (same_member m) s
-
--- whether a column is among some
-abbrev pub is_in : List ℕ → ℕ → Bool
-is_in columns c = list_any (nat_eq c) columns
 
 -- ---- bits
 

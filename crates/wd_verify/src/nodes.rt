@@ -28,6 +28,7 @@ pub(crate) fn left_over(plan: &Plan, entries: usize) -> Option<usize>
         Plan::Join { left, right, .. } => left_over(right, left_over(left, entries)?)?,
         Plan::Filter { input, .. }
         | Plan::Map { input, .. }
+        | Plan::Group { input, .. }
         | Plan::Window { input, .. }
         | Plan::Distinct { input }
         | Plan::Limit { input, .. } => left_over(input, entries)?,
@@ -90,6 +91,7 @@ pub(crate) fn look_over(plan: &Plan, nodes: &[Node], first: usize) -> Seen
         }
         Plan::Filter { input, .. }
         | Plan::Map { input, .. }
+        | Plan::Group { input, .. }
         | Plan::Window { input, .. }
         | Plan::Distinct { input }
         | Plan::Limit { input, .. } => look_over(input, nodes, first),
@@ -171,6 +173,7 @@ pub(crate) fn check_nodes(
         }
         Plan::Filter { input, .. }
         | Plan::Map { input, .. }
+        | Plan::Group { input, .. }
         | Plan::Window { input, .. }
         | Plan::Distinct { input }
         | Plan::Limit { input, .. } => {

@@ -4,15 +4,17 @@ ghost use Rattle.std.specs.Prelude.{◌≡◌, ◌≢◌, true, map, None, Some,
 ghost use Rattle.wd_schema.specs.Schemas.{schema_of};
 ghost use Rattle.wd_plan.specs.Fits.{fits};
 ghost use Rattle.wd_plan.specs.Plans.{plan_of};
-ghost use Rattle.wd_certificate.specs.Certificates.{node_of, nodes_of};
+ghost use Rattle.wd_certificate.specs.Certificates.{certificate_of, node_of, nodes_of};
 ghost use Rattle.wd_rules.specs.Laws.{AlwaysShows, HasOneAnswer};
-ghost use Rattle.wd_rules.specs.Validity.{IsValidCertificate, first_refusal, form_refusal};
+ghost use Rattle.wd_rules.specs.Validity.{IsValidCertificate, entries_refusal, first_refusal, form_refusal};
 ghost use Rattle.wd_verify.specs.Shown.{refusal_of};
 
+use crate::evidence::refuse_unless;
 use crate::nodes::{check_nodes, left_over, look_over};
 use std::alloc::Global;
 use wd_certificate::{CertError, Certificate, Node};
 use wd_plan::Plan;
+use wd_rules::is_read_for;
 use wd_schema::Schema;
 
 /// Whether the entries have the form that the plan asks for: one for each node, limits at Limits alone, a rule for each call.
@@ -32,11 +34,11 @@ fn check_form(plan: &Plan, nodes: &[Node]) -> Result<(), CertError>
     Ok(())
 }
 
-/// The checks of a certificate, in their order.
+/// The checks of a plan's entries, in their order.
 fn check(alloc: Global, plan: &Plan, schema: &Schema, nodes: &[Node]) -> Result<(), CertError>
     requires { fits (schema_of schema.now) (plan_of plan.now) ≡ true }
-    ensures passed { IfOk result (λ _. first_refusal (schema_of schema.now) (plan_of plan.now) (map node_of nodes.now) ≡ None) }
-    ensures refused { IfErr result (λ e. e ≢ CertError.OutOfMemory → first_refusal (schema_of schema.now) (plan_of plan.now) (map node_of nodes.now) ≡ Some e) }
+    ensures passed { IfOk result (λ _. entries_refusal (schema_of schema.now) (plan_of plan.now) (map node_of nodes.now) ≡ None) }
+    ensures refused { IfErr result (λ e. e ≢ CertError.OutOfMemory → entries_refusal (schema_of schema.now) (plan_of plan.now) (map node_of nodes.now) ≡ Some e) }
 {
     check_form(plan, nodes)?;
     check_nodes(alloc, plan, schema, nodes, 0)?;
@@ -48,8 +50,8 @@ fn check(alloc: Global, plan: &Plan, schema: &Schema, nodes: &[Node]) -> Result<
 /// valid choice, and the plan has one answer.
 ///
 /// # Errors
-/// The first refusal, which is looked for in this order: 504 where the certificate has another number of nodes than the plan,
-/// 502 for a limit at a node that is no Limit, 504 for another number of rules than a node has calls; then, node by node in
+/// The first refusal, which is looked for in this order: 503 for version 1 where a node of the plan is a Group, 504 where the
+/// certificate has another number of nodes than the plan, 502 for a limit at a node that is no Limit, 504 for another number of rules than a node has calls; then, node by node in
 /// postorder, 505 to 510 of its traces, of what it keeps, and of its calls or its limit. Out of memory.
 pub fn verify_plan(
     alloc: Global,
@@ -58,10 +60,12 @@ pub fn verify_plan(
     certificate: &Certificate,
 ) -> Result<(), CertError>
     requires { fits (schema_of schema.now) (plan_of plan.now) ≡ true }
-    ensures valid { IfOk result (λ _. IsValidCertificate (schema_of schema.now) (plan_of plan.now) (nodes_of certificate.now)) }
-    ensures refused { IfErr result (λ e. e ≢ CertError.OutOfMemory → first_refusal (schema_of schema.now) (plan_of plan.now) (nodes_of certificate.now) ≡ Some e) }
+    ensures valid { IfOk result (λ _. IsValidCertificate (schema_of schema.now) (plan_of plan.now) (certificate_of certificate.now)) }
+    ensures refused { IfErr result (λ e. e ≢ CertError.OutOfMemory → first_refusal (schema_of schema.now) (plan_of plan.now) (certificate_of certificate.now) ≡ Some e) }
     ensures shows { IfOk result (λ _. AlwaysShows (schema_of schema.now) (plan_of plan.now) (nodes_of certificate.now)) }
     ensures one_answer { IfOk result (λ _. HasOneAnswer (schema_of schema.now) (plan_of plan.now)) }
 {
+    let is_read = is_read_for(plan, certificate.version);
+    refuse_unless(is_read, CertError::Version)?;
     check(alloc, plan, schema, &certificate.nodes)
 }

@@ -29,8 +29,9 @@ returns-in_ok-below-in-Filter t c =
     ⊎_elim (λ h. (ap child (ap plan_of h.1), ap is_over_one (ap plan_of h.1)))
     (λ r. ⊎_elim (λ h. (ap child (ap plan_of h.1), ap is_over_one (ap plan_of h.1)))
     (λ r. ⊎_elim (λ h. (ap child (ap plan_of h.1), ap is_over_one (ap plan_of h.1)))
+    (λ r. ⊎_elim (λ h. (ap child (ap plan_of h.1), ap is_over_one (ap plan_of h.1)))
     (λ r. ⊎_elim (λ h. (ap child (ap plan_of h), ap is_over_one (ap plan_of h)))
-    (λ h. (ap child (ap plan_of h.1), ap is_over_one (ap plan_of h.1))) r) r) r) c.in-Filter.is in
+    (λ h. (ap child (ap plan_of h.1), ap is_over_one (ap plan_of h.1))) r) r) r) r) c.in-Filter.is in
     IfOk-weaker c.analyse_top-in-Filter.result _ _
     (λ v top. one_finds (schema_of c.args.schema.now) (plan_of c.args.plan.now) (plan_of c.deref-in-Filter.result.now) _ _ (map fact_of c.in_ok-below-in-Filter.below.items) _ _ _ (map fact_of v.items)
     (over.0 ∙ (λ i. plan_of (sym c.deref-in-Filter.ensures i))) over.1 (ap (map fact_of) c.deref-in-Filter-2.ensures.value) refl

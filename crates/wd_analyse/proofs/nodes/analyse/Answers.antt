@@ -14,7 +14,7 @@ returns-then-is_empty c =
     let long : vec_len c.analyse_nodes.new.found.findings.reasons ≡ length reasons = search rules in
     certified (schema_of c.args.schema.now) (plan_of c.args.plan.now) _ c.analyse_nodes.new.found (map fact_of c.in_ok-analyse_nodes.field-0.items)
     (ap (map node_of) c.nothing-found.ensures.nodes) c.nothing-found.ensures.reasons c.nothing-found.ensures.marks c.in_ok-analyse_nodes.ensures
-    (nil_from_length reasons (sym long ∙ eqb-true (vec_len c.analyse_nodes.new.found.findings.reasons) 0 (sym c.if-is_empty.ensures)))
+    _ c.version_needed-version.ensures (nil_from_length reasons (sym long ∙ eqb-true (vec_len c.analyse_nodes.new.found.findings.reasons) 0 (sym c.if-is_empty.ensures)))
 
 pub returns-else-is_empty : goal.returns-else-is_empty
 returns-else-is_empty c =

@@ -1,8 +1,8 @@
 use Rattle.std.proofs.Common.{◌≡◌, ◌∙◌, arith, ap, get_or, length, map, subst, sym, rules}
 use Rattle.std.proofs.lemmas.List.{get_or-map, length-map}
 use Rattle.wd_schema.specs.Tables.{key_of}
+use Rattle.wd_plan.specs.Plans.{has}
 use Rattle.wd_candidates.specs.Marks.{MarksMore}
-use Rattle.wd_candidates.specs.Origins.{is_in}
 use Rattle.wd_candidates.proofs.Marked.{keyed_next, written}
 use Rattle.wd_candidates.proofs.rows.keyed_columns.Goals as goal
 
@@ -15,8 +15,8 @@ loop-key-preserved c =
     let new = c.mark_columns.new.marks in
     let was : c.deref_mut.result.now ≡ old = search rules in
     let named : c.deref.result.now ≡ key.columns.items = search rules in
-    let marks = subst (λ l. MarksMore l (λ n. is_in n c.deref.result.now) new) was c.mark_columns.ensures in
-    let of_key = subst (λ l. MarksMore old (λ n. is_in n l) new) named marks in
+    let marks = subst (λ l. MarksMore l (λ n. has c.deref.result.now n) new) was c.mark_columns.ensures in
+    let of_key = subst (λ l. MarksMore old (λ n. has l n) new) named marks in
     let whole = written c.loop-key.keyed.len old new c.loop-key.keyed.ok.0 of_key.long in
     let at : key ≡ get_or keys i key = search rules in
     rw whole (record {

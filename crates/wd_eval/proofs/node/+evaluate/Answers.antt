@@ -6,16 +6,16 @@ use Rattle.wd_value.specs.Rows.{instance_of}
 use Rattle.wd_plan.specs.Expressions.{expression_of}
 use Rattle.wd_plan.specs.Faults.{and_then}
 use Rattle.wd_plan.specs.Outcomes.{distinct, filter_outcome, map_outcome, outcome_of}
-use Rattle.wd_plan.specs.Plans.{Filter, Map, Window, Distinct, Limit, Join, class_of, limit_of, plan_of, window_of}
+use Rattle.wd_plan.specs.Plans.{EachNamesClasses, Filter, Map, Group, Window, Distinct, Limit, Join, class_of, grouping_of, limit_of, plan_of, window_of}
 use Rattle.wd_eval.specs.Windows.{orderings_of}
 use Rattle.wd_nodes.specs.Held.{IsHeld}
 use Rattle.wd_eval.specs.Errors.{error_of}
 use Rattle.wd_nodes.specs.Produced.{produced_of}
 use Rattle.wd_eval.specs.Walks.{IsHalted, IsWalked}
 use Rattle.wd_nodes.specs.declared.produced.Produced.TheVariants.{Made}
-use Rattle.wd_eval.proofs.Nodes.{filter_stopped, map_stopped, distinct_stopped, window_stopped_below, limit_stopped_below, join_stopped_left}
-use Rattle.wd_eval.proofs.Tying.{filter_untied, map_untied, distinct_untied, window_untied, limit_untied, join_untied_left}
-use Rattle.wd_eval.proofs.Walks.{halted_below, filter_walked, map_walked, distinct_walked, window_walked, window_halted, limit_walked, limit_halted, join_walked, join_halted, join_halted_right}
+use Rattle.wd_eval.proofs.Nodes.{filter_stopped, map_stopped, group_stopped_below, distinct_stopped, window_stopped_below, limit_stopped_below, join_stopped_left}
+use Rattle.wd_eval.proofs.Tying.{filter_untied, map_untied, group_untied_below, distinct_untied, window_untied, limit_untied, join_untied_left}
+use Rattle.wd_eval.proofs.Walks.{halted_below, filter_walked, map_walked, group_walked, group_halted, small_below, distinct_walked, window_walked, window_halted, limit_walked, limit_halted, join_walked, join_halted, join_halted_right}
 use Rattle.wd_eval.proofs.node.+evaluate.Goals as goal
 
 pub returns-in_ok-outcome-in-Filter : goal.returns-in_ok-outcome-in-Filter
@@ -353,3 +353,75 @@ returns-in_err-outcome-in-Join t c = λ instance held. (
     let a = subst (λ p. IsWalked (plan_of p) tables instance orderings first old mid l) c.deref.ensures (c.in_ok-left-in-Join.ensures instance left_held).ok in
     let b = subst (λ p. IsWalked (plan_of p) tables instance orderings l.next mid new r) c.deref-in-Join.ensures (c.in_ok-right-in-Join.ensures instance right_held).ok in
     rw (err.1, err.2) (record { ok = tt; refused = subst (λ p. IsHalted p instance orderings first (error_of e)) (sym (ap plan_of c.in-Join.is)) (join_halted tables instance first old condition left right mid l new r orderings e c.requires.at a b c.in_err-outcome-in-Join.ensures.refused) }))
+
+pub grouped-requires : goal.grouped-requires
+grouped-requires t c =
+    let tables = instance_of c.args.tables.now in
+    let below = c.in_ok-below-in-Group.below in
+    let some = c.requires.held in
+    let here = subst (λ p. IsHeld p tables c.args.handed some.instance) (ap plan_of c.in-Group.is) some.held in
+    let below_held = subst (λ p. IsHeld (plan_of p) tables c.args.handed some.instance) (sym c.deref-in-Group.ensures) here in
+    let b = (c.in_ok-below-in-Group.ensures some.instance below_held).ok in
+    let named = subst EachNamesClasses (ap plan_of c.in-Group.is) c.requires.named in
+    record {
+      small = small_below tables some.instance c.args.first c.args.made.now.items c.evaluate-in-Group.new.made.items c.args.orderings (plan_of c.deref-in-Group.result.now) below b;
+      masks = named.1;
+    }
+
+pub returns-in_ok-outcome-in-Group : goal.returns-in_ok-outcome-in-Group
+returns-in_ok-outcome-in-Group t c = λ instance held. (
+    let tables = instance_of c.args.tables.now in
+    let handed = c.args.handed in
+    let here = subst (λ p. IsHeld p tables handed instance) (ap plan_of c.in-Group.is) held in
+    let below_held = subst (λ p. IsHeld (plan_of p) tables handed instance) (sym c.deref-in-Group.ensures) here in
+    let orderings = c.args.orderings in
+    let first = c.args.first in
+    let old = c.args.made.now.items in
+    let new = c.evaluate-in-Group.new.made.items in
+    let below = c.in_ok-below-in-Group.below in
+    let o = c.in_ok-outcome-in-Group.outcome in
+    let rule = grouping_of c.in-Group.group in
+    let input = plan_of c.in-Group.input.value in
+    let b = subst (λ p. IsWalked (plan_of p) tables instance orderings first old new below) c.deref-in-Group.ensures (c.in_ok-below-in-Group.ensures instance below_held).ok in
+    record {
+      ok = subst (λ p. IsWalked p tables instance orderings first old new (record { outcome = Made o; next = below.next })) (sym (ap plan_of c.in-Group.is)) (group_walked tables instance first old rule input new below orderings o b c.in_ok-outcome-in-Group.ensures.ok);
+      refused = tt;
+    })
+
+pub returns-in_err-below-in-Group : goal.returns-in_err-below-in-Group
+returns-in_err-below-in-Group t c = λ instance held. (
+    let tables = instance_of c.args.tables.now in
+    let handed = c.args.handed in
+    let here = subst (λ p. IsHeld p tables handed instance) (ap plan_of c.in-Group.is) held in
+    let below_held = subst (λ p. IsHeld (plan_of p) tables handed instance) (sym c.deref-in-Group.ensures) here in
+    let orderings = c.args.orderings in
+    let first = c.args.first in
+    let old = c.args.made.now.items in
+    let rule = grouping_of c.in-Group.group in
+    let input = plan_of c.in-Group.input.value in
+    let e = c.in_err-below-in-Group.field-0.0 in
+    let err = err_from_is_err_and c.from_residual-in_err-below-in-Group.result c.from_residual-in_err-below-in-Group.ensures.1 in
+    let h = subst (λ p. IsHalted (plan_of p) instance orderings first e) c.deref-in-Group.ensures (c.in_err-below-in-Group.ensures instance below_held).refused in
+    rw (err.1, err.2) (record {
+      ok = tt;
+      refused = subst (λ p. IsHalted p instance orderings first e) (sym (ap plan_of c.in-Group.is))
+          (halted_below tables instance first old orderings input (Group rule input) e c.requires.at (λ choice. group_stopped_below tables instance choice first rule input e) (λ flipped. group_untied_below tables instance flipped (orderings_of old) rule input e) h);
+    }))
+
+pub returns-in_err-outcome-in-Group : goal.returns-in_err-outcome-in-Group
+returns-in_err-outcome-in-Group t c = λ instance held. (
+    let tables = instance_of c.args.tables.now in
+    let handed = c.args.handed in
+    let here = subst (λ p. IsHeld p tables handed instance) (ap plan_of c.in-Group.is) held in
+    let below_held = subst (λ p. IsHeld (plan_of p) tables handed instance) (sym c.deref-in-Group.ensures) here in
+    let orderings = c.args.orderings in
+    let first = c.args.first in
+    let old = c.args.made.now.items in
+    let new = c.evaluate-in-Group.new.made.items in
+    let below = c.in_ok-below-in-Group.below in
+    let rule = grouping_of c.in-Group.group in
+    let input = plan_of c.in-Group.input.value in
+    let e = c.in_err-outcome-in-Group.field-0.0 in
+    let err = err_from_is_err_and c.from_residual-in_err-outcome-in-Group.result c.from_residual-in_err-outcome-in-Group.ensures.1 in
+    let b = subst (λ p. IsWalked (plan_of p) tables instance orderings first old new below) c.deref-in-Group.ensures (c.in_ok-below-in-Group.ensures instance below_held).ok in
+    rw (err.1, err.2) (record { ok = tt; refused = subst (λ p. IsHalted p instance orderings first (error_of e)) (sym (ap plan_of c.in-Group.is)) (group_halted tables instance first old rule input new below orderings e c.requires.at b c.in_err-outcome-in-Group.ensures.refused) }))

@@ -2,8 +2,8 @@ use Rattle.std.proofs.Common.{◌≡◌, ◌∙◌, sym, ap, map, option_map, tr
 use Rattle.wd_schema.specs.Schemas.{schema_of}
 use Rattle.wd_plan.specs.Expressions.{expression_of}
 use Rattle.wd_plan.specs.Fits.{fits}
-use Rattle.wd_plan.specs.Plans.{plan_of, window_of}
-use Rattle.wd_plan.proofs.FitsNodes.{fits-filter, fits-join, fits-map, fits-window}
+use Rattle.wd_plan.specs.Plans.{grouping_of, plan_of, window_of}
+use Rattle.wd_plan.proofs.FitsNodes.{fits-filter, fits-group, fits-join, fits-map, fits-window}
 use Rattle.std.proofs.lemmas.Bool.{false≢true}
 use Rattle.wd_plan.proofs.plan.Plan.+fits.Goals as goal
 use Rattle.wd_plan.proofs.plan.Plan.+fits.Goals.{then-fits, else-fits}
@@ -33,5 +33,10 @@ returns-then-fits-4 t c =
 
 pub returns-then-fits-5 : goal.returns-then-fits-5
 returns-then-fits-5 t c =
-    let below : fits (schema_of c.args.schema.now) (plan_of c.in-Window.input.value) ≡ true = sym (ap (λ p. fits (schema_of c.args.schema.now) (plan_of p)) c.deref-in-Window.ensures) ∙ sym c.fits-in-Window.ensures ∙ c.if-fits-5.true in
-    fits-window (schema_of c.args.schema.now) (plan_of c.args.self.now) (plan_of c.in-Window.input.value) (window_of c.in-Window.window) c.is_window.result (ap plan_of c.in-Window.is) below (cc (c.deref-then-fits-5.ensures, c.is_window.ensures))
+    let below : fits (schema_of c.args.schema.now) (plan_of c.in-Group.input.value) ≡ true = sym (ap (λ p. fits (schema_of c.args.schema.now) (plan_of p)) c.deref-in-Group.ensures) ∙ sym c.fits-in-Group.ensures ∙ c.if-fits-5.true in
+    fits-group (schema_of c.args.schema.now) (plan_of c.args.self.now) (plan_of c.in-Group.input.value) (grouping_of c.in-Group.group) c.is_group.result (ap plan_of c.in-Group.is) below (cc (c.deref-then-fits-5.ensures, c.is_group.ensures))
+
+pub returns-then-fits-6 : goal.returns-then-fits-6
+returns-then-fits-6 t c =
+    let below : fits (schema_of c.args.schema.now) (plan_of c.in-Window.input.value) ≡ true = sym (ap (λ p. fits (schema_of c.args.schema.now) (plan_of p)) c.deref-in-Window.ensures) ∙ sym c.fits-in-Window.ensures ∙ c.if-fits-6.true in
+    fits-window (schema_of c.args.schema.now) (plan_of c.args.self.now) (plan_of c.in-Window.input.value) (window_of c.in-Window.window) c.is_window.result (ap plan_of c.in-Window.is) below (cc (c.deref-then-fits-6.ensures, c.is_window.ensures))

@@ -1,0 +1,7 @@
+use Rattle.std.proofs.Common.{◌≡◌, drop}
+use Rattle.std.specs.List.{list_all}
+use Rattle.wd_plan.specs.Plans.{has, sets_of}
+use Rattle.wd_facts.proofs.columns.is_in_each.Given as goal
+
+abbrev pub invariant-loop-set : goal.invariant-loop-set
+invariant-loop-set l = list_all (λ set. has set l.column) (sets_of (drop l.set-index l.sets)) ≡ list_all (λ set. has set l.column) (sets_of l.sets)

@@ -1,0 +1,4 @@
+pub mod Coded
+pub mod Gathered
+pub mod Marks
+pub mod Sets

@@ -1,0 +1,57 @@
+-- A grouping set's groups as partitions of the rows by its columns.
+use Rattle.std.specs.Prelude.{◌≡◌, ℕ, ◌<◌, Bool, false, not, List, [], ◌∷◌, ◌++◌, filter, flat_map, length, map, slice_get, slice_index_or, option_map, Some, Ok, Result, if◌then◌else◌}
+use Rattle.std.specs.List.{list_any}
+use Rattle.wd_value.specs.declared.value.Value.{Value}
+use Rattle.wd_value.specs.declared.value.Value.TheVariants.{Null}
+use Rattle.wd_value.specs.declared.value.Fault.{Fault}
+use Rattle.wd_value.specs.Bags.{EachOnce, positions}
+use Rattle.wd_value.specs.Rows.{Row, column_of, row_at}
+use Rattle.wd_plan.specs.Faults.{all_ok, and_then}
+use Rattle.wd_plan.specs.Outcomes.{group_row, group_value, shown}
+use Rattle.wd_plan.specs.Partitions.{members}
+use Rattle.wd_plan.specs.Plans.{ClassRule, GroupRule, has}
+use Rattle.wd_plan.specs.Sorting.{same_partition}
+use Rattle.wd_partition.specs.Members.{MemberRule}
+
+-- what a set shows of a row in a grouping column
+abbrev pub shown_in : List ℕ → Row → ℕ → Value
+shown_in set row c = if has set c then column_of row c else Null
+
+-- what is shown of a group, and after that the values of the calls over its rows
+abbrev pub row_over : GroupRule → List ℕ → List Row → Row → Result Row Fault
+row_over rule set rows group = and_then (all_ok (map (group_value set rows) rule.calls)) (λ values. Ok (group ++ values))
+
+-- the grouping columns that a set has, of the first so many
+abbrev pub set_columns : ℕ → List ℕ → List ℕ
+set_columns columns set = filter (has set) (positions columns)
+
+-- the class whose partitions are a set's groups
+abbrev pub set_class : ℕ → List ℕ → ClassRule
+set_class columns set = record { partition = set_columns columns set; order = [] }
+
+-- for each row the positions of the rows of its group, as one ordering of all rows has them
+pub record AreGroups (class : ClassRule) (rows : List Row) (found : List MemberRule) : Type 0 where
+  pub ordering : List ℕ
+  pub once : EachOnce (length rows) ordering
+  pub each : (p : ℕ) → p < length rows → option_map (λ m. m.positions) (slice_get found p) ≡ Some (members class rows ordering p)
+
+-- whether one of the first n rows is of the group of the row at p
+abbrev pub is_met : ClassRule → List Row → ℕ → ℕ → Bool
+is_met class rows n p = list_any (λ q. same_partition class (row_at rows p) (row_at rows q)) (positions n)
+
+-- a mark for each row: whether one of the first n rows is of its group
+pub record AreMarks (class : ClassRule) (rows : List Row) (n : ℕ) (marks : List Bool) : Type 0 where
+  pub long : length marks ≡ length rows
+  pub each : (p : ℕ) → p < length rows → slice_index_or marks p false ≡ is_met class rows n p
+
+-- whether the row at a position stands before all others of its group
+abbrev pub is_first : ℕ → List ℕ → List Row → ℕ → Bool
+is_first columns set rows p = not (is_met (set_class columns set) rows p p)
+
+-- the row of the group whose first row is at a position, where there is one
+abbrev pub row_from : GroupRule → List ℕ → List Row → ℕ → List (Result Row Fault)
+row_from rule set rows p = if is_first rule.columns set rows p then group_row rule rows set (shown rule.columns set (row_at rows p)) ∷ [] else []
+
+-- those of the first n positions
+abbrev pub rows_from : GroupRule → List ℕ → List Row → ℕ → List (Result Row Fault)
+rows_from rule set rows n = flat_map (row_from rule set rows) (positions n)
