@@ -53,7 +53,7 @@ class Made:
 
     def take_kept(self, crates):
         """Puts what 'rt ci' kept of the very same files, kit and libraries below into the crates' out/; the lowest come first."""
-        kept = rt.Kept(crates)
+        kept, has_said = rt.Kept(crates), False
         for crate in crates:
             if not all(self.is_current(below) for below in crate.below()):
                 continue
@@ -62,6 +62,9 @@ class Made:
                 if not kept.give(crate, False, kept.key(crate)):
                     continue
                 self.note(crate, sources)
+                if not has_said:
+                    print("what 'rt ci' passed here is taken, once its files are compared: up to a minute", file=sys.stderr, flush=True)
+                    has_said = True
             kept.is_built(crate)
 
     def left(self, crates):
