@@ -27,11 +27,13 @@ TABLES = {
     "t": "id BIGINT PRIMARY KEY, g TEXT NOT NULL, region BIGINT NOT NULL, day BIGINT NOT NULL, v BIGINT NOT NULL",
     "u": "id BIGINT PRIMARY KEY, w BIGINT NOT NULL",
     "r": "region BIGINT PRIMARY KEY, name TEXT NOT NULL",
+    "w": "id BIGINT PRIMARY KEY, name TEXT NOT NULL",
 }
 REGIONS, GROUPS = 100, 1000
 
-# A title, the query, its tables, the numbers of records, and what data.table does for it, where it has something for it.
-Task = namedtuple("Task", "title query tables sizes r")
+# A title, the query, its tables, the numbers of records, what data.table does for it, where it has something for it, and how
+# SQLite has the query, where it has it otherwise.
+Task = namedtuple("Task", "title query tables sizes r sqlite", defaults=[None])
 BOTH = (100_000, 1_000_000)
 TASKS = (
     Task("all records as they are", "SELECT id, g, region, day, v FROM t", "t", BOTH, "t"),
@@ -56,6 +58,15 @@ TASKS = (
          "SELECT t.id, r.name, RANK() OVER (PARTITION BY r.name ORDER BY t.v) AS n FROM t JOIN r ON t.region = r.region", "tr", BOTH,
          "t[r, on = 'region'][, n := frank(v, ties.method = 'min'), by = name][, .(id, name, n)]"),
     Task("join of n with n", "SELECT t.id, u.w FROM t JOIN u ON t.id = u.id", "tu", BOTH, "t[u, on = 'id'][, .(id, w)]"),
+    Task("running SUM over 1,000 groups", "SELECT g, SUM(SUM(v)) OVER (ORDER BY g) AS s FROM t GROUP BY g", "t", BOTH,
+         "t[, .(s = sum(as.numeric(v))), keyby = g][, .(g, s = cumsum(s))]"),
+    Task("GROUPING SETS of three columns",
+         "SELECT g, region, day, COUNT(*) AS c, SUM(v) AS s FROM t GROUP BY GROUPING SETS ((g, region), (region), (day))", "t", BOTH,
+         "groupingsets(t, j = .(c = .N, s = sum(as.numeric(v))), by = c('g', 'region', 'day'), sets = list(c('g', 'region'), 'region', 'day'))",
+         "SELECT g, region, NULL AS day, COUNT(*) AS c, SUM(v) AS s FROM t GROUP BY g, region "
+         "UNION ALL SELECT NULL, region, NULL, COUNT(*), SUM(v) FROM t GROUP BY region "
+         "UNION ALL SELECT NULL, NULL, day, COUNT(*), SUM(v) FROM t GROUP BY day"),
+    Task("COUNT(*) of n texts", "SELECT name, COUNT(*) AS n FROM w GROUP BY name", "w", BOTH, "w[, .(n = .N), by = name]"),
 )
 
 
@@ -70,6 +81,8 @@ def write_tables(folder, records):
     draw.shuffle(keys)
     with open(f"{folder}/u.csv", "w", encoding="ascii") as file:
         file.write("id,w\n" + "".join("%d,%d\n" % (key, draw.randrange(1000)) for key in keys))
+    with open(f"{folder}/w.csv", "w", encoding="ascii") as file:
+        file.write("id,name\n" + "".join("%d,customer %07d\n" % each for each in enumerate(keys)))
     with open(f"{folder}/r.csv", "w", encoding="ascii") as file:
         file.write("region,name\n" + "".join("%d,region %02d\n" % (key, key) for key in range(REGIONS)))
 
@@ -96,7 +109,7 @@ def of_postgres(task, folder):
 
 
 def of_sqlite(task, folder):
-    query = task.query.replace("FETCH FIRST 10 ROWS ONLY", "LIMIT 10")
+    query = task.sqlite or task.query.replace("FETCH FIRST 10 ROWS ONLY", "LIMIT 10")
     text = "".join(f"{create(table)}.import --csv --skip 1 {folder}/{table}.csv {table}\n" for table in task.tables)
     return ["sqlite3", ":memory:", "-batch", "-cmd", f".read {text_file(folder, 'task.sqlite', text)}", "-cmd", ".mode csv", "-cmd", ".headers on", query]
 

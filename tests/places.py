@@ -27,7 +27,7 @@ SHOWN = [
     ("schema: refused 102 at 2", b"a\n'b\nc", ":2:1\n'b\n^"),
     ("query: refused 104 at 3", b"\xef\xbb\xbf12x", ":1:1\n12x\n^"),
     ("query: refused 201 at 0", b"\xef\xbb\xbf GROUP", ":1:2\n GROUP\n ^^^^^"),
-    ("query: refused 201 at 4", b"SELECT id -- a, b\nFROM t /* c /* d */ e */\n\tGROUP BY id\n", ":3:2\n\tGROUP BY id\n\t^^^^^"),
+    ("query: refused 201 at 4", b"SELECT id -- a, b\nFROM t /* c /* d */ e */\n\tUNION SELECT id\n", ":3:2\n\tUNION SELECT id\n\t^^^^^"),
     ("query: refused 201 at 2", b"SELECT id\n\n", ":1:10\nSELECT id\n         ^"),
     ("query: refused 201 at 0", b" \n \n", ":1:1\n \n^"),
     ("query: refused 201 at 3", b"a<=b<>c", ":1:5\na<=b<>c\n    ^^"),

@@ -19,7 +19,7 @@ import tempfile
 TOP = os.path.dirname(os.path.dirname(os.path.abspath(__file__)))
 PAGE = f"{TOP}/docs/REFUSALS.md"
 # The numbers that a command of the program answers.
-NUMBERS = {*range(101, 108), 201, 202, *range(301, 310), *range(401, 416), *range(501, 512), *range(601, 605), *range(701, 708), 802}
+NUMBERS = {*range(101, 108), 201, 202, *range(301, 310), *range(401, 420), *range(501, 512), *range(601, 605), *range(701, 708), 802}
 FAULTS = {"F1", "F2"}
 FILES = {"schema": "schema.sql", "query": "query.sql", "certificate": "certificate.json", "witness": "witness.json", "data": "t.csv"}
 # The command that a section's examples are tried with, what it reads, and the kind of an example without a name before it.

@@ -4,15 +4,15 @@ use Rattle.std.specs.Prelude.{codes}
 use Rattle.wd_syntax.specs.Tree as tree
 use Rattle.wd_syntax.specs.Tree.{shown}
 use Rattle.wd_plan.specs.declared.expression.ValueKind.TheVariants.{Text, Truth}
-use Rattle.wd_plan.specs.Expressions.{Column}
 use Rattle.wd_plan.specs.Plans.{Scan}
+use Rattle.wd_resolve_operand.specs.Formulas.{Leaf}
 use Rattle.wd_resolve_scope.proofs.Typing.{ok_is}
-use Rattle.wd_resolve_scope.specs.Resolving.{all_defined, over_meant}
+use Rattle.wd_resolve_scope.specs.Resolving.{all_defined}
+use Rattle.wd_resolve_scope.specs.Rows.{column}
 use Rattle.wd_resolve_scope.specs.Windows.{KnownMeaning, WindowMeaning, default_frame}
-use Rattle.wd_resolve_scope.specs.declared.context.Place.TheVariants.{SelectList}
 use Rattle.wd_resolve.specs.Selected.{JoinedTables}
 use Rattle.wd_complete.specs.Examples.{ExampleIsPlain, the_over, unquoted}
-use Rattle.wd_complete.specs.Queries.{IsPlainWindow}
+use Rattle.wd_complete.specs.Queries.{IsPlainWindow, in_list, over_meant}
 
 -- the columns in scope
 abbrev the_from : JoinedTables
@@ -26,16 +26,16 @@ the_from = record {
 
 -- the window: no partition, in the order of the first column
 abbrev the_window : WindowMeaning
-the_window = record { partition = []; order = record { expression = Column 0; kind = Truth; key = record { desc = false; nulls_first = false } } ∷ []; frame = default_frame; framed = false }
+the_window = record { partition = []; order = record { expression = Leaf (column 0); kind = Truth; key = record { desc = false; nulls_first = false } } ∷ []; frame = default_frame; framed = false }
 
 the_window_is : IsPlainWindow the_window
 the_window_is = record { partition = tt; order = (tt, tt) }
 
 abbrev PlainKnown : List KnownMeaning → Type 0
-PlainKnown known = (w : WindowMeaning) → over_meant (record { scope = the_from.scope; windows = known; place = SelectList }) the_over ≡ Ok w → IsPlainWindow w
+PlainKnown known = (w : WindowMeaning) → over_meant (in_list the_from.scope known) the_over ≡ Ok w → IsPlainWindow w
 
 abbrev PlainFrom : JoinedTables → Type 0
-PlainFrom from = (known : List KnownMeaning) → all_defined from.scope [] [] ≡ Ok known → (w : WindowMeaning) → over_meant (record { scope = from.scope; windows = known; place = SelectList }) the_over ≡ Ok w → IsPlainWindow w
+PlainFrom from = (known : List KnownMeaning) → all_defined from.scope None [] [] ≡ Ok known → (w : WindowMeaning) → over_meant (in_list from.scope known) the_over ≡ Ok w → IsPlainWindow w
 
 pub example : ExampleIsPlain
 example = record {
@@ -50,6 +50,7 @@ example = record {
   after = [];
   semicolon = false;
   is = refl;
+  not_grouped = refl;
   all = refl;
   plain_before = (tt, tt);
   plain_after = tt;

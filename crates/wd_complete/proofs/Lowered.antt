@@ -1,5 +1,5 @@
 -- A query of the plain class has a plain plan.
-use Rattle.std.proofs.Common.{◌≡◌, ◌≢◌, ◌⊎◌, inl, inr, ℕ, zero, suc, ◌+◌, ◌<◌, Bool, true, false, cond, ◌&&◌, ◌||◌, AllPairs, List, [], ◌∷◌, ◌++◌, append_assoc, filter, get_or, length, map, nat_eq, refl, sym, ◌∙◌, ap, subst, arith, true≢false, Option, None, Some, Ok, Err, slice_get}
+use Rattle.std.proofs.Common.{◌≡◌, ◌≢◌, ◌⊎◌, inl, inr, ℕ, zero, suc, ◌+◌, ◌<◌, Bool, true, false, cond, ◌&&◌, ◌||◌, AllPairs, List, [], ◌∷◌, ◌++◌, append_assoc, filter, get_or, length, map, nat_eq, option_map, refl, sym, ◌∙◌, ap, subst, arith, true≢false, Option, None, Some, Ok, Err, slice_get}
 use Rattle.std.specs.List.{AllByRecursion, Contains, list_any, position_or_len}
 use Rattle.std.specs.Cmp.{booleans_Decides}
 use Rattle.std.proofs.lemmas.Bool.{eq-eqb, eqb-true}
@@ -8,13 +8,13 @@ use Rattle.std.proofs.lemmas.Option.{slice_get_within}
 use lib.Pointwise.{pointwise}
 use Rattle.wd_read_cursor.specs.declared.name.Name.{Name}
 use Rattle.wd_syntax.specs.declared.query.Alias.{Alias}
+use Rattle.wd_syntax.specs.declared.query.Quantifier.{Quantifier}
 use Rattle.wd_syntax.specs.Tree as tree
-use Rattle.wd_syntax.specs.Tree.{ItemTree, OverTree, all_columns, all_of, no_keys, no_trees, shown}
+use Rattle.wd_syntax.specs.Tree.{ItemTree, OverTree, WindowTree, all_columns, all_of, no_keys, no_over, no_trees, over_name, over_window, shown}
 use Rattle.wd_value.specs.declared.order.SortColumn.{SortColumn}
 use Rattle.wd_value.specs.Keys.{key_columns}
 use Rattle.wd_schema.specs.Tables.{TableRule}
-use Rattle.wd_plan.specs.Equality.{same_expression}
-use Rattle.wd_plan.specs.Expressions.{Expression, Column, Literal, Negate, Arithmetic, Compare, Not, And, Or, IsNull, IsNotNull, Case}
+use Rattle.wd_plan.specs.Expressions.{Column}
 use Rattle.wd_plan.specs.Plans.{ClassRule, Scan, Map, Window}
 use Rattle.wd_plan.specs.Sorting.{class_columns, order_columns}
 use Rattle.wd_plan.specs.declared.function.Function.TheVariants.{Ranking as Ranked}
@@ -22,26 +22,29 @@ use Rattle.wd_plan.specs.declared.function.FunctionName.TheVariants.{RowNumber}
 use Rattle.wd_plan.specs.declared.function.Ranking.TheVariants as rank
 use Rattle.wd_resolve_operand.specs.declared.cause.Cause.TheVariants.{TooMany, UnknownTable}
 use Rattle.wd_resolve_operand.specs.Causes.{Meant, ◌>>=◌}
-use Rattle.wd_resolve_operand.specs.Formulas.{Formula, Leaf}
+use Rattle.wd_resolve_operand.specs.Formulas.{Formula, Leaf, Literal, Negate, Arithmetic, Compare, Not, And, Or, IsNull, IsNotNull, Case, seated}
 use Rattle.wd_resolve_operand.specs.Operands.{Operand, settled}
 use Rattle.wd_resolve_scope.specs.Calls.{CallMeaning, ranking, same_call}
-use Rattle.wd_resolve_scope.specs.Functions.{function_named}
-use Rattle.wd_resolve_scope.specs.Leaves.{SelectLeaf, call, column}
+use Rattle.wd_resolve_scope.specs.Functions.{GroupFunction, function_named, group_function_named}
+use Rattle.wd_resolve_scope.specs.Grouped.{is_grouped}
+use Rattle.wd_resolve_scope.specs.Leaves.{SelectLeaf, call, of_row}
 use Rattle.wd_resolve_scope.specs.Names.{the_only}
-use Rattle.wd_resolve_scope.specs.Resolving.{ContextRule, called, over_meant, resolved}
-use Rattle.wd_resolve_scope.specs.Scopes.{carries, has_table, numbered}
-use Rattle.wd_resolve_scope.specs.Windows.{KeyMeaning, WindowMeaning}
+use Rattle.wd_resolve_scope.specs.Resolving.{ContextRule, call_over, called, group_called, resolved, window_resolved}
+use Rattle.wd_resolve_scope.specs.Rows.{RowFormula, column, of_group, same_group_call, same_row_formula}
+use Rattle.wd_resolve_scope.specs.Grouped.{column_meant}
+use Rattle.wd_resolve_scope.specs.Scopes.{ScopeRule, carries, has_table, numbered}
+use Rattle.wd_resolve_scope.specs.Windows.{KeyMeaning, KnownMeaning, WindowMeaning, window_named}
 use Rattle.wd_resolve_scope.specs.declared.scope.ScopeColumn.{ScopeColumn}
 use Rattle.wd_resolve_scope.proofs.Typing.{bound, ok_is}
-use Rattle.wd_resolve_select.specs.Listing.{Needs, all_leaves, are_wide, calls_among, input_number, needs_of, over, place_in, read_by, read_by_all, sorted_by, with_new}
-use Rattle.wd_resolve_select.specs.Outputs.{OutputMeaning, column_meant, columns_of, expressions_of, is_of, item_listed, item_meant, listed, narrow, output_meant, name_shown, table_shown}
+use Rattle.wd_resolve_select.specs.Grouping.{below_meant, grouped_rule, no_groups}
+use Rattle.wd_resolve_select.specs.Listing.{Below, GroupedBy, Needs, all_leaves, all_row_leaves, are_wide, calls_among, column_of, group_calls_among, input_number, needs_of, over, place_in, read_by, read_by_all, sorted_by, with_new}
+use Rattle.wd_resolve_select.specs.Outputs.{OutputMeaning, column_output, columns_of, columns_shown, expressions_of, is_of, item_listed, item_meant, listed, narrow, output_meant, name_shown, table_shown}
 use Rattle.wd_resolve_select.specs.Steps.{class_over, mapped, mapped_over, order_item, same_class, same_item, window_over}
 use Rattle.wd_resolve_select.proofs.Among.{all_with_new, first_there}
 use Rattle.wd_resolve_select.proofs.ReadBy.{same_call-itself}
 use Rattle.wd_resolve_operand.specs.declared.cause.Cause.TheVariants.{Ambiguous}
 use Rattle.wd_resolve_scope.specs.Resolving.{all_defined}
 use Rattle.wd_resolve_scope.specs.Scopes.{beside}
-use Rattle.wd_resolve_scope.specs.declared.context.Place.TheVariants.{SelectList}
 use Rattle.wd_resolve_select.specs.Outputs.{list_meant}
 use Rattle.wd_resolve_select.specs.Steps.{Lowered, deduplicated}
 use Rattle.wd_resolve.specs.Answers.{Answer, answer, name_in}
@@ -50,7 +53,7 @@ use Rattle.wd_resolve.specs.Selected.{FromSoFar, JoinedTables, admitted, called 
 use Rattle.wd_syntax.specs.Tree.{Parts, named, no_joins, select}
 use Rattle.wd_complete.specs.QueryLaws.{QueriesArePlain}
 use Rattle.wd_complete.specs.Plain.{IsPlain, PlainPlan, plan_by, window_rule}
-use Rattle.wd_complete.specs.Queries.{IsColumn, IsPlainItem, IsPlainWindow}
+use Rattle.wd_complete.specs.Queries.{IsColumn, IsPlainItem, IsPlainWindow, in_list, over_meant, plain_parts}
 use Rattle.wd_complete.proofs.Lists.{Among, all_at, all_from, among_back, among_front, among_get, among_map, contains_from}
 use Rattle.wd_complete.proofs.Reached.{one_place}
 use Rattle.wd_complete.proofs.Tried.{among_parts}
@@ -58,8 +61,15 @@ use Rattle.wd_complete.proofs.Tried.{among_parts}
 -- ---- the outputs
 
 -- columns of FROM by these numbers
+abbrev read_of : ℕ → SelectLeaf
+read_of n = of_row (column n)
+
 abbrev leaf_of : ℕ → Formula SelectLeaf
-leaf_of n = Leaf (column n)
+leaf_of n = Leaf (read_of n)
+
+-- what stands below the windows of a select that is not grouped
+abbrev not_grouped : Below
+not_grouped = record { grouped = None; having = None }
 
 record AreColumns (outputs : List OutputMeaning) : Type 0 where
   numbers : List ℕ
@@ -71,32 +81,38 @@ both_columns xs ys a b = record {
   are = map-append (λ (o : OutputMeaning). o.expression) xs ys ∙ (λ i. a.are i ++ b.are i) ∙ sym (map-append leaf_of a.numbers b.numbers);
 }
 
-of_scope : (xs : List (ℕ × ScopeColumn)) → AreColumns (map column_meant xs)
-of_scope [] = record { numbers = []; are = refl }
-of_scope (x ∷ xs) = let r = of_scope xs in record { numbers = x.0 ∷ r.numbers; are = ap (λ l. leaf_of x.0 ∷ l) r.are }
+of_scope : (xs : List (ℕ × ScopeColumn)) (more : List OutputMeaning) → columns_shown None xs ≡ Ok more → AreColumns more
+of_scope [] more h = subst AreColumns (ok_is _ _ h) (record { numbers = []; are = refl })
+of_scope (x ∷ xs) more h =
+    let later = bound (columns_shown None xs) (λ outputs. Ok (column_output x ∷ outputs)) more h in
+    let r = of_scope xs later.0 later.1 in
+    subst AreColumns (ok_is _ _ later.2) (record { numbers = x.0 ∷ r.numbers; are = ap (λ l. leaf_of x.0 ∷ l) r.are })
 
-module _ (c : ContextRule) where
-  by_only : (xs : List (ℕ × ScopeColumn)) (name : List ℕ) (more : List OutputMeaning) → (the_only xs >>= λ x. Ok (output_meant name x ∷ [])) ≡ Ok more → AreColumns more
+module _ (scope : ScopeRule) (known : List KnownMeaning) where
+  abbrev c : ContextRule
+  c = in_list scope known
+
+  by_only : (xs : List (ℕ × ScopeColumn)) (name : List ℕ) (more : List OutputMeaning) → ((the_only xs >>= λ x. column_meant None x) >>= λ x. Ok (output_meant name x ∷ [])) ≡ Ok more → AreColumns more
   by_only [] name more h = absurd cc
   by_only (x ∷ []) name more h = subst AreColumns (ok_is _ _ h) (record { numbers = x.0 ∷ []; are = refl })
   by_only (x ∷ y ∷ xs) name more h = absurd cc
 
-  by_table : (table : List ℕ) (more : List OutputMeaning) → table_shown c.scope table ≡ Ok more → AreColumns more
-  by_table table more h = by (has_table c.scope table) h
+  by_table : (table : List ℕ) (more : List OutputMeaning) → table_shown None scope table ≡ Ok more → AreColumns more
+  by_table table more h = by (has_table scope table) h
     where
-      by : (b : Bool) → cond b (Ok (columns_of c.scope (Some table))) (Err UnknownTable) ≡ Ok more → AreColumns more
-      by true e = subst AreColumns (ok_is _ _ e) (of_scope (filter (λ x. is_of (Some table) x.1) (numbered c.scope.columns)))
+      by : (b : Bool) → cond b (columns_of None scope (Some table)) (Err UnknownTable) ≡ Ok more → AreColumns more
+      by true e = of_scope (filter (λ x. is_of (Some table) x.1) (numbered scope.columns)) more e
       by false e = absurd cc
 
   plain_item : (item : ItemTree) (more : List OutputMeaning) → IsPlainItem item → item_meant c item ≡ Ok more → AreColumns more
-  plain_item all_columns more is h = subst AreColumns (ok_is _ _ h) (of_scope (filter (λ x. is_of None x.1) (numbered c.scope.columns)))
+  plain_item all_columns more is h = of_scope (filter (λ x. is_of None x.1) (numbered scope.columns)) more h
   plain_item (all_of table) more is h = by_table table.text more h
-  plain_item (shown (tree.Column name) alias) more is h = by_only (filter (λ x. carries None name.text x.1) (numbered c.scope.columns)) (name_shown (tree.Column name) alias) more h
-  plain_item (shown (tree.Qualified table name) alias) more is h = by_only (filter (λ x. carries (Some table.text) name.text x.1) (numbered c.scope.columns)) (name_shown (tree.Qualified table name) alias) more h
+  plain_item (shown (tree.Column name) alias) more is h = by_only (filter (λ x. carries None name.text x.1) (numbered scope.columns)) (name_shown (tree.Column name) alias) more h
+  plain_item (shown (tree.Qualified table name) alias) more is h = by_only (filter (λ x. carries (Some table.text) name.text x.1) (numbered scope.columns)) (name_shown (tree.Qualified table name) alias) more h
   plain_item (shown a alias) more is h = absurd is
 
-  narrow_is : (outputs all : List OutputMeaning) → narrow outputs ≡ Ok all → all ≡ outputs
-  narrow_is outputs all h = by (are_wide (expressions_of outputs)) h
+  narrow_is : (outputs all : List OutputMeaning) → narrow not_grouped outputs ≡ Ok all → all ≡ outputs
+  narrow_is outputs all h = by (are_wide not_grouped (expressions_of outputs) []) h
     where
       by : (b : Bool) → cond b (Err TooMany) (Ok outputs) ≡ Ok all → all ≡ outputs
       by true e = absurd cc
@@ -107,11 +123,11 @@ module _ (c : ContextRule) where
     is : all ≡ outputs ++ more
     columns : AreColumns more
 
-  plain_items : (items : List ItemTree) (outputs all : List OutputMeaning) → AllByRecursion IsPlainItem items → listed c items outputs ≡ Ok all → IsListed items outputs all
+  plain_items : (items : List ItemTree) (outputs all : List OutputMeaning) → AllByRecursion IsPlainItem items → listed not_grouped c items outputs ≡ Ok all → IsListed items outputs all
   plain_items [] outputs all is h = record { more = []; is = sym (ok_is _ _ h) ∙ sym (append-nil outputs); columns = record { numbers = []; are = refl } }
   plain_items (item ∷ items) outputs all is h =
-      let first = bound (item_listed c item outputs) (λ next. listed c items next) all h in
-      let one = bound (item_meant c item) (λ more. narrow (outputs ++ more)) first.0 first.1 in
+      let first = bound (item_listed not_grouped c item outputs) (λ next. listed not_grouped c items next) all h in
+      let one = bound (item_meant c item) (λ more. narrow not_grouped (outputs ++ more)) first.0 first.1 in
       let next : first.0 ≡ outputs ++ one.0 = narrow_is (outputs ++ one.0) first.0 one.2 in
       let rest = plain_items items first.0 all is.1 first.2 in
       record {
@@ -120,12 +136,12 @@ module _ (c : ContextRule) where
         columns = both_columns one.0 rest.more (plain_item item one.0 is.0 one.1) rest.columns;
       }
 
-  listed_parts : (xs ys : List ItemTree) (outputs all : List OutputMeaning) → listed c (xs ++ ys) outputs ≡ Ok all → (mid : List OutputMeaning) × (listed c xs outputs ≡ Ok mid) × (listed c ys mid ≡ Ok all)
+  listed_parts : (xs ys : List ItemTree) (outputs all : List OutputMeaning) → listed not_grouped c (xs ++ ys) outputs ≡ Ok all → (mid : List OutputMeaning) × (listed not_grouped c xs outputs ≡ Ok mid) × (listed not_grouped c ys mid ≡ Ok all)
   listed_parts [] ys outputs all h = (outputs, refl, h)
   listed_parts (x ∷ xs) ys outputs all h =
-      let first = bound (item_listed c x outputs) (λ next. listed c (xs ++ ys) next) all h in
+      let first = bound (item_listed not_grouped c x outputs) (λ next. listed not_grouped c (xs ++ ys) next) all h in
       let rest = listed_parts xs ys first.0 all first.2 in
-      (rest.0, ap (λ (m : Meant (List OutputMeaning)). m >>= λ next. listed c xs next) first.1 ∙ rest.1, rest.2)
+      (rest.0, ap (λ (m : Meant (List OutputMeaning)). m >>= λ next. listed not_grouped c xs next) first.1 ∙ rest.1, rest.2)
 
   -- the output of the call
   record IsNumber (over : OverTree) (more : List OutputMeaning) : Type 0 where
@@ -136,10 +152,20 @@ module _ (c : ContextRule) where
   called_is : (function : Name) (w : WindowMeaning) (x : Operand SelectLeaf) → function_named function.text ≡ Some RowNumber → called function (Some []) w ≡ Ok x → settled x ≡ Leaf (call (record { function = ranking rank.RowNumber; window = w }))
   called_is function w x word_is h = let e = rw word_is at h in ap settled (sym (ok_is _ _ e))
 
+  -- a call that has a meaning stands with OVER, as the select is not grouped
+  over_is : (function : Name) (over : OverTree) (x : Operand SelectLeaf) → call_over c function (Some []) over ≡ Ok x → (w : WindowMeaning) × (over_meant c over ≡ Ok w) × (called function (Some []) w ≡ Ok x)
+  over_is function no_over x h = by (group_function_named function.text) h
+    where
+      by : (o : Option GroupFunction) → group_called c o (Some []) ≡ Ok x → (w : WindowMeaning) × (over_meant c no_over ≡ Ok w) × (called function (Some []) w ≡ Ok x)
+      by None e = absurd cc
+      by (Some f) e = absurd cc
+  over_is function (over_name name) x h = bound (window_named known name.text) (λ w. called function (Some []) w) x h
+  over_is function (over_window w) x h = bound (window_resolved c w) (λ meaning. called function (Some []) meaning) x h
+
   number_item : (function : Name) (over : OverTree) (alias : Option Alias) (more : List OutputMeaning) → function_named function.text ≡ Some RowNumber → item_meant c (shown (tree.Call function no_trees over) alias) ≡ Ok more → IsNumber over more
   number_item function over alias more word_is h =
       let x = bound (resolved c (tree.Call function no_trees over)) (λ x. Ok (output_meant (name_shown (tree.Call function no_trees over) alias) x ∷ [])) more h in
-      let w = bound (over_meant c over) (λ w. called function (Some []) w) x.0 x.1 in
+      let w = over_is function over x.0 x.1 in
       record {
         window = w.0;
         means = w.1;
@@ -156,13 +182,13 @@ module _ (c : ContextRule) where
 
   numbered_list : (before : List ItemTree) (function : Name) (over : OverTree) (alias : Option Alias) (after : List ItemTree) (all : List OutputMeaning)
       → AllByRecursion IsPlainItem before → AllByRecursion IsPlainItem after → function_named function.text ≡ Some RowNumber
-      → listed c (before ++ shown (tree.Call function no_trees over) alias ∷ after) [] ≡ Ok all → AreNumbered over all
+      → listed not_grouped c (before ++ shown (tree.Call function no_trees over) alias ∷ after) [] ≡ Ok all → AreNumbered over all
   numbered_list before function over alias after all plain_before plain_after word_is h =
       let parts = listed_parts before (shown (tree.Call function no_trees over) alias ∷ after) [] all h in
       let front = plain_items before [] parts.0 plain_before parts.1 in
       let item = shown (tree.Call function no_trees over) alias in
-      let second = bound (item_listed c item parts.0) (λ next. listed c after next) all parts.2 in
-      let one = bound (item_meant c item) (λ more. narrow (parts.0 ++ more)) second.0 second.1 in
+      let second = bound (item_listed not_grouped c item parts.0) (λ next. listed not_grouped c after next) all parts.2 in
+      let one = bound (item_meant c item) (λ more. narrow not_grouped (parts.0 ++ more)) second.0 second.1 in
       let next : second.0 ≡ parts.0 ++ one.0 = narrow_is (parts.0 ++ one.0) second.0 one.2 in
       let number = number_item function over alias one.0 word_is one.1 in
       let back = plain_items after second.0 all plain_after second.2 in
@@ -177,12 +203,12 @@ module _ (c : ContextRule) where
 
 -- columns and one call, as leaves
 abbrev leaves_by : List ℕ → CallMeaning → List ℕ → List SelectLeaf
-leaves_by before k after = map column before ++ call k ∷ map column after
+leaves_by before k after = map read_of before ++ call k ∷ map read_of after
 
 leaf_map : (before : List ℕ) (k : CallMeaning) (after : List ℕ) → map leaf_of before ++ Leaf (call k) ∷ map leaf_of after ≡ map Leaf (leaves_by before k after)
-leaf_map before k after = (λ i. each before i ++ Leaf (call k) ∷ each after i) ∙ sym (map-append Leaf (map column before) (call k ∷ map column after))
+leaf_map before k after = (λ i. each before i ++ Leaf (call k) ∷ each after i) ∙ sym (map-append Leaf (map read_of before) (call k ∷ map read_of after))
   where
-    each : (ns : List ℕ) → map leaf_of ns ≡ map Leaf (map column ns)
+    each : (ns : List ℕ) → map leaf_of ns ≡ map Leaf (map read_of ns)
     each [] = refl
     each (n ∷ ns) = ap (λ l. leaf_of n ∷ l) (each ns)
 
@@ -190,7 +216,7 @@ all_leaves_are : (ls : List SelectLeaf) → all_leaves (map Leaf ls) ≡ ls
 all_leaves_are [] = refl
 all_leaves_are (l ∷ ls) = ap (λ xs. l ∷ xs) (all_leaves_are ls)
 
-no_calls : (ns : List ℕ) → calls_among (map column ns) ≡ []
+no_calls : (ns : List ℕ) → calls_among (map read_of ns) ≡ []
 no_calls [] = refl
 no_calls (n ∷ ns) = no_calls ns
 
@@ -198,21 +224,36 @@ one_call : (before : List ℕ) (k : CallMeaning) (after : List ℕ) → calls_am
 one_call [] k after = ap (λ l. k ∷ l) (no_calls after)
 one_call (n ∷ before) k after = one_call before k after
 
-columns_read : (ns : List ℕ) → read_by_all (map column ns) ≡ map Column ns
+-- a column of FROM as an expression over rows
+abbrev row_of : ℕ → RowFormula
+row_of n = Leaf (column n)
+
+columns_read : (ns : List ℕ) → read_by_all (map read_of ns) ≡ map row_of ns
 columns_read [] = refl
-columns_read (n ∷ ns) = ap (λ l. Column n ∷ l) (columns_read ns)
+columns_read (n ∷ ns) = ap (λ l. row_of n ∷ l) (columns_read ns)
+
+-- columns are no calls over groups
+no_group_calls : (ns : List ℕ) → group_calls_among (all_row_leaves (map row_of ns)) ≡ []
+no_group_calls [] = refl
+no_group_calls (n ∷ ns) = no_group_calls ns
+
+-- they stand where FROM has them
+rows_seated : (ns : List ℕ) → map (seated column_of) (map row_of ns) ≡ map Column ns
+rows_seated [] = refl
+rows_seated (n ∷ ns) = ap (λ l. Column n ∷ l) (rows_seated ns)
 
 read_append : (xs ys : List SelectLeaf) → read_by_all (xs ++ ys) ≡ read_by_all xs ++ read_by_all ys
 read_append [] ys = refl
 read_append (x ∷ xs) ys = ap (λ l. read_by x ++ l) (read_append xs ys) ∙ sym (append_assoc (read_by x) (read_by_all xs) (read_by_all ys))
 
 -- expressions that are columns
-record HasNumbers (es : List Expression) : Type 0 where
+record HasNumbers (es : List RowFormula) : Type 0 where
   numbers : List ℕ
-  are : es ≡ map Column numbers
+  are : es ≡ map row_of numbers
 
-one_column : (e : Expression) → IsColumn e → (n : ℕ) × (e ≡ Column n)
-one_column (Column c) is = (c, refl)
+one_column : (f : RowFormula) → IsColumn f → (n : ℕ) × (f ≡ row_of n)
+one_column (Leaf (column c)) is = (c, refl)
+one_column (Leaf (of_group g)) is = absurd is
 one_column (Literal v kind) is = absurd is
 one_column (Negate a) is = absurd is
 one_column (Arithmetic op a b) is = absurd is
@@ -224,7 +265,7 @@ one_column (IsNull a) is = absurd is
 one_column (IsNotNull a) is = absurd is
 one_column (Case branch a b c) is = absurd is
 
-has_numbers : (es : List Expression) → AllByRecursion IsColumn es → HasNumbers es
+has_numbers : (es : List RowFormula) → AllByRecursion IsColumn es → HasNumbers es
 has_numbers [] is = record { numbers = []; are = refl }
 has_numbers (e ∷ es) is =
     let one = one_column e is.0 in
@@ -237,21 +278,21 @@ keys_plain (key ∷ keys) is = (is.0, keys_plain keys is.1)
 
 -- ---- the columns that are read, each once
 
-with_columns : (seen ns : List ℕ) → with_new same_expression (map Column seen) (map Column ns) ≡ map Column (with_new nat_eq seen ns)
+with_columns : (seen ns : List ℕ) → with_new same_row_formula (map row_of seen) (map row_of ns) ≡ map row_of (with_new nat_eq seen ns)
 with_columns seen [] = refl
 with_columns seen (n ∷ ns) =
-    ap (λ l. with_new same_expression l (map Column ns)) (next (list_any (same_expression (Column n)) (map Column seen)) (there seen)) ∙ with_columns (cond (list_any (nat_eq n) seen) seen (seen ++ n ∷ [])) ns
+    ap (λ l. with_new same_row_formula l (map row_of ns)) (next (list_any (same_row_formula (row_of n)) (map row_of seen)) (there seen)) ∙ with_columns (cond (list_any (nat_eq n) seen) seen (seen ++ n ∷ [])) ns
   where
-    there : (xs : List ℕ) → list_any (same_expression (Column n)) (map Column xs) ≡ list_any (nat_eq n) xs
+    there : (xs : List ℕ) → list_any (same_row_formula (row_of n)) (map row_of xs) ≡ list_any (nat_eq n) xs
     there [] = refl
     there (x ∷ xs) = ap (λ b. nat_eq n x || b) (there xs)
 
-    next : (b : Bool) → b ≡ list_any (nat_eq n) seen → cond b (map Column seen) (map Column seen ++ Column n ∷ []) ≡ map Column (cond (list_any (nat_eq n) seen) seen (seen ++ n ∷ []))
-    next b e = ap (λ c. cond c (map Column seen) (map Column seen ++ Column n ∷ [])) e ∙ by (list_any (nat_eq n) seen)
+    next : (b : Bool) → b ≡ list_any (nat_eq n) seen → cond b (map row_of seen) (map row_of seen ++ row_of n ∷ []) ≡ map row_of (cond (list_any (nat_eq n) seen) seen (seen ++ n ∷ []))
+    next b e = ap (λ c. cond c (map row_of seen) (map row_of seen ++ row_of n ∷ [])) e ∙ by (list_any (nat_eq n) seen)
       where
-        by : (c : Bool) → cond c (map Column seen) (map Column seen ++ Column n ∷ []) ≡ map Column (cond c seen (seen ++ n ∷ []))
+        by : (c : Bool) → cond c (map row_of seen) (map row_of seen ++ row_of n ∷ []) ≡ map row_of (cond c seen (seen ++ n ∷ []))
         by true = refl
-        by false = sym (map-append Column seen (n ∷ []))
+        by false = sym (map-append row_of seen (n ∷ []))
 
 -- no element stands twice
 abbrev Once : List ℕ → Type 0
@@ -305,31 +346,31 @@ once_pairs (x ∷ xs) o (suc i) (suc j) d lt h = once_pairs xs o.1 i j d (omega 
 
 -- ---- the number of a column
 
-any_at : (read : List ℕ) (k : ℕ) → k < length read → list_any (same_expression (Column (get_or read k 0))) (map Column read) ≡ true
+any_at : (read : List ℕ) (k : ℕ) → k < length read → list_any (same_row_formula (row_of (get_or read k 0))) (map row_of read) ≡ true
 any_at [] k h = absurd (omega (arith, h))
-any_at (x ∷ read) zero h = ap (λ b. b || list_any (same_expression (Column x)) (map Column read)) (eq-eqb x x refl)
+any_at (x ∷ read) zero h = ap (λ b. b || list_any (same_row_formula (row_of x)) (map row_of read)) (eq-eqb x x refl)
 any_at (x ∷ read) (suc k) h = later (nat_eq (get_or read k 0) x) (any_at read k (omega (arith, h)))
   where
-    later : (b : Bool) → list_any (same_expression (Column (get_or read k 0))) (map Column read) ≡ true → (b || list_any (same_expression (Column (get_or read k 0))) (map Column read)) ≡ true
+    later : (b : Bool) → list_any (same_row_formula (row_of (get_or read k 0))) (map row_of read) ≡ true → (b || list_any (same_row_formula (row_of (get_or read k 0))) (map row_of read)) ≡ true
     later true e = refl
     later false e = e
 
-column_at : (read : List ℕ) (k : ℕ) (e : Expression) → slice_get (map Column read) k ≡ Some e → e ≡ Column (get_or read k 0)
+column_at : (read : List ℕ) (k : ℕ) (e : RowFormula) → slice_get (map row_of read) k ≡ Some e → e ≡ row_of (get_or read k 0)
 column_at [] k e h = absurd cc
 column_at (x ∷ read) zero e h = cc
 column_at (x ∷ read) (suc k) e h = column_at read k e h
 
-same_number : (m n : ℕ) → same_expression (Column m) (Column n) ≡ true → m ≡ n
+same_number : (m n : ℕ) → same_row_formula (row_of m) (row_of n) ≡ true → m ≡ n
 same_number m n h = eqb-true m n h
 
-number_is : (read : List ℕ) → AllPairs (λ a b. a ≢ b) read → (k : ℕ) → k < length read → input_number (map Column read) (Column (get_or read k 0)) ≡ k
+number_is : (read : List ℕ) → AllPairs (λ a b. a ≢ b) read → (k : ℕ) → k < length read → input_number (map row_of read) (row_of (get_or read k 0)) ≡ k
 number_is read once k h =
-    let f = first_there (same_expression (Column (get_or read k 0))) (map Column read) (any_at read k h) in
-    let n = position_or_len (same_expression (Column (get_or read k 0))) (map Column read) in
-    let within : n < length (map Column read) = slice_get_within (map Column read) n f.0 f.1 in
-    let low : n < length read = subst (λ m. n < m) (length-map read Column) within in
+    let f = first_there (same_row_formula (row_of (get_or read k 0))) (map row_of read) (any_at read k h) in
+    let n = position_or_len (same_row_formula (row_of (get_or read k 0))) (map row_of read) in
+    let within : n < length (map row_of read) = slice_get_within (map row_of read) n f.0 f.1 in
+    let low : n < length read = subst (λ m. n < m) (length-map read row_of) within in
     let is = column_at read n f.0 f.1 in
-    let same : get_or read k 0 ≡ get_or read n 0 = same_number (get_or read k 0) (get_or read n 0) (subst (λ e. same_expression (Column (get_or read k 0)) e ≡ true) is f.2) in
+    let same : get_or read k 0 ≡ get_or read n 0 = same_number (get_or read k 0) (get_or read n 0) (subst (λ e. same_row_formula (row_of (get_or read k 0)) e ≡ true) is f.2) in
     one_place read once n k low h (sym same)
 
 -- ---- the plan
@@ -361,26 +402,27 @@ module _ (before : List ℕ) (w : WindowMeaning) (after : List ℕ) (plain : IsP
   abbrev read : List ℕ
   read = with_new nat_eq [] asked_for
 
-  read_is : read_by_all (leaves_by before k after) ≡ map Column asked_for
+  read_is : read_by_all (leaves_by before k after) ≡ map row_of asked_for
   read_is =
-      read_append (map column before) (call k ∷ map column after)
+      read_append (map read_of before) (call k ∷ map read_of after)
       ∙ (λ i. columns_read before i ++ ((parts.are i ++ orders.are i) ++ columns_read after i))
-      ∙ sym (map-append Column before ((parts.numbers ++ orders.numbers) ++ after)
-      ∙ ap (λ l. map Column before ++ l) (map-append Column (parts.numbers ++ orders.numbers) after ∙ ap (λ l. l ++ map Column after) (map-append Column parts.numbers orders.numbers)))
+      ∙ sym (map-append row_of before ((parts.numbers ++ orders.numbers) ++ after)
+      ∙ ap (λ l. map row_of before ++ l) (map-append row_of (parts.numbers ++ orders.numbers) after ∙ ap (λ l. l ++ map row_of after) (map-append row_of parts.numbers orders.numbers)))
 
   abbrev needs : Needs
-  needs = record { calls = k ∷ []; inputs = map Column read }
+  needs = record { calls = k ∷ []; inputs = map row_of read; groups = [] }
 
   needs_are : needs_of (map Leaf (leaves_by before k after)) ≡ needs
   needs_are =
       let ls = all_leaves_are (leaves_by before k after) in
       let calls = ap calls_among ls ∙ one_call before k after in
       let inputs = ap read_by_all ls ∙ read_is in
-      (λ i. record { calls = with_new same_call [] (calls i); inputs = with_new same_expression [] (inputs i) })
-      ∙ (λ i. record { calls = k ∷ []; inputs = with_columns [] asked_for i })
+      let groups = ap (λ read. group_calls_among (all_row_leaves read)) inputs ∙ no_group_calls asked_for in
+      (λ i. record { calls = with_new same_call [] (calls i); inputs = with_new same_row_formula [] (inputs i); groups = with_new same_group_call [] (groups i) })
+      ∙ (λ i. record { calls = k ∷ []; inputs = with_columns [] asked_for i; groups = [] })
 
-  abbrev inputs : List Expression
-  inputs = map Column read
+  abbrev inputs : List RowFormula
+  inputs = map row_of read
 
   abbrev the_plan : PlainPlan
   the_plan = record {
@@ -389,12 +431,12 @@ module _ (before : List ℕ) (w : WindowMeaning) (after : List ℕ) (plain : IsP
     read = read;
     class = class_over inputs k;
     frame = w.frame;
-    shown = map (place_in inputs (k ∷ [])) (leaves_by before k after);
+    shown = map (place_in column_of inputs (k ∷ [])) (leaves_by before k after);
   }
 
-  over_leaves : (ls : List SelectLeaf) → map (over needs) (map Leaf ls) ≡ map Column (map (place_in inputs (k ∷ [])) ls)
+  over_leaves : (ls : List SelectLeaf) → map (over column_of needs) (map Leaf ls) ≡ map Column (map (place_in column_of inputs (k ∷ [])) ls)
   over_leaves [] = refl
-  over_leaves (l ∷ ls) = ap (λ xs. Column (place_in inputs (k ∷ []) l) ∷ xs) (over_leaves ls)
+  over_leaves (l ∷ ls) = ap (λ xs. Column (place_in column_of inputs (k ∷ []) l) ∷ xs) (over_leaves ls)
 
   first_class : position_or_len (same_class (class_over inputs k)) (class_over inputs k ∷ []) ≡ 0
   first_class = rw (same_class-itself (class_over inputs k)) refl
@@ -402,64 +444,64 @@ module _ (before : List ℕ) (w : WindowMeaning) (after : List ℕ) (plain : IsP
   window_is : window_over inputs (k ∷ []) ≡ window_rule the_plan
   window_is = λ i. record { classes = class_over inputs k ∷ []; calls = record { class = first_class i; function = Ranked rank.RowNumber; frame = w.frame } ∷ [] }
 
-  plan_is : mapped (map Leaf (leaves_by before k after)) (Scan table columns) ≡ plan_by the_plan
+  plan_is : mapped_over column_of (needs_of (map Leaf (leaves_by before k after))) (map Leaf (leaves_by before k after)) (Scan table columns) ≡ plan_by the_plan
   plan_is =
-      ap (λ n. mapped_over n (map Leaf (leaves_by before k after)) (Scan table columns)) needs_are
-      ∙ (λ i. Map (over_leaves (leaves_by before k after) i) (Window (window_is i) (Map inputs (Scan table columns))))
+      ap (λ n. mapped_over column_of n (map Leaf (leaves_by before k after)) (Scan table columns)) needs_are
+      ∙ (λ i. Map (over_leaves (leaves_by before k after) i) (Window (window_is i) (Map (rows_seated read i) (Scan table columns))))
 
   -- ---- it is plain
 
   once : AllPairs (λ a b. a ≢ b) read
   once = once_pairs read (with_new_once [] asked_for tt)
 
-  number_place : place_in inputs (k ∷ []) (call k) ≡ length read
+  number_place : place_in column_of inputs (k ∷ []) (call k) ≡ length read
   number_place =
-      let long = length-map read Column in
+      let long = length-map read row_of in
       let first : position_or_len (same_call k) (k ∷ []) ≡ 0 = rw (same_call-itself k) refl in
       ap (λ n. length inputs + n) first ∙ omega (arith, long)
 
   read_asked : (c : ℕ) → c < length read → Among (get_or read c 0) asked_for
   read_asked c h = all_at (λ n. Among n asked_for) (get_or read c 0) read (all_with_new nat_eq (λ n. Among n asked_for) [] asked_for tt (all_from (λ n. Among n asked_for) asked_for (λ n at. at))) (among_get c read 0 h)
 
-  is_asked : (c : ℕ) → c < length read → Among c (class_columns (class_over inputs k)) ⊎ Among c (map (place_in inputs (k ∷ [])) (leaves_by before k after))
+  is_asked : (c : ℕ) → c < length read → Among c (class_columns (class_over inputs k)) ⊎ Among c (map (place_in column_of inputs (k ∷ [])) (leaves_by before k after))
   is_asked c h = by_front (among_parts (get_or read c 0) before ((parts.numbers ++ orders.numbers) ++ after) (read_asked c h))
     where
       n : ℕ
       n = get_or read c 0
 
-      place : input_number inputs (Column n) ≡ c
+      place : input_number inputs (row_of n) ≡ c
       place = number_is read once c h
 
-      shown_at : Among (column n) (leaves_by before k after) → Among c (map (place_in inputs (k ∷ [])) (leaves_by before k after))
-      shown_at at = subst (λ m. Among m (map (place_in inputs (k ∷ [])) (leaves_by before k after))) place (among_map (place_in inputs (k ∷ [])) (column n) (leaves_by before k after) at)
+      shown_at : Among (read_of n) (leaves_by before k after) → Among c (map (place_in column_of inputs (k ∷ [])) (leaves_by before k after))
+      shown_at at = subst (λ m. Among m (map (place_in column_of inputs (k ∷ [])) (leaves_by before k after))) place (among_map (place_in column_of inputs (k ∷ [])) (read_of n) (leaves_by before k after) at)
 
-      in_partition : (es : List Expression) (ns : List ℕ) → es ≡ map Column ns → Among n ns → Among c (map (input_number inputs) es)
-      in_partition es ns e at = subst (λ xs. Among c (map (input_number inputs) xs)) (sym e) (subst (λ m. Among m (map (input_number inputs) (map Column ns))) place (among_map (input_number inputs) (Column n) (map Column ns) (among_map Column n ns at)))
+      in_partition : (es : List RowFormula) (ns : List ℕ) → es ≡ map row_of ns → Among n ns → Among c (map (input_number inputs) es)
+      in_partition es ns e at = subst (λ xs. Among c (map (input_number inputs) xs)) (sym e) (subst (λ m. Among m (map (input_number inputs) (map row_of ns))) place (among_map (input_number inputs) (row_of n) (map row_of ns) (among_map row_of n ns at)))
 
       order_is : (keys : List KeyMeaning) → key_columns (map (order_item inputs) keys) ≡ map (input_number inputs) (map sorted_by keys)
       order_is [] = refl
       order_is (key ∷ keys) = ap (λ l. input_number inputs key.expression ∷ l) (order_is keys)
 
-      by_last : Among n parts.numbers ⊎ Among n orders.numbers → Among c (class_columns (class_over inputs k)) ⊎ Among c (map (place_in inputs (k ∷ [])) (leaves_by before k after))
+      by_last : Among n parts.numbers ⊎ Among n orders.numbers → Among c (class_columns (class_over inputs k)) ⊎ Among c (map (place_in column_of inputs (k ∷ [])) (leaves_by before k after))
       by_last (inl at) = inl (among_front c (class_over inputs k).partition (order_columns (class_over inputs k)) (in_partition w.partition parts.numbers parts.are at))
       by_last (inr at) = inl (among_back c (class_over inputs k).partition (order_columns (class_over inputs k)) (subst (Among c) (sym (order_is w.order)) (in_partition (map sorted_by w.order) orders.numbers orders.are at)))
 
-      by_middle : Among n (parts.numbers ++ orders.numbers) ⊎ Among n after → Among c (class_columns (class_over inputs k)) ⊎ Among c (map (place_in inputs (k ∷ [])) (leaves_by before k after))
+      by_middle : Among n (parts.numbers ++ orders.numbers) ⊎ Among n after → Among c (class_columns (class_over inputs k)) ⊎ Among c (map (place_in column_of inputs (k ∷ [])) (leaves_by before k after))
       by_middle (inl at) = by_last (among_parts n parts.numbers orders.numbers at)
-      by_middle (inr at) = inr (shown_at (among_back (column n) (map column before) (call k ∷ map column after) (inr (among_map column n after at))))
+      by_middle (inr at) = inr (shown_at (among_back (read_of n) (map read_of before) (call k ∷ map read_of after) (inr (among_map read_of n after at))))
 
-      by_front : Among n before ⊎ Among n ((parts.numbers ++ orders.numbers) ++ after) → Among c (class_columns (class_over inputs k)) ⊎ Among c (map (place_in inputs (k ∷ [])) (leaves_by before k after))
-      by_front (inl at) = inr (shown_at (among_front (column n) (map column before) (call k ∷ map column after) (among_map column n before at)))
+      by_front : Among n before ⊎ Among n ((parts.numbers ++ orders.numbers) ++ after) → Among c (class_columns (class_over inputs k)) ⊎ Among c (map (place_in column_of inputs (k ∷ [])) (leaves_by before k after))
+      by_front (inl at) = inr (shown_at (among_front (read_of n) (map read_of before) (call k ∷ map read_of after) (among_map read_of n before at)))
       by_front (inr at) = by_middle (among_parts n (parts.numbers ++ orders.numbers) after at)
 
   -- where the leaves stand
   abbrev shown_places : List ℕ
-  shown_places = map (place_in inputs (k ∷ [])) (leaves_by before k after)
+  shown_places = map (place_in column_of inputs (k ∷ [])) (leaves_by before k after)
 
   is_plain : IsPlain the_plan
   is_plain = record {
     once = once;
-    number = contains_from (length read) shown_places (subst (λ m. Among m shown_places) number_place (among_map (place_in inputs (k ∷ [])) (call k) (leaves_by before k after) (among_back (call k) (map column before) (call k ∷ map column after) (inl refl))));
+    number = contains_from (length read) shown_places (subst (λ m. Among m shown_places) number_place (among_map (place_in column_of inputs (k ∷ [])) (call k) (leaves_by before k after) (among_back (call k) (map read_of before) (call k ∷ map read_of after) (inl refl))));
     asked = λ c h. by c (is_asked c h);
   }
     where
@@ -496,31 +538,40 @@ start_is part start h =
     same false true x e = absurd cc
     same false false x e = sym (ok_is _ _ e)
 
+-- a select of the plain class after its FROM, as it is not grouped
+module _ (from : JoinedTables) (quantifier : Option Quantifier) (windows : List (Name × WindowTree)) (before : List ItemTree) (function : Name) (over : OverTree) (output : Option Alias) (after : List ItemTree) where
+  abbrev the_parts : Parts
+  the_parts = plain_parts quantifier windows before function over output after
+
+  abbrev behind : Option GroupedBy → Meant Lowered
+  behind grouped = below_meant from.scope grouped None >>= λ below. all_defined from.scope (option_map grouped_rule grouped) [] windows >>= λ known. selected from.scope below from.plan known the_parts
+
+  behind_is : is_grouped the_parts ≡ false → behind_from from the_parts ≡ (all_defined from.scope None [] windows >>= λ known. selected from.scope not_grouped from.plan known the_parts)
+  behind_is h = ap (λ b. cond b (Ok (Some no_groups)) (Ok None) >>= behind) h
+
 pub plain_plan : QueriesArePlain
 plain_plan tables q a pq h =
-    let parts : Parts = record {
-      quantifier = pq.quantifier;
-      items = pq.before ++ shown (tree.Call pq.function no_trees pq.over) pq.output ∷ pq.after;
-      tail = record { filter = None; windows = pq.windows; order = no_keys; limits = None };
-    } in
+    let parts : Parts = plain_parts pq.quantifier pq.windows pq.before pq.function pq.over pq.output pq.after in
     let whole = subst (λ x. answer tables x ≡ Ok a) pq.is h in
     let l = bound (lowered tables (select parts (named pq.table pq.alias) no_joins)) (λ (l : Lowered). Ok (record { plan = l.plan; names = map name_in l.columns; ordered = false })) a whole in
     let part = bound (named_table tables pq.table.text (called_by pq.table pq.alias)) (λ part. first_admitted part >>= λ start. behind_from (together start.before start.current) parts) l.0 l.1 in
     let start = bound (first_admitted part.0) (λ start. behind_from (together start.before start.current) parts) l.0 part.2 in
     let from = start_is part.0 start.0 start.1 in
     let behind = subst (λ (s : FromSoFar). behind_from (together s.before s.current) parts ≡ Ok l.0) from start.2 in
-    let known = bound (all_defined part.0.scope [] pq.windows) (λ known. selected part.0.scope part.0.plan known parts) l.0 behind in
-    let context : ContextRule = record { scope = part.0.scope; windows = known.0; place = SelectList } in
-    let outputs = bound (list_meant context parts.items) (λ outputs. shown_sorted (shown_by part.0.scope (is_distinct pq.quantifier) outputs) no_keys None part.0.plan) l.0 known.2 in
-    let numbered = numbered_list context pq.before pq.function pq.over pq.output pq.after outputs.0 pq.plain_before pq.plain_after pq.row_number outputs.1 in
+    let alone = sym (behind_is part.0 pq.quantifier pq.windows pq.before pq.function pq.over pq.output pq.after pq.not_grouped) ∙ behind in
+    let known = bound (all_defined part.0.scope None [] pq.windows) (λ known. selected part.0.scope not_grouped part.0.plan known parts) l.0 alone in
+    let context = in_list part.0.scope known.0 in
+    let outputs = bound (list_meant not_grouped context parts.items) (λ outputs. shown_sorted (shown_by part.0.scope not_grouped (is_distinct pq.quantifier) outputs) no_keys None part.0.plan) l.0 known.2 in
+    let numbered = numbered_list part.0.scope known.0 pq.before pq.function pq.over pq.output pq.after outputs.0 pq.plain_before pq.plain_after pq.row_number outputs.1 in
     let plain = pq.window part.0 part.1 known.0 known.1 numbered.window numbered.means in
     let scanned = named_scan tables pq.table.text (called_by pq.table pq.alias) part.0 part.1 in
+    let shown_alone = numbered.are ∙ leaf_map numbered.before (record { function = ranking rank.RowNumber; window = numbered.window }) numbered.after in
     let formulas : expressions_of outputs.0 ++ [] ≡ map Leaf (leaves_by numbered.before (record { function = ranking rank.RowNumber; window = numbered.window }) numbered.after) =
     append-nil (expressions_of outputs.0) ∙ numbered.are ∙ leaf_map numbered.before (record { function = ranking rank.RowNumber; window = numbered.window }) numbered.after in
-    let made : l.0.plan ≡ mapped (expressions_of outputs.0 ++ []) part.0.plan =
-    sym (ap (λ (x : Lowered). x.plan) (ok_is _ _ outputs.2)) ∙ ap (λ b. deduplicated b (mapped (expressions_of outputs.0 ++ []) part.0.plan)) pq.all in
+    let made : l.0.plan ≡ mapped not_grouped (expressions_of outputs.0) [] part.0.plan =
+    sym (ap (λ (x : Lowered). x.plan) (ok_is _ _ outputs.2)) ∙ ap (λ b. deduplicated b (mapped not_grouped (expressions_of outputs.0) [] part.0.plan)) pq.all in
     record {
       plan = the_plan numbered.before numbered.window numbered.after plain scanned.table scanned.columns;
-      is = sym (ap (λ (x : Answer). x.plan) (ok_is _ _ l.2)) ∙ made ∙ (λ i. mapped (formulas i) (scanned.is i)) ∙ plan_is numbered.before numbered.window numbered.after plain scanned.table scanned.columns;
+      is = sym (ap (λ (x : Answer). x.plan) (ok_is _ _ l.2)) ∙ made ∙ (λ i. mapped_over column_of (needs_of (shown_alone i)) (formulas i) (scanned.is i)) ∙ plan_is numbered.before numbered.window numbered.after plain scanned.table scanned.columns;
       plain = is_plain numbered.before numbered.window numbered.after plain scanned.table scanned.columns;
     }

@@ -31,7 +31,7 @@ abbrev pub the_query : QueryTree
 the_query = query (select (record {
   quantifier = None;
   items = shown (tree.Column (unquoted (codes "b"))) None ∷ shown (tree.Call (unquoted (codes "row_number")) no_trees the_over) None ∷ [];
-  tail = record { filter = None; windows = []; order = no_keys; limits = None };
+  tail = record { filter = None; grouping = record { items = []; having = None }; windows = []; order = no_keys; limits = None };
 }) (named (unquoted (codes "p")) None) no_joins) false
 
 abbrev pub ExampleIsPlain : Type 0

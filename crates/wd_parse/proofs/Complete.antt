@@ -310,7 +310,7 @@ pub more_keys_clause : (keys : Keys) (ts : Kinds) → 0 < clauses ts → 0 < cla
 more_keys_clause no_keys ts lt = lt
 more_keys_clause (more_keys a direction nulls keys) ts lt = omega arith
 
-pub order_clause : (order : Keys) (ts : Kinds) → 3 < clauses ts → 3 < clauses (order_onto order ts)
+pub order_clause : (order : Keys) (ts : Kinds) → 5 < clauses ts → 5 < clauses (order_onto order ts)
 order_clause no_keys ts lt = lt
 order_clause (more_keys a direction nulls keys) ts lt = omega arith
 
@@ -671,7 +671,7 @@ module _ (c : ℕ) where
       (mid, key_at (level k 8) one, after_same m.Comma (key_at (level k 8)) one, key_reads k a direction nulls mid ka (more_keys_clause keys rest (omega arith)), omega (arith, key_longer a direction nulls mid), more rest lt)
 
   abbrev pub OrderReads : ℕ → Keys → Type 0
-  OrderReads k keys = (rest : Kinds) → 4 < clauses rest → Yields (KeysFit c k keys) (key_items keys, rest) (order_at (level k 8) (order_onto keys rest))
+  OrderReads k keys = (rest : Kinds) → 6 < clauses rest → Yields (KeysFit c k keys) (key_items keys, rest) (order_at (level k 8) (order_onto keys rest))
 
   order_none : (k : ℕ) → OrderReads k no_keys
   unfolding order_at
@@ -688,7 +688,7 @@ module _ (c : ℕ) where
       (list_yields (λ key. Fits c k key.0) m.Comma (key_at (level k 8)) (a, direction, nulls) (key_items keys) one mid rest (key_reads k a direction nulls mid ka (more_keys_clause keys rest (omega arith))) (more rest (omega arith)))))
 
   abbrev PartitionReads : ℕ → Trees → Type 0
-  PartitionReads k bs = (rest : Kinds) → 3 < clauses rest → Yields (AllFit c k bs) (tree_items bs, rest) (partition_at (level k 8) (partition_onto bs rest))
+  PartitionReads k bs = (rest : Kinds) → 5 < clauses rest → Yields (AllFit c k bs) (tree_items bs, rest) (partition_at (level k 8) (partition_onto bs rest))
 
   partition_none : (k : ℕ) → PartitionReads k no_trees
   unfolding partition_at
@@ -717,8 +717,8 @@ module _ (c : ℕ) where
       let second : Kinds = order_onto order third in
       let first : Kinds = partition_onto partition second in
       let w : WindowTree = window base partition order frame in
-      let last : 4 < clauses third = frame_clause frame end (omega arith) in
-      let middle : 3 < clauses second = order_clause order third (omega arith) in
+      let last : 6 < clauses third = frame_clause frame end (omega arith) in
+      let middle : 5 < clauses second = order_clause order third (omega arith) in
       rw (base_same base first (let h : 2 < clauses first = partition_clause partition second (omega arith) in omega arith))
       (then_yields (AllFit c k partition) (WindowFits c k w) (tree_items partition, second) (w, rest) (partition_at (level k 8) first) (λ ps. order_at (level k 8) ps.1 >>= λ ks. frame_at ks.1 >>= λ f. expect m.RightBracket f.1 >>= λ r. Ok (window base (trees_of ps.0) (keys_of ks.0) f.0, r)) (λ f. f.0) (kp second middle)
       (then_exactly (KeysFit c k order) (WindowFits c k w) (key_items order, third) (w, rest) (order_at (level k 8) second) (λ ks. frame_at ks.1 >>= λ f. expect m.RightBracket f.1 >>= λ r. Ok (window base (trees_of (tree_items partition)) (keys_of ks.0) f.0, r)) (λ f. f.1) (ko third last)

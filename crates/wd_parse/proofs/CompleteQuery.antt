@@ -16,19 +16,20 @@ use Rattle.wd_syntax.specs.declared.query.Limits.{Limits}
 use Rattle.wd_syntax.specs.declared.query.Limits.TheVariants.{OffsetFirst, CountFirst}
 use Rattle.wd_read_cursor.specs.Tokens.{Kinds, ◌▸◌, name_kind}
 use Rattle.wd_syntax.specs.Tree.{Tree, WindowTree, ItemTree, all_columns, all_of, shown, Tail, TableTree, named, derived, JoinTree, comma, cross, inner, Joins, no_joins, more_joins, SelectTree, select, QueryTree, query, keys_of, joins_of, Each}
-use Rattle.wd_syntax.specs.Spelling.{onto, window_onto, order_onto, quantifier_onto, as_onto, given_onto, alias_onto, item_onto, more_items_onto, items_onto, filter_onto, named_window_onto, more_windows_onto, windows_onto, row_onto, row_option_onto, offset_onto, fetch_onto, number_onto, ties_onto, count_onto, limits_onto, tail_onto, table_onto, join_onto, joins_onto, select_onto, end_onto, spell}
+use Rattle.wd_syntax.specs.Spelling.{onto, window_onto, order_onto, quantifier_onto, as_onto, given_onto, alias_onto, item_onto, more_items_onto, items_onto, filter_onto, grouping_onto, named_window_onto, more_windows_onto, windows_onto, row_onto, row_option_onto, offset_onto, fetch_onto, number_onto, ties_onto, count_onto, limits_onto, tail_onto, table_onto, join_onto, joins_onto, select_onto, end_onto, spell}
 use Rattle.wd_syntax.specs.Levels.{IsLevelled, WindowLevelled, ItemLevelled, OptionLevelled, TableLevelled, JoinLevelled, JoinsLevelled, SelectLevelled, IsWellLevelled}
-use Rattle.wd_parse.proofs.Fitting.{Below, Fits, WindowFits, KeysFit, ItemFits, OptionFits, TableFits, JoinFits, JoinsFit, SelectFits, QueryFits}
+use Rattle.wd_parse.proofs.Fitting.{Below, Fits, WindowFits, KeysFit, ItemFits, OptionFits, GroupingFits, TableFits, JoinFits, JoinsFit, SelectFits, QueryFits}
 use Rattle.wd_read_cursor.specs.Cursor.{Fault, Unexpected, Limit, ◌>>=◌, Reads, Parser, Chance, choose, eat, expect, many, after, list_at}
-use Rattle.wd_parse.specs.Reading.{order_at, window_at, enter, deeper_of, given_at, alias_at, item_at, filter_at, named_window_at, windows_at, limits_at, Inner, table_at, inner_at, join_at, from_at, select_at, selects, inside_of, if_last, whole}
+use Rattle.wd_parse.specs.Reading.{order_at, window_at, enter, deeper_of, given_at, alias_at, item_at, filter_at, grouping_at, named_window_at, windows_at, limits_at, Inner, table_at, inner_at, join_at, from_at, select_at, selects, inside_of, if_last, whole}
 use Rattle.wd_read_cursor.proofs.Eaten.{eat_same, expect_same, name_at_same, eat_name_kind}
 use Rattle.wd_parse.proofs.TerminalFacts.{grips, grips_name, clauses, clause_stops, clause_grips}
 use Rattle.wd_parse.proofs.Pieces.{quantifier_same, given_same, alias_same, star_same, limits_same, limits_clause}
+use Rattle.wd_parse.proofs.CompleteGroups.{grouping_longer, grouping_clause, grouping_reads}
 use Rattle.wd_parse.proofs.Complete.{Yields, then_yields, then_exactly, Turns, turns_longer, many_yields, after_same, after_none, list_yields, key_items, keys_back, begun, begun_stops, star_stops, longer, window_longer, order_longer, order_clause, level, enter_yields, item, known, window_known, order_known}
 
 -- ---- what follows each clause
 
-windows_clause : (windows : List (Name × WindowTree)) (ts : Kinds) → 2 < clauses ts → 2 < clauses (windows_onto windows ts)
+windows_clause : (windows : List (Name × WindowTree)) (ts : Kinds) → 4 < clauses ts → 4 < clauses (windows_onto windows ts)
 windows_clause [] ts lt = lt
 windows_clause (w ∷ windows) ts lt = omega arith
 
@@ -133,7 +134,7 @@ tail_longer : (tail : Tail) (ts : Kinds) → length ts ≤ length (tail_onto tai
 tail_longer tail ts =
     let t1 : Kinds = limits_onto tail.limits ts in
     let t2 : Kinds = order_onto tail.order t1 in
-    omega (arith, filter_longer tail.filter (windows_onto tail.windows t2), windows_longer tail.windows t2, order_longer tail.order t1, limits_longer tail.limits ts)
+    omega (arith, filter_longer tail.filter (grouping_onto tail.grouping (windows_onto tail.windows t2)), grouping_longer tail.grouping (windows_onto tail.windows t2), windows_longer tail.windows t2, order_longer tail.order t1, limits_longer tail.limits ts)
 
 mutual
   table_longer : (table : TableTree) (ts : Kinds) → length ts ≤ length (table_onto table ts)
@@ -234,7 +235,7 @@ module _ (c : ℕ) where
       let mid : Kinds = more_windows_onto windows rest in
       (mid, named_window_at (deeper_of c d) (named_window_onto w mid), after_same m.Comma (named_window_at (deeper_of c d)) (named_window_onto w mid), named_window_reads d w mid wl.0, omega (arith, named_window_longer w mid), window_turns d windows rest wl.1 lt)
 
-  windows_read : (d : ℕ) (windows : List (Name × WindowTree)) (rest : Kinds) → Each (λ w. WindowLevelled w.1) windows → 3 < clauses rest → Yields (Each (WindowBelow d) windows) (windows, rest) (windows_at (deeper_of c d) (windows_onto windows rest))
+  windows_read : (d : ℕ) (windows : List (Name × WindowTree)) (rest : Kinds) → Each (λ w. WindowLevelled w.1) windows → 5 < clauses rest → Yields (Each (WindowBelow d) windows) (windows, rest) (windows_at (deeper_of c d) (windows_onto windows rest))
   unfolding windows_at
   windows_read d [] rest wl lt = rw (clause_stops m.Window rest lt) refl
   windows_read d (w ∷ windows) rest wl lt =
@@ -248,7 +249,7 @@ module _ (c : ℕ) where
   TableReads d table = (rest : Kinds) → 0 < clauses rest → Yields (TableFits c d table) (table, rest) (table_at (inside_of c d) (table_onto table rest))
 
   abbrev pub SelectReads : ℕ → SelectTree → Type 0
-  SelectReads d s = (rest : Kinds) → 5 < clauses rest → Yields (SelectFits c d s) (s, rest) (selects c d (select_onto s rest))
+  SelectReads d s = (rest : Kinds) → 7 < clauses rest → Yields (SelectFits c d s) (s, rest) (selects c d (select_onto s rest))
 
   table_named : (d : ℕ) (n : Name) (alias : Option Alias) → TableReads d (named n alias)
   unfolding table_at
@@ -340,27 +341,30 @@ module _ (c : ℕ) where
       let F : Type 0 = SelectFits c d s in
       let p : Parser Tree = level c d 8 in
       let inside : Inner = inside_of c d in
-      let t4 : Kinds = limits_onto tail.limits rest in
-      let t3 : Kinds = order_onto tail.order t4 in
-      let t2 : Kinds = windows_onto tail.windows t3 in
+      let t5 : Kinds = limits_onto tail.limits rest in
+      let t4 : Kinds = order_onto tail.order t5 in
+      let t3 : Kinds = windows_onto tail.windows t4 in
+      let t2 : Kinds = grouping_onto tail.grouping t3 in
       let t1 : Kinds = filter_onto tail.filter t2 in
       let t0 : Kinds = table_onto first (joins_onto joins t1) in
       let list : Kinds = item_onto a (more_items_onto items (m.From ▸ t0)) in
-      let h4 : 4 < clauses t4 = limits_clause tail.limits rest (omega arith) in
-      let h3 : 3 < clauses t3 = order_clause tail.order t4 (omega arith) in
-      let h2 : 2 < clauses t2 = windows_clause tail.windows t3 (omega arith) in
+      let h5 : 6 < clauses t5 = limits_clause tail.limits rest (omega arith) in
+      let h4 : 5 < clauses t4 = order_clause tail.order t5 (omega arith) in
+      let h3 : 4 < clauses t3 = windows_clause tail.windows t4 (omega arith) in
+      let h2 : 2 < clauses t2 = grouping_clause tail.grouping t3 h3 in
       let h1 : 1 < clauses t1 = filter_clause tail.filter t2 (omega arith) in
       let no_all : eat m.All list ≡ None = item_begins m.All a (more_items_onto items (m.From ▸ t0)) (no_quantifier (more_items_onto items (m.From ▸ t0))).0 (λ b r. begun_stops m.All (onto b r) refl (begun b r)) in
       let no_distinct : eat m.Distinct list ≡ None = item_begins m.Distinct a (more_items_onto items (m.From ▸ t0)) (no_quantifier (more_items_onto items (m.From ▸ t0))).1 (λ b r. begun_stops m.Distinct (onto b r) refl (begun b r)) in
       subst (Yields F (s, rest)) (sym (selects_are d (select_onto s rest)))
       (rw (expect_same m.Select (quantifier_onto quantifier list)) (rw (quantifier_same quantifier list no_all no_distinct)
-      (then_yields (Each (ItemFits c d) (a ∷ items)) F (a ∷ items, m.From ▸ t0) (s, rest) (list_at m.Comma (item_at p) list) (λ items. expect m.From items.1 >>= λ q. from_at inside p q >>= λ tables. filter_at p tables.1 >>= λ filter. windows_at (deeper_of c d) filter.1 >>= λ windows. order_at p windows.1 >>= λ order. limits_at order.1 >>= λ limits. Ok (select (record { quantifier = quantifier; items = items.0; tail = record { filter = filter.0; windows = windows.0; order = keys_of order.0; limits = limits.0 } }) tables.0.0 (joins_of tables.0.1), limits.1)) (λ f. f.0) (items_read d a items (m.From ▸ t0) wl.1.0 wl.1.1 (omega arith))
+      (then_yields (Each (ItemFits c d) (a ∷ items)) F (a ∷ items, m.From ▸ t0) (s, rest) (list_at m.Comma (item_at p) list) (λ items. expect m.From items.1 >>= λ q. from_at inside p q >>= λ tables. filter_at p tables.1 >>= λ filter. grouping_at d p filter.1 >>= λ grouping. windows_at (deeper_of c d) grouping.1 >>= λ windows. order_at p windows.1 >>= λ order. limits_at order.1 >>= λ limits. Ok (select (record { quantifier = quantifier; items = items.0; tail = record { filter = filter.0; grouping = grouping.0; windows = windows.0; order = keys_of order.0; limits = limits.0 } }) tables.0.0 (joins_of tables.0.1), limits.1)) (λ f. f.0) (items_read d a items (m.From ▸ t0) wl.1.0 wl.1.1 (omega arith))
       (rw (expect_same m.From t0)
-      (then_yields (TableFits c d first × JoinsFit c d joins) F ((first, join_items joins), t1) (s, rest) (from_at inside p t0) (λ tables. filter_at p tables.1 >>= λ filter. windows_at (deeper_of c d) filter.1 >>= λ windows. order_at p windows.1 >>= λ order. limits_at order.1 >>= λ limits. Ok (select (record { quantifier = quantifier; items = a ∷ items; tail = record { filter = filter.0; windows = windows.0; order = keys_of order.0; limits = limits.0 } }) tables.0.0 (joins_of tables.0.1), limits.1)) (λ f. (f.1, f.2)) (from_reads d first joins t1 kf kj h1)
-      (then_yields (OptionFits c d tail.filter) F (tail.filter, t2) (s, rest) (filter_at p t1) (λ filter. windows_at (deeper_of c d) filter.1 >>= λ windows. order_at p windows.1 >>= λ order. limits_at order.1 >>= λ limits. Ok (select (record { quantifier = quantifier; items = a ∷ items; tail = record { filter = filter.0; windows = windows.0; order = keys_of order.0; limits = limits.0 } }) first (joins_of (join_items joins)), limits.1)) (λ f. f.3) (filter_reads d tail.filter t2 wl.4 h2)
-      (then_yields (Each (WindowBelow d) tail.windows) F (tail.windows, t3) (s, rest) (windows_at (deeper_of c d) t2) (λ windows. order_at p windows.1 >>= λ order. limits_at order.1 >>= λ limits. Ok (select (record { quantifier = quantifier; items = a ∷ items; tail = record { filter = tail.filter; windows = windows.0; order = keys_of order.0; limits = limits.0 } }) first (joins_of (join_items joins)), limits.1)) (λ f. f.4) (windows_read d tail.windows t3 wl.5 h3)
-      (then_exactly (KeysFit c d tail.order) F (key_items tail.order, t4) (s, rest) (order_at p t3) (λ order. limits_at order.1 >>= λ limits. Ok (select (record { quantifier = quantifier; items = a ∷ items; tail = record { filter = tail.filter; windows = tail.windows; order = keys_of order.0; limits = limits.0 } }) first (joins_of (join_items joins)), limits.1)) (λ f. f.5) (order_known c tail.order wl.6 d t4 h4)
-      (rw (limits_same tail.limits rest lt) (rw (joins_back joins, keys_back tail.order) refl))))))))))
+      (then_yields (TableFits c d first × JoinsFit c d joins) F ((first, join_items joins), t1) (s, rest) (from_at inside p t0) (λ tables. filter_at p tables.1 >>= λ filter. grouping_at d p filter.1 >>= λ grouping. windows_at (deeper_of c d) grouping.1 >>= λ windows. order_at p windows.1 >>= λ order. limits_at order.1 >>= λ limits. Ok (select (record { quantifier = quantifier; items = a ∷ items; tail = record { filter = filter.0; grouping = grouping.0; windows = windows.0; order = keys_of order.0; limits = limits.0 } }) tables.0.0 (joins_of tables.0.1), limits.1)) (λ f. (f.1, f.2)) (from_reads d first joins t1 kf kj h1)
+      (then_yields (OptionFits c d tail.filter) F (tail.filter, t2) (s, rest) (filter_at p t1) (λ filter. grouping_at d p filter.1 >>= λ grouping. windows_at (deeper_of c d) grouping.1 >>= λ windows. order_at p windows.1 >>= λ order. limits_at order.1 >>= λ limits. Ok (select (record { quantifier = quantifier; items = a ∷ items; tail = record { filter = filter.0; grouping = grouping.0; windows = windows.0; order = keys_of order.0; limits = limits.0 } }) first (joins_of (join_items joins)), limits.1)) (λ f. f.3) (filter_reads d tail.filter t2 wl.4 h2)
+      (then_yields (GroupingFits c d tail.grouping) F (tail.grouping, t3) (s, rest) (grouping_at d p t2) (λ grouping. windows_at (deeper_of c d) grouping.1 >>= λ windows. order_at p windows.1 >>= λ order. limits_at order.1 >>= λ limits. Ok (select (record { quantifier = quantifier; items = a ∷ items; tail = record { filter = tail.filter; grouping = grouping.0; windows = windows.0; order = keys_of order.0; limits = limits.0 } }) first (joins_of (join_items joins)), limits.1)) (λ f. f.4) (grouping_reads c d tail.grouping t3 wl.5 h3)
+      (then_yields (Each (WindowBelow d) tail.windows) F (tail.windows, t4) (s, rest) (windows_at (deeper_of c d) t3) (λ windows. order_at p windows.1 >>= λ order. limits_at order.1 >>= λ limits. Ok (select (record { quantifier = quantifier; items = a ∷ items; tail = record { filter = tail.filter; grouping = tail.grouping; windows = windows.0; order = keys_of order.0; limits = limits.0 } }) first (joins_of (join_items joins)), limits.1)) (λ f. f.5) (windows_read d tail.windows t4 wl.6 h4)
+      (then_exactly (KeysFit c d tail.order) F (key_items tail.order, t5) (s, rest) (order_at p t4) (λ order. limits_at order.1 >>= λ limits. Ok (select (record { quantifier = quantifier; items = a ∷ items; tail = record { filter = tail.filter; grouping = tail.grouping; windows = tail.windows; order = keys_of order.0; limits = limits.0 } }) first (joins_of (join_items joins)), limits.1)) (λ f. f.6) (order_known c tail.order wl.7 d t5 h5)
+      (rw (limits_same tail.limits rest lt) (rw (joins_back joins, keys_back tail.order) refl)))))))))))
 
   parts_read : (d : ℕ) (quantifier : Option Quantifier) (items : List ItemTree) (tail : Tail) (first : TableTree) (joins : Joins) → SelectLevelled (select (record { quantifier = quantifier; items = items; tail = tail }) first joins) → TableReads d first → JoinTurns d joins
       → SelectReads d (select (record { quantifier = quantifier; items = items; tail = tail }) first joins)
@@ -405,7 +409,7 @@ module _ (c : ℕ) where
   then_answers d s b (Err (Limit n')) h = h
   then_answers d s b (Err (Unexpected left)) h = absurd h
 
-  end_clause : (b : Bool) → 5 < clauses (end_onto b)
+  end_clause : (b : Bool) → 7 < clauses (end_onto b)
   end_clause true = omega arith
   end_clause false = omega arith
 

@@ -20,6 +20,9 @@ use Rattle.wd_syntax.specs.declared.expression.SortDirection.TheVariants.{Ascend
 use Rattle.wd_syntax.specs.declared.expression.NullsPlace.{NullsPlace}
 use Rattle.wd_syntax.specs.declared.expression.NullsPlace.TheVariants as p
 use Rattle.wd_syntax.specs.declared.query.Alias.{Alias}
+use Rattle.wd_syntax.specs.declared.query.GroupColumn.{GroupColumn}
+use Rattle.wd_syntax.specs.declared.query.GroupingWord.{GroupingWord}
+use Rattle.wd_syntax.specs.declared.query.GroupingWord.TheVariants as g
 use Rattle.wd_syntax.specs.declared.query.Quantifier.{Quantifier}
 use Rattle.wd_syntax.specs.declared.query.Quantifier.TheVariants as q
 use Rattle.wd_syntax.specs.declared.query.RowWord.{RowWord}
@@ -33,8 +36,8 @@ use Rattle.wd_syntax.specs.declared.query.Limits.{Limits}
 use Rattle.wd_syntax.specs.declared.query.Limits.TheVariants.{OffsetFirst, CountFirst}
 use Rattle.wd_read_cursor.specs.Tokens.{Kinds, ◌▸◌, ◌▹◌, name_kind}
 use Rattle.wd_syntax.specs.Tokens.{operator_terminal, sign_terminal}
-use Rattle.wd_syntax.specs.Tree.{Tree, Constant, Column, Qualified, CallAll, Call, Case, Bracket, Signed, Binary, IsNull, Negated, Trees, no_trees, more_trees, Arms, no_arms, more_arms, Otherwise, no_else, or_else, OverTree, no_over, over_name, over_window, WindowTree, window, Keys, no_keys, more_keys, ItemTree, all_columns, all_of, shown, Tail, TableTree, named, derived, JoinTree, comma, cross, inner, Joins, no_joins, more_joins, SelectTree, select, Key}
-use Rattle.wd_syntax.specs.Spelling.{mode_onto, bound_onto, extent_onto, exclusion_onto, frame_onto, direction_onto, nulls_onto, not_onto, base_onto, onto, list_onto, more_onto, arms_onto, else_onto, over_onto, window_onto, partition_onto, order_onto, more_keys_onto, quantifier_onto, as_onto, given_onto, alias_onto, item_onto, more_items_onto, items_onto, filter_onto, named_window_onto, more_windows_onto, windows_onto, row_onto, row_option_onto, offset_onto, fetch_onto, number_onto, ties_onto, count_onto, limits_onto, tail_onto, table_onto, join_onto, joins_onto, select_onto}
+use Rattle.wd_syntax.specs.Tree.{Tree, Constant, Column, Qualified, CallAll, Call, Case, Bracket, Signed, Binary, IsNull, Negated, Trees, no_trees, more_trees, Arms, no_arms, more_arms, Otherwise, no_else, or_else, OverTree, no_over, over_name, over_window, WindowTree, window, Keys, no_keys, more_keys, ItemTree, all_columns, all_of, shown, SetTree, one_column, columns, GroupTree, grouped_by, constructed, GroupingTree, Tail, TableTree, named, derived, JoinTree, comma, cross, inner, Joins, no_joins, more_joins, SelectTree, select, Key}
+use Rattle.wd_syntax.specs.Spelling.{mode_onto, bound_onto, extent_onto, exclusion_onto, frame_onto, direction_onto, nulls_onto, not_onto, base_onto, onto, list_onto, more_onto, arms_onto, else_onto, over_onto, window_onto, partition_onto, order_onto, more_keys_onto, quantifier_onto, as_onto, given_onto, alias_onto, item_onto, more_items_onto, items_onto, filter_onto, commas_onto, members_onto, qualifier_onto, group_column_onto, set_onto, grouping_word_onto, group_item_onto, group_onto, having_onto, grouping_onto, named_window_onto, more_windows_onto, windows_onto, row_onto, row_option_onto, offset_onto, fetch_onto, number_onto, ties_onto, count_onto, limits_onto, tail_onto, table_onto, join_onto, joins_onto, select_onto}
 use Rattle.wd_read_cursor.specs.Cursor.{Fault, Unexpected, Limit, ◌>>=◌, Reads, choose, eat, expect, eat_word, expect_word, eat_name, name_at, number_at, some_or_unexpected, try, optional}
 use Rattle.wd_parse.specs.Reading.{mode_at, side_at, unbounded, away, bound_at, extent_at, excluded_at, exclusion_at, frame_if, frame_at, nulls_at, null_at, given_at, bare_if, alias_at, row_at, row_if, offset_at, fetch_word_at, number_option_at, ties_at, fetch_at, limit_at, count_if, offset_if, limits_at}
 use Rattle.std.proofs.Common.{◌++◌}
@@ -391,10 +394,50 @@ pre_limits (Some (OffsetFirst o (Some count))) ts us = ap (offset_onto o) (pre_c
 pre_limits (Some (CountFirst count None)) ts us = pre_count count ts us
 pre_limits (Some (CountFirst count (Some o))) ts us = ap (count_onto count) (pre_offset o ts us) ∙ pre_count count (offset_onto o ts) us
 
+pre_qualifier : (o : Option Name) → IsPre (qualifier_onto o)
+pre_qualifier None ts us = refl
+pre_qualifier (Some n) ts us = refl
+
+pre_group_column : (c : GroupColumn) → IsPre (group_column_onto c)
+pre_group_column c ts us = pre_qualifier c.table (name_kind c.name ∷ ts) us
+
+pre_commas : {A : Type 0} (one : A → Kinds → Kinds) → ((a : A) → IsPre (one a)) → (xs : List A) → IsPre (commas_onto one xs)
+pre_commas one h [] ts us = refl
+pre_commas one h (a ∷ xs) ts us = ap (λ (z : Kinds). m.Comma ▸ one a z) (pre_commas one h xs ts us) ∙ ap (λ (z : Kinds). m.Comma ▸ z) (h a (commas_onto one xs ts) us)
+
+pre_members : {A : Type 0} (one : A → Kinds → Kinds) → ((a : A) → IsPre (one a)) → (xs : List A) → IsPre (members_onto one xs)
+pre_members one h [] ts us = refl
+pre_members one h (a ∷ xs) ts us = ap (one a) (pre_commas one h xs ts us) ∙ h a (commas_onto one xs ts) us
+
+pub pre_set : (s : SetTree) → IsPre (set_onto s)
+pre_set (one_column c) ts us = pre_group_column c ts us
+pre_set (columns cs) ts us = ap (λ (z : Kinds). m.LeftBracket ▸ z) (pre_members group_column_onto pre_group_column cs (m.RightBracket ▸ ts) us)
+
+pub pre_word : (word : GroupingWord) → IsPre (grouping_word_onto word)
+pre_word g.Rollup ts us = refl
+pre_word g.Cube ts us = refl
+pre_word g.Sets ts us = refl
+
+pub pre_group_item : (a : GroupTree) → IsPre (group_item_onto a)
+pre_group_item (grouped_by s) ts us = pre_set s ts us
+pre_group_item (constructed word sets) ts us = ap (λ (z : Kinds). grouping_word_onto word (m.LeftBracket ▸ z)) (pre_members set_onto pre_set sets (m.RightBracket ▸ ts) us) ∙ pre_word word (m.LeftBracket ▸ members_onto set_onto sets (m.RightBracket ▸ ts)) us
+
+pub pre_group : (items : List GroupTree) → IsPre (group_onto items)
+pre_group [] ts us = refl
+pre_group (a ∷ items) ts us = ap (λ (z : Kinds). m.Group ▸ m.By ▸ z) (pre_members group_item_onto pre_group_item (a ∷ items) ts us)
+
+pre_having : (having : Option Tree) → IsPre (having_onto having)
+pre_having None ts us = refl
+pre_having (Some a) ts us = ap (λ (z : Kinds). m.Having ▸ z) (pre_tree a ts us)
+
+pub pre_grouping : (g : GroupingTree) → IsPre (grouping_onto g)
+pre_grouping g = pre_then (group_onto g.items) (having_onto g.having) (pre_group g.items) (pre_having g.having)
+
 pub pre_tail : (tail : Tail) → IsPre (tail_onto tail)
 pre_tail tail =
-    pre_then (filter_onto tail.filter) (λ z. windows_onto tail.windows (order_onto tail.order (limits_onto tail.limits z))) (pre_filter tail.filter)
-    (pre_then (windows_onto tail.windows) (λ z. order_onto tail.order (limits_onto tail.limits z)) (pre_windows tail.windows) (pre_then (order_onto tail.order) (limits_onto tail.limits) (pre_order tail.order) (pre_limits tail.limits)))
+    pre_then (filter_onto tail.filter) (λ z. grouping_onto tail.grouping (windows_onto tail.windows (order_onto tail.order (limits_onto tail.limits z)))) (pre_filter tail.filter)
+    (pre_then (grouping_onto tail.grouping) (λ z. windows_onto tail.windows (order_onto tail.order (limits_onto tail.limits z))) (pre_grouping tail.grouping)
+    (pre_then (windows_onto tail.windows) (λ z. order_onto tail.order (limits_onto tail.limits z)) (pre_windows tail.windows) (pre_then (order_onto tail.order) (limits_onto tail.limits) (pre_order tail.order) (pre_limits tail.limits))))
 
 pub pre_items : (items : List ItemTree) → IsPre (items_onto items)
 pre_items [] ts us = refl

@@ -7,19 +7,21 @@ use Rattle.wd_read_cursor.specs.declared.name.Name.{Name}
 use Rattle.wd_syntax.specs.declared.query.Alias.{Alias}
 use Rattle.wd_syntax.specs.declared.query.Quantifier.{Quantifier}
 use Rattle.wd_read_cursor.specs.Tokens.{Kinds, ◌▸◌, name_kind}
-use Rattle.wd_syntax.specs.Tree.{Tree, WindowTree, Keys, no_keys, ItemTree, all_columns, shown, TableTree, named, derived, JoinTree, comma, cross, inner, Joins, no_joins, SelectTree, select, QueryTree, query, keys_of, joins_of, Each}
-use Rattle.wd_syntax.specs.Spelling.{onto, window_onto, order_onto, quantifier_onto, given_onto, item_onto, items_onto, filter_onto, named_window_onto, windows_onto, table_onto, join_onto, joins_onto, select_onto, spell}
-use Rattle.wd_syntax.specs.Levels.{IsLevelled, WindowLevelled, KeysLevelled, ItemLevelled, IsSomeItem, OptionLevelled, TableLevelled, JoinLevelled, JoinsLevelled, SelectLevelled, IsWellLevelled}
+use Rattle.wd_syntax.specs.Tree.{Tree, WindowTree, Keys, no_keys, ItemTree, all_columns, shown, TableTree, named, derived, JoinTree, comma, cross, inner, Joins, no_joins, GroupingTree, SelectTree, select, QueryTree, query, keys_of, joins_of, Each}
+use Rattle.wd_syntax.specs.Spelling.{onto, window_onto, order_onto, quantifier_onto, given_onto, item_onto, items_onto, filter_onto, grouping_onto, named_window_onto, windows_onto, table_onto, join_onto, joins_onto, select_onto, spell}
+use Rattle.wd_syntax.specs.Levels.{IsLevelled, WindowLevelled, KeysLevelled, ItemLevelled, IsSomeItem, OptionLevelled, GroupingLevelled, TableLevelled, JoinLevelled, JoinsLevelled, SelectLevelled, IsWellLevelled}
 use Rattle.wd_parse.proofs.Fitting.{ItemFits}
 use Rattle.wd_read_cursor.specs.Cursor.{◌>>=◌, Reads, Parser, choose, eat, expect, name_at, many, list_at}
-use Rattle.wd_parse.specs.Reading.{order_at, window_at, enter, levels, deeper_of, read, quantifier_at, given_at, alias_at, star_at, item_if, item_at, filter_at, named_window_at, windows_at, limits_at, Inner, table_at, inner_at, join_at, from_at, select_at, selects, inside_of, if_last, whole}
+use Rattle.wd_parse.specs.Reading.{order_at, window_at, enter, levels, deeper_of, read, quantifier_at, given_at, alias_at, star_at, item_if, item_at, filter_at, grouping_at, named_window_at, windows_at, limits_at, Inner, table_at, inner_at, join_at, from_at, select_at, selects, inside_of, if_last, whole}
 use Rattle.std.proofs.Common.{◌++◌}
 use Rattle.std.specs.Prelude.{codes}
-use Rattle.wd_parse.proofs.Passing.{Passes, WindowPasses, KeyPasses, ItemPasses, OneItemPasses, FilterPasses, NamedPasses, OneWindowPasses, TablePasses, JoinPasses, OneJoinPasses, SelectPasses, QueryPasses}
+use Rattle.wd_parse.proofs.Passing.{Passes, WindowPasses, KeyPasses, ItemPasses, OneItemPasses, FilterPasses, GroupingPasses, NamedPasses, OneWindowPasses, TablePasses, JoinPasses, OneJoinPasses, SelectPasses, QueryPasses}
 use Rattle.wd_parse.proofs.SoundPieces.{at_terminal, IsPart, all_onto, led_by, list_holds, IsListed, quantifier_is, name_holds}
 use Rattle.wd_parse.proofs.Sound.{each_left, Whole, whole_expression, Within, sound, within}
 use Rattle.wd_parse.proofs.SoundQuery.{items_spelled, windows_spelled, joins_spelled, item_holds, named_window_holds, filter_holds, windows_hold, table_holds, join_holds, from_holds, selects_hold, GoodItem, GoodNamed, GoodTable, GoodJoin, GoodFilter, GoodWindows, Inside, from_onto, GoodTables}
-use Rattle.wd_parse.proofs.CutPieces.{CutBy, MayCut, then_cuts, expect_cuts, name_cuts, on_cuts, either_cuts, given_cuts, alias_cuts, limits_cuts, IsPre, pre_then, pre_item, pre_items, pre_quantifier, pre_filter, pre_named, pre_windows, pre_table, pre_join, pre_joins}
+use Rattle.wd_parse.proofs.SoundGroups.{GoodGrouping, grouping_holds}
+use Rattle.wd_parse.proofs.CutGroups.{grouping_cut}
+use Rattle.wd_parse.proofs.CutPieces.{CutBy, MayCut, then_cuts, expect_cuts, name_cuts, on_cuts, either_cuts, given_cuts, alias_cuts, limits_cuts, IsPre, pre_then, pre_item, pre_items, pre_quantifier, pre_filter, pre_grouping, pre_named, pre_windows, pre_table, pre_join, pre_joins}
 use Rattle.wd_parse.proofs.Cut.{IsCut, cut_step, cut_here, pre_kind, SomePasses, many_cut, listed, GoodList, ListPasses, list_cut, terminal_cuts, mapped_cuts, all_things, nothing, WholeCut, whole_cut, enter_cuts, WithinCut, WindowCut, window_cut, no_window, OrderCut, order_cut, cut, cut_within}
 
 -- a name and a select, which may stand where one is wanted
@@ -32,12 +34,15 @@ some_alias = record { with_as = false; name = some_name }
 abbrev some_table : TableTree
 some_table = named some_name None
 
+abbrev no_grouping : GroupingTree
+no_grouping = record { items = []; having = None }
+
 abbrev some_select : SelectTree
-some_select = select (record { quantifier = None; items = all_columns ∷ []; tail = record { filter = None; windows = []; order = no_keys; limits = None } }) some_table no_joins
+some_select = select (record { quantifier = None; items = all_columns ∷ []; tail = record { filter = None; grouping = no_grouping; windows = []; order = no_keys; limits = None } }) some_table no_joins
 
 -- a select that ends after these parts
-abbrev short : Option Quantifier → List ItemTree → TableTree → List JoinTree → Option Tree → List (Name × WindowTree) → Keys → SelectTree
-short quantifier items first joins filter windows order = select (record { quantifier = quantifier; items = items; tail = record { filter = filter; windows = windows; order = order; limits = None } }) first (joins_of joins)
+abbrev short : Option Quantifier → List ItemTree → TableTree → List JoinTree → Option Tree → GroupingTree → List (Name × WindowTree) → Keys → SelectTree
+short quantifier items first joins filter grouping windows order = select (record { quantifier = quantifier; items = items; tail = record { filter = filter; grouping = grouping; windows = windows; order = order; limits = None } }) first (joins_of joins)
 
 items_pass : (c d : ℕ) (xs : List ItemTree) (us rest : Kinds) → SomePasses (led_by m.Comma item_onto) (ItemPasses c d) xs us rest → OneItemPasses c d xs us rest
 items_pass c d [] us rest h = h
@@ -146,7 +151,7 @@ module _ (c : ℕ) where
       at_terminal (CutBy (L d)) m.LeftBracket ts (λ r. enter (length ts) (inside_of c d) (λ p. p r) >>= λ s. expect m.RightBracket s.1 >>= λ r. given_at r >>= λ alias. Ok (derived s.0 alias.0, alias.1)) (name_at ts >>= λ n. alias_at n.1 >>= λ alias. Ok (named n.0 alias.0, alias.1))
       (λ r e. on_cuts (L d) (enter (length ts) (inside_of c d) (λ p. p r)) (λ s. expect m.RightBracket s.1 >>= λ r. given_at r >>= λ alias. Ok (derived s.0 alias.0, alias.1))
       (inside_cuts (length ts) L r
-      (cut_here table_onto TableLevelled (TablePasses c 0) ts (λ z. z) (t.Terminal m.LeftBracket) r (derived some_select some_alias) (λ us. select_onto some_select (m.RightBracket ▸ given_onto some_alias us)) (length ts) (λ x y. refl) (tt, (tt, tt), tt, tt, tt, tt, tt) e (sym (ap length e)) (λ us. refl) (λ us. refl))
+      (cut_here table_onto TableLevelled (TablePasses c 0) ts (λ z. z) (t.Terminal m.LeftBracket) r (derived some_select some_alias) (λ us. select_onto some_select (m.RightBracket ▸ given_onto some_alias us)) (length ts) (λ x y. refl) (tt, (tt, tt), tt, tt, tt, (tt, tt), tt, tt) e (sym (ap length e)) (λ us. refl) (λ us. refl))
       (λ k all. mapped_cuts (SelectCut k r) (L (suc k)) (selects c k r) (all r)
       (cut_step select_onto SelectLevelled (SelectPasses c k) r table_onto TableLevelled (TablePasses c (suc k)) ts (λ z. m.LeftBracket ▸ z) (λ s. derived s some_alias) (λ s us. m.RightBracket ▸ given_onto some_alias us) (λ x y. refl) e (λ s g. g) (λ s us g. refl) (λ s us rest g p. p))) d cut)
       (λ s. on_cuts (L d) (expect m.RightBracket s.1) (λ r. given_at r >>= λ alias. Ok (derived s.0 alias.0, alias.1)) (expect_cuts (L d) m.RightBracket s.1) (λ q. on_cuts (L d) (given_at q) (λ alias. Ok (derived s.0 alias.0, alias.1)) (given_cuts (L d) q) (λ alias. tt))))
@@ -243,41 +248,47 @@ module _ (c : ℕ) where
       let op : Whole c d p = whole_expression c d (sound c d one) in
       let cuts : WholeCut c d p = whole_cut c d (cut c d one) in
       let inside : Inner = inside_of c d in
-      terminal_cuts L m.Select ts (λ r. list_at m.Comma (item_at p) (quantifier_at r).1 >>= λ items. expect m.From items.1 >>= λ q. from_at inside p q >>= λ tables. filter_at p tables.1 >>= λ filter. windows_at (deeper_of c d) filter.1 >>= λ windows. order_at p windows.1 >>= λ order. limits_at order.1 >>= λ limits. Ok (select (record { quantifier = (quantifier_at r).0; items = items.0; tail = record { filter = filter.0; windows = windows.0; order = keys_of order.0; limits = limits.0 } }) tables.0.0 (joins_of tables.0.1), limits.1)) (λ r e.
+      terminal_cuts L m.Select ts (λ r. list_at m.Comma (item_at p) (quantifier_at r).1 >>= λ items. expect m.From items.1 >>= λ q. from_at inside p q >>= λ tables. filter_at p tables.1 >>= λ filter. grouping_at d p filter.1 >>= λ grouping. windows_at (deeper_of c d) grouping.1 >>= λ windows. order_at p windows.1 >>= λ order. limits_at order.1 >>= λ limits. Ok (select (record { quantifier = (quantifier_at r).0; items = items.0; tail = record { filter = filter.0; grouping = grouping.0; windows = windows.0; order = keys_of order.0; limits = limits.0 } }) tables.0.0 (joins_of tables.0.1), limits.1)) (λ r e.
       let quantifier : Option Quantifier = (quantifier_at r).0 in
       let us : Kinds = (quantifier_at r).1 in
       let start : ts ≡ m.Select ▸ quantifier_onto quantifier us = e ∙ ap (λ (z : Kinds). m.Select ▸ z) (quantifier_is r) in
       let pre0 : Kinds → Kinds = λ z. m.Select ▸ quantifier_onto quantifier z in
       let hp0 : IsPre pre0 = pre_then (λ z. m.Select ▸ z) (quantifier_onto quantifier) (λ x y. refl) (pre_quantifier quantifier) in
-      then_cuts (IsCut (listed m.Comma item_onto) (GoodList ItemLevelled) (ListPasses m.Comma item_onto (ItemPasses c d)) us) L (λ y. IsListed m.Comma item_onto (GoodItem c d) us y.0 y.1) (list_at m.Comma (item_at p) us) (λ items. expect m.From items.1 >>= λ q. from_at inside p q >>= λ tables. filter_at p tables.1 >>= λ filter. windows_at (deeper_of c d) filter.1 >>= λ windows. order_at p windows.1 >>= λ order. limits_at order.1 >>= λ limits. Ok (select (record { quantifier = quantifier; items = items.0; tail = record { filter = filter.0; windows = windows.0; order = keys_of order.0; limits = limits.0 } }) tables.0.0 (joins_of tables.0.1), limits.1))
+      then_cuts (IsCut (listed m.Comma item_onto) (GoodList ItemLevelled) (ListPasses m.Comma item_onto (ItemPasses c d)) us) L (λ y. IsListed m.Comma item_onto (GoodItem c d) us y.0 y.1) (list_at m.Comma (item_at p) us) (λ items. expect m.From items.1 >>= λ q. from_at inside p q >>= λ tables. filter_at p tables.1 >>= λ filter. grouping_at d p filter.1 >>= λ grouping. windows_at (deeper_of c d) grouping.1 >>= λ windows. order_at p windows.1 >>= λ order. limits_at order.1 >>= λ limits. Ok (select (record { quantifier = quantifier; items = items.0; tail = record { filter = filter.0; grouping = grouping.0; windows = windows.0; order = keys_of order.0; limits = limits.0 } }) tables.0.0 (joins_of tables.0.1), limits.1))
       (list_cut m.Comma item_onto ItemLevelled (GoodItem c d) (ItemPasses c d) (item_at p) us pre_item (λ a g. g.0) (λ vs. item_cut d p vs cuts) (λ vs. item_holds c d p vs op)) (list_holds m.Comma item_onto (GoodItem c d) (item_at p) us (λ vs. item_holds c d p vs op))
-      (cut_step (listed m.Comma item_onto) (GoodList ItemLevelled) (ListPasses m.Comma item_onto (ItemPasses c d)) us select_onto SelectLevelled (SelectPasses c d) ts pre0 (λ xs. short quantifier xs some_table [] None [] no_keys) (λ xs us. m.From ▸ table_onto some_table us) hp0 start (λ xs g. let y = items_good xs g in (y.0, y.1, tt, tt, tt, tt, tt)) (λ xs us g. ap pre0 (items_listed xs (m.From ▸ table_onto some_table us) g)) (λ xs us rest g s. inl (items_passes d xs (m.From ▸ table_onto some_table us) rest g s)))
+      (cut_step (listed m.Comma item_onto) (GoodList ItemLevelled) (ListPasses m.Comma item_onto (ItemPasses c d)) us select_onto SelectLevelled (SelectPasses c d) ts pre0 (λ xs. short quantifier xs some_table [] None no_grouping [] no_keys) (λ xs us. m.From ▸ table_onto some_table us) hp0 start (λ xs g. let y = items_good xs g in (y.0, y.1, tt, tt, tt, (tt, tt), tt, tt)) (λ xs us g. ap pre0 (items_listed xs (m.From ▸ table_onto some_table us) g)) (λ xs us rest g s. inl (items_passes d xs (m.From ▸ table_onto some_table us) rest g s)))
       (λ items h. let read = items_read d us items.1 items.0 h in
-      terminal_cuts L m.From items.1 (λ q. from_at inside p q >>= λ tables. filter_at p tables.1 >>= λ filter. windows_at (deeper_of c d) filter.1 >>= λ windows. order_at p windows.1 >>= λ order. limits_at order.1 >>= λ limits. Ok (select (record { quantifier = quantifier; items = items.0; tail = record { filter = filter.0; windows = windows.0; order = keys_of order.0; limits = limits.0 } }) tables.0.0 (joins_of tables.0.1), limits.1)) (λ q f.
+      terminal_cuts L m.From items.1 (λ q. from_at inside p q >>= λ tables. filter_at p tables.1 >>= λ filter. grouping_at d p filter.1 >>= λ grouping. windows_at (deeper_of c d) grouping.1 >>= λ windows. order_at p windows.1 >>= λ order. limits_at order.1 >>= λ limits. Ok (select (record { quantifier = quantifier; items = items.0; tail = record { filter = filter.0; grouping = grouping.0; windows = windows.0; order = keys_of order.0; limits = limits.0 } }) tables.0.0 (joins_of tables.0.1), limits.1)) (λ q f.
       let pre1 : Kinds → Kinds = λ z. pre0 (items_onto items.0 (m.From ▸ z)) in
       let hp1 : IsPre pre1 = pre_then pre0 (λ z. items_onto items.0 (m.From ▸ z)) hp0 (pre_then (items_onto items.0) (λ z. m.From ▸ z) (pre_items items.0) (λ x y. refl)) in
       let start1 : ts ≡ pre1 q = start ∙ ap pre0 (read.1 ∙ ap (items_onto items.0) f) in
-      then_cuts (IsCut from_pair FromLevelled (FromPasses d) q) L (IsPart (from_onto c) (GoodTables c d) q) (from_at inside p q) (λ tables. filter_at p tables.1 >>= λ filter. windows_at (deeper_of c d) filter.1 >>= λ windows. order_at p windows.1 >>= λ order. limits_at order.1 >>= λ limits. Ok (select (record { quantifier = quantifier; items = items.0; tail = record { filter = filter.0; windows = windows.0; order = keys_of order.0; limits = limits.0 } }) tables.0.0 (joins_of tables.0.1), limits.1)) (from_cut d p q cuts op tables lower) (from_holds c d p q op lower)
-      (cut_step from_pair FromLevelled (FromPasses d) q select_onto SelectLevelled (SelectPasses c d) ts pre1 (λ tables. select (record { quantifier = quantifier; items = items.0; tail = record { filter = None; windows = []; order = no_keys; limits = None } }) tables.0 tables.1) (λ tables us. us) hp1 start1 (λ tables g. (read.0.0, read.0.1, g.0, g.1, tt, tt, tt)) (λ tables us g. refl) (λ tables us rest g s. inr (⊎_elim (λ a. inl a) (λ b. inr (inl b)) s)))
+      then_cuts (IsCut from_pair FromLevelled (FromPasses d) q) L (IsPart (from_onto c) (GoodTables c d) q) (from_at inside p q) (λ tables. filter_at p tables.1 >>= λ filter. grouping_at d p filter.1 >>= λ grouping. windows_at (deeper_of c d) grouping.1 >>= λ windows. order_at p windows.1 >>= λ order. limits_at order.1 >>= λ limits. Ok (select (record { quantifier = quantifier; items = items.0; tail = record { filter = filter.0; grouping = grouping.0; windows = windows.0; order = keys_of order.0; limits = limits.0 } }) tables.0.0 (joins_of tables.0.1), limits.1)) (from_cut d p q cuts op tables lower) (from_holds c d p q op lower)
+      (cut_step from_pair FromLevelled (FromPasses d) q select_onto SelectLevelled (SelectPasses c d) ts pre1 (λ tables. select (record { quantifier = quantifier; items = items.0; tail = record { filter = None; grouping = no_grouping; windows = []; order = no_keys; limits = None } }) tables.0 tables.1) (λ tables us. us) hp1 start1 (λ tables g. (read.0.0, read.0.1, g.0, g.1, tt, (tt, tt), tt, tt)) (λ tables us g. refl) (λ tables us rest g s. inr (⊎_elim (λ a. inl a) (λ b. inr (inl b)) s)))
       (λ tables it.
       let pre2 : Kinds → Kinds = λ z. pre1 (from_onto c tables.0 z) in
       let hp2 : IsPre pre2 = pre_then pre1 (from_onto c tables.0) hp1 (pre_then (table_onto tables.0.0) (joins_onto (joins_of tables.0.1)) (pre_table tables.0.0) (pre_joins (joins_of tables.0.1))) in
       let start2 : ts ≡ pre2 tables.1 = start1 ∙ ap pre1 it.parts in
-      then_cuts (IsCut filter_onto OptionLevelled (FilterPasses c d) tables.1) L (IsPart filter_onto (GoodFilter c d) tables.1) (filter_at p tables.1) (λ filter. windows_at (deeper_of c d) filter.1 >>= λ windows. order_at p windows.1 >>= λ order. limits_at order.1 >>= λ limits. Ok (select (record { quantifier = quantifier; items = items.0; tail = record { filter = filter.0; windows = windows.0; order = keys_of order.0; limits = limits.0 } }) tables.0.0 (joins_of tables.0.1), limits.1)) (filter_cut d p tables.1 cuts) (filter_holds c d p tables.1 op)
-      (cut_step filter_onto OptionLevelled (FilterPasses c d) tables.1 select_onto SelectLevelled (SelectPasses c d) ts pre2 (λ filter. short quantifier items.0 tables.0.0 tables.0.1 filter [] no_keys) (λ filter us. us) hp2 start2 (λ filter g. (read.0.0, read.0.1, it.good.0.0, it.good.0.1, g, tt, tt)) (λ filter us g. refl) (λ filter us rest g s. inr (inr (inr (inl s)))))
+      then_cuts (IsCut filter_onto OptionLevelled (FilterPasses c d) tables.1) L (IsPart filter_onto (GoodFilter c d) tables.1) (filter_at p tables.1) (λ filter. grouping_at d p filter.1 >>= λ grouping. windows_at (deeper_of c d) grouping.1 >>= λ windows. order_at p windows.1 >>= λ order. limits_at order.1 >>= λ limits. Ok (select (record { quantifier = quantifier; items = items.0; tail = record { filter = filter.0; grouping = grouping.0; windows = windows.0; order = keys_of order.0; limits = limits.0 } }) tables.0.0 (joins_of tables.0.1), limits.1)) (filter_cut d p tables.1 cuts) (filter_holds c d p tables.1 op)
+      (cut_step filter_onto OptionLevelled (FilterPasses c d) tables.1 select_onto SelectLevelled (SelectPasses c d) ts pre2 (λ filter. short quantifier items.0 tables.0.0 tables.0.1 filter no_grouping [] no_keys) (λ filter us. us) hp2 start2 (λ filter g. (read.0.0, read.0.1, it.good.0.0, it.good.0.1, g, (tt, tt), tt, tt)) (λ filter us g. refl) (λ filter us rest g s. inr (inr (inr (inl s)))))
       (λ filter iw.
       let pre3 : Kinds → Kinds = λ z. pre2 (filter_onto filter.0 z) in
       let hp3 : IsPre pre3 = pre_then pre2 (filter_onto filter.0) hp2 (pre_filter filter.0) in
       let start3 : ts ≡ pre3 filter.1 = start2 ∙ ap pre2 iw.parts in
-      then_cuts (WindowsCut d filter.1) L (IsPart windows_onto (GoodWindows c d) filter.1) (windows_at (deeper_of c d) filter.1) (λ windows. order_at p windows.1 >>= λ order. limits_at order.1 >>= λ limits. Ok (select (record { quantifier = quantifier; items = items.0; tail = record { filter = filter.0; windows = windows.0; order = keys_of order.0; limits = limits.0 } }) tables.0.0 (joins_of tables.0.1), limits.1)) (windows_cut d filter.1 (cut_within c d one) (within c d one)) (windows_hold c d filter.1 (within c d one))
-      (cut_step windows_onto (Each NamedLevelled) (OneWindowPasses c d) filter.1 select_onto SelectLevelled (SelectPasses c d) ts pre3 (λ windows. short quantifier items.0 tables.0.0 tables.0.1 filter.0 windows no_keys) (λ windows us. us) hp3 start3 (λ windows g. (read.0.0, read.0.1, it.good.0.0, it.good.0.1, iw.good.0, g, tt)) (λ windows us g. refl) (λ windows us rest g s. inr (inr (inr (inr (inl s))))))
+      then_cuts (IsCut grouping_onto GroupingLevelled (GroupingPasses c d) filter.1) L (IsPart grouping_onto (GoodGrouping c d) filter.1) (grouping_at d p filter.1) (λ grouping. windows_at (deeper_of c d) grouping.1 >>= λ windows. order_at p windows.1 >>= λ order. limits_at order.1 >>= λ limits. Ok (select (record { quantifier = quantifier; items = items.0; tail = record { filter = filter.0; grouping = grouping.0; windows = windows.0; order = keys_of order.0; limits = limits.0 } }) tables.0.0 (joins_of tables.0.1), limits.1)) (grouping_cut c d p filter.1 cuts) (grouping_holds c d p filter.1 op)
+      (cut_step grouping_onto GroupingLevelled (GroupingPasses c d) filter.1 select_onto SelectLevelled (SelectPasses c d) ts pre3 (λ grouping. short quantifier items.0 tables.0.0 tables.0.1 filter.0 grouping [] no_keys) (λ grouping us. us) hp3 start3 (λ grouping g. (read.0.0, read.0.1, it.good.0.0, it.good.0.1, iw.good.0, g, tt, tt)) (λ grouping us g. refl) (λ grouping us rest g s. inr (inr (inr (inr (inl s))))))
+      (λ grouping ig.
+      let pre4 : Kinds → Kinds = λ z. pre3 (grouping_onto grouping.0 z) in
+      let hp4 : IsPre pre4 = pre_then pre3 (grouping_onto grouping.0) hp3 (pre_grouping grouping.0) in
+      let start4 : ts ≡ pre4 grouping.1 = start3 ∙ ap pre3 ig.parts in
+      then_cuts (WindowsCut d grouping.1) L (IsPart windows_onto (GoodWindows c d) grouping.1) (windows_at (deeper_of c d) grouping.1) (λ windows. order_at p windows.1 >>= λ order. limits_at order.1 >>= λ limits. Ok (select (record { quantifier = quantifier; items = items.0; tail = record { filter = filter.0; grouping = grouping.0; windows = windows.0; order = keys_of order.0; limits = limits.0 } }) tables.0.0 (joins_of tables.0.1), limits.1)) (windows_cut d grouping.1 (cut_within c d one) (within c d one)) (windows_hold c d grouping.1 (within c d one))
+      (cut_step windows_onto (Each NamedLevelled) (OneWindowPasses c d) grouping.1 select_onto SelectLevelled (SelectPasses c d) ts pre4 (λ windows. short quantifier items.0 tables.0.0 tables.0.1 filter.0 grouping.0 windows no_keys) (λ windows us. us) hp4 start4 (λ windows g. (read.0.0, read.0.1, it.good.0.0, it.good.0.1, iw.good.0, ig.good.0, g, tt)) (λ windows us g. refl) (λ windows us rest g s. inr (inr (inr (inr (inr (inl s)))))))
       (λ windows is.
-      let pre4 : Kinds → Kinds = λ z. pre3 (windows_onto windows.0 z) in
-      let hp4 : IsPre pre4 = pre_then pre3 (windows_onto windows.0) hp3 (pre_windows windows.0) in
-      let start4 : ts ≡ pre4 windows.1 = start3 ∙ ap pre3 is.parts in
-      then_cuts (OrderCut c d windows.1) L (λ z. Unit {0}) (order_at p windows.1) (λ order. limits_at order.1 >>= λ limits. Ok (select (record { quantifier = quantifier; items = items.0; tail = record { filter = filter.0; windows = windows.0; order = keys_of order.0; limits = limits.0 } }) tables.0.0 (joins_of tables.0.1), limits.1)) (order_cut c d p windows.1 cuts op) (all_things (order_at p windows.1))
-      (cut_step order_onto KeysLevelled (KeyPasses c d) windows.1 select_onto SelectLevelled (SelectPasses c d) ts pre4 (λ order. short quantifier items.0 tables.0.0 tables.0.1 filter.0 windows.0 order) (λ order us. us) hp4 start4 (λ order g. (read.0.0, read.0.1, it.good.0.0, it.good.0.1, iw.good.0, is.good.0, g)) (λ order us g. refl) (λ order us rest g s. inr (inr (inr (inr (inr s))))))
-      (λ order u. on_cuts L (limits_at order.1) (λ limits. Ok (select (record { quantifier = quantifier; items = items.0; tail = record { filter = filter.0; windows = windows.0; order = keys_of order.0; limits = limits.0 } }) tables.0.0 (joins_of tables.0.1), limits.1)) (limits_cuts L order.1) (λ limits. tt))))))))
+      let pre5 : Kinds → Kinds = λ z. pre4 (windows_onto windows.0 z) in
+      let hp5 : IsPre pre5 = pre_then pre4 (windows_onto windows.0) hp4 (pre_windows windows.0) in
+      let start5 : ts ≡ pre5 windows.1 = start4 ∙ ap pre4 is.parts in
+      then_cuts (OrderCut c d windows.1) L (λ z. Unit {0}) (order_at p windows.1) (λ order. limits_at order.1 >>= λ limits. Ok (select (record { quantifier = quantifier; items = items.0; tail = record { filter = filter.0; grouping = grouping.0; windows = windows.0; order = keys_of order.0; limits = limits.0 } }) tables.0.0 (joins_of tables.0.1), limits.1)) (order_cut c d p windows.1 cuts op) (all_things (order_at p windows.1))
+      (cut_step order_onto KeysLevelled (KeyPasses c d) windows.1 select_onto SelectLevelled (SelectPasses c d) ts pre5 (λ order. short quantifier items.0 tables.0.0 tables.0.1 filter.0 grouping.0 windows.0 order) (λ order us. us) hp5 start5 (λ order g. (read.0.0, read.0.1, it.good.0.0, it.good.0.1, iw.good.0, ig.good.0, is.good.0, g)) (λ order us g. refl) (λ order us rest g s. inr (inr (inr (inr (inr (inr s)))))))
+      (λ order u. on_cuts L (limits_at order.1) (λ limits. Ok (select (record { quantifier = quantifier; items = items.0; tail = record { filter = filter.0; grouping = grouping.0; windows = windows.0; order = keys_of order.0; limits = limits.0 } }) tables.0.0 (joins_of tables.0.1), limits.1)) (limits_cuts L order.1) (λ limits. tt)))))))))
 
   selects_cut : (d : ℕ) → 1 ≤ c → SelectsCut d
   unfolding selects

@@ -3,13 +3,16 @@ pub mod Passing
 pub mod TerminalFacts
 pub mod Pieces
 pub mod Complete
+pub mod CompleteGroups
 pub mod CompleteQuery
 pub mod SoundPieces
 pub mod Sound
+pub mod SoundGroups
 pub mod SoundQuery
 pub mod Unique
 pub mod CutPieces
 pub mod Cut
+pub mod CutGroups
 pub mod CutQuery
 pub mod Loops
 pub mod Marked

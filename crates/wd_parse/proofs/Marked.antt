@@ -3,11 +3,11 @@ use Rattle.std.proofs.Common.{◌≡◌, ℕ, zero, suc, ◌+◌, ◌⊎◌, inl
 use Rattle.wd_lex.specs.declared.token.Terminal.TheVariants as m
 use Rattle.wd_read_cursor.specs.declared.name.Name.{Name}
 use Rattle.wd_read_cursor.specs.Tokens.{Kinds, ◌▸◌}
-use Rattle.wd_syntax.specs.Tree.{Tree, Constant, Column, Qualified, CallAll, Call, Case, Bracket, Signed, Binary, IsNull, Negated, Trees, no_trees, more_trees, Arms, no_arms, more_arms, Otherwise, no_else, or_else, OverTree, no_over, over_name, over_window, WindowTree, window, Keys, no_keys, more_keys, ItemTree, all_columns, all_of, shown, Tail, TableTree, named, derived, JoinTree, comma, cross, inner, Joins, no_joins, more_joins, SelectTree, select, QueryTree, query, Each, One}
-use Rattle.wd_syntax.specs.Spelling.{frame_onto, else_onto, over_onto, window_onto, order_onto, given_onto, end_onto}
-use Rattle.wd_syntax.specs.Limits.{Mark, opened, marks, list_marks, arms_marks, else_marks, over_marks, bracketed_marks, keys_marks, item_marks, items_marks, filter_marks, windows_marks, tail_marks, table_marks, join_marks, joins_marks, select_marks, query_marks, IsWithin, IsPast, IsPastAt, KeepsLimits}
-use Rattle.wd_parse.proofs.Fitting.{Below, Fits, AllFit, ArmsFit, ElseFits, OverFits, WindowFits, KeysFit, ItemFits, OptionFits, TableFits, JoinFits, JoinsFit, SelectFits, QueryFits}
-use Rattle.wd_parse.proofs.Passing.{Opens, Passes, OnePasses, ArmPasses, ElsePasses, OverPasses, WindowPasses, KeyPasses, ItemPasses, OneItemPasses, FilterPasses, OneWindowPasses, TablePasses, JoinPasses, OneJoinPasses, SelectPasses, QueryPasses}
+use Rattle.wd_syntax.specs.Tree.{Tree, Constant, Column, Qualified, CallAll, Call, Case, Bracket, Signed, Binary, IsNull, Negated, Trees, no_trees, more_trees, Arms, no_arms, more_arms, Otherwise, no_else, or_else, OverTree, no_over, over_name, over_window, WindowTree, window, Keys, no_keys, more_keys, ItemTree, all_columns, all_of, shown, SetTree, one_column, columns, GroupTree, grouped_by, constructed, GroupingTree, Tail, TableTree, named, derived, JoinTree, comma, cross, inner, Joins, no_joins, more_joins, SelectTree, select, QueryTree, query, Each, One}
+use Rattle.wd_syntax.specs.Spelling.{frame_onto, else_onto, over_onto, window_onto, order_onto, given_onto, set_onto, group_item_onto, having_onto, end_onto}
+use Rattle.wd_syntax.specs.Limits.{Mark, opened, marks, list_marks, arms_marks, else_marks, over_marks, bracketed_marks, keys_marks, item_marks, items_marks, filter_marks, set_marks, members_marks, group_marks, grouping_marks, windows_marks, tail_marks, table_marks, join_marks, joins_marks, select_marks, query_marks, IsWithin, IsPast, IsPastAt, KeepsLimits}
+use Rattle.wd_parse.proofs.Fitting.{Below, Fits, AllFit, ArmsFit, ElseFits, OverFits, WindowFits, KeysFit, ItemFits, OptionFits, SetFits, GroupFits, GroupingFits, TableFits, JoinFits, JoinsFit, SelectFits, QueryFits}
+use Rattle.wd_parse.proofs.Passing.{Opens, Passes, OnePasses, ArmPasses, ElsePasses, OverPasses, WindowPasses, KeyPasses, ItemPasses, OneItemPasses, FilterPasses, SetPasses, MemberPasses, GroupPasses, GroupingPasses, OneWindowPasses, TablePasses, JoinPasses, OneJoinPasses, SelectPasses, QueryPasses}
 
 -- as many levels are left as are not open
 abbrev Left : ℕ → ℕ → Type 0
@@ -105,15 +105,30 @@ filter_good : (o : Option Tree) (n d : ℕ) (ts : Kinds) → Left n d → Good (
 filter_good None n d ts e = none_good tt
 filter_good (Some a) n d ts e = tree_good a n d ts e
 
+set_good : (s : SetTree) (n d : ℕ) (ts : Kinds) → Left n d → Good (set_marks n s ts) ↔ SetFits d s
+set_good (one_column a) n d ts e = none_good tt
+set_good (columns cs) n d ts e = good_opened n d (λ k. []) e (λ k l. none_good tt)
+
+members_good : {A : Type 0} (one : A → Kinds → Kinds) (of : A → Kinds → List Mark) (F : A → Type 0) → ((a : A) (ts : Kinds) → Good (of a ts) ↔ F a) → (xs : List A) (ts : Kinds) → Good (members_marks one of xs ts) ↔ Each F xs
+members_good one of F h [] ts = none_good tt
+members_good one of F h (a ∷ xs) ts = good_both (h a _) (members_good one of F h xs ts)
+
+group_good : (a : GroupTree) (n d : ℕ) (ts : Kinds) → Left n d → Good (group_marks n a ts) ↔ GroupFits d a
+group_good (grouped_by s) n d ts e = set_good s n d ts e
+group_good (constructed word sets) n d ts e = good_opened n d (λ k. members_marks set_onto (set_marks k) sets (m.RightBracket ▸ ts)) e (λ k l. members_good set_onto (set_marks (suc n)) (SetFits k) (λ s us. set_good s (suc n) k us l) sets (m.RightBracket ▸ ts))
+
+grouping_good : (g : GroupingTree) (n d : ℕ) (ts : Kinds) → Left n d → Good (grouping_marks n g ts) ↔ GroupingFits 200 d g
+grouping_good g n d ts e = good_both (members_good group_item_onto (group_marks n) (GroupFits d) (λ a us. group_good a n d us e) g.items (having_onto g.having ts)) (filter_good g.having n d ts e)
+
 windows_good : (windows : List (Name × WindowTree)) (n d : ℕ) (ts : Kinds) → Left n d → Good (windows_marks n windows ts) ↔ Each (λ w. Below d (λ k. WindowFits 200 k w.1)) windows
 windows_good [] n d ts e = none_good tt
 windows_good (w ∷ windows) n d ts e = good_both (bracketed_good w.1 n d _ e) (windows_good windows n d ts e)
 
-tail_good : (tail : Tail) (n d : ℕ) (ts : Kinds) → Left n d → Good (tail_marks n tail ts) ↔ (OptionFits 200 d tail.filter × Each (λ w. Below d (λ k. WindowFits 200 k w.1)) tail.windows × KeysFit 200 d tail.order)
-tail_good tail n d ts e = good_three (filter_good tail.filter n d _ e) (windows_good tail.windows n d _ e) (keys_good tail.order n d _ e)
+tail_good : (tail : Tail) (n d : ℕ) (ts : Kinds) → Left n d → Good (tail_marks n tail ts) ↔ (OptionFits 200 d tail.filter × (GroupingFits 200 d tail.grouping × Each (λ w. Below d (λ k. WindowFits 200 k w.1)) tail.windows × KeysFit 200 d tail.order))
+tail_good tail n d ts e = good_both (filter_good tail.filter n d _ e) (good_three (grouping_good tail.grouping n d _ e) (windows_good tail.windows n d _ e) (keys_good tail.order n d _ e))
 
-good_select : {xs ys zs us : List Mark} {P Q R A B C : Type 0} → (Good xs ↔ P) → (Good ys ↔ Q) → (Good zs ↔ R) → (Good us ↔ (A × B × C)) → Good (xs ++ (ys ++ (zs ++ us))) ↔ (P × Q × R × A × B × C)
-good_select f g h i = let all = good_three f g (good_both h i) in (λ x. let y = all.0 x in (y.0, y.1, y.2.0, y.2.1.0, y.2.1.1, y.2.1.2), λ p. all.1 (p.0, p.1, (p.2, (p.3, p.4, p.5))))
+good_select : {xs ys zs us : List Mark} {P Q R A B C D : Type 0} → (Good xs ↔ P) → (Good ys ↔ Q) → (Good zs ↔ R) → (Good us ↔ (A × (B × C × D))) → Good (xs ++ (ys ++ (zs ++ us))) ↔ (P × Q × R × A × B × C × D)
+good_select f g h i = let all = good_three f g (good_both h i) in (λ x. let y = all.0 x in (y.0, y.1, y.2.0, y.2.1.0, y.2.1.1.0, y.2.1.1.1, y.2.1.1.2), λ p. all.1 (p.0, p.1, (p.2, (p.3, (p.4, p.5, p.6)))))
 
 mutual
   table_good : (table : TableTree) (n d : ℕ) (ts : Kinds) → Left n d → Good (table_marks n table ts) ↔ TableFits 200 d table
@@ -212,6 +227,21 @@ filter_past : (o : Option Tree) (n d : ℕ) (ts rest : Kinds) → Left n d → F
 filter_past None n d ts rest e = λ x. absurd x
 filter_past (Some a) n d ts rest e = tree_past a n d ts rest e
 
+set_past : (s : SetTree) (n d : ℕ) (ts rest : Kinds) → Left n d → SetPasses d s ts rest → Past rest (set_marks n s ts)
+set_past (one_column a) n d ts rest e = λ x. absurd x
+set_past (columns cs) n d ts rest e = past_opened n d (λ k. []) e (λ k l x. absurd x)
+
+members_past : {A : Type 0} (one : A → Kinds → Kinds) (of : A → Kinds → List Mark) (passes : A → Kinds → Kinds → Type 0) (rest : Kinds) → ((a : A) (ts : Kinds) → passes a ts rest → Past rest (of a ts)) → (xs : List A) (ts : Kinds) → MemberPasses one passes xs ts rest → Past rest (members_marks one of xs ts)
+members_past one of passes rest h [] ts = λ x. absurd x
+members_past one of passes rest h (a ∷ xs) ts = past_both (h a _) (members_past one of passes rest h xs ts)
+
+group_past : (a : GroupTree) (n d : ℕ) (ts rest : Kinds) → Left n d → GroupPasses d a ts rest → Past rest (group_marks n a ts)
+group_past (grouped_by s) n d ts rest e = set_past s n d ts rest e
+group_past (constructed word sets) n d ts rest e = past_opened n d (λ k. members_marks set_onto (set_marks k) sets (m.RightBracket ▸ ts)) e (λ k l. members_past set_onto (set_marks (suc n)) (SetPasses k) rest (λ s us. set_past s (suc n) k us rest l) sets (m.RightBracket ▸ ts))
+
+grouping_past : (g : GroupingTree) (n d : ℕ) (ts rest : Kinds) → Left n d → GroupingPasses 200 d g ts rest → Past rest (grouping_marks n g ts)
+grouping_past g n d ts rest e = past_both (members_past group_item_onto (group_marks n) (GroupPasses d) rest (λ a us. group_past a n d us rest e) g.items (having_onto g.having ts)) (filter_past g.having n d ts rest e)
+
 windows_past : (windows : List (Name × WindowTree)) (n d : ℕ) (ts rest : Kinds) → Left n d → OneWindowPasses 200 d windows ts rest → Past rest (windows_marks n windows ts)
 windows_past [] n d ts rest e = λ x. absurd x
 windows_past (w ∷ windows) n d ts rest e = past_both (bracketed_past w.1 n d _ rest e) (windows_past windows n d ts rest e)
@@ -231,7 +261,7 @@ mutual
   joins_past (more_joins join joins) n d ts rest e = past_both (join_past join n d _ rest e) (joins_past joins n d ts rest e)
 
   select_past : (s : SelectTree) (n d : ℕ) (ts rest : Kinds) → Left n d → SelectPasses 200 d s ts rest → Past rest (select_marks n s ts)
-  select_past (select parts first joins) n d ts rest e = past_both (items_past parts.items n d _ rest e) (past_both (table_past first n d _ rest e) (past_both (joins_past joins n d _ rest e) (past_both (filter_past parts.tail.filter n d _ rest e) (past_both (windows_past parts.tail.windows n d _ rest e) (keys_past parts.tail.order n d _ rest e)))))
+  select_past (select parts first joins) n d ts rest e = past_both (items_past parts.items n d _ rest e) (past_both (table_past first n d _ rest e) (past_both (joins_past joins n d _ rest e) (past_both (filter_past parts.tail.filter n d _ rest e) (past_both (grouping_past parts.tail.grouping n d _ rest e) (past_both (windows_past parts.tail.windows n d _ rest e) (keys_past parts.tail.order n d _ rest e))))))
 
 -- where a query passes a limit, a mark of it is past it
 pub query_past : (q : QueryTree) (rest : Kinds) → QueryPasses 200 32 q rest → One (IsPastAt rest) (query_marks q)

@@ -5,8 +5,8 @@ use Rattle.wd_lex.specs.declared.token.Terminal.TheVariants as m
 use Rattle.wd_read_cursor.specs.declared.name.Name.{Name}
 use Rattle.wd_read_cursor.specs.Tokens.{Kinds, ◌▸◌}
 use Rattle.wd_syntax.specs.Tokens.{operator_terminal, sign_terminal, operator_height}
-use Rattle.wd_syntax.specs.Tree.{Tree, Constant, Column, Qualified, CallAll, Call, Case, Bracket, Signed, Binary, IsNull, Negated, Trees, no_trees, more_trees, Arms, no_arms, more_arms, Otherwise, no_else, or_else, OverTree, no_over, over_name, over_window, WindowTree, window, Keys, no_keys, more_keys, ItemTree, all_columns, all_of, shown, TableTree, named, derived, JoinTree, comma, cross, inner, Joins, no_joins, more_joins, SelectTree, select, QueryTree, query}
-use Rattle.wd_syntax.specs.Spelling.{frame_onto, direction_onto, nulls_onto, not_onto, onto, list_onto, more_onto, arms_onto, else_onto, over_onto, window_onto, order_onto, more_keys_onto, given_onto, alias_onto, more_items_onto, more_windows_onto, windows_onto, limits_onto, tail_onto, table_onto, joins_onto, select_onto, end_onto}
+use Rattle.wd_syntax.specs.Tree.{Tree, Constant, Column, Qualified, CallAll, Call, Case, Bracket, Signed, Binary, IsNull, Negated, Trees, no_trees, more_trees, Arms, no_arms, more_arms, Otherwise, no_else, or_else, OverTree, no_over, over_name, over_window, WindowTree, window, Keys, no_keys, more_keys, ItemTree, all_columns, all_of, shown, SetTree, one_column, columns, GroupTree, grouped_by, constructed, GroupingTree, TableTree, named, derived, JoinTree, comma, cross, inner, Joins, no_joins, more_joins, SelectTree, select, QueryTree, query}
+use Rattle.wd_syntax.specs.Spelling.{frame_onto, direction_onto, nulls_onto, not_onto, onto, list_onto, more_onto, arms_onto, else_onto, over_onto, window_onto, order_onto, more_keys_onto, given_onto, alias_onto, more_items_onto, commas_onto, members_onto, set_onto, group_item_onto, having_onto, grouping_onto, more_windows_onto, windows_onto, limits_onto, tail_onto, table_onto, joins_onto, select_onto, end_onto}
 use Rattle.wd_syntax.specs.Limits.{operators}
 
 -- `here` begins with a token that opens a level: it passes the limit where no level is left, and else something within.
@@ -68,6 +68,22 @@ abbrev pub FilterPasses : ℕ → ℕ → Option Tree → Kinds → Kinds → Ty
 FilterPasses c d None ts rest = ⊥
 FilterPasses c d (Some a) ts rest = Passes c d a ts rest
 
+abbrev pub SetPasses : ℕ → SetTree → Kinds → Kinds → Type 0
+SetPasses d (one_column a) ts rest = ⊥
+SetPasses d (columns cs) ts rest = Opens d (λ k. ⊥) (set_onto (columns cs) ts) rest
+
+-- one of a list with commas between its members
+abbrev pub MemberPasses : {A : Type 0} → (A → Kinds → Kinds) → (A → Kinds → Kinds → Type 0) → List A → Kinds → Kinds → Type 0
+MemberPasses one passes [] ts rest = ⊥
+MemberPasses one passes (a ∷ xs) ts rest = passes a (commas_onto one xs ts) rest ⊎ MemberPasses one passes xs ts rest
+
+abbrev pub GroupPasses : ℕ → GroupTree → Kinds → Kinds → Type 0
+GroupPasses d (grouped_by s) ts rest = SetPasses d s ts rest
+GroupPasses d (constructed word sets) ts rest = Opens d (λ k. MemberPasses set_onto (SetPasses k) sets (m.RightBracket ▸ ts) rest) (m.LeftBracket ▸ members_onto set_onto sets (m.RightBracket ▸ ts)) rest
+
+abbrev pub GroupingPasses : ℕ → ℕ → GroupingTree → Kinds → Kinds → Type 0
+GroupingPasses c d g ts rest = MemberPasses group_item_onto (GroupPasses d) g.items (having_onto g.having ts) rest ⊎ FilterPasses c d g.having ts rest
+
 abbrev pub NamedPasses : ℕ → ℕ → Name × WindowTree → Kinds → Kinds → Type 0
 NamedPasses c d w ts rest = Opens d (λ k. WindowPasses c k w.1 (m.RightBracket ▸ ts) rest) (m.LeftBracket ▸ window_onto w.1 (m.RightBracket ▸ ts)) rest
 
@@ -94,9 +110,10 @@ abbrev mutual
       OneItemPasses c d parts.items (m.From ▸ table_onto first (joins_onto joins (tail_onto parts.tail ts))) rest
       ⊎ (TablePasses c d first (joins_onto joins (tail_onto parts.tail ts)) rest
       ⊎ (OneJoinPasses c d joins (tail_onto parts.tail ts) rest
-      ⊎ (FilterPasses c d parts.tail.filter (windows_onto parts.tail.windows (order_onto parts.tail.order (limits_onto parts.tail.limits ts))) rest
+      ⊎ (FilterPasses c d parts.tail.filter (grouping_onto parts.tail.grouping (windows_onto parts.tail.windows (order_onto parts.tail.order (limits_onto parts.tail.limits ts)))) rest
+      ⊎ (GroupingPasses c d parts.tail.grouping (windows_onto parts.tail.windows (order_onto parts.tail.order (limits_onto parts.tail.limits ts))) rest
       ⊎ (OneWindowPasses c d parts.tail.windows (order_onto parts.tail.order (limits_onto parts.tail.limits ts)) rest
-      ⊎ KeyPasses c d parts.tail.order (limits_onto parts.tail.limits ts) rest))))
+      ⊎ KeyPasses c d parts.tail.order (limits_onto parts.tail.limits ts) rest)))))
 
 abbrev pub QueryPasses : ℕ → ℕ → QueryTree → Kinds → Type 0
 QueryPasses c d (query s semicolon) rest = SelectPasses c d s (end_onto semicolon) rest

@@ -45,13 +45,13 @@ mode_same Rows ts = refl
 mode_same Range ts = refl
 mode_same Groups ts = refl
 
-mode_stops_at : (x : Terminal) → 5 < clause x → mode_if x ≡ None
+mode_stops_at : (x : Terminal) → 7 < clause x → mode_if x ≡ None
 mode_stops_at m.Rows lt = absurd (omega arith)
 mode_stops_at m.Range lt = absurd (omega arith)
 mode_stops_at m.Groups lt = absurd (omega arith)
 mode_stops_at _ lt = refl
 
-mode_stops : (ts : Kinds) → 5 < clauses ts → mode_at ts ≡ None
+mode_stops : (ts : Kinds) → 7 < clauses ts → mode_at ts ≡ None
 unfolding mode_at
 mode_stops [] lt = refl
 mode_stops (t.Terminal x ∷ ts) lt = rw (mode_stops_at x lt) refl
@@ -93,17 +93,17 @@ unfolding exclusion_at
 exclusion_same None ts lt = rw (clause_no_word k.Exclude ts lt) refl
 exclusion_same (Some e) ts lt = rw (eat_word_same k.Exclude (excluded_onto e ts), excluded_same e ts) refl
 
-pub frame_same : (frame : Option Frame) (ts : Kinds) → 5 < clauses ts → frame_at (frame_onto frame ts) ≡ Ok (frame, ts)
+pub frame_same : (frame : Option Frame) (ts : Kinds) → 7 < clauses ts → frame_at (frame_onto frame ts) ≡ Ok (frame, ts)
 unfolding frame_at
 frame_same None ts lt = rw (mode_stops ts lt) refl
 frame_same (Some f) ts lt = rw (mode_same f.mode (extent_onto f.extent (exclusion_onto f.exclusion ts)), extent_same f.extent (exclusion_onto f.exclusion ts), exclusion_same f.exclusion ts (omega arith)) refl
 
-mode_clause : (mode : FrameMode) (ts : Kinds) → clauses (mode_onto mode ts) ≡ 5
+mode_clause : (mode : FrameMode) (ts : Kinds) → clauses (mode_onto mode ts) ≡ 7
 mode_clause Rows ts = refl
 mode_clause Range ts = refl
 mode_clause Groups ts = refl
 
-pub frame_clause : (frame : Option Frame) (ts : Kinds) → 4 < clauses ts → 4 < clauses (frame_onto frame ts)
+pub frame_clause : (frame : Option Frame) (ts : Kinds) → 6 < clauses ts → 6 < clauses (frame_onto frame ts)
 frame_clause None ts lt = lt
 frame_clause (Some f) ts lt = omega (arith, mode_clause f.mode (extent_onto f.extent (exclusion_onto f.exclusion ts)))
 
@@ -188,7 +188,7 @@ unfolding row_at eat eat_word
 row_same w.Row ts = refl
 row_same w.Rows ts = refl
 
-row_stops : (ts : Kinds) → 5 < clauses ts → row_at ts ≡ None
+row_stops : (ts : Kinds) → 7 < clauses ts → row_at ts ≡ None
 unfolding row_at
 row_stops ts lt = rw (clause_no_word k.Row ts (omega arith), clause_stops m.Rows ts lt) refl
 
@@ -241,37 +241,37 @@ count_same (c.Fetch word number row ties) ts =
     let inside : Kinds = fetch_onto word (number_onto number (row_onto row (ties_onto ties ts))) in
     rw (let e : eat m.Limit (m.Fetch ▸ inside) ≡ None = count_same_differs inside in e, eat_same m.Fetch inside, fetch_same word number row ties ts) refl
 
-count_stops : (ts : Kinds) → 5 < clauses ts → count_if ts ≡ None
+count_stops : (ts : Kinds) → 7 < clauses ts → count_if ts ≡ None
 unfolding count_if
 count_stops ts lt = rw (clause_stops m.Limit ts lt, clause_stops m.Fetch ts lt) refl
 
-offset_stops : (ts : Kinds) → 5 < clauses ts → offset_if ts ≡ None
+offset_stops : (ts : Kinds) → 7 < clauses ts → offset_if ts ≡ None
 unfolding offset_if
 offset_stops ts lt = rw (clause_stops m.Offset ts lt) refl
 
-count_option_same : (count : Option Count) (ts : Kinds) → 5 < clauses ts → optional count_if (count_option_onto count ts) ≡ Ok (count, ts)
+count_option_same : (count : Option Count) (ts : Kinds) → 7 < clauses ts → optional count_if (count_option_onto count ts) ≡ Ok (count, ts)
 count_option_same None ts lt = rw (count_stops ts lt) refl
 count_option_same (Some count) ts lt = rw (count_same count ts) refl
 
-offset_option_same : (o : Option Offset) (ts : Kinds) → 5 < clauses ts → optional offset_if (offset_option_onto o ts) ≡ Ok (o, ts)
+offset_option_same : (o : Option Offset) (ts : Kinds) → 7 < clauses ts → optional offset_if (offset_option_onto o ts) ≡ Ok (o, ts)
 offset_option_same None ts lt = rw (offset_stops ts lt) refl
 offset_option_same (Some o) ts lt = rw (offset_same o ts (row_stops ts lt)) refl
 
-row_before_count : (count : Option Count) (ts : Kinds) → 5 < clauses ts → row_at (count_option_onto count ts) ≡ None
+row_before_count : (count : Option Count) (ts : Kinds) → 7 < clauses ts → row_at (count_option_onto count ts) ≡ None
 row_before_count None ts lt = row_stops ts lt
 row_before_count (Some count) ts lt = (count_begins count ts).0
 
-pub limits_same : (limits : Option Limits) (ts : Kinds) → 5 < clauses ts → limits_at (limits_onto limits ts) ≡ Ok (limits, ts)
+pub limits_same : (limits : Option Limits) (ts : Kinds) → 7 < clauses ts → limits_at (limits_onto limits ts) ≡ Ok (limits, ts)
 unfolding limits_at
 limits_same None ts lt = rw (offset_stops ts lt, count_stops ts lt) refl
 limits_same (Some (OffsetFirst o count)) ts lt = rw (offset_same o (count_option_onto count ts) (row_before_count count ts lt), count_option_same count ts lt) refl
 limits_same (Some (CountFirst count o)) ts lt = rw ((count_begins count (offset_option_onto o ts)).1, count_same count (offset_option_onto o ts), offset_option_same o ts lt) refl
 
-count_clause : (count : Count) (ts : Kinds) → clauses (count_onto count ts) ≡ 5
+count_clause : (count : Count) (ts : Kinds) → clauses (count_onto count ts) ≡ 7
 count_clause (c.Limit n) ts = refl
 count_clause (c.Fetch word number row ties) ts = refl
 
-pub limits_clause : (limits : Option Limits) (ts : Kinds) → 4 < clauses ts → 4 < clauses (limits_onto limits ts)
+pub limits_clause : (limits : Option Limits) (ts : Kinds) → 6 < clauses ts → 6 < clauses (limits_onto limits ts)
 limits_clause None ts lt = lt
 limits_clause (Some (OffsetFirst o count)) ts lt = omega arith
 limits_clause (Some (CountFirst count o)) ts lt = omega (arith, count_clause count (offset_option_onto o ts))

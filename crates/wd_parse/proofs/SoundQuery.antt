@@ -5,13 +5,14 @@ use Rattle.wd_read_cursor.specs.declared.name.Name.{Name}
 use Rattle.wd_syntax.specs.declared.query.Quantifier.{Quantifier}
 use Rattle.wd_syntax.specs.declared.query.Limits.{Limits}
 use Rattle.wd_read_cursor.specs.Tokens.{Kinds, ◌▸◌, name_kind}
-use Rattle.wd_syntax.specs.Tree.{Tree, WindowTree, Keys, ItemTree, all_columns, shown, TableTree, named, derived, JoinTree, comma, cross, inner, Joins, SelectTree, select, QueryTree, query, keys_of, joins_of, Each}
-use Rattle.wd_syntax.specs.Spelling.{onto, order_onto, quantifier_onto, given_onto, alias_onto, item_onto, more_items_onto, filter_onto, named_window_onto, more_windows_onto, windows_onto, limits_onto, table_onto, join_onto, joins_onto, select_onto, spell}
+use Rattle.wd_syntax.specs.Tree.{Tree, WindowTree, Keys, ItemTree, all_columns, shown, TableTree, named, derived, JoinTree, comma, cross, inner, Joins, GroupingTree, SelectTree, select, QueryTree, query, keys_of, joins_of, Each}
+use Rattle.wd_syntax.specs.Spelling.{onto, order_onto, quantifier_onto, given_onto, alias_onto, item_onto, more_items_onto, filter_onto, grouping_onto, named_window_onto, more_windows_onto, windows_onto, limits_onto, table_onto, join_onto, joins_onto, select_onto, spell}
 use Rattle.wd_syntax.specs.Levels.{WindowLevelled, KeysLevelled, ItemLevelled, OptionLevelled, TableLevelled, JoinLevelled, JoinsLevelled, SelectLevelled, IsWellLevelled}
 use Rattle.wd_parse.proofs.Fitting.{Below, WindowFits, KeysFit, ItemFits, OptionFits, TableFits, JoinFits, JoinsFit, SelectFits, QueryFits}
 use Rattle.wd_read_cursor.specs.Cursor.{◌>>=◌, Reads, Parser, choose, eat, expect, name_at, many, list_at}
-use Rattle.wd_parse.specs.Reading.{order_at, window_at, enter, levels, deeper_of, read, quantifier_at, given_at, alias_at, star_at, item_if, item_at, filter_at, named_window_at, windows_at, limits_at, Inner, table_at, inner_at, join_at, from_at, select_at, selects, inside_of, if_last, whole}
+use Rattle.wd_parse.specs.Reading.{order_at, window_at, enter, levels, deeper_of, read, quantifier_at, given_at, alias_at, star_at, item_if, item_at, filter_at, grouping_at, named_window_at, windows_at, limits_at, Inner, table_at, inner_at, join_at, from_at, select_at, selects, inside_of, if_last, whole}
 use Rattle.wd_parse.proofs.SoundPieces.{Kept, Holds, MayHold, then_holds, at_terminal, past_terminal, past_name, IsPart, Spelled, all_onto, led_by, IsListed, list_holds, many_hold, quantifier_is, given_is, alias_is, star_is, limits_is, looser_holds}
+use Rattle.wd_parse.proofs.SoundGroups.{GoodGrouping, grouping_holds}
 use Rattle.wd_parse.proofs.Sound.{each_left, each_right, Good, Whole, whole_expression, Within, enter_holds, GoodKeys, keys_row_onto, order_holds, window_closed, GoodWindow, window_holds, sound, within}
 
 pub items_spelled : (xs : List ItemTree) (ts : Kinds) → all_onto (led_by m.Comma item_onto) xs ts ≡ more_items_onto xs ts
@@ -192,14 +193,14 @@ module _ (c : ℕ) where
 
   -- ---- selects
 
-  select_is : (d : ℕ) (ts us rest t1 t2 t3 t4 : Kinds) (quantifier : Option Quantifier) (items : List ItemTree) (first : TableTree) (joins : Joins) (filter : Option Tree) (windows : List (Name × WindowTree)) (order : Keys) (limits : Option Limits) (mid : Kinds)
-      → ts ≡ m.Select ▸ quantifier_onto quantifier us → IsListed m.Comma item_onto (GoodItem d) us items mid → mid ≡ m.From ▸ table_onto first (joins_onto joins t1) → t1 ≡ filter_onto filter t2 → t2 ≡ windows_onto windows t3 → t3 ≡ order_onto order t4 → t4 ≡ limits_onto limits rest
-      → ((TableLevelled first × JoinsLevelled joins) × (TableFits c d first × JoinsFit c d joins)) → GoodFilter d filter → GoodWindows d windows → (KeysLevelled order × KeysFit c d order)
-      → IsPart select_onto (GoodSelect d) ts (select (record { quantifier = quantifier; items = items; tail = record { filter = filter; windows = windows; order = order; limits = limits } }) first joins, rest)
-  select_is d ts us rest t1 t2 t3 t4 quantifier [] first joins filter windows order limits mid e h ef e1 e2 e3 e4 gf gw gs go = absurd h
-  select_is d ts us rest t1 t2 t3 t4 quantifier (a ∷ items) first joins filter windows order limits mid e h ef e1 e2 e3 e4 gf gw gs go = record {
-    parts = e ∙ ap (λ (z : Kinds). m.Select ▸ quantifier_onto quantifier z) (h.0 ∙ ap (item_onto a) (items_spelled items mid ∙ ap (more_items_onto items) (ef ∙ ap (λ (z : Kinds). m.From ▸ table_onto first (joins_onto joins z)) (e1 ∙ ap (filter_onto filter) (e2 ∙ ap (windows_onto windows) (e3 ∙ ap (order_onto order) e4))))));
-    good = ((tt, (h.1.0, each_left ItemLevelled (ItemFits c d) items h.2), gf.0.0, gf.0.1, gw.0, gs.0, go.0), ((h.1.1, each_right ItemLevelled (ItemFits c d) items h.2), gf.1.0, gf.1.1, gw.1, gs.1, go.1));
+  select_is : (d : ℕ) (ts us rest t1 t2 t3 t4 t5 : Kinds) (quantifier : Option Quantifier) (items : List ItemTree) (first : TableTree) (joins : Joins) (filter : Option Tree) (grouping : GroupingTree) (windows : List (Name × WindowTree)) (order : Keys) (limits : Option Limits) (mid : Kinds)
+      → ts ≡ m.Select ▸ quantifier_onto quantifier us → IsListed m.Comma item_onto (GoodItem d) us items mid → mid ≡ m.From ▸ table_onto first (joins_onto joins t1) → t1 ≡ filter_onto filter t2 → t2 ≡ grouping_onto grouping t3 → t3 ≡ windows_onto windows t4 → t4 ≡ order_onto order t5 → t5 ≡ limits_onto limits rest
+      → ((TableLevelled first × JoinsLevelled joins) × (TableFits c d first × JoinsFit c d joins)) → GoodFilter d filter → GoodGrouping c d grouping → GoodWindows d windows → (KeysLevelled order × KeysFit c d order)
+      → IsPart select_onto (GoodSelect d) ts (select (record { quantifier = quantifier; items = items; tail = record { filter = filter; grouping = grouping; windows = windows; order = order; limits = limits } }) first joins, rest)
+  select_is d ts us rest t1 t2 t3 t4 t5 quantifier [] first joins filter grouping windows order limits mid e h ef e1 e2 e3 e4 e5 gf gw gg gs go = absurd h
+  select_is d ts us rest t1 t2 t3 t4 t5 quantifier (a ∷ items) first joins filter grouping windows order limits mid e h ef e1 e2 e3 e4 e5 gf gw gg gs go = record {
+    parts = e ∙ ap (λ (z : Kinds). m.Select ▸ quantifier_onto quantifier z) (h.0 ∙ ap (item_onto a) (items_spelled items mid ∙ ap (more_items_onto items) (ef ∙ ap (λ (z : Kinds). m.From ▸ table_onto first (joins_onto joins z)) (e1 ∙ ap (filter_onto filter) (e2 ∙ ap (grouping_onto grouping) (e3 ∙ ap (windows_onto windows) (e4 ∙ ap (order_onto order) e5)))))));
+    good = ((tt, (h.1.0, each_left ItemLevelled (ItemFits c d) items h.2), gf.0.0, gf.0.1, gw.0, gg.0, gs.0, go.0), ((h.1.1, each_right ItemLevelled (ItemFits c d) items h.2), gf.1.0, gf.1.1, gw.1, gg.1, gs.1, go.1));
   }
 
   select_holds : (d : ℕ) (ts : Kinds) → 1 ≤ c → Inside d → Holds (IsPart select_onto (GoodSelect d) ts) (select_at c d (inside_of c d) ts)
@@ -209,17 +210,18 @@ module _ (c : ℕ) where
       let p : Parser Tree = read c d 8 in
       let op : Whole c d p = whole_expression c d (sound c d one) in
       let inside : Inner = inside_of c d in
-      past_terminal Q m.Select ts (λ r. list_at m.Comma (item_at p) (quantifier_at r).1 >>= λ items. expect m.From items.1 >>= λ q. from_at inside p q >>= λ tables. filter_at p tables.1 >>= λ filter. windows_at (deeper_of c d) filter.1 >>= λ windows. order_at p windows.1 >>= λ order. limits_at order.1 >>= λ limits. Ok (select (record { quantifier = (quantifier_at r).0; items = items.0; tail = record { filter = filter.0; windows = windows.0; order = keys_of order.0; limits = limits.0 } }) tables.0.0 (joins_of tables.0.1), limits.1)) (λ r e.
+      past_terminal Q m.Select ts (λ r. list_at m.Comma (item_at p) (quantifier_at r).1 >>= λ items. expect m.From items.1 >>= λ q. from_at inside p q >>= λ tables. filter_at p tables.1 >>= λ filter. grouping_at d p filter.1 >>= λ grouping. windows_at (deeper_of c d) grouping.1 >>= λ windows. order_at p windows.1 >>= λ order. limits_at order.1 >>= λ limits. Ok (select (record { quantifier = (quantifier_at r).0; items = items.0; tail = record { filter = filter.0; grouping = grouping.0; windows = windows.0; order = keys_of order.0; limits = limits.0 } }) tables.0.0 (joins_of tables.0.1), limits.1)) (λ r e.
       let quantifier : Option Quantifier = (quantifier_at r).0 in
       let us : Kinds = (quantifier_at r).1 in
-      then_holds (λ y. IsListed m.Comma item_onto (GoodItem d) us y.0 y.1) Q (list_at m.Comma (item_at p) us) (λ items. expect m.From items.1 >>= λ q. from_at inside p q >>= λ tables. filter_at p tables.1 >>= λ filter. windows_at (deeper_of c d) filter.1 >>= λ windows. order_at p windows.1 >>= λ order. limits_at order.1 >>= λ limits. Ok (select (record { quantifier = quantifier; items = items.0; tail = record { filter = filter.0; windows = windows.0; order = keys_of order.0; limits = limits.0 } }) tables.0.0 (joins_of tables.0.1), limits.1)) (list_holds m.Comma item_onto (GoodItem d) (item_at p) us (λ vs. item_holds d p vs op)) (λ items h.
-      past_terminal Q m.From items.1 (λ q. from_at inside p q >>= λ tables. filter_at p tables.1 >>= λ filter. windows_at (deeper_of c d) filter.1 >>= λ windows. order_at p windows.1 >>= λ order. limits_at order.1 >>= λ limits. Ok (select (record { quantifier = quantifier; items = items.0; tail = record { filter = filter.0; windows = windows.0; order = keys_of order.0; limits = limits.0 } }) tables.0.0 (joins_of tables.0.1), limits.1)) (λ q f.
-      then_holds (IsPart from_onto (GoodTables d) q) Q (from_at inside p q) (λ tables. filter_at p tables.1 >>= λ filter. windows_at (deeper_of c d) filter.1 >>= λ windows. order_at p windows.1 >>= λ order. limits_at order.1 >>= λ limits. Ok (select (record { quantifier = quantifier; items = items.0; tail = record { filter = filter.0; windows = windows.0; order = keys_of order.0; limits = limits.0 } }) tables.0.0 (joins_of tables.0.1), limits.1)) (from_holds d p q op lower) (λ tables it.
-      then_holds (IsPart filter_onto (GoodFilter d) tables.1) Q (filter_at p tables.1) (λ filter. windows_at (deeper_of c d) filter.1 >>= λ windows. order_at p windows.1 >>= λ order. limits_at order.1 >>= λ limits. Ok (select (record { quantifier = quantifier; items = items.0; tail = record { filter = filter.0; windows = windows.0; order = keys_of order.0; limits = limits.0 } }) tables.0.0 (joins_of tables.0.1), limits.1)) (filter_holds d p tables.1 op) (λ filter iw.
-      then_holds (IsPart windows_onto (GoodWindows d) filter.1) Q (windows_at (deeper_of c d) filter.1) (λ windows. order_at p windows.1 >>= λ order. limits_at order.1 >>= λ limits. Ok (select (record { quantifier = quantifier; items = items.0; tail = record { filter = filter.0; windows = windows.0; order = keys_of order.0; limits = limits.0 } }) tables.0.0 (joins_of tables.0.1), limits.1)) (windows_hold d filter.1 (within c d one)) (λ windows is.
-      then_holds (IsPart (keys_row_onto c) (GoodKeys c d) windows.1) Q (order_at p windows.1) (λ order. limits_at order.1 >>= λ limits. Ok (select (record { quantifier = quantifier; items = items.0; tail = record { filter = filter.0; windows = windows.0; order = keys_of order.0; limits = limits.0 } }) tables.0.0 (joins_of tables.0.1), limits.1)) (order_holds c d p windows.1 op) (λ order io.
-      then_holds (Spelled limits_onto order.1) Q (limits_at order.1) (λ limits. Ok (select (record { quantifier = quantifier; items = items.0; tail = record { filter = filter.0; windows = windows.0; order = keys_of order.0; limits = limits.0 } }) tables.0.0 (joins_of tables.0.1), limits.1)) (limits_is order.1) (λ limits el.
-      select_is d ts us limits.1 tables.1 filter.1 windows.1 order.1 quantifier items.0 tables.0.0 (joins_of tables.0.1) filter.0 windows.0 (keys_of order.0) limits.0 items.1 (e ∙ ap (λ (z : Kinds). m.Select ▸ z) (quantifier_is r)) h (f ∙ ap (λ (z : Kinds). m.From ▸ z) it.parts) iw.parts is.parts io.parts el it.good iw.good is.good io.good))))))))
+      then_holds (λ y. IsListed m.Comma item_onto (GoodItem d) us y.0 y.1) Q (list_at m.Comma (item_at p) us) (λ items. expect m.From items.1 >>= λ q. from_at inside p q >>= λ tables. filter_at p tables.1 >>= λ filter. grouping_at d p filter.1 >>= λ grouping. windows_at (deeper_of c d) grouping.1 >>= λ windows. order_at p windows.1 >>= λ order. limits_at order.1 >>= λ limits. Ok (select (record { quantifier = quantifier; items = items.0; tail = record { filter = filter.0; grouping = grouping.0; windows = windows.0; order = keys_of order.0; limits = limits.0 } }) tables.0.0 (joins_of tables.0.1), limits.1)) (list_holds m.Comma item_onto (GoodItem d) (item_at p) us (λ vs. item_holds d p vs op)) (λ items h.
+      past_terminal Q m.From items.1 (λ q. from_at inside p q >>= λ tables. filter_at p tables.1 >>= λ filter. grouping_at d p filter.1 >>= λ grouping. windows_at (deeper_of c d) grouping.1 >>= λ windows. order_at p windows.1 >>= λ order. limits_at order.1 >>= λ limits. Ok (select (record { quantifier = quantifier; items = items.0; tail = record { filter = filter.0; grouping = grouping.0; windows = windows.0; order = keys_of order.0; limits = limits.0 } }) tables.0.0 (joins_of tables.0.1), limits.1)) (λ q f.
+      then_holds (IsPart from_onto (GoodTables d) q) Q (from_at inside p q) (λ tables. filter_at p tables.1 >>= λ filter. grouping_at d p filter.1 >>= λ grouping. windows_at (deeper_of c d) grouping.1 >>= λ windows. order_at p windows.1 >>= λ order. limits_at order.1 >>= λ limits. Ok (select (record { quantifier = quantifier; items = items.0; tail = record { filter = filter.0; grouping = grouping.0; windows = windows.0; order = keys_of order.0; limits = limits.0 } }) tables.0.0 (joins_of tables.0.1), limits.1)) (from_holds d p q op lower) (λ tables it.
+      then_holds (IsPart filter_onto (GoodFilter d) tables.1) Q (filter_at p tables.1) (λ filter. grouping_at d p filter.1 >>= λ grouping. windows_at (deeper_of c d) grouping.1 >>= λ windows. order_at p windows.1 >>= λ order. limits_at order.1 >>= λ limits. Ok (select (record { quantifier = quantifier; items = items.0; tail = record { filter = filter.0; grouping = grouping.0; windows = windows.0; order = keys_of order.0; limits = limits.0 } }) tables.0.0 (joins_of tables.0.1), limits.1)) (filter_holds d p tables.1 op) (λ filter iw.
+      then_holds (IsPart grouping_onto (GoodGrouping c d) filter.1) Q (grouping_at d p filter.1) (λ grouping. windows_at (deeper_of c d) grouping.1 >>= λ windows. order_at p windows.1 >>= λ order. limits_at order.1 >>= λ limits. Ok (select (record { quantifier = quantifier; items = items.0; tail = record { filter = filter.0; grouping = grouping.0; windows = windows.0; order = keys_of order.0; limits = limits.0 } }) tables.0.0 (joins_of tables.0.1), limits.1)) (grouping_holds c d p filter.1 op) (λ grouping ig.
+      then_holds (IsPart windows_onto (GoodWindows d) grouping.1) Q (windows_at (deeper_of c d) grouping.1) (λ windows. order_at p windows.1 >>= λ order. limits_at order.1 >>= λ limits. Ok (select (record { quantifier = quantifier; items = items.0; tail = record { filter = filter.0; grouping = grouping.0; windows = windows.0; order = keys_of order.0; limits = limits.0 } }) tables.0.0 (joins_of tables.0.1), limits.1)) (windows_hold d grouping.1 (within c d one)) (λ windows is.
+      then_holds (IsPart (keys_row_onto c) (GoodKeys c d) windows.1) Q (order_at p windows.1) (λ order. limits_at order.1 >>= λ limits. Ok (select (record { quantifier = quantifier; items = items.0; tail = record { filter = filter.0; grouping = grouping.0; windows = windows.0; order = keys_of order.0; limits = limits.0 } }) tables.0.0 (joins_of tables.0.1), limits.1)) (order_holds c d p windows.1 op) (λ order io.
+      then_holds (Spelled limits_onto order.1) Q (limits_at order.1) (λ limits. Ok (select (record { quantifier = quantifier; items = items.0; tail = record { filter = filter.0; grouping = grouping.0; windows = windows.0; order = keys_of order.0; limits = limits.0 } }) tables.0.0 (joins_of tables.0.1), limits.1)) (limits_is order.1) (λ limits el.
+      select_is d ts us limits.1 tables.1 filter.1 grouping.1 windows.1 order.1 quantifier items.0 tables.0.0 (joins_of tables.0.1) filter.0 grouping.0 windows.0 (keys_of order.0) limits.0 items.1 (e ∙ ap (λ (z : Kinds). m.Select ▸ z) (quantifier_is r)) h (f ∙ ap (λ (z : Kinds). m.From ▸ z) it.parts) iw.parts ig.parts is.parts io.parts el it.good iw.good ig.good is.good io.good)))))))))
 
   pub selects_hold : (d : ℕ) → 1 ≤ c → Selects d
   unfolding selects

@@ -2,11 +2,11 @@
 use Rattle.std.proofs.Common.{◌≡◌, ℕ, zero, suc, ◌+◌, ◌≤◌, Bool, true, false, cond, eqb, List, [], ◌∷◌, Option, Some, None, Result, Ok, Err, sym, ap, ◌∙◌, arith}
 use Rattle.wd_read_cursor.specs.declared.name.Name.{Name}
 use Rattle.wd_syntax.specs.Tokens.{operator_height}
-use Rattle.wd_syntax.specs.Tree.{Tree, Constant, Column, Qualified, CallAll, Call, Case, Bracket, Signed, Binary, IsNull, Negated, Trees, no_trees, more_trees, Arms, no_arms, more_arms, Otherwise, no_else, or_else, OverTree, no_over, over_name, over_window, WindowTree, window, Keys, no_keys, more_keys, ItemTree, all_columns, all_of, shown, TableTree, named, derived, JoinTree, comma, cross, inner, Joins, no_joins, more_joins, SelectTree, select, QueryTree, query, Each}
+use Rattle.wd_syntax.specs.Tree.{Tree, Constant, Column, Qualified, CallAll, Call, Case, Bracket, Signed, Binary, IsNull, Negated, Trees, no_trees, more_trees, Arms, no_arms, more_arms, Otherwise, no_else, or_else, OverTree, no_over, over_name, over_window, WindowTree, window, Keys, no_keys, more_keys, ItemTree, all_columns, all_of, shown, SetTree, one_column, columns, GroupTree, grouped_by, constructed, GroupingTree, TableTree, named, derived, JoinTree, comma, cross, inner, Joins, no_joins, more_joins, SelectTree, select, QueryTree, query, Each}
 use Rattle.wd_syntax.specs.Spelling.{spell}
 use Rattle.wd_syntax.specs.Levels.{IsWellLevelled}
 use Rattle.wd_syntax.specs.Limits.{operators}
-use Rattle.wd_parse.proofs.Fitting.{Below, Fits, AllFit, ArmsFit, ElseFits, OverFits, WindowFits, KeysFit, ItemFits, OptionFits, TableFits, JoinFits, JoinsFit, SelectFits, QueryFits}
+use Rattle.wd_parse.proofs.Fitting.{Below, Fits, AllFit, ArmsFit, ElseFits, OverFits, WindowFits, KeysFit, ItemFits, OptionFits, SetFits, GroupFits, GroupingFits, TableFits, JoinFits, JoinsFit, SelectFits, QueryFits}
 use Rattle.wd_read_cursor.specs.Cursor.{Fault, Unexpected, Limit}
 use Rattle.wd_parse.specs.Reading.{whole}
 use Rattle.wd_syntax.specs.Laws.{HasOneTree}
@@ -77,6 +77,25 @@ abbrev option_size : Option Tree → ℕ
 option_size None = 0
 option_size (Some a) = size a
 
+abbrev set_size : SetTree → ℕ
+set_size (one_column a) = 0
+set_size (columns cs) = 1
+
+abbrev sets_size : List SetTree → ℕ
+sets_size [] = 0
+sets_size (s ∷ sets) = set_size s + sets_size sets
+
+abbrev group_size : GroupTree → ℕ
+group_size (grouped_by s) = set_size s
+group_size (constructed word sets) = suc (sets_size sets)
+
+abbrev groups_size : List GroupTree → ℕ
+groups_size [] = 0
+groups_size (a ∷ items) = group_size a + groups_size items
+
+abbrev grouping_size : GroupingTree → ℕ
+grouping_size g = groups_size g.items + option_size g.having
+
 abbrev windows_size : List (Name × WindowTree) → ℕ
 windows_size [] = 0
 windows_size (w ∷ windows) = suc (window_size w.1) + windows_size windows
@@ -96,7 +115,7 @@ abbrev mutual
   joins_size (more_joins join joins) = join_size join + joins_size joins
 
   select_size : SelectTree → ℕ
-  select_size (select parts first joins) = items_size parts.items + table_size first + joins_size joins + option_size parts.tail.filter + windows_size parts.tail.windows + keys_size parts.tail.order
+  select_size (select parts first joins) = items_size parts.items + table_size first + joins_size joins + option_size parts.tail.filter + grouping_size parts.tail.grouping + windows_size parts.tail.windows + keys_size parts.tail.order
 
 abbrev query_size : QueryTree → ℕ
 query_size (query s b) = select_size s
@@ -153,6 +172,25 @@ module _ (c : ℕ) where
   option_fits None d le lc = tt
   option_fits (Some a) d le lc = fits a d le lc
 
+  set_fits : (s : SetTree) (d : ℕ) → set_size s ≤ d → SetFits d s
+  set_fits (one_column a) d le = tt
+  set_fits (columns cs) d le = below (λ k. Unit {0}) 0 d le (λ k l. tt)
+
+  sets_fit : (sets : List SetTree) (d : ℕ) → sets_size sets ≤ d → Each (SetFits d) sets
+  sets_fit [] d le = tt
+  sets_fit (s ∷ sets) d le = (set_fits s d (omega arith), sets_fit sets d (omega arith))
+
+  group_fits : (a : GroupTree) (d : ℕ) → group_size a ≤ d → GroupFits d a
+  group_fits (grouped_by s) d le = set_fits s d le
+  group_fits (constructed word sets) d le = below (λ k. Each (SetFits k) sets) (sets_size sets) d le (λ k l. sets_fit sets k l)
+
+  groups_fit : (items : List GroupTree) (d : ℕ) → groups_size items ≤ d → Each (GroupFits d) items
+  groups_fit [] d le = tt
+  groups_fit (a ∷ items) d le = (group_fits a d (omega arith), groups_fit items d (omega arith))
+
+  grouping_fits : (g : GroupingTree) (d : ℕ) → grouping_size g ≤ d → grouping_size g ≤ c → GroupingFits c d g
+  grouping_fits g d le lc = (groups_fit g.items d (omega arith), option_fits g.having d (omega arith) (omega arith))
+
   windows_fit : (windows : List (Name × WindowTree)) (d : ℕ) → windows_size windows ≤ d → windows_size windows ≤ c → Each (λ w. Below d (λ k. WindowFits c k w.1)) windows
   windows_fit [] d le lc = tt
   windows_fit (w ∷ windows) d le lc = (below (λ k. WindowFits c k w.1) (window_size w.1) d (omega arith) (λ k l. window_fits w.1 k l (omega arith)), windows_fit windows d (omega arith) (omega arith))
@@ -172,7 +210,7 @@ module _ (c : ℕ) where
     joins_fit (more_joins join joins) d le lc = (join_fits join d (omega arith) (omega arith), joins_fit joins d (omega arith) (omega arith))
 
     select_fits : (s : SelectTree) (d : ℕ) → select_size s ≤ d → select_size s ≤ c → SelectFits c d s
-    select_fits (select parts first joins) d le lc = (items_fit parts.items d (omega arith) (omega arith), table_fits first d (omega arith) (omega arith), joins_fit joins d (omega arith) (omega arith), option_fits parts.tail.filter d (omega arith) (omega arith), windows_fit parts.tail.windows d (omega arith) (omega arith), keys_fit parts.tail.order d (omega arith) (omega arith))
+    select_fits (select parts first joins) d le lc = (items_fit parts.items d (omega arith) (omega arith), table_fits first d (omega arith) (omega arith), joins_fit joins d (omega arith) (omega arith), option_fits parts.tail.filter d (omega arith) (omega arith), grouping_fits parts.tail.grouping d (omega arith) (omega arith), windows_fit parts.tail.windows d (omega arith) (omega arith), keys_fit parts.tail.order d (omega arith) (omega arith))
 
   query_fits : (q : QueryTree) (d : ℕ) → query_size q ≤ d → query_size q ≤ c → QueryFits c d q
   query_fits (query s b) d le lc = select_fits s d le lc

@@ -1,5 +1,5 @@
 -- Levels, what the code's values show, and what it answers.
-use Rattle.std.specs.Prelude.{◌≡◌, ◌≢◌, ◌<◌, ◌≤◌, ◌-◌, ℕ, List, length, map, Option, Some, None, Result, Ok, Err}
+use Rattle.std.specs.Prelude.{◌≡◌, ◌≢◌, ◌<◌, ◌≤◌, ◌-◌, ℕ, suc, List, length, map, Option, Some, None, Result, Ok, Err}
 use Rattle.std.proofs.Common.{Vec, Global}
 use Rattle.wd_syntax.specs.declared.expression.Expr.{Expr}
 use Rattle.wd_syntax.specs.declared.query.From.{From}
@@ -26,6 +26,13 @@ MakesDeeper (Err (r.PastLimit n)) depth left = (deeper_of most_operators depth �
 -- the heights of chains: neither a primary expression, a sign, a comparison, a test for NULL nor NOT
 abbrev pub IsChainHeight : ℕ → Type 0
 IsChainHeight h = (h ≤ 8) × (1 < h) × (h ≢ 4) × (h ≢ 5) × (h ≢ 6)
+
+-- One level fewer, if one is left.
+abbrev pub IsNested : Result ℕ Refusal → ℕ → ℕ → Type 0
+IsNested (Ok inside) depth left = depth ≡ suc inside
+IsNested (Err r.OutOfMemory) depth left = ⊥
+IsNested (Err (r.Unexpected n)) depth left = ⊥
+IsNested (Err (r.PastLimit n)) depth left = (depth ≡ 0) × (n ≡ left)
 
 -- the arguments of a call, or `*`
 abbrev pub view_arguments : Option (Vec Expr Global) → Option (List Tree)

@@ -24,6 +24,9 @@ use Rattle.wd_syntax.specs.declared.expression.SortDirection.TheVariants.{Ascend
 use Rattle.wd_syntax.specs.declared.expression.NullsPlace.{NullsPlace}
 use Rattle.wd_syntax.specs.declared.expression.NullsPlace.TheVariants as p
 use Rattle.wd_syntax.specs.declared.query.Alias.{Alias}
+use Rattle.wd_syntax.specs.declared.query.GroupColumn.{GroupColumn}
+use Rattle.wd_syntax.specs.declared.query.GroupingWord.{GroupingWord}
+use Rattle.wd_syntax.specs.declared.query.GroupingWord.TheVariants.{Rollup, Cube, Sets}
 use Rattle.wd_syntax.specs.declared.query.Quantifier.{Quantifier}
 use Rattle.wd_syntax.specs.declared.query.Quantifier.TheVariants as q
 use Rattle.wd_syntax.specs.declared.query.RowWord.{RowWord}
@@ -40,7 +43,7 @@ use Rattle.wd_syntax.specs.declared.expression.Height.TheVariants as height
 use Rattle.wd_syntax.specs.Tokens.{operator_height, rank, whole_height}
 use Rattle.wd_read_cursor.specs.Tokens.{Kinds}
 use Rattle.wd_read_cursor.specs.Cursor.{Fault, Unexpected, Limit, ◌>>=◌, Reads, Parser, Chance, choose, eat, some_or_unexpected, expect, eat_word, expect_word, with_rest, eat_name, name_at, number_at, many, list_at, try, optional}
-use Rattle.wd_syntax.specs.Tree.{Tree, Constant, Column, Qualified, CallAll, Call, Case, Bracket, Signed, Binary, IsNull, Negated, Otherwise, no_else, or_else, OverTree, no_over, over_name, over_window, WindowTree, window, ItemTree, all_columns, all_of, shown, TableTree, named, derived, JoinTree, comma, cross, inner, SelectTree, select, QueryTree, query, Key, trees_of, arms_of, keys_of, joins_of}
+use Rattle.wd_syntax.specs.Tree.{Tree, Constant, Column, Qualified, CallAll, Call, Case, Bracket, Signed, Binary, IsNull, Negated, Otherwise, no_else, or_else, OverTree, no_over, over_name, over_window, WindowTree, window, ItemTree, all_columns, all_of, shown, SetTree, one_column, columns, GroupTree, grouped_by, constructed, GroupingTree, TableTree, named, derived, JoinTree, comma, cross, inner, SelectTree, select, QueryTree, query, Key, trees_of, arms_of, keys_of, joins_of}
 
 -- an operator of that height
 abbrev pub operator_of : Terminal → Option Operator
@@ -323,6 +326,66 @@ item_at item ts =
 unfoldable pub filter_at : Parser Tree → Parser (Option Tree)
 filter_at item ts = choose (eat m.Where ts) (λ r. item r >>= λ a. Ok (Some a.0, a.1)) (Ok (None, ts))
 
+-- ---- GROUP BY and HAVING
+
+unfoldable pub group_column_at : Parser GroupColumn
+group_column_at ts = name_at ts >>= λ n. choose (eat m.Dot n.1) (λ r. name_at r >>= λ c. Ok (record { table = Some n.0; name = c.0 }, c.1)) (Ok (record { table = None; name = n.0 }, n.1))
+
+-- one level deeper, if a level is left
+abbrev pub within : {B : Type 0} → ℕ → ℕ → (ℕ → Result B Fault) → Result B Fault
+within left zero f = Err (Limit left)
+within left (suc depth) f = f depth
+
+-- columns, and the closing bracket
+unfoldable pub some_columns_at : Parser (List GroupColumn)
+some_columns_at ts = list_at m.Comma group_column_at ts >>= λ cs. expect m.RightBracket cs.1 >>= λ r. Ok (cs.0, r)
+
+-- the same, and none where there may be none
+unfoldable pub columns_at : Bool → Parser (List GroupColumn)
+columns_at true ts = choose (eat m.RightBracket ts) (λ r. Ok ([], r)) (some_columns_at ts)
+columns_at false ts = some_columns_at ts
+
+-- a column, or columns in brackets; none where there may be none
+unfoldable pub set_at : ℕ → Bool → Parser SetTree
+set_at depth empty ts =
+    choose (eat m.LeftBracket ts) (λ r. within (length ts) depth (λ k. columns_at empty r) >>= λ cs. Ok (columns cs.0, cs.1))
+    (group_column_at ts >>= λ c. Ok (one_column c.0, c.1))
+
+-- only GROUPING SETS takes empty sets
+abbrev pub takes_empty : GroupingWord → Bool
+takes_empty Rollup = false
+takes_empty Cube = false
+takes_empty Sets = true
+
+-- ROLLUP and CUBE before a bracket, and GROUPING SETS; else they are names
+unfoldable pub grouping_word_at : Kinds → Option (GroupingWord × Kinds)
+grouping_word_at ts =
+    choose (eat_word k.Rollup ts) (λ r. choose (eat m.LeftBracket r) (λ q. Some (Rollup, r)) None)
+    (choose (eat_word k.Cube ts) (λ r. choose (eat m.LeftBracket r) (λ q. Some (Cube, r)) None)
+    (choose (eat_word k.Grouping ts) (λ r. choose (eat_word k.Sets r) (λ q. Some (Sets, q)) None) None))
+
+-- after such a word
+unfoldable pub sets_at : ℕ → GroupingWord → Parser GroupTree
+sets_at depth word ts = expect m.LeftBracket ts >>= λ r. within (length ts) depth (λ k. list_at m.Comma (set_at k (takes_empty word)) r >>= λ sets. expect m.RightBracket sets.1 >>= λ q. Ok (constructed word sets.0, q))
+
+abbrev pub group_item_if : ℕ → Option (GroupingWord × Kinds) → Parser GroupTree
+group_item_if depth None ts = set_at depth true ts >>= λ s. Ok (grouped_by s.0, s.1)
+group_item_if depth (Some x) ts = sets_at depth x.0 x.1
+
+unfoldable pub group_item_at : ℕ → Parser GroupTree
+group_item_at depth ts = group_item_if depth (grouping_word_at ts) ts
+
+unfoldable pub group_at : ℕ → Parser (List GroupTree)
+group_at depth ts = choose (eat m.Group ts) (λ r. expect m.By r >>= λ q. list_at m.Comma (group_item_at depth) q) (Ok ([], ts))
+
+unfoldable pub having_at : Parser Tree → Parser (Option Tree)
+having_at item ts = choose (eat m.Having ts) (λ r. item r >>= λ a. Ok (Some a.0, a.1)) (Ok (None, ts))
+
+unfoldable pub grouping_at : ℕ → Parser Tree → Parser GroupingTree
+grouping_at depth item ts = group_at depth ts >>= λ items. having_at item items.1 >>= λ having. Ok (record { items = items.0; having = having.0 }, having.1)
+
+-- ---- WINDOW
+
 unfoldable pub named_window_at : Deeper → Parser (Name × WindowTree)
 named_window_at deeper ts = name_at ts >>= λ n. expect m.As n.1 >>= λ r. expect m.LeftBracket r >>= λ q. enter (length r) deeper (λ p. window_at (p whole_height) q) >>= λ w. Ok ((n.0, w.0), w.1)
 
@@ -401,9 +464,9 @@ unfoldable pub select_at : ℕ → ℕ → Inner → Parser SelectTree
 select_at limit depth inside ts =
     expect m.Select ts >>= λ r. list_at m.Comma (item_at (read limit depth whole_height)) (quantifier_at r).1 >>= λ items.
     expect m.From items.1 >>= λ q. from_at inside (read limit depth whole_height) q >>= λ tables.
-    filter_at (read limit depth whole_height) tables.1 >>= λ filter. windows_at (deeper_of limit depth) filter.1 >>= λ windows.
+    filter_at (read limit depth whole_height) tables.1 >>= λ filter. grouping_at depth (read limit depth whole_height) filter.1 >>= λ grouping. windows_at (deeper_of limit depth) grouping.1 >>= λ windows.
     order_at (read limit depth whole_height) windows.1 >>= λ order. limits_at order.1 >>= λ limits.
-    Ok (select (record { quantifier = (quantifier_at r).0; items = items.0; tail = record { filter = filter.0; windows = windows.0; order = keys_of order.0; limits = limits.0 } }) tables.0.0 (joins_of tables.0.1), limits.1)
+    Ok (select (record { quantifier = (quantifier_at r).0; items = items.0; tail = record { filter = filter.0; grouping = grouping.0; windows = windows.0; order = keys_of order.0; limits = limits.0 } }) tables.0.0 (joins_of tables.0.1), limits.1)
 
 -- a select with so many levels left
 unfoldable pub selects : ℕ → ℕ → Parser SelectTree

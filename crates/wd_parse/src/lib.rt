@@ -4,6 +4,7 @@
 mod error;
 mod expr;
 mod frame;
+mod group;
 pub mod laws;
 mod limits;
 mod operator;
@@ -13,7 +14,8 @@ mod query;
 pub use error::ParseError;
 pub use parser::parse;
 pub use wd_syntax::{
-    Alias, Arm, Bound, Count, Exclusion, Expr, Extent, FetchWord, Frame, FrameMode, From, Item,
-    Joined, Limits, Link, Literal, Name, NamedWindow, NullsPlace, Offset, Operator, Over,
-    Quantifier, Query, RowWord, Select, Sign, SortDirection, SortKey, Table, Window,
+    Alias, Arm, Bound, Count, Exclusion, Expr, Extent, FetchWord, Frame, FrameMode, From,
+    GroupColumn, GroupItem, Grouping, GroupingSet, GroupingWord, Item, Joined, Limits, Link,
+    Literal, Name, NamedWindow, NullsPlace, Offset, Operator, Over, Quantifier, Query, RowWord,
+    Select, Sign, SortDirection, SortKey, Table, Window,
 };

@@ -13,6 +13,7 @@ ghost use Rattle.wd_parse.specs.Given.{view_from};
 
 use crate::expr;
 use crate::expr::deeper;
+use crate::group::grouping;
 use crate::limits::limits_at;
 use std::alloc::Global;
 use wd_lex::{Terminal, Token};
@@ -327,6 +328,7 @@ fn select(alloc: Global, depth: u8, tokens: &[Token]) -> Result<(Box<Select>, &[
     let rest = expect(rest, Terminal::From)?;
     let (from, rest) = from(alloc, depth, rest)?;
     let (filter, rest) = filter(alloc, depth, rest)?;
+    let (grouping, rest) = grouping(alloc, depth, rest)?;
     let (windows, rest) = windows(alloc, depth, rest)?;
     let (order, rest) = expr::order(alloc, depth, rest)?;
     let (limits, rest) = limits_at(rest)?;
@@ -335,6 +337,7 @@ fn select(alloc: Global, depth: u8, tokens: &[Token]) -> Result<(Box<Select>, &[
         items,
         from,
         filter,
+        grouping,
         windows,
         order,
         limits,

@@ -18,10 +18,12 @@ x ▸ ts = t.Terminal x ∷ ts
 -- how a word that is a key word in its place is spelled
 abbrev pub letters : KeyWord → List ℕ
 letters k.Between = codes "between"
+letters k.Cube = codes "cube"
 letters k.Current = codes "current"
 letters k.Exclude = codes "exclude"
 letters k.First = codes "first"
 letters k.Following = codes "following"
+letters k.Grouping = codes "grouping"
 letters k.Key = codes "key"
 letters k.Last = codes "last"
 letters k.Next = codes "next"
@@ -30,7 +32,9 @@ letters k.Nulls = codes "nulls"
 letters k.Only = codes "only"
 letters k.Others = codes "others"
 letters k.Preceding = codes "preceding"
+letters k.Rollup = codes "rollup"
 letters k.Row = codes "row"
+letters k.Sets = codes "sets"
 letters k.Ties = codes "ties"
 letters k.Unbounded = codes "unbounded"
 

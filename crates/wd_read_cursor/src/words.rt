@@ -7,10 +7,12 @@ ghost use Rattle.wd_read_cursor.specs.Tokens.{letters};
 #[derive(Clone, Copy, PartialEq, Eq)]
 pub enum KeyWord {
     Between,
+    Cube,
     Current,
     Exclude,
     First,
     Following,
+    Grouping,
     Key,
     Last,
     Next,
@@ -19,7 +21,9 @@ pub enum KeyWord {
     Only,
     Others,
     Preceding,
+    Rollup,
     Row,
+    Sets,
     Ties,
     Unbounded,
 }
@@ -30,10 +34,12 @@ impl KeyWord {
     {
         match self {
             KeyWord::Between => "between",
+            KeyWord::Cube => "cube",
             KeyWord::Current => "current",
             KeyWord::Exclude => "exclude",
             KeyWord::First => "first",
             KeyWord::Following => "following",
+            KeyWord::Grouping => "grouping",
             KeyWord::Key => "key",
             KeyWord::Last => "last",
             KeyWord::Next => "next",
@@ -42,7 +48,9 @@ impl KeyWord {
             KeyWord::Only => "only",
             KeyWord::Others => "others",
             KeyWord::Preceding => "preceding",
+            KeyWord::Rollup => "rollup",
             KeyWord::Row => "row",
+            KeyWord::Sets => "sets",
             KeyWord::Ties => "ties",
             KeyWord::Unbounded => "unbounded",
         }

@@ -1,5 +1,5 @@
 -- The plans of queries fit their schemas: FROM, and the induction over derived tables.
-use Rattle.std.proofs.Common.{◌≡◌, ◌∙◌, sym, ap, refl, subst, ℕ, ◌^◌, ◌+◌, ◌≤◌, Bool, true, false, cond, List, [], ◌∷◌, ◌++◌, map, length, nat_lt, Option, Some, None, option_map, slice_get, Ok, Err, arith, eq-eqb}
+use Rattle.std.proofs.Common.{◌≡◌, ◌∙◌, sym, ap, refl, subst, ℕ, ◌≤◌, Bool, true, false, cond, List, [], ◌∷◌, ◌++◌, map, length, Option, Some, None, option_map, slice_get, Ok, Err, arith, eq-eqb}
 use Rattle.std.specs.List.{list_any}
 use Rattle.std.proofs.lemmas.Bool.{ltb-false, le-leb, or_parts}
 use Rattle.std.proofs.lemmas.List.{append_assoc, length-append, length-map, map-append}
@@ -11,7 +11,7 @@ use Rattle.wd_plan.specs.Expressions.{Expression}
 use Rattle.wd_plan.specs.Fits.{fits, has_table, kind_of_type, kinds_of, may_join, table_kind}
 use Rattle.wd_plan.specs.Plans.{Scan, Join}
 use Rattle.wd_syntax.specs.Tree.{Tree, TableTree, named, derived, JoinTree, comma, cross, inner, Joins, no_joins, more_joins, SelectTree, select, QueryTree, query}
-use Rattle.wd_resolve_operand.specs.declared.cause.Cause.TheVariants.{UnknownTable, Ambiguous, TooMany}
+use Rattle.wd_resolve_operand.specs.declared.cause.Cause.TheVariants.{Ambiguous, TooMany}
 use Rattle.wd_resolve_operand.specs.Causes.{◌>>=◌}
 use Rattle.wd_resolve_scope.specs.declared.scope.ScopeColumn.{ScopeColumn}
 use Rattle.wd_resolve_scope.specs.Resolving.{condition}

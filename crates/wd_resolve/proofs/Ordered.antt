@@ -1,5 +1,5 @@
 -- The plan of a query whose outermost select has ORDER BY ends in a Limit.
-use Rattle.std.proofs.Common.{◌≡◌, refl, subst, ◌+◌, Bool, true, false, cond, List, [], ◌∷◌, ◌++◌, length, map, nat_eq, Option, Some, None, Ok, Err, arith, inl, inr}
+use Rattle.std.proofs.Common.{◌≡◌, refl, subst, ◌+◌, Bool, true, false, cond, List, [], ◌∷◌, ◌++◌, length, map, nat_eq, Option, Some, None, option_map, Ok, Err, arith, inl, inr}
 use Rattle.std.proofs.lemmas.Bool.{false≢true, lt-ltb}
 use Rattle.std.proofs.lemmas.List.{length_push}
 use Rattle.wd_value.specs.declared.order.SortKey.{SortKey}
@@ -18,9 +18,10 @@ use Rattle.wd_resolve_scope.specs.Scopes.{ScopeRule}
 use Rattle.wd_resolve_scope.specs.Windows.{KnownMeaning, sort_key}
 use Rattle.wd_resolve_scope.specs.declared.context.Place.TheVariants as place
 use Rattle.wd_resolve_scope.proofs.Typing.{bound, ok_is}
-use Rattle.wd_resolve_select.specs.Listing.{are_wide}
-use Rattle.wd_resolve_select.specs.Outputs.{OutputMeaning, list_meant}
-use Rattle.wd_resolve_select.specs.Sorting.{Cut, KeyPlace, Shown, Sorted, all_shown, cut_meant, hidden, key_place, key_sorted, keys_sorted, narrow_keys, output, unsorted, with_column, with_key}
+use Rattle.wd_resolve_select.specs.Grouping.{below_meant, grouped_meant, grouped_rule}
+use Rattle.wd_resolve_select.specs.Listing.{Below, GroupedBy, are_wide}
+use Rattle.wd_resolve_select.specs.Outputs.{OutputMeaning, list_meant, expressions_of}
+use Rattle.wd_resolve_select.specs.Sorting.{Cut, KeyPlace, Shown, Sorted, cut_meant, hidden, key_place, key_sorted, keys_sorted, narrow_keys, output, unsorted, with_column, with_key}
 use Rattle.wd_resolve_select.specs.Steps.{Lowered, columns_from, deduplicated, filtered, limited, lowered_shown, mapped}
 use Rattle.wd_resolve.specs.Selected.{JoinedTables, first_admitted, together}
 use Rattle.wd_resolve.specs.Lowering.{behind_from, is_distinct, is_sorted, joins_meant, lowered, lowering, selected, shown_by, shown_sorted, table_meant}
@@ -42,7 +43,7 @@ column_more s f key so_far r g = by s.distinct g
 
     by : (b : Bool) → cond b (Err ForeignSortKey) (narrow_keys s (with_column s f key so_far)) ≡ Ok r → HasSome r.items
     by true g = cc
-    by false g = wide (are_wide (all_shown s (with_column s f key so_far))) g
+    by false g = wide (are_wide s.below (expressions_of s.outputs) (with_column s f key so_far).hidden) g
 
 key_more : (s : Shown) (p : KeyPlace) (key : SortKey) (so_far r : Sorted) → with_key s p key so_far ≡ Ok r → HasSome r.items
 key_more s (output n) key so_far r e = subst (λ (z : Sorted). HasSome z.items) (ok_is _ _ e) (one_more so_far.items (record { column = n; key = key }))
@@ -75,23 +76,26 @@ shown_ends : (s : Shown) (order : Keys) (limits : Option Limits) (plan : PlanTre
 shown_ends s order limits plan l o e =
     let sorted = bound (keys_sorted s order unsorted) (λ x. cut_meant (is_sorted order) limits >>= λ cut. Ok (lowered_shown s x cut plan)) l e in
     let cut = bound (cut_meant (is_sorted order) limits) (λ x. Ok (lowered_shown s sorted.0 x plan)) l sorted.2 in
-    let below = deduplicated s.distinct (mapped (all_shown s sorted.0) plan) in
+    let below = deduplicated s.distinct (mapped s.below (expressions_of s.outputs) sorted.0.hidden plan) in
     subst (λ (x : Lowered). EndsInLimit x.plan) (ok_is _ _ cut.2)
     (hidden_ends (nat_eq (length sorted.0.hidden) 0) (columns_from 0 (length s.outputs)) (limited sorted.0.items cut.0 below) (limited_ends sorted.0.items cut.0 below ((keys_more s order unsorted sorted.0 sorted.1).1 o)))
 
 -- ---- selects
 
-selected_ends : (scope : ScopeRule) (plan : PlanTree) (windows : List KnownMeaning) (parts : Parts) (l : Lowered) → is_sorted parts.tail.order ≡ true → selected scope plan windows parts ≡ Ok l → EndsInLimit l.plan
-selected_ends scope plan windows parts l o e =
-    let shown = λ (outputs : List OutputMeaning). shown_by scope (is_distinct parts.quantifier) outputs in
-    let list = bound (list_meant (record { scope = scope; windows = windows; place = place.SelectList }) parts.items) (λ (x : List OutputMeaning). shown_sorted (shown x) parts.tail.order parts.tail.limits plan) l e in
+selected_ends : (scope : ScopeRule) (below : Below) (plan : PlanTree) (windows : List KnownMeaning) (parts : Parts) (l : Lowered) → is_sorted parts.tail.order ≡ true → selected scope below plan windows parts ≡ Ok l → EndsInLimit l.plan
+selected_ends scope below plan windows parts l o e =
+    let shown = λ (outputs : List OutputMeaning). shown_by scope below (is_distinct parts.quantifier) outputs in
+    let list = bound (list_meant below (record { scope = scope; groups = option_map grouped_rule below.grouped; windows = windows; place = place.SelectList }) parts.items) (λ (x : List OutputMeaning). shown_sorted (shown x) parts.tail.order parts.tail.limits plan) l e in
     shown_ends (shown list.0) parts.tail.order parts.tail.limits plan l o list.2
 
 behind_ends : (from : JoinedTables) (parts : Parts) (l : Lowered) → is_sorted parts.tail.order ≡ true → behind_from from parts ≡ Ok l → EndsInLimit l.plan
 behind_ends from parts l o e =
-    let p = bound (filtered from.scope parts.tail.filter from.plan) (λ plan. all_defined from.scope [] parts.tail.windows >>= λ known. selected from.scope plan known parts) l e in
-    let k = bound (all_defined from.scope [] parts.tail.windows) (λ known. selected from.scope p.0 known parts) l p.2 in
-    selected_ends from.scope p.0 k.0 parts l o k.2
+    let rest = λ (plan : PlanTree) (grouped : Option GroupedBy) (below : Below). all_defined from.scope (option_map grouped_rule grouped) [] parts.tail.windows >>= λ known. selected from.scope below plan known parts in
+    let p = bound (filtered from.scope parts.tail.filter from.plan) (λ plan. grouped_meant from.scope parts >>= λ grouped. below_meant from.scope grouped parts.tail.grouping.having >>= λ below. rest plan grouped below) l e in
+    let g = bound (grouped_meant from.scope parts) (λ grouped. below_meant from.scope grouped parts.tail.grouping.having >>= λ below. rest p.0 grouped below) l p.2 in
+    let b = bound (below_meant from.scope g.0 parts.tail.grouping.having) (λ below. rest p.0 g.0 below) l g.2 in
+    let k = bound (all_defined from.scope (option_map grouped_rule g.0) [] parts.tail.windows) (λ known. selected from.scope b.0 p.0 known parts) l b.2 in
+    selected_ends from.scope b.0 p.0 k.0 parts l o k.2
 
 select_ends : (tables : List TableRule) (s : SelectTree) (l : Lowered) → has_order s ≡ true → lowered tables s ≡ Ok l → EndsInLimit l.plan
 select_ends tables (select parts first joins) l o e =

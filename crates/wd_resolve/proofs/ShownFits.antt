@@ -1,40 +1,40 @@
 -- The plan of what a select shows, sorts by and cuts fits, and gives the columns that it says.
-use Rattle.std.proofs.Common.{◌≡◌, ◌∙◌, sym, ap, refl, subst, ℕ, ◌+◌, ◌-◌, Bool, true, false, cond, not, ◌||◌, List, [], ◌∷◌, ◌++◌, map, length, nat_lt, nat_eq, Option, Some, None, Ok, arith, add-zero}
-use Rattle.std.specs.List.{AllByRecursion}
-use Rattle.std.proofs.lemmas.Bool.{eqb-true, ltb-false, or_parts, or_right}
+use Rattle.std.proofs.Common.{◌≡◌, ◌∙◌, sym, ap, refl, subst, ℕ, ◌+◌, Bool, true, false, cond, not, ◌||◌, List, [], ◌∷◌, ◌++◌, map, length, nat_lt, nat_eq, Option, Some, None, option_map, Ok, arith}
+use Rattle.std.proofs.lemmas.Bool.{eqb-true, or_right}
 use Rattle.std.proofs.lemmas.List.{append-nil, length-append, length-map, nil_from_length}
 use Rattle.wd_schema.specs.Tables.{TableRule}
 use Rattle.wd_plan.specs.declared.expression.ValueKind.{ValueKind}
 use Rattle.wd_plan.specs.declared.expression.ValueKind.TheVariants.{Truth}
 use Rattle.wd_value.specs.declared.order.SortColumn.{SortColumn}
 use Rattle.wd_plan.specs.Plans.{PlanTree, Filter, Map}
-use Rattle.wd_read_cursor.specs.declared.name.Name.{Name}
 use Rattle.wd_syntax.specs.declared.query.Count.{Count}
 use Rattle.wd_syntax.specs.declared.query.Count.TheVariants as written
 use Rattle.wd_syntax.specs.declared.query.Limits.{Limits}
 use Rattle.wd_syntax.specs.declared.query.Limits.TheVariants.{OffsetFirst, CountFirst}
-use Rattle.wd_syntax.specs.declared.query.Quantifier.{Quantifier}
-use Rattle.wd_syntax.specs.Tree.{Tree, ItemTree, Keys, Parts}
+use Rattle.wd_syntax.specs.Tree.{Tree, Keys, Parts}
 use Rattle.wd_resolve_operand.specs.Causes.{◌>>=◌}
 use Rattle.wd_resolve_operand.specs.Operands.{number}
 use Rattle.wd_resolve_scope.specs.Resolving.{ContextRule, all_defined, condition}
 use Rattle.wd_resolve_scope.specs.Scopes.{ScopeRule}
 use Rattle.wd_resolve_scope.specs.Windows.{KnownMeaning}
-use Rattle.wd_resolve_scope.specs.Typed.{AreKnown, kinds_in}
+use Rattle.wd_resolve_scope.specs.Grouped.{GroupedRule}
+use Rattle.wd_resolve_scope.specs.Typed.{AreKnown, readable}
 use Rattle.wd_resolve_scope.proofs.Typing.{bound, ok_is}
 use Rattle.wd_resolve_scope.specs.declared.context.Place.TheVariants as place
 use Rattle.wd_resolve_scope.proofs.TypedPlain.{all_defined_is, condition_is}
 use Rattle.wd_resolve.specs.Selected.{JoinedTables}
-use Rattle.wd_resolve_select.specs.Listing.{are_wide}
+use Rattle.wd_resolve_select.specs.Grouping.{below_meant, grouped_meant, grouped_rule}
+use Rattle.wd_resolve_select.specs.Listing.{Below, GroupedBy}
 use Rattle.wd_resolve_select.specs.Outputs.{OutputMeaning, expressions_of, list_meant}
-use Rattle.wd_resolve_select.specs.Sorting.{Cut, Shown, Sorted, all_shown, count_meant, cut_meant, fetched, keys_sorted, offset_meant, tied, unsorted}
+use Rattle.wd_resolve_select.specs.Sorting.{Cut, Shown, Sorted, count_meant, cut_meant, fetched, keys_sorted, offset_meant, tied, unsorted}
 use Rattle.wd_resolve_select.specs.Steps.{Lowered, columns_from, column_shown, deduplicated, filtered, limited, lowered_shown, mapped, without_hidden}
 use Rattle.wd_resolve.specs.Lowering.{behind_from, is_distinct, is_sorted, selected, shown_by, shown_sorted}
 use Rattle.wd_resolve_select.proofs.PlanKinds.{AreWithin, HasKinds, distinct_is, filter_is, first_columns_is, limit_is, output_kinds, over_plan, scope_kinds}
-use Rattle.wd_resolve_select.proofs.SeatedFormulas.{formulas_append, formulas_many}
-use Rattle.wd_resolve_select.proofs.Windowed.{mapped_is}
+use Rattle.wd_resolve_select.proofs.SeatedFormulas.{AreFormulas, formulas_append, formulas_many}
+use Rattle.wd_resolve_select.proofs.GroupedColumns.{AreGrouped, grouped_meant_is}
+use Rattle.wd_resolve_select.proofs.StepsFit.{IsBelow, IsCondition, below_is, mapped_is, read_above}
 use Rattle.wd_resolve_select.proofs.ListedOutputs.{AreOutputs, IsListed, kinds_shown, list_is, outputs_formulas}
-use Rattle.wd_resolve.proofs.SortedShown.{HasSome, IsSorted, keys_sorted_is}
+use Rattle.wd_resolve.proofs.SortedShown.{HasSome, IsSorted, keys_sorted_is, read}
 
 -- ---- DISTINCT, limits and hidden sort keys
 
@@ -104,47 +104,49 @@ columns_shown_are : (outputs : List OutputMeaning) → kinds_shown outputs ≡ o
 columns_shown_are [] = refl
 columns_shown_are (o ∷ outputs) = ap (λ ks. o.kind ∷ ks) (columns_shown_are outputs)
 
-lowered_shown_is : (tables : List TableRule) (plan : PlanTree) (s : Shown) (sorted : Sorted) (order : Bool) (cut : Option Cut) → HasKinds tables plan (scope_kinds s.scope) → AreOutputs s.scope s.outputs
+-- what is shown stands over what is meant to stand below its windows
+pub record IsShownOver (s : Shown) : Type 0 where
+  pub groups : s.groups ≡ option_map grouped_rule s.below.grouped
+  pub grouped : AreGrouped s.scope s.below.grouped
+  pub condition : IsCondition (read_above s.scope s.below) s.below.having
+
+lowered_shown_is : (tables : List TableRule) (plan : PlanTree) (s : Shown) (sorted : Sorted) (order : Bool) (cut : Option Cut) → HasKinds tables plan (scope_kinds s.scope) → IsShownOver s → AreOutputs (read s) s.outputs
     → IsSorted s sorted → IsCut order cut → (order ≡ true → HasSome sorted.items) → IsLowered tables (lowered_shown s sorted cut plan)
-lowered_shown_is tables plan s sorted order cut h outputs is cuts some =
+lowered_shown_is tables plan s sorted order cut h over outputs is cuts some =
     let ks = kinds_shown s.outputs in
     let hs = is.kinds in
-    let formulas = all_shown s sorted in
-    let are = formulas_append s.scope (expressions_of s.outputs) sorted.hidden ks hs (outputs_formulas s.scope s.outputs outputs) is.hidden_are in
+    let shown = expressions_of s.outputs in
+    let mapping = mapped s.below shown sorted.hidden plan in
+    let are = formulas_append (read s) shown sorted.hidden ks hs (outputs_formulas (read s) s.outputs outputs) is.hidden_are in
     let kinds_long : length ks ≡ length s.outputs = length-map s.outputs (λ (o : OutputMeaning). o.kind) in
-    let hidden_long = formulas_many s.scope sorted.hidden hs is.hidden_are in
+    let hidden_long = formulas_many (read s) sorted.hidden hs is.hidden_are in
     let all_long = length-append ks hs in
     let whole : length s.outputs + length sorted.hidden ≡ length (ks ++ hs) = omega arith in
-    let map_step = mapped_is tables plan s.scope formulas (ks ++ hs) h are is.narrow in
-    let distinct_step = deduplicated_is tables s.distinct (mapped formulas plan) (ks ++ hs) map_step in
-    let limit_step = limited_is tables order sorted.items cut (deduplicated s.distinct (mapped formulas plan)) (ks ++ hs) distinct_step (subst (λ n. AreWithin n sorted.items) whole is.items_are) cuts some in
+    let map_step = mapped_is tables plan s.scope h shown sorted.hidden (ks ++ hs) s.below over.grouped over.condition (subst (λ (g : Option GroupedRule). AreFormulas (readable s.scope g) (shown ++ sorted.hidden) (ks ++ hs)) over.groups are) is.narrow in
+    let distinct_step = deduplicated_is tables s.distinct mapping (ks ++ hs) map_step in
+    let limit_step = limited_is tables order sorted.items cut (deduplicated s.distinct mapping) (ks ++ hs) distinct_step (subst (λ n. AreWithin n sorted.items) whole is.items_are) cuts some in
     subst (HasKinds tables (lowered_shown s sorted cut plan).plan) (columns_shown_are s.outputs)
-    (without_hidden_is tables (length s.outputs) (length sorted.hidden) (limited sorted.items cut (deduplicated s.distinct (mapped formulas plan))) ks hs limit_step (sym kinds_long) hidden_long)
+    (without_hidden_is tables (length s.outputs) (length sorted.hidden) (limited sorted.items cut (deduplicated s.distinct mapping)) ks hs limit_step (sym kinds_long) hidden_long)
 
 -- no sort keys yet
-unsorted_is : (s : Shown) → IsListed s.scope s.outputs → IsSorted s unsorted
-unsorted_is s h = record {
-  items_are = tt;
-  kinds = [];
-  hidden_are = tt;
-  narrow = subst (λ fs. are_wide fs ≡ false) (sym (append-nil (expressions_of s.outputs))) h.narrow;
-}
+unsorted_is : (s : Shown) → IsListed s.below (read s) s.outputs → IsSorted s unsorted
+unsorted_is s h = record { items_are = tt; kinds = []; hidden_are = tt; narrow = h.narrow }
 
-shown_sorted_is : (tables : List TableRule) (plan : PlanTree) (s : Shown) (order : Keys) (limits : Option Limits) (l : Lowered) → HasKinds tables plan (scope_kinds s.scope) → IsListed s.scope s.outputs
+shown_sorted_is : (tables : List TableRule) (plan : PlanTree) (s : Shown) (order : Keys) (limits : Option Limits) (l : Lowered) → HasKinds tables plan (scope_kinds s.scope) → IsShownOver s → IsListed s.below (read s) s.outputs
     → shown_sorted s order limits plan ≡ Ok l → IsLowered tables l
-shown_sorted_is tables plan s order limits l h is e =
+shown_sorted_is tables plan s order limits l h over is e =
     let sorted = bound (keys_sorted s order unsorted) (λ x. cut_meant (is_sorted order) limits >>= λ cut. Ok (lowered_shown s x cut plan)) l e in
     let cut = bound (cut_meant (is_sorted order) limits) (λ x. Ok (lowered_shown s sorted.0 x plan)) l sorted.2 in
     let keys = keys_sorted_is s order unsorted sorted.0 (unsorted_is s is) sorted.1 in
-    subst (IsLowered tables) (ok_is _ _ cut.2) (lowered_shown_is tables plan s sorted.0 (is_sorted order) cut.0 h is.outputs_are keys.0 (cut_is (is_sorted order) limits cut.0 cut.1) keys.2)
+    subst (IsLowered tables) (ok_is _ _ cut.2) (lowered_shown_is tables plan s sorted.0 (is_sorted order) cut.0 h over is.outputs_are keys.0 (cut_is (is_sorted order) limits cut.0 cut.1) keys.2)
 
-selected_is : (tables : List TableRule) (scope : ScopeRule) (plan : PlanTree) (windows : List KnownMeaning) (parts : Parts) (l : Lowered) → HasKinds tables plan (scope_kinds scope) → AreKnown (kinds_in scope) windows
-    → selected scope plan windows parts ≡ Ok l → IsLowered tables l
-selected_is tables scope plan windows parts l h known e =
-    let c : ContextRule = record { scope = scope; windows = windows; place = place.SelectList } in
-    let shown = λ (outputs : List OutputMeaning). shown_by scope (is_distinct parts.quantifier) outputs in
-    let list = bound (list_meant c parts.items) (λ (x : List OutputMeaning). shown_sorted (shown x) parts.tail.order parts.tail.limits plan) l e in
-    shown_sorted_is tables plan (shown list.0) parts.tail.order parts.tail.limits l h (list_is c parts.items list.0 known list.1) list.2
+selected_is : (tables : List TableRule) (scope : ScopeRule) (below : Below) (plan : PlanTree) (windows : List KnownMeaning) (parts : Parts) (l : Lowered) → HasKinds tables plan (scope_kinds scope)
+    → AreGrouped scope below.grouped → IsBelow scope below → AreKnown (read_above scope below) windows → selected scope below plan windows parts ≡ Ok l → IsLowered tables l
+selected_is tables scope below plan windows parts l h grouped is known e =
+    let c : ContextRule = record { scope = scope; groups = option_map grouped_rule below.grouped; windows = windows; place = place.SelectList } in
+    let shown = λ (outputs : List OutputMeaning). shown_by scope below (is_distinct parts.quantifier) outputs in
+    let list = bound (list_meant below c parts.items) (λ (x : List OutputMeaning). shown_sorted (shown x) parts.tail.order parts.tail.limits plan) l e in
+    shown_sorted_is tables plan (shown list.0) parts.tail.order parts.tail.limits l h (record { groups = refl; grouped = grouped; condition = is.condition }) (list_is below c parts.items list.0 known is.narrow list.1) list.2
 
 filtered_is : (tables : List TableRule) (scope : ScopeRule) (filter : Option Tree) (plan next : PlanTree) → HasKinds tables plan (scope_kinds scope) → filtered scope filter plan ≡ Ok next → HasKinds tables next (scope_kinds scope)
 filtered_is tables scope None plan next h e = subst (λ p. HasKinds tables p (scope_kinds scope)) (ok_is _ _ e) h
@@ -155,6 +157,13 @@ filtered_is tables scope (Some a) plan next h e =
 pub behind_from_is : (tables : List TableRule) (from : JoinedTables) (parts : Parts) (l : Lowered) → HasKinds tables from.plan (scope_kinds from.scope)
     → behind_from from parts ≡ Ok l → IsLowered tables l
 behind_from_is tables from parts l h e =
-    let p = bound (filtered from.scope parts.tail.filter from.plan) (λ plan. all_defined from.scope [] parts.tail.windows >>= λ known. selected from.scope plan known parts) l e in
-    let k = bound (all_defined from.scope [] parts.tail.windows) (λ known. selected from.scope p.0 known parts) l p.2 in
-    selected_is tables from.scope p.0 k.0 parts l (filtered_is tables from.scope parts.tail.filter from.plan p.0 h p.1) (all_defined_is from.scope [] parts.tail.windows k.0 tt k.1) k.2
+    let rest = λ (plan : PlanTree) (grouped : Option GroupedBy) (below : Below). all_defined from.scope (option_map grouped_rule grouped) [] parts.tail.windows >>= λ known. selected from.scope below plan known parts in
+    let p = bound (filtered from.scope parts.tail.filter from.plan) (λ plan. grouped_meant from.scope parts >>= λ grouped. below_meant from.scope grouped parts.tail.grouping.having >>= λ below. rest plan grouped below) l e in
+    let g = bound (grouped_meant from.scope parts) (λ grouped. below_meant from.scope grouped parts.tail.grouping.having >>= λ below. rest p.0 grouped below) l p.2 in
+    let b = bound (below_meant from.scope g.0 parts.tail.grouping.having) (λ below. rest p.0 g.0 below) l g.2 in
+    let k = bound (all_defined from.scope (option_map grouped_rule g.0) [] parts.tail.windows) (λ known. selected from.scope b.0 p.0 known parts) l b.2 in
+    let is = below_is from.scope g.0 parts.tail.grouping.having b.0 b.1 in
+    let known = all_defined_is from.scope (option_map grouped_rule g.0) [] parts.tail.windows k.0 tt k.1 in
+    selected_is tables from.scope b.0 p.0 k.0 parts l (filtered_is tables from.scope parts.tail.filter from.plan p.0 h p.1)
+    (subst (AreGrouped from.scope) is.0 (grouped_meant_is from.scope parts g.0 g.1)) is.1
+    (subst (λ (x : Option GroupedBy). AreKnown (readable from.scope (option_map grouped_rule x)) k.0) is.0 known) k.2

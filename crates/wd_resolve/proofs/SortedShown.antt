@@ -1,6 +1,6 @@
 -- Sort keys name outputs or hidden columns that are typed, and no node is too wide for them.
 use Rattle.std.proofs.Common.{◌≡◌, ◌∙◌, ap, refl, subst, ℕ, ◌+◌, ◌-◌, ◌<◌, ◌≤◌, Bool, true, false, cond, not, ◌&&◌, List, [], ◌∷◌, ◌++◌, length, filter, position, nat_lt, nat_le, Option, Some, None, Ok, Err, arith}
-use Rattle.std.specs.List.{AllByRecursion, position_or_len}
+use Rattle.std.specs.List.{position_or_len}
 use Rattle.std.proofs.lemmas.Bool.{false≢true, leb-true, lt-ltb, ltb-true}
 use Rattle.std.proofs.lemmas.List.{length_push}
 use Rattle.wd_value.specs.declared.order.SortKey.{SortKey}
@@ -19,25 +19,29 @@ use Rattle.wd_resolve_operand.specs.Operands as operands
 use Rattle.wd_resolve_scope.specs.Leaves.{SelectLeaf}
 use Rattle.wd_resolve_scope.specs.Resolving.{plain, written_number}
 use Rattle.wd_resolve_scope.specs.Windows.{sort_key}
-use Rattle.wd_resolve_scope.specs.Typed.{IsFormula}
+use Rattle.wd_resolve_scope.specs.Typed.{IsFormula, Readable, readable}
 use Rattle.wd_resolve_scope.proofs.Typing.{both, bound, ok_is, some_is}
 use Rattle.wd_resolve_scope.proofs.TypedOperands.{settled_is}
 use Rattle.wd_resolve_scope.proofs.Lists.{all_on, all_push}
 use Rattle.wd_resolve_scope.specs.declared.context.Place.TheVariants as place
 use Rattle.wd_resolve_scope.proofs.TypedPlain.{plain_is}
 use Rattle.wd_resolve_select.specs.Listing.{are_wide}
-use Rattle.wd_resolve_select.specs.Outputs.{OutputMeaning}
-use Rattle.wd_resolve_select.specs.Sorting.{IsNarrow, KeyPlace, Shown, Sorted, all_shown, are_one, expression_place, first_named, hidden, is_named, key_place, key_sorted, keys_sorted, literal_place, named_place, narrow_keys, or_expression, ordinal, output, output_or, shows, sorted_place, signed_place, unless_number, with_column, with_item, with_key}
+use Rattle.wd_resolve_select.specs.Outputs.{expressions_of}
+use Rattle.wd_resolve_select.specs.Sorting.{IsNarrow, KeyPlace, Shown, Sorted, are_one, expression_place, first_named, hidden, is_named, key_place, key_sorted, keys_sorted, literal_place, named_place, narrow_keys, or_expression, ordinal, output, output_or, shows, sorted_place, signed_place, unless_number, with_column, with_item, with_key}
 use Rattle.wd_resolve.specs.Lowering.{is_sorted}
 use Rattle.wd_resolve_select.proofs.PlanKinds.{AreWithin}
 use Rattle.wd_resolve_select.proofs.SeatedFormulas.{AreFormulas, formulas_append}
 
 -- ---- places
 
--- an output that is there, or an expression over the columns of FROM
+-- what a sort key may read
+abbrev pub read : Shown → Readable
+read s = readable s.scope s.groups
+
+-- an output that is there, or an expression over what may stand there
 abbrev pub IsPlace : Shown → KeyPlace → Type 0
 IsPlace s (output n) = n < length s.outputs
-IsPlace s (hidden f) = (k : ValueKind) × IsFormula s.scope f k
+IsPlace s (hidden f) = (k : ValueKind) × IsFormula (read s) f k
 
 -- a position that is found is one of the list
 position_within : {A : Type 0} (t : A → Bool) (xs : List A) (n : ℕ) → position t xs ≡ Some n → n < length xs
@@ -47,7 +51,7 @@ position_within t xs n h = by (nat_lt (position_or_len t xs) (length xs)) refl h
     by true e h = subst (λ m. m < length xs) (some_is (position_or_len t xs) n h) (ltb-true (position_or_len t xs) (length xs) e)
     by false e h = cc
 
-sorted_place_is : (s : Shown) (f : Formula SelectLeaf) (k : ValueKind) → IsFormula s.scope f k → IsPlace s (sorted_place f s.outputs)
+sorted_place_is : (s : Shown) (f : Formula SelectLeaf) (k : ValueKind) → IsFormula (read s) f k → IsPlace s (sorted_place f s.outputs)
 sorted_place_is s f k is = by (position (shows f) s.outputs) refl
   where
     by : (o : Option ℕ) → position (shows f) s.outputs ≡ o → IsPlace s (output_or f o)
@@ -56,8 +60,8 @@ sorted_place_is s f k is = by (position (shows f) s.outputs) refl
 
 expression_place_is : (s : Shown) (a : Tree) (p : KeyPlace) → expression_place s a ≡ Ok p → IsPlace s p
 expression_place_is s a p h =
-    let x = bound (plain place.SortKey s.scope a) (λ (y : Operand SelectLeaf). Ok (sorted_place (settled y) s.outputs)) p h in
-    subst (IsPlace s) (ok_is _ _ x.2) (sorted_place_is s (settled x.0) (operands.kind_of x.0) (settled_is s.scope x.0 (plain_is place.SortKey s.scope a x.0 x.1)))
+    let x = bound (plain place.SortKey s.groups s.scope a) (λ (y : Operand SelectLeaf). Ok (sorted_place (settled y) s.outputs)) p h in
+    subst (IsPlace s) (ok_is _ _ x.2) (sorted_place_is s (settled x.0) (operands.kind_of x.0) (settled_is (read s) x.0 (plain_is place.SortKey s.groups s.scope a x.0 x.1)))
 
 first_named_is : (s : Shown) (name : List ℕ) (n : ℕ) → first_named name s.outputs ≡ Ok (Some n) → n < length s.outputs
 first_named_is s name n h = by (are_one (filter (is_named name) s.outputs)) h
@@ -117,7 +121,7 @@ key_place_is s (tree.Negated a) p h = expression_place_is s (tree.Negated a) p h
 pub record IsSorted (s : Shown) (so_far : Sorted) : Type 0 where
   pub items_are : AreWithin (length s.outputs + length so_far.hidden) so_far.items
   pub kinds : List ValueKind
-  pub hidden_are : AreFormulas s.scope so_far.hidden kinds
+  pub hidden_are : AreFormulas (read s) so_far.hidden kinds
   pub narrow : IsNarrow s so_far
 
 abbrev pub HasSome : List SortColumn → Type 0
@@ -141,7 +145,7 @@ item_is s n key so_far is h =
     }
 
 -- a key by a new hidden column
-column_is : (s : Shown) (f : Formula SelectLeaf) (k : ValueKind) (key : SortKey) (so_far : Sorted) → IsFormula s.scope f k → IsSorted s so_far → IsNarrow s (with_column s f key so_far) → IsSorted s (with_column s f key so_far)
+column_is : (s : Shown) (f : Formula SelectLeaf) (k : ValueKind) (key : SortKey) (so_far : Sorted) → IsFormula (read s) f k → IsSorted s so_far → IsNarrow s (with_column s f key so_far) → IsSorted s (with_column s f key so_far)
 column_is s f k key so_far is h narrow =
     let long = length_push so_far.hidden f in
     let old : AreWithin (length s.outputs + length (so_far.hidden ++ f ∷ [])) so_far.items = within_more (length s.outputs + length so_far.hidden) (length s.outputs + length (so_far.hidden ++ f ∷ [])) so_far.items (omega arith) h.items_are in
@@ -149,20 +153,20 @@ column_is s f k key so_far is h narrow =
     record {
       items_are = all_push (λ (item : SortColumn). item.column < length s.outputs + length (so_far.hidden ++ f ∷ [])) so_far.items (record { column = length s.outputs + length so_far.hidden; key = key }) old new;
       kinds = h.kinds ++ k ∷ [];
-      hidden_are = formulas_append s.scope so_far.hidden (f ∷ []) h.kinds (k ∷ []) h.hidden_are (is, tt);
+      hidden_are = formulas_append (read s) so_far.hidden (f ∷ []) h.kinds (k ∷ []) h.hidden_are (is, tt);
       narrow = narrow;
     }
 
-hidden_is : (s : Shown) (f : Formula SelectLeaf) (k : ValueKind) (key : SortKey) (so_far r : Sorted) → IsFormula s.scope f k → IsSorted s so_far → cond s.distinct (Err ForeignSortKey) (narrow_keys s (with_column s f key so_far)) ≡ Ok r → IsSorted s r × HasSome r.items
+hidden_is : (s : Shown) (f : Formula SelectLeaf) (k : ValueKind) (key : SortKey) (so_far r : Sorted) → IsFormula (read s) f k → IsSorted s so_far → cond s.distinct (Err ForeignSortKey) (narrow_keys s (with_column s f key so_far)) ≡ Ok r → IsSorted s r × HasSome r.items
 hidden_is s f k key so_far r is h g = by s.distinct g
   where
-    wide : (b : Bool) → are_wide (all_shown s (with_column s f key so_far)) ≡ b → cond b (Err TooMany) (Ok (with_column s f key so_far)) ≡ Ok r → IsSorted s r × HasSome r.items
+    wide : (b : Bool) → are_wide s.below (expressions_of s.outputs) (with_column s f key so_far).hidden ≡ b → cond b (Err TooMany) (Ok (with_column s f key so_far)) ≡ Ok r → IsSorted s r × HasSome r.items
     wide true e g = cc
     wide false e g = subst (λ (z : Sorted). IsSorted s z × HasSome z.items) (ok_is _ _ g) (column_is s f k key so_far is h e, push_some so_far.items (record { column = length s.outputs + length so_far.hidden; key = key }))
 
     by : (b : Bool) → cond b (Err ForeignSortKey) (narrow_keys s (with_column s f key so_far)) ≡ Ok r → IsSorted s r × HasSome r.items
     by true g = cc
-    by false g = wide (are_wide (all_shown s (with_column s f key so_far))) refl g
+    by false g = wide (are_wide s.below (expressions_of s.outputs) (with_column s f key so_far).hidden) refl g
 
 with_key_is : (s : Shown) (p : KeyPlace) (key : SortKey) (so_far r : Sorted) → IsPlace s p → IsSorted s so_far → with_key s p key so_far ≡ Ok r → IsSorted s r × HasSome r.items
 with_key_is s (output n) key so_far r is h e = subst (λ (z : Sorted). IsSorted s z × HasSome z.items) (ok_is _ _ e) (item_is s n key so_far is h, push_some so_far.items (record { column = n; key = key }))

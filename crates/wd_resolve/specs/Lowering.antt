@@ -1,6 +1,6 @@
 -- The plan of a query: its tables, its condition, its windows, its outputs, its order and its limits, one step over the other
 -- (SQL, query specification, query expression; PG, SELECT).
-use Rattle.std.specs.Prelude.{Bool, true, false, List, [], Option, Some, None, Ok}
+use Rattle.std.specs.Prelude.{Bool, true, false, List, [], Option, Some, None, option_map, Ok}
 use Rattle.wd_syntax.specs.declared.query.Quantifier.{Quantifier}
 use Rattle.wd_syntax.specs.declared.query.Quantifier.TheVariants.{All, Distinct as DistinctRows}
 use Rattle.wd_syntax.specs.declared.query.Limits.{Limits}
@@ -15,6 +15,8 @@ use Rattle.wd_resolve_scope.specs.declared.context.Place.TheVariants as place
 use Rattle.wd_resolve_scope.specs.Scopes.{ScopeRule}
 use Rattle.wd_resolve_scope.specs.Windows.{KnownMeaning}
 use Rattle.wd_resolve.specs.Selected.{JoinedTables, FromSoFar, called, named_table, derived_table, joined, together, first_admitted, next_admitted}
+use Rattle.wd_resolve_select.specs.Grouping.{below_meant, grouped_meant, grouped_rule}
+use Rattle.wd_resolve_select.specs.Listing.{Below}
 use Rattle.wd_resolve_select.specs.Outputs.{OutputMeaning, list_meant}
 use Rattle.wd_resolve_select.specs.Sorting.{Shown, unsorted, keys_sorted, cut_meant}
 use Rattle.wd_resolve_select.specs.Steps.{Lowered, filtered, lowered_shown}
@@ -30,8 +32,8 @@ abbrev pub is_sorted : Keys → Bool
 is_sorted tree.no_keys = false
 is_sorted (tree.more_keys a direction nulls keys) = true
 
-abbrev pub shown_by : ScopeRule → Bool → List OutputMeaning → Shown
-shown_by scope distinct outputs = record { scope = scope; distinct = distinct; outputs = outputs }
+abbrev pub shown_by : ScopeRule → Below → Bool → List OutputMeaning → Shown
+shown_by scope below distinct outputs = record { scope = scope; groups = option_map grouped_rule below.grouped; below = below; distinct = distinct; outputs = outputs }
 
 -- what a select shows, in its order and within its limits
 abbrev pub shown_sorted : Shown → Keys → Option Limits → PlanTree → Meant Lowered
@@ -41,17 +43,19 @@ shown_sorted s order limits plan = do
   Ok (lowered_shown s sorted cut plan)
 
 -- what is left of a select after its FROM and its WINDOW: the select list, ORDER BY and the limits, from left to right
-abbrev pub selected : ScopeRule → PlanTree → List KnownMeaning → Parts → Meant Lowered
-selected scope plan windows parts = do
-  outputs ← list_meant (record { scope = scope; windows = windows; place = place.SelectList }) parts.items
-  shown_sorted (shown_by scope (is_distinct parts.quantifier) outputs) parts.tail.order parts.tail.limits plan
+abbrev pub selected : ScopeRule → Below → PlanTree → List KnownMeaning → Parts → Meant Lowered
+selected scope below plan windows parts = do
+  outputs ← list_meant below (record { scope = scope; groups = option_map grouped_rule below.grouped; windows = windows; place = place.SelectList }) parts.items
+  shown_sorted (shown_by scope below (is_distinct parts.quantifier) outputs) parts.tail.order parts.tail.limits plan
 
--- a select after its FROM: WHERE, WINDOW, and the rest
+-- a select after its FROM: WHERE, GROUP BY, HAVING, WINDOW, and the rest
 abbrev pub behind_from : JoinedTables → Parts → Meant Lowered
 behind_from from parts = do
   plan ← filtered from.scope parts.tail.filter from.plan
-  known ← all_defined from.scope [] parts.tail.windows
-  selected from.scope plan known parts
+  grouped ← grouped_meant from.scope parts
+  below ← below_meant from.scope grouped parts.tail.grouping.having
+  known ← all_defined from.scope (option_map grouped_rule grouped) [] parts.tail.windows
+  selected from.scope below plan known parts
 
 -- a table after a comma begins a new row of joins
 abbrev pub behind_comma : FromSoFar → JoinedTables → Meant FromSoFar

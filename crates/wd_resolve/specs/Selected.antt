@@ -1,5 +1,5 @@
 -- The tables of FROM, and what a select gives to the query around it.
-use Rattle.std.specs.Prelude.{ℕ, ◌+◌, ◌^◌, ◌||◌, List, [], ◌∷◌, ◌++◌, map, length, nat_lt, position, Bool, true, false, Option, Some, None, option_map, Ok, Err, slice_get, if◌then◌else◌}
+use Rattle.std.specs.Prelude.{ℕ, ◌||◌, List, [], ◌∷◌, map, length, nat_lt, position, Bool, false, Option, Some, None, option_map, Ok, Err, slice_get, if◌then◌else◌}
 use Rattle.std.specs.List.{list_any}
 use Rattle.std.specs.Option.{option_map_or}
 use Rattle.std.specs.Str.{bytes_eq}
@@ -7,7 +7,6 @@ use Rattle.wd_read_cursor.specs.declared.name.Name.{Name}
 use Rattle.wd_syntax.specs.declared.query.Alias.{Alias}
 use Rattle.wd_schema.specs.declared.table.Column.{Column as TableColumn}
 use Rattle.wd_schema.specs.Tables.{TableRule}
-use Rattle.wd_plan.specs.declared.expression.ValueKind.{ValueKind}
 use Rattle.wd_plan.specs.Expressions.{Expression}
 use Rattle.wd_plan.specs.Fits.{kind_of_type}
 use Rattle.wd_plan.specs.Plans.{PlanTree, Scan, Join, plan_of}

@@ -1,16 +1,19 @@
 //! What a select list has listed.
 
-ghost use Rattle.std.specs.Prelude.{◌≡◌, ◌≤◌, false, map, vec_len};
+ghost use Rattle.std.specs.Prelude.{◌≡◌, ◌≤◌, [], false, map, vec_len};
+ghost use Rattle.wd_resolve_select.specs.Grouping.{below_of};
 ghost use Rattle.wd_resolve_select.specs.Listing.{are_wide};
 ghost use Rattle.wd_resolve_select.specs.Outputs.{expressions_of, output_of};
 
-use wd_resolve_select::{Needs, Output};
+use wd_resolve_select::{Below, Needs, Output};
 
-/// The outputs of a select list, at most 1,024, and what they need of the rows below them; no node is too wide for them.
+/// The outputs of a select list over what stands below its windows, at most 1,024, and what they need of the rows below them; no node
+/// is too wide for them.
 #[derive(Drop)]
 pub struct Listed {
+    pub below: Below,
     pub outputs: Vec<Output>,
     pub needs: Needs,
     pub ghost few: { vec_len outputs ≤ 1024 },
-    pub ghost narrow: { are_wide (expressions_of (map output_of outputs.items)) ≡ false },
+    pub ghost narrow: { are_wide (below_of below) (expressions_of (map output_of outputs.items)) [] ≡ false },
 }

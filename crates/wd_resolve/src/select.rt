@@ -1,13 +1,14 @@
 //! Selects to plans.
 
-ghost use Rattle.std.specs.Prelude.{◌≡◌, ◌≤◌, ◌++◌, [], map, vec_len, option_map, IfOk};
+ghost use Rattle.std.specs.Prelude.{◌≡◌, ◌≤◌, ◌++◌, [], false, map, vec_len, option_map, IfOk};
 ghost use Rattle.wd_plan.specs.Plans.{plan_of};
 ghost use Rattle.wd_schema.specs.Schemas.{schema_of};
 ghost use Rattle.wd_syntax.specs.Tree.{joins_of, keys_of};
 ghost use Rattle.wd_syntax.specs.View.{view_item, view_joined, view_key, view_parts, view_select, view_table};
 ghost use Rattle.wd_resolve_operand.specs.Causes.{Gives};
 ghost use Rattle.wd_resolve_scope.specs.Leaves.{formula_of};
-ghost use Rattle.wd_resolve_scope.specs.Resolving.{context_of};
+ghost use Rattle.wd_resolve_scope.specs.declared.context.Place.TheVariants as places;
+ghost use Rattle.wd_resolve_select.specs.Grouping.{below_of, grouped_rule};
 ghost use Rattle.wd_resolve_scope.specs.Scopes.{scope_of};
 ghost use Rattle.wd_resolve_scope.specs.Windows.{known_of};
 ghost use Rattle.wd_resolve_select.specs.Cuts.{cut_of};
@@ -32,8 +33,8 @@ use wd_plan::Plan;
 use wd_resolve_operand::{Cause, Formula, ResolveError};
 use wd_resolve_scope::{Context, KnownWindow, Place, Scope, SelectLeaf, all_defined};
 use wd_resolve_select::{
-    Cut, Needs, Output, OutputColumn, Shown, Sorted, cut_meant, deduplicated, filtered, item_meant,
-    keys_sorted, limited, mapped, without_hidden,
+    Below, Cut, Needs, Output, OutputColumn, Shown, Sorted, below_meant, cut_meant, deduplicated,
+    filtered, grouped_meant, item_meant, keys_sorted, limited, mapped, without_hidden,
 };
 use wd_schema::Schema;
 use wd_syntax::{Alias, Item, Joined, Limits, Name, Quantifier, Select, SortKey, Table};
@@ -121,7 +122,7 @@ fn join_meant(
     }
 }
 
-/// A select after its FROM: WHERE, WINDOW, the select list, ORDER BY and the limits.
+/// A select after its FROM: WHERE, GROUP BY, HAVING, WINDOW, the select list, ORDER BY and the limits.
 fn behind_from(
     alloc: Global,
     from: JoinedTables,
@@ -131,26 +132,24 @@ fn behind_from(
 {
     let JoinedTables { scope, plan } = from;
     let plan = filtered(alloc, &scope, &select.filter, plan)?;
-    let windows = all_defined(alloc, &scope, &select.windows)?;
-    selected(alloc, &scope, plan, &windows, select)
+    let grouped = grouped_meant(alloc, &scope, select)?;
+    let below = below_meant(alloc, &scope, grouped, &select.grouping.having)?;
+    let windows = all_defined(alloc, &scope, below.groups(), &select.windows)?;
+    selected(alloc, &scope, below, plan, &windows, select)
 }
 
 /// What is left of a select after its FROM, its WHERE and its WINDOW.
 fn selected(
     alloc: Global,
     scope: &Scope,
+    below: Below,
     plan: Plan,
     windows: &[KnownWindow],
     select: &Select,
 ) -> Result<LoweredSelect, ResolveError>
-    ensures { Gives lowered_of result (spec.selected (scope_of scope.now) (plan_of plan) (map known_of windows.now) (view_parts select.now)) }
+    ensures { Gives lowered_of result (spec.selected (scope_of scope.now) (below_of below) (plan_of plan) (map known_of windows.now) (view_parts select.now)) }
 {
-    let context = Context {
-        scope,
-        windows,
-        place: Place::SelectList,
-    };
-    let listed = list_meant(alloc, &context, &select.items)?;
+    let listed = list_meant(alloc, scope, windows, below, &select.items)?;
     let distinct = is_distinct(select.quantifier);
     shown_sorted(
         alloc,
@@ -173,24 +172,33 @@ fn is_distinct(quantifier: Option<Quantifier>) -> bool
 }
 
 /// No member of a select list yet.
-fn nothing_listed(alloc: Global) -> Listed
+fn nothing_listed(alloc: Global, below: Below) -> Listed
+    ensures below { below_of result.below ≡ below_of below }
     ensures nothing { map output_of result.outputs.items ≡ [] }
     ensures counted { listings.IsCounted result }
 {
     Listed {
+        below,
         outputs: Vec::new(alloc),
         needs: Needs::new(alloc),
     }
 }
 
 /// The outputs of the select list: 415 at a member that makes a node too wide.
-fn list_meant(alloc: Global, context: &Context<'_>, items: &[Item]) -> Result<Listed, ResolveError>
-    ensures meant { Gives (λ l. map output_of l.outputs.items) result (outputs_spec.list_meant (context_of context.now) (map view_item items.now)) }
+fn list_meant(
+    alloc: Global,
+    scope: &Scope,
+    windows: &[KnownWindow],
+    below: Below,
+    items: &[Item],
+) -> Result<Listed, ResolveError>
+    ensures meant { Gives (λ l. map output_of l.outputs.items) result (outputs_spec.list_meant (below_of below) (record { scope = scope_of scope.now; groups = option_map grouped_rule (below_of below).grouped; windows = map known_of windows.now; place = places.SelectList }) (map view_item items.now)) }
+    ensures below { IfOk result (λ l. below_of l.below ≡ below_of below) }
     ensures counted { IfOk result (λ l. listings.IsCounted l) }
 {
-    let mut listed = nothing_listed(alloc);
+    let mut listed = nothing_listed(alloc, below);
     for item in items {
-        listed = item_listed(alloc, context, item, listed)?;
+        listed = item_listed(alloc, scope, windows, item, listed)?;
     }
     Ok(listed)
 }
@@ -198,17 +206,38 @@ fn list_meant(alloc: Global, context: &Context<'_>, items: &[Item]) -> Result<Li
 /// A further member of a select list: 415 after its other refusals.
 fn item_listed(
     alloc: Global,
-    context: &Context<'_>,
+    scope: &Scope,
+    windows: &[KnownWindow],
     item: &Item,
     listed: Listed,
 ) -> Result<Listed, ResolveError>
     requires { listings.IsCounted listed }
-    ensures meant { Gives (λ l. map output_of l.outputs.items) result (outputs_spec.item_listed (context_of context.now) (view_item item.now) (map output_of listed.outputs.items)) }
+    ensures meant { Gives (λ l. map output_of l.outputs.items) result (outputs_spec.item_listed (below_of listed.below) (record { scope = scope_of scope.now; groups = option_map grouped_rule (below_of listed.below).grouped; windows = map known_of windows.now; place = places.SelectList }) (view_item item.now) (map output_of listed.outputs.items)) }
+    ensures below { IfOk result (λ l. below_of l.below ≡ below_of listed.below) }
     ensures counted { IfOk result (λ l. listings.IsCounted l) }
 {
-    let more = item_meant(alloc, context, item)?;
-    let (outputs, needs) = with_outputs(alloc, listed, more)?;
-    narrow(outputs, needs)
+    let more = item_shown(alloc, scope, windows, &listed.below, item)?;
+    let (below, outputs, needs) = with_outputs(alloc, listed, more)?;
+    narrow(alloc, below, outputs, needs)
+}
+
+/// The outputs of a member of a select list.
+fn item_shown<'a>(
+    alloc: Global,
+    scope: &'a Scope,
+    windows: &'a [KnownWindow],
+    below: &'a Below,
+    item: &Item,
+) -> Result<Vec<Output>, ResolveError>
+    ensures { Gives (λ v. map output_of v.items) result (outputs_spec.item_meant (record { scope = scope_of scope.now; groups = option_map grouped_rule (below_of below.now).grouped; windows = map known_of windows.now; place = places.SelectList }) (view_item item.now)) }
+{
+    let context = Context {
+        scope,
+        groups: below.groups(),
+        windows,
+        place: Place::SelectList,
+    };
+    item_meant(alloc, &context, item)
 }
 
 /// Further outputs, and what all need.
@@ -217,41 +246,58 @@ fn with_outputs(
     alloc: Global,
     listed: Listed,
     more: Vec<Output>,
-) -> Result<(Vec<Output>, Needs), OutOfMemory>
+) -> Result<(Below, Vec<Output>, Needs), OutOfMemory>
     requires { listings.IsCounted listed }
-    ensures outputs { IfOk result (λ p. map output_of p.0.items ≡ map output_of listed.outputs.items ++ map output_of more.items) }
-    ensures counted { IfOk result (λ p. needs_shown p.1 ≡ needs_of (expressions_of (map output_of p.0.items))) }
+    ensures below { IfOk result (λ p. below_of p.0 ≡ below_of listed.below) }
+    ensures outputs { IfOk result (λ p. map output_of p.1.items ≡ map output_of listed.outputs.items ++ map output_of more.items) }
+    ensures counted { IfOk result (λ p. needs_shown p.2 ≡ needs_of (expressions_of (map output_of p.1.items))) }
 {
     let Listed {
+        below,
         mut outputs,
         mut needs,
     } = listed;
     let mut more = more;
     needs.add_all(alloc, &more)?;
     outputs.append(&mut more)?;
-    Ok((outputs, needs))
+    Ok((below, outputs, needs))
 }
 
 /// Outputs for which no node is too wide; else 415.
 #[tactic(auto, using(crate::proofs::More::few_listed))]
-fn narrow(outputs: Vec<Output>, needs: Needs) -> Result<Listed, ResolveError>
+fn narrow(
+    alloc: Global,
+    below: Below,
+    outputs: Vec<Output>,
+    needs: Needs,
+) -> Result<Listed, ResolveError>
     requires { needs_shown needs ≡ needs_of (expressions_of (map output_of outputs.items)) }
-    ensures meant { Gives (λ l. map output_of l.outputs.items) result (outputs_spec.narrow (map output_of outputs.items)) }
+    ensures meant { Gives (λ l. map output_of l.outputs.items) result (outputs_spec.narrow (below_of below) (map output_of outputs.items)) }
+    ensures below { IfOk result (λ l. below_of l.below ≡ below_of below) }
     ensures counted { IfOk result (λ l. listings.IsCounted l) }
 {
-    if are_wide(&outputs, &needs) {
+    if are_wide(alloc, &below, &outputs, &needs)? {
         Err(ResolveError::Refused(Cause::TooMany))
     } else {
-        Ok(Listed { outputs, needs })
+        Ok(Listed {
+            below,
+            outputs,
+            needs,
+        })
     }
 }
 
 /// Whether outputs make some node too wide.
-fn are_wide(outputs: &[Output], needs: &Needs) -> bool
+fn are_wide(
+    alloc: Global,
+    below: &Below,
+    outputs: &[Output],
+    needs: &Needs,
+) -> Result<bool, OutOfMemory>
     requires { needs_shown needs.now ≡ needs_of (expressions_of (map output_of outputs.now)) }
-    ensures { result ≡ listing.are_wide (expressions_of (map output_of outputs.now)) }
+    ensures { IfOk result (λ b. b ≡ listing.are_wide (below_of below.now) (expressions_of (map output_of outputs.now)) []) }
 {
-    needs.is_wide(outputs.len())
+    needs.is_wide_with_having(alloc, outputs.len(), below)
 }
 
 /// Whether there are sort keys.
@@ -275,24 +321,31 @@ fn shown_sorted(
     plan: Plan,
 ) -> Result<LoweredSelect, ResolveError>
     requires { listings.IsCounted listed }
-    ensures { Gives lowered_of result (spec.shown_sorted (spec.shown_by (scope_of scope.now) distinct (map output_of listed.outputs.items)) (keys_of (map view_key order.now)) limits (plan_of plan)) }
+    ensures { Gives lowered_of result (spec.shown_sorted (spec.shown_by (scope_of scope.now) (below_of listed.below) distinct (map output_of listed.outputs.items)) (keys_of (map view_key order.now)) limits (plan_of plan)) }
 {
-    let Listed { outputs, needs } = listed;
+    let Listed {
+        below,
+        outputs,
+        mut needs,
+    } = listed;
+    needs.add_having(&below.having)?;
     let shown = Shown {
         scope,
+        groups: below.groups(),
+        below: &below,
         distinct,
         outputs: &outputs,
     };
     let sorted = keys_sorted(alloc, &shown, order, needs)?;
     let cut = cut_meant(is_sorted(order), limits)?;
-    Ok(plan_shown(alloc, scope, distinct, outputs, sorted, cut, plan)?)
+    Ok(plan_shown(alloc, scope, &below, distinct, outputs, sorted, cut, plan)?)
 }
 
 /// The plan of what a select shows, sorts by and cuts.
-#[tactic(auto, using(crate::proofs::More::narrow_below))]
 fn plan_shown(
     alloc: Global,
     scope: &Scope,
+    below: &Below,
     distinct: bool,
     outputs: Vec<Output>,
     sorted: Sorted,
@@ -300,23 +353,40 @@ fn plan_shown(
     plan: Plan,
 ) -> Result<LoweredSelect, OutOfMemory>
     requires few { vec_len outputs ≤ 1024 }
-    requires counted { IsCounted (spec.shown_by (scope_of scope.now) distinct (map output_of outputs.items)) sorted }
-    requires narrow { IsNarrow (spec.shown_by (scope_of scope.now) distinct (map output_of outputs.items)) (sorted_of sorted) }
-    ensures { IfOk result (λ l. lowered_of l ≡ steps_spec.lowered_shown (spec.shown_by (scope_of scope.now) distinct (map output_of outputs.items)) (sorted_of sorted) (option_map cut_of cut) (plan_of plan)) }
+    requires counted { IsCounted (spec.shown_by (scope_of scope.now) (below_of below.now) distinct (map output_of outputs.items)) sorted }
+    requires narrow { IsNarrow (spec.shown_by (scope_of scope.now) (below_of below.now) distinct (map output_of outputs.items)) (sorted_of sorted) }
+    ensures { IfOk result (λ l. lowered_of l ≡ steps_spec.lowered_shown (spec.shown_by (scope_of scope.now) (below_of below.now) distinct (map output_of outputs.items)) (sorted_of sorted) (option_map cut_of cut) (plan_of plan)) }
 {
     let Sorted {
         items,
-        mut hidden,
+        hidden,
         needs,
     } = sorted;
     let hidden_count = hidden.len();
-    let (columns, mut formulas) = parts_of(alloc, outputs)?;
-    formulas.append(&mut hidden)?;
-    let plan = mapped(alloc, needs, formulas, plan)?;
+    let (columns, formulas) = parts_of(alloc, outputs)?;
+    let plan = all_mapped(alloc, needs, below, formulas, hidden, plan)?;
     let plan = deduplicated(alloc, distinct, plan)?;
     let plan = limited(alloc, items, cut, plan)?;
     let plan = without_hidden(alloc, columns.len(), hidden_count, plan)?;
     Ok(LoweredSelect { plan, columns })
+}
+
+/// A Map of outputs and hidden sort keys, over what stands below them.
+fn all_mapped(
+    alloc: Global,
+    needs: Needs,
+    below: &Below,
+    outputs: Vec<Formula<SelectLeaf>>,
+    hidden: Vec<Formula<SelectLeaf>>,
+    plan: Plan,
+) -> Result<Plan, OutOfMemory>
+    requires counted { needs_shown needs ≡ listing.all_needs (below_of below.now) (map formula_of outputs.items) (map formula_of hidden.items) }
+    requires narrow { listing.are_wide (below_of below.now) (map formula_of outputs.items) (map formula_of hidden.items) ≡ false }
+    ensures { IfOk result (λ p. plan_of p ≡ steps_spec.mapped (below_of below.now) (map formula_of outputs.items) (map formula_of hidden.items) (plan_of plan)) }
+{
+    let (mut formulas, mut hidden) = (outputs, hidden);
+    formulas.append(&mut hidden)?;
+    mapped(alloc, needs, below, formulas, plan)
 }
 
 /// The names and kinds of outputs, and their expressions.

@@ -22,6 +22,10 @@ number c.WrongSortKey = 412
 number c.TiesWithoutOrder = 413
 number c.ForeignSortKey = 414
 number c.TooMany = 415
+number c.GroupCallNotAllowed = 416
+number c.NotGrouped = 417
+number c.GroupingOfOther = 418
+number c.TooManySets = 419
 
 -- the number of an error, and none where memory runs out
 abbrev pub error_number : ResolveError → Option ℕ

@@ -1,6 +1,6 @@
 -- Expressions over leaves: what an expression reads of a row is a leaf, as a column of FROM or a window call (SQL, value
 -- expression primary).
-use Rattle.std.specs.Prelude.{ℕ, Bool, false, ◌&&◌, List, [], ◌∷◌, ◌++◌, Option, Some, is_some}
+use Rattle.std.specs.Prelude.{ℕ, Bool, false, ◌&&◌, List, [], ◌∷◌, ◌++◌, Option, Some, is_some, Ok}
 use denote.Enum.Bare.{sameb}
 use Rattle.wd_value.specs.declared.value.Value.{Value}
 use Rattle.wd_value.specs.Values.{same}
@@ -15,6 +15,7 @@ use Rattle.wd_plan.specs.contracts.expression.Branch.{the_type as branches}
 use Rattle.wd_plan.specs.Expressions as e
 use Rattle.wd_plan.specs.Expressions.{Expression}
 use Rattle.wd_plan.specs.Fits.{are_alike, is_kind, is_of_kind, same_kind}
+use Rattle.wd_resolve_operand.specs.Causes.{Meant, ◌>>=◌}
 use Rattle.wd_resolve_operand.specs.declared.formula.Formula.{Formula as Code}
 use Rattle.wd_resolve_operand.specs.declared.formula.Formula.TheVariants as code
 
@@ -89,6 +90,20 @@ same_formula alike (IsNull a) (IsNull b) = same_formula alike a b
 same_formula alike (IsNotNull a) (IsNotNull b) = same_formula alike a b
 same_formula alike (Case branch a b c) (Case other a' b' c') = sameb branches branch other && (same_formula alike a a' && (same_formula alike b b' && same_formula alike c c'))
 same_formula alike a b = false
+
+-- the same expression over other leaves, which its leaves may be; the first that is none of them decides
+abbrev pub over_leaves : {K L : Type 0} → (K → Meant L) → Formula K → Meant (Formula L)
+over_leaves leaf (Leaf l) = leaf l >>= λ m. Ok (Leaf m)
+over_leaves leaf (Literal v kind) = Ok (Literal v kind)
+over_leaves leaf (Negate a) = over_leaves leaf a >>= λ x. Ok (Negate x)
+over_leaves leaf (Arithmetic op a b) = over_leaves leaf a >>= λ x. over_leaves leaf b >>= λ y. Ok (Arithmetic op x y)
+over_leaves leaf (Compare op a b) = over_leaves leaf a >>= λ x. over_leaves leaf b >>= λ y. Ok (Compare op x y)
+over_leaves leaf (Not a) = over_leaves leaf a >>= λ x. Ok (Not x)
+over_leaves leaf (And a b) = over_leaves leaf a >>= λ x. over_leaves leaf b >>= λ y. Ok (And x y)
+over_leaves leaf (Or a b) = over_leaves leaf a >>= λ x. over_leaves leaf b >>= λ y. Ok (Or x y)
+over_leaves leaf (IsNull a) = over_leaves leaf a >>= λ x. Ok (IsNull x)
+over_leaves leaf (IsNotNull a) = over_leaves leaf a >>= λ x. Ok (IsNotNull x)
+over_leaves leaf (Case branch a b c) = over_leaves leaf a >>= λ x. over_leaves leaf b >>= λ y. over_leaves leaf c >>= λ z. Ok (Case branch x y z)
 
 -- ---- kinds
 

@@ -24,8 +24,8 @@ pub enum Cause {
     /// 404: an operand of another type than its place asks for, or a number past 9223372036854775807.
     #[error("an operand of the wrong type, or a number that is too large")]
     Types,
-    /// 405: an unknown function, wrong arguments, or a function without OVER.
-    #[error("an unknown function, wrong arguments, or a function without OVER")]
+    /// 405: an unknown function, wrong arguments, or a function without OVER that is no aggregate.
+    #[error("an unknown function, wrong arguments, or a function without OVER that is no aggregate")]
     WrongCall,
     /// 406: a window call outside the select list, or in another window call.
     #[error("a window call outside the select list, or in another window call")]
@@ -57,6 +57,18 @@ pub enum Cause {
     /// 415: more than 1,024 columns at a node, or more than 8 tables in one FROM.
     #[error("more than 1,024 columns at a node, or more than 8 tables in one FROM")]
     TooMany,
+    /// 416: an aggregate or GROUPING where none may stand, or within an aggregate.
+    #[error("an aggregate or GROUPING where none may stand, or within an aggregate")]
+    GroupCallNotAllowed,
+    /// 417: in a grouped query, a column that is not grouped by, outside an aggregate.
+    #[error("in a grouped query, a column that is not grouped by, outside an aggregate")]
+    NotGrouped,
+    /// 418: GROUPING of a column that is not grouped by.
+    #[error("GROUPING of a column that is not grouped by")]
+    GroupingOfOther,
+    /// 419: more than 64 grouping sets.
+    #[error("more than 64 grouping sets")]
+    TooManySets,
 }
 
 impl Cause {
@@ -80,6 +92,10 @@ impl Cause {
             Cause::TiesWithoutOrder => 413,
             Cause::ForeignSortKey => 414,
             Cause::TooMany => 415,
+            Cause::GroupCallNotAllowed => 416,
+            Cause::NotGrouped => 417,
+            Cause::GroupingOfOther => 418,
+            Cause::TooManySets => 419,
         }
     }
 }
@@ -87,7 +103,7 @@ impl Cause {
 /// Why a query is refused.
 #[derive(Clone, Copy, Debug, PartialEq, Eq, Error)]
 pub enum ResolveError {
-    /// 401 to 415: the query has no plan.
+    /// 401 to 419: the query has no plan.
     #[error("no plan: {0}")]
     Refused(Cause),
     /// The allocator refused a growth.

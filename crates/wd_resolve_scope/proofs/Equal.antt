@@ -1,5 +1,6 @@
--- Expressions and calls that are the same are equal, or of one kind.
-use Rattle.std.proofs.Common.{◌≡◌, ◌∙◌, sym, ap, refl, subst, nat_eq, true, rules}
+-- Expressions that are the same are equal; expressions over rows and calls that are the same are of one kind.
+use Rattle.std.proofs.Common.{◌≡◌, ◌∙◌, sym, ap, refl, subst, nat_eq, Bool, true, rules, ◌++◌, Option, Some}
+use Rattle.std.specs.List.{AllByRecursion}
 use Rattle.std.proofs.lemmas.Bool.{false≢true, eqb-true}
 use denote.Enum.Bare.{same_true, sameb}
 use Rattle.wd_value.specs.Values.{same as same_value}
@@ -10,10 +11,13 @@ use Rattle.wd_plan.specs.contracts.expression.ArithmeticOp.{the_type as operatio
 use Rattle.wd_plan.specs.contracts.expression.ComparisonOp.{the_type as comparison}
 use Rattle.wd_plan.specs.contracts.expression.Branch.{the_type as branches}
 use Rattle.wd_plan.specs.Expressions.{Expression, Column, Literal, Negate, Arithmetic, Compare, Not, And, Or, IsNull, IsNotNull, Case}
-use Rattle.wd_plan.specs.Fits.{Kinds}
-use Rattle.wd_resolve_scope.specs.Calls.{ArgumentMeaning, AggregateMeaning, count_rows, count_of, sum_of, least_of, greatest_of, FunctionMeaning, ranking, away, value_at, aggregate, CallMeaning, kind_of_aggregate, kind_of_function, same_aggregate, same_argument, same_call, same_function, same_row}
+use Rattle.wd_resolve_operand.specs.Formulas as formulas
+use Rattle.wd_resolve_operand.specs.Formulas.{Formula, kind_over, leaves, same_formula}
+use Rattle.wd_resolve_scope.specs.Rows.{ArgumentMeaning, AggregateMeaning, count_rows, count_of, sum_of, least_of, greatest_of, GroupCall, of_rows, grouping, RowFormula, RowLeaf, column, of_group, kind_of_aggregate, kind_of_group_call, same_aggregate, same_argument, same_group_call, same_row_formula, same_row_leaf}
+use Rattle.wd_resolve_scope.specs.Calls.{FunctionMeaning, ranking, away, value_at, aggregate, CallMeaning, kind_of_function, same_call, same_function, same_row}
 use Rattle.wd_plan.specs.Equality.{same_expression}
-use Rattle.wd_resolve_scope.specs.Typed.{IsAggregate, IsArgument, IsFunction, IsOfKind}
+use Rattle.wd_resolve_scope.specs.Typed.{IsAggregate, IsArgument, IsFunction, IsGroupCall, IsOfKind, IsRowFormula, IsRowLeaf, Readable, row_kind_at}
+use Rattle.wd_resolve_scope.proofs.Lists.{all_left, all_right}
 use Rattle.wd_resolve_scope.proofs.Typing.{both, same_kind-is, some_is}
 
 pub same_expression-is : (x y : Expression) → same_expression x y ≡ true → x ≡ y
@@ -30,27 +34,63 @@ same_expression-is (IsNotNull x) (IsNotNull y) h = ap IsNotNull (same_expression
 same_expression-is (Case branch x y z) (Case other u v w) h = let o = both _ _ h in let p = both _ _ o.1 in let r = both _ _ p.1 in λ i. Case (same_true branches (search rules) branch other o.0 i) (same_expression-is x u p.0 i) (same_expression-is y v r.0 i) (same_expression-is z w r.1 i)
 same_expression-is x y h = absurd (false≢true h)
 
-module _ (kinds : Kinds) where
-  one_kind : (e : Expression) (k l : ValueKind) → IsOfKind kinds e k → IsOfKind kinds e l → k ≡ l
-  one_kind e k l h g = some_is k l (sym h.has ∙ g.has)
+-- ---- kinds
 
-  argument_kind : (a b : ArgumentMeaning) → same_argument a b ≡ true → IsArgument kinds a → IsArgument kinds b → a.kind ≡ b.kind
-  argument_kind a b same h g = one_kind b.expression a.kind b.kind (subst (λ e. IsOfKind kinds e a.kind) (same_expression-is a.expression b.expression same) h) g
+module _ {L : Type 0} (kinds : L → Option ValueKind) (same : L → L → Bool) (P : L → Type 0) (alike : (l m : L) → same l m ≡ true → P l → P m → kinds l ≡ kinds m) where
+  pub same_formula-kind : (f g : Formula L) → same_formula same f g ≡ true → AllByRecursion P (leaves f) → AllByRecursion P (leaves g) → kind_over kinds f ≡ kind_over kinds g
+  same_formula-kind (formulas.Leaf l) (formulas.Leaf m) s h i = alike l m s h.0 i.0
+  same_formula-kind (formulas.Literal v k) (formulas.Literal w j) s h i = ap Some (same_kind-is k j (both _ _ s).1)
+  same_formula-kind (formulas.Negate a) (formulas.Negate b) s h i = refl
+  same_formula-kind (formulas.Arithmetic op a b) (formulas.Arithmetic other c d) s h i = refl
+  same_formula-kind (formulas.Compare op a b) (formulas.Compare other c d) s h i = refl
+  same_formula-kind (formulas.Not a) (formulas.Not b) s h i = refl
+  same_formula-kind (formulas.And a b) (formulas.And c d) s h i = refl
+  same_formula-kind (formulas.Or a b) (formulas.Or c d) s h i = refl
+  same_formula-kind (formulas.IsNull a) (formulas.IsNull b) s h i = refl
+  same_formula-kind (formulas.IsNotNull a) (formulas.IsNotNull b) s h i = refl
+  same_formula-kind (formulas.Case branch a b c) (formulas.Case other d e f) s h i =
+      let o = both _ _ s in let p = both _ _ o.1 in let q = both _ _ p.1 in
+      same_formula-kind b e q.0 (all_right P (leaves a) (leaves b) (all_left P (leaves a ++ leaves b) (leaves c) h)) (all_right P (leaves d) (leaves e) (all_left P (leaves d ++ leaves e) (leaves f) i))
+  same_formula-kind f g s h i = absurd (false≢true s)
 
-  aggregate_kind : (a b : AggregateMeaning) → same_aggregate a b ≡ true → IsAggregate kinds a → IsAggregate kinds b → kind_of_aggregate a ≡ kind_of_aggregate b
-  aggregate_kind count_rows count_rows same h g = refl
-  aggregate_kind (count_of a) (count_of b) same h g = refl
-  aggregate_kind (sum_of a) (sum_of b) same h g = refl
-  aggregate_kind (least_of a) (least_of b) same h g = argument_kind a b same h.0 g.0
-  aggregate_kind (greatest_of a) (greatest_of b) same h g = argument_kind a b same h.0 g.0
-  aggregate_kind a b same h g = absurd (false≢true same)
+module _ {E : Type 0} (Is : E → ValueKind → Type 0) (same : E → E → Bool) (one : (e f : E) (k l : ValueKind) → same e f ≡ true → Is e k → Is f l → k ≡ l) where
+  argument_kind : (a b : ArgumentMeaning E) → same_argument same a b ≡ true → IsArgument Is a → IsArgument Is b → a.kind ≡ b.kind
+  argument_kind a b s h g = one a.expression b.expression a.kind b.kind s h g
 
-  pub same_function-kind : (f g : FunctionMeaning) → same_function f g ≡ true → IsFunction kinds f → IsFunction kinds g → kind_of_function f ≡ kind_of_function g
-  same_function-kind (ranking r) (ranking q) same h i = refl
-  same_function-kind (away direction a m v) (away other b n w) same h i = let p = both (sameb ways direction other) _ same in let q = both (nat_eq m n) _ p.1 in argument_kind a b (both (same_value v w) _ q.1).1 h.0 i.0
-  same_function-kind (value_at r a) (value_at q b) same h i = argument_kind a b (both (same_row r q) _ same).1 h.0 i.0
-  same_function-kind (aggregate a) (aggregate b) same h i = aggregate_kind a b same h i
-  same_function-kind f g same h i = absurd (false≢true same)
+  aggregate_kind : (a b : AggregateMeaning E) → same_aggregate same a b ≡ true → IsAggregate Is a → IsAggregate Is b → kind_of_aggregate a ≡ kind_of_aggregate b
+  aggregate_kind count_rows count_rows s h g = refl
+  aggregate_kind (count_of a) (count_of b) s h g = refl
+  aggregate_kind (sum_of a) (sum_of b) s h g = refl
+  aggregate_kind (least_of a) (least_of b) s h g = argument_kind a b s h.0 g.0
+  aggregate_kind (greatest_of a) (greatest_of b) s h g = argument_kind a b s h.0 g.0
+  aggregate_kind a b s h g = absurd (false≢true s)
 
-  pub same_call-kind : (x y : CallMeaning) → same_call x y ≡ true → IsFunction kinds x.function → IsFunction kinds y.function → kind_of_function x.function ≡ kind_of_function y.function
-  same_call-kind x y same h i = same_function-kind x.function y.function (both _ _ same).0 h i
+module _ (r : Readable) where
+  one_kind : (e f : Expression) (k l : ValueKind) → same_expression e f ≡ true → IsOfKind r.kinds e k → IsOfKind r.kinds f l → k ≡ l
+  one_kind e f k l s h g = some_is k l (sym (subst (λ x. IsOfKind r.kinds x k) (same_expression-is e f s) h).has ∙ g.has)
+
+  pub group_call_kind : (c d : GroupCall) → same_group_call c d ≡ true → IsGroupCall r c → IsGroupCall r d → kind_of_group_call c ≡ kind_of_group_call d
+  group_call_kind (of_rows a) (of_rows b) s h g = aggregate_kind (IsOfKind r.kinds) same_expression one_kind a b s h g
+  group_call_kind (grouping cs) (grouping ds) s h g = refl
+  group_call_kind c d s h g = absurd (false≢true s)
+
+  pub row_leaf_kind : (l m : RowLeaf) → same_row_leaf l m ≡ true → IsRowLeaf r l → IsRowLeaf r m → row_kind_at r.kinds l ≡ row_kind_at r.kinds m
+  row_leaf_kind (column m) (column n) s h g = ap r.kinds (eqb-true m n s)
+  row_leaf_kind (of_group c) (of_group d) s h g = ap Some (group_call_kind c d s h.1 g.1)
+  row_leaf_kind l m s h g = absurd (false≢true s)
+
+  pub one_row_kind : (f g : RowFormula) (k l : ValueKind) → same_row_formula f g ≡ true → IsRowFormula r f k → IsRowFormula r g l → k ≡ l
+  one_row_kind f g k l s h i = some_is k l (sym h.has ∙ same_formula-kind (row_kind_at r.kinds) same_row_leaf (IsRowLeaf r) row_leaf_kind f g s h.leaves_are i.leaves_are ∙ i.has)
+
+  argument : (a b : ArgumentMeaning RowFormula) → same_argument same_row_formula a b ≡ true → IsArgument (IsRowFormula r) a → IsArgument (IsRowFormula r) b → a.kind ≡ b.kind
+  argument a b s h g = argument_kind (IsRowFormula r) same_row_formula one_row_kind a b s h g
+
+  pub same_function-kind : (f g : FunctionMeaning) → same_function f g ≡ true → IsFunction r f → IsFunction r g → kind_of_function f ≡ kind_of_function g
+  same_function-kind (ranking r) (ranking q) s h i = refl
+  same_function-kind (away direction a m v) (away other b n w) s h i = let p = both (sameb ways direction other) _ s in let q = both (nat_eq m n) _ p.1 in argument a b (both (same_value v w) _ q.1).1 h.0 i.0
+  same_function-kind (value_at r a) (value_at q b) s h i = argument a b (both (same_row r q) _ s).1 h.0 i.0
+  same_function-kind (aggregate a) (aggregate b) s h i = aggregate_kind (IsRowFormula r) same_row_formula one_row_kind a b s h i
+  same_function-kind f g s h i = absurd (false≢true s)
+
+  pub same_call-kind : (x y : CallMeaning) → same_call x y ≡ true → IsFunction r x.function → IsFunction r y.function → kind_of_function x.function ≡ kind_of_function y.function
+  same_call-kind x y s h i = same_function-kind x.function y.function (both _ _ s).0 h i

@@ -13,3 +13,5 @@ pub mod TypedWindows
 pub mod Equal
 pub mod TypedTrees
 pub mod TypedPlain
+mod GroupCalls
+mod OverCalls

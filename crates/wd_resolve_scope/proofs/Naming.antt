@@ -5,16 +5,13 @@ use Rattle.std.proofs.lemmas.List.{append_assoc, length_push}
 use Rattle.wd_plan.specs.declared.expression.ValueKind.{ValueKind}
 use Rattle.wd_resolve_operand.specs.declared.cause.Cause.TheVariants.{Ambiguous}
 use Rattle.wd_resolve_operand.specs.Causes.{Meant}
-use Rattle.wd_resolve_operand.specs.Formulas.{Leaf}
-use Rattle.wd_resolve_operand.specs.Operands.{Operand, typed}
 use Rattle.wd_resolve_scope.specs.declared.scope.ScopeColumn.{ScopeColumn}
-use Rattle.wd_resolve_scope.specs.Leaves.{SelectLeaf, column}
 use Rattle.wd_resolve_scope.specs.Names.{the_only}
 
 -- the one column of those found and these
-abbrev pub with_found : Option (ℕ × ValueKind) → List (ℕ × ScopeColumn) → Meant (Operand SelectLeaf)
+abbrev pub with_found : Option (ℕ × ValueKind) → List (ℕ × ScopeColumn) → Meant (ℕ × ValueKind)
 with_found None columns = the_only columns
-with_found (Some c) [] = Ok (typed (Leaf (column c.0)) c.1)
+with_found (Some c) [] = Ok c
 with_found (Some c) (other ∷ others) = Err Ambiguous
 
 pub found_first : (c : ℕ × ScopeColumn) (columns : List (ℕ × ScopeColumn)) → the_only (c ∷ columns) ≡ with_found (Some (c.0, c.1.kind)) columns

@@ -18,35 +18,34 @@ use Rattle.wd_resolve_operand.specs.Formulas.{Formula, Not, Case, is_typed_over,
 use Rattle.wd_resolve_operand.specs.Operands.{Operand, bare_null, typed, of_kind, settled, asked_by, given_by, over_both, combined, negated, sign_over, signed, int_literal, unsigned_number, number, literal, signed_number, arms_over, case_kind, case_of}
 use Rattle.wd_resolve_operand.specs.Operands as operands
 use Rattle.wd_resolve_scope.specs.Leaves.{SelectLeaf}
-use Rattle.wd_resolve_scope.specs.Scopes.{ScopeRule}
-use Rattle.wd_resolve_scope.specs.Typed.{IsFormula, IsLeaf, IsOperand, kind_at}
+use Rattle.wd_resolve_scope.specs.Typed.{IsFormula, IsLeaf, IsOperand, Readable, kind_at}
 use Rattle.wd_resolve_scope.proofs.Lists.{all_append}
 use Rattle.wd_resolve_scope.proofs.Typing.{and_both, bound, ok_is, same_kind-is, same_kind-itself}
 
-module _ (scope : ScopeRule) where
+module _ (r : Readable) where
   -- a place that asks for a kind has it
-  pub asked : (kind : ValueKind) (x : Operand SelectLeaf) (e : Formula SelectLeaf) → IsOperand scope x → of_kind kind x ≡ Ok e → IsFormula scope e kind
-  asked kind bare_null e h is = subst (λ f. IsFormula scope f kind) (ok_is _ _ is) (record { is = refl; has = refl; leaves_are = tt })
+  pub asked : (kind : ValueKind) (x : Operand SelectLeaf) (e : Formula SelectLeaf) → IsOperand r x → of_kind kind x ≡ Ok e → IsFormula r e kind
+  asked kind bare_null e h is = subst (λ f. IsFormula r f kind) (ok_is _ _ is) (record { is = refl; has = refl; leaves_are = tt })
   asked kind (typed a other) e h is = by (same_kind kind other) refl is
     where
-      by : (b : Bool) → same_kind kind other ≡ b → cond b (Ok a) (Err Types) ≡ Ok e → IsFormula scope e kind
-      by true same is = subst (λ f. IsFormula scope f kind) (ok_is _ _ is) (subst (IsFormula scope a) (sym (same_kind-is kind other same)) h)
+      by : (b : Bool) → same_kind kind other ≡ b → cond b (Ok a) (Err Types) ≡ Ok e → IsFormula r e kind
+      by true same is = subst (λ f. IsFormula r f kind) (ok_is _ _ is) (subst (IsFormula r a) (sym (same_kind-is kind other same)) h)
       by false same is = cc
 
-  pub settled_is : (x : Operand SelectLeaf) → IsOperand scope x → IsFormula scope (settled x) (operands.kind_of x)
+  pub settled_is : (x : Operand SelectLeaf) → IsOperand r x → IsFormula r (settled x) (operands.kind_of x)
   settled_is bare_null h = record { is = refl; has = refl; leaves_are = tt }
   settled_is (typed e kind) h = h
 
-  side : {e : Formula SelectLeaf} {kind : ValueKind} → IsFormula scope e kind → (is_typed_over (kind_at scope) e && is_kind kind (kind_over (kind_at scope) e)) ≡ true
+  side : {e : Formula SelectLeaf} {kind : ValueKind} → IsFormula r e kind → (is_typed_over (kind_at r) e && is_kind kind (kind_over (kind_at r) e)) ≡ true
   side {e} {kind} h = and_both _ _ h.is (rw h.has (same_kind-itself kind))
 
-  alike : {a b : Formula SelectLeaf} {kind : ValueKind} → IsFormula scope a kind → IsFormula scope b kind → are_alike (kind_over (kind_at scope) a) (kind_over (kind_at scope) b) ≡ true
+  alike : {a b : Formula SelectLeaf} {kind : ValueKind} → IsFormula r a kind → IsFormula r b kind → are_alike (kind_over (kind_at r) a) (kind_over (kind_at r) b) ≡ true
   alike {a} {b} {kind} h g = rw (h.has, g.has) (same_kind-itself kind)
 
-  sides : {a b : Formula SelectLeaf} {kind other : ValueKind} → IsFormula scope a kind → IsFormula scope b other → AllByRecursion (IsLeaf scope) (leaves a ++ leaves b)
-  sides {a} {b} h g = all_append (IsLeaf scope) (leaves a) (leaves b) h.leaves_are g.leaves_are
+  sides : {a b : Formula SelectLeaf} {kind other : ValueKind} → IsFormula r a kind → IsFormula r b other → AllByRecursion (IsLeaf r) (leaves a ++ leaves b)
+  sides {a} {b} h g = all_append (IsLeaf r) (leaves a) (leaves b) h.leaves_are g.leaves_are
 
-  over_both_is : (operator : Operator) (x y : Operand SelectLeaf) (a b : Formula SelectLeaf) → IsFormula scope a (asked_by operator x y) → IsFormula scope b (asked_by operator x y) → IsFormula scope (over_both operator a b) (given_by operator)
+  over_both_is : (operator : Operator) (x y : Operand SelectLeaf) (a b : Formula SelectLeaf) → IsFormula r a (asked_by operator x y) → IsFormula r b (asked_by operator x y) → IsFormula r (over_both operator a b) (given_by operator)
   over_both_is o.Or x y a b h g = record { is = and_both _ _ (side h) (side g); has = refl; leaves_are = sides h g }
   over_both_is o.And x y a b h g = record { is = and_both _ _ (side h) (side g); has = refl; leaves_are = sides h g }
   over_both_is o.Equal x y a b h g = record { is = and_both _ _ (and_both _ _ h.is g.is) (alike h g); has = refl; leaves_are = sides h g }
@@ -61,48 +60,48 @@ module _ (scope : ScopeRule) where
   over_both_is o.Divide x y a b h g = record { is = and_both _ _ (side h) (side g); has = refl; leaves_are = sides h g }
   over_both_is o.Remainder x y a b h g = record { is = and_both _ _ (side h) (side g); has = refl; leaves_are = sides h g }
 
-  pub combined_is : (operator : Operator) (x y z : Operand SelectLeaf) → IsOperand scope x → IsOperand scope y → combined operator x y ≡ Ok z → IsOperand scope z
+  pub combined_is : (operator : Operator) (x y z : Operand SelectLeaf) → IsOperand r x → IsOperand r y → combined operator x y ≡ Ok z → IsOperand r z
   combined_is operator x y z h g is =
       let kind = asked_by operator x y in
       let l = bound (of_kind kind x) (λ left. of_kind kind y >>= λ right. Ok (typed (over_both operator left right) (given_by operator))) z is in
-      let r = bound (of_kind kind y) (λ right. Ok (typed (over_both operator l.0 right) (given_by operator))) z l.2 in
-      subst (IsOperand scope) (ok_is _ _ r.2) (over_both_is operator x y l.0 r.0 (asked kind x l.0 h l.1) (asked kind y r.0 g r.1))
+      let s = bound (of_kind kind y) (λ right. Ok (typed (over_both operator l.0 right) (given_by operator))) z l.2 in
+      subst (IsOperand r) (ok_is _ _ s.2) (over_both_is operator x y l.0 s.0 (asked kind x l.0 h l.1) (asked kind y s.0 g s.1))
 
-  pub negated_is : (x z : Operand SelectLeaf) → IsOperand scope x → negated x ≡ Ok z → IsOperand scope z
+  pub negated_is : (x z : Operand SelectLeaf) → IsOperand r x → negated x ≡ Ok z → IsOperand r z
   negated_is x z h is =
       let a = bound (of_kind Truth x) (λ inner. Ok (typed (Not inner) Truth)) z is in
-      subst (IsOperand scope) (ok_is _ _ a.2) (let one = asked Truth x a.0 h a.1 in record { is = side one; has = refl; leaves_are = one.leaves_are })
+      subst (IsOperand r) (ok_is _ _ a.2) (let one = asked Truth x a.0 h a.1 in record { is = side one; has = refl; leaves_are = one.leaves_are })
 
-  sign_over_is : (sign : Sign) (e : Formula SelectLeaf) → IsFormula scope e Number → IsFormula scope (sign_over sign e) Number
+  sign_over_is : (sign : Sign) (e : Formula SelectLeaf) → IsFormula r e Number → IsFormula r (sign_over sign e) Number
   sign_over_is s.Plus e h = h
   sign_over_is s.Minus e h = record { is = side h; has = refl; leaves_are = h.leaves_are }
 
-  pub signed_is : (sign : Sign) (x z : Operand SelectLeaf) → IsOperand scope x → signed sign x ≡ Ok z → IsOperand scope z
+  pub signed_is : (sign : Sign) (x z : Operand SelectLeaf) → IsOperand r x → signed sign x ≡ Ok z → IsOperand r z
   signed_is sign x z h is =
       let a = bound (of_kind Number x) (λ inner. Ok (typed (sign_over sign inner) Number)) z is in
-      subst (IsOperand scope) (ok_is _ _ a.2) (sign_over_is sign a.0 (asked Number x a.0 h a.1))
+      subst (IsOperand r) (ok_is _ _ a.2) (sign_over_is sign a.0 (asked Number x a.0 h a.1))
 
-  pub tested_is : (not : Bool) (x : Operand SelectLeaf) → IsOperand scope x → IsOperand scope (operands.tested not x)
+  pub tested_is : (not : Bool) (x : Operand SelectLeaf) → IsOperand r x → IsOperand r (operands.tested not x)
   tested_is true x h = let one = settled_is x h in record { is = one.is; has = refl; leaves_are = one.leaves_are }
   tested_is false x h = let one = settled_is x h in record { is = one.is; has = refl; leaves_are = one.leaves_are }
 
-  int_is : (n : ℤ) (z : Operand SelectLeaf) → int_literal n ≡ Ok z → IsOperand scope z
-  int_is n z is = subst (IsOperand scope) (ok_is _ _ is) (record { is = refl; has = refl; leaves_are = tt })
+  int_is : (n : ℤ) (z : Operand SelectLeaf) → int_literal n ≡ Ok z → IsOperand r z
+  int_is n z is = subst (IsOperand r) (ok_is _ _ is) (record { is = refl; has = refl; leaves_are = tt })
 
-  unsigned_is : (n : ℕ) (z : Operand SelectLeaf) → unsigned_number n ≡ Ok z → IsOperand scope z
+  unsigned_is : (n : ℕ) (z : Operand SelectLeaf) → unsigned_number n ≡ Ok z → IsOperand r z
   unsigned_is n z is = let a = bound (number n) (λ m. int_literal (pos m)) z is in int_is (pos a.0) z a.2
 
-  pub literal_is : (x : Written) (z : Operand SelectLeaf) → literal x ≡ Ok z → IsOperand scope z
+  pub literal_is : (x : Written) (z : Operand SelectLeaf) → literal x ≡ Ok z → IsOperand r z
   literal_is (l.Number n) z is = unsigned_is n z is
-  literal_is (l.Text text) z is = subst (IsOperand scope) (ok_is _ _ is) (record { is = refl; has = refl; leaves_are = tt })
-  literal_is (l.Truth b) z is = subst (IsOperand scope) (ok_is _ _ is) (record { is = refl; has = refl; leaves_are = tt })
-  literal_is l.Null z is = subst (IsOperand scope) (ok_is _ _ is) tt
+  literal_is (l.Text text) z is = subst (IsOperand r) (ok_is _ _ is) (record { is = refl; has = refl; leaves_are = tt })
+  literal_is (l.Truth b) z is = subst (IsOperand r) (ok_is _ _ is) (record { is = refl; has = refl; leaves_are = tt })
+  literal_is l.Null z is = subst (IsOperand r) (ok_is _ _ is) tt
 
-  pub signed_number_is : (sign : Sign) (n : ℕ) (z : Operand SelectLeaf) → signed_number sign n ≡ Ok z → IsOperand scope z
+  pub signed_number_is : (sign : Sign) (n : ℕ) (z : Operand SelectLeaf) → signed_number sign n ≡ Ok z → IsOperand r z
   signed_number_is s.Plus n z is = unsigned_is n z is
   signed_number_is s.Minus n z is = by (nat_le n (2 ^ 63)) is
     where
-      by : (b : Bool) → cond b (int_literal (neg_ℤ (pos n))) (Err Types) ≡ Ok z → IsOperand scope z
+      by : (b : Bool) → cond b (int_literal (neg_ℤ (pos n))) (Err Types) ≡ Ok z → IsOperand r z
       by true is = int_is (neg_ℤ (pos n)) z is
       by false is = cc
 
@@ -110,9 +109,9 @@ module _ (scope : ScopeRule) where
 
   abbrev pub AreArms : List (Operand SelectLeaf × Operand SelectLeaf) → Type 0
   AreArms [] = Unit {0}
-  AreArms (arm ∷ arms) = IsOperand scope arm.0 × IsOperand scope arm.1 × AreArms arms
+  AreArms (arm ∷ arms) = IsOperand r arm.0 × IsOperand r arm.1 × AreArms arms
 
-  pub arms_is : (branch : Branch) (kind : ValueKind) (arms : List (Operand SelectLeaf × Operand SelectLeaf)) (rest : Meant (Formula SelectLeaf)) (e : Formula SelectLeaf) → AreArms arms → ((r : Formula SelectLeaf) → rest ≡ Ok r → IsFormula scope r kind) → arms_over branch kind arms rest ≡ Ok e → IsFormula scope e kind
+  pub arms_is : (branch : Branch) (kind : ValueKind) (arms : List (Operand SelectLeaf × Operand SelectLeaf)) (rest : Meant (Formula SelectLeaf)) (e : Formula SelectLeaf) → AreArms arms → ((f : Formula SelectLeaf) → rest ≡ Ok f → IsFormula r f kind) → arms_over branch kind arms rest ≡ Ok e → IsFormula r e kind
   arms_is branch kind [] rest e h g is = g e is
   arms_is branch kind (arm ∷ arms) rest e h g is =
       let o = bound (arms_over Later kind arms rest) (λ otherwise. of_kind Truth arm.0 >>= λ when. of_kind kind arm.1 >>= λ gives. Ok (Case branch when gives otherwise)) e is in
@@ -121,11 +120,11 @@ module _ (scope : ScopeRule) where
       let when = asked Truth arm.0 w.0 h.0 w.1 in
       let gives = asked kind arm.1 t.0 h.1 t.1 in
       let otherwise = arms_is Later kind arms rest o.0 h.2 g o.1 in
-      subst (λ f. IsFormula scope f kind) (ok_is _ _ t.2) (record { is = and_both _ _ (side when) (and_both _ _ (and_both _ _ gives.is otherwise.is) (alike gives otherwise)); has = gives.has; leaves_are = all_append (IsLeaf scope) (leaves w.0 ++ leaves t.0) (leaves o.0) (sides when gives) otherwise.leaves_are })
+      subst (λ f. IsFormula r f kind) (ok_is _ _ t.2) (record { is = and_both _ _ (side when) (and_both _ _ (and_both _ _ gives.is otherwise.is) (alike gives otherwise)); has = gives.has; leaves_are = all_append (IsLeaf r) (leaves w.0 ++ leaves t.0) (leaves o.0) (sides when gives) otherwise.leaves_are })
 
-  pub case_is : (arms : List (Operand SelectLeaf × Operand SelectLeaf)) (other z : Operand SelectLeaf) → AreArms arms → IsOperand scope other → case_of arms other ≡ Ok z → IsOperand scope z
+  pub case_is : (arms : List (Operand SelectLeaf × Operand SelectLeaf)) (other z : Operand SelectLeaf) → AreArms arms → IsOperand r other → case_of arms other ≡ Ok z → IsOperand r z
   case_is arms other z h g is =
       let kind = case_kind arms other in
-      let r = bound (of_kind kind other) (λ rest. arms_over First kind arms (Ok rest) >>= λ whole. Ok (typed whole kind)) z is in
-      let a = bound (arms_over First kind arms (Ok r.0)) (λ whole. Ok (typed whole kind)) z r.2 in
-      subst (IsOperand scope) (ok_is _ _ a.2) (arms_is First kind arms (Ok r.0) a.0 h (λ e i. subst (λ f. IsFormula scope f kind) (ok_is _ _ i) (asked kind other r.0 g r.1)) a.1)
+      let last = bound (of_kind kind other) (λ rest. arms_over First kind arms (Ok rest) >>= λ whole. Ok (typed whole kind)) z is in
+      let a = bound (arms_over First kind arms (Ok last.0)) (λ whole. Ok (typed whole kind)) z last.2 in
+      subst (IsOperand r) (ok_is _ _ a.2) (arms_is First kind arms (Ok last.0) a.0 h (λ e i. subst (λ f. IsFormula r f kind) (ok_is _ _ i) (asked kind other last.0 g last.1)) a.1)

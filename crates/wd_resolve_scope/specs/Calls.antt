@@ -12,70 +12,33 @@ use Rattle.wd_plan.specs.contracts.window.FrameMode.{the_type as mode}
 use Rattle.wd_plan.specs.declared.window.Bound.{Bound}
 use Rattle.wd_plan.specs.declared.window.Bound.TheVariants.{UnboundedPreceding, Preceding, CurrentRow, Following, UnboundedFollowing}
 use Rattle.wd_plan.specs.contracts.window.Exclusion.{the_type as exclusion}
-use Rattle.wd_plan.specs.Expressions.{Expression, expression_of}
-use Rattle.wd_plan.specs.Equality.{same_expression}
 use Rattle.wd_plan.specs.contracts.function.Direction.{the_type as way_type}
 use Rattle.wd_plan.specs.declared.function.Direction.{Direction}
 use Rattle.wd_plan.specs.declared.function.FrameRow.{FrameRow}
 use Rattle.wd_plan.specs.declared.function.FrameRow.TheVariants.{First, Last, Nth}
 use Rattle.wd_plan.specs.declared.function.Ranking.{Ranking}
 use Rattle.wd_plan.specs.declared.function.Ranking.TheVariants as rank
-use Rattle.wd_resolve_scope.specs.declared.call.AppliedAggregate.{AppliedAggregate}
-use Rattle.wd_resolve_scope.specs.declared.call.AppliedAggregate.TheVariants as aggregate_code
 use Rattle.wd_resolve_scope.specs.declared.call.AppliedFunction.{AppliedFunction}
 use Rattle.wd_resolve_scope.specs.declared.call.AppliedFunction.TheVariants as function_code
-use Rattle.wd_resolve_scope.specs.declared.call.ValueArgument.{ValueArgument}
 use Rattle.wd_resolve_scope.specs.declared.call.WindowCall.{WindowCall}
+use Rattle.wd_resolve_scope.specs.Rows.{ArgumentMeaning, AggregateMeaning, RowFormula, aggregate_of, argument_of, kind_of_aggregate, row_formula_of, same_aggregate, same_argument, same_row_formula}
 use Rattle.wd_resolve_scope.specs.Windows.{KeyMeaning, WindowMeaning, window_of}
-
--- an expression that a function reads, and the kind of its values
-pub record ArgumentMeaning : Type 0 where
-  pub expression : Expression
-  pub kind : ValueKind
-
-abbrev pub argument_of : ValueArgument → ArgumentMeaning
-argument_of a = record { expression = expression_of a.expression; kind = a.kind }
-
--- what goes by the rows alone, in whatever order they stand
-pub data AggregateMeaning : Type 0 where
-  -- COUNT of a star
-  count_rows : AggregateMeaning
-  count_of : ArgumentMeaning → AggregateMeaning
-  sum_of : ArgumentMeaning → AggregateMeaning
-  -- MIN and MAX
-  least_of : ArgumentMeaning → AggregateMeaning
-  greatest_of : ArgumentMeaning → AggregateMeaning
-
-abbrev pub aggregate_of : AppliedAggregate → AggregateMeaning
-aggregate_of aggregate_code.CountRows = count_rows
-aggregate_of (aggregate_code.Count a) = count_of (argument_of a)
-aggregate_of (aggregate_code.Sum a) = sum_of (argument_of a)
-aggregate_of (aggregate_code.Min a) = least_of (argument_of a)
-aggregate_of (aggregate_code.Max a) = greatest_of (argument_of a)
 
 -- a function over its arguments
 pub data FunctionMeaning : Type 0 where
   -- a number by the row's place; NTILE with its number of buckets
   ranking : Ranking → FunctionMeaning
   -- LAG and LEAD: the value of the argument so many rows away, or a default
-  away : Direction → ArgumentMeaning → ℕ → Value → FunctionMeaning
+  away : Direction → ArgumentMeaning RowFormula → ℕ → Value → FunctionMeaning
   -- the value of the argument at one row of the frame
-  value_at : FrameRow → ArgumentMeaning → FunctionMeaning
-  aggregate : AggregateMeaning → FunctionMeaning
+  value_at : FrameRow → ArgumentMeaning RowFormula → FunctionMeaning
+  aggregate : AggregateMeaning RowFormula → FunctionMeaning
 
 abbrev pub function_of : AppliedFunction → FunctionMeaning
 function_of (function_code.Ranking r) = ranking r
-function_of (function_code.Shift direction a n default) = away direction (argument_of a) n default
-function_of (function_code.ValueAt row a) = value_at row (argument_of a)
-function_of (function_code.Aggregate a) = aggregate (aggregate_of a)
-
--- the kind of an aggregate's values
-abbrev pub kind_of_aggregate : AggregateMeaning → ValueKind
-kind_of_aggregate count_rows = Number
-kind_of_aggregate (count_of a) = Number
-kind_of_aggregate (sum_of a) = Number
-kind_of_aggregate (least_of a) = a.kind
-kind_of_aggregate (greatest_of a) = a.kind
+function_of (function_code.Shift direction a n default) = away direction (argument_of row_formula_of a) n default
+function_of (function_code.ValueAt row a) = value_at row (argument_of row_formula_of a)
+function_of (function_code.Aggregate a) = aggregate (aggregate_of row_formula_of a)
 
 -- the kind of a function's values
 abbrev pub kind_of_function : FunctionMeaning → ValueKind
@@ -94,9 +57,6 @@ call_of call = record { function = function_of call.function; window = window_of
 
 -- ---- equal calls
 
-abbrev pub same_argument : ArgumentMeaning → ArgumentMeaning → Bool
-same_argument a b = same_expression a.expression b.expression
-
 abbrev pub same_ranking : Ranking → Ranking → Bool
 same_ranking rank.RowNumber rank.RowNumber = true
 same_ranking rank.Rank rank.Rank = true
@@ -110,23 +70,15 @@ same_row Last Last = true
 same_row (Nth m) (Nth n) = nat_eq m n
 same_row r q = false
 
-abbrev pub same_aggregate : AggregateMeaning → AggregateMeaning → Bool
-same_aggregate count_rows count_rows = true
-same_aggregate (count_of a) (count_of b) = same_argument a b
-same_aggregate (sum_of a) (sum_of b) = same_argument a b
-same_aggregate (least_of a) (least_of b) = same_argument a b
-same_aggregate (greatest_of a) (greatest_of b) = same_argument a b
-same_aggregate a b = false
-
 abbrev pub same_function : FunctionMeaning → FunctionMeaning → Bool
 same_function (ranking r) (ranking q) = same_ranking r q
-same_function (away direction a m v) (away other b n w) = sameb way_type direction other && (nat_eq m n && (same v w && same_argument a b))
-same_function (value_at r a) (value_at q b) = same_row r q && same_argument a b
-same_function (aggregate a) (aggregate b) = same_aggregate a b
+same_function (away direction a m v) (away other b n w) = sameb way_type direction other && (nat_eq m n && (same v w && same_argument same_row_formula a b))
+same_function (value_at r a) (value_at q b) = same_row r q && same_argument same_row_formula a b
+same_function (aggregate a) (aggregate b) = same_aggregate same_row_formula a b
 same_function f g = false
 
 abbrev pub same_key : KeyMeaning → KeyMeaning → Bool
-same_key k l = (beq k.key.desc l.key.desc && beq k.key.nulls_first l.key.nulls_first) && same_expression k.expression l.expression
+same_key k l = (beq k.key.desc l.key.desc && beq k.key.nulls_first l.key.nulls_first) && same_row_formula k.expression l.expression
 
 abbrev pub same_bound : Bound → Bound → Bool
 same_bound UnboundedPreceding UnboundedPreceding = true
@@ -141,7 +93,7 @@ same_frame f g = (sameb mode f.mode g.mode && sameb exclusion f.exclusion g.excl
 
 -- one order, one partition, one frame; whether the frame is written does not count
 abbrev pub same_window : WindowMeaning → WindowMeaning → Bool
-same_window v w = same_frame v.frame w.frame && (pointwise same_key v.order w.order && pointwise same_expression v.partition w.partition)
+same_window v w = same_frame v.frame w.frame && (pointwise same_key v.order w.order && pointwise same_row_formula v.partition w.partition)
 
 abbrev pub same_call : CallMeaning → CallMeaning → Bool
 same_call c d = same_function c.function d.function && same_window c.window d.window

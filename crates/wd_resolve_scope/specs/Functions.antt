@@ -1,11 +1,10 @@
 -- Functions by their names, over their arguments (SQL, window function; PG, Window Functions).
-use Rattle.std.specs.Prelude.{ℕ, ℤ, pos, negsuc, List, [], ◌∷◌, nat_le, Option, Some, None, Ok, Err, if◌then◌else◌}
+use Rattle.std.specs.Prelude.{ℕ, ℤ, pos, negsuc, codes, ◌&&◌, List, [], ◌∷◌, length, nat_le, Option, Some, None, Ok, Err, if◌then◌else◌}
 use Rattle.std.specs.Str.{bytes_eq}
 use Rattle.wd_value.specs.declared.value.Value.{Value}
 use Rattle.wd_value.specs.declared.value.Value.TheVariants.{Null, Int}
 use Rattle.wd_plan.specs.declared.expression.ValueKind.{ValueKind}
 use Rattle.wd_plan.specs.declared.expression.ValueKind.TheVariants.{Number}
-use Rattle.wd_plan.specs.Expressions as e
 use Rattle.wd_plan.specs.Fits.{has_extremes, same_kind}
 use Rattle.wd_plan.specs.Functions.{word}
 use Rattle.wd_plan.specs.declared.function.Direction.{Direction}
@@ -16,10 +15,11 @@ use Rattle.wd_plan.specs.declared.function.FunctionName.{FunctionName}
 use Rattle.wd_plan.specs.declared.function.FunctionName.TheVariants.{RowNumber, Rank, DenseRank, Ntile, Lag, Lead, FirstValue, LastValue, NthValue, Count, Sum, Min, Max}
 use Rattle.wd_resolve_operand.specs.declared.cause.Cause.TheVariants.{WrongCall}
 use Rattle.wd_resolve_operand.specs.Causes.{Meant, ◌>>=◌}
-use Rattle.wd_resolve_operand.specs.Formulas.{Literal}
+use Rattle.wd_resolve_operand.specs.Formulas.{Formula, Leaf, Literal}
 use Rattle.wd_resolve_operand.specs.Operands.{Operand, bare_null, typed, settled, kind_of}
-use Rattle.wd_resolve_scope.specs.Calls.{ArgumentMeaning, AggregateMeaning, count_rows, count_of, sum_of, least_of, greatest_of, FunctionMeaning, ranking, away, value_at, aggregate}
-use Rattle.wd_resolve_scope.specs.Leaves.{SelectLeaf, over_columns}
+use Rattle.wd_resolve_scope.specs.Rows.{ArgumentMeaning, AggregateMeaning, count_rows, count_of, sum_of, least_of, greatest_of, GroupCall, of_rows, grouping, RowFormula, column}
+use Rattle.wd_resolve_scope.specs.Calls.{FunctionMeaning, ranking, away, value_at, aggregate}
+use Rattle.wd_resolve_scope.specs.Leaves.{SelectLeaf, of_row, over_columns, over_rows}
 
 -- all functions
 abbrev pub function_names : List FunctionName
@@ -53,23 +53,23 @@ default_of kind (typed a other) = Err WrongCall
 
 -- ---- functions over their arguments
 
--- an operand as a value argument, in which no window call stands
-abbrev pub argument : Operand SelectLeaf → Meant ArgumentMeaning
-argument x = over_columns (settled x) >>= λ e. Ok (record { expression = e; kind = kind_of x })
+-- an operand as a value argument, over what may stand in one
+abbrev pub argument : {E : Type 0} → (Formula SelectLeaf → Meant E) → Operand SelectLeaf → Meant (ArgumentMeaning E)
+argument over x = over (settled x) >>= λ e. Ok (record { expression = e; kind = kind_of x })
 
--- a function over a value argument
-abbrev pub over_argument : (ArgumentMeaning → FunctionMeaning) → Operand SelectLeaf → Meant FunctionMeaning
-over_argument function x = argument x >>= λ a. Ok (function a)
+-- a function over a value argument, in which no window call stands
+abbrev pub over_argument : (ArgumentMeaning RowFormula → FunctionMeaning) → Operand SelectLeaf → Meant FunctionMeaning
+over_argument function x = argument over_rows x >>= λ a. Ok (function a)
 
 -- a value argument of whole numbers; a bare NULL is one here
-abbrev pub numbers : Operand SelectLeaf → Meant ArgumentMeaning
-numbers bare_null = Ok (record { expression = e.Literal Null Number; kind = Number })
-numbers (typed a Number) = argument (typed a Number)
-numbers (typed a kind) = Err WrongCall
+abbrev pub numbers : {E : Type 0} → (Formula SelectLeaf → Meant E) → Operand SelectLeaf → Meant (ArgumentMeaning E)
+numbers over bare_null = over (Literal Null Number) >>= λ e. Ok (record { expression = e; kind = Number })
+numbers over (typed a Number) = argument over (typed a Number)
+numbers over (typed a kind) = Err WrongCall
 
 -- a value argument that MIN and MAX take
-abbrev pub ordered : Operand SelectLeaf → Meant ArgumentMeaning
-ordered x = if has_extremes (Some (kind_of x)) then argument x else Err WrongCall
+abbrev pub ordered : {E : Type 0} → (Formula SelectLeaf → Meant E) → Operand SelectLeaf → Meant (ArgumentMeaning E)
+ordered over x = if has_extremes (Some (kind_of x)) then argument over x else Err WrongCall
 
 -- NTH_VALUE, with the number of the row from 1
 abbrev pub nth : Operand SelectLeaf → Operand SelectLeaf → Meant FunctionMeaning
@@ -86,12 +86,12 @@ over_none DenseRank = Ok (ranking rank.DenseRank)
 over_none name = Err WrongCall
 
 -- an aggregate over its argument
-abbrev pub aggregate_over : FunctionName → Operand SelectLeaf → Meant AggregateMeaning
-aggregate_over Count x = argument x >>= λ a. Ok (count_of a)
-aggregate_over Sum x = numbers x >>= λ a. Ok (sum_of a)
-aggregate_over Min x = ordered x >>= λ a. Ok (least_of a)
-aggregate_over Max x = ordered x >>= λ a. Ok (greatest_of a)
-aggregate_over name x = Err WrongCall
+abbrev pub aggregate_over : {E : Type 0} → (Formula SelectLeaf → Meant E) → FunctionName → Operand SelectLeaf → Meant (AggregateMeaning E)
+aggregate_over over Count x = argument over x >>= λ a. Ok (count_of a)
+aggregate_over over Sum x = numbers over x >>= λ a. Ok (sum_of a)
+aggregate_over over Min x = ordered over x >>= λ a. Ok (least_of a)
+aggregate_over over Max x = ordered over x >>= λ a. Ok (greatest_of a)
+aggregate_over over name x = Err WrongCall
 
 abbrev pub over_one : FunctionName → Operand SelectLeaf → Meant FunctionMeaning
 over_one Ntile n = whole 1 n >>= λ buckets. Ok (ranking (rank.Ntile buckets))
@@ -103,7 +103,7 @@ over_one RowNumber x = Err WrongCall
 over_one Rank x = Err WrongCall
 over_one DenseRank x = Err WrongCall
 over_one NthValue x = Err WrongCall
-over_one name x = aggregate_over name x >>= λ a. Ok (aggregate a)
+over_one name x = aggregate_over over_rows name x >>= λ a. Ok (aggregate a)
 
 abbrev pub over_two : FunctionName → Operand SelectLeaf → Operand SelectLeaf → Meant FunctionMeaning
 over_two Lag x k = shifted way.Lag x k bare_null
@@ -133,3 +133,46 @@ abbrev pub applied : Option FunctionName → Option (List (Operand SelectLeaf)) 
 applied None arguments = Err WrongCall
 applied (Some name) None = over_star name
 applied (Some name) (Some arguments) = over_arguments name arguments
+
+-- ---- functions without OVER
+
+-- what a call without OVER may be: an aggregate, or GROUPING
+pub data GroupFunction : Type 0 where
+  aggregates : FunctionName → GroupFunction
+  grouped : GroupFunction
+
+abbrev pub if_aggregate : Option FunctionName → Option GroupFunction
+if_aggregate (Some Count) = Some (aggregates Count)
+if_aggregate (Some Sum) = Some (aggregates Sum)
+if_aggregate (Some Min) = Some (aggregates Min)
+if_aggregate (Some Max) = Some (aggregates Max)
+if_aggregate name = None
+
+abbrev pub group_function_named : List ℕ → Option GroupFunction
+group_function_named name = if bytes_eq (codes "grouping") name then Some grouped else if_aggregate (function_named name)
+
+-- the columns of FROM that operands are
+abbrev pub column_only : Operand SelectLeaf → Meant ℕ
+column_only (typed (Leaf (of_row (column n))) kind) = Ok n
+column_only x = Err WrongCall
+
+abbrev pub columns_only : List (Operand SelectLeaf) → Meant (List ℕ)
+columns_only [] = Ok []
+columns_only (x ∷ xs) = column_only x >>= λ n. columns_only xs >>= λ ns. Ok (n ∷ ns)
+
+-- GROUPING takes 1 to 31 columns (own)
+abbrev pub grouping_over : List ℕ → Meant GroupCall
+grouping_over columns = if nat_le 1 (length columns) && nat_le (length columns) 31 then Ok (grouping columns) else Err WrongCall
+
+-- an aggregate over one argument, in which only columns of FROM stand
+abbrev pub aggregate_of_one : FunctionName → List (Operand SelectLeaf) → Meant GroupCall
+aggregate_of_one name (x ∷ []) = aggregate_over over_columns name x >>= λ a. Ok (of_rows a)
+aggregate_of_one name xs = Err WrongCall
+
+-- such a function over its arguments or a star
+abbrev pub grouped_over : GroupFunction → Option (List (Operand SelectLeaf)) → Meant GroupCall
+grouped_over (aggregates Count) None = Ok (of_rows count_rows)
+grouped_over (aggregates name) None = Err WrongCall
+grouped_over (aggregates name) (Some xs) = aggregate_of_one name xs
+grouped_over grouped None = Err WrongCall
+grouped_over grouped (Some xs) = columns_only xs >>= λ columns. grouping_over columns

@@ -1,8 +1,7 @@
--- What an expression of a query reads of a row: a column of FROM, or a window call (SQL, value expression primary).
-use Rattle.std.specs.Prelude.{ℕ, Bool, false, List, map, nat_eq, Ok, Err}
+-- What an expression of a query reads: of the rows below windows, or a window call (SQL, value expression primary).
+use Rattle.std.specs.Prelude.{Bool, false, List, map, Ok, Err}
 use Rattle.std.specs.declared.alloc.Global.{Global}
 use Rattle.std.specs.declared.vec.Vec.{Vec}
-use Rattle.wd_plan.specs.Expressions as e
 use Rattle.wd_plan.specs.Expressions.{Expression}
 use Rattle.wd_resolve_operand.specs.declared.cause.Cause.TheVariants.{CallNotAllowed}
 use Rattle.wd_resolve_operand.specs.declared.formula.Formula.{Formula as FormulaCode}
@@ -10,22 +9,22 @@ use Rattle.wd_resolve_operand.specs.declared.meaning.Meaning.{Meaning}
 use Rattle.wd_resolve_operand.specs.declared.operator.CaseArm.{CaseArm}
 use Rattle.wd_resolve_operand.specs.Causes.{Meant, ◌>>=◌}
 use Rattle.wd_resolve_operand.specs.Formulas as formulas
-use Rattle.wd_resolve_operand.specs.Formulas.{Formula, Leaf, Literal, Negate, Arithmetic, Compare, Not, And, Or, IsNull, IsNotNull, Case}
+use Rattle.wd_resolve_operand.specs.Formulas.{Formula, over_leaves}
 use Rattle.wd_resolve_operand.specs.Operands as operands
 use Rattle.wd_resolve_operand.specs.Operands.{Operand}
 use Rattle.wd_resolve_scope.specs.declared.leaf.SelectLeaf.{SelectLeaf as Code}
 use Rattle.wd_resolve_scope.specs.declared.leaf.SelectLeaf.TheVariants as code
+use Rattle.wd_resolve_scope.specs.Rows.{RowFormula, RowLeaf, over_from, row_leaf_of, same_row_leaf}
 use Rattle.wd_resolve_scope.specs.Calls.{CallMeaning, call_of, same_call}
 
 pub data SelectLeaf : Type 0 where
-  -- a column of FROM, by its number
-  column : ℕ → SelectLeaf
+  of_row : RowLeaf → SelectLeaf
   call : CallMeaning → SelectLeaf
 
 -- ---- what values of the code show
 
 abbrev pub leaf_of : Code → SelectLeaf
-leaf_of (code.Column n) = column n
+leaf_of (code.Row l) = of_row (row_leaf_of l)
 leaf_of (code.Call c) = call (call_of c.value)
 
 abbrev pub formula_of : FormulaCode Code → Formula SelectLeaf
@@ -44,21 +43,19 @@ arm_of arm = operands.arm_of leaf_of arm
 
 -- leaves that read the same
 abbrev pub same_leaf : SelectLeaf → SelectLeaf → Bool
-same_leaf (column m) (column n) = nat_eq m n
+same_leaf (of_row l) (of_row m) = same_row_leaf l m
 same_leaf (call c) (call d) = same_call c d
 same_leaf a b = false
 
--- the expression over the columns of FROM alone, where no window call stands in it
+-- what may stand below windows: no window call
+abbrev pub below_windows : SelectLeaf → Meant RowLeaf
+below_windows (of_row l) = Ok l
+below_windows (call c) = Err CallNotAllowed
+
+-- the expression over the rows below windows, where no window call stands in it
+abbrev pub over_rows : Formula SelectLeaf → Meant RowFormula
+over_rows f = over_leaves below_windows f
+
+-- the expression over the columns of FROM alone
 abbrev pub over_columns : Formula SelectLeaf → Meant Expression
-over_columns (Leaf (column n)) = Ok (e.Column n)
-over_columns (Leaf (call c)) = Err CallNotAllowed
-over_columns (Literal v kind) = Ok (e.Literal v kind)
-over_columns (Negate a) = over_columns a >>= λ x. Ok (e.Negate x)
-over_columns (Arithmetic op a b) = over_columns a >>= λ x. over_columns b >>= λ y. Ok (e.Arithmetic op x y)
-over_columns (Compare op a b) = over_columns a >>= λ x. over_columns b >>= λ y. Ok (e.Compare op x y)
-over_columns (Not a) = over_columns a >>= λ x. Ok (e.Not x)
-over_columns (And a b) = over_columns a >>= λ x. over_columns b >>= λ y. Ok (e.And x y)
-over_columns (Or a b) = over_columns a >>= λ x. over_columns b >>= λ y. Ok (e.Or x y)
-over_columns (IsNull a) = over_columns a >>= λ x. Ok (e.IsNull x)
-over_columns (IsNotNull a) = over_columns a >>= λ x. Ok (e.IsNotNull x)
-over_columns (Case branch a b c) = over_columns a >>= λ x. over_columns b >>= λ y. over_columns c >>= λ z. Ok (e.Case branch x y z)
+over_columns f = over_rows f >>= λ g. over_from g

@@ -1,10 +1,13 @@
 pub mod Scopes
+pub mod Rows
 pub mod Windows
 pub mod Calls
 pub mod Leaves
 pub mod Functions
+pub mod FunctionCode
 pub mod Names
 pub mod Places
+pub mod Grouped
 pub mod Resolving
 pub mod Parts
 pub mod Typed

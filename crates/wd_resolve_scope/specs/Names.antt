@@ -1,19 +1,17 @@
 -- The columns that names stand for (SQL, identifier chain; PG, Column References).
 use Rattle.std.specs.Prelude.{ℕ, List, [], ◌∷◌, filter, Option, Ok, Err}
+use Rattle.wd_plan.specs.declared.expression.ValueKind.{ValueKind}
 use Rattle.wd_resolve_operand.specs.declared.cause.Cause.TheVariants.{UnknownColumn, Ambiguous}
 use Rattle.wd_resolve_operand.specs.Causes.{Meant}
-use Rattle.wd_resolve_operand.specs.Formulas.{Leaf}
-use Rattle.wd_resolve_operand.specs.Operands.{Operand, typed}
 use Rattle.wd_resolve_scope.specs.declared.scope.ScopeColumn.{ScopeColumn}
-use Rattle.wd_resolve_scope.specs.Leaves.{SelectLeaf, column}
 use Rattle.wd_resolve_scope.specs.Scopes.{ScopeRule, carries, numbered}
 
--- the one column of these
-abbrev pub the_only : List (ℕ × ScopeColumn) → Meant (Operand SelectLeaf)
+-- the one column of these: its number, and the kind of its values
+abbrev pub the_only : List (ℕ × ScopeColumn) → Meant (ℕ × ValueKind)
 the_only [] = Err UnknownColumn
-the_only (c ∷ []) = Ok (typed (Leaf (column c.0)) c.1.kind)
+the_only (c ∷ []) = Ok (c.0, c.1.kind)
 the_only (c ∷ other ∷ others) = Err Ambiguous
 
 -- a name, after the name of its table or not, stands for the one column in scope that carries it
-abbrev pub column_named : ScopeRule → Option (List ℕ) → List ℕ → Meant (Operand SelectLeaf)
+abbrev pub column_named : ScopeRule → Option (List ℕ) → List ℕ → Meant (ℕ × ValueKind)
 column_named scope table name = the_only (filter (λ c. carries table name c.1) (numbered scope.columns))

@@ -1,12 +1,19 @@
 -- What parts of a tree mean, as they are read one after another.
-use Rattle.std.specs.Prelude.{List, [], ◌∷◌, Option, Ok}
-use Rattle.wd_read_cursor.specs.declared.name.Name.{Name}
+use Rattle.std.specs.Prelude.{ℕ, Option, List, [], ◌∷◌, Ok, Err}
 use Rattle.wd_syntax.specs.declared.expression.Operator.{Operator}
-use Rattle.wd_syntax.specs.Tree.{Tree, Otherwise, OverTree}
+use Rattle.wd_syntax.specs.Tree.{Tree, Otherwise, OverTree, no_over, over_name, over_window}
+use Rattle.wd_resolve_operand.specs.declared.cause.Cause.TheVariants.{WrongCall}
 use Rattle.wd_resolve_operand.specs.Causes.{Meant, ◌>>=◌}
 use Rattle.wd_resolve_operand.specs.Operands.{Operand, combined, case_of}
+use Rattle.wd_resolve_scope.specs.Grouped.{column_meant}
 use Rattle.wd_resolve_scope.specs.Leaves.{SelectLeaf}
-use Rattle.wd_resolve_scope.specs.Resolving.{ContextRule, called, else_resolved, over_meant, resolved}
+use Rattle.wd_resolve_scope.specs.Names.{column_named}
+use Rattle.wd_resolve_scope.specs.Resolving.{ContextRule, else_resolved, resolved, window_resolved}
+use Rattle.wd_resolve_scope.specs.Windows.{WindowMeaning, window_named}
+
+-- a column, which in a grouped select is one that is grouped by
+abbrev pub column_resolved : ContextRule → Option (List ℕ) → List ℕ → Meant (Operand SelectLeaf)
+column_resolved c table name = column_named c.scope table name >>= λ x. column_meant c.groups x
 
 -- an operator and its right operand, over what stands left of it
 abbrev pub link_meant : ContextRule → Operator × Tree → Operand SelectLeaf → Meant (Operand SelectLeaf)
@@ -17,9 +24,11 @@ abbrev pub chain_meant : ContextRule → List (Operator × Tree) → Operand Sel
 chain_meant c [] x = Ok x
 chain_meant c (link ∷ links) x = link_meant c link x >>= λ y. chain_meant c links y
 
--- a call after its arguments: its window, and then itself
-abbrev pub call_over : ContextRule → Name → Option (List (Operand SelectLeaf)) → OverTree → Meant (Operand SelectLeaf)
-call_over c f arguments over = over_meant c over >>= λ w. called f arguments w
+-- the window of a call, where one may stand
+abbrev pub over_meant : ContextRule → OverTree → Meant WindowMeaning
+over_meant c no_over = Err WrongCall
+over_meant c (over_name name) = window_named c.windows name.text
+over_meant c (over_window w) = window_resolved c w
 
 -- a CASE after its arms: its end, and then itself
 abbrev pub case_ended : ContextRule → List (Operand SelectLeaf × Operand SelectLeaf) → Otherwise → Meant (Operand SelectLeaf)

@@ -1,6 +1,6 @@
 -- What the expressions of a query mean over the columns in scope: a window call means its function over its arguments and its
 -- window.
-use Rattle.std.specs.Prelude.{ℕ, Bool, List, [], ◌∷◌, ◌++◌, map, Option, Some, None, option_map, Ok, Err, if◌then◌else◌}
+use Rattle.std.specs.Prelude.{ℕ, Bool, ◌&&◌, List, [], ◌∷◌, ◌++◌, map, Option, Some, None, is_some, option_map, Ok, Err, if◌then◌else◌}
 use Rattle.wd_read_cursor.specs.declared.name.Name.{Name}
 use Rattle.std.specs.List.{list_any}
 use Rattle.std.specs.Str.{bytes_eq}
@@ -11,46 +11,66 @@ use Rattle.wd_syntax.specs.declared.expression.NullsPlace.{NullsPlace}
 use Rattle.wd_syntax.specs.Tree.{Tree, Constant, Column, Qualified, CallAll, Call, Case, Bracket, Signed, Binary, IsNull, Negated, Trees, no_trees, more_trees, Arms, no_arms, more_arms, Otherwise, no_else, or_else, OverTree, no_over, over_name, over_window, WindowTree, window, Keys, no_keys, more_keys}
 use Rattle.wd_plan.specs.declared.expression.ValueKind.TheVariants.{Truth}
 use Rattle.wd_plan.specs.Expressions.{Expression}
-use Rattle.wd_resolve_operand.specs.declared.cause.Cause.TheVariants.{WrongCall, CallNotAllowed, UnknownWindow}
+use Rattle.wd_resolve_operand.specs.declared.cause.Cause.TheVariants.{WrongCall, CallNotAllowed, UnknownWindow, GroupCallNotAllowed, GroupingOfOther}
 use Rattle.wd_resolve_scope.specs.declared.context.Context.{Context}
 use Rattle.wd_resolve_scope.specs.declared.context.Place.{Place}
 use Rattle.wd_resolve_scope.specs.declared.context.Place.TheVariants as place
-use Rattle.wd_resolve_scope.specs.Places.{allows_window_calls}
+use Rattle.wd_resolve_scope.specs.Grouped.{GroupedRule, column_meant, grouped_of}
+use Rattle.wd_resolve_scope.specs.Places.{allows_group_calls, allows_window_calls, within_call}
 use Rattle.wd_resolve_operand.specs.Causes.{Meant, ◌>>=◌}
 use Rattle.wd_resolve_scope.specs.Scopes.{ScopeRule, scope_of}
 use Rattle.wd_resolve_scope.specs.Names.{column_named}
-use Rattle.wd_resolve_operand.specs.Formulas.{Leaf}
+use Rattle.wd_resolve_operand.specs.Formulas.{Formula, Leaf}
 use Rattle.wd_resolve_operand.specs.Operands.{Operand, bare_null, typed, of_kind, settled, kind_of, literal, signed_number, signed, negated, tested, combined, case_of}
 use Rattle.wd_resolve_scope.specs.Windows.{KeyMeaning, WindowMeaning, KnownMeaning, known_of, sort_key, window_meant, window_named, base_named}
 use Rattle.wd_resolve_scope.specs.Calls.{kind_of_function}
-use Rattle.wd_resolve_scope.specs.Functions.{applied, function_named}
-use Rattle.wd_resolve_scope.specs.Leaves.{SelectLeaf, call, over_columns}
+use Rattle.wd_resolve_scope.specs.Functions.{GroupFunction, aggregates, applied, function_named, group_function_named, grouped, grouped_over}
+use Rattle.wd_resolve_scope.specs.Leaves.{SelectLeaf, of_row, call, over_columns, over_rows}
+use Rattle.wd_resolve_scope.specs.Rows.{RowFormula, kind_of_group_call, of_group}
 
--- what an expression is read in: the columns in scope, the windows that have names, and the place where it stands
+-- what an expression is read in: the columns in scope, those of them that a grouped select is grouped by, the windows that have
+-- names, and the place where it stands
 pub record ContextRule : Type 0 where
   pub scope : ScopeRule
+  pub groups : Option GroupedRule
   pub windows : List KnownMeaning
   pub place : Place
 
 abbrev pub context_of : Context → ContextRule
-context_of c = record { scope = scope_of c.scope.now; windows = map known_of c.windows.now; place = c.place }
+context_of c = record { scope = scope_of c.scope.now; groups = option_map grouped_of c.groups; windows = map known_of c.windows.now; place = c.place }
 
 -- the same scope and windows, at another place
 abbrev pub moved_to : Place → ContextRule → ContextRule
-moved_to place c = record { scope = c.scope; windows = c.windows; place = place }
+moved_to place c = record { scope = c.scope; groups = c.groups; windows = c.windows; place = place }
 
--- what the arguments of a call are read in; those of a call without OVER stand where it stands
-abbrev pub arguments_in : ContextRule → OverTree → ContextRule
-arguments_in c no_over = c
-arguments_in c (over_name name) = moved_to place.Argument c
-arguments_in c (over_window w) = moved_to place.Argument c
+-- an aggregate's arguments are read over all columns, and no windows stand there, and GROUPING's have a refusal of their own for columns that are not grouped by;
+-- those of another call without OVER stand where it stands
+abbrev pub without_over : Option GroupFunction → ContextRule → ContextRule
+without_over None c = c
+without_over (Some (aggregates name)) c = record { scope = c.scope; groups = None; windows = []; place = place.Aggregated }
+without_over (Some grouped) c = record { scope = c.scope; groups = option_map (λ (g : GroupedRule). record { columns = g.columns; other = GroupingOfOther }) c.groups; windows = c.windows; place = c.place }
+
+-- what the arguments of a call are read in
+abbrev pub arguments_in : ContextRule → Name → OverTree → ContextRule
+arguments_in c f no_over = without_over (group_function_named f.text) c
+arguments_in c f (over_name name) = moved_to (within_call c.place) c
+arguments_in c f (over_window w) = moved_to (within_call c.place) c
 
 -- the number that a sign stands directly before
 abbrev pub written_number : Tree → Option ℕ
 written_number (Constant (l.Number n)) = Some n
 written_number a = None
 
--- a call: its function over its arguments, and its window
+-- aggregates and GROUPING stand in grouped selects, in places that allow them
+abbrev pub may_group : ContextRule → Bool
+may_group c = is_some c.groups && allows_group_calls c.place
+
+-- a call without OVER: an aggregate or GROUPING over its arguments, where one may stand
+abbrev pub group_called : ContextRule → Option GroupFunction → Option (List (Operand SelectLeaf)) → Meant (Operand SelectLeaf)
+group_called c None arguments = Err WrongCall
+group_called c (Some function) arguments = if may_group c then (grouped_over function arguments >>= λ g. Ok (typed (Leaf (of_row (of_group g))) (kind_of_group_call g))) else Err GroupCallNotAllowed
+
+-- a call with OVER: its function over its arguments, and its window
 abbrev pub called : Name → Option (List (Operand SelectLeaf)) → WindowMeaning → Meant (Operand SelectLeaf)
 called f arguments w = do
   function ← applied (function_named f.text) arguments
@@ -64,14 +84,14 @@ sign_meant sign None inner = inner >>= λ x. signed sign x
 -- an expression to sort by
 abbrev pub key_meant : Operand SelectLeaf → Option SortDirection → Option NullsPlace → Meant KeyMeaning
 key_meant x direction place = do
-  expression ← over_columns (settled x)
+  expression ← over_rows (settled x)
   Ok (record { expression = expression; kind = kind_of x; key = sort_key direction place })
 
 -- expressions in places that ask for no kind
-abbrev pub all_settled : List (Operand SelectLeaf) → Meant (List Expression)
+abbrev pub all_settled : List (Operand SelectLeaf) → Meant (List RowFormula)
 all_settled [] = Ok []
 all_settled (x ∷ xs) = do
-  e ← over_columns (settled x)
+  e ← over_rows (settled x)
   es ← all_settled xs
   Ok (e ∷ es)
 
@@ -83,13 +103,12 @@ abbrev mutual
   -- what an expression means
   pub resolved : ContextRule → Tree → Meant (Operand SelectLeaf)
   resolved c (Constant x) = literal x
-  resolved c (Column name) = column_named c.scope None name.text
-  resolved c (Qualified table name) = column_named c.scope (Some table.text) name.text
-  resolved c (CallAll f over) = over_meant c over >>= λ w. called f None w
+  resolved c (Column name) = column_named c.scope None name.text >>= λ x. column_meant c.groups x
+  resolved c (Qualified table name) = column_named c.scope (Some table.text) name.text >>= λ x. column_meant c.groups x
+  resolved c (CallAll f over) = call_over c f None over
   resolved c (Call f arguments over) = do
-    xs ← all_resolved (arguments_in c over) arguments
-    w ← over_meant c over
-    called f (Some xs) w
+    xs ← all_resolved (arguments_in c f over) arguments
+    call_over c f (Some xs) over
   resolved c (Case arms other) = do
     xs ← arms_resolved c arms
     y ← else_resolved c other
@@ -134,11 +153,11 @@ abbrev mutual
     ks ← keys_resolved c keys
     Ok (k ∷ ks)
 
-  -- the window of a call; a function without OVER is none, and OVER is looked at only where window calls may stand
-  pub over_meant : ContextRule → OverTree → Meant WindowMeaning
-  over_meant c no_over = Err WrongCall
-  over_meant c (over_name name) = where_allowed c (window_named c.windows name.text)
-  over_meant c (over_window w) = where_allowed c (window_resolved c w)
+  -- a call after its arguments: what stands in OVER, and then itself; OVER is looked at only where window calls may stand
+  pub call_over : ContextRule → Name → Option (List (Operand SelectLeaf)) → OverTree → Meant (Operand SelectLeaf)
+  call_over c f xs no_over = group_called c (group_function_named f.text) xs
+  call_over c f xs (over_name name) = where_allowed c (window_named c.windows name.text) >>= λ w. called f xs w
+  call_over c f xs (over_window w) = where_allowed c (window_resolved c w) >>= λ meaning. called f xs meaning
 
   -- a window: the one that it copies, its partition, its order, and then its frame
   pub window_resolved : ContextRule → WindowTree → Meant WindowMeaning
@@ -152,13 +171,20 @@ abbrev mutual
 -- ---- expressions outside the select list
 
 -- an expression in a place where no windows have names
-abbrev pub plain : Place → ScopeRule → Tree → Meant (Operand SelectLeaf)
-plain place scope a = resolved (record { scope = scope; windows = []; place = place }) a
+abbrev pub plain : Place → Option GroupedRule → ScopeRule → Tree → Meant (Operand SelectLeaf)
+plain place groups scope a = resolved (record { scope = scope; groups = groups; windows = []; place = place }) a
+
+-- the condition of HAVING, a truth value over groups, where no windows are yet
+abbrev pub group_condition : Option GroupedRule → ScopeRule → Tree → Meant RowFormula
+group_condition groups scope a = do
+  x ← plain place.Having groups scope a
+  truth ← of_kind Truth x
+  over_rows truth
 
 -- the condition of WHERE and of ON, a truth value over the columns in scope
 abbrev pub condition : Place → ScopeRule → Tree → Meant Expression
 condition place scope a = do
-  x ← plain place scope a
+  x ← plain place None scope a
   truth ← of_kind Truth x
   over_columns truth
 
@@ -169,10 +195,10 @@ abbrev pub is_known : List KnownMeaning → List ℕ → Bool
 is_known windows name = list_any (λ known. bytes_eq known.name name) windows
 
 -- a window of the WINDOW clause, which may copy the ones before it
-abbrev pub defined : ScopeRule → List KnownMeaning → Name → WindowTree → Meant KnownMeaning
-defined scope windows name w = if is_known windows name.text then Err UnknownWindow else window_resolved (record { scope = scope; windows = windows; place = place.Window }) w >>= λ meaning. Ok (record { name = name.text; window = meaning })
+abbrev pub defined : ScopeRule → Option GroupedRule → List KnownMeaning → Name → WindowTree → Meant KnownMeaning
+defined scope groups windows name w = if is_known windows name.text then Err UnknownWindow else window_resolved (record { scope = scope; groups = groups; windows = windows; place = place.Window }) w >>= λ meaning. Ok (record { name = name.text; window = meaning })
 
 -- the windows of the WINDOW clause, after those before them: each is checked, also where no call uses it
-abbrev pub all_defined : ScopeRule → List KnownMeaning → List (Name × WindowTree) → Meant (List KnownMeaning)
-all_defined scope windows [] = Ok windows
-all_defined scope windows (w ∷ others) = defined scope windows w.0 w.1 >>= λ known. all_defined scope (windows ++ known ∷ []) others
+abbrev pub all_defined : ScopeRule → Option GroupedRule → List KnownMeaning → List (Name × WindowTree) → Meant (List KnownMeaning)
+all_defined scope groups windows [] = Ok windows
+all_defined scope groups windows (w ∷ others) = defined scope groups windows w.0 w.1 >>= λ known. all_defined scope groups (windows ++ known ∷ []) others

@@ -1,5 +1,5 @@
 -- That what is meant is typed: an operand has the kind that it says, over the columns in scope and its calls.
-use Rattle.std.specs.Prelude.{◌≡◌, Bool, true, not, ◌||◌, List, Option, Some, is_some, option_map, slice_get, ⊤}
+use Rattle.std.specs.Prelude.{◌≡◌, ℕ, Bool, true, not, ◌||◌, ◌&&◌, List, length, nat_le, Option, Some, None, is_some, option_map, slice_get, ⊤}
 use Rattle.std.specs.List.{AllByRecursion}
 use Rattle.wd_plan.specs.declared.expression.ValueKind.{ValueKind}
 use Rattle.wd_plan.specs.declared.expression.ValueKind.TheVariants.{Number}
@@ -7,12 +7,15 @@ use Rattle.wd_plan.specs.declared.window.Frame.{Frame}
 use Rattle.wd_plan.specs.declared.window.FrameMode.{FrameMode}
 use Rattle.wd_plan.specs.declared.window.FrameMode.TheVariants as mode
 use Rattle.wd_plan.specs.Expressions.{Expression}
+use Rattle.wd_plan.specs.Plans.{has}
 use Rattle.wd_plan.specs.Fits.{Kinds, are_bounds, has_extremes, has_offset, is_frame_row, is_of_kind, is_ranking, is_typed, kind_of}
 use Rattle.wd_resolve_operand.specs.Formulas.{Formula, is_typed_over, kind_over, leaves}
 use Rattle.wd_resolve_operand.specs.Operands.{Operand, bare_null, typed}
 use Rattle.wd_resolve_scope.specs.declared.scope.ScopeColumn.{ScopeColumn}
-use Rattle.wd_resolve_scope.specs.Calls.{ArgumentMeaning, AggregateMeaning, count_rows, count_of, sum_of, least_of, greatest_of, FunctionMeaning, ranking, away, value_at, aggregate, CallMeaning, kind_of_function}
-use Rattle.wd_resolve_scope.specs.Leaves.{SelectLeaf, column, call}
+use Rattle.wd_resolve_scope.specs.Rows.{ArgumentMeaning, AggregateMeaning, count_rows, count_of, sum_of, least_of, greatest_of, GroupCall, of_rows, grouping, RowLeaf, column, of_group, RowFormula, kind_of_group_call}
+use Rattle.wd_resolve_scope.specs.Calls.{FunctionMeaning, ranking, away, value_at, aggregate, CallMeaning, kind_of_function}
+use Rattle.wd_resolve_scope.specs.Leaves.{SelectLeaf, of_row, call}
+use Rattle.wd_resolve_scope.specs.Grouped.{GroupedRule}
 use Rattle.wd_resolve_scope.specs.Scopes.{ScopeRule}
 use Rattle.wd_resolve_scope.specs.Windows.{KeyMeaning, KnownMeaning, WindowMeaning, is_empty, is_one_number}
 
@@ -25,14 +28,70 @@ pub record IsOfKind (kinds : Kinds) (e : Expression) (kind : ValueKind) : Type 0
   pub is : is_typed kinds e ≡ true
   pub has : kind_of kinds e ≡ Some kind
 
+-- ---- what may be read
+
+-- the columns of FROM: their kinds, and which of them may stand outside the argument of an aggregate
+pub record Readable : Type 0 where
+  pub kinds : Kinds
+  pub allows : ℕ → Bool
+  -- calls over groups may stand there
+  pub grouped : Bool
+
+-- where rows are grouped, those that are grouped by
+abbrev pub allowed : Option GroupedRule → ℕ → Bool
+allowed None n = true
+allowed (Some g) n = has g.columns n
+
+abbrev pub readable : ScopeRule → Option GroupedRule → Readable
+readable scope groups = record { kinds = kinds_in scope; allows = allowed groups; grouped = is_some groups }
+
+-- ---- calls over groups
+
+-- what holds of an argument's expression and kind, holds of the argument
+abbrev pub IsArgument : {E : Type 0} → (E → ValueKind → Type 0) → ArgumentMeaning E → Type 0
+IsArgument Is a = Is a.expression a.kind
+
+-- an aggregate whose argument is such an expression
+abbrev pub IsAggregate : {E : Type 0} → (E → ValueKind → Type 0) → AggregateMeaning E → Type 0
+IsAggregate Is count_rows = ⊤
+IsAggregate Is (count_of a) = IsArgument Is a
+IsAggregate Is (sum_of a) = IsArgument Is a × (a.kind ≡ Number)
+IsAggregate Is (least_of a) = IsArgument Is a × (has_extremes (Some a.kind) ≡ true)
+IsAggregate Is (greatest_of a) = IsArgument Is a × (has_extremes (Some a.kind) ≡ true)
+
+-- a call over the rows of a group: an aggregate over any columns, or GROUPING of columns that are grouped by
+abbrev pub IsGroupCall : Readable → GroupCall → Type 0
+IsGroupCall r (of_rows a) = IsAggregate (IsOfKind r.kinds) a
+IsGroupCall r (grouping columns) = AllByRecursion (λ n. r.allows n ≡ true) columns × (nat_le 1 (length columns) && nat_le (length columns) 31 ≡ true)
+
+-- the kind of a leaf of rows: that of the column, or that of the call's values
+abbrev pub row_kind_at : Kinds → RowLeaf → Option ValueKind
+row_kind_at kinds (column n) = kinds n
+row_kind_at kinds (of_group c) = Some (kind_of_group_call c)
+
+abbrev pub IsRowLeaf : Readable → RowLeaf → Type 0
+IsRowLeaf r (column n) = (is_some (r.kinds n) ≡ true) × (r.allows n ≡ true)
+IsRowLeaf r (of_group c) = (r.grouped ≡ true) × IsGroupCall r c
+
+-- an expression that is typed and has this kind, over columns of these r and calls over groups of their rows
+pub record IsRowFormula (r : Readable) (f : RowFormula) (kind : ValueKind) : Type 0 where
+  pub is : is_typed_over (row_kind_at r.kinds) f ≡ true
+  pub has : kind_over (row_kind_at r.kinds) f ≡ Some kind
+  pub leaves_are : AllByRecursion (IsRowLeaf r) (leaves f)
+
+-- such an expression of some kind
+pub record IsTypedRow (r : Readable) (f : RowFormula) : Type 0 where
+  pub kind : ValueKind
+  pub formula : IsRowFormula r f kind
+
 -- ---- windows and calls
 
 -- each expression has some kind
-abbrev pub AreTyped : Kinds → List Expression → Type 0
-AreTyped kinds es = AllByRecursion (λ e. is_typed kinds e ≡ true) es
+abbrev pub AreTyped : Readable → List RowFormula → Type 0
+AreTyped r fs = AllByRecursion (IsTypedRow r) fs
 
-abbrev pub AreKeys : Kinds → List KeyMeaning → Type 0
-AreKeys kinds keys = AllByRecursion (λ (key : KeyMeaning). IsOfKind kinds key.expression key.kind) keys
+abbrev pub AreKeys : Readable → List KeyMeaning → Type 0
+AreKeys r keys = AllByRecursion (λ (key : KeyMeaning). IsRowFormula r key.expression key.kind) keys
 
 -- a frame that goes with its sort keys: GROUPS has some, an offset in RANGE exactly one, of whole numbers
 abbrev pub is_framed : FrameMode → List KeyMeaning → Frame → Bool
@@ -40,57 +99,46 @@ is_framed mode.Rows order frame = true
 is_framed mode.Range order frame = not (has_offset frame.start || has_offset frame.end) || is_one_number order
 is_framed mode.Groups order frame = not (is_empty order)
 
--- a window over columns of these kinds
-pub record IsWindow (kinds : Kinds) (w : WindowMeaning) : Type 0 where
-  pub partition : AreTyped kinds w.partition
-  pub order : AreKeys kinds w.order
+-- a window over columns of these r
+pub record IsWindow (r : Readable) (w : WindowMeaning) : Type 0 where
+  pub partition : AreTyped r w.partition
+  pub order : AreKeys r w.order
   pub bounds : are_bounds w.frame.start w.frame.end ≡ true
   pub frame : is_framed w.frame.mode w.order w.frame ≡ true
 
-abbrev pub IsArgument : Kinds → ArgumentMeaning → Type 0
-IsArgument kinds a = IsOfKind kinds a.expression a.kind
+-- a function over columns of these r
+abbrev pub IsFunction : Readable → FunctionMeaning → Type 0
+IsFunction r (ranking ranked) = is_ranking ranked ≡ true
+IsFunction r (away direction a n default) = IsArgument (IsRowFormula r) a × (is_of_kind a.kind default ≡ true)
+IsFunction r (value_at row a) = IsArgument (IsRowFormula r) a × (is_frame_row row ≡ true)
+IsFunction r (aggregate a) = IsAggregate (IsRowFormula r) a
 
--- an aggregate over columns of these kinds
-abbrev pub IsAggregate : Kinds → AggregateMeaning → Type 0
-IsAggregate kinds count_rows = ⊤
-IsAggregate kinds (count_of a) = IsArgument kinds a
-IsAggregate kinds (sum_of a) = IsArgument kinds a × (a.kind ≡ Number)
-IsAggregate kinds (least_of a) = IsArgument kinds a × (has_extremes (Some a.kind) ≡ true)
-IsAggregate kinds (greatest_of a) = IsArgument kinds a × (has_extremes (Some a.kind) ≡ true)
-
--- a function over columns of these kinds
-abbrev pub IsFunction : Kinds → FunctionMeaning → Type 0
-IsFunction kinds (ranking r) = is_ranking r ≡ true
-IsFunction kinds (away direction a n default) = IsArgument kinds a × (is_of_kind a.kind default ≡ true)
-IsFunction kinds (value_at row a) = IsArgument kinds a × (is_frame_row row ≡ true)
-IsFunction kinds (aggregate a) = IsAggregate kinds a
-
-pub record IsCall (kinds : Kinds) (call : CallMeaning) : Type 0 where
-  pub function : IsFunction kinds call.function
-  pub window : IsWindow kinds call.window
+pub record IsCall (r : Readable) (call : CallMeaning) : Type 0 where
+  pub function : IsFunction r call.function
+  pub window : IsWindow r call.window
 
 -- the windows that have names
-abbrev pub AreKnown : Kinds → List KnownMeaning → Type 0
-AreKnown kinds windows = AllByRecursion (λ (known : KnownMeaning). IsWindow kinds known.window) windows
+abbrev pub AreKnown : Readable → List KnownMeaning → Type 0
+AreKnown r windows = AllByRecursion (λ (known : KnownMeaning). IsWindow r known.window) windows
 
 -- ---- operands
 
--- the kind of a leaf: that of the column, or that of the values of the call's function
-abbrev pub kind_at : ScopeRule → SelectLeaf → Option ValueKind
-kind_at scope (column n) = kinds_in scope n
-kind_at scope (call c) = Some (kind_of_function c.function)
+-- the kind of a leaf: that of what is read of rows, or that of the values of the call's function
+abbrev pub kind_at : Readable → SelectLeaf → Option ValueKind
+kind_at r (of_row l) = row_kind_at r.kinds l
+kind_at r (call c) = Some (kind_of_function c.function)
 
--- a column in scope, or a call over the columns in scope
-abbrev pub IsLeaf : ScopeRule → SelectLeaf → Type 0
-IsLeaf scope (column n) = is_some (kinds_in scope n) ≡ true
-IsLeaf scope (call c) = IsCall (kinds_in scope) c
+-- a column in r, or a call over the columns in r
+abbrev pub IsLeaf : Readable → SelectLeaf → Type 0
+IsLeaf r (of_row l) = IsRowLeaf r l
+IsLeaf r (call c) = IsCall r c
 
--- an expression that is typed and has this kind, over the columns in scope and calls over them
-pub record IsFormula (scope : ScopeRule) (f : Formula SelectLeaf) (kind : ValueKind) : Type 0 where
-  pub is : is_typed_over (kind_at scope) f ≡ true
-  pub has : kind_over (kind_at scope) f ≡ Some kind
-  pub leaves_are : AllByRecursion (IsLeaf scope) (leaves f)
+-- an expression that is typed and has this kind, over the columns in r and calls over them
+pub record IsFormula (r : Readable) (f : Formula SelectLeaf) (kind : ValueKind) : Type 0 where
+  pub is : is_typed_over (kind_at r) f ≡ true
+  pub has : kind_over (kind_at r) f ≡ Some kind
+  pub leaves_are : AllByRecursion (IsLeaf r) (leaves f)
 
-abbrev pub IsOperand : ScopeRule → Operand SelectLeaf → Type 0
-IsOperand scope bare_null = ⊤
-IsOperand scope (typed f kind) = IsFormula scope f kind
+abbrev pub IsOperand : Readable → Operand SelectLeaf → Type 0
+IsOperand r bare_null = ⊤
+IsOperand r (typed f kind) = IsFormula r f kind

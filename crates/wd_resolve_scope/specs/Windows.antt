@@ -25,7 +25,6 @@ use Rattle.wd_plan.specs.declared.window.Bound.{Bound}
 use Rattle.wd_plan.specs.declared.window.Bound.TheVariants.{UnboundedPreceding, Preceding, CurrentRow, Following, UnboundedFollowing}
 use Rattle.wd_plan.specs.declared.window.Exclusion.{Exclusion}
 use Rattle.wd_plan.specs.declared.window.Exclusion.TheVariants as exclude
-use Rattle.wd_plan.specs.Expressions.{Expression, expression_of}
 use Rattle.wd_plan.specs.Fits.{same_kind, are_bounds, has_offset}
 use Rattle.wd_resolve_operand.specs.declared.cause.Cause.TheVariants.{UnknownWindow, WindowCopy, FrameBounds, RangeOffset, GroupsWithoutOrder}
 use Rattle.wd_resolve_scope.specs.declared.window.OrderKey.{OrderKey}
@@ -33,25 +32,26 @@ use Rattle.wd_resolve_scope.specs.declared.window.Window.{Window}
 use Rattle.wd_resolve_scope.specs.declared.window.KnownWindow.{KnownWindow}
 use Rattle.wd_resolve_operand.specs.Causes.{Meant, ◌>>=◌}
 use Rattle.wd_resolve_operand.specs.Operands.{number}
+use Rattle.wd_resolve_scope.specs.Rows.{RowFormula, row_formula_of}
 
 -- an expression to sort by, the kind of its values, and how they are sorted
 pub record KeyMeaning : Type 0 where
-  pub expression : Expression
+  pub expression : RowFormula
   pub kind : ValueKind
   pub key : SortKey
 
 abbrev pub key_of : OrderKey → KeyMeaning
-key_of k = record { expression = expression_of k.expression; kind = k.kind; key = k.key }
+key_of k = record { expression = row_formula_of k.expression; kind = k.kind; key = k.key }
 
 -- a window, and whether its frame is written
 pub record WindowMeaning : Type 0 where
-  pub partition : List Expression
+  pub partition : List RowFormula
   pub order : List KeyMeaning
   pub frame : Frame
   pub framed : Bool
 
 abbrev pub window_of : Window → WindowMeaning
-window_of w = record { partition = map expression_of w.partition.value.items; order = map key_of w.order.value.items; frame = w.frame; framed = w.framed }
+window_of w = record { partition = map row_formula_of w.partition.value.items; order = map key_of w.order.value.items; frame = w.frame; framed = w.framed }
 
 -- ---- sort keys
 
@@ -132,12 +132,12 @@ order_copied [] (key ∷ keys) = Ok (key ∷ keys)
 order_copied (other ∷ others) (key ∷ keys) = Err WindowCopy
 
 -- a window that copies another takes its partition and order, gives no PARTITION BY, and the other has no frame clause
-abbrev pub copied : Option WindowMeaning → List Expression → List KeyMeaning → Meant (List Expression × List KeyMeaning)
+abbrev pub copied : Option WindowMeaning → List RowFormula → List KeyMeaning → Meant (List RowFormula × List KeyMeaning)
 copied None partition order = Ok (partition, order)
 copied (Some base) partition order = if base.framed || not (is_empty partition) then Err WindowCopy else order_copied base.order order >>= λ keys. Ok (base.partition, keys)
 
 -- the window with what it copies, its own partition and order, and its frame
-abbrev pub window_meant : Option WindowMeaning → List Expression → List KeyMeaning → Option WrittenFrame → Meant WindowMeaning
+abbrev pub window_meant : Option WindowMeaning → List RowFormula → List KeyMeaning → Option WrittenFrame → Meant WindowMeaning
 window_meant base partition order written = do
   frame ← frame_meant written
   lists ← copied base partition order

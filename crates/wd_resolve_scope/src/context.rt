@@ -5,6 +5,7 @@ ghost use Rattle.wd_resolve_scope.specs.Places as spec;
 
 use crate::scope::Scope;
 use crate::window::KnownWindow;
+use wd_resolve_operand::Cause;
 
 /// Where in a query an expression stands.
 #[derive(Clone, Copy, PartialEq, Eq, Debug)]
@@ -12,10 +13,13 @@ pub enum Place {
     SelectList,
     On,
     Where,
+    Having,
     /// PARTITION BY and ORDER BY of a window.
     Window,
     /// An argument of a call with a window.
     Argument,
+    /// An argument of an aggregate without a window.
+    Aggregated,
     /// The final ORDER BY.
     SortKey,
 }
@@ -27,15 +31,50 @@ impl Place {
     {
         match self {
             Place::SelectList => true,
-            Place::On | Place::Where | Place::Window | Place::Argument | Place::SortKey => false,
+            Place::On
+            | Place::Where
+            | Place::Having
+            | Place::Window
+            | Place::Argument
+            | Place::Aggregated
+            | Place::SortKey => false,
+        }
+    }
+
+    /// Whether aggregates and GROUPING may stand there.
+    pub(crate) fn allows_group_calls(self) -> bool
+        ensures { result ≡ spec.allows_group_calls self }
+    {
+        match self {
+            Place::On | Place::Where | Place::Aggregated => false,
+            Place::SelectList | Place::Having | Place::Window | Place::Argument | Place::SortKey =>
+                true,
+        }
+    }
+
+    /// Where the arguments of a window call that stands here stand.
+    pub(crate) fn within_call(self) -> Place
+        ensures { result ≡ spec.within_call self }
+    {
+        match self {
+            Place::SelectList => Place::Argument,
+            _ => self,
         }
     }
 }
 
-/// The columns in scope, the windows that have names, and the place.
+/// The columns that a select is grouped by, and why no other may stand there.
+#[derive(Clone, Copy)]
+pub struct Grouped<'a> {
+    pub columns: &'a [u16],
+    pub other: Cause,
+}
+
+/// The columns in scope, those of them that a grouped select is grouped by, the windows that have names, and the place.
 #[derive(Clone, Copy)]
 pub struct Context<'a> {
     pub scope: &'a Scope,
+    pub groups: Option<Grouped<'a>>,
     pub windows: &'a [KnownWindow],
     pub place: Place,
 }

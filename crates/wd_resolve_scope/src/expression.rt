@@ -2,11 +2,14 @@
 
 ghost use Rattle.std.specs.Prelude.{◌≡◌, [], map, option_map, Some, None, Ok};
 ghost use Rattle.wd_plan.specs.Expressions.{expression_of};
-ghost use Rattle.wd_syntax.specs.View.{view, view_link, view_window, view_over_option, view_else_option, view_arm, view_key, view_named_window};
+ghost use Rattle.wd_syntax.specs.View.{view, view_link, view_window, view_over, view_over_option, view_else_option, view_arm, view_key, view_named_window};
 ghost use Rattle.wd_syntax.specs.View as shown;
 ghost use Rattle.wd_syntax.specs.Tree.{trees_of, arms_of, keys_of};
 ghost use Rattle.wd_resolve_operand.specs.Causes.{Gives};
-ghost use Rattle.wd_resolve_scope.specs.Leaves.{operand_of, operands_of, arm_of};
+ghost use Rattle.wd_resolve_scope.specs.Functions.{group_function_named};
+ghost use Rattle.wd_resolve_scope.specs.Grouped.{column_allowed, grouped_of};
+ghost use Rattle.wd_resolve_scope.specs.Leaves.{operand_of, operands_of, arm_of, formula_of};
+ghost use Rattle.wd_resolve_scope.specs.Rows.{row_formula_of};
 ghost use Rattle.wd_resolve_scope.specs.Parts as parts;
 ghost use Rattle.wd_resolve_scope.specs.Resolving.{context_of};
 ghost use Rattle.wd_resolve_scope.specs.Resolving as spec;
@@ -14,21 +17,25 @@ ghost use Rattle.wd_resolve_scope.specs.Scopes.{scope_of};
 ghost use Rattle.wd_resolve_scope.specs.Windows.{key_of, window_of, known_of};
 
 use crate::call::WindowCall;
-use crate::context::{Context, Place};
-use crate::function::applied;
-use crate::leaf::{SelectLeaf, over_columns, settled_over_columns};
+use crate::context::{Context, Grouped, Place};
+use crate::function;
+use crate::function::{GroupFunction, applied, grouped_over};
+use crate::leaf::{SelectLeaf, over_columns, over_rows, settled_over};
+use crate::row::RowLeaf;
 use crate::scope::Scope;
 use crate::window::{
     KnownWindow, OrderKey, Window, base_named, sort_key, window_meant, window_named,
 };
 use std::alloc::Global;
-use wd_plan::{Expr, ValueKind};
+use std::rc::Rc;
+use wd_plan::{Expr, ValueKind, has_column};
 use wd_resolve_operand::{
     CaseArm, Cause, Formula, Meaning, ResolveError, case_of, combined, literal, negated, signed,
     signed_number, tested,
 };
 use wd_syntax as written;
 use wd_syntax::{Arm, Link, Literal, Name, NamedWindow, Over, Sign, SortKey};
+use wd_value::Text;
 
 impl Context<'_> {
     /// The same scope and windows, at another place.
@@ -37,19 +44,85 @@ impl Context<'_> {
     {
         Context {
             scope: self.scope,
+            groups: self.groups,
             windows: self.windows,
             place,
         }
     }
 
-    /// The context of a call's arguments: those of a call without OVER stand where it stands.
-    fn arguments_in(&self, over: &Option<Box<Over>>) -> Context<'_>
-        ensures { context_of result ≡ spec.arguments_in (context_of self.now) (view_over_option over.now) }
+    /// Whether aggregates and GROUPING may stand there: in a grouped select, and in a place that allows them.
+    fn may_group(&self) -> bool
+        ensures { result ≡ spec.may_group (context_of self.now) }
+    {
+        match self.groups {
+            None => false,
+            Some(_) => self.place.allows_group_calls(),
+        }
+    }
+
+    /// The context of the arguments of a call without OVER.
+    fn without_over(&self, name: &Name) -> Context<'_>
+        ensures { context_of result ≡ spec.without_over (group_function_named name.now.text) (context_of self.now) }
+    {
+        match function::group_function_named(name.text.as_str()) {
+            None => self.moved_to(self.place),
+            Some(GroupFunction::Aggregate(_)) => Context {
+                scope: self.scope,
+                groups: None,
+                windows: &[],
+                place: Place::Aggregated,
+            },
+            Some(GroupFunction::Grouping) => Context {
+                scope: self.scope,
+                groups: match self.groups {
+                    None => None,
+                    Some(groups) => Some(Grouped {
+                        columns: groups.columns,
+                        other: Cause::GroupingOfOther,
+                    }),
+                },
+                windows: self.windows,
+                place: self.place,
+            },
+        }
+    }
+
+    /// The context of a call's arguments.
+    #[tactic(auto, using(crate::proofs::OverCalls::moved_within))]
+    fn arguments_in(&self, name: &Name, over: &Option<Box<Over>>) -> Context<'_>
+        ensures { context_of result ≡ spec.arguments_in (context_of self.now) name.now (view_over_option over.now) }
     {
         match over {
-            None => self.moved_to(self.place),
-            Some(_) => self.moved_to(Place::Argument),
+            None => self.without_over(name),
+            Some(_) => self.moved_to(self.place.within_call()),
         }
+    }
+
+    /// In a grouped select a column is one that is grouped by.
+    pub fn allow_column(&self, number: u16) -> Result<(), ResolveError>
+        ensures { Gives (λ u. u) result (column_allowed (option_map grouped_of self.now.groups) number) }
+    {
+        match self.groups {
+            Some(groups) if !has_column(groups.columns, number) => {
+                Err(ResolveError::Refused(groups.other))
+            }
+            _ => Ok(()),
+        }
+    }
+
+    /// A column, which in a grouped select is one that is grouped by.
+    fn column(
+        &self,
+        alloc: Global,
+        table: Option<&Text>,
+        name: &Text,
+    ) -> Result<Meaning<SelectLeaf>, ResolveError>
+        ensures { Gives operand_of result (parts.column_resolved (context_of self.now) (option_map (λ t. t.now) table.entry) name.now) }
+    {
+        let (number, kind) = self.scope.column(table, name)?;
+        self.allow_column(number)?;
+        let leaf = SelectLeaf::Row(RowLeaf::Column(number));
+        Meaning::typed(alloc, Formula::Leaf(leaf), kind)
     }
 }
 
@@ -64,16 +137,13 @@ pub fn resolved(
 {
     match tree {
         written::Expr::Literal(value) => literal(alloc, value),
-        written::Expr::Column(name) => context.scope.column(alloc, None, &name.text),
+        written::Expr::Column(name) => context.column(alloc, None, &name.text),
         written::Expr::Qualified(table, name) => {
-            context.scope.column(alloc, Some(&table.text), &name.text)
+            context.column(alloc, Some(&table.text), &name.text)
         }
-        written::Expr::CallAll(name, over) => {
-            let window = over_meant(alloc, context, over)?;
-            called(alloc, name, None, window)
-        }
+        written::Expr::CallAll(name, over) => call_over(alloc, context, name, None, over),
         written::Expr::Call(name, arguments, over) => {
-            let arguments = all_resolved(alloc, &context.arguments_in(over), arguments)?;
+            let arguments = all_resolved(alloc, &context.arguments_in(name, over), arguments)?;
             call_over(alloc, context, name, Some(arguments), over)
         }
         written::Expr::Case(arms, other) => {
@@ -119,7 +189,8 @@ pub fn written_number(tree: &written::Expr) -> Option<u64>
     }
 }
 
-/// A call after its arguments: its window, and then itself.
+/// A call after its arguments: what stands in OVER, and then itself.
+#[tactic(auto, using(crate::proofs::OverCalls::over_called))]
 #[cycle(resolve)]
 fn call_over(
     alloc: Global,
@@ -128,10 +199,38 @@ fn call_over(
     arguments: Option<Vec<Meaning<SelectLeaf>>>,
     over: &Option<Box<Over>>,
 ) -> Result<Meaning<SelectLeaf>, ResolveError>
-    ensures { Gives operand_of result (parts.call_over (context_of context.now) name.now (option_map operands_of arguments) (view_over_option over.now)) }
+    ensures { Gives operand_of result (spec.call_over (context_of context.now) name.now (option_map operands_of arguments) (view_over_option over.now)) }
 {
+    let Some(over) = over else {
+        return group_called(alloc, context, name, arguments);
+    };
+    if !context.place.allows_window_calls() {
+        return Err(ResolveError::Refused(Cause::CallNotAllowed));
+    }
     let window = over_meant(alloc, context, over)?;
     called(alloc, name, arguments, window)
+}
+
+/// A call without OVER, after its arguments: 405 where it is neither an aggregate nor GROUPING, and 416 where none may stand, as in a
+/// select that is not grouped.
+fn group_called(
+    alloc: Global,
+    context: &Context<'_>,
+    name: &Name,
+    arguments: Option<Vec<Meaning<SelectLeaf>>>,
+) -> Result<Meaning<SelectLeaf>, ResolveError>
+    ensures { Gives operand_of result (spec.group_called (context_of context.now) (group_function_named name.now.text) (option_map operands_of arguments)) }
+{
+    let Some(function) = function::group_function_named(name.text.as_str()) else {
+        return Err(ResolveError::Refused(Cause::WrongCall));
+    };
+    if !context.may_group() {
+        return Err(ResolveError::Refused(Cause::GroupCallNotAllowed));
+    }
+    let call = grouped_over(alloc, function, arguments)?;
+    let kind = call.kind();
+    let leaf = SelectLeaf::Row(RowLeaf::Group(Rc::new(alloc, call)?));
+    Meaning::typed(alloc, Formula::Leaf(leaf), kind)
 }
 
 /// A CASE after its arms: its end, and then itself.
@@ -288,28 +387,18 @@ fn order_key(
     ensures { Gives key_of result (spec.key_meant (operand_of operand.now) written.now.direction written.now.nulls) }
 {
     Ok(OrderKey {
-        expression: settled_over_columns(alloc, operand)?,
+        expression: settled_over(alloc, operand)?,
         kind: operand.kind(),
         key: sort_key(written.direction, written.nulls),
     })
 }
 
-/// The window of a call: 405 without OVER, and 406 where no window calls may stand.
+/// The window of a call, where one may stand.
 #[cycle(resolve)]
-fn over_meant(
-    alloc: Global,
-    context: &Context<'_>,
-    over: &Option<Box<Over>>,
-) -> Result<Window, ResolveError>
-    ensures { Gives window_of result (spec.over_meant (context_of context.now) (view_over_option over.now)) }
+fn over_meant(alloc: Global, context: &Context<'_>, over: &Over) -> Result<Window, ResolveError>
+    ensures { Gives window_of result (parts.over_meant (context_of context.now) (view_over over.now)) }
 {
-    let Some(over) = over else {
-        return Err(ResolveError::Refused(Cause::WrongCall));
-    };
-    if !context.place.allows_window_calls() {
-        return Err(ResolveError::Refused(Cause::CallNotAllowed));
-    }
-    match &**over {
+    match over {
         Over::Name(name) => Ok(window_named(context.windows, &name.text)?.share()?),
         Over::Window(window) => window_resolved(alloc, context, window),
     }
@@ -339,12 +428,15 @@ fn window_resolved(
 }
 
 /// The expressions in places that ask for no kind; 406 where a window call stands in one.
-fn all_settled(alloc: Global, operands: &[Meaning<SelectLeaf>]) -> Result<Vec<Expr>, ResolveError>
-    ensures { Gives (λ v. map expression_of v.items) result (spec.all_settled (map operand_of operands.now)) }
+fn all_settled(
+    alloc: Global,
+    operands: &[Meaning<SelectLeaf>],
+) -> Result<Vec<Formula<RowLeaf>>, ResolveError>
+    ensures { Gives (λ v. map row_formula_of v.items) result (spec.all_settled (map operand_of operands.now)) }
 {
     let mut expressions = Vec::with_capacity(alloc, operands.len())?;
     for operand in operands {
-        expressions.push(settled_over_columns(alloc, operand)?)?;
+        expressions.push(settled_over(alloc, operand)?)?;
     }
     Ok(expressions)
 }
@@ -353,17 +445,33 @@ fn all_settled(alloc: Global, operands: &[Meaning<SelectLeaf>]) -> Result<Vec<Ex
 pub fn plain(
     alloc: Global,
     scope: &Scope,
+    groups: Option<Grouped<'_>>,
     place: Place,
     tree: &written::Expr,
 ) -> Result<Meaning<SelectLeaf>, ResolveError>
-    ensures { Gives operand_of result (spec.plain place (scope_of scope.now) (view tree.now)) }
+    ensures { Gives operand_of result (spec.plain place (option_map grouped_of groups.entry) (scope_of scope.now) (view tree.now)) }
 {
     let context = Context {
         scope,
+        groups,
         windows: &[],
         place,
     };
     resolved(alloc, &context, tree)
+}
+
+/// The condition of HAVING, over groups.
+pub fn group_condition(
+    alloc: Global,
+    scope: &Scope,
+    groups: Option<Grouped<'_>>,
+    tree: &written::Expr,
+) -> Result<Formula<RowLeaf>, ResolveError>
+    ensures { Gives row_formula_of result (spec.group_condition (option_map grouped_of groups.entry) (scope_of scope.now) (view tree.now)) }
+{
+    let operand = plain(alloc, scope, groups, Place::Having, tree)?;
+    let truth = operand.of_kind(alloc, ValueKind::Truth)?;
+    over_rows(alloc, &truth)
 }
 
 /// The condition of WHERE and of ON.
@@ -375,7 +483,7 @@ pub fn condition(
 ) -> Result<Expr, ResolveError>
     ensures { Gives expression_of result (spec.condition place (scope_of scope.now) (view tree.now)) }
 {
-    let operand = plain(alloc, scope, place, tree)?;
+    let operand = plain(alloc, scope, None, place, tree)?;
     let truth = operand.of_kind(alloc, ValueKind::Truth)?;
     over_columns(alloc, &truth)
 }
@@ -395,16 +503,18 @@ fn is_known(windows: &[KnownWindow], name: &Name) -> bool
 fn defined(
     alloc: Global,
     scope: &Scope,
+    groups: Option<Grouped<'_>>,
     windows: &[KnownWindow],
     window: &NamedWindow,
 ) -> Result<KnownWindow, ResolveError>
-    ensures { Gives known_of result (spec.defined (scope_of scope.now) (map known_of windows.now) window.now.name (view_window window.now.window)) }
+    ensures { Gives known_of result (spec.defined (scope_of scope.now) (option_map grouped_of groups.entry) (map known_of windows.now) window.now.name (view_window window.now.window)) }
 {
     if is_known(windows, &window.name) {
         return Err(ResolveError::Refused(Cause::UnknownWindow));
     }
     let context = Context {
         scope,
+        groups,
         windows,
         place: Place::Window,
     };
@@ -419,13 +529,14 @@ fn defined(
 pub fn all_defined(
     alloc: Global,
     scope: &Scope,
+    groups: Option<Grouped<'_>>,
     written: &[NamedWindow],
 ) -> Result<Vec<KnownWindow>, ResolveError>
-    ensures { Gives (λ v. map known_of v.items) result (spec.all_defined (scope_of scope.now) [] (map view_named_window written.now)) }
+    ensures { Gives (λ v. map known_of v.items) result (spec.all_defined (scope_of scope.now) (option_map grouped_of groups.entry) [] (map view_named_window written.now)) }
 {
     let mut windows = Vec::new(alloc);
     for window in written {
-        let known = defined(alloc, scope, &windows, window)?;
+        let known = defined(alloc, scope, groups, &windows, window)?;
         windows.push(known)?;
     }
     Ok(windows)

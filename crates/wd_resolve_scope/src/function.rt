@@ -2,35 +2,23 @@
 
 ghost use Rattle.std.specs.Prelude.{◌≡◌, map, option_map};
 ghost use Rattle.wd_resolve_operand.specs.Causes.{Gives};
-ghost use Rattle.wd_resolve_scope.specs.Calls.{aggregate_of, argument_of, function_of};
+ghost use Rattle.wd_resolve_scope.specs.Calls.{function_of};
+ghost use Rattle.wd_resolve_scope.specs.FunctionCode.{group_function_of};
+ghost use Rattle.wd_resolve_scope.specs.Rows.{aggregate_of, argument_of, group_call_of};
 ghost use Rattle.wd_resolve_scope.specs.Calls as calls;
 ghost use Rattle.wd_resolve_scope.specs.Functions as spec;
 ghost use Rattle.wd_resolve_scope.specs.Leaves.{operand_of, operands_of};
 
-use crate::call::{AppliedAggregate, AppliedFunction, ValueArgument};
-use crate::leaf::{SelectLeaf, settled_over_columns};
+use crate::call::AppliedFunction;
+use crate::leaf::{Argument, SelectLeaf, settled_over};
+use crate::row::{AppliedAggregate, GroupCall, RowLeaf, ValueArgument};
 use std::alloc::Global;
-use wd_plan::{
-    Direction, Expr, FrameRow, FunctionName, Ranking, ValueKind, has_extremes, same_kind,
-};
+use wd_plan::{Direction, FrameRow, FunctionName, Ranking, ValueKind, has_extremes, same_kind};
 use wd_resolve_operand::{Cause, Formula, Meaning, ResolveError};
 use wd_value::Value;
 
 /// How far LAG and LEAD go where they do not say.
 const ONE_ROW: u64 = 1;
-
-impl AppliedAggregate {
-    /// The kind of its values.
-    fn kind(&self) -> ValueKind
-        ensures { result ≡ calls.kind_of_aggregate (aggregate_of self.now) }
-    {
-        match self {
-            AppliedAggregate::CountRows | AppliedAggregate::Count(_) | AppliedAggregate::Sum(_) =>
-                ValueKind::Number,
-            AppliedAggregate::Min(argument) | AppliedAggregate::Max(argument) => argument.kind,
-        }
-    }
-}
 
 impl AppliedFunction {
     /// The kind of its values.
@@ -41,7 +29,9 @@ impl AppliedFunction {
             AppliedFunction::Ranking(_) => ValueKind::Number,
             AppliedFunction::Shift { argument, .. } => argument.kind,
             AppliedFunction::ValueAt(_, argument) => argument.kind,
-            AppliedFunction::Aggregate(aggregate) => aggregate.kind(),
+            AppliedFunction::Aggregate(AppliedAggregate::Min(argument)) => argument.kind,
+            AppliedFunction::Aggregate(AppliedAggregate::Max(argument)) => argument.kind,
+            AppliedFunction::Aggregate(_) => ValueKind::Number,
         }
     }
 }
@@ -113,22 +103,28 @@ fn default_of(
 }
 
 /// An operand as a value argument; 406 where a window call stands in it.
-fn argument(alloc: Global, operand: &Meaning<SelectLeaf>) -> Result<ValueArgument, ResolveError>
-    ensures { Gives argument_of result (spec.argument (operand_of operand.now)) }
+fn argument<E: Argument>(
+    alloc: Global,
+    operand: &Meaning<SelectLeaf>,
+) -> Result<ValueArgument<E>, ResolveError>
+    ensures { Gives (argument_of E.shown) result (spec.argument E.over (operand_of operand.now)) }
 {
     Ok(ValueArgument {
-        expression: settled_over_columns(alloc, operand)?,
+        expression: settled_over(alloc, operand)?,
         kind: operand.kind(),
     })
 }
 
 /// A value argument of whole numbers, as a bare NULL is one; else 405.
-fn numbers(alloc: Global, operand: &Meaning<SelectLeaf>) -> Result<ValueArgument, ResolveError>
-    ensures { Gives argument_of result (spec.numbers (operand_of operand.now)) }
+fn numbers<E: Argument>(
+    alloc: Global,
+    operand: &Meaning<SelectLeaf>,
+) -> Result<ValueArgument<E>, ResolveError>
+    ensures { Gives (argument_of E.shown) result (spec.numbers E.over (operand_of operand.now)) }
 {
     match operand {
         Meaning::Null => Ok(ValueArgument {
-            expression: Expr::Literal(Value::Null, ValueKind::Number),
+            expression: E::over(alloc, &Formula::Literal(Value::Null, ValueKind::Number))?,
             kind: ValueKind::Number,
         }),
         Meaning::Typed(_, ValueKind::Number) => argument(alloc, operand),
@@ -137,8 +133,11 @@ fn numbers(alloc: Global, operand: &Meaning<SelectLeaf>) -> Result<ValueArgument
 }
 
 /// A value argument that MIN and MAX take; else 405.
-fn ordered(alloc: Global, operand: &Meaning<SelectLeaf>) -> Result<ValueArgument, ResolveError>
-    ensures { Gives argument_of result (spec.ordered (operand_of operand.now)) }
+fn ordered<E: Argument>(
+    alloc: Global,
+    operand: &Meaning<SelectLeaf>,
+) -> Result<ValueArgument<E>, ResolveError>
+    ensures { Gives (argument_of E.shown) result (spec.ordered E.over (operand_of operand.now)) }
 {
     if has_extremes(Some(operand.kind())) {
         argument(alloc, operand)
@@ -215,12 +214,12 @@ fn over_none(name: FunctionName) -> Result<AppliedFunction, ResolveError>
 }
 
 /// An aggregate over its argument.
-fn aggregate_over(
+fn aggregate_over<E: Argument>(
     alloc: Global,
     name: FunctionName,
     x: &Meaning<SelectLeaf>,
-) -> Result<AppliedAggregate, ResolveError>
-    ensures { Gives aggregate_of result (spec.aggregate_over name (operand_of x.now)) }
+) -> Result<AppliedAggregate<E>, ResolveError>
+    ensures { Gives (aggregate_of E.shown) result (spec.aggregate_over E.over name (operand_of x.now)) }
 {
     match name {
         FunctionName::Count => Ok(AppliedAggregate::Count(argument(alloc, x)?)),
@@ -326,5 +325,97 @@ pub(crate) fn applied(
     match arguments {
         None => over_star(name),
         Some(arguments) => over_arguments(alloc, name, &arguments),
+    }
+}
+
+/// What a call without OVER may be.
+#[derive(Clone, Copy)]
+pub(crate) enum GroupFunction {
+    /// COUNT, SUM, MIN or MAX.
+    Aggregate(FunctionName),
+    Grouping,
+}
+
+/// What a call without OVER of that name may be.
+pub(crate) fn group_function_named(name: &str) -> Option<GroupFunction>
+    ensures { option_map group_function_of result ≡ spec.group_function_named name.now }
+{
+    match name {
+        "grouping" => Some(GroupFunction::Grouping),
+        "count" => Some(GroupFunction::Aggregate(FunctionName::Count)),
+        "sum" => Some(GroupFunction::Aggregate(FunctionName::Sum)),
+        "min" => Some(GroupFunction::Aggregate(FunctionName::Min)),
+        "max" => Some(GroupFunction::Aggregate(FunctionName::Max)),
+        _ => None,
+    }
+}
+
+/// The columns of FROM that operands are; else 405.
+fn columns_only(alloc: Global, operands: &[Meaning<SelectLeaf>]) -> Result<Vec<u16>, ResolveError>
+    ensures { Gives (λ v. v.items) result (spec.columns_only (map operand_of operands.now)) }
+{
+    let mut columns = Vec::new(alloc);
+    for operand in operands {
+        columns.push(column_only(operand)?)?;
+    }
+    Ok(columns)
+}
+
+fn column_only(operand: &Meaning<SelectLeaf>) -> Result<u16, ResolveError>
+    ensures { Gives (λ n. n) result (spec.column_only (operand_of operand.now)) }
+{
+    let Meaning::Typed(expression, _) = operand else {
+        return Err(ResolveError::Refused(Cause::WrongCall));
+    };
+    match &**expression {
+        Formula::Leaf(SelectLeaf::Row(RowLeaf::Column(number))) => Ok(*number),
+        _ => Err(ResolveError::Refused(Cause::WrongCall)),
+    }
+}
+
+/// An aggregate over its one argument; else 405.
+fn aggregate_of_one(
+    alloc: Global,
+    name: FunctionName,
+    arguments: &[Meaning<SelectLeaf>],
+) -> Result<GroupCall, ResolveError>
+    ensures { Gives group_call_of result (spec.aggregate_of_one name (map operand_of arguments.now)) }
+{
+    match arguments {
+        [x] => Ok(GroupCall::OfRows(aggregate_over(alloc, name, x)?)),
+        _ => Err(ResolveError::Refused(Cause::WrongCall)),
+    }
+}
+
+/// GROUPING of 1 to 31 columns; else 405.
+fn grouping_over(columns: Vec<u16>) -> Result<GroupCall, ResolveError>
+    ensures { Gives group_call_of result (spec.grouping_over columns.items) }
+{
+    if 1 <= columns.len() && columns.len() <= 31 {
+        Ok(GroupCall::Grouping(columns))
+    } else {
+        Err(ResolveError::Refused(Cause::WrongCall))
+    }
+}
+
+/// Such a function over its arguments, or over a star where there are none; 405 where it does not take them.
+pub(crate) fn grouped_over(
+    alloc: Global,
+    function: GroupFunction,
+    arguments: Option<Vec<Meaning<SelectLeaf>>>,
+) -> Result<GroupCall, ResolveError>
+    ensures { Gives group_call_of result (spec.grouped_over (group_function_of function) (option_map operands_of arguments)) }
+{
+    match (function, arguments) {
+        (GroupFunction::Aggregate(FunctionName::Count), None) => {
+            Ok(GroupCall::OfRows(AppliedAggregate::CountRows))
+        }
+        (_, None) => Err(ResolveError::Refused(Cause::WrongCall)),
+        (GroupFunction::Aggregate(name), Some(arguments)) => {
+            aggregate_of_one(alloc, name, &arguments)
+        }
+        (GroupFunction::Grouping, Some(arguments)) => {
+            grouping_over(columns_only(alloc, &arguments)?)
+        }
     }
 }

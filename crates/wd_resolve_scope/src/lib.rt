@@ -3,19 +3,25 @@
 
 mod call;
 mod context;
+mod copies;
 mod expression;
 mod function;
+mod grouped;
 pub mod laws;
 mod leaf;
 mod names;
+mod row;
 mod same;
 mod scope;
 mod window;
 
-pub use call::{AppliedAggregate, AppliedFunction, ValueArgument, WindowCall};
-pub use context::{Context, Place};
-pub use expression::{all_defined, condition, plain, resolved, written_number};
+pub use call::{AppliedFunction, WindowCall};
+pub use context::{Context, Grouped, Place};
+pub use copies::copy_of;
+pub use expression::{all_defined, condition, group_condition, plain, resolved, written_number};
+pub use grouped::is_grouped;
 pub use leaf::SelectLeaf;
-pub use same::same_call;
+pub use row::{AppliedAggregate, GroupCall, RowLeaf, ValueArgument};
+pub use same::{same_call, same_group_call};
 pub use scope::{MOST_COLUMNS, Scope, ScopeColumn};
 pub use window::{KnownWindow, OrderKey, Window, sort_key};

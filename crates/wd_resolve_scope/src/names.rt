@@ -2,15 +2,13 @@
 
 ghost use Rattle.std.specs.Prelude.{◌≡◌, option_map};
 ghost use Rattle.wd_resolve_operand.specs.Causes.{Gives};
-ghost use Rattle.wd_resolve_scope.specs.Leaves.{operand_of};
 ghost use Rattle.wd_resolve_scope.specs.Names.{column_named};
 ghost use Rattle.wd_resolve_scope.specs.Scopes.{scope_of};
 ghost use Rattle.wd_resolve_scope.specs.Scopes as spec;
 
-use crate::leaf::SelectLeaf;
 use crate::scope::{Scope, ScopeColumn};
-use std::alloc::Global;
-use wd_resolve_operand::{Cause, Formula, Meaning, ResolveError};
+use wd_plan::ValueKind;
+use wd_resolve_operand::{Cause, ResolveError};
 use wd_value::Text;
 
 /// Whether a column has the name, and is of the table of the other name where one is said.
@@ -27,13 +25,12 @@ fn carries(table: Option<&Text>, name: &Text, column: &ScopeColumn) -> bool
 impl Scope {
     /// The one column of that name, of a table where one is said: 402 where there is none, 403 where there are several.
     #[tactic(auto, using(crate::proofs::Naming::found_first))]
-    pub(crate) fn column(
+    pub fn column(
         &self,
-        alloc: Global,
         table: Option<&Text>,
         name: &Text,
-    ) -> Result<Meaning<SelectLeaf>, ResolveError>
-        ensures { Gives operand_of result (column_named (scope_of self.now) (option_map (λ t. t.now) table.entry) name.now) }
+    ) -> Result<(u16, ValueKind), ResolveError>
+        ensures { Gives (λ c. c) result (column_named (scope_of self.now) (option_map (λ t. t.now) table.entry) name.now) }
     {
         let mut found = None;
         for (number, column) in self.columns.iter().enumerate() {
@@ -46,9 +43,7 @@ impl Scope {
         }
         match found {
             None => Err(ResolveError::Refused(Cause::UnknownColumn)),
-            Some((number, kind)) => {
-                Meaning::typed(alloc, Formula::Leaf(SelectLeaf::Column(number)), kind)
-            }
+            Some(column) => Ok(column),
         }
     }
 

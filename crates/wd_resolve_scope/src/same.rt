@@ -2,19 +2,24 @@
 
 ghost use Rattle.std.specs.Prelude.{◌≡◌, map};
 ghost use lib.Pointwise.{pointwise};
+ghost use Rattle.std.specs.Prelude.{nat_eq};
+ghost use Rattle.wd_plan.specs.Equality.{same_expression};
 ghost use Rattle.wd_plan.specs.Expressions.{expression_of};
-ghost use Rattle.wd_resolve_scope.specs.Calls.{aggregate_of, argument_of, call_of, function_of};
+ghost use Rattle.wd_resolve_scope.specs.Calls.{call_of, function_of};
 ghost use Rattle.wd_resolve_scope.specs.Calls as spec;
-ghost use Rattle.wd_plan.specs.Equality as equality;
+ghost use Rattle.wd_resolve_scope.specs.Rows.{aggregate_of, argument_of, group_call_of, row_formula_of, same_row_formula};
+ghost use Rattle.wd_resolve_scope.specs.Rows as rows;
 ghost use Rattle.wd_resolve_scope.specs.Windows.{key_of, window_of};
 
-use crate::call::{AppliedAggregate, AppliedFunction, ValueArgument, WindowCall};
+use crate::call::{AppliedFunction, WindowCall};
+use crate::row::{AppliedAggregate, GroupCall, RowLeaf, ValueArgument};
 use crate::window::{OrderKey, Window};
 use wd_plan::{Bound, Expr, Frame, FrameRow, Ranking};
+use wd_resolve_operand::Formula;
 use wd_value::same;
 
-fn same_argument(a: &ValueArgument, b: &ValueArgument) -> bool
-    ensures { result ≡ spec.same_argument (argument_of a.now) (argument_of b.now) }
+fn same_argument(a: &ValueArgument<Formula<RowLeaf>>, b: &ValueArgument<Formula<RowLeaf>>) -> bool
+    ensures { result ≡ rows.same_argument same_row_formula (argument_of row_formula_of a.now) (argument_of row_formula_of b.now) }
 {
     a.expression.same(&b.expression)
 }
@@ -42,8 +47,11 @@ fn same_row(r: FrameRow, q: FrameRow) -> bool
     }
 }
 
-fn same_aggregate(a: &AppliedAggregate, b: &AppliedAggregate) -> bool
-    ensures { result ≡ spec.same_aggregate (aggregate_of a.now) (aggregate_of b.now) }
+fn same_aggregate(
+    a: &AppliedAggregate<Formula<RowLeaf>>,
+    b: &AppliedAggregate<Formula<RowLeaf>>,
+) -> bool
+    ensures { result ≡ rows.same_aggregate same_row_formula (aggregate_of row_formula_of a.now) (aggregate_of row_formula_of b.now) }
 {
     match (a, b) {
         (AppliedAggregate::CountRows, AppliedAggregate::CountRows) => true,
@@ -109,8 +117,8 @@ fn same_frame(f: &Frame, g: &Frame) -> bool
         && (same_bound(f.start, g.start) && same_bound(f.end, g.end))
 }
 
-fn same_partition(a: &[Expr], b: &[Expr]) -> bool
-    ensures { result ≡ pointwise equality.same_expression (map expression_of a.now) (map expression_of b.now) }
+fn same_partition(a: &[Formula<RowLeaf>], b: &[Formula<RowLeaf>]) -> bool
+    ensures { result ≡ pointwise same_row_formula (map row_formula_of a.now) (map row_formula_of b.now) }
 {
     if a.len() != b.len() {
         return false;
@@ -148,4 +156,47 @@ pub fn same_call(c: &WindowCall, d: &WindowCall) -> bool
     ensures { result ≡ spec.same_call (call_of c.now) (call_of d.now) }
 {
     same_function(&c.function, &d.function) && same_window(&c.window, &d.window)
+}
+
+fn same_columns(a: &ValueArgument<Expr>, b: &ValueArgument<Expr>) -> bool
+    ensures { result ≡ rows.same_argument same_expression (argument_of expression_of a.now) (argument_of expression_of b.now) }
+{
+    a.expression.same(&b.expression)
+}
+
+fn same_of_rows(a: &AppliedAggregate<Expr>, b: &AppliedAggregate<Expr>) -> bool
+    ensures { result ≡ rows.same_aggregate same_expression (aggregate_of expression_of a.now) (aggregate_of expression_of b.now) }
+{
+    match (a, b) {
+        (AppliedAggregate::CountRows, AppliedAggregate::CountRows) => true,
+        (AppliedAggregate::Count(x), AppliedAggregate::Count(y)) => same_columns(x, y),
+        (AppliedAggregate::Sum(x), AppliedAggregate::Sum(y)) => same_columns(x, y),
+        (AppliedAggregate::Min(x), AppliedAggregate::Min(y)) => same_columns(x, y),
+        (AppliedAggregate::Max(x), AppliedAggregate::Max(y)) => same_columns(x, y),
+        _ => false,
+    }
+}
+
+fn same_numbers(a: &[u16], b: &[u16]) -> bool
+    ensures { result ≡ pointwise nat_eq a.now b.now }
+{
+    if a.len() != b.len() {
+        return false;
+    }
+    for (i, x) in a.iter().enumerate() {
+        if *x != b[i] {
+            return false;
+        }
+    }
+    true
+}
+
+pub fn same_group_call(c: &GroupCall, d: &GroupCall) -> bool
+    ensures { result ≡ rows.same_group_call (group_call_of c.now) (group_call_of d.now) }
+{
+    match (c, d) {
+        (GroupCall::OfRows(a), GroupCall::OfRows(b)) => same_of_rows(a, b),
+        (GroupCall::Grouping(a), GroupCall::Grouping(b)) => same_numbers(a, b),
+        _ => false,
+    }
 }

@@ -1,15 +1,16 @@
 //! Windows: their partition and order, their frame, and what they copy.
 
 ghost use Rattle.std.specs.Prelude.{◌≡◌, map, option_map, IfOk};
-ghost use Rattle.wd_plan.specs.Expressions.{expression_of};
+ghost use Rattle.wd_resolve_scope.specs.Rows.{row_formula_of};
 ghost use Rattle.wd_resolve_operand.specs.Causes.{Gives};
 ghost use Rattle.wd_resolve_scope.specs.Windows.{key_of, window_of, known_of};
 ghost use Rattle.wd_resolve_scope.specs.Windows as spec;
 
+use crate::row::RowLeaf;
 use std::alloc::Global;
 use std::rc::Rc;
-use wd_plan::{Bound, Exclusion, Expr, Frame, FrameMode, ValueKind, are_bounds, same_kind};
-use wd_resolve_operand::{Cause, ResolveError, number};
+use wd_plan::{Bound, Exclusion, Frame, FrameMode, ValueKind, are_bounds, same_kind};
+use wd_resolve_operand::{Cause, Formula, ResolveError, number};
 use wd_syntax as written;
 use wd_syntax::{Extent, Name, NullsPlace, SortDirection};
 use wd_value::{OutOfMemory, SortKey, Text};
@@ -17,7 +18,7 @@ use wd_value::{OutOfMemory, SortKey, Text};
 /// An expression to sort by, the kind of its values, and how they are sorted.
 #[derive(Drop)]
 pub struct OrderKey {
-    pub expression: Expr,
+    pub expression: Formula<RowLeaf>,
     pub kind: ValueKind,
     pub key: SortKey,
 }
@@ -25,7 +26,7 @@ pub struct OrderKey {
 /// A window. Windows that copy one another share their lists.
 #[derive(Drop)]
 pub struct Window {
-    pub partition: Rc<Vec<Expr>>,
+    pub partition: Rc<Vec<Formula<RowLeaf>>>,
     pub order: Rc<Vec<OrderKey>>,
     pub frame: Frame,
     /// Whether the frame is written.
@@ -192,10 +193,10 @@ fn order_copied(
 fn copied(
     alloc: Global,
     base: Option<&Window>,
-    partition: Vec<Expr>,
+    partition: Vec<Formula<RowLeaf>>,
     order: Vec<OrderKey>,
-) -> Result<(Rc<Vec<Expr>>, Rc<Vec<OrderKey>>), ResolveError>
-    ensures { Gives (λ lists. (map expression_of lists.0.value.items, map key_of lists.1.value.items)) result (spec.copied (option_map (λ w. window_of w.now) base.entry) (map expression_of partition.items) (map key_of order.items)) }
+) -> Result<(Rc<Vec<Formula<RowLeaf>>>, Rc<Vec<OrderKey>>), ResolveError>
+    ensures { Gives (λ lists. (map row_formula_of lists.0.value.items, map key_of lists.1.value.items)) result (spec.copied (option_map (λ w. window_of w.now) base.entry) (map row_formula_of partition.items) (map key_of order.items)) }
 {
     let Some(base) = base else {
         return Ok((Rc::new(alloc, partition)?, Rc::new(alloc, order)?));
@@ -211,11 +212,11 @@ fn copied(
 pub(crate) fn window_meant(
     alloc: Global,
     base: Option<&Window>,
-    partition: Vec<Expr>,
+    partition: Vec<Formula<RowLeaf>>,
     order: Vec<OrderKey>,
     frame: Option<written::Frame>,
 ) -> Result<Window, ResolveError>
-    ensures { Gives window_of result (spec.window_meant (option_map (λ w. window_of w.now) base.entry) (map expression_of partition.items) (map key_of order.items) frame) }
+    ensures { Gives window_of result (spec.window_meant (option_map (λ w. window_of w.now) base.entry) (map row_formula_of partition.items) (map key_of order.items) frame) }
 {
     let framed = frame.is_some();
     let frame = frame_meant(frame)?;

@@ -1,5 +1,5 @@
 -- What stands among the elements met first.
-use Rattle.std.proofs.Common.{◌≡◌, ◌∙◌, sym, ap, refl, subst, ℕ, suc, not, ◌+◌, Bool, true, false, cond, ◌||◌, ◌<◌, ◌≤◌, List, [], ◌∷◌, ◌++◌, length, map, position, Some, None, slice_get, arith}
+use Rattle.std.proofs.Common.{◌≡◌, ◌∙◌, sym, ap, refl, subst, ℕ, suc, not, ◌+◌, Bool, true, false, cond, ◌||◌, ◌<◌, ◌≤◌, List, [], ◌∷◌, ◌++◌, length, map, position, Option, Some, None, is_some, slice_get, arith}
 use Rattle.std.specs.List.{AllByRecursion, list_any, list_all, position_or_len}
 use Rattle.std.proofs.lemmas.Bool.{false≢true, le-ltb, lt-ltb, or_left, or_right}
 use Rattle.std.proofs.lemmas.List.{length-map}
@@ -7,6 +7,10 @@ use Rattle.std.proofs.lemmas.List.Folds.{list_any-append}
 use Rattle.wd_resolve_select.specs.Listing.{with_new}
 use Rattle.wd_resolve_scope.proofs.Lists.{all_push}
 use Rattle.wd_resolve_scope.proofs.Typing.{and_both}
+
+pub some_there : {A : Type 0} (o : Option A) → is_some o ≡ true → (x : A) × (o ≡ Some x)
+some_there None h = absurd (false≢true h)
+some_there (Some x) h = (x, refl)
 
 pub all_append : {A : Type 0} (P : A → Type 0) (xs ys : List A) → AllByRecursion P xs → AllByRecursion P ys → AllByRecursion P (xs ++ ys)
 all_append P [] ys h g = g
@@ -19,6 +23,10 @@ all_split P (x ∷ xs) ys h = let later = all_split P xs ys h.1 in ((h.0, later.
 pub all_true : {A : Type 0} (t : A → Bool) (xs : List A) → AllByRecursion (λ x. t x ≡ true) xs → list_all t xs ≡ true
 all_true t [] h = refl
 all_true t (x ∷ xs) h = and_both _ _ h.0 (all_true t xs h.1)
+
+pub all_on_each : {A : Type 0} (P Q : A → Type 0) → ((x : A) → P x → Q x) → (xs : List A) → AllByRecursion P xs → AllByRecursion Q xs
+all_on_each P Q f [] h = tt
+all_on_each P Q f (x ∷ xs) h = (f x h.0, all_on_each P Q f xs h.1)
 
 pub all_zip : {A : Type 0} (P Q : A → Type 0) (xs : List A) → AllByRecursion P xs → AllByRecursion Q xs → AllByRecursion (λ x. P x × Q x) xs
 all_zip P Q [] h g = tt

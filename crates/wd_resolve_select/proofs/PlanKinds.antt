@@ -2,7 +2,7 @@
 use Rattle.std.proofs.Common.{◌≡◌, ◌∙◌, sym, ap, refl, subst, ℕ, zero, suc, ◌+◌, ◌-◌, ◌<◌, ◌≤◌, Bool, true, false, not, ◌||◌, List, [], ◌∷◌, ◌++◌, map, length, nat_lt, add-zero, Option, Some, is_some, slice_get, arith}
 use Rattle.std.specs.List.{AllByRecursion, list_all}
 use Rattle.std.proofs.lemmas.Bool.{ltb-true, ltb-false, le-leb}
-use Rattle.std.proofs.lemmas.List.{length-append, length-map}
+use Rattle.std.proofs.lemmas.List.{length-append}
 use Rattle.std.proofs.lemmas.Option.{slice_get-map}
 use Rattle.wd_plan.specs.declared.expression.ValueKind.{ValueKind}
 use Rattle.wd_plan.specs.declared.expression.ValueKind.TheVariants.{Truth}
@@ -133,7 +133,7 @@ columns_are kinds first (k ∷ ks) h = (
   columns_are kinds (first + 1) ks (λ c j g. let same : first + suc c ≡ (first + 1) + c = omega arith in subst (λ n. kinds n ≡ Some j) same (h (suc c) j g)),
 )
 
-get_first : {A : Type 0} (xs ys : List A) (c : ℕ) (x : A) → slice_get xs c ≡ Some x → slice_get (xs ++ ys) c ≡ Some x
+pub get_first : {A : Type 0} (xs ys : List A) (c : ℕ) (x : A) → slice_get xs c ≡ Some x → slice_get (xs ++ ys) c ≡ Some x
 get_first [] ys c x h = cc
 get_first (y ∷ xs) ys zero x h = h
 get_first (y ∷ xs) ys (suc c) x h = get_first xs ys c x h

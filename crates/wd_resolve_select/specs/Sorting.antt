@@ -1,5 +1,5 @@
 -- The final ORDER BY and the limits of rows (SQL, query expression; PG, Sorting Rows, LIMIT and OFFSET, SELECT: LIMIT Clause).
-use Rattle.std.specs.Prelude.{◌≡◌, ℕ, ◌+◌, ◌-◌, Bool, true, false, not, ◌&&◌, List, [], ◌∷◌, ◌++◌, map, length, filter, position, nat_le, Option, Some, None, Ok, Err, if◌then◌else◌}
+use Rattle.std.specs.Prelude.{◌≡◌, ℕ, ◌+◌, ◌-◌, Bool, true, false, not, ◌&&◌, List, [], ◌∷◌, ◌++◌, map, length, filter, position, nat_le, Option, Some, None, option_map, Ok, Err, if◌then◌else◌}
 use Rattle.std.specs.List.{list_all}
 use Rattle.std.specs.Str.{bytes_eq}
 use Rattle.wd_value.specs.declared.order.SortKey.{SortKey}
@@ -19,6 +19,7 @@ use Rattle.wd_resolve_operand.specs.Causes.{Meant, ◌>>=◌}
 use Rattle.wd_resolve_operand.specs.Formulas.{Formula, same_formula}
 use Rattle.wd_resolve_operand.specs.Operands.{number, settled}
 use Rattle.wd_resolve_scope.specs.declared.context.Place.TheVariants as place
+use Rattle.wd_resolve_scope.specs.Grouped.{GroupedRule, grouped_of}
 use Rattle.wd_resolve_scope.specs.Scopes.{ScopeRule, scope_of}
 use Rattle.wd_resolve_scope.specs.Windows.{sort_key}
 use Rattle.wd_resolve_scope.specs.Leaves.{SelectLeaf, formula_of, same_leaf}
@@ -27,17 +28,21 @@ use Rattle.wd_resolve_select.specs.declared.shown.Shown.{Shown as CodeShown}
 use Rattle.wd_resolve_select.specs.declared.shown.KeyPlace.{KeyPlace as CodePlace}
 use Rattle.wd_resolve_select.specs.declared.shown.KeyPlace.TheVariants as code
 use Rattle.wd_resolve_select.specs.declared.shown.Sorted.{Sorted as CodeSorted}
-use Rattle.wd_resolve_select.specs.Listing.{are_wide, needs_of, needs_shown}
+use Rattle.wd_resolve_select.specs.Grouping.{below_of}
+use Rattle.wd_resolve_select.specs.Listing.{Below, all_needs, are_wide, needs_shown}
 use Rattle.wd_resolve_select.specs.Outputs.{OutputMeaning, expressions_of, output_of}
 
--- what a select has before its ORDER BY: the columns of FROM, whether it is DISTINCT, and its outputs
+-- what a select has before its ORDER BY: the columns of FROM, those that may stand in it, what stands below its windows, whether it
+-- is DISTINCT, and its outputs
 pub record Shown : Type 0 where
   pub scope : ScopeRule
+  pub groups : Option GroupedRule
+  pub below : Below
   pub distinct : Bool
   pub outputs : List OutputMeaning
 
 abbrev pub shown_of : CodeShown → Shown
-shown_of s = record { scope = scope_of s.scope.now; distinct = s.distinct; outputs = map output_of s.outputs.now }
+shown_of s = record { scope = scope_of s.scope.now; groups = option_map grouped_of s.groups; below = below_of s.below.now; distinct = s.distinct; outputs = map output_of s.outputs.now }
 
 -- ---- sort keys
 
@@ -63,9 +68,9 @@ output_or f (Some number) = output number
 abbrev pub sorted_place : Formula SelectLeaf → List OutputMeaning → KeyPlace
 sorted_place f outputs = output_or f (position (shows f) outputs)
 
--- the expression of a key over the columns of FROM
+-- the expression of a key over what may stand in it
 abbrev pub expression_place : Shown → Tree → Meant KeyPlace
-expression_place s a = plain place.SortKey s.scope a >>= λ x. Ok (sorted_place (settled x) s.outputs)
+expression_place s a = plain place.SortKey s.groups s.scope a >>= λ x. Ok (sorted_place (settled x) s.outputs)
 
 abbrev pub is_named : List ℕ → OutputMeaning → Bool
 is_named name o = bytes_eq o.name name
@@ -125,10 +130,6 @@ sorted_of s = record { items = s.items.items; hidden = map formula_of s.hidden.i
 abbrev pub unsorted : Sorted
 unsorted = record { items = []; hidden = [] }
 
--- what the Map shows: the outputs, and the hidden sort keys
-abbrev pub all_shown : Shown → Sorted → List (Formula SelectLeaf)
-all_shown s sorted = expressions_of s.outputs ++ sorted.hidden
-
 -- a further key by the column of that number
 abbrev pub with_item : ℕ → SortKey → Sorted → Sorted
 with_item number key so_far = record { items = so_far.items ++ record { column = number; key = key } ∷ []; hidden = so_far.hidden }
@@ -142,7 +143,7 @@ with_column s f key so_far = record {
 
 -- sort keys for which no node is too wide
 abbrev pub narrow_keys : Shown → Sorted → Meant Sorted
-narrow_keys s sorted = if are_wide (all_shown s sorted) then Err TooMany else Ok sorted
+narrow_keys s sorted = if are_wide s.below (expressions_of s.outputs) sorted.hidden then Err TooMany else Ok sorted
 
 -- a further key by an output, or by a new hidden column; with DISTINCT each key is an output
 abbrev pub with_key : Shown → KeyPlace → SortKey → Sorted → Meant Sorted
@@ -159,11 +160,11 @@ keys_sorted s (more_keys a direction nulls keys) so_far = key_sorted s a (sort_k
 
 -- no node is too wide for the outputs and the sort keys so far
 abbrev pub IsNarrow : Shown → Sorted → Type 0
-IsNarrow s so_far = are_wide (all_shown s so_far) ≡ false
+IsNarrow s so_far = are_wide s.below (expressions_of s.outputs) so_far.hidden ≡ false
 
 -- what the outputs and the sort keys so far need is counted
 abbrev pub IsCounted : Shown → CodeSorted → Type 0
-IsCounted s so_far = needs_shown so_far.needs ≡ needs_of (all_shown s (sorted_of so_far))
+IsCounted s so_far = needs_shown so_far.needs ≡ all_needs s.below (expressions_of s.outputs) (sorted_of so_far).hidden
 
 -- ---- limits of rows
 

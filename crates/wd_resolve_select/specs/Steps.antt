@@ -1,6 +1,6 @@
 -- The steps of a plan above FROM: the windows of a select list, and what is shown, sorted and cut (SQL, query specification, query
 -- expression; PG, SELECT).
-use Rattle.std.specs.Prelude.{ℕ, Bool, true, false, ◌&&◌, List, [], ◌∷◌, map, length, nat_eq, Option, Some, None, Ok, if◌then◌else◌}
+use Rattle.std.specs.Prelude.{ℕ, Bool, true, false, ◌&&◌, List, [], ◌∷◌, ◌++◌, map, length, nat_eq, Option, Some, None, Ok, if◌then◌else◌}
 use Rattle.std.specs.List.{position_or_len, range_with_len}
 use Rattle.std.specs.Bool.{beq}
 use lib.Pointwise.{pointwise}
@@ -8,52 +8,51 @@ use Rattle.wd_syntax.specs.Tree.{Tree}
 use Rattle.wd_value.specs.declared.order.SortColumn.{SortColumn}
 use Rattle.wd_plan.specs.declared.window.Call.{Call}
 use Rattle.wd_plan.specs.declared.function.Aggregate.{Aggregate}
-use Rattle.wd_plan.specs.declared.function.Aggregate.TheVariants as of_rows
+use Rattle.wd_plan.specs.declared.function.Aggregate.TheVariants as rows
 use Rattle.wd_plan.specs.declared.function.FrameFunction.TheVariants as of_frame
 use Rattle.wd_plan.specs.declared.function.Function.{Function}
 use Rattle.wd_plan.specs.declared.function.Function.TheVariants.{Ranking as Ranked, Shift as Shifted, OfFrame}
 use Rattle.wd_plan.specs.Expressions.{Expression, Column}
-use Rattle.wd_plan.specs.Plans.{ClassRule, WindowRule, PlanTree, Filter, Map, Window, Distinct, Limit}
+use Rattle.wd_plan.specs.Equality.{same_expression}
+use Rattle.wd_plan.specs.Plans.{ClassRule, GroupCall as GroupCallRule, OfRows, Grouping, GroupRule, WindowRule, PlanTree, Filter, Map, Group, Window, Distinct, Limit}
 use Rattle.wd_resolve_operand.specs.Causes.{Meant, ◌>>=◌}
-use Rattle.wd_resolve_operand.specs.Formulas.{Formula}
-use Rattle.wd_resolve_scope.specs.Calls.{ArgumentMeaning, AggregateMeaning, count_rows, count_of, sum_of, least_of, greatest_of, FunctionMeaning, ranking, away, value_at, aggregate, CallMeaning}
+use Rattle.wd_resolve_operand.specs.Formulas.{Formula, seated}
+use Rattle.wd_resolve_scope.specs.Rows.{AggregateMeaning, count_rows, count_of, sum_of, least_of, greatest_of, GroupCall, of_rows, grouping, RowLeaf, RowFormula}
+use Rattle.wd_resolve_scope.specs.Calls.{FunctionMeaning, ranking, away, value_at, aggregate, CallMeaning}
 use Rattle.wd_resolve_scope.specs.Leaves.{SelectLeaf}
 use Rattle.wd_resolve_scope.specs.Resolving.{condition}
 use Rattle.wd_resolve_scope.specs.declared.context.Place.TheVariants as place
 use Rattle.wd_resolve_scope.specs.Scopes.{ScopeRule}
 use Rattle.wd_resolve_scope.specs.Windows.{KeyMeaning}
 use Rattle.wd_resolve_select.specs.declared.output.OutputColumn.{OutputColumn}
-use Rattle.wd_resolve_select.specs.Listing.{Needs, input_number, needs_of, over, with_new}
-use Rattle.wd_resolve_select.specs.Outputs.{OutputMeaning}
-use Rattle.wd_resolve_select.specs.Sorting.{Shown, Sorted, Cut, all_shown}
+use Rattle.wd_resolve_select.specs.Grouping.{set_seated}
+use Rattle.wd_resolve_select.specs.Listing.{Below, GroupedBy, Needs, all_needs, group_inputs, group_place, input_number, number_in, over, row_place, with_new}
+use Rattle.wd_resolve_select.specs.Outputs.{OutputMeaning, expressions_of}
+use Rattle.wd_resolve_select.specs.Sorting.{Shown, Sorted, Cut}
 
 -- ---- the windows of a select list
 
--- the column of a value argument among the inputs
-abbrev pub argument_over : List Expression → ArgumentMeaning → ℕ
-argument_over inputs a = input_number inputs a.expression
-
--- the aggregate of a plan, over the column of its argument
-abbrev pub aggregate_over : List Expression → AggregateMeaning → Aggregate
-aggregate_over inputs count_rows = of_rows.CountRows
-aggregate_over inputs (count_of a) = of_rows.Count (argument_over inputs a)
-aggregate_over inputs (sum_of a) = of_rows.Sum (argument_over inputs a)
-aggregate_over inputs (least_of a) = of_rows.Min (argument_over inputs a)
-aggregate_over inputs (greatest_of a) = of_rows.Max (argument_over inputs a)
+-- the aggregate of a plan, over the column where its argument stands
+abbrev pub aggregate_over : {E : Type 0} → (E → ℕ) → AggregateMeaning E → Aggregate
+aggregate_over at count_rows = rows.CountRows
+aggregate_over at (count_of a) = rows.Count (at a.expression)
+aggregate_over at (sum_of a) = rows.Sum (at a.expression)
+aggregate_over at (least_of a) = rows.Min (at a.expression)
+aggregate_over at (greatest_of a) = rows.Max (at a.expression)
 
 -- the function of a plan, over the column of its argument
-abbrev pub function_over : List Expression → FunctionMeaning → Function
+abbrev pub function_over : List RowFormula → FunctionMeaning → Function
 function_over inputs (ranking r) = Ranked r
-function_over inputs (away direction a n default) = Shifted (record { direction = direction; argument = argument_over inputs a; offset = n; default = default })
-function_over inputs (value_at row a) = OfFrame (of_frame.ValueAt row (argument_over inputs a))
-function_over inputs (aggregate a) = OfFrame (of_frame.Aggregate (aggregate_over inputs a))
+function_over inputs (away direction a n default) = Shifted (record { direction = direction; argument = input_number inputs a.expression; offset = n; default = default })
+function_over inputs (value_at row a) = OfFrame (of_frame.ValueAt row (input_number inputs a.expression))
+function_over inputs (aggregate a) = OfFrame (of_frame.Aggregate (aggregate_over (input_number inputs) a))
 
 -- the column of a sort key among the inputs
-abbrev pub order_item : List Expression → KeyMeaning → SortColumn
+abbrev pub order_item : List RowFormula → KeyMeaning → SortColumn
 order_item inputs key = record { column = input_number inputs key.expression; key = key.key }
 
 -- the class of a call: its partition and its sort keys among the inputs
-abbrev pub class_over : List Expression → CallMeaning → ClassRule
+abbrev pub class_over : List RowFormula → CallMeaning → ClassRule
 class_over inputs call = record { partition = map (input_number inputs) call.window.partition; order = map (order_item inputs) call.window.order }
 
 abbrev pub same_item : SortColumn → SortColumn → Bool
@@ -64,10 +63,10 @@ abbrev pub same_class : ClassRule → ClassRule → Bool
 same_class a b = pointwise same_item a.order b.order && pointwise nat_eq a.partition b.partition
 
 -- the classes of calls, in the order of their first calls
-abbrev pub classes_over : List Expression → List CallMeaning → List ClassRule
+abbrev pub classes_over : List RowFormula → List CallMeaning → List ClassRule
 classes_over inputs calls = with_new same_class [] (map (class_over inputs) calls)
 
-abbrev pub call_over : List Expression → List ClassRule → CallMeaning → Call
+abbrev pub call_over : List RowFormula → List ClassRule → CallMeaning → Call
 call_over inputs classes call = record {
   class = position_or_len (same_class (class_over inputs call)) classes;
   function = function_over inputs call.function;
@@ -75,7 +74,7 @@ call_over inputs classes call = record {
 }
 
 -- what a Window computes over the inputs
-abbrev pub window_over : List Expression → List CallMeaning → WindowRule
+abbrev pub window_over : List RowFormula → List CallMeaning → WindowRule
 window_over inputs calls = record { classes = classes_over inputs calls; calls = map (call_over inputs (classes_over inputs calls)) calls }
 
 -- ---- the steps
@@ -85,21 +84,50 @@ abbrev pub filtered : ScopeRule → Option Tree → PlanTree → Meant PlanTree
 filtered scope None plan = Ok plan
 filtered scope (Some a) plan = condition place.Where scope a >>= λ e. Ok (Filter e plan)
 
+-- a call over groups, over the columns that are grouped by and the arguments behind them
+abbrev pub group_call_over : List ℕ → List Expression → GroupCall → GroupCallRule
+group_call_over columns inputs (of_rows a) = OfRows (aggregate_over (number_in same_expression inputs) a)
+group_call_over columns inputs (grouping cs) = Grouping (map (number_in nat_eq columns) cs)
+
+-- what a Group shows over a Map of the columns that are grouped by and the arguments
+abbrev pub group_over : GroupedBy → List GroupCall → GroupRule
+group_over g calls = record { columns = length g.columns; sets = map (set_seated g.columns) g.sets; calls = map (group_call_over g.columns (group_inputs g.columns calls)) calls }
+
+-- a Group over its Map
+abbrev pub group_on : GroupedBy → List GroupCall → PlanTree → PlanTree
+group_on g calls plan = Group (group_over g calls) (Map (group_inputs g.columns calls) plan)
+
+-- HAVING is a Filter over the Group
+abbrev pub having_on : (RowLeaf → ℕ) → Option RowFormula → PlanTree → PlanTree
+having_on place None plan = plan
+having_on place (Some condition) plan = Filter (seated place condition) plan
+
+-- the rows that windows are over: those of FROM and WHERE, or their groups
+abbrev pub grouped_on : Below → List GroupCall → PlanTree → PlanTree
+grouped_on below calls plan = by below.grouped
+  where
+    by : Option GroupedBy → PlanTree
+    by None = plan
+    by (Some g) = having_on (group_place g.columns calls) below.having (group_on g calls plan)
+
 -- a Window over a Map of the distinct expressions that are read
-abbrev pub window_on : List Expression → List CallMeaning → PlanTree → PlanTree
-window_on inputs calls plan = Window (window_over inputs calls) (Map inputs plan)
+abbrev pub window_on : (RowLeaf → ℕ) → List RowFormula → List CallMeaning → PlanTree → PlanTree
+window_on place inputs calls plan = Window (window_over inputs calls) (Map (map (seated place) inputs) plan)
 
 -- a Window, where there are window calls
-abbrev pub windowed : List Expression → List CallMeaning → PlanTree → PlanTree
-windowed inputs [] plan = plan
-windowed inputs (call ∷ calls) plan = window_on inputs (call ∷ calls) plan
+abbrev pub windowed : (RowLeaf → ℕ) → List RowFormula → List CallMeaning → PlanTree → PlanTree
+windowed place inputs [] plan = plan
+windowed place inputs (call ∷ calls) plan = window_on place inputs (call ∷ calls) plan
 
 -- a Map of the expressions, over the Window where there is one
-abbrev pub mapped_over : Needs → List (Formula SelectLeaf) → PlanTree → PlanTree
-mapped_over needs formulas plan = Map (map (over needs) formulas) (windowed needs.inputs needs.calls plan)
+abbrev pub mapped_over : (RowLeaf → ℕ) → Needs → List (Formula SelectLeaf) → PlanTree → PlanTree
+mapped_over place needs formulas plan = Map (map (over place needs) formulas) (windowed place needs.inputs needs.calls plan)
 
-abbrev pub mapped : List (Formula SelectLeaf) → PlanTree → PlanTree
-mapped formulas plan = mapped_over (needs_of formulas) formulas plan
+-- a Map of outputs and hidden sort keys, over what stands below it
+abbrev pub mapped : Below → (outputs hidden : List (Formula SelectLeaf)) → PlanTree → PlanTree
+mapped below outputs hidden plan =
+    let needs = all_needs below outputs hidden in
+    mapped_over (row_place below.grouped needs.groups) needs (outputs ++ hidden) (grouped_on below needs.groups plan)
 
 -- DISTINCT is a Distinct
 abbrev pub deduplicated : Bool → PlanTree → PlanTree
@@ -135,6 +163,6 @@ lowered_shown s sorted cut plan = record {
       without_hidden (length s.outputs) (length sorted.hidden)
       (limited sorted.items cut
       (deduplicated s.distinct
-      (mapped (all_shown s sorted) plan)));
+      (mapped s.below (expressions_of s.outputs) sorted.hidden plan)));
   columns = map column_shown s.outputs;
 }

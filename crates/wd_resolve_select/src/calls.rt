@@ -2,28 +2,35 @@
 
 ghost use Rattle.std.specs.Prelude.{◌≡◌, ◌≤◌, [], ◌∷◌, map, length, vec_len, IfOk};
 ghost use Rattle.std.specs.List.{list_any, position_or_len};
-ghost use Rattle.wd_resolve_scope.specs.Calls.{aggregate_of, argument_of, call_of, function_of};
+ghost use Rattle.wd_resolve_scope.specs.Calls.{call_of, function_of};
+ghost use Rattle.wd_resolve_scope.specs.Rows.{aggregate_of, argument_of, row_formula_of};
 ghost use Rattle.wd_resolve_scope.specs.Calls as spec;
 ghost use Rattle.wd_resolve_select.specs.Listing.{with_new};
 
 use std::alloc::Global;
-use wd_resolve_scope::{AppliedAggregate, AppliedFunction, ValueArgument, WindowCall, same_call};
+use wd_resolve_operand::Formula;
+use wd_resolve_scope::{
+    AppliedAggregate, AppliedFunction, RowLeaf, ValueArgument, WindowCall, copy_of, same_call,
+};
 use wd_value::OutOfMemory;
 
-fn copy_argument(alloc: Global, argument: &ValueArgument) -> Result<ValueArgument, OutOfMemory>
-    ensures { IfOk result (λ a. argument_of a ≡ argument_of argument.now) }
+fn copy_argument(
+    alloc: Global,
+    argument: &ValueArgument<Formula<RowLeaf>>,
+) -> Result<ValueArgument<Formula<RowLeaf>>, OutOfMemory>
+    ensures { IfOk result (λ a. argument_of row_formula_of a ≡ argument_of row_formula_of argument.now) }
 {
     Ok(ValueArgument {
-        expression: argument.expression.copy(alloc)?,
+        expression: copy_of(alloc, &argument.expression)?,
         kind: argument.kind,
     })
 }
 
 fn copy_aggregate(
     alloc: Global,
-    aggregate: &AppliedAggregate,
-) -> Result<AppliedAggregate, OutOfMemory>
-    ensures { IfOk result (λ a. aggregate_of a ≡ aggregate_of aggregate.now) }
+    aggregate: &AppliedAggregate<Formula<RowLeaf>>,
+) -> Result<AppliedAggregate<Formula<RowLeaf>>, OutOfMemory>
+    ensures { IfOk result (λ a. aggregate_of row_formula_of a ≡ aggregate_of row_formula_of aggregate.now) }
 {
     match aggregate {
         AppliedAggregate::CountRows => Ok(AppliedAggregate::CountRows),

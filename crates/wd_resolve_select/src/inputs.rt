@@ -2,26 +2,33 @@
 
 ghost use Rattle.std.specs.Prelude.{◌≡◌, ◌≤◌, [], ◌∷◌, map, length, IfOk};
 ghost use Rattle.std.specs.List.{list_any};
-ghost use Rattle.wd_plan.specs.Expressions.{expression_of};
-ghost use Rattle.wd_plan.specs.Equality as equality;
-ghost use Rattle.wd_resolve_scope.specs.Calls.{aggregate_of, call_of, function_of};
+ghost use Rattle.wd_resolve_scope.specs.Calls.{call_of, function_of};
+ghost use Rattle.wd_resolve_scope.specs.Rows.{aggregate_of, aggregated, row_formula_of, row_leaf_of, same_row_formula};
+ghost use Rattle.wd_resolve_operand.specs.Formulas.{Leaf};
 ghost use Rattle.wd_resolve_scope.specs.Leaves.{call};
 ghost use Rattle.wd_resolve_scope.specs.Windows.{key_of};
-ghost use Rattle.wd_resolve_select.specs.Listing.{aggregated, argument_of, read_by, sorted_by, with_new};
+ghost use Rattle.wd_resolve_select.specs.Listing.{argument_of, read_by, sorted_by, with_new};
 ghost use Rattle.wd_resolve_select.specs.Listing as spec;
 
 use std::alloc::Global;
-use wd_plan::Expr;
-use wd_resolve_scope::{AppliedAggregate, AppliedFunction, OrderKey, WindowCall};
+use wd_resolve_operand::{Formula, Leaf as _};
+use wd_resolve_scope::{AppliedAggregate, AppliedFunction, OrderKey, RowLeaf, WindowCall, copy_of};
 use wd_value::OutOfMemory;
 
+/// Whether expressions over rows are one and the same.
+fn read_same(a: &Formula<RowLeaf>, b: &Formula<RowLeaf>) -> bool
+    ensures { result ≡ same_row_formula (row_formula_of a.now) (row_formula_of b.now) }
+{
+    a.same(b)
+}
+
 /// The number of an expression among the inputs, and their number where it is none.
-pub(crate) fn input_number(inputs: &[Expr], expression: &Expr) -> usize
-    ensures number { result ≡ spec.input_number (map expression_of inputs.now) (expression_of expression.now) }
+pub(crate) fn input_number(inputs: &[Formula<RowLeaf>], expression: &Formula<RowLeaf>) -> usize
+    ensures number { result ≡ spec.input_number (map row_formula_of inputs.now) (row_formula_of expression.now) }
     ensures within { result ≤ length inputs.now }
 {
     for (number, input) in inputs.iter().enumerate() {
-        if expression.same(input) {
+        if read_same(expression, input) {
             return number;
         }
     }
@@ -30,8 +37,8 @@ pub(crate) fn input_number(inputs: &[Expr], expression: &Expr) -> usize
 
 /// Whether an expression is among the inputs.
 #[tactic(auto, using(crate::proofs::FirstMet::any_by_number))]
-fn is_among(inputs: &[Expr], expression: &Expr) -> bool
-    ensures { result ≡ list_any (equality.same_expression (expression_of expression.now)) (map expression_of inputs.now) }
+fn is_among(inputs: &[Formula<RowLeaf>], expression: &Formula<RowLeaf>) -> bool
+    ensures { result ≡ list_any (same_row_formula (row_formula_of expression.now)) (map row_formula_of inputs.now) }
 {
     input_number(inputs, expression) < inputs.len()
 }
@@ -39,25 +46,25 @@ fn is_among(inputs: &[Expr], expression: &Expr) -> bool
 /// Adds an expression, where it is new.
 pub(crate) fn add_input(
     alloc: Global,
-    inputs: &mut Vec<Expr>,
-    expression: &Expr,
+    inputs: &mut Vec<Formula<RowLeaf>>,
+    expression: &Formula<RowLeaf>,
 ) -> Result<(), OutOfMemory>
-    ensures { IfOk result (λ u. map expression_of inputs.new.items ≡ with_new equality.same_expression (map expression_of inputs.old.items) (expression_of expression.now ∷ [])) }
+    ensures { IfOk result (λ u. map row_formula_of inputs.new.items ≡ with_new same_row_formula (map row_formula_of inputs.old.items) (row_formula_of expression.now ∷ [])) }
 {
     if is_among(inputs, expression) {
         return Ok(());
     }
-    inputs.push(expression.copy(alloc)?)?;
+    inputs.push(copy_of(alloc, expression)?)?;
     Ok(())
 }
 
 /// Adds the value argument of an aggregate, where it has one.
 fn add_aggregated(
     alloc: Global,
-    inputs: &mut Vec<Expr>,
-    aggregate: &AppliedAggregate,
+    inputs: &mut Vec<Formula<RowLeaf>>,
+    aggregate: &AppliedAggregate<Formula<RowLeaf>>,
 ) -> Result<(), OutOfMemory>
-    ensures { IfOk result (λ u. map expression_of inputs.new.items ≡ with_new equality.same_expression (map expression_of inputs.old.items) (aggregated (aggregate_of aggregate.now))) }
+    ensures { IfOk result (λ u. map row_formula_of inputs.new.items ≡ with_new same_row_formula (map row_formula_of inputs.old.items) (aggregated (aggregate_of row_formula_of aggregate.now))) }
 {
     match aggregate {
         AppliedAggregate::CountRows => Ok(()),
@@ -71,10 +78,10 @@ fn add_aggregated(
 /// Adds the value argument of a function, where it has one.
 fn add_argument(
     alloc: Global,
-    inputs: &mut Vec<Expr>,
+    inputs: &mut Vec<Formula<RowLeaf>>,
     function: &AppliedFunction,
 ) -> Result<(), OutOfMemory>
-    ensures { IfOk result (λ u. map expression_of inputs.new.items ≡ with_new equality.same_expression (map expression_of inputs.old.items) (argument_of (function_of function.now))) }
+    ensures { IfOk result (λ u. map row_formula_of inputs.new.items ≡ with_new same_row_formula (map row_formula_of inputs.old.items) (argument_of (function_of function.now))) }
 {
     match function {
         AppliedFunction::Ranking(_) => Ok(()),
@@ -87,10 +94,10 @@ fn add_argument(
 /// Adds the expressions of a partition.
 fn add_partition(
     alloc: Global,
-    inputs: &mut Vec<Expr>,
-    expressions: &[Expr],
+    inputs: &mut Vec<Formula<RowLeaf>>,
+    expressions: &[Formula<RowLeaf>],
 ) -> Result<(), OutOfMemory>
-    ensures { IfOk result (λ u. map expression_of inputs.new.items ≡ with_new equality.same_expression (map expression_of inputs.old.items) (map expression_of expressions.now)) }
+    ensures { IfOk result (λ u. map row_formula_of inputs.new.items ≡ with_new same_row_formula (map row_formula_of inputs.old.items) (map row_formula_of expressions.now)) }
 {
     for expression in expressions {
         add_input(alloc, inputs, expression)?;
@@ -99,8 +106,12 @@ fn add_partition(
 }
 
 /// Adds the expressions that are sorted by.
-fn add_order(alloc: Global, inputs: &mut Vec<Expr>, keys: &[OrderKey]) -> Result<(), OutOfMemory>
-    ensures { IfOk result (λ u. map expression_of inputs.new.items ≡ with_new equality.same_expression (map expression_of inputs.old.items) (map sorted_by (map key_of keys.now))) }
+fn add_order(
+    alloc: Global,
+    inputs: &mut Vec<Formula<RowLeaf>>,
+    keys: &[OrderKey],
+) -> Result<(), OutOfMemory>
+    ensures { IfOk result (λ u. map row_formula_of inputs.new.items ≡ with_new same_row_formula (map row_formula_of inputs.old.items) (map sorted_by (map key_of keys.now))) }
 {
     for key in keys {
         add_input(alloc, inputs, &key.expression)?;
@@ -112,12 +123,35 @@ fn add_order(alloc: Global, inputs: &mut Vec<Expr>, keys: &[OrderKey]) -> Result
 #[tactic(auto, using(crate::proofs::FirstMet::with_new_append))]
 pub(crate) fn add_read(
     alloc: Global,
-    inputs: &mut Vec<Expr>,
+    inputs: &mut Vec<Formula<RowLeaf>>,
     window_call: &WindowCall,
 ) -> Result<(), OutOfMemory>
-    ensures { IfOk result (λ u. map expression_of inputs.new.items ≡ with_new equality.same_expression (map expression_of inputs.old.items) (read_by (call (call_of window_call.now)))) }
+    ensures { IfOk result (λ u. map row_formula_of inputs.new.items ≡ with_new same_row_formula (map row_formula_of inputs.old.items) (read_by (call (call_of window_call.now)))) }
 {
     add_argument(alloc, inputs, &window_call.function)?;
     add_partition(alloc, inputs, &window_call.window.partition)?;
     add_order(alloc, inputs, &window_call.window.order)
+}
+
+/// Whether an input is what a leaf of rows reads.
+fn is_leaf(leaf: &RowLeaf, input: &Formula<RowLeaf>) -> bool
+    ensures { result ≡ same_row_formula (Leaf (row_leaf_of leaf.now)) (row_formula_of input.now) }
+{
+    match input {
+        Formula::Leaf(other) => leaf.same(other),
+        _ => false,
+    }
+}
+
+/// The number of what a leaf of rows reads among the inputs, and their number where it is none.
+pub(crate) fn leaf_number(inputs: &[Formula<RowLeaf>], leaf: &RowLeaf) -> usize
+    ensures number { result ≡ spec.input_number (map row_formula_of inputs.now) (Leaf (row_leaf_of leaf.now)) }
+    ensures within { result ≤ length inputs.now }
+{
+    for (number, input) in inputs.iter().enumerate() {
+        if is_leaf(leaf, input) {
+            return number;
+        }
+    }
+    inputs.len()
 }

@@ -2,16 +2,20 @@
 
 ghost use Rattle.std.specs.Prelude.{◌≤◌, length};
 
+use crate::below::Below;
 use crate::needs::Needs;
 use crate::output::Output;
 use wd_resolve_operand::Formula;
-use wd_resolve_scope::{Scope, SelectLeaf};
+use wd_resolve_scope::{Grouped, Scope, SelectLeaf};
 use wd_value::SortColumn;
 
-/// What a select has before its ORDER BY: the columns of FROM, whether it is DISTINCT, and its outputs, at most 1,024.
+/// What a select has before its ORDER BY: the columns of FROM, those that may stand in it, what stands below its windows, whether it is
+/// DISTINCT, and its outputs, at most 1,024.
 #[derive(Clone, Copy)]
 pub struct Shown<'a> {
     pub scope: &'a Scope,
+    pub groups: Option<Grouped<'a>>,
+    pub below: &'a Below,
     pub distinct: bool,
     pub outputs: &'a [Output],
     pub ghost narrow: { length outputs.now ≤ 1024 },
@@ -24,8 +28,8 @@ pub enum KeyPlace {
     Hidden(Formula<SelectLeaf>),
 }
 
-/// The sort keys over the outputs and the hidden columns after them, the expressions that are hidden there, and what the outputs
-/// and these need of the rows below them.
+/// The sort keys over the outputs and the hidden columns after them, the expressions that are hidden there, and what the outputs,
+/// HAVING and these need of the rows below them.
 #[derive(Drop)]
 pub struct Sorted {
     pub items: Vec<SortColumn>,

@@ -1,16 +1,16 @@
 //! The final ORDER BY: each key is an output, or a hidden column after the outputs.
 
-ghost use Rattle.std.specs.Prelude.{◌≡◌, ◌+◌, ◌≤◌, false, filter, map, length, vec_len, IfOk};
+ghost use Rattle.std.specs.Prelude.{◌≡◌, ◌+◌, ◌≤◌, [], false, filter, map, length, vec_len, IfOk};
 ghost use Rattle.std.specs.List.{list_all, position_or_len};
 ghost use Rattle.wd_syntax.specs.Tree.{keys_of};
 ghost use Rattle.wd_syntax.specs.View.{view, view_key};
 ghost use Rattle.wd_resolve_operand.specs.Causes.{Gives};
 ghost use Rattle.wd_resolve_scope.specs.Leaves.{formula_of};
 ghost use Rattle.wd_resolve_scope.specs.Windows as windows;
-ghost use Rattle.wd_resolve_select.specs.Listing.{needs_of, needs_shown};
+ghost use Rattle.wd_resolve_select.specs.Listing.{needs_shown};
 ghost use Rattle.wd_resolve_select.specs.Listing as listing;
 ghost use Rattle.wd_resolve_select.specs.Outputs.{expressions_of, output_of};
-ghost use Rattle.wd_resolve_select.specs.Sorting.{all_shown, shown_of, place_shown, sorted_of, IsCounted, IsNarrow};
+ghost use Rattle.wd_resolve_select.specs.Sorting.{shown_of, place_shown, sorted_of, IsCounted, IsNarrow};
 ghost use Rattle.wd_resolve_select.specs.Sorting as spec;
 
 use crate::needs::Needs;
@@ -64,7 +64,7 @@ fn expression_place(
 ) -> Result<KeyPlace, ResolveError>
     ensures { Gives place_shown result (spec.expression_place (shown_of shown.now) (view tree.now)) }
 {
-    let operand = plain(alloc, shown.scope, Place::SortKey, tree)?;
+    let operand = plain(alloc, shown.scope, shown.groups, Place::SortKey, tree)?;
     Ok(sorted_place(operand.settled(), shown.outputs))
 }
 
@@ -245,11 +245,11 @@ fn with_column(
 /// Whether the outputs and the sort keys make some node too wide.
 fn are_wide(shown: &Shown<'_>, sorted: &Sorted) -> bool
     requires { IsCounted (shown_of shown.now) sorted.now }
-    ensures { result ≡ listing.are_wide (all_shown (shown_of shown.now) (sorted_of sorted.now)) }
+    ensures { result ≡ listing.are_wide (shown_of shown.now).below (expressions_of (shown_of shown.now).outputs) (sorted_of sorted.now).hidden }
 {
     sorted
         .needs
-        .is_wide(shown.outputs.len() + sorted.hidden.len())
+        .is_wide(shown.outputs.len() + sorted.hidden.len(), shown.below)
 }
 
 /// A key by a new hidden column: 414 with DISTINCT, and 415 where it makes a node too wide.
@@ -299,15 +299,15 @@ fn key_sorted(
     }
 }
 
-/// The sort keys of a select, whose outputs need this.
+/// The sort keys of a select, whose outputs and HAVING need this.
 pub fn keys_sorted(
     alloc: Global,
     shown: &Shown<'_>,
     keys: &[SortKey],
     needs: Needs,
 ) -> Result<Sorted, ResolveError>
-    requires counted { needs_shown needs ≡ needs_of (expressions_of (shown_of shown.now).outputs) }
-    requires narrow { listing.are_wide (expressions_of (shown_of shown.now).outputs) ≡ false }
+    requires counted { needs_shown needs ≡ listing.all_needs (shown_of shown.now).below (expressions_of (shown_of shown.now).outputs) [] }
+    requires narrow { listing.are_wide (shown_of shown.now).below (expressions_of (shown_of shown.now).outputs) [] ≡ false }
     ensures meant { Gives sorted_of result (spec.keys_sorted (shown_of shown.now) (keys_of (map view_key keys.now)) spec.unsorted) }
     ensures counted { IfOk result (λ s. IsCounted (shown_of shown.now) s) }
     ensures narrow { IfOk result (λ s. IsNarrow (shown_of shown.now) (sorted_of s)) }

@@ -4,26 +4,40 @@ ghost use Rattle.std.specs.Prelude.{◌≡◌, ◌+◌, ◌≤◌, false, nat_eq
 ghost use Rattle.std.specs.List.{list_any, position_or_len};
 ghost use lib.Pointwise.{pointwise};
 ghost use Rattle.wd_plan.specs.Expressions.{expression_of};
-ghost use Rattle.wd_plan.specs.Plans.{class_of, plan_of};
+ghost use Rattle.wd_plan.specs.Equality.{same_expression};
+ghost use Rattle.wd_plan.specs.Plans.{class_of, group_call_of as plan_call_of, plan_of, sets_of};
+ghost use Rattle.wd_plan.specs.Plans as tree;
 ghost use Rattle.wd_syntax.specs.View.{view_option};
 ghost use Rattle.wd_resolve_operand.specs.Causes.{Gives};
-ghost use Rattle.wd_resolve_scope.specs.Calls.{aggregate_of, argument_of, call_of, function_of};
+ghost use Rattle.wd_resolve_scope.specs.Calls.{call_of, function_of};
+ghost use Rattle.wd_resolve_scope.specs.Rows.{aggregate_of, group_call_of, row_formula_of};
+ghost use Rattle.wd_resolve_select.specs.Grouping.{below_of};
+ghost use Rattle.wd_resolve_select.specs.Grouping as grouping_spec;
 ghost use Rattle.wd_resolve_scope.specs.Leaves.{formula_of};
 ghost use Rattle.wd_resolve_scope.specs.Scopes.{scope_of};
 ghost use Rattle.wd_resolve_scope.specs.Windows.{key_of};
 ghost use Rattle.wd_resolve_select.specs.Cuts.{cut_of};
-ghost use Rattle.wd_resolve_select.specs.Listing.{input_number as input_meant, is_window_wide, needs_shown, with_new};
+ghost use Rattle.wd_resolve_select.specs.Listing.{grouped_by_of, input_number as input_meant, is_group_wide, is_window_wide, needs_shown, number_in, row_place, shared_call, with_new};
 ghost use Rattle.wd_resolve_select.specs.Steps as spec;
 
+use crate::below::Below;
+use crate::grouping::GroupedBy;
+use crate::groups::{expression_number, group_inputs};
 use crate::inputs::input_number;
 use crate::limits::Cut;
 use crate::needs::Needs;
-use crate::seated::all_seated;
+use crate::places::column_number;
+use crate::seated::{all_seated, inputs_seated, row_seated};
 use std::alloc::Global;
-use wd_plan::{Aggregate, Call, Class, Expr, FrameFunction, Function, Limit, Plan, Shift, Window};
+use std::rc::Rc;
+use wd_plan as plan;
+use wd_plan::{
+    Aggregate, Call, Class, Expr, FrameFunction, Function, Group, Limit, Plan, Shift, Window,
+    has_column,
+};
 use wd_resolve_operand::{Formula, ResolveError};
 use wd_resolve_scope::{
-    AppliedAggregate, AppliedFunction, OrderKey, Place, Scope, SelectLeaf, ValueArgument,
+    AppliedAggregate, AppliedFunction, GroupCall, OrderKey, Place, RowLeaf, Scope, SelectLeaf,
     WindowCall, condition,
 };
 use wd_syntax as written;
@@ -57,32 +71,27 @@ pub fn filtered(
     }
 }
 
-/// The column of a value argument among the inputs.
-fn argument_over(argument: &ValueArgument, inputs: &[Expr]) -> u16
-    requires { length inputs.now ≤ 1024 }
-    ensures { result ≡ spec.argument_over (map expression_of inputs.now) (argument_of argument.now) }
-{
-    input_number(inputs, &argument.expression) as u16
-}
-
 /// The aggregate of a plan, over the column of its argument.
-fn aggregate_over(aggregate: &AppliedAggregate, inputs: &[Expr]) -> Aggregate
+fn aggregate_over(
+    aggregate: &AppliedAggregate<Formula<RowLeaf>>,
+    inputs: &[Formula<RowLeaf>],
+) -> Aggregate
     requires { length inputs.now ≤ 1024 }
-    ensures { result ≡ spec.aggregate_over (map expression_of inputs.now) (aggregate_of aggregate.now) }
+    ensures { result ≡ spec.aggregate_over (input_meant (map row_formula_of inputs.now)) (aggregate_of row_formula_of aggregate.now) }
 {
     match aggregate {
         AppliedAggregate::CountRows => Aggregate::CountRows,
-        AppliedAggregate::Count(argument) => Aggregate::Count(argument_over(argument, inputs)),
-        AppliedAggregate::Sum(argument) => Aggregate::Sum(argument_over(argument, inputs)),
-        AppliedAggregate::Min(argument) => Aggregate::Min(argument_over(argument, inputs)),
-        AppliedAggregate::Max(argument) => Aggregate::Max(argument_over(argument, inputs)),
+        AppliedAggregate::Count(a) => Aggregate::Count(input_number(inputs, &a.expression) as u16),
+        AppliedAggregate::Sum(a) => Aggregate::Sum(input_number(inputs, &a.expression) as u16),
+        AppliedAggregate::Min(a) => Aggregate::Min(input_number(inputs, &a.expression) as u16),
+        AppliedAggregate::Max(a) => Aggregate::Max(input_number(inputs, &a.expression) as u16),
     }
 }
 
 /// The function of a plan, over the column of its argument.
-fn function_over(function: AppliedFunction, inputs: &[Expr]) -> Function
+fn function_over(function: AppliedFunction, inputs: &[Formula<RowLeaf>]) -> Function
     requires { length inputs.now ≤ 1024 }
-    ensures { result ≡ spec.function_over (map expression_of inputs.now) (function_of function) }
+    ensures { result ≡ spec.function_over (map row_formula_of inputs.now) (function_of function) }
 {
     match function {
         AppliedFunction::Ranking(ranking) => Function::Ranking(ranking),
@@ -93,13 +102,13 @@ fn function_over(function: AppliedFunction, inputs: &[Expr]) -> Function
             default,
         } => Function::Shift(Shift {
             direction,
-            argument: argument_over(&argument, inputs),
+            argument: input_number(inputs, &argument.expression) as u16,
             offset,
             default,
         }),
         AppliedFunction::ValueAt(row, argument) => Function::OfFrame(FrameFunction::ValueAt(
             row,
-            argument_over(&argument, inputs),
+            input_number(inputs, &argument.expression) as u16,
         )),
         AppliedFunction::Aggregate(aggregate) => Function::OfFrame(FrameFunction::Aggregate(
             aggregate_over(&aggregate, inputs),
@@ -110,11 +119,11 @@ fn function_over(function: AppliedFunction, inputs: &[Expr]) -> Function
 /// The columns of a partition among the inputs.
 fn columns_over(
     alloc: Global,
-    inputs: &[Expr],
-    expressions: &[Expr],
+    inputs: &[Formula<RowLeaf>],
+    expressions: &[Formula<RowLeaf>],
 ) -> Result<Vec<u16>, OutOfMemory>
     requires { length inputs.now ≤ 1024 }
-    ensures { IfOk result (λ v. v.items ≡ map (input_meant (map expression_of inputs.now)) (map expression_of expressions.now)) }
+    ensures { IfOk result (λ v. v.items ≡ map (input_meant (map row_formula_of inputs.now)) (map row_formula_of expressions.now)) }
 {
     let mut columns = Vec::with_capacity(alloc, expressions.len())?;
     for expression in expressions {
@@ -126,11 +135,11 @@ fn columns_over(
 /// The sort keys of a window among the inputs.
 fn items_over(
     alloc: Global,
-    inputs: &[Expr],
+    inputs: &[Formula<RowLeaf>],
     keys: &[OrderKey],
 ) -> Result<Vec<SortColumn>, OutOfMemory>
     requires { length inputs.now ≤ 1024 }
-    ensures { IfOk result (λ v. v.items ≡ map (spec.order_item (map expression_of inputs.now)) (map key_of keys.now)) }
+    ensures { IfOk result (λ v. v.items ≡ map (spec.order_item (map row_formula_of inputs.now)) (map key_of keys.now)) }
 {
     let mut items = Vec::with_capacity(alloc, keys.len())?;
     for key in keys {
@@ -143,9 +152,13 @@ fn items_over(
 }
 
 /// The class of a call: its partition and its sort keys among the inputs.
-fn class_over(alloc: Global, inputs: &[Expr], call: &WindowCall) -> Result<Class, OutOfMemory>
+fn class_over(
+    alloc: Global,
+    inputs: &[Formula<RowLeaf>],
+    call: &WindowCall,
+) -> Result<Class, OutOfMemory>
     requires { length inputs.now ≤ 1024 }
-    ensures { IfOk result (λ c. class_of c ≡ spec.class_over (map expression_of inputs.now) (call_of call.now)) }
+    ensures { IfOk result (λ c. class_of c ≡ spec.class_over (map row_formula_of inputs.now) (call_of call.now)) }
 {
     let partition = columns_over(alloc, inputs, &call.window.partition)?;
     let order = items_over(alloc, inputs, &call.window.order)?;
@@ -228,11 +241,11 @@ fn add_class(classes: &mut Vec<Class>, class: Class) -> Result<(), OutOfMemory>
 /// The classes of calls, in the order of their first calls.
 fn classes_over(
     alloc: Global,
-    inputs: &[Expr],
+    inputs: &[Formula<RowLeaf>],
     calls: &[WindowCall],
 ) -> Result<Vec<Class>, OutOfMemory>
     requires { length inputs.now ≤ 1024 }
-    ensures meant { IfOk result (λ v. map class_of v.items ≡ spec.classes_over (map expression_of inputs.now) (map call_of calls.now)) }
+    ensures meant { IfOk result (λ v. map class_of v.items ≡ spec.classes_over (map row_formula_of inputs.now) (map call_of calls.now)) }
     ensures within { IfOk result (λ v. vec_len v ≤ length calls.now) }
 {
     let mut classes = Vec::new(alloc);
@@ -246,13 +259,13 @@ fn classes_over(
 /// A call of a plan: its class, its function and its frame.
 fn call_over(
     alloc: Global,
-    inputs: &[Expr],
+    inputs: &[Formula<RowLeaf>],
     classes: &[Class],
     call: WindowCall,
 ) -> Result<Call, OutOfMemory>
     requires few_inputs { length inputs.now ≤ 1024 }
     requires few_classes { length classes.now ≤ 1024 }
-    ensures { IfOk result (λ c. c ≡ spec.call_over (map expression_of inputs.now) (map class_of classes.now) (call_of call)) }
+    ensures { IfOk result (λ c. c ≡ spec.call_over (map row_formula_of inputs.now) (map class_of classes.now) (call_of call)) }
 {
     let class = class_over(alloc, inputs, &call)?;
     let number = class_number(classes, &class) as u16;
@@ -267,13 +280,13 @@ fn call_over(
 /// The calls of a plan.
 fn calls_over(
     alloc: Global,
-    inputs: &[Expr],
+    inputs: &[Formula<RowLeaf>],
     classes: &[Class],
     calls: Vec<WindowCall>,
 ) -> Result<Vec<Call>, OutOfMemory>
     requires few_inputs { length inputs.now ≤ 1024 }
     requires few_classes { length classes.now ≤ 1024 }
-    ensures { IfOk result (λ v. v.items ≡ map (spec.call_over (map expression_of inputs.now) (map class_of classes.now)) (map call_of calls.items)) }
+    ensures { IfOk result (λ v. v.items ≡ map (spec.call_over (map row_formula_of inputs.now) (map class_of classes.now)) (map call_of calls.items)) }
 {
     let mut planned = Vec::with_capacity(alloc, calls.len())?;
     for call in calls {
@@ -285,19 +298,20 @@ fn calls_over(
 /// A Window over a Map of the inputs, with the calls in order and their classes in the order of their first calls.
 fn window_on(
     alloc: Global,
-    inputs: Vec<Expr>,
+    shown: Vec<Expr>,
+    inputs: Vec<Formula<RowLeaf>>,
     calls: Vec<WindowCall>,
     plan: Plan,
 ) -> Result<Plan, OutOfMemory>
     requires few_inputs { vec_len inputs ≤ 1024 }
     requires few_calls { vec_len calls ≤ 1024 }
-    ensures { IfOk result (λ p. plan_of p ≡ spec.window_on (map expression_of inputs.items) (map call_of calls.items) (plan_of plan)) }
+    ensures { IfOk result (λ p. plan_of p ≡ tree.Window (spec.window_over (map row_formula_of inputs.items) (map call_of calls.items)) (tree.Map (map expression_of shown.items) (plan_of plan))) }
 {
     let classes = classes_over(alloc, &inputs, &calls)?;
     let calls = calls_over(alloc, &inputs, &classes, calls)?;
     let inner = Plan::Map {
         input: Box::new(alloc, plan)?,
-        outputs: inputs,
+        outputs: shown,
     };
     Ok(Plan::Window {
         input: Box::new(alloc, inner)?,
@@ -306,30 +320,194 @@ fn window_on(
 }
 
 /// With window calls a Window over a Map of the inputs.
-fn windowed(alloc: Global, needs: Needs, plan: Plan) -> Result<Plan, OutOfMemory>
-    requires { is_window_wide (needs_shown needs) ≡ false }
-    ensures { IfOk result (λ p. plan_of p ≡ spec.windowed (needs_shown needs).inputs (needs_shown needs).calls (plan_of plan)) }
+fn windowed(alloc: Global, needs: Needs, below: &Below, plan: Plan) -> Result<Plan, OutOfMemory>
+    requires few_inputs { is_window_wide (needs_shown needs) ≡ false }
+    requires few_groups { is_group_wide (below_of below.now).grouped (needs_shown needs).groups ≡ false }
+    ensures { IfOk result (λ p. plan_of p ≡ spec.windowed (row_place (below_of below.now).grouped (needs_shown needs).groups) (needs_shown needs).inputs (needs_shown needs).calls (plan_of plan)) }
 {
-    let Needs { calls, inputs } = needs;
-    if calls.is_empty() {
-        Ok(plan)
-    } else {
-        window_on(alloc, inputs, calls, plan)
+    if needs.calls.is_empty() {
+        return Ok(plan);
+    }
+    let shown = inputs_seated(alloc, &needs, below)?;
+    let Needs {
+        calls,
+        inputs,
+        groups: _,
+    } = needs;
+    window_on(alloc, shown, inputs, calls, plan)
+}
+
+/// A set, by the numbers of its columns among those that are grouped by.
+fn set_seated(alloc: Global, columns: &[u16], set: &[u16]) -> Result<Vec<u16>, OutOfMemory>
+    requires { length columns.now ≤ 1024 }
+    ensures { IfOk result (λ v. v.items ≡ grouping_spec.set_seated columns.now set.now) }
+{
+    let mut numbers = Vec::new(alloc);
+    for (number, column) in columns.iter().enumerate() {
+        if has_column(set, *column) {
+            numbers.push(number as u16)?;
+        }
+    }
+    Ok(numbers)
+}
+
+/// The sets of a Group.
+fn sets_seated(
+    alloc: Global,
+    columns: &[u16],
+    sets: &[Vec<u16>],
+) -> Result<Vec<Vec<u16>>, OutOfMemory>
+    requires { length columns.now ≤ 1024 }
+    ensures { IfOk result (λ v. sets_of v.items ≡ map (grouping_spec.set_seated columns.now) (sets_of sets.now)) }
+{
+    let mut seated = Vec::with_capacity(alloc, sets.len())?;
+    for set in sets {
+        seated.push(set_seated(alloc, columns, set)?)?;
+    }
+    Ok(seated)
+}
+
+/// The aggregate of a Group, over the column of its argument.
+fn group_aggregate_over(aggregate: &AppliedAggregate<Expr>, inputs: &[Expr]) -> Aggregate
+    requires { length inputs.now ≤ 1024 }
+    ensures { result ≡ spec.aggregate_over (number_in same_expression (map expression_of inputs.now)) (aggregate_of expression_of aggregate.now) }
+{
+    match aggregate {
+        AppliedAggregate::CountRows => Aggregate::CountRows,
+        AppliedAggregate::Count(a) => {
+            Aggregate::Count(expression_number(inputs, &a.expression) as u16)
+        }
+        AppliedAggregate::Sum(a) => Aggregate::Sum(expression_number(inputs, &a.expression) as u16),
+        AppliedAggregate::Min(a) => Aggregate::Min(expression_number(inputs, &a.expression) as u16),
+        AppliedAggregate::Max(a) => Aggregate::Max(expression_number(inputs, &a.expression) as u16),
     }
 }
 
-/// A Map of the expressions, over the Window where there is one.
+/// The numbers of columns among those that are grouped by.
+fn column_numbers(
+    alloc: Global,
+    columns: &[u16],
+    arguments: &[u16],
+) -> Result<Vec<u16>, OutOfMemory>
+    requires { length columns.now ≤ 1024 }
+    ensures { IfOk result (λ v. v.items ≡ map (number_in nat_eq columns.now) arguments.now) }
+{
+    let mut numbers = Vec::with_capacity(alloc, arguments.len())?;
+    for argument in arguments {
+        numbers.push(column_number(columns, *argument) as u16)?;
+    }
+    Ok(numbers)
+}
+
+/// A call over groups, over the columns that are grouped by and the arguments behind them.
+fn group_call_over(
+    alloc: Global,
+    columns: &[u16],
+    inputs: &[Expr],
+    call: &GroupCall,
+) -> Result<plan::GroupCall, OutOfMemory>
+    requires few_columns { length columns.now ≤ 1024 }
+    requires few_inputs { length inputs.now ≤ 1024 }
+    ensures { IfOk result (λ c. plan_call_of c ≡ spec.group_call_over columns.now (map expression_of inputs.now) (group_call_of call.now)) }
+{
+    match call {
+        GroupCall::OfRows(aggregate) => Ok(plan::GroupCall::OfRows(group_aggregate_over(
+            aggregate, inputs,
+        ))),
+        GroupCall::Grouping(arguments) => {
+            let numbers = column_numbers(alloc, columns, arguments)?;
+            Ok(plan::GroupCall::Grouping(numbers))
+        }
+    }
+}
+
+/// The calls of a Group.
+fn group_calls_over(
+    alloc: Global,
+    columns: &[u16],
+    inputs: &[Expr],
+    calls: &[Rc<GroupCall>],
+) -> Result<Vec<plan::GroupCall>, OutOfMemory>
+    requires few_columns { length columns.now ≤ 1024 }
+    requires few_inputs { length inputs.now ≤ 1024 }
+    ensures { IfOk result (λ v. map plan_call_of v.items ≡ map (spec.group_call_over columns.now (map expression_of inputs.now)) (map shared_call calls.now)) }
+{
+    let mut planned = Vec::with_capacity(alloc, calls.len())?;
+    for call in calls {
+        planned.push(group_call_over(alloc, columns, inputs, call)?)?;
+    }
+    Ok(planned)
+}
+
+/// The Group of a grouped select over its Map.
+#[tactic(auto, using(crate::proofs::Narrow::few_groups))]
+fn group_on(
+    alloc: Global,
+    grouped: &GroupedBy,
+    calls: &[Rc<GroupCall>],
+    plan: Plan,
+) -> Result<Plan, OutOfMemory>
+    requires { is_group_wide (Some (grouped_by_of grouped.now)) (map shared_call calls.now) ≡ false }
+    ensures { IfOk result (λ p. plan_of p ≡ spec.group_on (grouped_by_of grouped.now) (map shared_call calls.now) (plan_of plan)) }
+{
+    let inputs = group_inputs(alloc, &grouped.columns, calls)?;
+    let group = Group {
+        columns: grouped.columns.len() as u16,
+        sets: sets_seated(alloc, &grouped.columns, &grouped.sets)?,
+        calls: group_calls_over(alloc, &grouped.columns, &inputs, calls)?,
+    };
+    let inner = Plan::Map {
+        input: Box::new(alloc, plan)?,
+        outputs: inputs,
+    };
+    Ok(Plan::Group {
+        input: Box::new(alloc, inner)?,
+        group,
+    })
+}
+
+/// HAVING is a Filter over the Group.
+fn having_on(alloc: Global, needs: &Needs, below: &Below, plan: Plan) -> Result<Plan, OutOfMemory>
+    requires { is_group_wide (below_of below.now).grouped (needs_shown needs.now).groups ≡ false }
+    ensures { IfOk result (λ p. plan_of p ≡ spec.having_on (row_place (below_of below.now).grouped (needs_shown needs.now).groups) (below_of below.now).having (plan_of plan)) }
+{
+    let Some(condition) = &below.having else {
+        return Ok(plan);
+    };
+    let condition = Box::into_inner(row_seated(alloc, needs, below, condition)?);
+    Ok(Plan::Filter {
+        input: Box::new(alloc, plan)?,
+        condition,
+    })
+}
+
+/// In a grouped select the Group over its Map, and a Filter for HAVING.
+fn grouped_on(alloc: Global, needs: &Needs, below: &Below, plan: Plan) -> Result<Plan, OutOfMemory>
+    requires { is_group_wide (below_of below.now).grouped (needs_shown needs.now).groups ≡ false }
+    ensures { IfOk result (λ p. plan_of p ≡ spec.grouped_on (below_of below.now) (needs_shown needs.now).groups (plan_of plan)) }
+{
+    let Some(grouped) = &below.grouped else {
+        return Ok(plan);
+    };
+    let plan = group_on(alloc, grouped, &needs.groups, plan)?;
+    having_on(alloc, needs, below, plan)
+}
+
+/// A Map of the expressions, over what stands below them.
 pub fn mapped(
     alloc: Global,
     needs: Needs,
+    below: &Below,
     formulas: Vec<Formula<SelectLeaf>>,
     plan: Plan,
 ) -> Result<Plan, OutOfMemory>
-    requires { is_window_wide (needs_shown needs) ≡ false }
-    ensures { IfOk result (λ p. plan_of p ≡ spec.mapped_over (needs_shown needs) (map formula_of formulas.items) (plan_of plan)) }
+    requires few_inputs { is_window_wide (needs_shown needs) ≡ false }
+    requires few_groups { is_group_wide (below_of below.now).grouped (needs_shown needs).groups ≡ false }
+    ensures { IfOk result (λ p. plan_of p ≡ spec.mapped_over (row_place (below_of below.now).grouped (needs_shown needs).groups) (needs_shown needs) (map formula_of formulas.items) (spec.grouped_on (below_of below.now) (needs_shown needs).groups (plan_of plan))) }
 {
-    let outputs = all_seated(alloc, &needs, &formulas)?;
-    let below = windowed(alloc, needs, plan)?;
+    let outputs = all_seated(alloc, &needs, below, &formulas)?;
+    let plan = grouped_on(alloc, &needs, below, plan)?;
+    let below = windowed(alloc, needs, below, plan)?;
     Ok(Plan::Map {
         input: Box::new(alloc, below)?,
         outputs,

@@ -95,7 +95,7 @@ row_joins _ end_of-Joined = refl
 row_joins _ (more_of-Joined join row) = ap (λ (z : Joins). more_joins (view_joined join) z) (row_joins _ row)
 
 abbrev joins_in : Table → (n : Count) × Row_of-Joined n
-joins_in (b.Derived' p quantifier items first shape row filter windows order limits alias) = (_, row)
+joins_in (b.Derived' p quantifier items first shape row filter grouping windows order limits alias) = (_, row)
 joins_in _ = (_, end_of-Joined)
 
 pub view_derived : (s : Box Select) (alias : Alias) → view_table (b.Derived s alias) ≡ derived (view_select s.value) alias

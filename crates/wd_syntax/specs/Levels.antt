@@ -3,8 +3,10 @@ use Rattle.std.specs.Prelude.{ℕ, ◌≤◌, ◌<◌, ◌==◌, if◌then◌els
 use Rattle.wd_syntax.specs.declared.expression.Operator.{Operator}
 use Rattle.wd_syntax.specs.declared.expression.Height.{Height}
 use Rattle.wd_syntax.specs.declared.expression.Height.TheVariants as h
+use Rattle.wd_syntax.specs.declared.query.GroupingWord.{GroupingWord}
+use Rattle.wd_syntax.specs.declared.query.GroupingWord.TheVariants.{Rollup, Cube, Sets}
 use Rattle.wd_syntax.specs.Tokens.{binding, operator_height, rank}
-use Rattle.wd_syntax.specs.Tree.{Tree, Constant, Column, Qualified, CallAll, Call, Case, Bracket, Signed, Binary, IsNull, Negated, Trees, no_trees, more_trees, Arms, no_arms, more_arms, Otherwise, no_else, or_else, OverTree, no_over, over_name, over_window, WindowTree, window, Keys, no_keys, more_keys, ItemTree, all_columns, all_of, shown, TableTree, named, derived, JoinTree, comma, cross, inner, Joins, no_joins, more_joins, SelectTree, select, QueryTree, query, Each}
+use Rattle.wd_syntax.specs.Tree.{Tree, Constant, Column, Qualified, CallAll, Call, Case, Bracket, Signed, Binary, IsNull, Negated, Trees, no_trees, more_trees, Arms, no_arms, more_arms, Otherwise, no_else, or_else, OverTree, no_over, over_name, over_window, WindowTree, window, Keys, no_keys, more_keys, ItemTree, all_columns, all_of, shown, SetTree, one_column, columns, GroupTree, grouped_by, constructed, GroupingTree, TableTree, named, derived, JoinTree, comma, cross, inner, Joins, no_joins, more_joins, SelectTree, select, QueryTree, query, Each}
 
 abbrev pub height_of : Tree → Height
 height_of (Signed s a) = h.Sign
@@ -77,6 +79,29 @@ abbrev pub OptionLevelled : Option Tree → Type 0
 OptionLevelled None = Unit {0}
 OptionLevelled (Some a) = IsLevelled a
 
+-- a list that has a member
+abbrev pub IsSome : {A : Type 0} → List A → Type 0
+IsSome [] = ⊥
+IsSome (a ∷ xs) = Unit {0}
+
+-- it has a column
+abbrev pub HasColumn : SetTree → Type 0
+HasColumn (one_column c) = Unit {0}
+HasColumn (columns cs) = IsSome cs
+
+-- what may stand between the brackets of such a word: no empty set where sets are made of it
+abbrev pub MayStandIn : GroupingWord → SetTree → Type 0
+MayStandIn Rollup s = HasColumn s
+MayStandIn Cube s = HasColumn s
+MayStandIn Sets s = Unit {0}
+
+abbrev pub GroupLevelled : GroupTree → Type 0
+GroupLevelled (grouped_by s) = Unit {0}
+GroupLevelled (constructed word sets) = IsSome sets × Each (MayStandIn word) sets
+
+abbrev pub GroupingLevelled : GroupingTree → Type 0
+GroupingLevelled g = Each GroupLevelled g.items × OptionLevelled g.having
+
 abbrev mutual
   pub TableLevelled : TableTree → Type 0
   TableLevelled (named n alias) = Unit {0}
@@ -93,7 +118,7 @@ abbrev mutual
 
   pub SelectLevelled : SelectTree → Type 0
   SelectLevelled (select parts first joins) =
-      IsSomeItem parts.items × Each ItemLevelled parts.items × TableLevelled first × JoinsLevelled joins × OptionLevelled parts.tail.filter × Each (λ w. WindowLevelled w.1) parts.tail.windows × KeysLevelled parts.tail.order
+      IsSomeItem parts.items × Each ItemLevelled parts.items × TableLevelled first × JoinsLevelled joins × OptionLevelled parts.tail.filter × GroupingLevelled parts.tail.grouping × Each (λ w. WindowLevelled w.1) parts.tail.windows × KeysLevelled parts.tail.order
 
 abbrev pub IsWellLevelled : QueryTree → Type 0
 IsWellLevelled (query s semicolon) = SelectLevelled s

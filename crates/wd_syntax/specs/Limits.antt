@@ -7,8 +7,8 @@ use Rattle.wd_read_cursor.specs.declared.name.Name.{Name}
 use Rattle.wd_read_cursor.specs.Tokens.{Kinds, ◌▸◌}
 use Rattle.wd_syntax.specs.declared.expression.Height.TheVariants.{Test}
 use Rattle.wd_syntax.specs.Tokens.{operator_terminal, operator_height, rank}
-use Rattle.wd_syntax.specs.Tree.{Tree, Constant, Column, Qualified, CallAll, Call, Case, Bracket, Signed, Binary, IsNull, Negated, Trees, no_trees, more_trees, Arms, no_arms, more_arms, Otherwise, no_else, or_else, OverTree, no_over, over_name, over_window, WindowTree, window, Keys, no_keys, more_keys, ItemTree, all_columns, all_of, shown, Tail, TableTree, named, derived, JoinTree, comma, cross, inner, Joins, no_joins, more_joins, SelectTree, select, QueryTree, query, Each, One}
-use Rattle.wd_syntax.specs.Spelling.{frame_onto, direction_onto, nulls_onto, not_onto, onto, list_onto, more_onto, arms_onto, else_onto, over_onto, window_onto, order_onto, more_keys_onto, given_onto, alias_onto, more_items_onto, more_windows_onto, windows_onto, limits_onto, tail_onto, table_onto, joins_onto, end_onto, spell}
+use Rattle.wd_syntax.specs.Tree.{Tree, Constant, Column, Qualified, CallAll, Call, Case, Bracket, Signed, Binary, IsNull, Negated, Trees, no_trees, more_trees, Arms, no_arms, more_arms, Otherwise, no_else, or_else, OverTree, no_over, over_name, over_window, WindowTree, window, Keys, no_keys, more_keys, ItemTree, all_columns, all_of, shown, SetTree, one_column, columns, GroupTree, grouped_by, constructed, GroupingTree, Tail, TableTree, named, derived, JoinTree, comma, cross, inner, Joins, no_joins, more_joins, SelectTree, select, QueryTree, query, Each, One}
+use Rattle.wd_syntax.specs.Spelling.{frame_onto, direction_onto, nulls_onto, not_onto, onto, list_onto, more_onto, arms_onto, else_onto, over_onto, window_onto, order_onto, more_keys_onto, given_onto, alias_onto, more_items_onto, commas_onto, members_onto, set_onto, group_item_onto, having_onto, grouping_onto, more_windows_onto, windows_onto, limits_onto, tail_onto, table_onto, joins_onto, end_onto, spell}
 use Rattle.wd_syntax.specs.Levels.{IsWellLevelled}
 
 -- What limits ask of a token: it opens the level of that number, or is the operator of that number in its chain, both from 1.
@@ -90,15 +90,32 @@ abbrev pub filter_marks : ℕ → Option Tree → Kinds → List Mark
 filter_marks n None ts = []
 filter_marks n (Some a) ts = marks n a ts
 
+abbrev pub set_marks : ℕ → SetTree → Kinds → List Mark
+set_marks n (one_column c) ts = []
+set_marks n (columns cs) ts = opened n (set_onto (columns cs) ts) (λ k. [])
+
+-- those of a list with commas between its members, which are spelled so and have these
+abbrev pub members_marks : {A : Type 0} → (A → Kinds → Kinds) → (A → Kinds → List Mark) → List A → Kinds → List Mark
+members_marks one of [] ts = []
+members_marks one of (a ∷ xs) ts = of a (commas_onto one xs ts) ++ members_marks one of xs ts
+
+abbrev pub group_marks : ℕ → GroupTree → Kinds → List Mark
+group_marks n (grouped_by s) ts = set_marks n s ts
+group_marks n (constructed word sets) ts = opened n (m.LeftBracket ▸ members_onto set_onto sets (m.RightBracket ▸ ts)) (λ k. members_marks set_onto (set_marks k) sets (m.RightBracket ▸ ts))
+
+abbrev pub grouping_marks : ℕ → GroupingTree → Kinds → List Mark
+grouping_marks n g ts = members_marks group_item_onto (group_marks n) g.items (having_onto g.having ts) ++ filter_marks n g.having ts
+
 abbrev pub windows_marks : ℕ → List (Name × WindowTree) → Kinds → List Mark
 windows_marks n [] ts = []
 windows_marks n (w ∷ windows) ts = bracketed_marks n w.1 (more_windows_onto windows ts) ++ windows_marks n windows ts
 
 abbrev pub tail_marks : ℕ → Tail → Kinds → List Mark
 tail_marks n tail ts =
-    filter_marks n tail.filter (windows_onto tail.windows (order_onto tail.order (limits_onto tail.limits ts)))
+    filter_marks n tail.filter (grouping_onto tail.grouping (windows_onto tail.windows (order_onto tail.order (limits_onto tail.limits ts))))
+    ++ (grouping_marks n tail.grouping (windows_onto tail.windows (order_onto tail.order (limits_onto tail.limits ts)))
     ++ (windows_marks n tail.windows (order_onto tail.order (limits_onto tail.limits ts))
-    ++ keys_marks n tail.order (limits_onto tail.limits ts))
+    ++ keys_marks n tail.order (limits_onto tail.limits ts)))
 
 abbrev mutual
   pub table_marks : ℕ → TableTree → Kinds → List Mark

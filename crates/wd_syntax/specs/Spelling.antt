@@ -18,6 +18,9 @@ use Rattle.wd_syntax.specs.declared.expression.SortDirection.TheVariants.{Ascend
 use Rattle.wd_syntax.specs.declared.expression.NullsPlace.{NullsPlace}
 use Rattle.wd_syntax.specs.declared.expression.NullsPlace.TheVariants as p
 use Rattle.wd_syntax.specs.declared.query.Alias.{Alias}
+use Rattle.wd_syntax.specs.declared.query.GroupColumn.{GroupColumn}
+use Rattle.wd_syntax.specs.declared.query.GroupingWord.{GroupingWord}
+use Rattle.wd_syntax.specs.declared.query.GroupingWord.TheVariants.{Rollup, Cube, Sets}
 use Rattle.wd_syntax.specs.declared.query.Quantifier.{Quantifier}
 use Rattle.wd_syntax.specs.declared.query.Quantifier.TheVariants as q
 use Rattle.wd_syntax.specs.declared.query.RowWord.{RowWord}
@@ -31,7 +34,7 @@ use Rattle.wd_syntax.specs.declared.query.Limits.{Limits}
 use Rattle.wd_syntax.specs.declared.query.Limits.TheVariants.{OffsetFirst, CountFirst}
 use Rattle.wd_read_cursor.specs.Tokens.{Kinds, ◌▸◌, ◌▹◌, name_kind}
 use Rattle.wd_syntax.specs.Tokens.{literal_kind, operator_terminal, sign_terminal}
-use Rattle.wd_syntax.specs.Tree.{Tree, Constant, Column, Qualified, CallAll, Call, Case, Bracket, Signed, Binary, IsNull, Negated, Trees, no_trees, more_trees, Arms, no_arms, more_arms, Otherwise, no_else, or_else, OverTree, no_over, over_name, over_window, WindowTree, window, Keys, no_keys, more_keys, ItemTree, all_columns, all_of, shown, Tail, TableTree, named, derived, JoinTree, comma, cross, inner, Joins, no_joins, more_joins, SelectTree, select, QueryTree, query}
+use Rattle.wd_syntax.specs.Tree.{Tree, Constant, Column, Qualified, CallAll, Call, Case, Bracket, Signed, Binary, IsNull, Negated, Trees, no_trees, more_trees, Arms, no_arms, more_arms, Otherwise, no_else, or_else, OverTree, no_over, over_name, over_window, WindowTree, window, Keys, no_keys, more_keys, ItemTree, all_columns, all_of, shown, SetTree, one_column, columns, GroupTree, grouped_by, constructed, GroupingTree, Tail, TableTree, named, derived, JoinTree, comma, cross, inner, Joins, no_joins, more_joins, SelectTree, select, QueryTree, query}
 
 -- ---- frames
 
@@ -174,6 +177,47 @@ abbrev pub filter_onto : Option Tree → Kinds → Kinds
 filter_onto None ts = ts
 filter_onto (Some a) ts = m.Where ▸ onto a ts
 
+-- the rest of a list, with a comma before each
+abbrev pub commas_onto : {A : Type 0} → (A → Kinds → Kinds) → List A → Kinds → Kinds
+commas_onto one [] ts = ts
+commas_onto one (a ∷ xs) ts = m.Comma ▸ one a (commas_onto one xs ts)
+
+-- a list, with commas between its members
+abbrev pub members_onto : {A : Type 0} → (A → Kinds → Kinds) → List A → Kinds → Kinds
+members_onto one [] ts = ts
+members_onto one (a ∷ xs) ts = one a (commas_onto one xs ts)
+
+abbrev pub qualifier_onto : Option Name → Kinds → Kinds
+qualifier_onto None ts = ts
+qualifier_onto (Some n) ts = name_kind n ∷ (m.Dot ▸ ts)
+
+abbrev pub group_column_onto : GroupColumn → Kinds → Kinds
+group_column_onto c ts = qualifier_onto c.table (name_kind c.name ∷ ts)
+
+abbrev pub set_onto : SetTree → Kinds → Kinds
+set_onto (one_column c) ts = group_column_onto c ts
+set_onto (columns cs) ts = m.LeftBracket ▸ members_onto group_column_onto cs (m.RightBracket ▸ ts)
+
+abbrev pub grouping_word_onto : GroupingWord → Kinds → Kinds
+grouping_word_onto Rollup ts = k.Rollup ▹ ts
+grouping_word_onto Cube ts = k.Cube ▹ ts
+grouping_word_onto Sets ts = k.Grouping ▹ k.Sets ▹ ts
+
+abbrev pub group_item_onto : GroupTree → Kinds → Kinds
+group_item_onto (grouped_by s) ts = set_onto s ts
+group_item_onto (constructed word sets) ts = grouping_word_onto word (m.LeftBracket ▸ members_onto set_onto sets (m.RightBracket ▸ ts))
+
+abbrev pub group_onto : List GroupTree → Kinds → Kinds
+group_onto [] ts = ts
+group_onto (a ∷ items) ts = m.Group ▸ m.By ▸ group_item_onto a (commas_onto group_item_onto items ts)
+
+abbrev pub having_onto : Option Tree → Kinds → Kinds
+having_onto None ts = ts
+having_onto (Some a) ts = m.Having ▸ onto a ts
+
+abbrev pub grouping_onto : GroupingTree → Kinds → Kinds
+grouping_onto g ts = group_onto g.items (having_onto g.having ts)
+
 -- name AS ( .. )
 abbrev pub named_window_onto : Name × WindowTree → Kinds → Kinds
 named_window_onto w ts = name_kind w.0 ∷ (m.As ▸ m.LeftBracket ▸ window_onto w.1 (m.RightBracket ▸ ts))
@@ -228,7 +272,7 @@ limits_onto (Some (CountFirst c o)) ts = count_onto c (offset_option_onto o ts)
 
 -- what follows FROM
 abbrev pub tail_onto : Tail → Kinds → Kinds
-tail_onto tail ts = filter_onto tail.filter (windows_onto tail.windows (order_onto tail.order (limits_onto tail.limits ts)))
+tail_onto tail ts = filter_onto tail.filter (grouping_onto tail.grouping (windows_onto tail.windows (order_onto tail.order (limits_onto tail.limits ts))))
 
 abbrev mutual
   pub table_onto : TableTree → Kinds → Kinds

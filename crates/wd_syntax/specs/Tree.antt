@@ -8,6 +8,8 @@ use Rattle.wd_syntax.specs.declared.expression.Literal.{Literal}
 use Rattle.wd_syntax.specs.declared.expression.SortDirection.{SortDirection}
 use Rattle.wd_syntax.specs.declared.expression.NullsPlace.{NullsPlace}
 use Rattle.wd_syntax.specs.declared.query.Alias.{Alias}
+use Rattle.wd_syntax.specs.declared.query.GroupColumn.{GroupColumn}
+use Rattle.wd_syntax.specs.declared.query.GroupingWord.{GroupingWord}
 use Rattle.wd_syntax.specs.declared.query.Quantifier.{Quantifier}
 use Rattle.wd_syntax.specs.declared.query.Limits.{Limits}
 
@@ -60,9 +62,27 @@ pub data ItemTree : Type 0 where
   all_of : Name → ItemTree
   shown : Tree → Option Alias → ItemTree
 
+-- columns that rows are grouped by together
+pub data SetTree : Type 0 where
+  one_column : GroupColumn → SetTree
+  -- in brackets
+  columns : List GroupColumn → SetTree
+
+-- a member of GROUP BY
+pub data GroupTree : Type 0 where
+  grouped_by : SetTree → GroupTree
+  -- ROLLUP, CUBE or GROUPING SETS
+  constructed : GroupingWord → List SetTree → GroupTree
+
+-- GROUP BY and HAVING
+pub record GroupingTree : Type 0 where
+  pub items : List GroupTree
+  pub having : Option Tree
+
 -- what follows the FROM of a select
 pub record Tail : Type 0 where
   pub filter : Option Tree
+  pub grouping : GroupingTree
   pub windows : List (Name × WindowTree)
   pub order : Keys
   pub limits : Option Limits

@@ -10,10 +10,15 @@ use Rattle.wd_syntax.specs.declared.expression.Link.{Link}
 use Rattle.wd_syntax.specs.declared.expression.Operator.{Operator}
 use Rattle.wd_syntax.specs.declared.expression.Window.{Window, Window', Row_of-SortKey, end_of-SortKey, more_of-SortKey}
 use Rattle.wd_syntax.specs.declared.expression.SortKey.{SortKey}
-use Rattle.wd_syntax.specs.Tree.{Tree, Constant, Column, Qualified, CallAll, Call, Case, Bracket, Signed, Binary, IsNull, Negated, Trees, no_trees, more_trees, Arms, no_arms, more_arms, Otherwise, no_else, or_else, OverTree, no_over, over_name, over_window, WindowTree, window, Keys, no_keys, more_keys, Key, keys_of, joins_of, ItemTree, all_columns, all_of, shown, Parts, TableTree, named, derived, JoinTree, comma, cross, inner, Joins, no_joins, more_joins, SelectTree, select, QueryTree, query}
+use Rattle.wd_syntax.specs.Tree.{Tree, Constant, Column, Qualified, CallAll, Call, Case, Bracket, Signed, Binary, IsNull, Negated, Trees, no_trees, more_trees, Arms, no_arms, more_arms, Otherwise, no_else, or_else, OverTree, no_over, over_name, over_window, WindowTree, window, Keys, no_keys, more_keys, Key, keys_of, joins_of, ItemTree, all_columns, all_of, shown, SetTree, one_column, columns, GroupTree, grouped_by, constructed, GroupingTree, Parts, TableTree, named, derived, JoinTree, comma, cross, inner, Joins, no_joins, more_joins, SelectTree, select, QueryTree, query}
 use Rattle.wd_read_cursor.specs.declared.name.Name.{Name}
 use Rattle.wd_syntax.specs.declared.query.Item.{Item}
 use Rattle.wd_syntax.specs.declared.query.Item.TheVariants as i
+use Rattle.wd_syntax.specs.declared.query.GroupingSet.{GroupingSet}
+use Rattle.wd_syntax.specs.declared.query.GroupingSet.TheVariants as g
+use Rattle.wd_syntax.specs.declared.query.GroupItem.{GroupItem}
+use Rattle.wd_syntax.specs.declared.query.GroupItem.TheVariants as u
+use Rattle.wd_syntax.specs.declared.query.Grouping.{Grouping}
 use Rattle.wd_syntax.specs.declared.query.NamedWindow.{NamedWindow}
 use Rattle.wd_syntax.specs.declared.query.Table.{Table, Row_of-Joined, end_of-Joined, more_of-Joined}
 use Rattle.wd_syntax.specs.declared.query.Table.TheVariants as b
@@ -107,19 +112,30 @@ view_item i.All = all_columns
 view_item (i.AllOf n) = all_of n
 view_item (i.Expr a alias) = shown (view a) alias
 
+abbrev pub view_set : GroupingSet → SetTree
+view_set (g.Column c) = one_column c
+view_set (g.Columns cs) = columns cs.items
+
+abbrev pub view_group_item : GroupItem → GroupTree
+view_group_item (u.Set s) = grouped_by (view_set s)
+view_group_item (u.Sets word sets) = constructed word (map view_set sets.items)
+
+abbrev pub view_grouping : Grouping → GroupingTree
+view_grouping g = record { items = map view_group_item g.items.items; having = view_option g.having }
+
 abbrev pub view_named_window : NamedWindow → Name × WindowTree
 view_named_window w = (w.name, view_window w.window)
 
 -- what the parts of a select show, but for its FROM
-abbrev pub parts_of : Option Quantifier → List Item → Option Expr → List NamedWindow → List SortKey → Option Limits → Parts
-parts_of quantifier items filter windows order limits =
-    record { quantifier = quantifier; items = map view_item items; tail = record { filter = view_option filter; windows = map view_named_window windows; order = keys_of (map view_key order); limits = limits } }
+abbrev pub parts_of : Option Quantifier → List Item → Option Expr → Grouping → List NamedWindow → List SortKey → Option Limits → Parts
+parts_of quantifier items filter grouping windows order limits =
+    record { quantifier = quantifier; items = map view_item items; tail = record { filter = view_option filter; grouping = view_grouping grouping; windows = map view_named_window windows; order = keys_of (map view_key order); limits = limits } }
 
 abbrev mutual
   pub view_table : Table → TableTree
   view_table (b.Named n alias) = named n alias
-  view_table (b.Derived' p quantifier items first shape row filter windows order limits alias) =
-      derived (select (parts_of quantifier items.items filter windows.items order.items limits) (view_table first) (view_join_row row)) alias
+  view_table (b.Derived' p quantifier items first shape row filter grouping windows order limits alias) =
+      derived (select (parts_of quantifier items.items filter grouping windows.items order.items limits) (view_table first) (view_join_row row)) alias
 
   pub view_joined : Joined → JoinTree
   view_joined (j.Comma table) = comma (view_table table)
@@ -131,7 +147,7 @@ abbrev mutual
   view_join_row (more_of-Joined join row) = more_joins (view_joined join) (view_join_row row)
 
 abbrev pub view_parts : Select → Parts
-view_parts s = parts_of s.quantifier s.items.items s.filter s.windows.items s.order.items s.limits
+view_parts s = parts_of s.quantifier s.items.items s.filter s.grouping s.windows.items s.order.items s.limits
 
 abbrev pub view_select : Select → SelectTree
 view_select s = select (view_parts s) (view_table s.from.first) (joins_of (map view_joined s.from.joined.items))

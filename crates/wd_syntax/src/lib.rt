@@ -11,7 +11,7 @@ pub use expression::{
 };
 pub use frame::{Bound, Exclusion, Extent, Frame, FrameMode};
 pub use query::{
-    Alias, Count, FetchWord, From, Item, Joined, Limits, NamedWindow, Offset, Quantifier, Query,
-    RowWord, Select, Table,
+    Alias, Count, FetchWord, From, GroupColumn, GroupItem, Grouping, GroupingSet, GroupingWord,
+    Item, Joined, Limits, NamedWindow, Offset, Quantifier, Query, RowWord, Select, Table,
 };
 pub use wd_read_cursor::Name;

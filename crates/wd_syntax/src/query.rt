@@ -27,6 +27,49 @@ pub enum Quantifier {
     Distinct,
 }
 
+/// `name` or `name . name`: a column that rows are grouped by.
+#[derive(Drop)]
+pub struct GroupColumn {
+    /// The name of its table, where one is written.
+    pub table: Option<Name>,
+    pub name: Name,
+}
+
+/// Columns that are grouped by together.
+#[derive(Drop)]
+pub enum GroupingSet {
+    Column(GroupColumn),
+    /// `( [column {, column}] )`
+    Columns(Vec<GroupColumn>),
+}
+
+/// What makes several sets of those between its brackets.
+#[derive(Clone, Copy, Debug, PartialEq, Eq)]
+pub enum GroupingWord {
+    /// `ROLLUP`
+    Rollup,
+    /// `CUBE`
+    Cube,
+    /// `GROUPING SETS`
+    Sets,
+}
+
+/// A member of `GROUP BY`.
+#[derive(Drop)]
+pub enum GroupItem {
+    Set(GroupingSet),
+    /// `(ROLLUP | CUBE | GROUPING SETS) ( set {, set} )`
+    Sets(GroupingWord, Vec<GroupingSet>),
+}
+
+/// `[GROUP BY item {, item}] [HAVING expr]`
+#[derive(Drop)]
+pub struct Grouping {
+    /// Empty where `GROUP BY` is not written.
+    pub items: Vec<GroupItem>,
+    pub having: Option<Expr>,
+}
+
 /// `name AS ( .. )`
 #[derive(Drop)]
 pub struct NamedWindow {
@@ -112,6 +155,7 @@ pub struct Select {
     pub items: Vec<Item>,
     pub from: From,
     pub filter: Option<Expr>,
+    pub grouping: Grouping,
     pub windows: Vec<NamedWindow>,
     pub order: Vec<SortKey>,
     pub limits: Option<Limits>,

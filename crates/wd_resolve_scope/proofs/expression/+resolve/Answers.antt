@@ -21,8 +21,8 @@ resolved-returns-in_err-arguments-in-Call t c =
     let over = c.in-Call.over in
     let trees = trees_of (map view c.deref.result.now) in
     let shown : view c.args.tree.now ≡ Call name trees (view_over_option over) = ap view c.in-Call.is ∙ view_call name c.in-Call.arguments over ∙ ap (λ xs. Call name (trees_of (map view xs)) (view_over_option over)) (sym c.deref.ensures.value) in
-    let p = err_from_is_err_and c.from_residual-in_err-arguments-in-Call.result c.from_residual-in_err-arguments-in-Call.ensures.1 in
-    rw (p.1, p.2) (rw shown (fails_too c.in_err-arguments-in-Call.field-0.0 (all_resolved (context_of c.arguments_in.result) trees) (resolved context (Call name trees (view_over_option over))) c.in_err-arguments-in-Call.ensures (λ cause h. (let g : all_resolved (arguments_in context (view_over_option over)) trees ≡ Err cause = ap (λ d. all_resolved d trees) (sym c.arguments_in.ensures) ∙ h in rw g refl))))
+    let p = err_from_is_err_and c.from_residual.result c.from_residual.ensures.1 in
+    rw (p.1, p.2) (rw shown (fails_too c.in_err-arguments-in-Call.field-0.0 (all_resolved (context_of c.arguments_in.result) trees) (resolved context (Call name trees (view_over_option over))) c.in_err-arguments-in-Call.ensures (λ cause h. (let g : all_resolved (arguments_in context name (view_over_option over)) trees ≡ Err cause = ap (λ d. all_resolved d trees) (sym c.arguments_in.ensures) ∙ h in rw g refl))))
 
 pub resolved-returns-in_ok-arguments-in-Call : goal.resolved-returns-in_ok-arguments-in-Call
 resolved-returns-in_ok-arguments-in-Call t c =
@@ -31,7 +31,7 @@ resolved-returns-in_ok-arguments-in-Call t c =
     let trees = trees_of (map view c.deref.result.now) in
     let shown : view c.args.tree.now ≡ Call name trees (view_over_option over) = ap view c.in-Call.is ∙ view_call name c.in-Call.arguments over ∙ ap (λ xs. Call name (trees_of (map view xs)) (view_over_option over)) (sym c.deref.ensures.value) in
     let g = ap (λ d. all_resolved d trees) (sym c.arguments_in.ensures) ∙ c.in_ok-arguments-in-Call.ensures in
-    rw shown (rw g c.call_over.ensures)
+    rw shown (rw g c.call_over-in-Call.ensures)
 
 pub resolved-returns-in_err-arms-in-Case : goal.resolved-returns-in_err-arms-in-Case
 resolved-returns-in_err-arms-in-Case t c =

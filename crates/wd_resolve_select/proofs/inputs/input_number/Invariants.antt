@@ -1,8 +1,7 @@
 use Rattle.std.proofs.Common.{◌≡◌, ◌+◌, drop, map}
-use Rattle.wd_plan.specs.Expressions.{expression_of}
-use Rattle.wd_plan.specs.Equality.{same_expression}
 use Rattle.std.specs.List.{position_or_len}
+use Rattle.wd_resolve_scope.specs.Rows.{row_formula_of, same_row_formula}
 use Rattle.wd_resolve_select.proofs.inputs.input_number.Given as goal
 
 abbrev pub invariant-loop-number : goal.invariant-loop-number
-invariant-loop-number l = l.number + position_or_len (same_expression (expression_of l.expression)) (map expression_of (drop l.number l.inputs)) ≡ position_or_len (same_expression (expression_of l.expression)) (map expression_of l.inputs)
+invariant-loop-number l = l.number + position_or_len (same_row_formula (row_formula_of l.expression)) (map row_formula_of (drop l.number l.inputs)) ≡ position_or_len (same_row_formula (row_formula_of l.expression)) (map row_formula_of l.inputs)
