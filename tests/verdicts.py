@@ -84,6 +84,7 @@ class Query:
         if (status, word, len(lines)) == (0, "DETERMINISTIC", 1):
             self.write("certificate.json", lines[0].encode())
             self.expect(0, ["ACCEPTED"], "verify", "certificate.json")
+            names_columns_once(json.loads(lines[0]))
             return word
         if (status, word, len(lines)) == (1, "DEPENDS", 1):
             self.write("witness.json", lines[0].encode())
@@ -148,6 +149,13 @@ class Query:
             self.write(f"{name}.csv", in_order(text))
         status, (header, *rows) = self.said("run", *(f"{name}={name}.csv" for name in self.data))
         return status, [header, *sorted(rows)]
+
+
+def names_columns_once(certificate):
+    """No trace of the certificate has a column twice."""
+    for trace in (trace for node in certificate["nodes"] for trace in node["traces"]):
+        if len(set(trace["from"])) < len(trace["from"]):
+            raise Unexpected(f"check: a column stands twice in a trace, {trace}")
 
 
 def numbers(them):

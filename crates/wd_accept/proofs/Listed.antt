@@ -1,20 +1,16 @@
 -- What a certificate implies by which the answer's Limit goes by `keys`.
-use Rattle.std.proofs.Common.{◌≡◌, ℕ, Bool, true, false, cond, List, length, nat_eq, Option, None, is_some, refl, sym, ◌∙◌, ap, inl, inr}
-use Rattle.std.proofs.lemmas.Bool.{eqb-true, false≢true}
+use Rattle.std.proofs.Common.{◌≡◌, ℕ, Bool, true, false, cond, List, length, Option, None, is_some, refl, sym, ◌∙◌, ap, inl, inr}
+use Rattle.std.proofs.lemmas.Bool.{false≢true}
 use Rattle.wd_schema.specs.Laws.{HasOneMeaning}
 use Rattle.wd_schema.specs.Tables.{TableRule}
 use Rattle.wd_plan.specs.Plans.{PlanTree, node_count}
 use Rattle.wd_certificate.specs.Certificates.{CertificateRecord, NodeRecord}
 use Rattle.wd_certificate.specs.Laws.{IsReadBack}
 use Rattle.wd_certificate.specs.declared.certificate.Version.{Version}
-use Rattle.wd_certificate.specs.declared.error.CertError.TheVariants.{Count}
 use Rattle.wd_resolve.specs.Laws.{EndsInLimit, OrderedEndInLimit, PlansFit}
 use Rattle.wd_query.specs.Laws.{HasOnePlan}
 use Rattle.wd_rules.specs.Lists.{ListedHasOne, final_limit, goes_by_keys}
-use Rattle.wd_rules.specs.Rules.{refuse_unless}
-use Rattle.wd_rules.specs.Validity.{IsValidCertificate, form_refusal, nodes_refusal}
-use Rattle.wd_rules.proofs.Refused.{first_passed, passed}
-use Rattle.wd_rules.proofs.Sound.{entries_passed}
+use Rattle.wd_rules.specs.Validity.{IsValidCertificate}
 use Rattle.wd_accept.specs.Acceptance.{HasCause}
 use Rattle.wd_accept.specs.declared.error.VerifyError.{VerifyError}
 use Rattle.wd_accept.specs.declared.error.VerifyError.TheVariants as error
@@ -24,11 +20,7 @@ use Rattle.wd_accept.proofs.Verdicts.{each_answer}
 
 -- a valid certificate has an entry for each node
 pub valid_long : (tables : List TableRule) (plan : PlanTree) (nodes : List NodeRecord) (version : Version) → IsValidCertificate tables plan (record { nodes = nodes; version = version }) → length nodes ≡ node_count plan
-valid_long tables plan nodes version v =
-    eqb-true (length nodes) (node_count plan)
-    (passed (nat_eq (length nodes) (node_count plan)) Count
-    (first_passed (refuse_unless (nat_eq (length nodes) (node_count plan)) Count) _
-    (first_passed (form_refusal plan nodes) (nodes_refusal tables plan 0 nodes) (entries_passed tables plan (record { nodes = nodes; version = version }) v))))
+valid_long tables plan nodes version v = v.count
 
 -- what refuses a certificate refuses it as a list's
 pub list_cause : (schema query certificate : List ℕ) (e : VerifyError) → HasCause schema query certificate e → HasListCause schema query certificate e

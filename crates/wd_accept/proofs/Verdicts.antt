@@ -17,6 +17,7 @@ use Rattle.wd_query.specs.Laws.{HasMeaningOrCause, HasOnePlan}
 use Rattle.wd_resolve.specs.Laws.{PlansFit, Reads}
 use Rattle.wd_rules.specs.Laws.{ValidHasOne}
 use Rattle.wd_rules.specs.Validity.{first_refusal}
+use Rattle.wd_rules.proofs.Valid.{not_refused}
 use Rattle.wd_accept.specs.Acceptance.{RefusesPlan, SpellsValid}
 use Rattle.wd_accept.specs.Laws.{AcceptedHasOne, AcceptedIsTaken, NotBoth}
 use Rattle.wd_accept.specs.declared.error.VerifyError.TheVariants as error
@@ -50,7 +51,7 @@ not_both one_meaning one_plan is_read_back schema query certificate refusal acce
 
     by : SpellsValid certificate tables plan → RefusesPlan refusal certificate tables plan → ⊥
     by valid (inl cause) = false≢true (subst (λ e. is_some (number_of e) ≡ true) ((is_read_back certificate valid.0 valid.1).1 refusal cause) some)
-    by valid (inr cause) = no_refusal (first_refusal tables plan cause.0) refusal (subst (λ said. first_refusal tables plan said ≡ None) (sym ((is_read_back certificate valid.0 valid.1).0 cause.0 cause.1)) valid.2) cause.2
+    by valid (inr cause) = no_refusal (first_refusal tables plan cause.0) refusal (subst (λ said. first_refusal tables plan said ≡ None) (sym ((is_read_back certificate valid.0 valid.1).0 cause.0 cause.1)) (not_refused tables plan valid.0 valid.2)) cause.2
 
 -- what refuses the certificate that a text spells refuses the text, and so does a want of memory
 pub refuses : (certificate : List ℕ) (tables : List TableRule) (plan : PlanTree) (nodes : List NodeRecord) (version : Version) (e : CertError)

@@ -8,7 +8,7 @@ use Rattle.wd_certificate.specs.declared.error.CertError.{CertError}
 use Rattle.wd_certificate.specs.declared.error.CertError.TheVariants.{OutOfRange, UnreachedClaim}
 use Rattle.wd_facts.specs.declared.facts.Member.{Member}
 use Rattle.wd_facts.specs.declared.facts.Member.TheVariants as member
-use Rattle.wd_facts.specs.Facts.{FactList, columns_named, is_column, is_plain, is_plain_fact}
+use Rattle.wd_facts.specs.Facts.{FactList, columns_named, is_plain, is_plain_fact}
 use Rattle.wd_facts.specs.Given.{all_columns}
 use Rattle.wd_facts.specs.Laws.{ArePlain}
 use Rattle.wd_sets.specs.Reaches.{reaches_each}
@@ -16,9 +16,10 @@ use Rattle.wd_sets.specs.Sets.{is_in}
 use Rattle.wd_rules.specs.Rules.{is_target, keep_refusal, kept_refusal, member_of, or_else, refuse_unless, trace_or}
 use Rattle.wd_rules.specs.Rules as rules
 use Rattle.wd_rules.specs.Traces.{Traced}
-use Rattle.wd_analyse.specs.Evidence.{Closing, trace_by}
+use Rattle.wd_analyse.specs.Evidence.{Closing, once, trace_by}
 use Rattle.wd_analyse.specs.Kept.{is_new, keep_by, kept_fact, kept_members, target_of}
 use Rattle.wd_analyse.proofs.Valid.{IsClaim}
+use Rattle.wd_analyse.proofs.Once.{once_all}
 use Rattle.wd_analyse.proofs.Traces.{each_reached, shown}
 
 -- ---- columns that are kept
@@ -113,8 +114,8 @@ module _ (node : ℕ) (facts : FactList) (width : ℕ) where
       let plain = members_plain width c in
       let reach : reaches_each facts (shown node facts c).has (map member_of (map target_of (kept_members width c))) ≡ true =
       ap (reaches_each facts (shown node facts c).has) (same_members width (kept_members width c) plain) ∙ each_reached node facts c is.closing (kept_members width c) (members_given width c) in
-      both_pass (list_all (is_target width) (map target_of (kept_members width c))) (list_all (λ d. nat_lt d width) c.from && reaches_each facts (shown node facts c).has (map member_of (map target_of (kept_members width c)))) (OutOfRange node) (UnreachedClaim node)
-      (are_targets width (kept_members width c) plain) (λ i. is.low i && reach i)
+      both_pass (list_all (is_target width) (map target_of (kept_members width c))) (list_all (λ d. nat_lt d width) (once c.from) && reaches_each facts (shown node facts c).has (map member_of (map target_of (kept_members width c)))) (OutOfRange node) (UnreachedClaim node)
+      (are_targets width (kept_members width c) plain) (λ i. once_all (λ d. nat_lt d width) c.from is.low i && reach i)
 
   pub keep_passes : (all : List Traced) (n : ℕ) (cs : List Closing) (rest : List Traced) → AllByRecursion (IsClaim facts width) cs → drop n all ≡ map (shown node facts) cs ++ rest → keep_refusal node facts width all (keep_by width n cs) ≡ None
   keep_passes all n [] rest a e = refl
@@ -126,9 +127,9 @@ module _ (node : ℕ) (facts : FactList) (width : ℕ) where
 -- ---- as facts
 
 claim_plain : (facts : FactList) (width : ℕ) (c : Closing) → IsClaim facts width c → is_plain_fact width (kept_fact width c) ≡ true
-claim_plain facts width c is = λ i. columns_are c.from is.low i && members_plain width c i
+claim_plain facts width c is = λ i. columns_are (once c.from) (once_all (λ d. nat_lt d width) c.from is.low) i && members_plain width c i
   where
-    columns_are : (X : List ℕ) → AreBelow width X → list_all (is_column width) (columns_named X) ≡ true
+    columns_are : (X : List ℕ) → AreBelow width X → list_all (is_plain width) (columns_named X) ≡ true
     columns_are [] e = refl
     columns_are (d ∷ X) e = let p = and_parts (nat_lt d width) (list_all (λ d. nat_lt d width) X) e in λ i. p.0 i && columns_are X p.1 i
 

@@ -1,5 +1,6 @@
 pub mod Valid
 pub mod Named
+pub mod Once
 pub mod Traces
 pub mod Keeps
 pub mod New

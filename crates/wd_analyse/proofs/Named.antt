@@ -1,5 +1,4 @@
--- The given facts of a node name columns on their left sides, and on their right sides what they may, where what its children
--- keep names columns and the row alone.
+-- The given facts of a node name what they may, where what its children keep names columns and the row alone.
 use Rattle.std.proofs.Common.{◌≡◌, ℕ, zero, suc, ◌+◌, ◌<◌, ◌≤◌, Bool, true, false, cond, ◌&&◌, List, [], ◌∷◌, ◌++◌, map, filter, flat_map, length, refl, sym, subst, arith, nat_eq, nat_lt, slice_get, is_some, Option, Some, None}
 use Rattle.std.specs.List.{AllByRecursion, list_all, range_with_len}
 use Rattle.std.proofs.lemmas.Bool.{and_parts, false≢true, le-leb, lt-ltb, ltb-true}
@@ -21,7 +20,7 @@ use Rattle.wd_plan.specs.Sorting.{class_columns, order_columns}
 use Rattle.wd_plan.proofs.Ranges.{IsSound, calls_sound, has_the_table, kinds_below, table_columns}
 use Rattle.wd_facts.specs.declared.facts.Member.{Member}
 use Rattle.wd_facts.specs.declared.facts.Member.TheVariants as member
-use Rattle.wd_facts.specs.Facts.{Fact, FactList, columns_named, is_column, is_plain, key_fact, moved, moved_facts}
+use Rattle.wd_facts.specs.Facts.{Fact, FactList, columns_named, is_plain, key_fact, moved, moved_facts}
 use Rattle.wd_facts.specs.Given.{Side, Plain, Fixed, Other, all_columns, are_told_apart, call_facts, cut_fact, facts_of_group, group_key, group_key_facts, grouping_arguments, grouping_columns, calls_facts, comparison_facts, conjunct_facts, conjuncts, conjuncts_of, copy_facts, equality_facts, facts_of_conjuncts, full_keys, given, goes_by_key, gives_row, is_not_null, keys_facts, names_columns, null_facts, nullable_keys, output_facts, outputs_facts, over_frame, row_keys, side_of, table_rule, used, value_fact, rank_fact}
 use Rattle.wd_facts.specs.Laws.{AreOfChildren, ArePlain}
 use Rattle.wd_facts.proofs.Embeds.{same_facts}
@@ -31,9 +30,9 @@ use Rattle.wd_facts.proofs.Lists.{all_append}
 use Rattle.wd_facts.proofs.UsedBelow.{below_append, used_below}
 use Rattle.wd_close.specs.Closure.{are_named, is_named, is_split_within}
 
--- a fact that names columns on its left side, and on its right side what it may
+-- a fact that names what it may
 pub record IsGiven (facts : FactList) (fact : Fact) : Type 0 where
-  pub from : list_all (is_column facts.columns) fact.from ≡ true
+  pub from : list_all (is_named facts) fact.from ≡ true
   pub to : list_all (is_named facts) fact.to ≡ true
 
 abbrev pub AreGiven : FactList → List Fact → Type 0
@@ -58,10 +57,6 @@ below_shifted by w n h (c ∷ X) e =
     let l = ltb-true c w p.0 in
     λ i. lt-ltb (by + c) n (omega (arith, l, h)) i && below_shifted by w n h X p.1 i
 
-columns_are : (n : ℕ) (X : List ℕ) → AreBelow n X → list_all (is_column n) (columns_named X) ≡ true
-columns_are n [] e = refl
-columns_are n (c ∷ X) e = let p = and_parts (nat_lt c n) (list_all (λ c. nat_lt c n) X) e in λ i. p.0 i && columns_are n X p.1 i
-
 module _ (facts : FactList) where
   named_columns : (X : List ℕ) → AreBelow facts.columns X → list_all (is_named facts) (columns_named X) ≡ true
   named_columns [] e = refl
@@ -70,7 +65,7 @@ module _ (facts : FactList) where
   -- ---- keys
 
   key_given : (row : Member) → is_named facts row ≡ true → (X : List ℕ) → AreBelow facts.columns X → IsGiven facts (key_fact row X)
-  key_given row r X e = record { from = columns_are facts.columns X e; to = λ i. r i && true }
+  key_given row r X e = record { from = named_columns X e; to = λ i. r i && true }
 
   keys_given : (row : Member) → is_named facts row ≡ true → (keys : List (List ℕ)) → AllByRecursion (AreBelow facts.columns) keys → AreGiven facts (keys_facts row keys)
   keys_given row r [] e = tt
@@ -79,15 +74,6 @@ module _ (facts : FactList) where
   -- ---- what is kept below
 
   module _ (f : ℕ → ℕ) (row : Member) (w : ℕ) (within : (c : ℕ) → c < w → f c < facts.columns) (row_named : is_named facts row ≡ true) where
-    columns_moved : (X : List Member) → list_all (is_column w) X ≡ true → list_all (is_column facts.columns) (map (moved f row) X) ≡ true
-    columns_moved [] e = refl
-    columns_moved (member.Column c ∷ X) e =
-        let p = and_parts (nat_lt c w) (list_all (is_column w) X) e in
-        λ i. lt-ltb (f c) facts.columns (within c (ltb-true c w p.0)) i && columns_moved X p.1 i
-    columns_moved (member.Left ∷ X) e = absurd (false≢true e)
-    columns_moved (member.Right ∷ X) e = absurd (false≢true e)
-    columns_moved (member.Row ∷ X) e = absurd (false≢true e)
-
     members_moved : (X : List Member) → list_all (is_plain w) X ≡ true → list_all (is_named facts) (map (moved f row) X) ≡ true
     members_moved [] e = refl
     members_moved (member.Column c ∷ X) e =
@@ -100,8 +86,8 @@ module _ (facts : FactList) where
     moved_given : (kept : List Fact) → ArePlain w kept → AreGiven facts (moved_facts f row kept)
     moved_given [] e = tt
     moved_given (fact ∷ kept) e =
-        let p = and_parts (list_all (is_column w) fact.from) (list_all (is_plain w) fact.to) e.0 in
-        (record { from = columns_moved fact.from p.0; to = members_moved fact.to p.1 }, moved_given kept e.1)
+        let p = and_parts (list_all (is_plain w) fact.from) (list_all (is_plain w) fact.to) e.0 in
+        (record { from = members_moved fact.from p.0; to = members_moved fact.to p.1 }, moved_given kept e.1)
 
   -- kept as it is
   kept_given : (w : ℕ) → w ≤ facts.columns → (kept : List Fact) → ArePlain w kept → AreGiven facts kept
@@ -131,7 +117,7 @@ module _ (facts : FactList) where
   one_column c h = λ i. h i && true
 
   given_one : (X : List ℕ) (c : ℕ) → AreBelow facts.columns X → nat_lt c facts.columns ≡ true → IsGiven facts (record { from = columns_named X; to = member.Column c ∷ [] })
-  given_one X c e h = record { from = columns_are facts.columns X e; to = named_columns (c ∷ []) (one_column c h) }
+  given_one X c e h = record { from = named_columns X e; to = named_columns (c ∷ []) (one_column c h) }
 
   equality_given : (a b : Side) → SideBelow a → SideBelow b → AreGiven facts (equality_facts a b)
   equality_given (Plain c) (Plain d) g h = (given_one (c ∷ []) d (one_column c g) h, (given_one (d ∷ []) c (one_column d h) g, tt))
@@ -228,7 +214,7 @@ module _ (facts : FactList) where
     value_given = given_one (class_columns class) w (below_append facts.columns class.partition (order_columns class) is.partition is.order) h
 
     rank_given : IsGiven facts (rank_fact class w)
-    rank_given = record { from = columns_are facts.columns (class.partition ++ w ∷ []) with_column; to = named_columns (order_columns class) is.order }
+    rank_given = record { from = named_columns (class.partition ++ w ∷ []) with_column; to = named_columns (order_columns class) is.order }
 
     frame_given : (frame : Frame) → AreGiven facts (over_frame class frame w)
     frame_given frame = by (goes_by_key frame) refl
@@ -391,16 +377,9 @@ module _ (tables : List TableRule) where
 
 -- ---- what the closure asks
 
-columns_named_too : (facts : FactList) (X : List Member) → list_all (is_column facts.columns) X ≡ true → list_all (is_named facts) X ≡ true
-columns_named_too facts [] e = refl
-columns_named_too facts (member.Column c ∷ X) e = let p = and_parts (nat_lt c facts.columns) (list_all (is_column facts.columns) X) e in λ i. p.0 i && columns_named_too facts X p.1 i
-columns_named_too facts (member.Left ∷ X) e = absurd (false≢true e)
-columns_named_too facts (member.Right ∷ X) e = absurd (false≢true e)
-columns_named_too facts (member.Row ∷ X) e = absurd (false≢true e)
-
 pub are_named_from : (facts : FactList) (list : List Fact) → AreGiven facts list → list_all (λ (fact : Fact). list_all (is_named facts) fact.from && list_all (is_named facts) fact.to) list ≡ true
 are_named_from facts [] a = refl
-are_named_from facts (fact ∷ list) a = λ i. (columns_named_too facts fact.from a.0.from i && a.0.to i) && are_named_from facts list a.1 i
+are_named_from facts (fact ∷ list) a = λ i. (a.0.from i && a.0.to i) && are_named_from facts list a.1 i
 
 pub given_named : (tables : List TableRule) (plan : PlanTree) (kept more : List Fact) → fits tables plan ≡ true → AreOfChildren plan kept more → are_named (given tables plan kept more) ≡ true
 given_named tables plan kept more f h = are_named_from (given tables plan kept more) (given tables plan kept more).list (all_given tables plan kept more f h)

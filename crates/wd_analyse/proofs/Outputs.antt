@@ -6,7 +6,7 @@ use Rattle.wd_plan.specs.Expressions.{Expression}
 use Rattle.wd_plan.specs.Fits.{AreBelow}
 use Rattle.wd_facts.specs.declared.facts.Member.{Member}
 use Rattle.wd_facts.specs.declared.facts.Member.TheVariants.{Column, Left, Right, Row}
-use Rattle.wd_facts.specs.Facts.{Fact, is_column, is_plain, is_plain_fact}
+use Rattle.wd_facts.specs.Facts.{Fact, is_plain, is_plain_fact}
 use Rattle.wd_facts.specs.Given.{both_copied, copy_from, if_copied, is_side, side_of}
 use Rattle.wd_analyse.specs.Sources.{columns_in, left_sides, output_of, outputs_of}
 use Rattle.wd_analyse.specs.Steps.{left_sides_by, output_by, outputs_by}
@@ -74,12 +74,12 @@ outputs_low outputs width [] Y h e = none_low width Y e
 outputs_low outputs width (c ∷ X) Y h e = cons_low width Y (output_of outputs width c) (outputs_of outputs width X) (λ d f. output_low outputs width c d h f) (λ Z f. outputs_low outputs width X Z h f) e
 
 -- the columns of a plain fact's left side
-columns_low : (n : ℕ) (X : List Member) → list_all (is_column n) X ≡ true → list_all (λ c. nat_lt c n) (columns_in X) ≡ true
+columns_low : (n : ℕ) (X : List Member) → list_all (is_plain n) X ≡ true → list_all (λ c. nat_lt c n) (columns_in X) ≡ true
 columns_low n [] e = refl
-columns_low n (Column c ∷ X) e = let p = and_parts (nat_lt c n) (list_all (is_column n) X) e in λ i. p.0 i && columns_low n X p.1 i
+columns_low n (Column c ∷ X) e = let p = and_parts (nat_lt c n) (list_all (is_plain n) X) e in λ i. p.0 i && columns_low n X p.1 i
 columns_low n (Left ∷ X) e = absurd (false≢true e)
 columns_low n (Right ∷ X) e = absurd (false≢true e)
-columns_low n (Row ∷ X) e = absurd (false≢true e)
+columns_low n (Row ∷ X) e = columns_low n X e
 
 pub plain_low : (n : ℕ) (fact : Fact) → is_plain_fact n fact ≡ true → list_all (λ c. nat_lt c n) (columns_in fact.from) ≡ true
-plain_low n fact e = columns_low n fact.from (and_parts (list_all (is_column n) fact.from) (list_all (is_plain n) fact.to) e).0
+plain_low n fact e = columns_low n fact.from (and_parts (list_all (is_plain n) fact.from) (list_all (is_plain n) fact.to) e).0

@@ -23,7 +23,8 @@ use Rattle.wd_analyse.specs.Decisions.{all_by, by_exchange, decide, decide_of, d
 use Rattle.wd_analyse.specs.declared.decided.Decided.{Decided}
 use Rattle.wd_analyse.specs.declared.decided.Decided.TheVariants.{By, Open}
 use Rattle.wd_analyse.specs.declared.decided.Lack.TheVariants as lack
-use Rattle.wd_analyse.specs.Evidence.{Closing, IsClosing}
+use Rattle.wd_analyse.specs.Evidence.{Closing, IsClosing, once}
+use Rattle.wd_analyse.proofs.Once.{once_all}
 use Rattle.wd_analyse.proofs.Traces.{each_reached, shown}
 
 -- ---- lists
@@ -36,8 +37,8 @@ among_itself (c ∷ X) Y h = λ i. h c (ap (λ b. b || is_in X c) (eq-eqb c c re
     behind true b e = refl
     behind false b e = e
 
-pub all_among : (X : List ℕ) → list_all (is_in X) X ≡ true
-all_among X = among_itself X X (λ c e. e)
+pub all_among : (X : List ℕ) → list_all (is_in X) (once X) ≡ true
+all_among X = once_all (is_in X) X (among_itself X X (λ c e. e))
 
 pub none_missing : (has : Member → Bool) (X : List ℕ) → missing_of has X ≡ None → list_all has (columns_named X) ≡ true
 none_missing has [] e = refl

@@ -12,6 +12,7 @@ use Rattle.wd_facts.specs.Given.{given}
 use Rattle.wd_facts.specs.Laws.{AreOfChildren, ArePlain}
 use Rattle.wd_rules.specs.Rules.{entry_refusal, or_else, refuse_unless}
 use Rattle.wd_rules.specs.Validity.{IsValidCertificate, has_group, is_read_for, version_needed}
+use Rattle.wd_rules.proofs.Valid.{valid}
 use Rattle.wd_analyse.specs.Evidence.{Closing}
 use Rattle.wd_analyse.specs.Kept.{kept_fact}
 use Rattle.wd_analyse.specs.Steps.{Admits}
@@ -59,8 +60,8 @@ pub is_valid : (tables : List TableRule) (plan : PlanTree) (nodes : List NodeRec
 is_valid tables plan nodes facts reasons a none =
     let entries = (a.settled none).1 in
     let count : nat_eq (length nodes) (node_count plan) ≡ true = eq-eqb (length nodes) (node_count plan) (omega (arith, a.long)) in
-    λ i. or_else (refuse_unless (needed_read plan i) refused.Version)
-    (or_else (or_else (refuse_unless (count i) refused.Count) (or_else (refuse_unless (entries.limits i) refused.Shape) (refuse_unless (entries.calls i) refused.Count))) (entries.passed i))
+    valid tables plan (record { nodes = nodes; version = version_needed plan }) (λ i. or_else (refuse_unless (needed_read plan i) refused.Version)
+    (or_else (or_else (refuse_unless (count i) refused.Count) (or_else (refuse_unless (entries.limits i) refused.Shape) (refuse_unless (entries.calls i) refused.Count))) (entries.passed i)))
 
 pub pushed : (nodes : List Node) (node : Node) → map node_of (nodes ++ node ∷ []) ≡ map node_of nodes ++ node_of node ∷ []
 pushed nodes node = map_append node_of nodes (node ∷ [])

@@ -1,5 +1,5 @@
 -- What columns give is shown by its trace.
-use Rattle.std.proofs.Common.{◌≡◌, ℕ, Bool, true, cond, ◌&&◌, List, [], ◌∷◌, map, slice_get, refl, sym, ◌∙◌, ap, subst, Option, Some, None, Ok, Err}
+use Rattle.std.proofs.Common.{◌≡◌, ℕ, Bool, true, cond, ◌&&◌, List, [], ◌∷◌, map, nat_lt, slice_get, refl, sym, ◌∙◌, ap, subst, Option, Some, None, Ok, Err}
 use Rattle.std.specs.List.{AllByRecursion, list_all}
 use Rattle.std.proofs.lemmas.Bool.{and_parts}
 use Rattle.wd_certificate.specs.declared.error.CertError.TheVariants.{OutOfRange, UnreachedUse}
@@ -9,7 +9,8 @@ use Rattle.wd_sets.specs.Reaches.{also, reaches, reaches_each}
 use Rattle.wd_sets.specs.Sets.{stands_in}
 use Rattle.wd_close.specs.Closure.{Derives}
 use Rattle.wd_rules.specs.Traces.{Traced, and_then, each_traced, traced, with_use, with_uses}
-use Rattle.wd_analyse.specs.Evidence.{Closing, IsClosing, trace_by}
+use Rattle.wd_analyse.specs.Evidence.{Closing, IsClosing, once, trace_by}
+use Rattle.wd_analyse.proofs.Once.{once_all, once_members}
 
 -- what is there after a use, and after uses
 abbrev pub with_fact : (Member → Bool) → Option Fact → Member → Bool
@@ -35,11 +36,12 @@ module _ (node : ℕ) (facts : FactList) where
   uses_reach (n ∷ uses) has others d m e = subst (λ o. reaches facts (after facts (with_fact has o) uses) m ≡ true) (sym d.1) (uses_reach uses (also has d.0.to) others d.3 m e)
 
   abbrev pub shown : Closing → Traced
-  shown c = record { from = c.from; has = after facts (stands_in (columns_named c.from)) c.uses }
+  shown c = record { from = once c.from; has = after facts (stands_in (columns_named c.from)) c.uses }
 
   pub is_traced : (c : Closing) → IsClosing facts c → traced node facts (trace_by c) ≡ Ok (after facts (stands_in (columns_named c.from)) c.uses)
   is_traced c is =
-      ap (λ b. cond b (with_uses node facts (stands_in (columns_named c.from)) c.uses) (Err (OutOfRange node))) is.below
+      ap (λ b. cond b (with_uses node facts (stands_in (columns_named (once c.from))) c.uses) (Err (OutOfRange node))) (once_all (λ c. nat_lt c facts.columns) c.from is.below)
+      ∙ ap (λ has. with_uses node facts has c.uses) (once_members c.from)
       ∙ uses_there c.uses (stands_in (columns_named c.from)) c.has is.derived
 
   pub reached : (c : Closing) → IsClosing facts c → (m : Member) → c.has m ≡ true → reaches facts (shown c).has m ≡ true
@@ -53,5 +55,5 @@ module _ (node : ℕ) (facts : FactList) where
   pub are_traced : (cs : List Closing) → AllByRecursion (IsClosing facts) cs → each_traced node facts (map trace_by cs) ≡ Ok (map shown cs)
   are_traced [] a = refl
   are_traced (c ∷ cs) a =
-      ap (λ r. and_then r (λ has. and_then (each_traced node facts (map trace_by cs)) (λ rest. Ok (record { from = c.from; has = has } ∷ rest)))) (is_traced c a.0)
+      ap (λ r. and_then r (λ has. and_then (each_traced node facts (map trace_by cs)) (λ rest. Ok (record { from = once c.from; has = has } ∷ rest)))) (is_traced c a.0)
       ∙ ap (λ r. and_then r (λ rest. Ok (shown c ∷ rest))) (are_traced cs a.1)

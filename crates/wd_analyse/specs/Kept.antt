@@ -8,7 +8,7 @@ use Rattle.wd_facts.specs.declared.facts.Member.TheVariants as member
 use Rattle.wd_facts.specs.Facts.{Fact, columns_named}
 use Rattle.wd_facts.specs.Given.{all_columns}
 use Rattle.wd_sets.specs.Sets.{is_in}
-use Rattle.wd_analyse.specs.Evidence.{Closing}
+use Rattle.wd_analyse.specs.Evidence.{Closing, once}
 
 -- a column that is given, and stands outside what gives it
 abbrev pub is_new : Closing → ℕ → Bool
@@ -22,7 +22,7 @@ abbrev pub kept_members : ℕ → Closing → List Member
 kept_members width c = if c.has member.Row then member.Row ∷ [] else columns_named (filter (is_new c) (all_columns width))
 
 abbrev pub kept_fact : ℕ → Closing → Fact
-kept_fact width c = record { from = columns_named c.from; to = kept_members width c }
+kept_fact width c = record { from = columns_named (once c.from); to = kept_members width c }
 
 abbrev pub target_of : Member → Target
 target_of (member.Column c) = target.Column c

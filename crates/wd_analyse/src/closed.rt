@@ -3,11 +3,12 @@
 ghost use Rattle.std.specs.Prelude.{◌≡◌, ◌++◌, true, map, nat_lt, IfOk};
 ghost use Rattle.std.specs.List.{list_all};
 ghost use Rattle.wd_certificate.specs.Certificates.{trace_of};
-ghost use Rattle.wd_analyse.specs.Evidence.{IsClosing, closing_of, trace_by};
+ghost use Rattle.wd_analyse.specs.Evidence.{IsClosing, closing_of, met_with, once as each_once, trace_by};
 
 use std::alloc::Global;
 use wd_certificate::Trace;
 use wd_close::{Derived, Prepared};
+use wd_plan::has_column;
 use wd_sets::Set;
 use wd_value::OutOfMemory;
 
@@ -34,6 +35,28 @@ pub(crate) fn close(
     Ok(Closed { from, set, uses })
 }
 
+/// Appends a column that is not there.
+fn meet(column: u16, met: &mut Vec<u16>) -> Result<(), OutOfMemory>
+    ensures { IfOk result (λ _. met.new.items ≡ met_with met.old.items column) }
+{
+    if !has_column(met, column) {
+        met.push(column)?;
+    }
+    Ok(())
+}
+
+/// The columns in the order in which they are met, each once.
+#[tactic(auto, using(crate::proofs::Once::met_next))]
+pub(crate) fn once(alloc: Global, columns: &[u16]) -> Result<Vec<u16>, OutOfMemory>
+    ensures { IfOk result (λ v. v.items ≡ each_once columns.now) }
+{
+    let mut met = Vec::new(alloc);
+    for column in columns {
+        meet(*column, &mut met)?;
+    }
+    Ok(met)
+}
+
 /// The columns as the numbers of a trace.
 fn numbers(alloc: Global, columns: &[u16]) -> Result<Vec<u64>, OutOfMemory>
     ensures { IfOk result (λ v. v.items ≡ columns.now) }
@@ -49,7 +72,8 @@ fn numbers(alloc: Global, columns: &[u16]) -> Result<Vec<u64>, OutOfMemory>
 fn trace(alloc: Global, closed: &Closed) -> Result<Trace, OutOfMemory>
     ensures { IfOk result (λ t. trace_of t ≡ trace_by (closing_of closed.now)) }
 {
-    let from = numbers(alloc, &closed.from)?;
+    let from = once(alloc, &closed.from)?;
+    let from = numbers(alloc, &from)?;
     let uses = Vec::from_slice(alloc, &closed.uses)?;
     Ok(Trace { from, uses })
 }

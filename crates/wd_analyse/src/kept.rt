@@ -8,7 +8,7 @@ ghost use Rattle.wd_sets.specs.Sets.{has_column, is_in};
 ghost use Rattle.wd_analyse.specs.Evidence.{closing_of};
 ghost use Rattle.wd_analyse.specs.Kept as spec;
 
-use crate::closed::Closed;
+use crate::closed::{Closed, once};
 use std::alloc::Global;
 use wd_certificate::{Kept, Target};
 use wd_facts::{Given, Member};
@@ -133,7 +133,8 @@ fn named(alloc: Global, columns: &[u16]) -> Result<Vec<Member>, OutOfMemory>
 fn kept_fact(alloc: Global, claim: &Closed, width: u16) -> Result<Given, OutOfMemory>
     ensures { IfOk result (λ g. fact_of g ≡ spec.kept_fact width (closing_of claim.now)) }
 {
-    let from = named(alloc, &claim.from)?;
+    let from = once(alloc, &claim.from)?;
+    let from = named(alloc, &from)?;
     let to = kept_members(alloc, claim, width)?;
     Ok(Given { from, to })
 }

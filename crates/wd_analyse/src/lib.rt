@@ -16,3 +16,4 @@ mod tried;
 pub use analysis::{Analysis, Mark, Reason, RuleName};
 pub use decided::Lack;
 pub use nodes::{analyse, lacking_column};
+pub use wd_close::{closure, closure_counted};

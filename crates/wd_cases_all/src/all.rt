@@ -1,6 +1,7 @@
 use crate::subject::Subject;
 use std::alloc::Global;
 use wd_cases::{Cases, Failure};
+use wd_cases_calls::CallCases;
 use wd_cases_certificates::CertificateCases;
 use wd_cases_command::CommandCases;
 use wd_cases_meaning::MeaningCases;
@@ -16,6 +17,7 @@ pub struct AllCases {
     plans: PlanCases,
     certificates: CertificateCases,
     command: CommandCases,
+    calls: CallCases,
 }
 
 impl AllCases {
@@ -28,6 +30,7 @@ impl AllCases {
             plans: PlanCases::new(alloc),
             certificates: CertificateCases::new(alloc),
             command: CommandCases::new(alloc),
+            calls: CallCases::new(alloc),
         }
     }
 
@@ -45,6 +48,7 @@ impl AllCases {
             Subject::Plans => self.plans.answer(alloc, word, text),
             Subject::Certificates => self.certificates.answer(alloc, word, text),
             Subject::Command => self.command.answer(alloc, word, text),
+            Subject::Calls => self.calls.answer(alloc, word, text),
         }
     }
 }

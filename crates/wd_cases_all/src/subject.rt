@@ -8,6 +8,7 @@ pub enum Subject {
     Plans,
     Certificates,
     Command,
+    Calls,
 }
 
 impl Subject {
@@ -19,6 +20,7 @@ impl Subject {
             "plans" => Ok(Subject::Plans),
             "certificates" => Ok(Subject::Certificates),
             "command" => Ok(Subject::Command),
+            "calls" => Ok(Subject::Calls),
             _ => Err(Failure::NoCase),
         }
     }

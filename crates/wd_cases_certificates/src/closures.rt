@@ -10,10 +10,10 @@ use crate::named::{are_below, are_named, is_split_within};
 use crate::notation::{columns_of, facts_over};
 use crate::shown::push_members;
 use std::alloc::Global;
+use wd_analyse::{closure, closure_counted};
 use wd_cases::Failure;
-use wd_close::{Derived, closure, closure_counted, closure_derived};
-use wd_facts::{Facts, Member};
-use wd_sets::Set;
+use wd_cert::{Facts, Member, Set};
+use wd_close::{Derived, closure_derived};
 
 /// `closure COLUMNS ? NUMBER FACTS`: what columns give by facts over so many columns, at a Join `NUMBER/LEFT FACTS`; the same with the
 /// number of steps; the same with what the facts of its derivation reach, as far as each is reached and reaches something new.

@@ -14,7 +14,7 @@ use crate::shown::push_facts;
 use crate::verdict::planned;
 use std::alloc::Global;
 use wd_cases::Failure;
-use wd_facts::{Given, given};
+use wd_cert::{Given, given};
 use wd_plan::Plan;
 use wd_schema::Schema;
 

@@ -10,15 +10,6 @@ ghost use Rattle.wd_plan.specs.Plans.{plan_of};
 use wd_facts::{Given, Member};
 use wd_plan::Plan;
 
-fn is_column(width: u32, member: Member) -> bool
-    ensures { result ≡ spec.is_column width member }
-{
-    match member {
-        Member::Column(column) => u32::from(column) < width,
-        _ => false,
-    }
-}
-
 fn is_plain(width: u32, member: Member) -> bool
     ensures { result ≡ spec.is_plain width member }
 {
@@ -27,17 +18,6 @@ fn is_plain(width: u32, member: Member) -> bool
         Member::Row => true,
         _ => false,
     }
-}
-
-fn are_columns(width: u32, members: &[Member]) -> bool
-    ensures { result ≡ list_all (spec.is_column width) members.now }
-{
-    for member in members {
-        if !is_column(width, *member) {
-            return false;
-        }
-    }
-    true
 }
 
 fn are_plain(width: u32, members: &[Member]) -> bool
@@ -55,7 +35,7 @@ fn are_plain_facts(width: u32, facts: &[Given]) -> bool
     ensures { result ≡ list_all (spec.is_plain_fact width) (map spec.fact_of facts.now) }
 {
     for fact in facts {
-        if !(are_columns(width, &fact.from) && are_plain(width, &fact.to)) {
+        if !(are_plain(width, &fact.from) && are_plain(width, &fact.to)) {
             return false;
         }
     }

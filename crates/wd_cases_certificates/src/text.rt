@@ -2,7 +2,8 @@
 use crate::refusal::failure_of;
 use std::alloc::Global;
 use wd_cases::{Failure, in_one_line, unescaped};
-use wd_certificate::{Certificate, from_json, laws};
+use wd_cert::{Certificate, from_json};
+use wd_certificate::laws;
 
 fn read(alloc: Global, text: &str) -> Result<Certificate, Failure> {
     let text = unescaped(alloc, text)?;

@@ -10,13 +10,11 @@ use crate::notation::certificate_of;
 use crate::refusal::failure_of;
 use crate::shown::push_nodes;
 use std::alloc::Global;
-use wd_accept::{VerifyError, VerifyOrigin, verify};
 use wd_cases::{Failure, unescaped};
-use wd_certificate::Certificate;
+use wd_cert::{Certificate, VerifyError, VerifyOrigin, verify, verify_plan};
 use wd_plan::Plan;
 use wd_query::{PlannedQuery, TextError, read_texts};
 use wd_schema::Schema;
-use wd_verify::verify_plan;
 
 /// The plan of the query.
 pub fn planned(alloc: Global, given: &CertificateCases) -> Result<PlannedQuery, Failure>

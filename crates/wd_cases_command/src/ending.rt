@@ -8,7 +8,7 @@ use crate::settings::{Settings, settings_in};
 use crate::stream::Stream;
 use std::alloc::Global;
 use wd_cases::{Failure, NamedTexts, in_one_line, or_nothing};
-use wd_command::{MemoryFiles, command};
+use wd_check::{MemoryFiles, command};
 
 /// The program's status, the paths that it read, and what stands on standard output and standard
 /// error.

@@ -4,7 +4,7 @@ ghost use Rattle.std.specs.Prelude.{◌≡◌};
 ghost use Rattle.wd_command.specs.Memory.{failures_of};
 
 use std::alloc::Global;
-use wd_command::{Files, MemoryFiles, ReadFault};
+use wd_check::{Files, MemoryFiles, ReadFault};
 
 /// Files in memory, and the paths that were asked for, each with a blank before it.
 #[derive(Drop)]

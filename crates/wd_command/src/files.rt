@@ -1,6 +1,6 @@
 //! Where the program's files come from.
 
-ghost use Rattle.std.specs.Prelude.{◌≡◌, ◌↔◌, ◌+◌, ◌-◌, ◌^◌, ◌<◌, ◌≤◌, ℕ, List, [], ◌∷◌, length, Option, None, IfOk, IfSome, MatchResult};
+ghost use Rattle.std.specs.Prelude.{◌≡◌, ◌↔◌, ◌+◌, ◌-◌, ◌^◌, ◌<◌, ◌≤◌, ℕ, List, [], ◌∷◌, length, Option, None, IfErr, IfOk, IfSome, MatchResult};
 ghost use Rattle.wd_command.specs.Files.{File, HandsOver, IsOwnShortage, failed_reads};
 ghost use Rattle.wd_command.specs.declared.files.ReadFault.TheVariants as fault;
 
@@ -59,20 +59,39 @@ impl<R: rt::Files> Files for MachineFiles<'_, R> {
     ghost failures = { λ m. m.failures };
 
     fn read(&mut self, alloc: Global, path: &str) -> Result<Vec<u8>, ReadFault> {
-        let bytes = read_at(self.rt, alloc, path);
-        if let Err(ReadFault::Failed) = bytes {
-            self.failures += 1;
-        }
-        bytes
+        read_counted(alloc, fs::open(self.rt, path), &mut self.failures)
     }
 }
 
-// Opens the file and reads it.
-fn read_at<R: rt::Files>(rt: &R, alloc: Global, path: &str) -> Result<Vec<u8>, ReadFault>
-    ensures { IfOk result (λ bytes. length bytes.items ≤ MOST_BYTES) }
+// What an opened file holds, from its beginning to its end; a failure is counted.
+fn read_counted<R: Read + Drop>(
+    alloc: Global,
+    opened: io::Result<R>,
+    failures: &mut u64,
+) -> Result<Vec<u8>, ReadFault>
+    requires { failures.old < 2 ^ 64 - 1 }
+    ensures whole { IfOk result (λ bytes. MatchResult opened (λ file. IfSome (R.remaining file) (λ rest. bytes.items ≡ rest)) (λ _. ⊥)) }
+    ensures opened { IfErr opened (λ error. IfErr result (λ f. (f ≡ fault.OutOfMemory) ↔ IsOwnShortage error)) }
+    ensures failures { failures.new ≡ failures.old + failed_reads result }
+    ensures bounded { IfOk result (λ bytes. length bytes.items ≤ MOST_BYTES) }
 {
-    let file = fs::open(rt, path).map_err(fault_of)?;
-    read_whole(alloc, file)
+    let bytes = read_opened(alloc, opened);
+    if let Err(ReadFault::Failed) = bytes {
+        *failures += 1;
+    }
+    bytes
+}
+
+// What an opened file holds.
+fn read_opened<R: Read + Drop>(alloc: Global, opened: io::Result<R>) -> Result<Vec<u8>, ReadFault>
+    ensures whole { IfOk result (λ bytes. MatchResult opened (λ file. IfSome (R.remaining file) (λ rest. bytes.items ≡ rest)) (λ _. ⊥)) }
+    ensures opened { IfErr opened (λ error. IfErr result (λ f. (f ≡ fault.OutOfMemory) ↔ IsOwnShortage error)) }
+    ensures bounded { IfOk result (λ bytes. length bytes.items ≤ MOST_BYTES) }
+{
+    match opened {
+        Ok(file) => read_whole(alloc, file),
+        Err(error) => Err(fault_of(error)),
+    }
 }
 
 // Reads to the end, and no further than one byte past the most.

@@ -6,10 +6,10 @@ use Rattle.wd_syntax.specs.Tree.{shown}
 use Rattle.wd_plan.specs.declared.expression.ValueKind.TheVariants.{Text, Truth}
 use Rattle.wd_plan.specs.Plans.{Scan}
 use Rattle.wd_resolve_operand.specs.Formulas.{Leaf}
-use Rattle.wd_resolve_scope.proofs.Typing.{ok_is}
+use Rattle.wd_resolve_call.proofs.Meanings.{ok_is}
 use Rattle.wd_resolve_scope.specs.Resolving.{all_defined}
-use Rattle.wd_resolve_scope.specs.Rows.{column}
-use Rattle.wd_resolve_scope.specs.Windows.{KnownMeaning, WindowMeaning, default_frame}
+use Rattle.wd_resolve_call.specs.Rows.{column}
+use Rattle.wd_resolve_call.specs.Windows.{KnownMeaning, WindowMeaning, default_frame}
 use Rattle.wd_resolve.specs.Selected.{JoinedTables}
 use Rattle.wd_complete.specs.Examples.{ExampleIsPlain, the_over, unquoted}
 use Rattle.wd_complete.specs.Queries.{IsPlainWindow, in_list, over_meant}

@@ -24,28 +24,28 @@ use Rattle.wd_resolve_operand.specs.declared.cause.Cause.TheVariants.{TooMany, U
 use Rattle.wd_resolve_operand.specs.Causes.{Meant, ◌>>=◌}
 use Rattle.wd_resolve_operand.specs.Formulas.{Formula, Leaf, Literal, Negate, Arithmetic, Compare, Not, And, Or, IsNull, IsNotNull, Case, seated}
 use Rattle.wd_resolve_operand.specs.Operands.{Operand, settled}
-use Rattle.wd_resolve_scope.specs.Calls.{CallMeaning, ranking, same_call}
-use Rattle.wd_resolve_scope.specs.Functions.{GroupFunction, function_named, group_function_named}
+use Rattle.wd_resolve_call.specs.Calls.{CallMeaning, ranking, same_call}
+use Rattle.wd_resolve_call.specs.Functions.{GroupFunction, function_named, group_function_named}
 use Rattle.wd_resolve_scope.specs.Grouped.{is_grouped}
-use Rattle.wd_resolve_scope.specs.Leaves.{SelectLeaf, call, of_row}
+use Rattle.wd_resolve_call.specs.Leaves.{SelectLeaf, call, of_row}
 use Rattle.wd_resolve_scope.specs.Names.{the_only}
 use Rattle.wd_resolve_scope.specs.Resolving.{ContextRule, call_over, called, group_called, resolved, window_resolved}
-use Rattle.wd_resolve_scope.specs.Rows.{RowFormula, column, of_group, same_group_call, same_row_formula}
+use Rattle.wd_resolve_call.specs.Rows.{RowFormula, column, of_group, same_group_call, same_row_formula}
 use Rattle.wd_resolve_scope.specs.Grouped.{column_meant}
 use Rattle.wd_resolve_scope.specs.Scopes.{ScopeRule, carries, has_table, numbered}
-use Rattle.wd_resolve_scope.specs.Windows.{KeyMeaning, KnownMeaning, WindowMeaning, window_named}
+use Rattle.wd_resolve_call.specs.Windows.{KeyMeaning, KnownMeaning, WindowMeaning, window_named}
 use Rattle.wd_resolve_scope.specs.declared.scope.ScopeColumn.{ScopeColumn}
-use Rattle.wd_resolve_scope.proofs.Typing.{bound, ok_is}
-use Rattle.wd_resolve_select.specs.Grouping.{below_meant, grouped_rule, no_groups}
-use Rattle.wd_resolve_select.specs.Listing.{Below, GroupedBy, Needs, all_leaves, all_row_leaves, are_wide, calls_among, column_of, group_calls_among, input_number, needs_of, over, place_in, read_by, read_by_all, sorted_by, with_new}
-use Rattle.wd_resolve_select.specs.Outputs.{OutputMeaning, column_output, columns_of, columns_shown, expressions_of, is_of, item_listed, item_meant, listed, narrow, output_meant, name_shown, table_shown}
+use Rattle.wd_resolve_call.proofs.Meanings.{bound, ok_is}
+use Rattle.wd_resolve_list.specs.Grouping.{below_meant, grouped_rule, no_groups}
+use Rattle.wd_resolve_list.specs.Listing.{Below, GroupedBy, Needs, all_leaves, all_row_leaves, are_wide, calls_among, column_of, group_calls_among, input_number, needs_of, over, place_in, read_by, read_by_all, sorted_by, with_new}
+use Rattle.wd_resolve_list.specs.Outputs.{OutputMeaning, column_output, columns_of, columns_shown, expressions_of, is_of, item_listed, item_meant, listed, narrow, output_meant, name_shown, table_shown}
 use Rattle.wd_resolve_select.specs.Steps.{class_over, mapped, mapped_over, order_item, same_class, same_item, window_over}
-use Rattle.wd_resolve_select.proofs.Among.{all_with_new, first_there}
-use Rattle.wd_resolve_select.proofs.ReadBy.{same_call-itself}
+use Rattle.wd_resolve_list.proofs.Among.{all_with_new, first_there}
+use Rattle.wd_resolve_list.proofs.ReadBy.{same_call-itself}
 use Rattle.wd_resolve_operand.specs.declared.cause.Cause.TheVariants.{Ambiguous}
 use Rattle.wd_resolve_scope.specs.Resolving.{all_defined}
 use Rattle.wd_resolve_scope.specs.Scopes.{beside}
-use Rattle.wd_resolve_select.specs.Outputs.{list_meant}
+use Rattle.wd_resolve_list.specs.Outputs.{list_meant}
 use Rattle.wd_resolve_select.specs.Steps.{Lowered, deduplicated}
 use Rattle.wd_resolve.specs.Answers.{Answer, answer, name_in}
 use Rattle.wd_resolve.specs.Lowering.{behind_from, is_distinct, lowered, selected, shown_by, shown_sorted}

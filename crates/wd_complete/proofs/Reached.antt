@@ -11,13 +11,13 @@ use Rattle.wd_facts.specs.declared.facts.Member.TheVariants as member
 use Rattle.wd_facts.specs.Facts.{Fact, FactList, Holds, Same, columns_named, key_fact, moved_fact, moved_facts}
 use Rattle.wd_facts.specs.Given.{column_fact, given, gives_row, names_columns, outputs_facts, row_keys, table_rule}
 use Rattle.wd_close.specs.Closure.{Follows}
-use Rattle.wd_analyse.specs.Evidence.{Closing, IsClosing}
+use Rattle.wd_analyse.specs.Evidence.{Closing, IsClosing, once as each_once}
 use Rattle.wd_analyse.specs.Findings.{Finding, IsFinding, facts_kept}
 use Rattle.wd_analyse.specs.Kept.{kept_fact}
 use Rattle.wd_analyse.specs.Sources.{Keeps, columns_in, left_sides, outputs_of}
 use Rattle.wd_complete.specs.Plain.{PlainPlan, input_of, window_rule}
 use Rattle.wd_complete.proofs.Lists.{Among, Within, all_at, among_back, among_filter, among_front, among_get, among_map}
-use Rattle.wd_complete.proofs.Tried.{IsSame, claimed, filter_short, front_closed, row_fact as kept_row}
+use Rattle.wd_complete.proofs.Tried.{IsSame, claimed, filter_short, front_closed, row_fact as kept_row, same_once}
 use Rattle.wd_complete.proofs.Gives.{HaveCopies, IsCopy, columns_named_in, copy_given, has_row, have_copies, left_among, left_append, left_short, moved_from, named_at, own_columns, row_fact, row_follows}
 
 -- columns that are read once each have one place
@@ -33,7 +33,7 @@ one_place read once i j v w e = by (nat_lt i j) refl (nat_lt j i) refl
 pub record IsClaimed (claims : List Closing) (X : List ℕ) : Type 0 where
   pub closing : Closing
   pub at : Among closing claims
-  pub same : IsSame X closing.from
+  pub same : IsSame X (each_once closing.from)
   pub gives : closing.has member.Row ≡ true
 
 -- of a front of no more than 64, columns that give the row are claimed
@@ -42,10 +42,10 @@ front_claimed : (facts : FactList) (width : ℕ) (front back : List (List ℕ)) 
 front_claimed facts width front back claims k X few at follows =
     let c = front_closed facts width front back claims k X few at in
     let gives = has_row facts c.closing (all_at (IsClosing facts) c.closing k.tried k.closings c.at) (follows c.closing.from c.same) in
-    record { closing = c.closing; at = subst (Among c.closing) (sym k.kept) (claimed width c.closing gives k.tried c.at); same = c.same; gives = gives }
+    record { closing = c.closing; at = subst (Among c.closing) (sym k.kept) (claimed width c.closing gives k.tried c.at); same = same_once X c.closing.from c.same; gives = gives }
 
 -- the fact that it keeps
-claim_kept : (width : ℕ) (claims : List Closing) (X : List ℕ) (c : IsClaimed claims X) → Among (row_fact c.closing.from) (map (kept_fact width) claims)
+claim_kept : (width : ℕ) (claims : List Closing) (X : List ℕ) (c : IsClaimed claims X) → Among (row_fact (each_once c.closing.from)) (map (kept_fact width) claims)
 claim_kept width claims X c = subst (λ (f : Fact). Among f (map (kept_fact width) claims)) (kept_row width c.closing c.gives) (among_map (kept_fact width) c.closing claims c.at)
 
 module _ (tables : List TableRule) (p : PlainPlan) where
@@ -129,7 +129,7 @@ module _ (tables : List TableRule) (p : PlainPlan) (columns : p.columns ≡ leng
     long = length-map p.read Column
 
     abbrev from : List ℕ
-    from = c.closing.from
+    from = each_once c.closing.from
 
     abbrev moved_front : List Fact
     moved_front = moved_facts (λ d. m + d) member.Row (scan_kept tables p f)
@@ -191,7 +191,7 @@ module _ (tables : List TableRule) (p : PlainPlan) (columns : p.columns ≡ leng
     pub window_follows : AllPairs (λ a b. a ≢ b) p.read → (g : Finding) (node : ℕ) → IsFinding tables (input_of p) (scan_kept tables p f) [] node g → Follows (window_facts tables p g) (class_columns p.class) member.Row
     window_follows once g node is =
         let d = map_claims g node is in
-        row_follows (window_facts tables p g) (class_columns p.class) d.closing.from
+        row_follows (window_facts tables p g) (class_columns p.class) (each_once d.closing.from)
         (among_front _ (map_kept p g) _ (claim_kept m g.claims h.copies d))
         (λ y at. copies_ordered once y (d.same.back y at))
 

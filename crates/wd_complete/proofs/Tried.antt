@@ -5,10 +5,11 @@ use Rattle.std.proofs.lemmas.Bool.{and_parts, ltb-true, ltb-false}
 use Rattle.std.proofs.lemmas.List.{length-map}
 use Rattle.wd_facts.specs.declared.facts.Member.TheVariants as member
 use Rattle.wd_facts.specs.Facts.{FactList, columns_named}
-use Rattle.wd_analyse.specs.Evidence.{Closing}
+use Rattle.wd_analyse.specs.Evidence.{Closing, once}
 use Rattle.wd_analyse.specs.Kept.{kept_fact}
 use Rattle.wd_analyse.specs.Sources.{Keeps, distinct, gives_some, is_tried, same_columns, starts}
-use Rattle.wd_complete.proofs.Lists.{Among, Within, all_within, among_filter, or_true}
+use Rattle.wd_analyse.proofs.Once.{once_is_in}
+use Rattle.wd_complete.proofs.Lists.{Among, Within, all_within, among_filter, among_stands, or_true, stands_among}
 
 -- ---- the same columns
 
@@ -18,6 +19,13 @@ pub record IsSame (X Y : List ℕ) : Type 0 where
 
 same_is : (X Y : List ℕ) → same_columns X Y ≡ true → IsSame X Y
 same_is X Y e = let p = and_parts (list_all (λ c. list_any (nat_eq c) Y) X) (list_all (λ c. list_any (nat_eq c) X) Y) e in record { to = all_within X Y p.0; back = all_within Y X p.1 }
+
+-- and each once
+pub same_once : (X Y : List ℕ) → IsSame X Y → IsSame X (once Y)
+same_once X Y same = record {
+  to = λ c at. stands_among (once Y) c (once_is_in Y c ∙ among_stands Y c (same.to c at));
+  back = λ c at. same.back c (stands_among Y c (sym (once_is_in Y c) ∙ among_stands (once Y) c at));
+}
 
 same_self : (X : List ℕ) → IsSame X X
 same_self X = record { to = λ c at. at; back = λ c at. at }
@@ -157,7 +165,7 @@ module _ (width : ℕ) (c : Closing) (gives : c.has member.Row ≡ true) where
   row_kept : gives_some width c ≡ true
   row_kept = rw gives refl
 
-  pub row_fact : kept_fact width c ≡ record { from = columns_named c.from; to = member.Row ∷ [] }
+  pub row_fact : kept_fact width c ≡ record { from = columns_named (once c.from); to = member.Row ∷ [] }
   row_fact = rw gives refl
 
   pub claimed : (tried : List Closing) → Among c tried → Among c (filter (gives_some width) tried)

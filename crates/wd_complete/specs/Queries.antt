@@ -12,12 +12,12 @@ use Rattle.wd_plan.specs.declared.function.FunctionName.TheVariants.{RowNumber}
 use Rattle.wd_resolve_operand.specs.declared.cause.Cause.TheVariants.{WrongCall}
 use Rattle.wd_resolve_operand.specs.Causes.{Meant}
 use Rattle.wd_resolve_operand.specs.Formulas.{Leaf}
-use Rattle.wd_resolve_scope.specs.Functions.{function_named}
+use Rattle.wd_resolve_call.specs.Functions.{function_named}
 use Rattle.wd_resolve_scope.specs.Grouped.{is_grouped}
 use Rattle.wd_resolve_scope.specs.Resolving.{ContextRule, all_defined, window_resolved}
-use Rattle.wd_resolve_scope.specs.Rows.{RowFormula, column}
+use Rattle.wd_resolve_call.specs.Rows.{RowFormula, column}
 use Rattle.wd_resolve_scope.specs.Scopes.{ScopeRule}
-use Rattle.wd_resolve_scope.specs.Windows.{KeyMeaning, KnownMeaning, WindowMeaning, window_named}
+use Rattle.wd_resolve_call.specs.Windows.{KeyMeaning, KnownMeaning, WindowMeaning, window_named}
 use Rattle.wd_resolve_scope.specs.declared.context.Place.TheVariants.{SelectList}
 use Rattle.wd_resolve.specs.Lowering.{is_distinct}
 use Rattle.wd_resolve.specs.Selected.{JoinedTables, called, named_table}

@@ -15,7 +15,7 @@ use Rattle.wd_analyse.specs.declared.analysis.Reason.{Reason}
 use Rattle.wd_analyse.specs.declared.analysis.Analysis.TheVariants.{Certified, Open}
 use Rattle.wd_resolve.specs.Answers.{Answer}
 use Rattle.wd_accept.specs.Lists.{answer_limit}
-use Rattle.wd_witness.specs.declared.witness.Witness.{Witness}
+use Rattle.wd_witness_text.specs.declared.witness.Witness.{Witness}
 use Rattle.wd_decide.specs.Lists.{IsListReason, IsListSound, IsOfVerdict, ListedAreSound, OthersAreVerdicts, reason_of}
 use Rattle.wd_decide.specs.Verdicts.{IsVerdictOf}
 use Rattle.wd_decide.specs.declared.list.ListReason.{ListReason}

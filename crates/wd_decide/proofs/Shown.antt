@@ -6,8 +6,8 @@ use Rattle.wd_plan.specs.Plans.{PlanTree}
 use Rattle.wd_analyse.specs.declared.analysis.Analysis.{Analysis}
 use Rattle.wd_analyse.specs.declared.analysis.Analysis.TheVariants.{Certified, Open}
 use Rattle.wd_query.specs.Laws.{HasOnePlan}
-use Rattle.wd_witness.specs.Witnesses.{witness_of}
-use Rattle.wd_witness.specs.declared.witness.Witness.{Witness}
+use Rattle.wd_witness_text.specs.Witnesses.{witness_of}
+use Rattle.wd_witness_text.specs.declared.witness.Witness.{Witness}
 use Rattle.wd_refute.specs.Laws.{IsShown, ShownIsNotRefused}
 use Rattle.wd_accept.proofs.Verdicts.{every}
 use Rattle.wd_seek.proofs.Shown.{found_is_shown}

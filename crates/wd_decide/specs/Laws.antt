@@ -7,9 +7,9 @@ use Rattle.wd_rules.specs.Validity.{IsValidCertificate}
 use Rattle.wd_query.specs.Readings.{ForReading}
 use Rattle.wd_query.specs.Laws.{HaveMeaning}
 use Rattle.wd_accept.specs.Acceptance.{IsAccepted}
-use Rattle.wd_witness.specs.Json as witnesses
-use Rattle.wd_witness.specs.Witnesses.{witness_of}
-use Rattle.wd_witness.specs.declared.witness.Witness.{Witness}
+use Rattle.wd_witness_text.specs.Json as witnesses
+use Rattle.wd_witness_text.specs.Witnesses.{witness_of}
+use Rattle.wd_witness_text.specs.declared.witness.Witness.{Witness}
 use Rattle.wd_refute.specs.Laws.{IsShown}
 use Rattle.wd_refute.specs.Refutation as refutation
 use Rattle.wd_refute.specs.Refutation.{IsRefuted, RefusesText, refusal_number, number_of as witness_number}

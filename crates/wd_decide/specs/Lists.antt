@@ -14,7 +14,7 @@ use Rattle.wd_analyse.specs.declared.analysis.Reason.{Reason}
 use Rattle.wd_resolve.specs.Answers.{Answer}
 use Rattle.wd_query.specs.Readings.{ForAnswer}
 use Rattle.wd_accept.specs.Lists.{IsListAccepted, answer_limit}
-use Rattle.wd_witness.specs.declared.witness.Witness.{Witness}
+use Rattle.wd_witness_text.specs.declared.witness.Witness.{Witness}
 use Rattle.wd_decide.specs.Verdicts.{IsVerdict, IsVerdictOf}
 use Rattle.wd_decide.specs.declared.list.ListReason.{ListReason}
 use Rattle.wd_decide.specs.declared.list.ListReason.TheVariants as reason

@@ -13,7 +13,7 @@ use Rattle.wd_resolve.specs.Laws.{Reads}
 use Rattle.wd_complete.specs.Queries.{IsPlainQuery}
 use Rattle.wd_query.specs.Causes.{HasTextCause, text_number, text_place}
 use Rattle.wd_query.specs.Readings.{ForReading, IsRead}
-use Rattle.wd_witness.specs.declared.witness.Witness.{Witness}
+use Rattle.wd_witness_text.specs.declared.witness.Witness.{Witness}
 use Rattle.wd_seek.specs.Sought.{IsSought, to_try}
 use Rattle.wd_decide.specs.declared.error.DecideError.{DecideError}
 use Rattle.wd_decide.specs.declared.error.DecideError.TheVariants.{Texts, OutOfMemory}

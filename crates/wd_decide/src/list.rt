@@ -23,7 +23,7 @@ use wd_certificate::Certificate;
 use wd_query::PlannedQuery;
 use wd_seek::seek;
 use wd_value::OutOfMemory;
-use wd_witness::Witness;
+use wd_witness_text::Witness;
 
 /// Why a certificate shows no order of the answer's rows.
 #[derive(Clone, Copy)]

@@ -17,7 +17,7 @@ use wd_certificate::Certificate;
 use wd_query::{PlannedQuery, read_texts};
 use wd_seek::seek;
 use wd_value::OutOfMemory;
-use wd_witness::Witness;
+use wd_witness_text::Witness;
 
 /// A schema, the plan of a query over its tables, and what is found of the plan.
 #[derive(Drop)]

@@ -16,7 +16,7 @@ use Rattle.wd_plan.proofs.Places.{place-get_or, range-times, times-get_or, times
 use Rattle.wd_plan.specs.Partitions.{place_in}
 use Rattle.wd_facts.specs.declared.facts.Member.{Member}
 use Rattle.wd_facts.specs.declared.facts.Member.TheVariants.{Column, Left, Right, Row}
-use Rattle.wd_facts.specs.Facts.{Fact, Paired, Same, Holds, is_column, is_plain, is_plain_fact, moved, moved_fact, moved_facts, unpaired}
+use Rattle.wd_facts.specs.Facts.{Fact, Paired, Same, Holds, is_plain, is_plain_fact, moved, moved_fact, moved_facts, unpaired}
 use Rattle.wd_facts.specs.Laws.{ArePlain}
 
 -- ---- rows that carry the facts of others
@@ -30,14 +30,14 @@ pub record Carries (rows : List RowValues) (n : Paired) (f : ℕ → ℕ) (row :
   pub down : (p q : ℕ) → p < length n.rows → q < length n.rows → Same n p q row → at p ≡ at q
 
 module _ (rows : List RowValues) (n : Paired) (f : ℕ → ℕ) (row : Member) (width : ℕ) (carries : Carries rows n f row width) (p q : ℕ) (k : p < length n.rows) (l : q < length n.rows) where
-  carried_down : (X : List Member) → list_all (is_column width) X ≡ true → AllByRecursion (Same n p q) (map (moved f row) X) → AllByRecursion (Same (unpaired rows) (carries.at p) (carries.at q)) X
+  carried_down : (X : List Member) → list_all (is_plain width) X ≡ true → AllByRecursion (Same n p q) (map (moved f row) X) → AllByRecursion (Same (unpaired rows) (carries.at p) (carries.at q)) X
   carried_down [] e a = tt
   carried_down (Column c ∷ X) e a =
-      let parts = and_parts (nat_lt c width) (list_all (is_column width) X) e in
+      let parts = and_parts (nat_lt c width) (list_all (is_plain width) X) e in
       (sym (carries.column p c k (ltb-true c width parts.0)) ∙ a.0 ∙ carries.column q c l (ltb-true c width parts.0), carried_down X parts.1 a.1)
   carried_down (Left ∷ X) e a = absurd (false≢true e)
   carried_down (Right ∷ X) e a = absurd (false≢true e)
-  carried_down (Row ∷ X) e a = absurd (false≢true e)
+  carried_down (Row ∷ X) e a = (carries.down p q k l a.0, carried_down X e a.1)
 
   carried_up : (X : List Member) → list_all (is_plain width) X ≡ true → AllByRecursion (Same (unpaired rows) (carries.at p) (carries.at q)) X → AllByRecursion (Same n p q) (map (moved f row) X)
   carried_up [] e a = tt
@@ -51,7 +51,7 @@ module _ (rows : List RowValues) (n : Paired) (f : ℕ → ℕ) (row : Member) (
 module _ (rows : List RowValues) (n : Paired) (f : ℕ → ℕ) (row : Member) (width : ℕ) (carries : Carries rows n f row width) where
   pub holds_moved : (fact : Fact) → is_plain_fact width fact ≡ true → Holds (unpaired rows) fact → Holds n (moved_fact f row fact)
   holds_moved fact e h p q k l a =
-      let parts = and_parts (list_all (is_column width) fact.from) (list_all (is_plain width) fact.to) e in
+      let parts = and_parts (list_all (is_plain width) fact.from) (list_all (is_plain width) fact.to) e in
       carried_up rows n f row width carries p q k l fact.to parts.1 (h (carries.at p) (carries.at q) (carries.within p k) (carries.within q l) (carried_down rows n f row width carries p q k l fact.from parts.0 a))
 
   pub hold_moved : (facts : List Fact) → ArePlain width facts → AllByRecursion (Holds (unpaired rows)) facts → AllByRecursion (Holds n) (moved_facts f row facts)

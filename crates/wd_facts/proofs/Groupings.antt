@@ -32,6 +32,7 @@ use Rattle.wd_facts.specs.Laws.{ArePlain}
 use Rattle.wd_facts.proofs.Embeds.{Carries, HasWidth-from, hold_moved, same_facts}
 use Rattle.wd_facts.proofs.Keys.{all_map}
 use Rattle.wd_facts.proofs.Lists.{all_append, all_left, all_right, range_pick}
+use Rattle.wd_facts.proofs.Plain.{columns_plain}
 
 -- ---- lists
 
@@ -443,7 +444,7 @@ cut_named columns [] = tt
 cut_named columns (fact ∷ kept) = by (list_all (is_column columns) fact.from) refl (cut_named columns kept)
   where
     by : (b : Bool) → list_all (is_column columns) fact.from ≡ b → ArePlain columns (flat_map (cut_fact columns) kept) → ArePlain columns (cond b (record { from = fact.from; to = filter (is_plain columns) fact.to } ∷ []) [] ++ flat_map (cut_fact columns) kept)
-    by true e rest = ((λ i. e i && cut_plain columns fact.to i), rest)
+    by true e rest = ((λ i. columns_plain columns fact.from e i && cut_plain columns fact.to i), rest)
     by false e rest = rest
 
 -- and they hold

@@ -3,10 +3,7 @@ use Rattle.std.proofs.Common.{◌≡◌, ℕ, ◌+◌, List, [], ◌∷◌, ◌+
 use Rattle.std.proofs.lemmas.List.{append_assoc}
 use Rattle.wd_plan.specs.Plans.{GroupCall, Grouping}
 use Rattle.wd_facts.specs.Facts.{Fact}
-use Rattle.wd_facts.specs.Given.{cut_fact, grouping_arguments, grouping_arguments_of, grouping_columns}
-
-pub arguments_next : (front : List ℕ) (call : GroupCall) (calls : List GroupCall) → (front ++ grouping_arguments_of call) ++ grouping_arguments calls ≡ front ++ grouping_arguments (call ∷ calls)
-arguments_next front call calls = append_assoc front (grouping_arguments_of call) (grouping_arguments calls)
+use Rattle.wd_facts.specs.Given.{cut_fact, grouping_columns}
 
 pub grouping_next : (front : List ℕ) (w : ℕ) (arguments : List ℕ) (calls : List GroupCall) → (front ++ (w ∷ [])) ++ grouping_columns (w + 1) calls ≡ front ++ grouping_columns w (Grouping arguments ∷ calls)
 grouping_next front w arguments calls = append_assoc front (w ∷ []) (grouping_columns (w + 1) calls)

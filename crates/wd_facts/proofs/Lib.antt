@@ -10,6 +10,7 @@ pub mod Windows
 pub mod Nodes
 pub mod Groupings
 pub mod GroupsAdded
+pub mod ToldApart
 pub mod GivenHolds
 pub mod Appended
 pub mod UsedBelow

@@ -17,7 +17,7 @@ use Rattle.wd_plan.specs.Plans.{LimitRule, PlanTree, Scan, Join, Filter, Map, Di
 use Rattle.wd_plan.proofs.Parts.{all_filter}
 use Rattle.wd_facts.specs.declared.facts.Member.{Member}
 use Rattle.wd_facts.specs.declared.facts.Member.TheVariants as member
-use Rattle.wd_facts.specs.Facts.{Fact, Paired, Same, Holds, is_column, is_plain, key_fact, moved_facts, unpaired}
+use Rattle.wd_facts.specs.Facts.{Fact, Paired, Same, Holds, is_plain, key_fact, moved_facts, unpaired}
 use Rattle.wd_facts.specs.Given.{all_columns, conjuncts, conjuncts_of, facts_of_conjuncts, full_keys, given, is_not_null, keys_facts, nullable_keys, names_columns, null_keys, gives_row, row_keys, some_rules_out_null, table_rule}
 use Rattle.wd_facts.proofs.Conjuncts.{IsTrueAt, conjuncts_hold, conjuncts_true, some_ruled_out}
 use Rattle.wd_facts.proofs.Embeds.{Embeds, Embeds-distinct, Embeds-filter, Embeds-refl, HasWidth-from, distinct_once, hold_moved, hold_of, keys_of, not_null_of, passes_at, same_facts, wide_at, width_of}
@@ -161,12 +161,12 @@ module _ (tables : List TableRule) (outputs : List Expression) (input : PlanTree
 -- ---- facts that name columns and the row alone
 
 module _ (n : Paired) (width : ℕ) (p q : ℕ) where
-  columns_up : (X : List Member) → list_all (is_column width) X ≡ true → AllByRecursion (Same (unpaired n.rows) p q) X → AllByRecursion (Same n p q) X
-  columns_up [] e a = tt
-  columns_up (member.Column c ∷ X) e a = (a.0, columns_up X (and_parts (nat_lt c width) (list_all (is_column width) X) e).1 a.1)
-  columns_up (member.Left ∷ X) e a = absurd (false≢true e)
-  columns_up (member.Right ∷ X) e a = absurd (false≢true e)
-  columns_up (member.Row ∷ X) e a = absurd (false≢true e)
+  plain_up : (X : List Member) → list_all (is_plain width) X ≡ true → AllByRecursion (Same (unpaired n.rows) p q) X → AllByRecursion (Same n p q) X
+  plain_up [] e a = tt
+  plain_up (member.Column c ∷ X) e a = (a.0, plain_up X (and_parts (nat_lt c width) (list_all (is_plain width) X) e).1 a.1)
+  plain_up (member.Left ∷ X) e a = absurd (false≢true e)
+  plain_up (member.Right ∷ X) e a = absurd (false≢true e)
+  plain_up (member.Row ∷ X) e a = (a.0, plain_up X e a.1)
 
   plain_down : (X : List Member) → list_all (is_plain width) X ≡ true → AllByRecursion (Same n p q) X → AllByRecursion (Same (unpaired n.rows) p q) X
   plain_down [] e a = tt
@@ -178,8 +178,8 @@ module _ (n : Paired) (width : ℕ) (p q : ℕ) where
 pub unpaired_hold : (n : Paired) (width : ℕ) (facts : List Fact) → ArePlain width facts → AllByRecursion (Holds n) facts → AllByRecursion (Holds (unpaired n.rows)) facts
 unpaired_hold n width [] plain a = tt
 unpaired_hold n width (fact ∷ facts) plain a =
-    let parts = and_parts (list_all (is_column width) fact.from) (list_all (is_plain width) fact.to) plain.0 in
-    (λ p q k l h. plain_down n width p q fact.to parts.1 (a.0 p q k l (columns_up n width p q fact.from parts.0 h)), unpaired_hold n width facts plain.1 a.1)
+    let parts = and_parts (list_all (is_plain width) fact.from) (list_all (is_plain width) fact.to) plain.0 in
+    (λ p q k l h. plain_down n width p q fact.to parts.1 (a.0 p q k l (plain_up n width p q fact.from parts.0 h)), unpaired_hold n width facts plain.1 a.1)
 
 -- ---- Join
 

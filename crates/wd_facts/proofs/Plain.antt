@@ -14,16 +14,6 @@ columns_plain width (Left ∷ X) e = absurd (false≢true e)
 columns_plain width (Right ∷ X) e = absurd (false≢true e)
 columns_plain width (Row ∷ X) e = absurd (false≢true e)
 
-columns_wider : (a b : ℕ) → a ≤ b → (X : List Member) → list_all (is_column a) X ≡ true → list_all (is_column b) X ≡ true
-columns_wider a b h [] e = refl
-columns_wider a b h (Column c ∷ X) e =
-    let parts = and_parts (nat_lt c a) (list_all (is_column a) X) e in
-    let l = ltb-true c a parts.0 in
-    λ i. lt-ltb c b (omega arith) i && columns_wider a b h X parts.1 i
-columns_wider a b h (Left ∷ X) e = absurd (false≢true e)
-columns_wider a b h (Right ∷ X) e = absurd (false≢true e)
-columns_wider a b h (Row ∷ X) e = absurd (false≢true e)
-
 members_wider : (a b : ℕ) → a ≤ b → (X : List Member) → list_all (is_plain a) X ≡ true → list_all (is_plain b) X ≡ true
 members_wider a b h [] e = refl
 members_wider a b h (Column c ∷ X) e =
@@ -38,5 +28,5 @@ members_wider a b h (Row ∷ X) e = members_wider a b h X e
 pub facts_wider : (a b : ℕ) → a ≤ b → (facts : List Fact) → ArePlain a facts → list_all (is_plain_fact b) facts ≡ true
 facts_wider a b h [] e = refl
 facts_wider a b h (fact ∷ facts) e =
-    let parts = and_parts (list_all (is_column a) fact.from) (list_all (is_plain a) fact.to) e.0 in
-    λ i. (columns_wider a b h fact.from parts.0 i && members_wider a b h fact.to parts.1 i) && facts_wider a b h facts e.1 i
+    let parts = and_parts (list_all (is_plain a) fact.from) (list_all (is_plain a) fact.to) e.0 in
+    λ i. (members_wider a b h fact.from parts.0 i && members_wider a b h fact.to parts.1 i) && facts_wider a b h facts e.1 i

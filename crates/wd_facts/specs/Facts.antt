@@ -80,9 +80,9 @@ is_column width Left = false
 is_column width Right = false
 is_column width Row = false
 
--- a fact of rows of so many columns: `from` names columns, `to` columns and the row
+-- a fact of rows of so many columns: it names these and the row, on either side
 abbrev pub is_plain_fact : ℕ → Fact → Bool
-is_plain_fact width fact = list_all (is_column width) fact.from && list_all (is_plain width) fact.to
+is_plain_fact width fact = list_all (is_plain width) fact.from && list_all (is_plain width) fact.to
 
 -- a member with its column renumbered; the row becomes the member that stands for it
 abbrev pub moved : (ℕ → ℕ) → Member → Member → Member

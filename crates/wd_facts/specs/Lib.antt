@@ -1,4 +1,5 @@
 pub mod Facts
 pub mod Given
+pub mod Apart
 pub mod Laws
 pub mod Known

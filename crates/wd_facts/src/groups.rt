@@ -7,89 +7,12 @@ ghost use Rattle.wd_facts.specs.Facts as facts_spec;
 ghost use Rattle.wd_facts.specs.Facts.{fact_of};
 ghost use Rattle.wd_facts.specs.Given as spec;
 
+use crate::apart::are_told_apart;
 use crate::facts::{Given, Member};
 use crate::members::{add_key, first_columns};
 use std::alloc::Global;
-use wd_plan::{Group, GroupCall, has_column};
+use wd_plan::{Group, GroupCall};
 use wd_value::OutOfMemory;
-
-/// Whether one of two sets has the column, and the other one has not.
-fn differ_in(set: &[u16], other: &[u16], column: u16) -> bool
-    ensures { result ≡ spec.differ_in set.now other.now column }
-{
-    if has_column(set, column) {
-        !has_column(other, column)
-    } else {
-        has_column(other, column)
-    }
-}
-
-/// Whether two sets differ in one of the columns.
-fn differ(set: &[u16], other: &[u16], columns: &[u16]) -> bool
-    ensures { result ≡ list_any (spec.differ_in set.now other.now) columns.now }
-{
-    for column in columns {
-        if differ_in(set, other, *column) {
-            return true;
-        }
-    }
-    false
-}
-
-/// Whether a set differs from each of others in one of the columns.
-fn differs_from_each(set: &[u16], others: &[Vec<u16>], columns: &[u16]) -> bool
-    ensures { result ≡ list_all (λ other. list_any (spec.differ_in set.now other) columns.now) (sets_of others.now) }
-{
-    for other in others {
-        if !differ(set, other, columns) {
-            return false;
-        }
-    }
-    true
-}
-
-/// Whether every two sets differ in one of the columns.
-fn are_told_apart(columns: &[u16], sets: &[Vec<u16>]) -> bool
-    ensures { result ≡ spec.are_told_apart columns.now (sets_of sets.now) }
-{
-    for number in 0..sets.len() {
-        if !differs_from_each(&sets[number], &sets[number + 1..], columns) {
-            return false;
-        }
-    }
-    true
-}
-
-/// Appends the arguments of a call of GROUPING.
-fn add_arguments(call: &GroupCall, list: &mut Vec<u16>) -> Result<(), OutOfMemory>
-    ensures { IfOk result (λ _. list.new.items ≡ list.old.items ++ spec.grouping_arguments_of (group_call_of call.now)) }
-{
-    match call {
-        GroupCall::OfRows(_) => Ok(()),
-        GroupCall::Grouping(arguments) => add_columns(arguments, list),
-    }
-}
-
-fn add_columns(columns: &[u16], list: &mut Vec<u16>) -> Result<(), OutOfMemory>
-    ensures { IfOk result (λ _. list.new.items ≡ list.old.items ++ columns.now) }
-{
-    for column in columns {
-        list.push(*column)?;
-    }
-    Ok(())
-}
-
-/// The arguments of all GROUPING calls.
-#[tactic(auto, using(crate::proofs::GroupsAdded::arguments_next))]
-fn grouping_arguments(alloc: Global, calls: &[GroupCall]) -> Result<Vec<u16>, OutOfMemory>
-    ensures { IfOk result (λ v. v.items ≡ spec.grouping_arguments (map group_call_of calls.now)) }
-{
-    let mut list = Vec::new(alloc);
-    for call in calls {
-        add_arguments(call, &mut list)?;
-    }
-    Ok(list)
-}
 
 /// Appends the columns of the GROUPING calls, where the first call has this column.
 #[tactic(auto, using(crate::proofs::GroupsAdded::grouping_next))]
@@ -128,8 +51,7 @@ fn add_group_key(alloc: Global, group: &Group, list: &mut Vec<Given>) -> Result<
     requires { group.now.columns + length group.now.calls.items < 65536 }
     ensures { IfOk result (λ _. map fact_of list.new.items ≡ map fact_of list.old.items ++ spec.group_key_facts (grouping_of group.now)) }
 {
-    let arguments = grouping_arguments(alloc, &group.calls)?;
-    if are_told_apart(&arguments, &group.sets) {
+    if are_told_apart(alloc, &group.calls, &group.sets)? {
         let key = group_key(alloc, group)?;
         add_key(alloc, Member::Row, &key, list)?;
     }

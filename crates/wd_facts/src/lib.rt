@@ -2,6 +2,7 @@
 //! which they hold.
 #![tactic(auto)]
 
+mod apart;
 mod calls;
 mod columns;
 mod conditions;

@@ -11,7 +11,7 @@ use Rattle.wd_value.specs.Rows.{Row, row_at}
 use Rattle.wd_join.specs.declared.matching.JoinColumns.{JoinColumns}
 use Rattle.wd_join.specs.declared.walk.Stretch.{Stretch}
 use Rattle.wd_steps.specs.Repeats.{compare_rows}
-use Rattle.wd_join.specs.Matching.{AreBefore, AreStretches, IsSortedBy, IsStretch, is_before, left_keys}
+use Rattle.wd_join.specs.Matching.{AreStretches, IsKnown, IsSortedBy, IsStretch, is_before, left_keys}
 use Rattle.wd_join.proofs.Holding.{keys_are-left, left_key, right_key, sides_are}
 use Rattle.wd_steps.proofs.Occurrences.{compare_rows_total}
 
@@ -29,22 +29,36 @@ below_up x y z less up = by (compare_rows z y) refl
     by Equal e = alike_right compare_rows_total z y x e ∙ less
     by Greater e = compare_rows_total.trans x y z less (compare_rows_total.antisymm y z ∙ ap ordering_reverse e)
 
+-- what is below a list of values or ties with it is so with one that does not stand before that
+upto_up : (x y z : Row) → is_before true (compare_rows x y) ≡ true → is_lt (compare_rows z y) ≡ false → is_before true (compare_rows x z) ≡ true
+upto_up x y z upto up = by (compare_rows x y) refl upto
+  where
+    turned : (o : Ordering) → is_lt o ≡ false → is_before true (ordering_reverse o) ≡ true
+    turned Less e = absurd (false≢true (sym e))
+    turned Equal e = refl
+    turned Greater e = refl
+
+    by : (o : Ordering) → compare_rows x y ≡ o → is_before true o ≡ true → is_before true (compare_rows x z) ≡ true
+    by Less e h = ap (is_before true) (below_up x y z e up)
+    by Equal e h = ap (is_before true) (compare_rows_total.antisymm x z) ∙ ap (λ o. is_before true (ordering_reverse o)) (alike_right compare_rows_total x y z e) ∙ turned (compare_rows z y) up
+    by Greater e h = absurd (false≢true h)
+
 module _ (columns : List JoinColumns) (left right : List Row) (left_order order : List ℕ) where
   abbrev row : ℕ → Row
   row k = row_at left (get_or left_order k 0)
 
-  -- the stretches of the first rows of the left order are there, and so many right rows are before all later left rows
-  pub record AreWalked (i start : ℕ) (stretches : List Stretch) : Type 0 where
+  -- the stretches of the first rows of the left order are there, and a stretch is known for all later left rows
+  pub record AreWalked (i : ℕ) (known : Stretch) (stretches : List Stretch) : Type 0 where
     pub long : length stretches ≡ length left
-    pub within : start ≤ length order
-    pub before : (j : ℕ) → i ≤ j → j < length left_order → AreBefore false columns (row j) right order start
+    pub within : (known.start ≤ length order) × (known.end ≤ length order)
+    pub before : (j : ℕ) → i ≤ j → j < length left_order → IsKnown columns (row j) right order known
     pub done : (k : ℕ) (d : Stretch) → k < i → get_or left_order k 0 < length left → IsStretch columns (row k) right order (get_or stretches (get_or left_order k 0) d)
 
-  pub AreWalked-none : (stretches : List Stretch) → length stretches ≡ length left → AreWalked 0 0 stretches
+  pub AreWalked-none : (stretches : List Stretch) → length stretches ≡ length left → AreWalked 0 (record { start = 0; end = 0 }) stretches
   AreWalked-none stretches long = record {
     long = long;
-    within = omega arith;
-    before = λ j low high k h. absurd (omega arith);
+    within = (omega arith, omega arith);
+    before = λ j low high. record { before = λ k h. absurd (omega arith); reached = λ k h. absurd (omega arith) };
     done = λ k d h within. absurd (omega arith);
   }
 
@@ -57,18 +71,25 @@ module _ (columns : List JoinColumns) (left right : List Row) (left_order order 
       (λ k d low high. sym (ap is_lt (keys_are-left columns (row_at left (get_or left_order (k + 1) d)) (row_at left (get_or left_order k d)))) ∙ sorted.sorted k d low high)
       i j 0 le within
 
-  pub AreWalked-more : IsSortedBy (left_keys columns) left left_order → (i start : ℕ) (stretches next : List Stretch) (s : Stretch) → i < length left_order → AreWalked i start stretches
-      → IsStretch columns (row i) right order s → AreBefore false columns (row i) right order s.start → next ≡ set stretches (get_or left_order i 0) s → AreWalked (i + 1) s.start next
-  AreWalked-more sorted i start stretches next s within so_far is before put =
+  pub AreWalked-more : IsSortedBy (left_keys columns) left left_order → (i : ℕ) (known : Stretch) (stretches next : List Stretch) (s : Stretch) → i < length left_order → AreWalked i known stretches
+      → IsStretch columns (row i) right order s → IsKnown columns (row i) right order s → next ≡ set stretches (get_or left_order i 0) s → AreWalked (i + 1) s next
+  AreWalked-more sorted i known stretches next s within so_far is before put =
       let p = get_or left_order i 0 in
       record {
         long = ap length put ∙ length-set stretches p s ∙ so_far.long;
-        within = (let a = is.forwards in let b = is.within in omega arith);
-        before = λ j low high k h. (
-            let r = row_at right (get_or order k 0) in
-            let here : compare_rows (right_key columns r) (key p) ≡ Less = sym (sides_are columns (row i) r) ∙ less_is _ (before k h) in
-            let there = below_up (right_key columns r) (key p) (key (get_or left_order j 0)) here (no_lower sorted i j (omega arith) high) in
-            ap (is_before false) (sides_are columns (row j) r ∙ there));
+        within = (let a = is.forwards in let b = is.within in (omega arith, omega arith));
+        before = λ j low high. (
+            let up = no_lower sorted i j (omega arith) high in
+            record {
+              before = λ k h. (
+                  let r = row_at right (get_or order k 0) in
+                  let here : compare_rows (right_key columns r) (key p) ≡ Less = sym (sides_are columns (row i) r) ∙ less_is _ (before.before k h) in
+                  ap (is_before false) (sides_are columns (row j) r ∙ below_up (right_key columns r) (key p) (key (get_or left_order j 0)) here up));
+              reached = λ k h. (
+                  let r = row_at right (get_or order k 0) in
+                  let here : is_before true (compare_rows (right_key columns r) (key p)) ≡ true = ap (is_before true) (sym (sides_are columns (row i) r)) ∙ before.reached k h in
+                  ap (is_before true) (sides_are columns (row j) r) ∙ upto_up (right_key columns r) (key p) (key (get_or left_order j 0)) here up);
+            });
         done = λ k d h low. elim (cases_eq (get_or left_order k 0) p) [
           | inl same ↦ (
               let p-within : p < length stretches = omega (arith, so_far.long, low, same) in
@@ -90,8 +111,8 @@ module _ (columns : List JoinColumns) (left right : List Row) (left_order order 
         | inr more ↦ absurd (differs (omega arith))
       ]
 
-  pub AreWalked-all : IsSortedBy (left_keys columns) left left_order → (i start : ℕ) (stretches : List Stretch) → length left_order ≤ i → AreWalked i start stretches → AreStretches columns left right order stretches
-  AreWalked-all sorted i start stretches all walked = record {
+  pub AreWalked-all : IsSortedBy (left_keys columns) left left_order → (i : ℕ) (known : Stretch) (stretches : List Stretch) → length left_order ≤ i → AreWalked i known stretches → AreStretches columns left right order stretches
+  AreWalked-all sorted i known stretches all walked = record {
     long = walked.long;
     each = λ n d h. (
         let there = Contains-permutation (positions (length left)) left_order n sorted.rearranged

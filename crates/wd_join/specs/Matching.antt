@@ -77,7 +77,12 @@ is_before too order = is_lt order || (too && is_eq order)
 abbrev pub AreBefore : Bool → List JoinColumns → Row → List Row → List ℕ → ℕ → Type 0
 AreBefore too columns l right order n = (k : ℕ) → k < n → is_before too (compare_sides columns l (row_at right (get_or order k 0))) ≡ true
 
--- and no others do
+-- the right rows up to the start of a stretch come before the left row, and those up to its end come before it or tie with it
+pub record IsKnown (columns : List JoinColumns) (l : Row) (right : List Row) (order : List ℕ) (s : Stretch) : Type 0 where
+  pub before : AreBefore false columns l right order s.start
+  pub reached : AreBefore true columns l right order s.end
+
+-- the first n right rows of an order come before the left row, and no others do
 pub record IsEnd (too : Bool) (columns : List JoinColumns) (l : Row) (right : List Row) (order : List ℕ) (n : ℕ) : Type 0 where
   pub within : n ≤ length order
   pub before : AreBefore too columns l right order n

@@ -4,7 +4,7 @@
 ghost use Rattle.std.specs.Prelude.{◌≡◌, ℕ, ◌-◌, ◌<◌, ◌≤◌, true, false, IfOk, drop, get_or, length, map, set, take};
 ghost use Rattle.std.specs.List.{list_any};
 ghost use Rattle.wd_join.specs.Matching as spec;
-ghost use Rattle.wd_join.specs.Matching.{AreAgreeing, AreBefore, AreStretches, IsEnd, IsSortedBy, IsStretch};
+ghost use Rattle.wd_join.specs.Matching.{AreAgreeing, AreBefore, AreStretches, IsEnd, IsKnown, IsSortedBy, IsStretch};
 ghost use Rattle.wd_value.specs.Rows.{row_at};
 
 use crate::matching::{JoinColumns, is_null_at};
@@ -107,7 +107,8 @@ fn sorted_by(alloc: Global, rows: &RowSource, keys: &[SortColumn]) -> Result<Vec
 }
 
 /// For each left row the stretch of the right rows that agree with it. In the order of the columns
-/// the stretches of later left rows start no earlier.
+/// the stretches of later left rows start and end no earlier, so that each right row is passed once at
+/// a start and once at an end.
 fn walked(
     alloc: Global,
     columns: &[JoinColumns],
@@ -121,11 +122,10 @@ fn walked(
     ensures { IfOk result (λ v. AreStretches columns.now left.now right.now order.now v.items) }
 {
     let mut stretches = vec![in alloc; Stretch { start: 0, end: 0 }; left.len()]?;
-    let mut start = 0;
+    let mut known = Stretch { start: 0, end: 0 };
     for position in left_order {
-        let stretch = stretch_from(columns, left, *position, right, order, start);
-        put_stretch(&mut stretches, *position, stretch);
-        start = stretch.start;
+        known = stretch_from(columns, left, *position, right, order, known);
+        put_stretch(&mut stretches, *position, known);
     }
     Ok(stretches)
 }
@@ -139,27 +139,28 @@ fn put_stretch(stretches: &mut Vec<Stretch>, position: u64, stretch: Stretch)
     }
 }
 
-/// The stretch of the right rows that agree with the left row at a position, which all rows before
-/// `from` are before.
+/// The stretch of the right rows that agree with the left row at a position. All rows before the
+/// start of the known one are before that row, and those before its end are before it or tie with it.
 fn stretch_from(
     columns: &[JoinColumns],
     left: &RowSource,
     position: u64,
     right: &RowSource,
     order: &[u64],
-    from: usize,
+    known: Stretch,
 ) -> Stretch
     requires sorted { IsSortedBy (spec.right_keys columns.now) right.now order.now }
-    requires within { from ≤ length order.now }
-    requires before { AreBefore false columns.now (row_at left.now position) right.now order.now from }
+    requires within { (known.start ≤ length order.now) × (known.end ≤ length order.now) }
+    requires before { IsKnown columns.now (row_at left.now position) right.now order.now known }
     ensures is { IsStretch columns.now (row_at left.now position) right.now order.now result }
-    ensures before { AreBefore false columns.now (row_at left.now position) right.now order.now result.start }
+    ensures before { IsKnown columns.now (row_at left.now position) right.now order.now result }
 {
-    let start = end_from(columns, left, position, right, order, from, false);
+    let start = end_from(columns, left, position, right, order, known.start, false);
     if lacks_key(columns, left, position) {
         return Stretch { start, end: start };
     }
-    let end = end_from(columns, left, position, right, order, start, true);
+    let passed = start.max(known.end);
+    let end = end_from(columns, left, position, right, order, passed, true);
     Stretch { start, end }
 }
 

@@ -1,21 +1,24 @@
 -- Two orderings of a class that gives every column: the same rows at the same places, and what is shown of them.
-use Rattle.std.proofs.Common.{◌≡◌, ℕ, ◌<◌, ◌≤◌, Bool, true, List, [], map, length, filter, get_or, sym, ◌∙◌, ap, arith, le_trans, ext_get_or, eqb}
-use Rattle.std.proofs.lemmas.List.{length-map, get_or-map}
+use Rattle.std.proofs.Common.{◌≡◌, ℕ, ◌+◌, ◌<◌, ◌≤◌, Bool, true, List, [], map, length, filter, get_or, sym, ◌∙◌, ap, arith, le_trans, ext_get_or, eqb, subst}
+use Rattle.std.proofs.lemmas.Bool.Decides.{Decides-eqb}
+use Rattle.std.proofs.lemmas.List.{length-map, get_or-map, map-id}
+use Rattle.std.proofs.lemmas.List.FromFn.{get_or-range_with_len, length-range_with_len}
 use Rattle.std.proofs.lemmas.List.Elements.{filter_passes, All-from_recursion}
-use Rattle.wd_plan.proofs.Places.{same_members, stands_once, place-get_or, range-times, times-filter-le, times-get_or, same_shows}
+use Rattle.wd_plan.proofs.Places.{in_part, same_members, stands_once, place-get_or, range-times, times-filter-le, times-get_or, same_shows}
 use Rattle.wd_laws.proofs.Grouped.{Perm-from_matches}
-use Rattle.wd_laws.proofs.Parts.{LooksBy, Perm-ordered, same_rows_at_places}
+use Rattle.wd_laws.proofs.Parts.{LooksBy, Perm-ordered, map_positions, same_rows_at_places}
+use Rattle.wd_laws.proofs.Renaming.{map_map}
 use Rattle.wd_plan.proofs.Parts.{Perm-ordering, map_filter, ordered, same_partition_is}
 use Rattle.wd_plan.specs.Calls.{call_value}
 use Rattle.wd_plan.specs.Facts.{DeterminesAll, HasWidth}
-use Rattle.wd_laws.specs.Laws.{SameResults, with_results}
+use Rattle.wd_laws.specs.Laws.{ExchangeRenames, SameResults, renamed, with_results}
 use Rattle.wd_plan.specs.Partitions.{members, partition_of, place_in}
 use Rattle.wd_plan.specs.Plans.{ClassRule}
 use Rattle.wd_plan.specs.Sorting.{IsOrdering, class_columns, same_partition}
-use Rattle.wd_value.proofs.Perms.{Perm, Perm-count_by, Perm-map, Perm-refl, Perm-sym, both}
+use Rattle.wd_value.proofs.Perms.{Perm, Perm-count_by, Perm-map, Perm-refl, Perm-sym, SameBag-from_Perm, both}
 use Rattle.wd_value.proofs.SameLaws.{same_row-Decides}
 use Rattle.wd_value.specs.Bags.{EachOnce, positions, times}
-use Rattle.wd_value.specs.Rows.{Row, columns_of, row_at, same_row}
+use Rattle.wd_value.specs.Rows.{Row, columns_of, row_at, rows_at, same_row}
 use Rattle.wd_value.specs.declared.value.Value.TheVariants.{Null}
 
 -- what stands in a filter of an ordering is a position
@@ -109,3 +112,64 @@ pub same_results : SameResults
 same_results class calls width rows o1 o2 test wide h v1 v2 =
     Perm-count_by test (by_places class rows rows o1 o2 (gives_all_looks class rows width wide h) (Perm-refl rows) v1 v2 (with_results class calls rows o1) (with_results class calls rows o2)
     (λ u v s i. (s.row i, map (λ call. call_value class call.0 call.1 (s.partition i) (s.place i)) calls)))
+
+-- ---- the renaming between two orderings
+
+zero_plus : (k : ℕ) → 0 + k ≡ k
+zero_plus k = omega arith
+
+module _ (class : ClassRule) (rows : List Row) (o1 o2 : List ℕ) (looks : LooksBy class rows (λ r. r)) (v1 : IsOrdering class rows o1) (v2 : IsOrdering class rows o2) where
+  -- what stands at the same place of the same partition in the second ordering
+  abbrev counterpart : ℕ → ℕ
+  counterpart q = get_or (members class rows o2 q) (place_in (members class rows o1 q) q) 0
+
+  abbrev renaming : List ℕ
+  renaming = map counterpart (positions (length rows))
+
+  same_part : (q : ℕ) → map (row_at rows) (members class rows o1 q) ≡ map (row_at rows) (members class rows o2 q)
+  same_part q = same_places class rows rows o1 o2 looks (Perm-refl rows) v1 v2 (row_at rows q)
+
+  long : (q : ℕ) → length (members class rows o1 q) ≡ length (members class rows o2 q)
+  long q = sym (length-map (members class rows o1 q) (row_at rows)) ∙ ap length (same_part q) ∙ length-map (members class rows o2 q) (row_at rows)
+
+  -- the same row stands there
+  row_kept : (q : ℕ) → q < length rows → row_at rows (counterpart q) ≡ row_at rows q
+  row_kept q h =
+      let i = place_in (members class rows o1 q) q in
+      let part = in_part class rows o1 q v1.once h in
+      sym (get_or-map (row_at rows) (members class rows o2 q) i 0 [] (subst (λ n. i < n) (long q) part.within))
+      ∙ sym (ap (λ (rs : List Row). row_at rs i) (same_part q)) ∙ get_or-map (row_at rows) (members class rows o1 q) i 0 [] part.within ∙ ap (row_at rows) part.at_place
+
+  -- a position is the counterpart of the one at its place
+  met : (u v : ℕ) → SamePlace class rows rows o1 o2 u v → counterpart u ≡ v
+  met u v s =
+      let there : members class rows o2 u ≡ members class rows o2 v = ap (λ (r : Row). filter (λ q. same_partition class r (row_at rows q)) o2) s.row in
+      ap (λ (ms : List ℕ). get_or ms (place_in (members class rows o1 u) u) 0) there ∙ ap (λ i. get_or (members class rows o2 v) i 0) s.place ∙ (in_part class rows o2 v v2.once s.there).at_place
+
+  renaming_once : EachOnce (length rows) renaming
+  renaming_once =
+      let shown : map (λ (v : ℕ). v) (positions (length rows)) ≡ positions (length rows) = map-id (positions (length rows)) in
+      let p : Perm ℕ renaming (positions (length rows)) = subst (Perm ℕ renaming) shown (by_places class rows rows o1 o2 looks (Perm-refl rows) v1 v2 counterpart (λ v. v) met) in
+      SameBag-from_Perm eqb Decides-eqb (Perm-sym p)
+
+  renaming_at : (q : ℕ) → q < length rows → renamed rows renaming q ≡ counterpart q
+  renaming_at q h =
+      let n : length (positions (length rows)) ≡ length rows = length-range_with_len 0 (length rows) in
+      get_or-map counterpart (positions (length rows)) q 0 (length rows) (subst (λ k. q < k) (sym n) h) ∙ ap counterpart (get_or-range_with_len 0 (length rows) q 0 h ∙ omega arith)
+
+  rows_kept : rows_at rows renaming ≡ rows
+  rows_kept = map_map counterpart (row_at rows) (positions (length rows)) ∙ map_positions (λ q. row_at rows (counterpart q)) [] rows 0 (λ k l. ap (λ n. row_at rows (counterpart n)) (zero_plus k) ∙ row_kept k l)
+
+  -- the partition of the first ordering is taken to that of the second
+  part_renamed : (p : ℕ) → p < length rows → members class rows o2 p ≡ map (renamed rows renaming) (members class rows o1 p)
+  part_renamed p h = sym (ext_get_or 0 (map (renamed rows renaming) (members class rows o1 p)) (members class rows o2 p) (length-map (members class rows o1 p) (renamed rows renaming) ∙ long p) (λ i l.
+      let k : i < length (members class rows o1 p) = subst (λ n. i < n) (length-map (members class rows o1 p) (renamed rows renaming)) l in
+      let s = same_place class rows rows o1 o2 looks (Perm-refl rows) v1 v2 (row_at rows p) i k (subst (λ n. i < n) (long p) k) in
+      get_or-map (renamed rows renaming) (members class rows o1 p) i 0 0 k ∙ renaming_at (get_or (members class rows o1 p) i 0) s.here ∙ met _ _ s))
+
+pub exchange_renames : ExchangeRenames
+exchange_renames class width rows o1 o2 wide h v1 v2 =
+    let looks = gives_all_looks class rows width wide h in (
+      renaming class rows o1 o2 looks v1 v2,
+      record { rearranged = record { once = renaming_once class rows o1 o2 looks v1 v2; shown = rows_kept class rows o1 o2 looks v1 v2 }; partition = part_renamed class rows o1 o2 looks v1 v2 },
+    )

@@ -1,20 +1,21 @@
--- Over rearranged tables a plan has the answers that it had, but for the order of their rows.
-use Rattle.std.proofs.Common.{◌≡◌, ℕ, List, [], ◌∷◌, ◌++◌, map, length, take, drop, refl, sym, ◌∙◌, ap, subst, arith, eqb, Ok, Err}
+-- Over rearranged tables a plan has the outcome that it had under the renamed choice, but for the order of its rows.
+use Rattle.std.proofs.Common.{◌≡◌, ℕ, zero, suc, ◌+◌, ◌≤◌, List, [], ◌∷◌, ◌++◌, map, length, take, drop, refl, sym, ◌∙◌, ap, subst, arith, eqb, Ok, Err}
 use Rattle.std.specs.List.{AllByRecursion}
-use Rattle.std.proofs.Math.Seq.{drop-append_seam, get_or-append_seam}
+use Rattle.std.proofs.Math.Seq.{drop-append_seam}
 use Rattle.std.proofs.lemmas.Bool.Decides.{Decides-eqb}
-use Rattle.std.proofs.lemmas.List.{length-append, length-map, take_all}
-use Rattle.wd_plan.proofs.ChoiceLaws.{AreLawful-append, outcome-append}
+use Rattle.std.proofs.lemmas.List.{append-nil, append_assoc, length-append, length-drop, length-map, length-take, take-append-le, take_all}
+use Rattle.wd_plan.proofs.ChoiceLaws.{outcome-append}
+use Rattle.wd_plan.proofs.Parts.{Perm-ordering}
 use Rattle.wd_laws.proofs.Grouping.{Alike-group}
 use Rattle.wd_laws.proofs.NodesCommute.{rearranged}
 use Rattle.wd_laws.proofs.Outcomes.{Agree-from_Alike, Alike, Alike-all_ok, Alike-filter, Alike-join, Alike-map, Perm-distinct, Perm-pairs}
 use Rattle.wd_laws.proofs.Parts.{rows_at_positions}
 use Rattle.wd_laws.proofs.Renaming.{commutes, renamed_order, renamed_ordering}
-use Rattle.wd_plan.specs.Choices.{AreLawful, AreOrderings, AtRows, IsValidChoice}
+use Rattle.wd_plan.specs.Choices.{AreLawful, AreOrderings, AtRows}
 use Rattle.wd_plan.specs.Faults.{and_then}
-use Rattle.wd_laws.specs.Laws.{Commutes, PlanCommutes, SameTables, renamed}
+use Rattle.wd_laws.specs.Laws.{AreRenamed, AreRenamedAt, Commutes, PlanCommutes, SameTables, own_orderings, renamed}
 use Rattle.wd_plan.specs.Outcomes.{RowsOrFault, cut, distinct, extended, filter_outcome, group_outcome, join_outcome, map_outcome, ordering_at, outcome, pairs, window_outcome}
-use Rattle.wd_plan.specs.Plans.{ClassRule, Distinct, Filter, Group, Join, Limit, LimitRule, Map, PlanTree, Scan, Window, WindowRule, ordering_count}
+use Rattle.wd_plan.specs.Plans.{Distinct, Filter, Group, Join, Limit, LimitRule, Map, PlanTree, Scan, Window, WindowRule, ordering_count}
 use Rattle.wd_plan.specs.Sorting.{IsOrdering, limit_class}
 use Rattle.wd_value.proofs.Perms.{Perm, Perm-map, Perm-refl, SameBag-from_Perm, both, done, flip, keep}
 use Rattle.wd_value.specs.Bags.{EachOnce, positions}
@@ -59,65 +60,44 @@ once rows others s = SameBag-from_Perm eqb Decides-eqb s.perm
 
 -- ---- a node's own orderings
 
--- orderings of a Window over rows, for those over the rearranged rows
-pub record OwnWindow (w : WindowRule) (a b : RowsOrFault) (os : List (List ℕ)) : Type 0 where
-  pub own : List (List ℕ)
-  pub number : length own ≡ length w.classes
-  pub lawful : AtRows a (λ rows. AreOrderings w rows own) (AllByRecursion (λ o. o ≡ []) own)
-  pub alike : Alike (and_then a (λ rows. window_outcome w rows own)) (and_then b (λ rows. window_outcome w rows os))
+-- a Window's renamed orderings are lawful, and its outcome is rearranged
+renamed_at_window : (w : WindowRule) (a b : RowsOrFault) (os own : List (List ℕ)) → Alike a b → AreRenamedAt a b os own
+    → AtRows b (λ rows. AreOrderings w rows os) (AllByRecursion (λ o. o ≡ []) os)
+    → AtRows a (λ rows. AreOrderings w rows own) (AllByRecursion (λ o. o ≡ []) own) × Alike (and_then a (λ rows. window_outcome w rows own)) (and_then b (λ rows. window_outcome w rows os))
+renamed_at_window w (Ok rows) (Ok others) os own p (ps, re, is) v =
+    let v' : AreOrderings w (rows_at rows ps) os = subst (λ l. AreOrderings w l os) (sym re.shown) v in
+    let c : Commutes w rows ps os = commutes rows ps re.once w os v' in
+    let os' = map (map (renamed rows ps)) os in
+    let moved : Alike (window_outcome w rows os') (window_outcome w (rows_at rows ps) os) = subst (Alike (window_outcome w rows os')) (sym c.same_rows) (Alike-all_ok _ _ (Perm-map (extended w rows os') (Perm-ordering rows ps re.once))) in
+    let there : Alike (window_outcome w rows os') (window_outcome w others os) = subst (λ l. Alike (window_outcome w rows os') (window_outcome w l os)) re.shown moved in
+    (subst (AreOrderings w rows) (sym is) c.valid, subst (λ (mine : List (List ℕ)). Alike (window_outcome w rows mine) (window_outcome w others os)) (sym is) there)
+renamed_at_window w (Ok rows) (Err g) os own p is v = absurd p
+renamed_at_window w (Err f) (Ok others) os own p is v = absurd p
+renamed_at_window w (Err f) (Err g) os own p is v = (subst (AllByRecursion (λ o. o ≡ [])) (sym is) v, p)
 
-all_empty : (classes : List ClassRule) → AllByRecursion (λ (o : List ℕ). o ≡ []) (map (λ (class : ClassRule). []) classes)
-all_empty [] = tt
-all_empty (class ∷ classes) = (refl, all_empty classes)
+-- the first ordering of those that are renamed is renamed
+first_renamed : (f : ℕ → ℕ) (os : List (List ℕ)) → ordering_at (map (map f) os) 0 ≡ map f (ordering_at os 0)
+first_renamed f [] = refl
+first_renamed f (o ∷ os) = refl
 
-own_window : (w : WindowRule) (a b : RowsOrFault) (os : List (List ℕ)) → Alike a b → AtRows b (λ rows. AreOrderings w rows os) (AllByRecursion (λ o. o ≡ []) os) → OwnWindow w a b os
-own_window w (Ok rows) (Ok others) os p v =
-    let s = places rows others p in
-    let v' : AreOrderings w (rows_at rows s.at) os = subst (λ l. AreOrderings w l os) (sym s.shown) v in
-    let c : Commutes w rows s.at os = commutes rows s.at (once rows others s) w os v' in
-    let os' = map (map (renamed rows s.at)) os in
-    let moved : Alike (window_outcome w rows os') (window_outcome w (rows_at rows s.at) os) = subst (Alike (window_outcome w rows os')) (sym c.same_rows) (Alike-all_ok _ _ (Perm-map (extended w rows os') s.perm)) in
-    record {
-      own = os';
-      number = c.valid.number;
-      lawful = c.valid;
-      alike = subst (λ l. Alike (window_outcome w rows os') (window_outcome w l os)) s.shown moved;
-    }
-own_window w (Ok rows) (Err g) os p v = absurd p
-own_window w (Err f) (Ok others) os p v = absurd p
-own_window w (Err f) (Err g) os p v = record {
-  own = map (λ (class : ClassRule). []) w.classes;
-  number = length-map w.classes (λ (class : ClassRule). []);
-  lawful = all_empty w.classes;
-  alike = p;
-}
+-- likewise a Limit
+renamed_at_limit : (limit : LimitRule) (a b : RowsOrFault) (os own : List (List ℕ)) → Alike a b → AreRenamedAt a b os own
+    → AtRows b (λ rows. IsOrdering (limit_class limit) rows (ordering_at os 0)) (ordering_at os 0 ≡ [])
+    → AtRows a (λ rows. IsOrdering (limit_class limit) rows (ordering_at own 0)) (ordering_at own 0 ≡ [])
+    × Alike (and_then a (λ rows. Ok (cut limit (rows_at rows (ordering_at own 0))))) (and_then b (λ rows. Ok (cut limit (rows_at rows (ordering_at os 0)))))
+renamed_at_limit limit (Ok rows) (Ok others) os own p (ps, re, is) v =
+    let o = ordering_at os 0 in
+    let mine : ordering_at own 0 ≡ map (renamed rows ps) o = ap (λ l. ordering_at l 0) is ∙ first_renamed (renamed rows ps) os in
+    let v' : IsOrdering (limit_class limit) (rows_at rows ps) o = subst (λ l. IsOrdering (limit_class limit) l o) (sym re.shown) v in
+    let same : rows_at others o ≡ rows_at rows (ordering_at own 0) = ap (λ l. rows_at l o) (sym re.shown) ∙ renamed_order rows ps re.once o ∙ ap (rows_at rows) (sym mine) in (
+      subst (IsOrdering (limit_class limit) rows) (sym mine) (renamed_ordering rows ps re.once (limit_class limit) o v'),
+      subst (λ l. Perm Row (cut limit (rows_at rows (ordering_at own 0))) (cut limit l)) (sym same) (Perm-refl _),
+    )
+renamed_at_limit limit (Ok rows) (Err g) os own p is v = absurd p
+renamed_at_limit limit (Err f) (Ok others) os own p is v = absurd p
+renamed_at_limit limit (Err f) (Err g) os own p is v = (ap (λ l. ordering_at l 0) is ∙ v, p)
 
-pub record OwnLimit (limit : LimitRule) (a b : RowsOrFault) (o : List ℕ) : Type 0 where
-  pub own : List ℕ
-  pub lawful : AtRows a (λ rows. IsOrdering (limit_class limit) rows own) (own ≡ [])
-  pub alike : Alike (and_then a (λ rows. Ok (cut limit (rows_at rows own)))) (and_then b (λ rows. Ok (cut limit (rows_at rows o))))
-
-own_limit : (limit : LimitRule) (a b : RowsOrFault) (o : List ℕ) → Alike a b → AtRows b (λ rows. IsOrdering (limit_class limit) rows o) (o ≡ []) → OwnLimit limit a b o
-own_limit limit (Ok rows) (Ok others) o p v =
-    let s = places rows others p in
-    let v' : IsOrdering (limit_class limit) (rows_at rows s.at) o = subst (λ l. IsOrdering (limit_class limit) l o) (sym s.shown) v in
-    let same : rows_at others o ≡ rows_at rows (map (renamed rows s.at) o) = ap (λ l. rows_at l o) (sym s.shown) ∙ renamed_order rows s.at (once rows others s) o in
-    record {
-      own = map (renamed rows s.at) o;
-      lawful = renamed_ordering rows s.at (once rows others s) (limit_class limit) o v';
-      alike = subst (λ l. Perm Row (cut limit (rows_at rows (map (renamed rows s.at) o))) (cut limit l)) (sym same) (Perm-refl _);
-    }
-own_limit limit (Ok rows) (Err g) o p v = absurd p
-own_limit limit (Err f) (Ok others) o p v = absurd p
-own_limit limit (Err f) (Err g) o p v = record { own = []; lawful = refl; alike = p }
-
--- ---- plans
-
--- a valid choice with an outcome that is a given one
-pub record Matched (plan : PlanTree) (instance : Instance) (given : RowsOrFault) : Type 0 where
-  pub choice : List (List ℕ)
-  pub valid : IsValidChoice plan instance choice
-  pub alike : Alike (outcome plan instance choice) given
+-- ---- the renamed choice
 
 -- a step without orderings over an outcome that is another
 over : (a b : RowsOrFault) (f g : List Row → RowsOrFault) → Alike a b → ((xs ys : List Row) → Perm Row xs ys → Alike (f xs) (g ys)) → Alike (and_then a f) (and_then b g)
@@ -126,96 +106,142 @@ over (Ok xs) (Err d) f g p h = absurd p
 over (Err c) (Ok ys) f g p h = absurd p
 over (Err c) (Err d) f g p h = p
 
+-- a Limit's ordering is the first of its own
+own_first : (n : ℕ) (choice : List (List ℕ)) → ordering_at choice n ≡ ordering_at (own_orderings n 1 choice) 0
+own_first zero [] = refl
+own_first zero (o ∷ os) = refl
+own_first (suc n) [] = refl
+own_first (suc n) (o ∷ os) = own_first n os
+
+follows : (plan : PlanTree) (instance other : Instance) (choice own : List (List ℕ)) → SameTables instance other → AreLawful plan other choice → AreRenamed plan instance other choice own
+    → AreLawful plan instance own × Alike (outcome plan instance own) (outcome plan other choice)
+follows (Scan table columns) instance other choice own same v r = (tt, rearranged _ _ (same table))
+follows (Join condition left right) instance other choice own same v r =
+    let a = follows left instance other choice own same v.0 r.0 in
+    let b = follows right instance other (drop (ordering_count left) choice) (drop (ordering_count left) own) same v.1 r.1 in (
+      (a.0, b.0),
+      over _ _ (λ ls. and_then (outcome right instance (drop (ordering_count left) own)) (λ rs. join_outcome condition (pairs ls rs))) (λ ls. and_then (outcome right other (drop (ordering_count left) choice)) (λ rs. join_outcome condition (pairs ls rs))) a.1 (λ ls ks p.
+          over _ _ (λ rs. join_outcome condition (pairs ls rs)) (λ rs. join_outcome condition (pairs ks rs)) b.1 (λ rs ss q. Alike-join condition _ _ (Perm-pairs p q))),
+    )
+follows (Filter condition input) instance other choice own same v r =
+    let a = follows input instance other choice own same v r in (a.0, over _ _ (filter_outcome condition) (filter_outcome condition) a.1 (Alike-filter condition))
+follows (Map outputs input) instance other choice own same v r =
+    let a = follows input instance other choice own same v r in (a.0, over _ _ (map_outcome outputs) (map_outcome outputs) a.1 (Alike-map outputs))
+follows (Group rule input) instance other choice own same v r =
+    let a = follows input instance other choice own same v r in (a.0, over _ _ (group_outcome rule) (group_outcome rule) a.1 (Alike-group rule))
+follows (Window w input) instance other choice own same v r =
+    let a = follows input instance other choice own same v.0 r.0 in
+    let b = renamed_at_window w _ _ _ _ a.1 r.1 v.1 in ((a.0, b.0), b.1)
+follows (Distinct input) instance other choice own same v r =
+    let a = follows input instance other choice own same v r in (a.0, over _ _ (λ rows. Ok (distinct rows)) (λ rows. Ok (distinct rows)) a.1 (λ xs ys p. Perm-distinct p))
+follows (Limit limit input) instance other choice own same v r =
+    let n = ordering_count input in
+    let a = follows input instance other choice own same v.0 r.0 in
+    let lawful = subst (λ (o : List ℕ). AtRows (outcome input other choice) (λ rows. IsOrdering (limit_class limit) rows o) (o ≡ [])) (own_first n choice) v.1 in
+    let b = renamed_at_limit limit _ _ _ _ a.1 r.1 lawful in (
+      (a.0, subst (λ (o : List ℕ). AtRows (outcome input instance own) (λ rows. IsOrdering (limit_class limit) rows o) (o ≡ [])) (sym (own_first n own)) b.0),
+      subst (λ (o : List ℕ). Alike (and_then (outcome input instance own) (λ rows. Ok (cut limit (rows_at rows o)))) (outcome (Limit limit input) other choice)) (sym (own_first n own))
+          (subst (λ (o : List ℕ). Alike (and_then (outcome input instance own) (λ rows. Ok (cut limit (rows_at rows (ordering_at (own_orderings n 1 own) 0))))) (and_then (outcome input other choice) (λ rows. Ok (cut limit (rows_at rows o))))) (sym (own_first n choice)) b.1),
+    )
+
+-- ---- each choice can be renamed
+
+-- a renamed choice, whatever stands behind it
+record Renamed (plan : PlanTree) (instance other : Instance) (choice : List (List ℕ)) : Type 0 where
+  own : List (List ℕ)
+  number : length own ≡ ordering_count plan
+  each : (more : List (List ℕ)) → AreRenamed plan instance other choice (own ++ more)
+
+-- a node's orderings, renamed
+record OwnRenamed (a b : RowsOrFault) (os : List (List ℕ)) : Type 0 where
+  own : List (List ℕ)
+  number : length own ≡ length os
+  is : AreRenamedAt a b os own
+
+own_renamed : (a b : RowsOrFault) (os : List (List ℕ)) → Alike a b → OwnRenamed a b os
+own_renamed (Ok rows) (Ok others) os p =
+    let s = places rows others p in
+    record { own = map (map (renamed rows s.at)) os; number = length-map os (map (renamed rows s.at)); is = (s.at, record { once = once rows others s; shown = s.shown }, refl) }
+own_renamed (Ok rows) (Err g) os p = absurd p
+own_renamed (Err f) (Ok others) os p = absurd p
+own_renamed (Err f) (Err g) os p = record { own = os; number = refl; is = refl }
+
 -- what a node reads after the orderings of the nodes below it
 behind : (below own : List (List ℕ)) (n : ℕ) → length below ≡ n → drop n (below ++ own) ≡ own
 behind below own n e = subst (λ k. drop k (below ++ own) ≡ own) e (drop-append_seam below own)
 
-matched_window : (w : WindowRule) (input : PlanTree) (instance : Instance) (given : RowsOrFault) (os : List (List ℕ)) → (m : Matched input instance given) → OwnWindow w (outcome input instance m.choice) given os → Matched (Window w input) instance (and_then given (λ rows. window_outcome w rows os))
-matched_window w input instance given os m o =
-    let n : length m.choice ≡ ordering_count input = m.valid.number in
-    let k : length o.own ≡ length w.classes = o.number in
-    let all = m.choice ++ o.own in
-    let taken : take (length w.classes) (drop (ordering_count input) all) ≡ o.own = ap (take (length w.classes)) (behind m.choice o.own (ordering_count input) n) ∙ take_all (length w.classes) o.own (omega arith) in
-    let below : outcome input instance all ≡ outcome input instance m.choice = outcome-append input instance m.choice o.own (omega arith) in
-    record {
-      choice = all;
-      valid = record {
-        number = length-append m.choice o.own ∙ omega arith;
-        lawful = (
-          AreLawful-append input instance m.choice o.own (omega arith) m.valid.lawful,
-          subst (λ (own : List (List ℕ)). AtRows (outcome input instance all) (λ rows. AreOrderings w rows own) (AllByRecursion (λ o. o ≡ []) own)) (sym taken)
-              (subst (λ (r : RowsOrFault). AtRows r (λ rows. AreOrderings w rows o.own) (AllByRecursion (λ o. o ≡ []) o.own)) (sym below) o.lawful),
-        );
-      };
-      alike = subst (λ (r : RowsOrFault). Alike r (and_then given (λ rows. window_outcome w rows os))) (λ i. and_then (sym below i) (λ rows. window_outcome w rows (sym taken i))) o.alike;
-    }
+taken : (own more : List (List ℕ)) (n : ℕ) → length own ≡ n → take n (own ++ more) ≡ own
+taken own more n e = take-append-le n own more (omega (arith, e)) ∙ take_all n own (omega (arith, e))
 
-matched_limit : (limit : LimitRule) (input : PlanTree) (instance : Instance) (given : RowsOrFault) (ordering : List ℕ) → (m : Matched input instance given) → OwnLimit limit (outcome input instance m.choice) given ordering → Matched (Limit limit input) instance (and_then given (λ rows. Ok (cut limit (rows_at rows ordering))))
-matched_limit limit input instance given ordering m o =
-    let n : length m.choice ≡ ordering_count input = m.valid.number in
-    let all = m.choice ++ o.own ∷ [] in
-    let at : ordering_at all (ordering_count input) ≡ o.own = subst (λ k. ordering_at all k ≡ o.own) n (get_or-append_seam m.choice o.own [] []) in
-    let below : outcome input instance all ≡ outcome input instance m.choice = outcome-append input instance m.choice (o.own ∷ []) (omega arith) in
-    record {
-      choice = all;
-      valid = record {
-        number = length-append m.choice (o.own ∷ []) ∙ omega arith;
-        lawful = (
-          AreLawful-append input instance m.choice (o.own ∷ []) (omega arith) m.valid.lawful,
-          subst (λ (own : List ℕ). AtRows (outcome input instance all) (λ rows. IsOrdering (limit_class limit) rows own) (own ≡ [])) (sym at)
-              (subst (λ (r : RowsOrFault). AtRows r (λ rows. IsOrdering (limit_class limit) rows o.own) (o.own ≡ [])) (sym below) o.lawful),
-        );
-      };
-      alike = subst (λ (r : RowsOrFault). Alike r (and_then given (λ rows. Ok (cut limit (rows_at rows ordering))))) (λ i. and_then (sym below i) (λ rows. Ok (cut limit (rows_at rows (sym at i))))) o.alike;
-    }
+mine_long : (below n : ℕ) (choice : List (List ℕ)) → below + n ≤ length choice → length (own_orderings below n choice) ≡ n
+mine_long below n choice h = length-take n (drop below choice) ∙ omega (arith, length-drop below choice)
 
-matched : (plan : PlanTree) (instance other : Instance) (choice : List (List ℕ)) → SameTables instance other → AreLawful plan other choice → Matched plan instance (outcome plan other choice)
-matched (Scan table columns) instance other choice same v = record { choice = []; valid = record { number = refl; lawful = tt }; alike = rearranged _ _ (same table) }
-matched (Join condition left right) instance other choice same v =
-    let rest = drop (ordering_count left) choice in
-    let l = matched left instance other choice same v.0 in
-    let r = matched right instance other rest same v.1 in
-    let n : length l.choice ≡ ordering_count left = l.valid.number in
-    let m : length r.choice ≡ ordering_count right = r.valid.number in
-    let all = l.choice ++ r.choice in
-    let seam : drop (ordering_count left) all ≡ r.choice = behind l.choice r.choice (ordering_count left) n in
-    let left_is : outcome left instance all ≡ outcome left instance l.choice = outcome-append left instance l.choice r.choice (omega arith) in
+module _ (input : PlanTree) (instance other : Instance) (choice : List (List ℕ)) (same : SameTables instance other) (v : AreLawful input other choice) (m : Renamed input instance other choice) (n : ℕ) where
+  abbrev below : ℕ
+  below = ordering_count input
+
+  abbrev mine : List (List ℕ) → List (List ℕ)
+  mine = own_orderings below n
+
+  alike : Alike (outcome input instance m.own) (outcome input other choice)
+  alike =
+      let a = follows input instance other choice (m.own ++ []) same v (m.each []) in
+      subst (λ (r : RowsOrFault). Alike r (outcome input other choice)) (outcome-append input instance m.own [] (omega (arith, m.number))) a.1
+
+  -- the node's renamed orderings behind those of the nodes below
+  node_own : OwnRenamed (outcome input instance m.own) (outcome input other choice) (mine choice)
+  node_own = own_renamed _ _ (mine choice) alike
+
+  node_each : length (mine choice) ≡ n → (more : List (List ℕ)) → AreRenamed input instance other choice ((m.own ++ node_own.own) ++ more)
+      × AreRenamedAt (outcome input instance ((m.own ++ node_own.own) ++ more)) (outcome input other choice) (mine choice) (mine ((m.own ++ node_own.own) ++ more))
+  node_each e more =
+      let all = append_assoc m.own node_own.own more in
+      let back : drop below (m.own ++ (node_own.own ++ more)) ≡ node_own.own ++ more = behind m.own (node_own.own ++ more) below m.number in
+      let own : mine (m.own ++ (node_own.own ++ more)) ≡ node_own.own = ap (take n) back ∙ taken node_own.own more n (node_own.number ∙ e) in
+      let kept : outcome input instance (m.own ++ (node_own.own ++ more)) ≡ outcome input instance m.own = outcome-append input instance m.own (node_own.own ++ more) (omega (arith, m.number)) in
+      subst (λ (c : List (List ℕ)). AreRenamed input instance other choice c × AreRenamedAt (outcome input instance c) (outcome input other choice) (mine choice) (mine c)) (sym all)
+      (m.each (node_own.own ++ more), subst (λ (r : RowsOrFault). AreRenamedAt r (outcome input other choice) (mine choice) (mine (m.own ++ (node_own.own ++ more)))) (sym kept) (subst (AreRenamedAt (outcome input instance m.own) (outcome input other choice) (mine choice)) (sym own) node_own.is))
+
+  node_number : length (mine choice) ≡ n → length (m.own ++ node_own.own) ≡ below + n
+  node_number e = length-append m.own node_own.own ∙ omega (arith, m.number, node_own.number, e)
+
+renamed_choice : (plan : PlanTree) (instance other : Instance) (choice : List (List ℕ)) → SameTables instance other → ordering_count plan ≤ length choice → AreLawful plan other choice → Renamed plan instance other choice
+renamed_choice (Scan table columns) instance other choice same long v = record { own = []; number = refl; each = λ more. tt }
+renamed_choice (Join condition left right) instance other choice same long v =
+    let n = ordering_count left in
+    let l = renamed_choice left instance other choice same (omega (arith, long)) v.0 in
+    let r = renamed_choice right instance other (drop n choice) same (omega (arith, long, length-drop n choice)) v.1 in
     record {
-      choice = all;
-      valid = record {
-        number = length-append l.choice r.choice ∙ omega arith;
-        lawful = (AreLawful-append left instance l.choice r.choice (omega arith) l.valid.lawful, subst (AreLawful right instance) (sym seam) r.valid.lawful);
-      };
-      alike = subst (λ (o : RowsOrFault). Alike o (outcome (Join condition left right) other choice)) (λ i. and_then (sym left_is i) (λ ls. and_then (outcome right instance (sym seam i)) (λ rs. join_outcome condition (pairs ls rs))))
-          (over _ _ (λ ls. and_then (outcome right instance r.choice) (λ rs. join_outcome condition (pairs ls rs))) (λ ls. and_then (outcome right other rest) (λ rs. join_outcome condition (pairs ls rs))) l.alike (λ ls ks p.
-          over _ _ (λ rs. join_outcome condition (pairs ls rs)) (λ rs. join_outcome condition (pairs ks rs)) r.alike (λ rs ss q. Alike-join condition _ _ (Perm-pairs p q))));
+      own = l.own ++ r.own;
+      number = length-append l.own r.own ∙ omega (arith, l.number, r.number);
+      each = λ more.
+          let all = append_assoc l.own r.own more in
+          subst (λ (c : List (List ℕ)). AreRenamed left instance other choice c × AreRenamed right instance other (drop n choice) (drop n c)) (sym all)
+          (l.each (r.own ++ more), subst (AreRenamed right instance other (drop n choice)) (sym (behind l.own (r.own ++ more) n l.number)) (r.each more));
     }
-matched (Filter condition input) instance other choice same v =
-    let m = matched input instance other choice same v in
-    record { choice = m.choice; valid = record { number = m.valid.number; lawful = m.valid.lawful }; alike = over _ _ (filter_outcome condition) (filter_outcome condition) m.alike (Alike-filter condition) }
-matched (Map outputs input) instance other choice same v =
-    let m = matched input instance other choice same v in
-    record { choice = m.choice; valid = record { number = m.valid.number; lawful = m.valid.lawful }; alike = over _ _ (map_outcome outputs) (map_outcome outputs) m.alike (Alike-map outputs) }
-matched (Group rule input) instance other choice same v =
-    let m = matched input instance other choice same v in
-    record { choice = m.choice; valid = record { number = m.valid.number; lawful = m.valid.lawful }; alike = over _ _ (group_outcome rule) (group_outcome rule) m.alike (Alike-group rule) }
-matched (Window w input) instance other choice same v =
-    let m = matched input instance other choice same v.0 in
-    let os = take (length w.classes) (drop (ordering_count input) choice) in
-    matched_window w input instance (outcome input other choice) os m (own_window w (outcome input instance m.choice) (outcome input other choice) os m.alike v.1)
-matched (Distinct input) instance other choice same v =
-    let m = matched input instance other choice same v in
-    record { choice = m.choice; valid = record { number = m.valid.number; lawful = m.valid.lawful }; alike = over _ _ (λ rows. Ok (distinct rows)) (λ rows. Ok (distinct rows)) m.alike (λ xs ys p. Perm-distinct p) }
-matched (Limit limit input) instance other choice same v =
-    let m = matched input instance other choice same v.0 in
-    let o = ordering_at choice (ordering_count input) in
-    matched_limit limit input instance (outcome input other choice) o m (own_limit limit (outcome input instance m.choice) (outcome input other choice) o m.alike v.1)
+renamed_choice (Filter condition input) instance other choice same long v =
+    let m = renamed_choice input instance other choice same long v in record { own = m.own; number = m.number; each = m.each }
+renamed_choice (Map outputs input) instance other choice same long v =
+    let m = renamed_choice input instance other choice same long v in record { own = m.own; number = m.number; each = m.each }
+renamed_choice (Group rule input) instance other choice same long v =
+    let m = renamed_choice input instance other choice same long v in record { own = m.own; number = m.number; each = m.each }
+renamed_choice (Window w input) instance other choice same long v =
+    let m = renamed_choice input instance other choice same (omega (arith, long)) v.0 in
+    let n = length w.classes in
+    let e : length (own_orderings (ordering_count input) n choice) ≡ n = mine_long (ordering_count input) n choice (omega (arith, long)) in
+    record { own = m.own ++ (node_own input instance other choice same v.0 m n).own; number = node_number input instance other choice same v.0 m n e; each = node_each input instance other choice same v.0 m n e }
+renamed_choice (Distinct input) instance other choice same long v =
+    let m = renamed_choice input instance other choice same long v in record { own = m.own; number = m.number; each = m.each }
+renamed_choice (Limit limit input) instance other choice same long v =
+    let m = renamed_choice input instance other choice same (omega (arith, long)) v.0 in
+    let e : length (own_orderings (ordering_count input) 1 choice) ≡ 1 = mine_long (ordering_count input) 1 choice (omega (arith, long)) in
+    record { own = m.own ++ (node_own input instance other choice same v.0 m 1).own; number = node_number input instance other choice same v.0 m 1 e; each = node_each input instance other choice same v.0 m 1 e }
 
 pub plan_commutes : PlanCommutes
-plan_commutes plan instance other answer same is =
-    let m = matched plan instance other is.choice same is.valid.lawful in
-    let first = outcome plan instance m.choice in (
-      first,
-      record { choice = m.choice; valid = m.valid; is = refl },
-      Agree-from_Alike first answer (subst (Alike first) (sym is.is) m.alike),
-    )
+plan_commutes = record {
+  renames = λ plan instance other choice same v.
+      let r = renamed_choice plan instance other choice same (omega (arith, v.number)) v.lawful in
+      (r.own, record { number = r.number; each = subst (AreRenamed plan instance other choice) (append-nil r.own) (r.each []) });
+  valid = λ plan instance other choice own same v r. record { number = r.number; lawful = (follows plan instance other choice own same v.lawful r.each).0 };
+  same = λ plan instance other choice own same v r. Agree-from_Alike _ _ (follows plan instance other choice own same v.lawful r.each).1;
+}

@@ -28,7 +28,7 @@ rows_of rows [] q = sym (get_or_past rows (length rows) [] (omega arith))
 rows_of rows (p ∷ ps) zero = refl
 rows_of rows (p ∷ ps) (suc q) = rows_of rows ps q
 
-map_map : {A B C : Type 0} (f : A → B) (g : B → C) (xs : List A) → map g (map f xs) ≡ map (λ x. g (f x)) xs
+pub map_map : {A B C : Type 0} (f : A → B) (g : B → C) (xs : List A) → map g (map f xs) ≡ map (λ x. g (f x)) xs
 map_map f g [] = refl
 map_map f g (x ∷ xs) = ap (λ l. g (f x) ∷ l) (map_map f g xs)
 

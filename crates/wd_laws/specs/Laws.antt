@@ -21,7 +21,7 @@ use Rattle.wd_plan.specs.declared.window.Exclusion.TheVariants.{NoOthers}
 use Rattle.wd_plan.specs.declared.window.Frame.{Frame}
 use Rattle.wd_plan.specs.declared.window.FrameMode.TheVariants.{Rows}
 use Rattle.wd_plan.specs.Calls.{aggregate_value, call_value, greatest, least, value_at}
-use Rattle.wd_plan.specs.Choices.{AreLawful, AreOrderings, AtRows, IsAnswerOf, IsValidChoice}
+use Rattle.wd_plan.specs.Choices.{AreLawful, AreOrderings, AtRows, IsValidChoice}
 use Rattle.wd_plan.specs.Expressions.{Expression, is_null}
 use Rattle.wd_plan.specs.Facts.{DeterminesAll, HasWidth}
 use Rattle.wd_plan.specs.Faults.{all_ok, and_then}
@@ -30,7 +30,7 @@ use Rattle.wd_plan.specs.Frames.{frame_of, in_frame}
 use Rattle.wd_plan.specs.Settled.{IsByRow, IsSettledCall, IsSettledLimit, IsSettledPlan}
 use Rattle.wd_plan.specs.Outcomes.{RowsOrFault, Agree, outcome, filter_outcome, map_outcome, join_outcome, pairs, distinct, window_outcome, extended, cut, group_outcome, groups, mask, rows_of_group, set_rows, shown}
 use Rattle.wd_plan.specs.Partitions.{GroupsRise, members, partition_of, group_of}
-use Rattle.wd_plan.specs.Plans.{ClassRule, GroupCall, OfRows, Grouping, GroupRule, WindowRule, LimitRule, PlanTree, NamesClasses}
+use Rattle.wd_plan.specs.Plans.{ClassRule, GroupCall, OfRows, Grouping, GroupRule, WindowRule, LimitRule, PlanTree, Scan, Join, Filter, Map, Group, Window, Distinct, Limit, NamesClasses, ordering_count}
 use Rattle.wd_plan.specs.Sorting.{IsOrdering, class_columns, limit_class}
 
 -- agreeing is reflexive, symmetric and transitive
@@ -52,6 +52,27 @@ abbrev pub SameRowsAtPlaces : Type 0
 SameRowsAtPlaces = (class : ClassRule) (width : ℕ) (rows : List Row) (o1 o2 : List ℕ) (p : ℕ)
     → HasWidth width rows → DeterminesAll rows width (class_columns class) → IsOrdering class rows o1 → IsOrdering class rows o2
     → partition_of class rows o1 p ≡ partition_of class rows o2 p
+
+-- the position that stands at a place of a rearrangement; past its end, one that names no row
+abbrev pub renamed : List Row → List ℕ → ℕ → ℕ
+renamed rows ps q = slice_index_or ps q (length rows)
+
+-- rows rearranged: what stands at these positions of the rows, each of them once
+pub record IsRearranged (rows others : List Row) (ps : List ℕ) : Type 0 where
+  pub once : EachOnce (length rows) ps
+  pub shown : rows_at rows ps ≡ others
+
+-- two orderings that differ by a renaming that keeps every column: it puts each row where the same one stood, and takes each partition
+-- of the first ordering to that of the second
+pub record DifferByRenaming (class : ClassRule) (rows : List Row) (o1 o2 : List ℕ) (ps : List ℕ) : Type 0 where
+  pub rearranged : IsRearranged rows rows ps
+  pub partition : (p : ℕ) → p < length rows → members class rows o2 p ≡ map (renamed rows ps) (members class rows o1 p)
+
+-- the exchange law as a renaming: two orderings of a class that gives every column differ by one
+abbrev pub ExchangeRenames : Type 0
+ExchangeRenames = (class : ClassRule) (width : ℕ) (rows : List Row) (o1 o2 : List ℕ)
+    → HasWidth width rows → DeterminesAll rows width (class_columns class) → IsOrdering class rows o1 → IsOrdering class rows o2
+    → (ps : List ℕ) × DifferByRenaming class rows o1 o2 ps
 
 -- a row with the results of calls of a class: their values, or their faults
 abbrev pub with_results : ClassRule → List (Frame × Function) → List Row → List ℕ → ℕ → Row × List (Result Value Fault)
@@ -87,10 +108,6 @@ abbrev pub PlanHasOne : Type 0
 PlanHasOne = (plan : PlanTree) (instance other : Instance) (c1 c2 : List (List ℕ))
     → SameTables instance other → IsValidChoice plan instance c1 → IsValidChoice plan other c2 → IsSettledPlan plan instance c1
     → Agree (outcome plan instance c1) (outcome plan other c2)
-
--- the position that stands at a place of a rearrangement; past its end, one that names no row
-abbrev pub renamed : List Row → List ℕ → ℕ → ℕ
-renamed rows ps q = slice_index_or ps q (length rows)
 
 -- over rearranged rows a Window gives the rearranged rows of the renamed orderings, which are lawful too
 pub record Commutes (w : WindowRule) (rows : List Row) (ps : List ℕ) (os : List (List ℕ)) : Type 0 where
@@ -179,10 +196,45 @@ abbrev pub LimitCommutes : Type 0
 LimitCommutes = (limit : LimitRule) (rows : List Row) (ps ordering : List ℕ)
     → EachOnce (length rows) ps → IsOrdering (limit_class limit) (rows_at rows ps) ordering → CutCommutes limit rows ps ordering
 
--- The renaming law of a plan: over rearranged tables it has no other answers, faults included, but for the order of their rows.
-abbrev pub PlanCommutes : Type 0
-PlanCommutes = (plan : PlanTree) (instance other : Instance) (answer : RowsOrFault) → SameTables instance other → IsAnswerOf plan other answer
-    → (same : RowsOrFault) × IsAnswerOf plan instance same × Agree same answer
+-- a node's own orderings, behind those of the nodes below it
+abbrev pub own_orderings : ℕ → ℕ → List (List ℕ) → List (List ℕ)
+own_orderings below number choice = take number (drop below choice)
+
+-- orderings of a node's rearranged rows, with each position renamed to where its row stood; without rows nothing is renamed
+abbrev pub AreRenamedAt : RowsOrFault → RowsOrFault → List (List ℕ) → List (List ℕ) → Type 0
+AreRenamedAt (Ok rows) (Ok others) orderings own = (ps : List ℕ) × IsRearranged rows others ps × (own ≡ map (map (renamed rows ps)) orderings)
+AreRenamedAt rows others orderings own = own ≡ orderings
+
+-- a choice over rearranged tables with its positions renamed: each ordering by how its node's rows are rearranged
+abbrev pub AreRenamed : PlanTree → Instance → Instance → List (List ℕ) → List (List ℕ) → Type 0
+AreRenamed (Scan table columns) instance other choice own = ⊤
+AreRenamed (Join condition left right) instance other choice own =
+    AreRenamed left instance other choice own × AreRenamed right instance other (drop (ordering_count left) choice) (drop (ordering_count left) own)
+AreRenamed (Filter condition input) instance other choice own = AreRenamed input instance other choice own
+AreRenamed (Map outputs input) instance other choice own = AreRenamed input instance other choice own
+AreRenamed (Group rule input) instance other choice own = AreRenamed input instance other choice own
+AreRenamed (Window w input) instance other choice own =
+    AreRenamed input instance other choice own
+    × (let mine = own_orderings (ordering_count input) (length w.classes) in AreRenamedAt (outcome input instance own) (outcome input other choice) (mine choice) (mine own))
+AreRenamed (Distinct input) instance other choice own = AreRenamed input instance other choice own
+AreRenamed (Limit limit input) instance other choice own =
+    AreRenamed input instance other choice own
+    × (let mine = own_orderings (ordering_count input) 1 in AreRenamedAt (outcome input instance own) (outcome input other choice) (mine choice) (mine own))
+
+-- the same, with no ordering left over
+pub record IsRenamed (plan : PlanTree) (instance other : Instance) (choice own : List (List ℕ)) : Type 0 where
+  pub number : length own ≡ ordering_count plan
+  pub each : AreRenamed plan instance other choice own
+
+-- The renaming law of a plan: each valid choice over rearranged tables can be renamed, and the renamed choice is valid and gives the
+-- rearranged outcome, faults included.
+pub record PlanCommutes : Type 0 where
+  pub renames : (plan : PlanTree) (instance other : Instance) (choice : List (List ℕ)) → SameTables instance other → IsValidChoice plan other choice
+      → (own : List (List ℕ)) × IsRenamed plan instance other choice own
+  pub valid : (plan : PlanTree) (instance other : Instance) (choice own : List (List ℕ)) → SameTables instance other → IsValidChoice plan other choice
+      → IsRenamed plan instance other choice own → IsValidChoice plan instance own
+  pub same : (plan : PlanTree) (instance other : Instance) (choice own : List (List ℕ)) → SameTables instance other → IsValidChoice plan other choice
+      → IsRenamed plan instance other choice own → Agree (outcome plan instance own) (outcome plan other choice)
 
 -- whether the frame of the member at place m of a partition list takes the one at place n
 abbrev pub frame_takes : ClassRule → Frame → List Row → ℕ → ℕ → Bool

@@ -1,6 +1,6 @@
 //! Laws over the definitions of plans alone.
 
-ghost use Rattle.wd_laws.specs.Laws.{AgreeingIsAnEquivalence, ValuesGoByRows, SameRowsAtPlaces, SameResults, WindowHasOne, LimitHasOne, PlanHasOne, WindowCommutes, HasValidChoice, PeerGroupsRise, RowNumbersCount, StepsCommute, GroupsGoByColumns, GroupsPartRows, GroupsAreWindows, SetsAreWindows, LimitCommutes, PlanCommutes, FramesAreContiguous, NtileIsEven, ExtremesAreFirst, HasWidths, HasKinds};
+ghost use Rattle.wd_laws.specs.Laws.{AgreeingIsAnEquivalence, ValuesGoByRows, SameRowsAtPlaces, ExchangeRenames, SameResults, WindowHasOne, LimitHasOne, PlanHasOne, WindowCommutes, HasValidChoice, PeerGroupsRise, RowNumbersCount, StepsCommute, GroupsGoByColumns, GroupsPartRows, GroupsAreWindows, SetsAreWindows, LimitCommutes, PlanCommutes, FramesAreContiguous, NtileIsEven, ExtremesAreFirst, HasWidths, HasKinds};
 
 pub use crate::examples::{
     agreeing_comes_out, choices_come_out, faults_come_out, frames_come_out, functions_come_out,
@@ -22,6 +22,11 @@ pub fn values_go_by_rows()
 /// of each partition.
 pub fn same_rows_at_places()
     ensures { SameRowsAtPlaces }
+{}
+
+/// Two orderings of a class that gives every column differ by a renaming that keeps every column.
+pub fn exchange_renames()
+    ensures { ExchangeRenames }
 {}
 
 /// Under two lawful orderings of a class whose columns give every column each row stands equally
@@ -99,7 +104,7 @@ pub fn limit_commutes()
     ensures { LimitCommutes }
 {}
 
-/// A plan has the same answers over the same tables in any row order, faults included.
+/// Rearranged tables with the choice renamed give the rearranged outcome, faults included.
 pub fn plan_commutes()
     ensures { PlanCommutes }
 {}

@@ -12,12 +12,13 @@ use Rattle.wd_read_cursor.specs.Tokens.{Kinds, ◌▸◌, name_kind}
 use Rattle.wd_syntax.specs.Tree.{Tree, SetTree, one_column, columns, GroupTree, grouped_by, constructed, GroupingTree, Each}
 use Rattle.wd_syntax.specs.Spelling.{onto, commas_onto, members_onto, qualifier_onto, group_column_onto, set_onto, grouping_word_onto, group_item_onto, group_onto, having_onto, grouping_onto}
 use Rattle.wd_syntax.specs.Levels.{OptionLevelled, MayStandIn, GroupLevelled, GroupingLevelled}
-use Rattle.wd_parse.proofs.Fitting.{Below, Fits, OptionFits, SetFits, GroupFits, GroupingFits}
+use Rattle.wd_read_expression.proofs.Fitting.{Below, Fits}
+use Rattle.wd_parse.proofs.Fitting.{OptionFits, SetFits, GroupFits, GroupingFits}
 use Rattle.wd_read_cursor.specs.Cursor.{◌>>=◌, Reads, Parser, choose, eat, expect, eat_word, is_word, after, list_at}
 use Rattle.wd_parse.specs.Reading.{group_column_at, within, some_columns_at, columns_at, set_at, takes_empty, grouping_word_at, sets_at, group_item_at, group_at, having_at, grouping_at}
 use Rattle.wd_read_cursor.proofs.Eaten.{eat_same, expect_same, name_at_same, eat_name_kind}
-use Rattle.wd_parse.proofs.TerminalFacts.{clauses, clause_stops, clause_grips, clause_no_word}
-use Rattle.wd_parse.proofs.Complete.{Yields, then_yields, then_exactly, Turns, after_same, after_none, list_yields, longer, level, item, known}
+use Rattle.wd_read_expression.proofs.TerminalFacts.{clauses, clause_stops, clause_grips, clause_no_word}
+use Rattle.wd_read_expression.proofs.Complete.{Yields, then_yields, then_exactly, Turns, after_same, after_none, list_yields, longer, level, item, known}
 use Rattle.wd_parse.proofs.SoundGroups.{AnyColumn, MayBe}
 
 -- ---- the tokens of a part stand before the others

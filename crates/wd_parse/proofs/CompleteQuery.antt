@@ -15,17 +15,53 @@ use Rattle.wd_syntax.specs.declared.query.Count.TheVariants as c
 use Rattle.wd_syntax.specs.declared.query.Limits.{Limits}
 use Rattle.wd_syntax.specs.declared.query.Limits.TheVariants.{OffsetFirst, CountFirst}
 use Rattle.wd_read_cursor.specs.Tokens.{Kinds, ◌▸◌, name_kind}
-use Rattle.wd_syntax.specs.Tree.{Tree, WindowTree, ItemTree, all_columns, all_of, shown, Tail, TableTree, named, derived, JoinTree, comma, cross, inner, Joins, no_joins, more_joins, SelectTree, select, QueryTree, query, keys_of, joins_of, Each}
-use Rattle.wd_syntax.specs.Spelling.{onto, window_onto, order_onto, quantifier_onto, as_onto, given_onto, alias_onto, item_onto, more_items_onto, items_onto, filter_onto, grouping_onto, named_window_onto, more_windows_onto, windows_onto, row_onto, row_option_onto, offset_onto, fetch_onto, number_onto, ties_onto, count_onto, limits_onto, tail_onto, table_onto, join_onto, joins_onto, select_onto, end_onto, spell}
+use Rattle.wd_syntax.specs.Tokens.{literal_kind, operator_terminal, sign_terminal}
+use Rattle.wd_syntax.specs.Tree.{Tree, Constant, Column, Qualified, CallAll, Call, Case, Bracket, Signed, Binary, IsNull, Negated, WindowTree, ItemTree, all_columns, all_of, shown, Tail, TableTree, named, derived, JoinTree, comma, cross, inner, Joins, no_joins, more_joins, SelectTree, select, QueryTree, query, keys_of, joins_of, Each}
+use Rattle.wd_syntax.specs.Spelling.{not_onto, onto, list_onto, arms_onto, else_onto, over_onto, window_onto, order_onto, quantifier_onto, as_onto, given_onto, alias_onto, item_onto, more_items_onto, items_onto, filter_onto, grouping_onto, named_window_onto, more_windows_onto, windows_onto, row_onto, row_option_onto, offset_onto, fetch_onto, number_onto, ties_onto, count_onto, limits_onto, tail_onto, table_onto, join_onto, joins_onto, select_onto, end_onto, spell}
 use Rattle.wd_syntax.specs.Levels.{IsLevelled, WindowLevelled, ItemLevelled, OptionLevelled, TableLevelled, JoinLevelled, JoinsLevelled, SelectLevelled, IsWellLevelled}
-use Rattle.wd_parse.proofs.Fitting.{Below, Fits, WindowFits, KeysFit, ItemFits, OptionFits, GroupingFits, TableFits, JoinFits, JoinsFit, SelectFits, QueryFits}
-use Rattle.wd_read_cursor.specs.Cursor.{Fault, Unexpected, Limit, ◌>>=◌, Reads, Parser, Chance, choose, eat, expect, many, after, list_at}
-use Rattle.wd_parse.specs.Reading.{order_at, window_at, enter, deeper_of, given_at, alias_at, item_at, filter_at, grouping_at, named_window_at, windows_at, limits_at, Inner, table_at, inner_at, join_at, from_at, select_at, selects, inside_of, if_last, whole}
-use Rattle.wd_read_cursor.proofs.Eaten.{eat_same, expect_same, name_at_same, eat_name_kind}
-use Rattle.wd_parse.proofs.TerminalFacts.{grips, grips_name, clauses, clause_stops, clause_grips}
+use Rattle.wd_read_expression.proofs.Fitting.{Below, Fits, WindowFits, KeysFit}
+use Rattle.wd_parse.proofs.Fitting.{ItemFits, OptionFits, GroupingFits, TableFits, JoinFits, JoinsFit, SelectFits, QueryFits}
+use Rattle.wd_read_cursor.specs.Cursor.{Fault, Unexpected, Limit, ◌>>=◌, Reads, Parser, Chance, choose, eat, expect, eat_name, many, after, list_at}
+use Rattle.wd_read_expression.specs.Reading.{order_at, window_at, enter, deeper_of}
+use Rattle.wd_parse.specs.Reading.{given_at, alias_at, star_at, item_at, filter_at, grouping_at, named_window_at, windows_at, limits_at, Inner, table_at, inner_at, join_at, from_at, select_at, selects, inside_of, if_last, whole}
+use Rattle.wd_read_cursor.proofs.Eaten.{eat_same, expect_same, eat_name_same, name_at_same, eat_name_kind}
+use Rattle.wd_read_expression.proofs.TerminalFacts.{grips, grips_name, grip_stops, operator_grip, operator_bounds, clauses, clause_stops, clause_grips}
 use Rattle.wd_parse.proofs.Pieces.{quantifier_same, given_same, alias_same, star_same, limits_same, limits_clause}
 use Rattle.wd_parse.proofs.CompleteGroups.{grouping_longer, grouping_clause, grouping_reads}
-use Rattle.wd_parse.proofs.Complete.{Yields, then_yields, then_exactly, Turns, turns_longer, many_yields, after_same, after_none, list_yields, key_items, keys_back, begun, begun_stops, star_stops, longer, window_longer, order_longer, order_clause, level, enter_yields, item, known, window_known, order_known}
+use Rattle.wd_read_expression.proofs.Complete.{Yields, then_yields, then_exactly, Turns, turns_longer, many_yields, after_same, after_none, list_yields, key_items, keys_back, begun, begun_stops, longer, window_longer, order_longer, order_clause, level, enter_yields, item, known, window_known, order_known, literal_begins}
+
+-- ---- what is no `name . *`
+
+star_none : (n : Name) (ts : Kinds) → eat m.Dot ts ≡ None → star_at (name_kind n ∷ ts) ≡ None
+unfolding star_at
+star_none n ts e = rw (eat_name_same n ts, e) refl
+
+star_column : (a b : Name) (ts : Kinds) → star_at (name_kind a ∷ (m.Dot ▸ (name_kind b ∷ ts))) ≡ None
+unfolding star_at
+star_column a b ts = rw (eat_name_same a (m.Dot ▸ (name_kind b ∷ ts)), eat_same m.Dot (name_kind b ∷ ts), eat_name_kind m.Star b ts) refl
+
+star_unnamed : (ts : Kinds) → eat_name ts ≡ None → star_at ts ≡ None
+unfolding star_at
+star_unnamed ts e = rw e refl
+
+unnamed : (x : Terminal) (ts : Kinds) → eat_name (x ▸ ts) ≡ None
+unfolding eat_name
+unnamed x ts = refl
+
+-- no expression begins as `name . *` does
+star_stops : (a : Tree) (ts : Kinds) → 0 < grips ts → star_at (onto a ts) ≡ None
+unfolding eat
+star_stops (Constant literal) ts lt = star_unnamed (literal_kind literal ∷ ts) (literal_begins literal ts).2
+star_stops (Column n) ts lt = star_none n ts (grip_stops m.Dot ts lt)
+star_stops (Qualified a b) ts lt = star_column a b ts
+star_stops (CallAll f over) ts lt = star_none f (m.LeftBracket ▸ m.Star ▸ m.RightBracket ▸ over_onto over ts) refl
+star_stops (Call f bs over) ts lt = star_none f (m.LeftBracket ▸ list_onto bs (m.RightBracket ▸ over_onto over ts)) refl
+star_stops (Case arms other) ts lt = star_unnamed (m.Case ▸ arms_onto arms (else_onto other (m.End ▸ ts))) (unnamed m.Case (arms_onto arms (else_onto other (m.End ▸ ts))))
+star_stops (Bracket a) ts lt = star_unnamed (m.LeftBracket ▸ onto a (m.RightBracket ▸ ts)) (unnamed m.LeftBracket (onto a (m.RightBracket ▸ ts)))
+star_stops (Signed s a) ts lt = star_unnamed (sign_terminal s ▸ onto a ts) (unnamed (sign_terminal s) (onto a ts))
+star_stops (Binary o a b) ts lt = star_stops a (operator_terminal o ▸ onto b ts) (omega (arith, operator_grip o, operator_bounds o))
+star_stops (IsNull a not) ts lt = star_stops a (m.Is ▸ not_onto not (m.Null ▸ ts)) (omega arith)
+star_stops (Negated a) ts lt = star_unnamed (m.Not ▸ onto a ts) (unnamed m.Not (onto a ts))
 
 -- ---- what follows each clause
 

@@ -12,11 +12,13 @@ use Rattle.wd_syntax.specs.Spelling.{onto, members_onto, group_column_onto, set_
 use Rattle.wd_syntax.specs.Levels.{IsLevelled, OptionLevelled, IsSome, GroupLevelled, GroupingLevelled}
 use Rattle.wd_read_cursor.specs.Cursor.{Fault, ◌>>=◌, Reads, Parser, Chance, choose, eat, expect, name_at, if_begun, many, after, list_at}
 use Rattle.wd_parse.specs.Reading.{group_column_at, within, some_columns_at, columns_at, set_at, takes_empty, grouping_word_at, sets_at, group_item_if, group_item_at, group_at, having_at, grouping_at}
-use Rattle.wd_parse.proofs.Passing.{Passes, FilterPasses, SetPasses, MemberPasses, GroupPasses, GroupingPasses}
-use Rattle.wd_parse.proofs.SoundPieces.{Kept, at_terminal, IsPart, led_by}
+use Rattle.wd_read_expression.proofs.Passing.{Passes}
+use Rattle.wd_parse.proofs.Passing.{FilterPasses, SetPasses, MemberPasses, GroupPasses, GroupingPasses}
+use Rattle.wd_read_expression.proofs.SoundPieces.{Kept, at_terminal, IsPart, led_by}
 use Rattle.wd_parse.proofs.SoundGroups.{commas_spelled, MayBe, GoodSet, set_holds, all_may_stand, one_may, GoodGroup, grouping_word_is, group_item_holds, GoodGroups, group_holds}
-use Rattle.wd_parse.proofs.CutPieces.{CutBy, MayCut, then_cuts, expect_cuts, name_cuts, on_cuts, either_cuts, pre_then, pre_set, pre_word, pre_group_item, pre_group}
-use Rattle.wd_parse.proofs.Cut.{IsCut, cut_step, cut_here, SomePasses, listed, GoodList, ListPasses, list_cut, terminal_cuts, mapped_cuts, all_things, WholeCut}
+use Rattle.wd_read_expression.proofs.CutPieces.{CutBy, MayCut, then_cuts, expect_cuts, name_cuts, on_cuts, either_cuts, pre_then}
+use Rattle.wd_parse.proofs.CutPieces.{pre_set, pre_word, pre_group_item, pre_group}
+use Rattle.wd_read_expression.proofs.Cut.{IsCut, cut_step, cut_here, SomePasses, listed, GoodList, ListPasses, list_cut, terminal_cuts, mapped_cuts, all_things, WholeCut}
 
 -- ---- what never passes a limit
 

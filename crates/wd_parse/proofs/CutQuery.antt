@@ -12,17 +12,21 @@ use Rattle.wd_syntax.specs.Spelling.{onto, window_onto, order_onto, quantifier_o
 use Rattle.wd_syntax.specs.Levels.{IsLevelled, WindowLevelled, KeysLevelled, ItemLevelled, IsSomeItem, OptionLevelled, GroupingLevelled, TableLevelled, JoinLevelled, JoinsLevelled, SelectLevelled, IsWellLevelled}
 use Rattle.wd_parse.proofs.Fitting.{ItemFits}
 use Rattle.wd_read_cursor.specs.Cursor.{◌>>=◌, Reads, Parser, choose, eat, expect, name_at, many, list_at}
-use Rattle.wd_parse.specs.Reading.{order_at, window_at, enter, levels, deeper_of, read, quantifier_at, given_at, alias_at, star_at, item_if, item_at, filter_at, grouping_at, named_window_at, windows_at, limits_at, Inner, table_at, inner_at, join_at, from_at, select_at, selects, inside_of, if_last, whole}
+use Rattle.wd_read_expression.specs.Reading.{order_at, window_at, enter, levels, deeper_of, read}
+use Rattle.wd_parse.specs.Reading.{quantifier_at, given_at, alias_at, star_at, item_if, item_at, filter_at, grouping_at, named_window_at, windows_at, limits_at, Inner, table_at, inner_at, join_at, from_at, select_at, selects, inside_of, if_last, whole}
 use Rattle.std.proofs.Common.{◌++◌}
 use Rattle.std.specs.Prelude.{codes}
-use Rattle.wd_parse.proofs.Passing.{Passes, WindowPasses, KeyPasses, ItemPasses, OneItemPasses, FilterPasses, GroupingPasses, NamedPasses, OneWindowPasses, TablePasses, JoinPasses, OneJoinPasses, SelectPasses, QueryPasses}
-use Rattle.wd_parse.proofs.SoundPieces.{at_terminal, IsPart, all_onto, led_by, list_holds, IsListed, quantifier_is, name_holds}
-use Rattle.wd_parse.proofs.Sound.{each_left, Whole, whole_expression, Within, sound, within}
+use Rattle.wd_read_expression.proofs.Passing.{Passes, WindowPasses, KeyPasses}
+use Rattle.wd_parse.proofs.Passing.{ItemPasses, OneItemPasses, FilterPasses, GroupingPasses, NamedPasses, OneWindowPasses, TablePasses, JoinPasses, OneJoinPasses, SelectPasses, QueryPasses}
+use Rattle.wd_read_expression.proofs.SoundPieces.{at_terminal, IsPart, all_onto, led_by, list_holds, IsListed, name_holds}
+use Rattle.wd_parse.proofs.SoundPieces.{quantifier_is}
+use Rattle.wd_read_expression.proofs.Sound.{each_left, Whole, whole_expression, Within, sound, within}
 use Rattle.wd_parse.proofs.SoundQuery.{items_spelled, windows_spelled, joins_spelled, item_holds, named_window_holds, filter_holds, windows_hold, table_holds, join_holds, from_holds, selects_hold, GoodItem, GoodNamed, GoodTable, GoodJoin, GoodFilter, GoodWindows, Inside, from_onto, GoodTables}
 use Rattle.wd_parse.proofs.SoundGroups.{GoodGrouping, grouping_holds}
 use Rattle.wd_parse.proofs.CutGroups.{grouping_cut}
-use Rattle.wd_parse.proofs.CutPieces.{CutBy, MayCut, then_cuts, expect_cuts, name_cuts, on_cuts, either_cuts, given_cuts, alias_cuts, limits_cuts, IsPre, pre_then, pre_item, pre_items, pre_quantifier, pre_filter, pre_grouping, pre_named, pre_windows, pre_table, pre_join, pre_joins}
-use Rattle.wd_parse.proofs.Cut.{IsCut, cut_step, cut_here, pre_kind, SomePasses, many_cut, listed, GoodList, ListPasses, list_cut, terminal_cuts, mapped_cuts, all_things, nothing, WholeCut, whole_cut, enter_cuts, WithinCut, WindowCut, window_cut, no_window, OrderCut, order_cut, cut, cut_within}
+use Rattle.wd_read_expression.proofs.CutPieces.{CutBy, MayCut, then_cuts, expect_cuts, name_cuts, on_cuts, either_cuts, IsPre, pre_then}
+use Rattle.wd_parse.proofs.CutPieces.{given_cuts, alias_cuts, limits_cuts, pre_item, pre_items, pre_quantifier, pre_filter, pre_grouping, pre_named, pre_windows, pre_table, pre_join, pre_joins}
+use Rattle.wd_read_expression.proofs.Cut.{IsCut, cut_step, cut_here, pre_kind, SomePasses, many_cut, listed, GoodList, ListPasses, list_cut, terminal_cuts, mapped_cuts, all_things, nothing, WholeCut, whole_cut, enter_cuts, WithinCut, WindowCut, window_cut, no_window, OrderCut, order_cut, cut, cut_within}
 
 -- a name and a select, which may stand where one is wanted
 abbrev some_name : Name

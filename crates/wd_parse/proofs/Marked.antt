@@ -6,8 +6,10 @@ use Rattle.wd_read_cursor.specs.Tokens.{Kinds, ◌▸◌}
 use Rattle.wd_syntax.specs.Tree.{Tree, Constant, Column, Qualified, CallAll, Call, Case, Bracket, Signed, Binary, IsNull, Negated, Trees, no_trees, more_trees, Arms, no_arms, more_arms, Otherwise, no_else, or_else, OverTree, no_over, over_name, over_window, WindowTree, window, Keys, no_keys, more_keys, ItemTree, all_columns, all_of, shown, SetTree, one_column, columns, GroupTree, grouped_by, constructed, GroupingTree, Tail, TableTree, named, derived, JoinTree, comma, cross, inner, Joins, no_joins, more_joins, SelectTree, select, QueryTree, query, Each, One}
 use Rattle.wd_syntax.specs.Spelling.{frame_onto, else_onto, over_onto, window_onto, order_onto, given_onto, set_onto, group_item_onto, having_onto, end_onto}
 use Rattle.wd_syntax.specs.Limits.{Mark, opened, marks, list_marks, arms_marks, else_marks, over_marks, bracketed_marks, keys_marks, item_marks, items_marks, filter_marks, set_marks, members_marks, group_marks, grouping_marks, windows_marks, tail_marks, table_marks, join_marks, joins_marks, select_marks, query_marks, IsWithin, IsPast, IsPastAt, KeepsLimits}
-use Rattle.wd_parse.proofs.Fitting.{Below, Fits, AllFit, ArmsFit, ElseFits, OverFits, WindowFits, KeysFit, ItemFits, OptionFits, SetFits, GroupFits, GroupingFits, TableFits, JoinFits, JoinsFit, SelectFits, QueryFits}
-use Rattle.wd_parse.proofs.Passing.{Opens, Passes, OnePasses, ArmPasses, ElsePasses, OverPasses, WindowPasses, KeyPasses, ItemPasses, OneItemPasses, FilterPasses, SetPasses, MemberPasses, GroupPasses, GroupingPasses, OneWindowPasses, TablePasses, JoinPasses, OneJoinPasses, SelectPasses, QueryPasses}
+use Rattle.wd_read_expression.proofs.Fitting.{Below, Fits, AllFit, ArmsFit, ElseFits, OverFits, WindowFits, KeysFit}
+use Rattle.wd_parse.proofs.Fitting.{ItemFits, OptionFits, SetFits, GroupFits, GroupingFits, TableFits, JoinFits, JoinsFit, SelectFits, QueryFits}
+use Rattle.wd_read_expression.proofs.Passing.{Opens, Passes, OnePasses, ArmPasses, ElsePasses, OverPasses, WindowPasses, KeyPasses}
+use Rattle.wd_parse.proofs.Passing.{ItemPasses, OneItemPasses, FilterPasses, SetPasses, MemberPasses, GroupPasses, GroupingPasses, OneWindowPasses, TablePasses, JoinPasses, OneJoinPasses, SelectPasses, QueryPasses}
 
 -- as many levels are left as are not open
 abbrev Left : ℕ → ℕ → Type 0

@@ -12,8 +12,8 @@ use Rattle.wd_syntax.specs.Levels.{OptionLevelled, IsSome, HasColumn, MayStandIn
 use Rattle.wd_parse.proofs.Fitting.{OptionFits, SetFits, GroupFits, GroupingFits}
 use Rattle.wd_read_cursor.specs.Cursor.{Fault, ◌>>=◌, Parser, choose, eat, eat_word, expect, name_at, list_at}
 use Rattle.wd_parse.specs.Reading.{group_column_at, within, some_columns_at, columns_at, set_at, takes_empty, grouping_word_at, sets_at, group_item_if, group_item_at, group_at, having_at, grouping_at}
-use Rattle.wd_parse.proofs.SoundPieces.{Kept, Holds, then_holds, at_terminal, at_word, past_terminal, past_name, IsPart, Spelled, all_onto, led_by, IsListed, list_holds, looser_holds}
-use Rattle.wd_parse.proofs.Sound.{each_left, each_right, Good, Whole}
+use Rattle.wd_read_expression.proofs.SoundPieces.{Kept, Holds, then_holds, at_terminal, at_word, past_terminal, past_name, IsPart, Spelled, all_onto, led_by, IsListed, list_holds, looser_holds}
+use Rattle.wd_read_expression.proofs.Sound.{each_left, each_right, Good, Whole}
 
 -- ---- lists
 

@@ -8,12 +8,15 @@ use Rattle.wd_read_cursor.specs.Tokens.{Kinds, ◌▸◌, name_kind}
 use Rattle.wd_syntax.specs.Tree.{Tree, WindowTree, Keys, ItemTree, all_columns, shown, TableTree, named, derived, JoinTree, comma, cross, inner, Joins, GroupingTree, SelectTree, select, QueryTree, query, keys_of, joins_of, Each}
 use Rattle.wd_syntax.specs.Spelling.{onto, order_onto, quantifier_onto, given_onto, alias_onto, item_onto, more_items_onto, filter_onto, grouping_onto, named_window_onto, more_windows_onto, windows_onto, limits_onto, table_onto, join_onto, joins_onto, select_onto, spell}
 use Rattle.wd_syntax.specs.Levels.{WindowLevelled, KeysLevelled, ItemLevelled, OptionLevelled, TableLevelled, JoinLevelled, JoinsLevelled, SelectLevelled, IsWellLevelled}
-use Rattle.wd_parse.proofs.Fitting.{Below, WindowFits, KeysFit, ItemFits, OptionFits, TableFits, JoinFits, JoinsFit, SelectFits, QueryFits}
+use Rattle.wd_read_expression.proofs.Fitting.{Below, WindowFits, KeysFit}
+use Rattle.wd_parse.proofs.Fitting.{ItemFits, OptionFits, TableFits, JoinFits, JoinsFit, SelectFits, QueryFits}
 use Rattle.wd_read_cursor.specs.Cursor.{◌>>=◌, Reads, Parser, choose, eat, expect, name_at, many, list_at}
-use Rattle.wd_parse.specs.Reading.{order_at, window_at, enter, levels, deeper_of, read, quantifier_at, given_at, alias_at, star_at, item_if, item_at, filter_at, grouping_at, named_window_at, windows_at, limits_at, Inner, table_at, inner_at, join_at, from_at, select_at, selects, inside_of, if_last, whole}
-use Rattle.wd_parse.proofs.SoundPieces.{Kept, Holds, MayHold, then_holds, at_terminal, past_terminal, past_name, IsPart, Spelled, all_onto, led_by, IsListed, list_holds, many_hold, quantifier_is, given_is, alias_is, star_is, limits_is, looser_holds}
+use Rattle.wd_read_expression.specs.Reading.{order_at, window_at, enter, levels, deeper_of, read}
+use Rattle.wd_parse.specs.Reading.{quantifier_at, given_at, alias_at, star_at, item_if, item_at, filter_at, grouping_at, named_window_at, windows_at, limits_at, Inner, table_at, inner_at, join_at, from_at, select_at, selects, inside_of, if_last, whole}
+use Rattle.wd_read_expression.proofs.SoundPieces.{Kept, Holds, MayHold, then_holds, at_terminal, past_terminal, past_name, IsPart, Spelled, all_onto, led_by, IsListed, list_holds, many_hold, looser_holds}
+use Rattle.wd_parse.proofs.SoundPieces.{quantifier_is, given_is, alias_is, star_is, limits_is}
 use Rattle.wd_parse.proofs.SoundGroups.{GoodGrouping, grouping_holds}
-use Rattle.wd_parse.proofs.Sound.{each_left, each_right, Good, Whole, whole_expression, Within, enter_holds, GoodKeys, keys_row_onto, order_holds, window_closed, GoodWindow, window_holds, sound, within}
+use Rattle.wd_read_expression.proofs.Sound.{each_left, each_right, Good, Whole, whole_expression, Within, enter_holds, GoodKeys, keys_row_onto, order_holds, window_closed, GoodWindow, window_holds, sound, within}
 
 pub items_spelled : (xs : List ItemTree) (ts : Kinds) → all_onto (led_by m.Comma item_onto) xs ts ≡ more_items_onto xs ts
 items_spelled [] ts = refl

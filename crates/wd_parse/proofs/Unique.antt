@@ -6,7 +6,8 @@ use Rattle.wd_syntax.specs.Tree.{Tree, Constant, Column, Qualified, CallAll, Cal
 use Rattle.wd_syntax.specs.Spelling.{spell}
 use Rattle.wd_syntax.specs.Levels.{IsWellLevelled}
 use Rattle.wd_syntax.specs.Limits.{operators}
-use Rattle.wd_parse.proofs.Fitting.{Below, Fits, AllFit, ArmsFit, ElseFits, OverFits, WindowFits, KeysFit, ItemFits, OptionFits, SetFits, GroupFits, GroupingFits, TableFits, JoinFits, JoinsFit, SelectFits, QueryFits}
+use Rattle.wd_read_expression.proofs.Fitting.{Below, Fits, AllFit, ArmsFit, ElseFits, OverFits, WindowFits, KeysFit}
+use Rattle.wd_parse.proofs.Fitting.{ItemFits, OptionFits, SetFits, GroupFits, GroupingFits, TableFits, JoinFits, JoinsFit, SelectFits, QueryFits}
 use Rattle.wd_read_cursor.specs.Cursor.{Fault, Unexpected, Limit}
 use Rattle.wd_parse.specs.Reading.{whole}
 use Rattle.wd_syntax.specs.Laws.{HasOneTree}

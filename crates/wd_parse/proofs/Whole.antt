@@ -7,11 +7,11 @@ use Rattle.wd_syntax.specs.Tree.{QueryTree}
 use Rattle.wd_syntax.specs.View.{view_query}
 use Rattle.wd_syntax.specs.Limits.{KeepsLimits, PassesLimitAt}
 use Rattle.wd_syntax.specs.Laws.{IsTreeOf}
-use Rattle.wd_parse.proofs.CutPieces.{CutBy}
+use Rattle.wd_read_expression.proofs.CutPieces.{CutBy}
 use Rattle.wd_parse.proofs.CutQuery.{Passed, whole_cuts}
 use Rattle.wd_read_cursor.specs.Cursor.{Fault, Limit as PastLimits, Unexpected as NoTree}
 use Rattle.wd_parse.specs.Reading.{whole}
-use Rattle.wd_parse.proofs.SoundPieces.{Holds}
+use Rattle.wd_read_expression.proofs.SoundPieces.{Holds}
 use Rattle.wd_parse.proofs.SoundQuery.{IsQuery, whole_holds}
 use Rattle.wd_parse.proofs.CompleteQuery.{Answers as Reads, whole_answers}
 use Rattle.wd_parse.specs.declared.error.ParseError.{ParseError}

@@ -1,30 +1,20 @@
 //! GROUP BY and HAVING.
 
-ghost use Rattle.std.specs.Prelude.{◌≡◌, suc, map};
+ghost use Rattle.std.specs.Prelude.{◌≡◌, map};
 ghost use Rattle.wd_lex.specs.Lexed.{kinds_of};
 ghost use Rattle.wd_syntax.specs.Limits.{most_operators};
 ghost use Rattle.wd_syntax.specs.Tokens.{whole_height};
 ghost use Rattle.wd_syntax.specs.Tree.{columns, constructed};
 ghost use Rattle.wd_syntax.specs.View.{view_set, view_group_item, view_option, view_grouping};
-ghost use Rattle.wd_parse.specs.Reading.{read, group_column_at, some_columns_at, columns_at, set_at, takes_empty, grouping_word_at, sets_at, group_item_at, group_at, having_at, grouping_at};
-ghost use Rattle.wd_parse.specs.Given.{IsNested};
+ghost use Rattle.wd_read_expression.specs.Reading.{read};
+ghost use Rattle.wd_parse.specs.Reading.{group_column_at, some_columns_at, columns_at, set_at, takes_empty, grouping_word_at, sets_at, group_item_at, group_at, having_at, grouping_at};
 ghost use Rattle.wd_read_cursor.specs.Given.{Finds, Gives};
 
-use crate::expr;
 use std::alloc::Global;
 use wd_lex::{Terminal, Token};
 use wd_read_cursor::{KeyWord, Reader, Refusal, eat, eat_word, expect, list_at, name_at};
+use wd_read_expression::{deeper, expression_at};
 use wd_syntax::{Expr, GroupColumn, GroupItem, Grouping, GroupingSet, GroupingWord};
-
-/// One level fewer, if one is left for the first of the `left` last tokens to open.
-fn nested(depth: u8, left: usize) -> Result<u8, Refusal>
-    ensures { IsNested result depth left }
-{
-    if depth == 0 {
-        return Err(Refusal::PastLimit { left });
-    }
-    Ok(depth - 1)
-}
 
 /// Reads columns that are grouped by.
 #[derive(Clone, Copy)]
@@ -122,7 +112,7 @@ impl Reader for GroupingSets {
 }
 
 /// A column, or columns in brackets.
-#[tactic(auto, unfolding(crate::specs::Reading::set_at), using(crate::proofs::Loops::length_kinds))]
+#[tactic(auto, unfolding(crate::specs::Reading::set_at), using(wd_read_expression::proofs::Loops::length_kinds))]
 fn set(
     alloc: Global,
     depth: u8,
@@ -133,7 +123,7 @@ fn set(
 {
     match eat(tokens, Terminal::LeftBracket) {
         Some(rest) => {
-            nested(depth, tokens.len())?;
+            deeper(depth, tokens.len())?;
             let (columns, rest) = columns(alloc, empty, rest)?;
             Ok((GroupingSet::Columns(columns), rest))
         }
@@ -182,7 +172,7 @@ fn word_at(tokens: &[Token]) -> Option<(GroupingWord, &[Token])>
 }
 
 /// `( set {, set} )`, after the word.
-#[tactic(auto, unfolding(crate::specs::Reading::sets_at), using(crate::proofs::Loops::length_kinds))]
+#[tactic(auto, unfolding(crate::specs::Reading::sets_at), using(wd_read_expression::proofs::Loops::length_kinds))]
 fn sets(
     alloc: Global,
     depth: u8,
@@ -192,7 +182,7 @@ fn sets(
     ensures { Gives (λ x. (view_group_item x.0, kinds_of x.1.now)) result (sets_at depth word (kinds_of tokens.now)) }
 {
     let rest = expect(tokens, Terminal::LeftBracket)?;
-    let inside = nested(depth, tokens.len())?;
+    let inside = deeper(depth, tokens.len())?;
     let reader = GroupingSets {
         depth: inside,
         empty: may_hold_empty(word),
@@ -258,7 +248,7 @@ fn having(alloc: Global, depth: u8, tokens: &[Token]) -> Result<(Option<Expr>, &
 {
     match eat(tokens, Terminal::Having) {
         Some(rest) => {
-            let (expr, rest) = expr::at(alloc, expr::WHOLE, depth, rest)?;
+            let (expr, rest) = expression_at(alloc, depth, rest)?;
             Ok((Some(Box::into_inner(expr)), rest))
         }
         None => Ok((None, tokens)),

@@ -1,13 +1,10 @@
-//! Reads tokens as queries.
+//! Reads tokens as queries; their expressions and windows are read by wd_read_expression.
 #![tactic(auto)]
 
 mod error;
-mod expr;
-mod frame;
 mod group;
 pub mod laws;
 mod limits;
-mod operator;
 mod parser;
 mod query;
 

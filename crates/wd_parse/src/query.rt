@@ -6,18 +6,18 @@ ghost use Rattle.wd_syntax.specs.Limits.{most_levels, most_operators};
 ghost use Rattle.wd_syntax.specs.Tokens.{whole_height};
 ghost use Rattle.wd_syntax.specs.Tree.{derived, query};
 ghost use Rattle.wd_syntax.specs.View.{view_item, view_named_window, view_option, view_table, view_joined, view_select, view_query};
-ghost use Rattle.wd_parse.specs.Reading.{read, deeper_of, inside_of, selects, quantifier_at, given_at, alias_at, star_at, filter_at, windows_at, table_at, inner_at, join_at, from_at, if_last, whole};
+ghost use Rattle.wd_read_expression.specs.Reading.{read, deeper_of};
+ghost use Rattle.wd_parse.specs.Reading.{inside_of, selects, quantifier_at, given_at, alias_at, star_at, filter_at, windows_at, table_at, inner_at, join_at, from_at, if_last, whole};
 ghost use Rattle.wd_read_cursor.specs.Cursor.{list_at, many};
 ghost use Rattle.wd_read_cursor.specs.Given.{Gives, MayFind, MayGive};
 ghost use Rattle.wd_parse.specs.Given.{view_from};
 
-use crate::expr;
-use crate::expr::deeper;
 use crate::group::grouping;
 use crate::limits::limits_at;
 use std::alloc::Global;
 use wd_lex::{Terminal, Token};
 use wd_read_cursor::{Reader, Refusal, eat, eat_name, expect, list_at, name_at, unexpected};
+use wd_read_expression::{deeper, expression_at, order_at, window_at};
 use wd_syntax::{
     Alias, Expr, From, Item, Joined, Name, NamedWindow, Quantifier, Query, Select, Table,
 };
@@ -112,7 +112,6 @@ fn star_at(alloc: Global, tokens: &[Token]) -> Result<Option<(Name, &[Token])>, 
     }
 }
 
-/// A member of a select list.
 /// Reads the members of a select list, with so many levels left.
 #[derive(Clone, Copy)]
 struct Items {
@@ -124,7 +123,8 @@ impl Reader for Items {
     ghost use Rattle.wd_syntax.specs.Tokens.{whole_height};
     ghost use Rattle.wd_syntax.specs.Limits.{most_operators};
     ghost use Rattle.wd_syntax.specs.View.{view_item};
-    ghost use Rattle.wd_parse.specs.Reading.{read, item_at};
+    ghost use Rattle.wd_read_expression.specs.Reading.{read};
+    ghost use Rattle.wd_parse.specs.Reading.{item_at};
 
     type Item = Item;
 
@@ -142,7 +142,7 @@ impl Reader for Items {
         if let Some((name, rest)) = star_at(alloc, tokens)? {
             return Ok((Item::AllOf(name), rest));
         }
-        let (expr, rest) = expr::at(alloc, expr::WHOLE, self.depth, tokens)?;
+        let (expr, rest) = expression_at(alloc, self.depth, tokens)?;
         let (alias, rest) = alias_at(alloc, rest)?;
         Ok((Item::Expr(Box::into_inner(expr), alias), rest))
     }
@@ -155,7 +155,7 @@ fn filter(alloc: Global, depth: u8, tokens: &[Token]) -> Result<(Option<Expr>, &
 {
     match eat(tokens, Terminal::Where) {
         Some(rest) => {
-            let (expr, rest) = expr::at(alloc, expr::WHOLE, depth, rest)?;
+            let (expr, rest) = expression_at(alloc, depth, rest)?;
             Ok((Some(Box::into_inner(expr)), rest))
         }
         None => Ok((None, tokens)),
@@ -173,7 +173,8 @@ impl Reader for NamedWindows {
     ghost use Rattle.wd_syntax.specs.Tree.{WindowTree};
     ghost use Rattle.wd_syntax.specs.Limits.{most_operators};
     ghost use Rattle.wd_syntax.specs.View.{view_named_window};
-    ghost use Rattle.wd_parse.specs.Reading.{deeper_of, named_window_at};
+    ghost use Rattle.wd_read_expression.specs.Reading.{deeper_of};
+    ghost use Rattle.wd_parse.specs.Reading.{named_window_at};
 
     type Item = NamedWindow;
 
@@ -183,7 +184,7 @@ impl Reader for NamedWindows {
 
     ghost item = { λ windows. named_window_at (deeper_of most_operators windows.depth) };
 
-    #[tactic(auto, unfolding(crate::specs::Reading::named_window_at), using(crate::proofs::Loops::length_kinds))]
+    #[tactic(auto, unfolding(crate::specs::Reading::named_window_at), using(wd_read_expression::proofs::Loops::length_kinds))]
     fn read<'t>(
         &self,
         alloc: Global,
@@ -193,7 +194,7 @@ impl Reader for NamedWindows {
         let bracket = expect(rest, Terminal::As)?;
         let rest = expect(bracket, Terminal::LeftBracket)?;
         let inside = deeper(self.depth, bracket.len())?;
-        let (window, rest) = expr::window(alloc, inside, rest)?;
+        let (window, rest) = window_at(alloc, inside, rest)?;
         Ok((NamedWindow { name, window }, rest))
     }
 }
@@ -221,7 +222,7 @@ fn derived_of(select: Box<Select>, alias: Alias) -> Table
 }
 
 /// A table of FROM.
-#[tactic(auto, unfolding(crate::specs::Reading::table_at), using(crate::proofs::Loops::length_kinds))]
+#[tactic(auto, unfolding(crate::specs::Reading::table_at), using(wd_read_expression::proofs::Loops::length_kinds))]
 #[cycle(select)]
 fn table(alloc: Global, depth: u8, tokens: &[Token]) -> Result<(Table, &[Token]), Refusal>
     ensures { Gives (λ x. (view_table x.0, kinds_of x.1.now)) result (table_at (inside_of most_operators depth) (kinds_of tokens.now)) }
@@ -255,7 +256,7 @@ fn inner(
 {
     let (table, rest) = table(alloc, depth, tokens)?;
     let rest = expect(rest, Terminal::On)?;
-    let (on, rest) = expr::at(alloc, expr::WHOLE, depth, rest)?;
+    let (on, rest) = expression_at(alloc, depth, rest)?;
     Ok((Joined::Inner(with_inner, table, Box::into_inner(on)), rest))
 }
 
@@ -317,7 +318,7 @@ fn from(alloc: Global, depth: u8, tokens: &[Token]) -> Result<(From, &[Token]), 
 }
 
 /// A select, up to its limits.
-#[tactic(auto, unfolding(crate::specs::Reading::select_at), using(crate::proofs::Loops::selects_at))]
+#[tactic(auto, unfolding(crate::specs::Reading::select_at), using(crate::proofs::CompleteQuery::selects_are))]
 #[cycle(select)]
 fn select(alloc: Global, depth: u8, tokens: &[Token]) -> Result<(Box<Select>, &[Token]), Refusal>
     ensures { Gives (λ x. (view_select x.0.value, kinds_of x.1.now)) result (selects most_operators depth (kinds_of tokens.now)) }
@@ -330,7 +331,7 @@ fn select(alloc: Global, depth: u8, tokens: &[Token]) -> Result<(Box<Select>, &[
     let (filter, rest) = filter(alloc, depth, rest)?;
     let (grouping, rest) = grouping(alloc, depth, rest)?;
     let (windows, rest) = windows(alloc, depth, rest)?;
-    let (order, rest) = expr::order(alloc, depth, rest)?;
+    let (order, rest) = order_at(alloc, depth, rest)?;
     let (limits, rest) = limits_at(rest)?;
     let select = Select {
         quantifier,

@@ -10,10 +10,10 @@ use Rattle.wd_query.specs.Laws.{HasMeaningOrCause, HasOnePlan}
 use Rattle.wd_resolve.specs.Laws.{PlansFit}
 use Rattle.wd_rules.specs.Laws.{NeverBoth}
 use Rattle.wd_accept.proofs.Verdicts.{every, no_number}
-use Rattle.wd_witness.specs.Json.{Spells}
-use Rattle.wd_witness.specs.Laws.{IsReadBack, SpellsOne}
-use Rattle.wd_witness.specs.Refusals as witnesses
-use Rattle.wd_witness.specs.Witnesses.{WitnessRecord, instance_under}
+use Rattle.wd_witness_text.specs.Json.{Spells}
+use Rattle.wd_witness_text.specs.Laws.{IsReadBack, SpellsOne}
+use Rattle.wd_witness_text.specs.Refusals as witnesses
+use Rattle.wd_witness_text.specs.Witnesses.{WitnessRecord, instance_under}
 use Rattle.wd_refute.specs.Laws.{IsShown, RefutedHasNoCertificate, RefutedIsTaken, ShownIsNotRefused}
 use Rattle.wd_refute.specs.Refutation.{IsTaken, IsTrue, RefusesChoices, RefusesText, RefusesWitness, SpellsRefused, SpellsTrue, refusal_number}
 use Rattle.wd_refute.specs.declared.error.Refusal.{Refusal}

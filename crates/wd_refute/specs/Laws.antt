@@ -4,8 +4,8 @@ use Rattle.wd_schema.specs.Tables.{TableRule}
 use Rattle.wd_plan.specs.Plans.{PlanTree}
 use Rattle.wd_query.specs.Laws.{HaveMeaning}
 use Rattle.wd_eval.specs.Steps.{has_large_step}
-use Rattle.wd_witness.specs.Json.{Spells}
-use Rattle.wd_witness.specs.Witnesses.{AllFit64, IsOf, WitnessRecord, instance_under}
+use Rattle.wd_witness_text.specs.Json.{Spells}
+use Rattle.wd_witness_text.specs.Witnesses.{AllFit64, IsOf, WitnessRecord, instance_under}
 use Rattle.wd_refute.specs.Refutation.{HasCause, HaveNoCertificate, IsRefuted, IsTaken, IsTrue, RefusesText, refusal_number}
 use Rattle.wd_refute.specs.declared.error.Refusal.{Refusal}
 use Rattle.wd_refute.specs.declared.error.WitnessError.{WitnessError}

@@ -12,9 +12,9 @@ use Rattle.wd_accept.specs.Acceptance.{IsAccepted}
 use Rattle.wd_query.specs.Causes.{HasTextCause, text_number, text_place}
 use Rattle.wd_query.specs.Readings.{ForReading}
 use Rattle.wd_query.specs.declared.error.TextError.TheVariants as text
-use Rattle.wd_witness.specs.Json.{Spells}
-use Rattle.wd_witness.specs.Refusals as witnesses
-use Rattle.wd_witness.specs.Witnesses.{AllFit64, IsOf, WitnessRecord, instance_under}
+use Rattle.wd_witness_text.specs.Json.{Spells}
+use Rattle.wd_witness_text.specs.Refusals as witnesses
+use Rattle.wd_witness_text.specs.Witnesses.{AllFit64, IsOf, WitnessRecord, instance_under}
 use Rattle.wd_refute.specs.declared.error.Refusal.{Refusal}
 use Rattle.wd_refute.specs.declared.error.Refusal.TheVariants as refusal
 use Rattle.wd_refute.specs.declared.error.WitnessError.{WitnessError}

@@ -7,7 +7,7 @@ ghost use Rattle.wd_refute.specs.declared.error.Refusal.TheVariants as refusal;
 use thiserror::Error;
 use wd_query::TextError;
 use wd_value::OutOfMemory;
-use wd_witness::WitnessTextError;
+use wd_witness_text::WitnessTextError;
 
 /// Why a witness's text is refused for a plan.
 #[derive(Clone, Copy, Debug, Error)]

@@ -7,7 +7,7 @@ ghost use Rattle.wd_refute.specs.Refutation.{IsTrue, RefusesChoices, RefusesText
 ghost use Rattle.wd_refute.specs.Judged.{Differ, IsOutcomeUnder, RefusesChoice};
 ghost use Rattle.wd_schema.specs.Schemas.{schema_of};
 ghost use Rattle.wd_value.specs.Rows.{instance_of};
-ghost use Rattle.wd_witness.specs.Witnesses.{positions_of, witness_of};
+ghost use Rattle.wd_witness_text.specs.Witnesses.{positions_of, witness_of};
 
 use crate::error::Refusal;
 use crate::outcome::SortedOutcome;
@@ -16,7 +16,7 @@ use wd_eval::{EvalError, eval_with};
 use wd_plan::{Choice, Plan};
 use wd_schema::{Schema, meets};
 use wd_value::Instance;
-use wd_witness::{Witness, read_witness};
+use wd_witness_text::{Witness, read_witness};
 
 /// Whether a text spells a true witness of a plan.
 pub(crate) fn refute_plan(

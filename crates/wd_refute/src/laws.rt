@@ -6,7 +6,7 @@ use wd_query::laws::{meaning_or_cause, one_plan};
 use wd_resolve::laws::plans_fit;
 use wd_rules::laws::never_both;
 use wd_schema::laws::one_meaning;
-use wd_witness::laws::{is_read_back, spells_one};
+use wd_witness_text::laws::{is_read_back, spells_one};
 
 /// Texts for which a witness is accepted have no certificate that is.
 pub fn refuted_has_no_certificate()

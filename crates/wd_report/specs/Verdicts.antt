@@ -3,8 +3,8 @@ use Rattle.std.specs.Prelude.{ℕ, List, ◌++◌, codes, flat_map}
 use Rattle.wd_certificate.specs.Certificates.{certificate_of}
 use Rattle.wd_certificate.specs.Json.{certificate_text}
 use Rattle.wd_analyse.specs.declared.analysis.Reason.{Reason}
-use Rattle.wd_witness.specs.Json.{witness_text}
-use Rattle.wd_witness.specs.Witnesses.{witness_of}
+use Rattle.wd_witness_text.specs.Json.{witness_text}
+use Rattle.wd_witness_text.specs.Witnesses.{witness_of}
 use Rattle.wd_decide.specs.declared.list.ListVerdict.{ListVerdict}
 use Rattle.wd_decide.specs.declared.list.ListVerdict.TheVariants as list
 use Rattle.wd_decide.specs.declared.verdict.Verdict.{Verdict}

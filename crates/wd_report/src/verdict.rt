@@ -4,8 +4,8 @@ ghost use Rattle.std.specs.Prelude.{◌≡◌, ◌++◌, codes, flat_map, IfOk};
 ghost use Rattle.std.specs.String.{string_bytes};
 ghost use Rattle.wd_certificate.specs.Certificates.{certificate_of};
 ghost use Rattle.wd_certificate.specs.Json.{certificate_text};
-ghost use Rattle.wd_witness.specs.Json.{witness_text};
-ghost use Rattle.wd_witness.specs.Witnesses.{witness_of};
+ghost use Rattle.wd_witness_text.specs.Json.{witness_text};
+ghost use Rattle.wd_witness_text.specs.Witnesses.{witness_of};
 ghost use Rattle.wd_report.specs.Verdicts as spec;
 ghost use Rattle.wd_report.specs.Words.{lack_words, line, order_words, place_words, verdict_word};
 
@@ -15,7 +15,7 @@ use wd_analyse::{Lack, Reason};
 use wd_certificate::Certificate;
 use wd_decide::{ListReason, ListVerdict, Verdict};
 use wd_value::OutOfMemory;
-use wd_witness::Witness;
+use wd_witness_text::Witness;
 
 /// What is printed on standard output, and the exit status.
 #[derive(Drop)]

@@ -17,10 +17,11 @@ use Rattle.wd_resolve_scope.specs.declared.scope.ScopeColumn.{ScopeColumn}
 use Rattle.wd_resolve_scope.specs.Resolving.{condition}
 use Rattle.wd_resolve_scope.specs.Scopes.{ScopeRule, beside}
 use Rattle.wd_resolve_scope.specs.Scopes as scopes
-use Rattle.wd_resolve_scope.proofs.Typing.{and_both, bound, ok_is}
+use Rattle.wd_resolve_scope.proofs.Typing.{and_both}
+use Rattle.wd_resolve_call.proofs.Meanings.{bound, ok_is}
 use Rattle.wd_resolve_scope.specs.declared.context.Place.TheVariants as place
 use Rattle.wd_resolve_scope.proofs.TypedPlain.{condition_is}
-use Rattle.wd_resolve_select.specs.declared.output.OutputColumn.{OutputColumn}
+use Rattle.wd_resolve_list.specs.declared.output.OutputColumn.{OutputColumn}
 use Rattle.wd_resolve_select.specs.Steps.{Lowered}
 use Rattle.wd_resolve.specs.Selected.{FromSoFar, JoinedTables, admitted, called, derived_column, derived_table, first_admitted, is_too_large, joined, next_admitted, scan, scan_at, scope_so_far, table_column, table_number, together}
 use Rattle.wd_resolve.specs.Lowering.{behind_comma, behind_from, crossed, join_meant, joined_on, joined_to, joins_meant, lowered, lowering, table_meant}

@@ -4,14 +4,14 @@ use Rattle.std.proofs.lemmas.Bool.{ltb-false, or_parts}
 use Rattle.std.proofs.lemmas.List.{length-map, map-append}
 use Rattle.wd_plan.specs.Plans.{PlanTree}
 use Rattle.wd_resolve_operand.specs.Formulas.{Formula}
-use Rattle.wd_resolve_scope.specs.Leaves.{SelectLeaf}
-use Rattle.wd_resolve_select.specs.declared.needs.Needs.{Needs as CodeNeeds}
-use Rattle.wd_resolve_select.specs.declared.output.Output.{Output}
-use Rattle.wd_resolve_select.specs.Listing.{Below, Needs, all_leaves, all_needs, are_wide, is_group_wide, is_wide, is_window_wide, needs_of, needs_shown, needs_with, row_place, with_having}
-use Rattle.wd_resolve_select.specs.Outputs.{expressions_of, output_of}
+use Rattle.wd_resolve_call.specs.Leaves.{SelectLeaf}
+use Rattle.wd_resolve_list.specs.declared.needs.Needs.{Needs as CodeNeeds}
+use Rattle.wd_resolve_list.specs.declared.output.Output.{Output}
+use Rattle.wd_resolve_list.specs.Listing.{Below, Needs, all_leaves, all_needs, are_wide, is_group_wide, is_wide, is_window_wide, needs_of, needs_shown, needs_with, row_place, with_having}
+use Rattle.wd_resolve_list.specs.Outputs.{expressions_of, output_of}
 use Rattle.wd_resolve_select.specs.Steps.{grouped_on, mapped, mapped_over}
-use Rattle.wd_resolve_select.proofs.Counted.{many_listed, needs_more}
-use Rattle.wd_resolve_select.proofs.Narrow.{narrow_below as narrow_parts}
+use Rattle.wd_resolve_list.proofs.Counted.{many_listed, needs_more}
+use Rattle.wd_resolve_list.proofs.Narrow.{narrow_below as narrow_parts}
 
 pub needs_listed : (outputs more : List Output) → needs_of (expressions_of (map output_of (outputs ++ more))) ≡ needs_with (needs_of (expressions_of (map output_of outputs))) (all_leaves (expressions_of (map output_of more)))
 needs_listed outputs more = ap (λ os. needs_of (expressions_of os)) (map-append output_of outputs more) ∙ needs_more (map output_of outputs) (map output_of more)

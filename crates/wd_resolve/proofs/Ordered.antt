@@ -12,15 +12,15 @@ use Rattle.wd_plan.specs.Plans.{LimitRule, PlanTree, Limit, Map}
 use Rattle.wd_resolve_operand.specs.declared.cause.Cause.TheVariants.{ForeignSortKey, TooMany}
 use Rattle.wd_resolve_operand.specs.Causes.{◌>>=◌}
 use Rattle.wd_resolve_operand.specs.Formulas.{Formula}
-use Rattle.wd_resolve_scope.specs.Leaves.{SelectLeaf}
+use Rattle.wd_resolve_call.specs.Leaves.{SelectLeaf}
 use Rattle.wd_resolve_scope.specs.Resolving.{all_defined}
 use Rattle.wd_resolve_scope.specs.Scopes.{ScopeRule}
-use Rattle.wd_resolve_scope.specs.Windows.{KnownMeaning, sort_key}
+use Rattle.wd_resolve_call.specs.Windows.{KnownMeaning, sort_key}
 use Rattle.wd_resolve_scope.specs.declared.context.Place.TheVariants as place
-use Rattle.wd_resolve_scope.proofs.Typing.{bound, ok_is}
-use Rattle.wd_resolve_select.specs.Grouping.{below_meant, grouped_meant, grouped_rule}
-use Rattle.wd_resolve_select.specs.Listing.{Below, GroupedBy, are_wide}
-use Rattle.wd_resolve_select.specs.Outputs.{OutputMeaning, list_meant, expressions_of}
+use Rattle.wd_resolve_call.proofs.Meanings.{bound, ok_is}
+use Rattle.wd_resolve_list.specs.Grouping.{below_meant, grouped_meant, grouped_rule}
+use Rattle.wd_resolve_list.specs.Listing.{Below, GroupedBy, are_wide}
+use Rattle.wd_resolve_list.specs.Outputs.{OutputMeaning, list_meant, expressions_of}
 use Rattle.wd_resolve_select.specs.Sorting.{Cut, KeyPlace, Shown, Sorted, cut_meant, hidden, key_place, key_sorted, keys_sorted, narrow_keys, output, unsorted, with_column, with_key}
 use Rattle.wd_resolve_select.specs.Steps.{Lowered, columns_from, deduplicated, filtered, limited, lowered_shown, mapped}
 use Rattle.wd_resolve.specs.Selected.{JoinedTables, first_admitted, together}

@@ -16,24 +16,24 @@ use Rattle.wd_resolve_operand.specs.Causes.{◌>>=◌}
 use Rattle.wd_resolve_operand.specs.Operands.{number}
 use Rattle.wd_resolve_scope.specs.Resolving.{ContextRule, all_defined, condition}
 use Rattle.wd_resolve_scope.specs.Scopes.{ScopeRule}
-use Rattle.wd_resolve_scope.specs.Windows.{KnownMeaning}
+use Rattle.wd_resolve_call.specs.Windows.{KnownMeaning}
 use Rattle.wd_resolve_scope.specs.Grouped.{GroupedRule}
 use Rattle.wd_resolve_scope.specs.Typed.{AreKnown, readable}
-use Rattle.wd_resolve_scope.proofs.Typing.{bound, ok_is}
+use Rattle.wd_resolve_call.proofs.Meanings.{bound, ok_is}
 use Rattle.wd_resolve_scope.specs.declared.context.Place.TheVariants as place
 use Rattle.wd_resolve_scope.proofs.TypedPlain.{all_defined_is, condition_is}
 use Rattle.wd_resolve.specs.Selected.{JoinedTables}
-use Rattle.wd_resolve_select.specs.Grouping.{below_meant, grouped_meant, grouped_rule}
-use Rattle.wd_resolve_select.specs.Listing.{Below, GroupedBy}
-use Rattle.wd_resolve_select.specs.Outputs.{OutputMeaning, expressions_of, list_meant}
+use Rattle.wd_resolve_list.specs.Grouping.{below_meant, grouped_meant, grouped_rule}
+use Rattle.wd_resolve_list.specs.Listing.{Below, GroupedBy}
+use Rattle.wd_resolve_list.specs.Outputs.{OutputMeaning, expressions_of, list_meant}
 use Rattle.wd_resolve_select.specs.Sorting.{Cut, Shown, Sorted, count_meant, cut_meant, fetched, keys_sorted, offset_meant, tied, unsorted}
 use Rattle.wd_resolve_select.specs.Steps.{Lowered, columns_from, column_shown, deduplicated, filtered, limited, lowered_shown, mapped, without_hidden}
 use Rattle.wd_resolve.specs.Lowering.{behind_from, is_distinct, is_sorted, selected, shown_by, shown_sorted}
 use Rattle.wd_resolve_select.proofs.PlanKinds.{AreWithin, HasKinds, distinct_is, filter_is, first_columns_is, limit_is, output_kinds, over_plan, scope_kinds}
-use Rattle.wd_resolve_select.proofs.SeatedFormulas.{AreFormulas, formulas_append, formulas_many}
-use Rattle.wd_resolve_select.proofs.GroupedColumns.{AreGrouped, grouped_meant_is}
+use Rattle.wd_resolve_list.proofs.TypedFormulas.{AreFormulas, formulas_append, formulas_many}
+use Rattle.wd_resolve_list.proofs.GroupedColumns.{AreGrouped, grouped_meant_is}
 use Rattle.wd_resolve_select.proofs.StepsFit.{IsBelow, IsCondition, below_is, mapped_is, read_above}
-use Rattle.wd_resolve_select.proofs.ListedOutputs.{AreOutputs, IsListed, kinds_shown, list_is, outputs_formulas}
+use Rattle.wd_resolve_list.proofs.ListedOutputs.{AreOutputs, IsListed, kinds_shown, list_is, outputs_formulas}
 use Rattle.wd_resolve.proofs.SortedShown.{HasSome, IsSorted, keys_sorted_is, read}
 
 -- ---- DISTINCT, limits and hidden sort keys

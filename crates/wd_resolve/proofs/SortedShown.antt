@@ -16,21 +16,22 @@ use Rattle.wd_resolve_operand.specs.Causes.{Meant}
 use Rattle.wd_resolve_operand.specs.Formulas.{Formula}
 use Rattle.wd_resolve_operand.specs.Operands.{Operand, settled}
 use Rattle.wd_resolve_operand.specs.Operands as operands
-use Rattle.wd_resolve_scope.specs.Leaves.{SelectLeaf}
+use Rattle.wd_resolve_call.specs.Leaves.{SelectLeaf}
 use Rattle.wd_resolve_scope.specs.Resolving.{plain, written_number}
-use Rattle.wd_resolve_scope.specs.Windows.{sort_key}
+use Rattle.wd_resolve_call.specs.Windows.{sort_key}
 use Rattle.wd_resolve_scope.specs.Typed.{IsFormula, Readable, readable}
-use Rattle.wd_resolve_scope.proofs.Typing.{both, bound, ok_is, some_is}
+use Rattle.wd_resolve_scope.proofs.Typing.{both, some_is}
+use Rattle.wd_resolve_call.proofs.Meanings.{bound, ok_is}
 use Rattle.wd_resolve_scope.proofs.TypedOperands.{settled_is}
 use Rattle.wd_resolve_scope.proofs.Lists.{all_on, all_push}
 use Rattle.wd_resolve_scope.specs.declared.context.Place.TheVariants as place
 use Rattle.wd_resolve_scope.proofs.TypedPlain.{plain_is}
-use Rattle.wd_resolve_select.specs.Listing.{are_wide}
-use Rattle.wd_resolve_select.specs.Outputs.{expressions_of}
+use Rattle.wd_resolve_list.specs.Listing.{are_wide}
+use Rattle.wd_resolve_list.specs.Outputs.{expressions_of}
 use Rattle.wd_resolve_select.specs.Sorting.{IsNarrow, KeyPlace, Shown, Sorted, are_one, expression_place, first_named, hidden, is_named, key_place, key_sorted, keys_sorted, literal_place, named_place, narrow_keys, or_expression, ordinal, output, output_or, shows, sorted_place, signed_place, unless_number, with_column, with_item, with_key}
 use Rattle.wd_resolve.specs.Lowering.{is_sorted}
 use Rattle.wd_resolve_select.proofs.PlanKinds.{AreWithin}
-use Rattle.wd_resolve_select.proofs.SeatedFormulas.{AreFormulas, formulas_append}
+use Rattle.wd_resolve_list.proofs.TypedFormulas.{AreFormulas, formulas_append}
 
 -- ---- places
 

@@ -5,7 +5,7 @@ use Rattle.wd_schema.specs.Tables.{TableRule}
 use Rattle.wd_plan.specs.Plans.{PlanTree, plan_of}
 use Rattle.wd_resolve_operand.specs.Causes.{Meant, ◌>>=◌}
 use Rattle.wd_resolve.specs.declared.query.Resolved.{Resolved}
-use Rattle.wd_resolve_select.specs.declared.output.OutputColumn.{OutputColumn}
+use Rattle.wd_resolve_list.specs.declared.output.OutputColumn.{OutputColumn}
 use Rattle.wd_resolve.specs.Lowering.{is_sorted, lowering}
 
 -- a plan, the names of its outputs, and whether the order of its rows is asked for

@@ -1,8 +1,8 @@
 -- How contracts see what a select list has listed.
 use Rattle.std.specs.Prelude.{◌≡◌, map}
 use Rattle.wd_resolve.specs.declared.listed.Listed.{Listed}
-use Rattle.wd_resolve_select.specs.Listing.{needs_of, needs_shown}
-use Rattle.wd_resolve_select.specs.Outputs.{expressions_of, output_of}
+use Rattle.wd_resolve_list.specs.Listing.{needs_of, needs_shown}
+use Rattle.wd_resolve_list.specs.Outputs.{expressions_of, output_of}
 
 -- what the outputs need is counted
 abbrev pub IsCounted : Listed → Type 0

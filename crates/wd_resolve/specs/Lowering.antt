@@ -13,11 +13,11 @@ use Rattle.wd_resolve_operand.specs.Causes.{Meant, ◌>>=◌}
 use Rattle.wd_resolve_scope.specs.Resolving.{condition, all_defined}
 use Rattle.wd_resolve_scope.specs.declared.context.Place.TheVariants as place
 use Rattle.wd_resolve_scope.specs.Scopes.{ScopeRule}
-use Rattle.wd_resolve_scope.specs.Windows.{KnownMeaning}
+use Rattle.wd_resolve_call.specs.Windows.{KnownMeaning}
 use Rattle.wd_resolve.specs.Selected.{JoinedTables, FromSoFar, called, named_table, derived_table, joined, together, first_admitted, next_admitted}
-use Rattle.wd_resolve_select.specs.Grouping.{below_meant, grouped_meant, grouped_rule}
-use Rattle.wd_resolve_select.specs.Listing.{Below}
-use Rattle.wd_resolve_select.specs.Outputs.{OutputMeaning, list_meant}
+use Rattle.wd_resolve_list.specs.Grouping.{below_meant, grouped_meant, grouped_rule}
+use Rattle.wd_resolve_list.specs.Listing.{Below}
+use Rattle.wd_resolve_list.specs.Outputs.{OutputMeaning, list_meant}
 use Rattle.wd_resolve_select.specs.Sorting.{Shown, unsorted, keys_sorted, cut_meant}
 use Rattle.wd_resolve_select.specs.Steps.{Lowered, filtered, lowered_shown}
 

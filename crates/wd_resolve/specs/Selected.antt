@@ -15,7 +15,7 @@ use Rattle.wd_resolve_scope.specs.declared.scope.ScopeColumn.{ScopeColumn}
 use Rattle.wd_resolve_operand.specs.Causes.{Meant, ◌>>=◌}
 use Rattle.wd_resolve_scope.specs.Scopes.{ScopeRule, scope_of, beside, has_table}
 use Rattle.wd_resolve_select.specs.Steps.{Lowered}
-use Rattle.wd_resolve_select.specs.declared.output.OutputColumn.{OutputColumn}
+use Rattle.wd_resolve_list.specs.declared.output.OutputColumn.{OutputColumn}
 use Rattle.wd_resolve.specs.declared.part.JoinedTables.{JoinedTables as CodeJoined}
 use Rattle.wd_resolve.specs.declared.part.FromSoFar.{FromSoFar as CodeFrom}
 use Rattle.wd_resolve.specs.declared.part.LoweredSelect.{LoweredSelect}

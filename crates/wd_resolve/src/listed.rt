@@ -1,9 +1,9 @@
 //! What a select list has listed.
 
 ghost use Rattle.std.specs.Prelude.{◌≡◌, ◌≤◌, [], false, map, vec_len};
-ghost use Rattle.wd_resolve_select.specs.Grouping.{below_of};
-ghost use Rattle.wd_resolve_select.specs.Listing.{are_wide};
-ghost use Rattle.wd_resolve_select.specs.Outputs.{expressions_of, output_of};
+ghost use Rattle.wd_resolve_list.specs.Grouping.{below_of};
+ghost use Rattle.wd_resolve_list.specs.Listing.{are_wide};
+ghost use Rattle.wd_resolve_list.specs.Outputs.{expressions_of, output_of};
 
 use wd_resolve_select::{Below, Needs, Output};
 

@@ -1,3 +1,4 @@
 pub mod Causes
 pub mod Formulas
 pub mod Operands
+pub mod Mappings

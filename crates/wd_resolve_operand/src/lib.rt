@@ -4,11 +4,15 @@
 mod cause;
 mod formula;
 mod literals;
+mod maker;
+mod mapping;
 mod meaning;
 mod operator;
+mod walk;
 
 pub use cause::{Cause, ResolveError};
 pub use formula::{Formula, Leaf};
 pub use literals::{literal, number, signed_number};
+pub use mapping::{ColumnMap, LeafMap, over_columns, over_leaves};
 pub use meaning::Meaning;
 pub use operator::{CaseArm, case_of, combined, negated, signed, tested};

@@ -6,7 +6,7 @@ use Rattle.wd_syntax.specs.View.{chained, tested}
 use Rattle.wd_resolve_operand.specs.Causes.{Meant, ◌>>=◌}
 use Rattle.wd_resolve_operand.specs.Operands.{Operand, combined}
 use Rattle.wd_resolve_operand.specs.Operands as operands
-use Rattle.wd_resolve_scope.specs.Leaves.{SelectLeaf}
+use Rattle.wd_resolve_call.specs.Leaves.{SelectLeaf}
 use Rattle.wd_resolve_scope.specs.Parts.{chain_meant, link_meant}
 use Rattle.wd_resolve_scope.specs.Resolving.{ContextRule, resolved}
 

@@ -13,8 +13,8 @@ use Rattle.wd_plan.specs.contracts.expression.Branch.{the_type as branches}
 use Rattle.wd_plan.specs.Expressions.{Expression, Column, Literal, Negate, Arithmetic, Compare, Not, And, Or, IsNull, IsNotNull, Case}
 use Rattle.wd_resolve_operand.specs.Formulas as formulas
 use Rattle.wd_resolve_operand.specs.Formulas.{Formula, kind_over, leaves, same_formula}
-use Rattle.wd_resolve_scope.specs.Rows.{ArgumentMeaning, AggregateMeaning, count_rows, count_of, sum_of, least_of, greatest_of, GroupCall, of_rows, grouping, RowFormula, RowLeaf, column, of_group, kind_of_aggregate, kind_of_group_call, same_aggregate, same_argument, same_group_call, same_row_formula, same_row_leaf}
-use Rattle.wd_resolve_scope.specs.Calls.{FunctionMeaning, ranking, away, value_at, aggregate, CallMeaning, kind_of_function, same_call, same_function, same_row}
+use Rattle.wd_resolve_call.specs.Rows.{ArgumentMeaning, AggregateMeaning, count_rows, count_of, sum_of, least_of, greatest_of, GroupCall, of_rows, grouping, RowFormula, RowLeaf, column, of_group, kind_of_aggregate, kind_of_group_call, same_aggregate, same_argument, same_group_call, same_row_formula, same_row_leaf}
+use Rattle.wd_resolve_call.specs.Calls.{FunctionMeaning, ranking, away, value_at, aggregate, CallMeaning, kind_of_function, same_call, same_function, same_row}
 use Rattle.wd_plan.specs.Equality.{same_expression}
 use Rattle.wd_resolve_scope.specs.Typed.{IsAggregate, IsArgument, IsFunction, IsGroupCall, IsOfKind, IsRowFormula, IsRowLeaf, Readable, row_kind_at}
 use Rattle.wd_resolve_scope.proofs.Lists.{all_left, all_right}

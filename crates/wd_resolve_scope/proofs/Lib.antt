@@ -1,7 +1,5 @@
-mod Texts
 pub mod Naming
 pub mod Chains
-mod Prefixed
 pub mod Rolled
 pub mod Lists
 pub mod Typing

@@ -7,7 +7,7 @@ use Rattle.wd_syntax.specs.declared.expression.Window.{Window, Window'}
 use Rattle.wd_syntax.specs.View.{view_over}
 use Rattle.wd_resolve_operand.specs.Causes.{◌>>=◌}
 use Rattle.wd_resolve_operand.specs.Operands.{Operand}
-use Rattle.wd_resolve_scope.specs.Leaves.{SelectLeaf}
+use Rattle.wd_resolve_call.specs.Leaves.{SelectLeaf}
 use Rattle.wd_resolve_scope.specs.Parts.{over_meant}
 use Rattle.wd_resolve_scope.specs.Resolving.{ContextRule, arguments_in, call_over, called, moved_to, where_allowed}
 use Rattle.wd_resolve_scope.specs.Places.{within_call}

@@ -6,12 +6,12 @@ use Rattle.wd_plan.specs.declared.expression.ValueKind.{ValueKind}
 use Rattle.wd_plan.specs.Expressions.{Expression}
 use Rattle.wd_resolve_operand.specs.Causes.{Meant, ◌>>=◌}
 use Rattle.wd_resolve_operand.specs.Formulas.{Formula, Leaf, Literal, Negate, Arithmetic, Compare, Not, And, Or, IsNull, IsNotNull, Case, is_typed_over, kind_over, leaves, over_leaves, seated}
-use Rattle.wd_resolve_scope.specs.Leaves.{SelectLeaf, of_row, call, below_windows, over_columns, over_rows}
-use Rattle.wd_resolve_scope.specs.Rows.{RowFormula, RowLeaf, column, of_group, from_column, over_from}
+use Rattle.wd_resolve_call.specs.Leaves.{SelectLeaf, of_row, call, below_windows, over_columns, over_rows}
+use Rattle.wd_resolve_call.specs.Rows.{RowFormula, RowLeaf, column, of_group, from_column, over_from}
 use Rattle.wd_resolve_scope.specs.Typed.{IsFormula, IsLeaf, IsOfKind, IsRowFormula, IsRowLeaf, Readable, kind_at, row_kind_at}
 use Rattle.wd_resolve_scope.proofs.Lists.{all_append, all_left, all_right}
 use Rattle.wd_resolve_scope.proofs.Seated.{seated_kind, seated_typed}
-use Rattle.wd_resolve_scope.proofs.Typing.{bound, ok_is}
+use Rattle.wd_resolve_call.proofs.Meanings.{bound, ok_is}
 
 -- ---- kinds
 

@@ -18,14 +18,15 @@ use Rattle.wd_resolve_operand.specs.Causes.{Meant, ◌>>=◌}
 use Rattle.wd_resolve_operand.specs.Formulas.{Formula, Leaf, Literal, Negate, Arithmetic, Compare, Not, And, Or, IsNull, IsNotNull, Case}
 use Rattle.wd_resolve_operand.specs.Operands.{Operand, bare_null, settled, typed}
 use Rattle.wd_resolve_operand.specs.Operands as operands
-use Rattle.wd_resolve_scope.specs.Rows.{ArgumentMeaning, AggregateMeaning, count_of, sum_of, least_of, greatest_of, GroupCall, of_rows, grouping, RowFormula, column, of_group}
-use Rattle.wd_resolve_scope.specs.Calls.{FunctionMeaning, ranking, away, value_at, aggregate}
-use Rattle.wd_resolve_scope.specs.Functions.{GroupFunction, aggregates, grouped, aggregate_of_one, aggregate_over, applied, argument, column_only, columns_only, default_of, grouped_over, grouping_over, numbers, ordered, over_argument, over_arguments, over_none, over_one, over_star, over_three, over_two, shifted, whole}
-use Rattle.wd_resolve_scope.specs.Leaves.{SelectLeaf, of_row, call, over_columns, over_rows}
+use Rattle.wd_resolve_call.specs.Rows.{ArgumentMeaning, AggregateMeaning, count_of, sum_of, least_of, greatest_of, GroupCall, of_rows, grouping, RowFormula, column, of_group}
+use Rattle.wd_resolve_call.specs.Calls.{FunctionMeaning, ranking, away, value_at, aggregate}
+use Rattle.wd_resolve_call.specs.Functions.{GroupFunction, aggregates, grouped, aggregate_of_one, aggregate_over, applied, argument, column_only, columns_only, default_of, grouped_over, grouping_over, numbers, ordered, over_argument, over_arguments, over_none, over_one, over_star, over_three, over_two, shifted, whole}
+use Rattle.wd_resolve_call.specs.Leaves.{SelectLeaf, of_row, call, over_columns, over_rows}
 use Rattle.wd_resolve_scope.specs.Typed.{IsAggregate, IsArgument, IsFormula, IsFunction, IsGroupCall, IsOfKind, IsOperand, IsRowFormula, Readable}
 use Rattle.wd_resolve_scope.proofs.OverColumns.{over_columns_is, over_rows_is}
 use Rattle.wd_resolve_scope.proofs.TypedOperands.{settled_is}
-use Rattle.wd_resolve_scope.proofs.Typing.{bound, ok_is, same_kind-is}
+use Rattle.wd_resolve_scope.proofs.Typing.{same_kind-is}
+use Rattle.wd_resolve_call.proofs.Meanings.{bound, ok_is}
 
 -- what a test lets through
 passed : {A : Type 0} (b : Bool) (x y : A) (cause : Cause) → ◌≡◌ {A = Meant A} (cond b (Ok x) (Err cause)) (Ok y) → (b ≡ true) × (x ≡ y)

@@ -17,10 +17,11 @@ use Rattle.wd_syntax.specs.declared.expression.Literal.TheVariants as l
 use Rattle.wd_resolve_operand.specs.Formulas.{Formula, Not, Case, is_typed_over, kind_over, leaves}
 use Rattle.wd_resolve_operand.specs.Operands.{Operand, bare_null, typed, of_kind, settled, asked_by, given_by, over_both, combined, negated, sign_over, signed, int_literal, unsigned_number, number, literal, signed_number, arms_over, case_kind, case_of}
 use Rattle.wd_resolve_operand.specs.Operands as operands
-use Rattle.wd_resolve_scope.specs.Leaves.{SelectLeaf}
+use Rattle.wd_resolve_call.specs.Leaves.{SelectLeaf}
 use Rattle.wd_resolve_scope.specs.Typed.{IsFormula, IsLeaf, IsOperand, Readable, kind_at}
 use Rattle.wd_resolve_scope.proofs.Lists.{all_append}
-use Rattle.wd_resolve_scope.proofs.Typing.{and_both, bound, ok_is, same_kind-is, same_kind-itself}
+use Rattle.wd_resolve_scope.proofs.Typing.{and_both, same_kind-is, same_kind-itself}
+use Rattle.wd_resolve_call.proofs.Meanings.{bound, ok_is}
 
 module _ (r : Readable) where
   -- a place that asks for a kind has it

@@ -11,12 +11,12 @@ use Rattle.wd_resolve_scope.specs.Grouped.{GroupedRule}
 use Rattle.wd_resolve_scope.specs.Resolving.{ContextRule, all_defined, condition, defined, group_condition, is_known, plain, window_resolved}
 use Rattle.wd_resolve_scope.specs.declared.context.Place.{Place}
 use Rattle.wd_resolve_scope.specs.declared.context.Place.TheVariants as place
-use Rattle.wd_resolve_scope.specs.Leaves.{SelectLeaf, over_columns, over_rows}
-use Rattle.wd_resolve_scope.specs.Rows.{RowFormula}
+use Rattle.wd_resolve_call.specs.Leaves.{SelectLeaf, over_columns, over_rows}
+use Rattle.wd_resolve_call.specs.Rows.{RowFormula}
 use Rattle.wd_resolve_scope.specs.Scopes.{ScopeRule}
-use Rattle.wd_resolve_scope.specs.Windows.{KnownMeaning, WindowMeaning}
+use Rattle.wd_resolve_call.specs.Windows.{KnownMeaning, WindowMeaning}
 use Rattle.wd_resolve_scope.specs.Typed.{AreKnown, IsOfKind, IsOperand, IsRowFormula, IsWindow, kinds_in, readable}
-use Rattle.wd_resolve_scope.proofs.Typing.{bound, ok_is}
+use Rattle.wd_resolve_call.proofs.Meanings.{bound, ok_is}
 use Rattle.wd_resolve_scope.proofs.Lists.{all_push}
 use Rattle.wd_resolve_scope.proofs.OverColumns.{over_columns_is, over_rows_is}
 use Rattle.wd_resolve_scope.proofs.TypedOperands.{asked}

@@ -15,19 +15,20 @@ use Rattle.wd_resolve_operand.specs.Causes.{Meant, ◌>>=◌}
 use Rattle.wd_resolve_operand.specs.Formulas.{Leaf}
 use Rattle.wd_resolve_operand.specs.Operands.{Operand, typed, combined, negated, literal, case_of, settled}
 use Rattle.wd_resolve_operand.specs.Operands as operands
-use Rattle.wd_resolve_scope.specs.Calls.{kind_of_function}
-use Rattle.wd_resolve_scope.specs.Functions.{GroupFunction, aggregates, applied, function_named, group_function_named, grouped, grouped_over}
+use Rattle.wd_resolve_call.specs.Calls.{kind_of_function}
+use Rattle.wd_resolve_call.specs.Functions.{GroupFunction, aggregates, applied, function_named, group_function_named, grouped, grouped_over}
 use Rattle.wd_resolve_scope.specs.Grouped.{GroupedRule, column_allowed, column_meant, column_operand}
-use Rattle.wd_resolve_scope.specs.Leaves.{SelectLeaf, of_row, call, over_rows}
-use Rattle.wd_resolve_scope.specs.Rows.{GroupCall, RowFormula, kind_of_group_call, of_group}
+use Rattle.wd_resolve_call.specs.Leaves.{SelectLeaf, of_row, call, over_rows}
+use Rattle.wd_resolve_call.specs.Rows.{GroupCall, RowFormula, kind_of_group_call, of_group}
 use Rattle.wd_resolve_scope.specs.Names.{column_named, the_only}
 use Rattle.wd_resolve_scope.specs.Resolving.{ContextRule, all_resolved, all_settled, arguments_in, arms_resolved, call_over, called, else_resolved, group_called, key_meant, keys_resolved, may_group, resolved, sign_meant, where_allowed, window_resolved, without_over, moved_to, written_number}
 use Rattle.wd_resolve_scope.specs.Scopes.{ScopeRule, carries, numbered}
-use Rattle.wd_resolve_scope.specs.Windows.{KeyMeaning, KnownMeaning, WindowMeaning, base_named, sort_key, window_meant, window_named}
+use Rattle.wd_resolve_call.specs.Windows.{KeyMeaning, KnownMeaning, WindowMeaning, base_named, sort_key, window_meant, window_named}
 use Rattle.wd_resolve_scope.specs.Typed.{AreKeys, AreKnown, AreTyped, IsGroupCall, IsOperand, IsRowFormula, IsWindow, Readable, allowed, kinds_in, readable}
 use Rattle.wd_resolve_scope.proofs.Naming.{all_filter, numbered_behind}
 use Rattle.wd_resolve_scope.proofs.OverColumns.{over_rows_is}
-use Rattle.wd_resolve_scope.proofs.Typing.{both, bound, ok_is}
+use Rattle.wd_resolve_scope.proofs.Typing.{both}
+use Rattle.wd_resolve_call.proofs.Meanings.{bound, ok_is}
 use Rattle.wd_resolve_scope.proofs.TypedCalls.{AreArguments, applied_is, group_aggregate_is, grouping_is, let_through}
 use Rattle.wd_resolve_scope.proofs.TypedOperands.{AreArms, case_is, combined_is, literal_is, negated_is, settled_is, signed_is, signed_number_is, tested_is}
 use Rattle.wd_resolve_scope.proofs.TypedWindows.{IsBase, window_is}

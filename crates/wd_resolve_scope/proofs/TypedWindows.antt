@@ -8,10 +8,10 @@ use Rattle.wd_syntax.specs.declared.frame.Frame.{Frame as WrittenFrame}
 use Rattle.wd_resolve_operand.specs.declared.cause.Cause.{Cause}
 use Rattle.wd_resolve_operand.specs.declared.cause.Cause.TheVariants.{FrameBounds, RangeOffset, GroupsWithoutOrder, WindowCopy}
 use Rattle.wd_resolve_operand.specs.Causes.{Meant, ◌>>=◌}
-use Rattle.wd_resolve_scope.specs.Rows.{RowFormula}
-use Rattle.wd_resolve_scope.specs.Windows.{KeyMeaning, WindowMeaning, copied, frame_meant, frame_over, framed_by_mode, is_empty, is_one_number, order_copied, window_meant}
+use Rattle.wd_resolve_call.specs.Rows.{RowFormula}
+use Rattle.wd_resolve_call.specs.Windows.{KeyMeaning, WindowMeaning, copied, frame_meant, frame_over, framed_by_mode, is_empty, is_one_number, order_copied, window_meant}
 use Rattle.wd_resolve_scope.specs.Typed.{AreKeys, AreTyped, IsWindow, Readable, is_framed}
-use Rattle.wd_resolve_scope.proofs.Typing.{bound, ok_is}
+use Rattle.wd_resolve_call.proofs.Meanings.{bound, ok_is}
 
 -- what a test lets through
 stopped : {A : Type 0} (b : Bool) (m : Meant A) (y : A) (cause : Cause) → cond b (Err cause) m ≡ Ok y → (b ≡ false) × (m ≡ Ok y)

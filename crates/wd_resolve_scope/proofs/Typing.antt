@@ -1,21 +1,13 @@
--- What is meant, step by step, and kinds of columns.
-use Rattle.std.proofs.Common.{◌≡◌, refl, ℕ, Bool, true, false, ◌&&◌, Option, Some, None, is_some, Ok, Err}
+-- Kinds of columns.
+use Rattle.std.proofs.Common.{◌≡◌, refl, ℕ, Bool, true, false, ◌&&◌, Option, Some, None, is_some}
 use Rattle.std.proofs.lemmas.Bool.{false≢true}
 use Rattle.wd_plan.specs.declared.expression.ValueKind.{ValueKind}
 use Rattle.wd_plan.specs.declared.expression.ValueKind.TheVariants.{Number, Text, Truth}
 use Rattle.wd_plan.specs.Expressions.{Expression, Column, Literal, Negate, Arithmetic, Compare, Not, And, Or, IsNull, IsNotNull, Case}
 use Rattle.wd_plan.specs.Fits.{Kinds, are_alike, is_kind, is_typed, kind_of, same_kind}
-use Rattle.wd_resolve_operand.specs.Causes.{Meant, ◌>>=◌}
 use Rattle.wd_resolve_scope.specs.Typed.{IsOfKind}
 
--- ---- what is meant, step by step
-
-pub bound : {A B : Type 0} (m : Meant A) (f : A → Meant B) (y : B) → (m >>= f) ≡ Ok y → (x : A) × (m ≡ Ok x) × (f x ≡ Ok y)
-bound (Ok x) f y h = (x, refl, h)
-bound (Err cause) f y h = cc
-
-pub ok_is : {A : Type 0} (x y : A) → ◌≡◌ {A = Meant A} (Ok x) (Ok y) → x ≡ y
-ok_is x y h = cc
+-- ---- what is there
 
 pub some_is : {A : Type 0} (x y : A) → ◌≡◌ {A = Option A} (Some x) (Some y) → x ≡ y
 some_is x y h = cc

@@ -11,9 +11,9 @@ use Rattle.wd_resolve_operand.specs.Causes.{Meant, ◌>>=◌}
 use Rattle.wd_resolve_operand.specs.Formulas.{Leaf}
 use Rattle.wd_resolve_operand.specs.Operands.{Operand, typed}
 use Rattle.wd_resolve_scope.specs.declared.context.Grouped.{Grouped}
-use Rattle.wd_resolve_scope.specs.Functions.{group_function_named}
-use Rattle.wd_resolve_scope.specs.Leaves.{SelectLeaf, of_row}
-use Rattle.wd_resolve_scope.specs.Rows.{column}
+use Rattle.wd_resolve_call.specs.Functions.{group_function_named}
+use Rattle.wd_resolve_call.specs.Leaves.{SelectLeaf, of_row}
+use Rattle.wd_resolve_call.specs.Rows.{column}
 
 -- ---- by what it is grouped
 

@@ -2,9 +2,9 @@
 use Rattle.std.specs.Prelude.{◌≡◌, Ok}
 use Rattle.wd_syntax.specs.Tree.{Tree, WindowTree}
 use Rattle.wd_resolve_operand.specs.Operands.{Operand}
-use Rattle.wd_resolve_scope.specs.Leaves.{SelectLeaf}
+use Rattle.wd_resolve_call.specs.Leaves.{SelectLeaf}
 use Rattle.wd_resolve_scope.specs.Resolving.{ContextRule, resolved, window_resolved}
-use Rattle.wd_resolve_scope.specs.Windows.{WindowMeaning}
+use Rattle.wd_resolve_call.specs.Windows.{WindowMeaning}
 use Rattle.wd_resolve_scope.specs.Typed.{AreKnown, IsOperand, IsWindow, readable}
 
 -- What an expression means is typed, over the columns that may stand there and calls over those in scope.

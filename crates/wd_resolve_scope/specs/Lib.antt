@@ -1,10 +1,4 @@
 pub mod Scopes
-pub mod Rows
-pub mod Windows
-pub mod Calls
-pub mod Leaves
-pub mod Functions
-pub mod FunctionCode
 pub mod Names
 pub mod Places
 pub mod Grouped

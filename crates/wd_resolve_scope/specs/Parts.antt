@@ -6,10 +6,10 @@ use Rattle.wd_resolve_operand.specs.declared.cause.Cause.TheVariants.{WrongCall}
 use Rattle.wd_resolve_operand.specs.Causes.{Meant, ◌>>=◌}
 use Rattle.wd_resolve_operand.specs.Operands.{Operand, combined, case_of}
 use Rattle.wd_resolve_scope.specs.Grouped.{column_meant}
-use Rattle.wd_resolve_scope.specs.Leaves.{SelectLeaf}
+use Rattle.wd_resolve_call.specs.Leaves.{SelectLeaf}
 use Rattle.wd_resolve_scope.specs.Names.{column_named}
 use Rattle.wd_resolve_scope.specs.Resolving.{ContextRule, else_resolved, resolved, window_resolved}
-use Rattle.wd_resolve_scope.specs.Windows.{WindowMeaning, window_named}
+use Rattle.wd_resolve_call.specs.Windows.{WindowMeaning, window_named}
 
 -- a column, which in a grouped select is one that is grouped by
 abbrev pub column_resolved : ContextRule → Option (List ℕ) → List ℕ → Meant (Operand SelectLeaf)

@@ -22,11 +22,11 @@ use Rattle.wd_resolve_scope.specs.Scopes.{ScopeRule, scope_of}
 use Rattle.wd_resolve_scope.specs.Names.{column_named}
 use Rattle.wd_resolve_operand.specs.Formulas.{Formula, Leaf}
 use Rattle.wd_resolve_operand.specs.Operands.{Operand, bare_null, typed, of_kind, settled, kind_of, literal, signed_number, signed, negated, tested, combined, case_of}
-use Rattle.wd_resolve_scope.specs.Windows.{KeyMeaning, WindowMeaning, KnownMeaning, known_of, sort_key, window_meant, window_named, base_named}
-use Rattle.wd_resolve_scope.specs.Calls.{kind_of_function}
-use Rattle.wd_resolve_scope.specs.Functions.{GroupFunction, aggregates, applied, function_named, group_function_named, grouped, grouped_over}
-use Rattle.wd_resolve_scope.specs.Leaves.{SelectLeaf, of_row, call, over_columns, over_rows}
-use Rattle.wd_resolve_scope.specs.Rows.{RowFormula, kind_of_group_call, of_group}
+use Rattle.wd_resolve_call.specs.Windows.{KeyMeaning, WindowMeaning, KnownMeaning, known_of, sort_key, window_meant, window_named, base_named}
+use Rattle.wd_resolve_call.specs.Calls.{kind_of_function}
+use Rattle.wd_resolve_call.specs.Functions.{GroupFunction, aggregates, applied, function_named, group_function_named, grouped, grouped_over}
+use Rattle.wd_resolve_call.specs.Leaves.{SelectLeaf, of_row, call, over_columns, over_rows}
+use Rattle.wd_resolve_call.specs.Rows.{RowFormula, kind_of_group_call, of_group}
 
 -- what an expression is read in: the columns in scope, those of them that a grouped select is grouped by, the windows that have
 -- names, and the place where it stands

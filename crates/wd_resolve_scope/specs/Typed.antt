@@ -12,12 +12,12 @@ use Rattle.wd_plan.specs.Fits.{Kinds, are_bounds, has_extremes, has_offset, is_f
 use Rattle.wd_resolve_operand.specs.Formulas.{Formula, is_typed_over, kind_over, leaves}
 use Rattle.wd_resolve_operand.specs.Operands.{Operand, bare_null, typed}
 use Rattle.wd_resolve_scope.specs.declared.scope.ScopeColumn.{ScopeColumn}
-use Rattle.wd_resolve_scope.specs.Rows.{ArgumentMeaning, AggregateMeaning, count_rows, count_of, sum_of, least_of, greatest_of, GroupCall, of_rows, grouping, RowLeaf, column, of_group, RowFormula, kind_of_group_call}
-use Rattle.wd_resolve_scope.specs.Calls.{FunctionMeaning, ranking, away, value_at, aggregate, CallMeaning, kind_of_function}
-use Rattle.wd_resolve_scope.specs.Leaves.{SelectLeaf, of_row, call}
+use Rattle.wd_resolve_call.specs.Rows.{ArgumentMeaning, AggregateMeaning, count_rows, count_of, sum_of, least_of, greatest_of, GroupCall, of_rows, grouping, RowLeaf, column, of_group, RowFormula, kind_of_group_call}
+use Rattle.wd_resolve_call.specs.Calls.{FunctionMeaning, ranking, away, value_at, aggregate, CallMeaning, kind_of_function}
+use Rattle.wd_resolve_call.specs.Leaves.{SelectLeaf, of_row, call}
 use Rattle.wd_resolve_scope.specs.Grouped.{GroupedRule}
 use Rattle.wd_resolve_scope.specs.Scopes.{ScopeRule}
-use Rattle.wd_resolve_scope.specs.Windows.{KeyMeaning, KnownMeaning, WindowMeaning, is_empty, is_one_number}
+use Rattle.wd_resolve_call.specs.Windows.{KeyMeaning, KnownMeaning, WindowMeaning, is_empty, is_one_number}
 
 -- the kinds of the columns in scope
 abbrev pub kinds_in : ScopeRule → Kinds

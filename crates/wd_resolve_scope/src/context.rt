@@ -4,7 +4,7 @@ ghost use Rattle.std.specs.Prelude.{◌≡◌};
 ghost use Rattle.wd_resolve_scope.specs.Places as spec;
 
 use crate::scope::Scope;
-use crate::window::KnownWindow;
+use wd_resolve_call::KnownWindow;
 use wd_resolve_operand::Cause;
 
 /// Where in a query an expression stands.

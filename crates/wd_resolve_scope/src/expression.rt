@@ -6,29 +6,26 @@ ghost use Rattle.wd_syntax.specs.View.{view, view_link, view_window, view_over, 
 ghost use Rattle.wd_syntax.specs.View as shown;
 ghost use Rattle.wd_syntax.specs.Tree.{trees_of, arms_of, keys_of};
 ghost use Rattle.wd_resolve_operand.specs.Causes.{Gives};
-ghost use Rattle.wd_resolve_scope.specs.Functions.{group_function_named};
+ghost use Rattle.wd_resolve_call.specs.Functions.{group_function_named};
 ghost use Rattle.wd_resolve_scope.specs.Grouped.{column_allowed, grouped_of};
-ghost use Rattle.wd_resolve_scope.specs.Leaves.{operand_of, operands_of, arm_of, formula_of};
-ghost use Rattle.wd_resolve_scope.specs.Rows.{row_formula_of};
+ghost use Rattle.wd_resolve_call.specs.Leaves.{operand_of, operands_of, arm_of, formula_of};
+ghost use Rattle.wd_resolve_call.specs.Rows.{row_formula_of};
 ghost use Rattle.wd_resolve_scope.specs.Parts as parts;
 ghost use Rattle.wd_resolve_scope.specs.Resolving.{context_of};
 ghost use Rattle.wd_resolve_scope.specs.Resolving as spec;
 ghost use Rattle.wd_resolve_scope.specs.Scopes.{scope_of};
-ghost use Rattle.wd_resolve_scope.specs.Windows.{key_of, window_of, known_of};
+ghost use Rattle.wd_resolve_call.specs.Windows.{key_of, window_of, known_of};
 
-use crate::call::WindowCall;
 use crate::context::{Context, Grouped, Place};
-use crate::function;
-use crate::function::{GroupFunction, applied, grouped_over};
-use crate::leaf::{SelectLeaf, over_columns, over_rows, settled_over};
-use crate::row::RowLeaf;
 use crate::scope::Scope;
-use crate::window::{
-    KnownWindow, OrderKey, Window, base_named, sort_key, window_meant, window_named,
-};
 use std::alloc::Global;
 use std::rc::Rc;
 use wd_plan::{Expr, ValueKind, has_column};
+use wd_resolve_call::{
+    GroupFunction, KnownWindow, OrderKey, RowLeaf, SelectLeaf, Window, WindowCall, applied,
+    base_named, group_function_named, grouped_over, over_columns, over_rows, settled_over,
+    sort_key, window_meant, window_named,
+};
 use wd_resolve_operand::{
     CaseArm, Cause, Formula, Meaning, ResolveError, case_of, combined, literal, negated, signed,
     signed_number, tested,
@@ -64,7 +61,7 @@ impl Context<'_> {
     fn without_over(&self, name: &Name) -> Context<'_>
         ensures { context_of result ≡ spec.without_over (group_function_named name.now.text) (context_of self.now) }
     {
-        match function::group_function_named(name.text.as_str()) {
+        match group_function_named(name.text.as_str()) {
             None => self.moved_to(self.place),
             Some(GroupFunction::Aggregate(_)) => Context {
                 scope: self.scope,
@@ -221,7 +218,7 @@ fn group_called(
 ) -> Result<Meaning<SelectLeaf>, ResolveError>
     ensures { Gives operand_of result (spec.group_called (context_of context.now) (group_function_named name.now.text) (option_map operands_of arguments)) }
 {
-    let Some(function) = function::group_function_named(name.text.as_str()) else {
+    let Some(function) = group_function_named(name.text.as_str()) else {
         return Err(ResolveError::Refused(Cause::WrongCall));
     };
     if !context.may_group() {

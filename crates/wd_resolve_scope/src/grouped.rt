@@ -6,7 +6,7 @@ ghost use Rattle.wd_syntax.specs.Tree.{trees_of, arms_of, keys_of};
 ghost use Rattle.wd_syntax.specs.View.{view, view_arm, view_else_option, view_item, view_key, view_named_window, view_over_option, view_parts, view_window};
 ghost use Rattle.wd_resolve_scope.specs.Grouped as spec;
 
-use crate::function::group_function_named;
+use wd_resolve_call::group_function_named;
 use wd_syntax as written;
 use wd_syntax::{Arm, Item, Link, Name, NamedWindow, Over, Select, SortKey};
 

@@ -5,7 +5,7 @@ use Rattle.wd_plan.specs.declared.expression.ValueKind.{ValueKind}
 use Rattle.wd_plan.specs.declared.function.FrameFunction.TheVariants as of_frame
 use Rattle.wd_plan.specs.declared.function.Function.TheVariants.{OfFrame}
 use Rattle.wd_plan.specs.Fits.{Kinds, kind_of_function, takes}
-use Rattle.wd_resolve_scope.specs.Rows.{AggregateMeaning, count_rows, count_of, sum_of, least_of, greatest_of, aggregated, kind_of_aggregate}
+use Rattle.wd_resolve_call.specs.Rows.{AggregateMeaning, count_rows, count_of, sum_of, least_of, greatest_of, aggregated, kind_of_aggregate}
 use Rattle.wd_resolve_scope.specs.Typed.{IsAggregate}
 use Rattle.wd_resolve_scope.proofs.Typing.{and_both}
 use Rattle.wd_resolve_select.specs.Steps.{aggregate_over}

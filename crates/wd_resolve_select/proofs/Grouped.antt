@@ -12,21 +12,21 @@ use Rattle.wd_plan.specs.Expressions.{Expression, Column}
 use Rattle.wd_plan.specs.Fits.{Kinds, are_sets, fits, is_group_call, is_typed, kind_of, kinds_of}
 use Rattle.wd_plan.specs.Fits as fits_spec
 use Rattle.wd_plan.specs.Plans.{PlanTree, Map, has}
-use Rattle.wd_resolve_scope.specs.Rows.{AggregateMeaning, count_rows, count_of, sum_of, least_of, greatest_of, GroupCall, of_rows, grouping, RowLeaf, column, of_group, aggregated, kind_of_group_call, same_group_call}
+use Rattle.wd_resolve_call.specs.Rows.{AggregateMeaning, count_rows, count_of, sum_of, least_of, greatest_of, GroupCall, of_rows, grouping, RowLeaf, column, of_group, aggregated, kind_of_group_call, same_group_call}
 use Rattle.wd_resolve_scope.specs.Scopes.{ScopeRule}
 use Rattle.wd_resolve_scope.specs.Typed.{IsAggregate, IsGroupCall, IsOfKind, IsRowLeaf, Readable, kinds_in, readable, row_kind_at}
 use Rattle.wd_resolve_scope.proofs.Equal.{group_call_kind, same_expression-is}
 use Rattle.wd_resolve_scope.proofs.Lists.{all_get}
 use Rattle.wd_resolve_scope.proofs.Typing.{Extends, and_both, kept, some_is, typed_kept}
-use Rattle.wd_resolve_select.specs.Grouping.{grouped_rule, numbers_from, set_seated}
-use Rattle.wd_resolve_select.specs.Listing.{GroupedBy, group_argument_of, group_inputs, group_place, is_group_wide, number_in, with_new}
+use Rattle.wd_resolve_list.specs.Grouping.{grouped_rule, numbers_from, set_seated}
+use Rattle.wd_resolve_list.specs.Listing.{GroupedBy, group_argument_of, group_inputs, group_place, is_group_wide, number_in, with_new}
 use Rattle.wd_resolve_select.specs.Steps.{group_call_over, group_on}
 use Rattle.wd_resolve_select.proofs.Aggregates.{gives_aggregate, takes_aggregate}
-use Rattle.wd_resolve_select.proofs.Among.{all_append, all_split, all_there, all_with_new, first_is, first_there}
-use Rattle.wd_resolve_select.proofs.GroupedColumns.{IsGrouped}
-use Rattle.wd_resolve_select.proofs.Narrow.{few_arguments, few_groups}
+use Rattle.wd_resolve_list.proofs.Among.{all_append, all_split, all_there, all_with_new, first_is, first_there}
+use Rattle.wd_resolve_list.proofs.GroupedColumns.{IsGrouped}
+use Rattle.wd_resolve_list.proofs.Narrow.{few_arguments, few_groups}
 use Rattle.wd_resolve_select.proofs.PlanKinds.{HasKinds, get_first, scope_is, scope_kinds}
-use Rattle.wd_resolve_select.proofs.ReadBy.{same_expression-itself}
+use Rattle.wd_resolve_list.proofs.ReadBy.{same_expression-itself}
 
 -- ---- elements before those that are met
 

@@ -1,14 +1,7 @@
-pub mod FirstMet
-pub mod Narrow
 pub mod Counted
 pub mod PlanKinds
-pub mod Among
-pub mod ReadBy
 pub mod SeatedFormulas
-pub mod GroupedColumns
 pub mod Aggregates
 pub mod Grouped
 pub mod Windowed
-pub mod ListedOutputs
 pub mod StepsFit
-pub mod ShownColumns

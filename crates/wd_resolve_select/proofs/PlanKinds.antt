@@ -15,7 +15,7 @@ use Rattle.wd_resolve_scope.specs.declared.scope.ScopeColumn.{ScopeColumn}
 use Rattle.wd_resolve_scope.specs.Scopes.{ScopeRule}
 use Rattle.wd_resolve_scope.specs.Typed.{IsOfKind, kinds_in}
 use Rattle.wd_resolve_scope.proofs.Typing.{and_both, column_is, kept}
-use Rattle.wd_resolve_select.specs.declared.output.OutputColumn.{OutputColumn}
+use Rattle.wd_resolve_list.specs.declared.output.OutputColumn.{OutputColumn}
 use Rattle.wd_resolve_select.specs.Steps.{columns_from}
 
 -- a plan that fits, and gives columns of these kinds, at most 1,024

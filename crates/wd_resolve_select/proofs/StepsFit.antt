@@ -12,24 +12,25 @@ use Rattle.wd_resolve_operand.specs.Formulas.{Formula, leaves}
 use Rattle.wd_syntax.specs.Tree.{Tree}
 use Rattle.wd_resolve_operand.specs.declared.cause.Cause.TheVariants.{TooMany}
 use Rattle.wd_resolve_scope.specs.Resolving.{group_condition}
-use Rattle.wd_resolve_scope.specs.Leaves.{SelectLeaf}
-use Rattle.wd_resolve_scope.specs.Rows.{GroupCall, RowLeaf, column, of_group, RowFormula, same_group_call}
+use Rattle.wd_resolve_call.specs.Leaves.{SelectLeaf}
+use Rattle.wd_resolve_call.specs.Rows.{GroupCall, RowLeaf, column, of_group, RowFormula, same_group_call}
 use Rattle.wd_resolve_scope.specs.Scopes.{ScopeRule}
 use Rattle.wd_resolve_scope.specs.Typed.{AreTyped, IsGroupCall, IsLeaf, IsRowFormula, IsRowLeaf, Readable, readable, row_kind_at}
 use Rattle.wd_resolve_scope.proofs.Seated.{AreSeated, IsSeated, seated_kind, seated_typed}
 use Rattle.wd_resolve_scope.proofs.TypedPlain.{group_condition_is}
-use Rattle.wd_resolve_scope.proofs.Typing.{and_both, bound, ok_is}
-use Rattle.wd_resolve_select.specs.Grouping.{IsNarrow, below_meant, grouped_rule, having_meant, narrow_below as narrow_below_meant}
-use Rattle.wd_resolve_select.specs.Listing.{Below, GroupedBy, Needs, all_leaves, all_needs, all_row_leaves, are_wide, column_of, group_calls_among, group_calls_read, group_place, having_groups, is_group_wide, is_window_wide, needs_of, needs_with, no_needs, read_by_all, with_new}
+use Rattle.wd_resolve_scope.proofs.Typing.{and_both}
+use Rattle.wd_resolve_call.proofs.Meanings.{bound, ok_is}
+use Rattle.wd_resolve_list.specs.Grouping.{IsNarrow, below_meant, grouped_rule, having_meant, narrow_below as narrow_below_meant}
+use Rattle.wd_resolve_list.specs.Listing.{Below, GroupedBy, Needs, all_leaves, all_needs, all_row_leaves, are_wide, column_of, group_calls_among, group_calls_read, group_place, having_groups, is_group_wide, is_window_wide, needs_of, needs_with, no_needs, read_by_all, with_new}
 use Rattle.wd_resolve_select.specs.Steps.{group_on, having_on, mapped, mapped_over}
-use Rattle.wd_resolve_select.proofs.Among.{all_append, all_on_each, all_split, all_there, all_with_new, still_there}
-use Rattle.wd_resolve_select.proofs.FirstMet.{leaves_append, needs_append, read_append}
+use Rattle.wd_resolve_list.proofs.Among.{all_append, all_on_each, all_split, all_there, all_with_new, still_there}
+use Rattle.wd_resolve_list.proofs.FirstMet.{leaves_append, needs_append, read_append}
 use Rattle.wd_resolve_select.proofs.Grouped.{group_fits, leaf_over}
-use Rattle.wd_resolve_select.proofs.GroupedColumns.{AreGrouped, IsGrouped}
-use Rattle.wd_resolve_select.proofs.Narrow.{narrow_below}
+use Rattle.wd_resolve_list.proofs.GroupedColumns.{AreGrouped, IsGrouped}
+use Rattle.wd_resolve_list.proofs.Narrow.{narrow_below}
 use Rattle.wd_resolve_select.proofs.PlanKinds.{HasKinds, scope_is, scope_kinds}
-use Rattle.wd_resolve_select.proofs.ReadBy.{all_read_typed, same_group_call-itself}
-use Rattle.wd_resolve_select.proofs.SeatedFormulas.{AreFormulas, formulas_leaves}
+use Rattle.wd_resolve_list.proofs.ReadBy.{all_read_typed, same_group_call-itself}
+use Rattle.wd_resolve_list.proofs.TypedFormulas.{AreFormulas, formulas_leaves}
 use Rattle.wd_resolve_select.proofs.Windowed.{mapped_over_is}
 
 -- ---- the leaves of what is read

@@ -21,22 +21,23 @@ use Rattle.wd_plan.specs.declared.function.Direction.TheVariants as way
 use Rattle.wd_plan.specs.declared.function.FrameRow.TheVariants.{First, Last, Nth}
 use Rattle.wd_plan.specs.declared.function.Ranking.TheVariants as rank
 use Rattle.wd_resolve_operand.specs.Formulas.{Formula, Leaf, seated}
-use Rattle.wd_resolve_scope.specs.Rows.{RowFormula, RowLeaf, same_row_formula}
-use Rattle.wd_resolve_scope.specs.Calls.{FunctionMeaning, ranking, away, value_at, aggregate, CallMeaning, kind_of_function, same_call}
-use Rattle.wd_resolve_scope.specs.Leaves.{SelectLeaf, of_row, call}
-use Rattle.wd_resolve_scope.specs.Windows.{KeyMeaning, is_empty, is_one_number}
+use Rattle.wd_resolve_call.specs.Rows.{RowFormula, RowLeaf, same_row_formula}
+use Rattle.wd_resolve_call.specs.Calls.{FunctionMeaning, ranking, away, value_at, aggregate, CallMeaning, kind_of_function, same_call}
+use Rattle.wd_resolve_call.specs.Leaves.{SelectLeaf, of_row, call}
+use Rattle.wd_resolve_call.specs.Windows.{KeyMeaning, is_empty, is_one_number}
 use Rattle.wd_resolve_scope.specs.Typed.{AreKeys, AreTyped, IsCall, IsFunction, IsLeaf, IsRowFormula, IsTypedRow, Readable, is_framed, kind_at, row_kind_at}
 use Rattle.wd_resolve_scope.proofs.Seated.{AreSeated, IsSeated, seated_kind, seated_typed}
 use Rattle.wd_resolve_scope.proofs.Typing.{and_both, both}
 use Rattle.wd_resolve_scope.proofs.Lists.{all_get, all_on}
 use Rattle.wd_resolve_scope.proofs.Equal.{one_row_kind, same_call-kind}
-use Rattle.wd_resolve_select.specs.Listing.{all_leaves, argument_of, calls_among, input_number, is_window_wide, needs_of, place_above, place_in, read_by, read_by_all, sorted_by, with_new}
+use Rattle.wd_resolve_list.specs.Listing.{all_leaves, argument_of, calls_among, input_number, is_window_wide, needs_of, place_above, place_in, read_by, read_by_all, sorted_by, with_new}
 use Rattle.wd_resolve_select.specs.Steps.{call_over, class_over, classes_over, function_over, mapped_over, order_item, same_class, same_item, window_over, windowed}
 use Rattle.wd_resolve_select.proofs.Aggregates.{gives_aggregate, takes_aggregate}
-use Rattle.wd_resolve_select.proofs.Among.{all_there, all_true, all_with_new, all_zip, first_is, first_there}
+use Rattle.wd_resolve_list.proofs.Among.{all_there, all_true, all_with_new, all_zip, first_is, first_there}
 use Rattle.wd_resolve_select.proofs.PlanKinds.{HasKinds, map_is}
-use Rattle.wd_resolve_select.proofs.ReadBy.{AreAmong, AreLeaves, IsAmong, IsFed, all_read_typed, each_among, fed, of_calls, of_leaves, row_leaf_typed, same_call-itself, same_row_formula-itself}
-use Rattle.wd_resolve_select.proofs.SeatedFormulas.{AreFormulas, all_seated, formulas_leaves, formulas_many}
+use Rattle.wd_resolve_list.proofs.ReadBy.{AreAmong, AreLeaves, IsAmong, IsFed, all_read_typed, each_among, fed, of_calls, of_leaves, row_leaf_typed, same_call-itself, same_row_formula-itself}
+use Rattle.wd_resolve_list.proofs.TypedFormulas.{AreFormulas, formulas_leaves, formulas_many}
+use Rattle.wd_resolve_select.proofs.SeatedFormulas.{all_seated}
 
 -- ---- classes that are the same are equal
 

@@ -1,6 +1,3 @@
-pub mod Listing
-pub mod Outputs
-pub mod Grouping
 pub mod Sorting
 pub mod Cuts
 pub mod Steps

@@ -21,16 +21,16 @@ use Rattle.wd_resolve_operand.specs.Operands.{number, settled}
 use Rattle.wd_resolve_scope.specs.declared.context.Place.TheVariants as place
 use Rattle.wd_resolve_scope.specs.Grouped.{GroupedRule, grouped_of}
 use Rattle.wd_resolve_scope.specs.Scopes.{ScopeRule, scope_of}
-use Rattle.wd_resolve_scope.specs.Windows.{sort_key}
-use Rattle.wd_resolve_scope.specs.Leaves.{SelectLeaf, formula_of, same_leaf}
+use Rattle.wd_resolve_call.specs.Windows.{sort_key}
+use Rattle.wd_resolve_call.specs.Leaves.{SelectLeaf, formula_of, same_leaf}
 use Rattle.wd_resolve_scope.specs.Resolving.{plain, written_number}
 use Rattle.wd_resolve_select.specs.declared.shown.Shown.{Shown as CodeShown}
 use Rattle.wd_resolve_select.specs.declared.shown.KeyPlace.{KeyPlace as CodePlace}
 use Rattle.wd_resolve_select.specs.declared.shown.KeyPlace.TheVariants as code
 use Rattle.wd_resolve_select.specs.declared.shown.Sorted.{Sorted as CodeSorted}
-use Rattle.wd_resolve_select.specs.Grouping.{below_of}
-use Rattle.wd_resolve_select.specs.Listing.{Below, all_needs, are_wide, needs_shown}
-use Rattle.wd_resolve_select.specs.Outputs.{OutputMeaning, expressions_of, output_of}
+use Rattle.wd_resolve_list.specs.Grouping.{below_of}
+use Rattle.wd_resolve_list.specs.Listing.{Below, all_needs, are_wide, needs_shown}
+use Rattle.wd_resolve_list.specs.Outputs.{OutputMeaning, expressions_of, output_of}
 
 -- what a select has before its ORDER BY: the columns of FROM, those that may stand in it, what stands below its windows, whether it
 -- is DISTINCT, and its outputs

@@ -17,17 +17,17 @@ use Rattle.wd_plan.specs.Equality.{same_expression}
 use Rattle.wd_plan.specs.Plans.{ClassRule, GroupCall as GroupCallRule, OfRows, Grouping, GroupRule, WindowRule, PlanTree, Filter, Map, Group, Window, Distinct, Limit}
 use Rattle.wd_resolve_operand.specs.Causes.{Meant, ◌>>=◌}
 use Rattle.wd_resolve_operand.specs.Formulas.{Formula, seated}
-use Rattle.wd_resolve_scope.specs.Rows.{AggregateMeaning, count_rows, count_of, sum_of, least_of, greatest_of, GroupCall, of_rows, grouping, RowLeaf, RowFormula}
-use Rattle.wd_resolve_scope.specs.Calls.{FunctionMeaning, ranking, away, value_at, aggregate, CallMeaning}
-use Rattle.wd_resolve_scope.specs.Leaves.{SelectLeaf}
+use Rattle.wd_resolve_call.specs.Rows.{AggregateMeaning, count_rows, count_of, sum_of, least_of, greatest_of, GroupCall, of_rows, grouping, RowLeaf, RowFormula}
+use Rattle.wd_resolve_call.specs.Calls.{FunctionMeaning, ranking, away, value_at, aggregate, CallMeaning}
+use Rattle.wd_resolve_call.specs.Leaves.{SelectLeaf}
 use Rattle.wd_resolve_scope.specs.Resolving.{condition}
 use Rattle.wd_resolve_scope.specs.declared.context.Place.TheVariants as place
 use Rattle.wd_resolve_scope.specs.Scopes.{ScopeRule}
-use Rattle.wd_resolve_scope.specs.Windows.{KeyMeaning}
-use Rattle.wd_resolve_select.specs.declared.output.OutputColumn.{OutputColumn}
-use Rattle.wd_resolve_select.specs.Grouping.{set_seated}
-use Rattle.wd_resolve_select.specs.Listing.{Below, GroupedBy, Needs, all_needs, group_inputs, group_place, input_number, number_in, over, row_place, with_new}
-use Rattle.wd_resolve_select.specs.Outputs.{OutputMeaning, expressions_of}
+use Rattle.wd_resolve_call.specs.Windows.{KeyMeaning}
+use Rattle.wd_resolve_list.specs.declared.output.OutputColumn.{OutputColumn}
+use Rattle.wd_resolve_list.specs.Grouping.{set_seated}
+use Rattle.wd_resolve_list.specs.Listing.{Below, GroupedBy, Needs, all_needs, group_inputs, group_place, input_number, number_in, over, row_place, with_new}
+use Rattle.wd_resolve_list.specs.Outputs.{OutputMeaning, expressions_of}
 use Rattle.wd_resolve_select.specs.Sorting.{Shown, Sorted, Cut}
 
 -- ---- the windows of a select list

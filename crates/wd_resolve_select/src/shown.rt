@@ -2,9 +2,7 @@
 
 ghost use Rattle.std.specs.Prelude.{◌≤◌, length};
 
-use crate::below::Below;
-use crate::needs::Needs;
-use crate::output::Output;
+use wd_resolve_list::{Below, Needs, Output};
 use wd_resolve_operand::Formula;
 use wd_resolve_scope::{Grouped, Scope, SelectLeaf};
 use wd_value::SortColumn;

@@ -5,18 +5,17 @@ ghost use Rattle.std.specs.List.{list_all, position_or_len};
 ghost use Rattle.wd_syntax.specs.Tree.{keys_of};
 ghost use Rattle.wd_syntax.specs.View.{view, view_key};
 ghost use Rattle.wd_resolve_operand.specs.Causes.{Gives};
-ghost use Rattle.wd_resolve_scope.specs.Leaves.{formula_of};
-ghost use Rattle.wd_resolve_scope.specs.Windows as windows;
-ghost use Rattle.wd_resolve_select.specs.Listing.{needs_shown};
-ghost use Rattle.wd_resolve_select.specs.Listing as listing;
-ghost use Rattle.wd_resolve_select.specs.Outputs.{expressions_of, output_of};
+ghost use Rattle.wd_resolve_call.specs.Leaves.{formula_of};
+ghost use Rattle.wd_resolve_call.specs.Windows as windows;
+ghost use Rattle.wd_resolve_list.specs.Listing.{needs_shown};
+ghost use Rattle.wd_resolve_list.specs.Listing as listing;
+ghost use Rattle.wd_resolve_list.specs.Outputs.{expressions_of, output_of};
 ghost use Rattle.wd_resolve_select.specs.Sorting.{shown_of, place_shown, sorted_of, IsCounted, IsNarrow};
 ghost use Rattle.wd_resolve_select.specs.Sorting as spec;
 
-use crate::needs::Needs;
-use crate::output::Output;
 use crate::shown::{KeyPlace, Shown, Sorted};
 use std::alloc::Global;
+use wd_resolve_list::{Needs, Output};
 use wd_resolve_operand::{Cause, Formula, ResolveError, number};
 use wd_resolve_scope::{Place, SelectLeaf, plain, sort_key, written_number};
 use wd_syntax as written;
@@ -87,7 +86,7 @@ fn names_only(name: &Name, formula: &Formula<SelectLeaf>, outputs: &[Output]) ->
 }
 
 /// The number of the first output of a name; 403 where another has it and shows another expression.
-#[tactic(auto, using(crate::proofs::Among::found_at, crate::proofs::Among::found_none))]
+#[tactic(auto, using(wd_resolve_list::proofs::Among::found_at, wd_resolve_list::proofs::Among::found_none))]
 fn first_named(name: &Name, outputs: &[Output]) -> Result<Option<u16>, ResolveError>
     requires { length outputs.now ≤ 1024 }
     ensures { Gives (λ number. number) result (spec.first_named name.now.text (map output_of outputs.now)) }
@@ -213,7 +212,7 @@ fn with_output(
 }
 
 /// A further hidden column, and a key by it.
-#[tactic(auto, using(crate::proofs::Counted::needs_pushed))]
+#[tactic(auto, using(wd_resolve_list::proofs::Counted::needs_pushed))]
 fn with_column(
     alloc: Global,
     sorted: Sorted,

@@ -9,24 +9,18 @@ ghost use Rattle.wd_plan.specs.Plans.{class_of, group_call_of as plan_call_of, p
 ghost use Rattle.wd_plan.specs.Plans as tree;
 ghost use Rattle.wd_syntax.specs.View.{view_option};
 ghost use Rattle.wd_resolve_operand.specs.Causes.{Gives};
-ghost use Rattle.wd_resolve_scope.specs.Calls.{call_of, function_of};
-ghost use Rattle.wd_resolve_scope.specs.Rows.{aggregate_of, group_call_of, row_formula_of};
-ghost use Rattle.wd_resolve_select.specs.Grouping.{below_of};
-ghost use Rattle.wd_resolve_select.specs.Grouping as grouping_spec;
-ghost use Rattle.wd_resolve_scope.specs.Leaves.{formula_of};
+ghost use Rattle.wd_resolve_call.specs.Calls.{call_of, function_of};
+ghost use Rattle.wd_resolve_call.specs.Rows.{aggregate_of, group_call_of, row_formula_of};
+ghost use Rattle.wd_resolve_list.specs.Grouping.{below_of};
+ghost use Rattle.wd_resolve_list.specs.Grouping as grouping_spec;
+ghost use Rattle.wd_resolve_call.specs.Leaves.{formula_of};
 ghost use Rattle.wd_resolve_scope.specs.Scopes.{scope_of};
-ghost use Rattle.wd_resolve_scope.specs.Windows.{key_of};
+ghost use Rattle.wd_resolve_call.specs.Windows.{key_of};
 ghost use Rattle.wd_resolve_select.specs.Cuts.{cut_of};
-ghost use Rattle.wd_resolve_select.specs.Listing.{grouped_by_of, input_number as input_meant, is_group_wide, is_window_wide, needs_shown, number_in, row_place, shared_call, with_new};
+ghost use Rattle.wd_resolve_list.specs.Listing.{grouped_by_of, input_number as input_meant, is_group_wide, is_window_wide, needs_shown, number_in, row_place, shared_call, with_new};
 ghost use Rattle.wd_resolve_select.specs.Steps as spec;
 
-use crate::below::Below;
-use crate::grouping::GroupedBy;
-use crate::groups::{expression_number, group_inputs};
-use crate::inputs::input_number;
 use crate::limits::Cut;
-use crate::needs::Needs;
-use crate::places::column_number;
 use crate::seated::{all_seated, inputs_seated, row_seated};
 use std::alloc::Global;
 use std::rc::Rc;
@@ -34,6 +28,9 @@ use wd_plan as plan;
 use wd_plan::{
     Aggregate, Call, Class, Expr, FrameFunction, Function, Group, Limit, Plan, Shift, Window,
     has_column,
+};
+use wd_resolve_list::{
+    Below, GroupedBy, Needs, column_number, expression_number, group_inputs, input_number,
 };
 use wd_resolve_operand::{Formula, ResolveError};
 use wd_resolve_scope::{
@@ -219,7 +216,7 @@ fn class_number(classes: &[Class], class: &Class) -> usize
 }
 
 /// Whether a class is among others.
-#[tactic(auto, using(crate::proofs::FirstMet::any_by_number))]
+#[tactic(auto, using(wd_resolve_list::proofs::FirstMet::any_by_number))]
 fn is_known(classes: &[Class], class: &Class) -> bool
     ensures { result ≡ list_any (spec.same_class (class_of class.now)) (map class_of classes.now) }
 {
@@ -440,7 +437,7 @@ fn group_calls_over(
 }
 
 /// The Group of a grouped select over its Map.
-#[tactic(auto, using(crate::proofs::Narrow::few_groups))]
+#[tactic(auto, using(wd_resolve_list::proofs::Narrow::few_groups))]
 fn group_on(
     alloc: Global,
     grouped: &GroupedBy,
@@ -474,7 +471,7 @@ fn having_on(alloc: Global, needs: &Needs, below: &Below, plan: Plan) -> Result<
     let Some(condition) = &below.having else {
         return Ok(plan);
     };
-    let condition = Box::into_inner(row_seated(alloc, needs, below, condition)?);
+    let condition = row_seated(alloc, needs, below, condition)?;
     Ok(Plan::Filter {
         input: Box::new(alloc, plan)?,
         condition,

@@ -9,7 +9,7 @@ use Rattle.wd_certificate.specs.declared.certificate.Target.{Target}
 use Rattle.wd_certificate.specs.declared.certificate.Target.TheVariants as target
 use Rattle.wd_certificate.specs.declared.error.CertError.{CertError}
 use Rattle.wd_certificate.specs.declared.error.CertError.TheVariants.{OutOfRange, UnreachedClaim}
-use Rattle.wd_facts.specs.Facts.{columns_named, FactList, Paired, Same, Holds, is_column, is_plain, is_plain_fact}
+use Rattle.wd_facts.specs.Facts.{columns_named, FactList, Paired, Same, Holds, is_plain, is_plain_fact}
 use Rattle.wd_facts.specs.Laws.{AreKept, ArePlain}
 use Rattle.wd_facts.proofs.Nodes.{unpaired_hold}
 use Rattle.wd_facts.proofs.Sides.{HasSides}
@@ -26,7 +26,7 @@ targets_plain columns (target.Column c ∷ to) e =
     λ i. parts.0 i && targets_plain columns to parts.1 i
 targets_plain columns (target.Row ∷ to) e = targets_plain columns to e
 
-columns_plain : (columns : ℕ) (X : List ℕ) → list_all (λ c. nat_lt c columns) X ≡ true → list_all (is_column columns) (columns_named X) ≡ true
+columns_plain : (columns : ℕ) (X : List ℕ) → list_all (λ c. nat_lt c columns) X ≡ true → list_all (is_plain columns) (columns_named X) ≡ true
 columns_plain columns [] e = refl
 columns_plain columns (c ∷ X) e =
     let parts = and_parts (nat_lt c columns) (list_all (λ c. nat_lt c columns) X) e in
@@ -62,7 +62,7 @@ module _ (node : ℕ) (facts : FactList) (columns : ℕ) (traces : List TraceRec
   is_plain_kept kept e =
       let is = is_shown node facts columns kept.to (slice_get shown kept.trace) e in
       let from = from_is node facts traces shown are kept.trace is.trace is.at in
-      let from_columns = subst (λ X. list_all (is_column columns) (columns_named X) ≡ true) (sym from) (columns_plain columns is.trace.from is.columns_from) in
+      let from_columns = subst (λ X. list_all (is_plain columns) (columns_named X) ≡ true) (sym from) (columns_plain columns is.trace.from is.columns_from) in
       λ i. from_columns i && targets_plain columns kept.to is.targets i
 
   pub keeps_plain : (keep : List KeptRecord) → keep_refusal node facts columns shown keep ≡ None → ArePlain columns (map (kept_fact traces) keep)

@@ -1,5 +1,6 @@
 pub mod Refused
 pub mod Traces
+pub mod Valid
 pub mod Kept
 pub mod Settled
 pub mod Sound

@@ -37,6 +37,7 @@ use Rattle.wd_rules.proofs.Kept.{keeps}
 use Rattle.wd_rules.proofs.Refused.{first_passed, later_passed}
 use Rattle.wd_rules.proofs.Settled.{in_range, limit_settled, window_settled}
 use Rattle.wd_rules.proofs.Traces.{each_true}
+use Rattle.wd_rules.proofs.Valid.{not_refused}
 
 -- ---- outcomes of a step
 
@@ -235,7 +236,7 @@ module _ (tables : List TableRule) (instance : Instance) (nodes : List NodeRecor
 
 -- a valid certificate's entries are not refused
 pub entries_passed : (tables : List TableRule) (plan : PlanTree) (certificate : CertificateRecord) → IsValidCertificate tables plan certificate → entries_refusal tables plan certificate.nodes ≡ None
-entries_passed tables plan certificate v = later_passed (refuse_unless (is_read_for plan certificate.version) Version) (entries_refusal tables plan certificate.nodes) v
+entries_passed tables plan certificate v = later_passed (refuse_unless (is_read_for plan certificate.version) Version) (entries_refusal tables plan certificate.nodes) (not_refused tables plan certificate v)
 
 -- and none of them is in postorder
 pub nodes_passed : (tables : List TableRule) (plan : PlanTree) (certificate : CertificateRecord) → IsValidCertificate tables plan certificate → nodes_refusal tables plan 0 certificate.nodes ≡ None

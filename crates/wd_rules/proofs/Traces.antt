@@ -143,7 +143,7 @@ pub record Parts (node : ℕ) (facts : FactList) (trace : TraceRecord) (traces :
   pub later : each_traced node facts traces ≡ Ok rest
   pub is : shown ≡ record { from = trace.from; has = has } ∷ rest
 
-parts_of : (node : ℕ) (facts : FactList) (trace : TraceRecord) (traces : List TraceRecord) (shown : List Traced) → each_traced node facts (trace ∷ traces) ≡ Ok shown → Parts node facts trace traces shown
+pub parts_of : (node : ℕ) (facts : FactList) (trace : TraceRecord) (traces : List TraceRecord) (shown : List Traced) → each_traced node facts (trace ∷ traces) ≡ Ok shown → Parts node facts trace traces shown
 parts_of node facts trace traces shown e =
     let first = ok_parts (traced node facts trace) (λ has. and_then (each_traced node facts traces) (λ shown. Ok (record { from = trace.from; has = has } ∷ shown))) shown e in
     let later = ok_parts (each_traced node facts traces) (λ shown. Ok (record { from = trace.from; has = first.0 } ∷ shown)) shown first.2 in

@@ -163,6 +163,12 @@ pub record CertificatesComeOut : Type 0 where
   pub unique : IsValidCertificate schema numbered (version_1 (with_uses (2 ∷ 0 ∷ [])))
   -- version 2 is read for every plan
   pub later_version : IsValidCertificate schema numbered (version_2 (with_uses (2 ∷ 0 ∷ [])))
+  -- one with a call left out is not valid, nor one that keeps what its trace does not reach
+  pub call_left_out : ¬ IsValidCertificate schema numbered (version_1 (of_table ∷ keeps_row (0 ∷ []) (2 ∷ 0 ∷ []) ∷ nothing ∷ nothing ∷ []))
+  pub target_not_reached : ¬ IsValidCertificate schema numbered (version_1 (with_uses (2 ∷ [])))
+  -- nor one whose use comes before its left side is reached, nor one of two classes that exchange rows
+  pub use_not_reached : ¬ IsValidCertificate schema numbered (version_1 (with_uses (0 ∷ 2 ∷ [])))
+  pub two_exchanges : ¬ IsValidCertificate schema two_classes (version_1 exchanged_twice)
   -- facts are used in their order: the first here isn't reached yet
   pub early_use : first_refusal schema numbered (version_1 (with_uses (0 ∷ 2 ∷ []))) ≡ Some (refused.UnreachedUse 1)
   -- a fact that isn't given

@@ -1,5 +1,5 @@
 -- What a valid certificate shows.
-use Rattle.std.specs.Prelude.{◌≡◌, ℕ, ◌+◌, true, List, drop, ⊤}
+use Rattle.std.specs.Prelude.{◌≡◌, ℕ, ◌+◌, ◌↔◌, true, List, drop, None, ⊤}
 use Rattle.wd_value.specs.Rows.{Instance}
 use Rattle.wd_schema.specs.Meets.{Meets}
 use Rattle.wd_schema.specs.Tables.{TableRule}
@@ -12,7 +12,7 @@ use Rattle.wd_laws.specs.Laws.{SameTables}
 use Rattle.wd_certificate.specs.Certificates.{CertificateRecord, NodeRecord}
 use Rattle.wd_facts.specs.Laws.{AreKept, GivenHold}
 use Rattle.wd_rules.specs.Rules.{kept_facts}
-use Rattle.wd_rules.specs.Validity.{IsValidCertificate, kept_below, kept_right, top_at}
+use Rattle.wd_rules.specs.Validity.{IsValidCertificate, first_refusal, kept_below, kept_right, top_at}
 
 -- the facts that the entry of a plan's top node keeps hold in the plan's rows, where it has rows
 abbrev pub KeptHold : PlanTree → Instance → List (List ℕ) → ℕ → List NodeRecord → Type 0
@@ -52,6 +52,10 @@ AlwaysShows tables plan nodes = (instance : Instance) (choice : List (List ℕ))
 abbrev pub HasOneAnswer : List TableRule → PlanTree → Type 0
 HasOneAnswer tables plan = (instance other : Instance) (c1 c2 : List (List ℕ))
     → Meets tables instance → SameTables instance other → IsValidChoice plan instance c1 → IsValidChoice plan other c2 → Agree (outcome plan instance c1) (outcome plan other c2)
+
+-- a certificate is valid exactly where it is not refused
+abbrev pub ValidIsNotRefused : Type 0
+ValidIsNotRefused = (tables : List TableRule) (plan : PlanTree) (certificate : CertificateRecord) → IsValidCertificate tables plan certificate ↔ (first_refusal tables plan certificate ≡ None)
 
 -- what a valid certificate of a plan that fits keeps and uses is true
 abbrev pub ValidShows : Type 0

@@ -1,5 +1,6 @@
 pub mod Traces
 pub mod Rules
+pub mod Justified
 pub mod Validity
 pub mod Laws
 pub mod Examples

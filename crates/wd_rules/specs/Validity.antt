@@ -1,6 +1,8 @@
--- When a certificate is valid for a plan and a schema, and by what it is refused where it is not.
+-- By what a certificate is refused for a plan and a schema, and when it is valid.
 use Rattle.std.specs.Prelude.{◌≡◌, ℕ, ◌+◌, Bool, true, false, not, ◌&&◌, ◌||◌, List, [], length, nat_eq, slice_index_or, Option, None, is_some, if◌then◌else◌}
+use Rattle.std.specs.List.{AllByRecursion}
 use Rattle.wd_schema.specs.Tables.{TableRule}
+use Rattle.wd_plan.specs.Fits.{width}
 use Rattle.wd_plan.specs.Plans.{PlanTree, Scan, Join, Filter, Map, Group, Window, Distinct, Limit, node_count}
 use Rattle.wd_certificate.specs.Certificates.{CertificateRecord, NodeRecord}
 use Rattle.wd_certificate.specs.declared.certificate.Version.{Version}
@@ -9,6 +11,7 @@ use Rattle.wd_certificate.specs.declared.error.CertError.{CertError}
 use Rattle.wd_certificate.specs.declared.error.CertError.TheVariants as refused
 use Rattle.wd_facts.specs.Facts.{Fact, FactList}
 use Rattle.wd_facts.specs.Given.{given}
+use Rattle.wd_rules.specs.Justified.{HasRules, IsGoodTrace, IsKept}
 use Rattle.wd_rules.specs.Rules.{entry_refusal, kept_facts, or_else, refuse_unless}
 
 -- ---- entries, one for each node in postorder; a plan's begin at a number
@@ -154,6 +157,35 @@ entries_refusal tables plan nodes = or_else (form_refusal plan nodes) (nodes_ref
 abbrev pub first_refusal : List TableRule → PlanTree → CertificateRecord → Option CertError
 first_refusal tables plan certificate = or_else (refuse_unless (is_read_for plan certificate.version) refused.Version) (entries_refusal tables plan certificate.nodes)
 
--- a valid certificate is one that is not refused
-abbrev pub IsValidCertificate : List TableRule → PlanTree → CertificateRecord → Type 0
-IsValidCertificate tables plan certificate = first_refusal tables plan certificate ≡ None
+-- ---- valid certificates
+
+-- the entry of a node where these facts are given: good traces, kept facts that are reached, a rule for each call, a limit at a
+-- Limit alone, and rules that are justified
+pub record IsValidEntry (facts : FactList) (plan : PlanTree) (entry : NodeRecord) : Type 0 where
+  pub traces : AllByRecursion (IsGoodTrace facts) entry.traces
+  pub kept : AllByRecursion (IsKept facts (width plan) entry.traces) entry.keep
+  pub calls : length entry.calls ≡ call_count plan
+  pub limit : has_its_limit plan entry ≡ true
+  pub rules : HasRules facts plan entry
+
+-- the entry of a plan's top node is valid, where its children's entries keep what they do
+abbrev pub IsValidTop : List TableRule → List NodeRecord → PlanTree → ℕ → Type 0
+IsValidTop tables nodes plan first = IsValidEntry (given_at tables plan first nodes) plan (top_at plan first nodes)
+
+-- what is said of each node of a plan, whose nodes begin at a number
+abbrev pub EachNode : (PlanTree → ℕ → Type 0) → PlanTree → ℕ → Type 0
+EachNode P (Scan table columns) first = P (Scan table columns) first
+EachNode P (Join condition left right) first = EachNode P left first × EachNode P right (first + node_count left) × P (Join condition left right) first
+EachNode P (Filter condition input) first = EachNode P input first × P (Filter condition input) first
+EachNode P (Map outputs input) first = EachNode P input first × P (Map outputs input) first
+EachNode P (Group g input) first = EachNode P input first × P (Group g input) first
+EachNode P (Window w input) first = EachNode P input first × P (Window w input) first
+EachNode P (Distinct input) first = EachNode P input first × P (Distinct input) first
+EachNode P (Limit limit input) first = EachNode P input first × P (Limit limit input) first
+
+-- A valid certificate: its version is read for the plan, it has one entry for each node, and each of these is valid. The law
+-- `ValidIsNotRefused` says that it is exactly one that is not refused.
+pub record IsValidCertificate (tables : List TableRule) (plan : PlanTree) (certificate : CertificateRecord) : Type 0 where
+  pub version : is_read_for plan certificate.version ≡ true
+  pub count : length certificate.nodes ≡ node_count plan
+  pub entries : EachNode (IsValidTop tables certificate.nodes) plan 0

@@ -2,8 +2,13 @@
 
 ghost use Rattle.wd_rules.specs.Examples.{CertificatesComeOut};
 ghost use Rattle.wd_rules.specs.GroupExamples.{GroupsAreCertified};
-ghost use Rattle.wd_rules.specs.Laws.{NeverBoth, ValidHasOne, ValidShows};
+ghost use Rattle.wd_rules.specs.Laws.{NeverBoth, ValidHasOne, ValidIsNotRefused, ValidShows};
 ghost use Rattle.wd_rules.specs.Lists.{ListedHasOne, PlanHasOneList};
+
+/// A certificate is valid exactly where it is not refused.
+pub fn valid_is_not_refused()
+    ensures { ValidIsNotRefused }
+{}
 
 /// Where a plan fits a schema and a certificate is valid for them, each given and each kept fact
 /// holds in its node's rows, and each call and limit is settled.

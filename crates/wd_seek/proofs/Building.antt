@@ -16,7 +16,7 @@ use Rattle.wd_value.specs.Rows.{Instance, instance_of, rows_of, table_at}
 use Rattle.wd_value.specs.declared.value.Value.{Value}
 use Rattle.wd_schema.specs.Tables.{TableRule}
 use Rattle.wd_facts.specs.Given.{table_rule}
-use Rattle.wd_witness.specs.Witnesses.{TableRows, table_rows}
+use Rattle.wd_witness_text.specs.Witnesses.{TableRows, table_rows}
 use Rattle.wd_candidates.specs.Outlines.{scanned_in}
 use Rattle.wd_candidates.specs.declared.outline.Outline.{Outline}
 use Rattle.wd_seek.specs.Witnesses.{HasScannedRows, IsScannedName, IsScannedTable, NamesDiffer}

@@ -17,7 +17,7 @@ use Rattle.wd_schema.specs.Tables.{TableRule}
 use Rattle.wd_schema.specs.declared.table.Column.{Column}
 use Rattle.wd_schema.proofs.MeetsFacts.{all_from_test, met_from_test, test_from_all, test_from_met}
 use Rattle.wd_facts.specs.Given.{table_rule}
-use Rattle.wd_witness.specs.Witnesses.{Fits64}
+use Rattle.wd_witness_text.specs.Witnesses.{Fits64}
 use Rattle.wd_seek.specs.Sought.{is_meeting}
 
 pub first_true : (a b : Bool) → (a && b) ≡ true → a ≡ true

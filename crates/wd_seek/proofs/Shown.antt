@@ -6,8 +6,8 @@ use Rattle.wd_plan.specs.Plans.{PlanTree}
 use Rattle.wd_eval.specs.Steps.{has_large_step}
 use Rattle.wd_rules.specs.Laws.{IsTrueWitness}
 use Rattle.wd_refute.specs.Laws.{IsShown}
-use Rattle.wd_witness.specs.Witnesses.{WitnessRecord, witness_of}
-use Rattle.wd_witness.specs.declared.witness.Witness.{Witness}
+use Rattle.wd_witness_text.specs.Witnesses.{WitnessRecord, witness_of}
+use Rattle.wd_witness_text.specs.declared.witness.Witness.{Witness}
 use Rattle.wd_candidates.specs.Outlines.{AreTied, AreTiedBy}
 use Rattle.wd_candidates.specs.Tied.{NodeColumns}
 use Rattle.wd_candidates.specs.declared.tied.TiedColumns.{TiedColumns}

@@ -7,7 +7,7 @@ use Rattle.wd_value.specs.Rows.{Instance}
 use Rattle.wd_schema.specs.Meets.{Meets}
 use Rattle.wd_schema.specs.Tables.{TableRule}
 use Rattle.wd_plan.specs.Plans.{PlanTree}
-use Rattle.wd_witness.specs.declared.witness.Witness.{Witness}
+use Rattle.wd_witness_text.specs.declared.witness.Witness.{Witness}
 use Rattle.wd_candidates.specs.Candidates.{candidate}
 use Rattle.wd_candidates.specs.Outlines.{IsOutline}
 use Rattle.wd_candidates.specs.Tied.{NodeColumns}

@@ -10,8 +10,8 @@ use Rattle.wd_facts.specs.Given.{table_rule}
 use Rattle.wd_analyse.specs.declared.analysis.Analysis.{Analysis}
 use Rattle.wd_analyse.specs.declared.analysis.Analysis.TheVariants.{Certified, Open}
 use Rattle.wd_analyse.specs.declared.analysis.Reason.{Reason}
-use Rattle.wd_witness.specs.Witnesses.{AllFit64, WitnessRecord, witness_of}
-use Rattle.wd_witness.specs.declared.witness.Witness.{Witness}
+use Rattle.wd_witness_text.specs.Witnesses.{AllFit64, WitnessRecord, witness_of}
+use Rattle.wd_witness_text.specs.declared.witness.Witness.{Witness}
 use Rattle.wd_candidates.specs.Candidates.{candidates}
 use Rattle.wd_seek.specs.Search.{FindsNothing, FindsTwo}
 use Rattle.wd_seek.specs.Witnesses.{IsOver}

@@ -3,8 +3,8 @@ use Rattle.std.specs.Prelude.{ℕ, List, [], ◌∷◌, Option, Some, None}
 use Rattle.wd_value.specs.Rows.{Instance}
 use Rattle.wd_schema.specs.Tables.{TableRule}
 use Rattle.wd_plan.specs.Plans.{PlanTree}
-use Rattle.wd_witness.specs.Witnesses.{WitnessRecord, witness_of}
-use Rattle.wd_witness.specs.declared.witness.Witness.{Witness}
+use Rattle.wd_witness_text.specs.Witnesses.{WitnessRecord, witness_of}
+use Rattle.wd_witness_text.specs.declared.witness.Witness.{Witness}
 use Rattle.wd_candidates.specs.declared.outline.Outline.{Outline}
 use Rattle.wd_seek.specs.Search.{FindsNothing, FindsTwo}
 use Rattle.wd_seek.specs.Witnesses.{HasScannedRows, NamesDiffer}

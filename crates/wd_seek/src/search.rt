@@ -10,7 +10,7 @@ ghost use Rattle.wd_seek.specs.Search.{FirstShowNothing};
 ghost use Rattle.wd_refute.specs.Laws.{IsShown};
 ghost use Rattle.wd_schema.specs.Schemas.{schema_of};
 ghost use Rattle.wd_seek.specs.Sought.{IsSought, is_meeting, reasons_of, to_try};
-ghost use Rattle.wd_witness.specs.Witnesses.{witness_of};
+ghost use Rattle.wd_witness_text.specs.Witnesses.{witness_of};
 
 use crate::probed::MOST_EVALUATIONS;
 use crate::tried::try_shapes;
@@ -20,7 +20,7 @@ use wd_candidates::{Outline, outline_of, tied_columns};
 use wd_plan::Plan;
 use wd_schema::Schema;
 use wd_value::OutOfMemory;
-use wd_witness::Witness;
+use wd_witness_text::Witness;
 
 /// A witness against a plan that an analysis leaves open, and the number of the evaluations that were made.
 ///

@@ -20,7 +20,7 @@ use wd_candidates::{Outline, Shape, TiedColumns, candidate, shapes};
 use wd_plan::Plan;
 use wd_schema::{Schema, meets};
 use wd_value::{Instance, OutOfMemory};
-use wd_witness::Witness;
+use wd_witness_text::Witness;
 
 /// Tries the candidates of all shapes.
 pub(crate) fn try_shapes(

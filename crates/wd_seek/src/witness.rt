@@ -5,7 +5,7 @@ ghost use Rattle.wd_candidates.specs.Outlines.{scanned_in};
 ghost use Rattle.wd_schema.specs.Schemas.{schema_of};
 ghost use Rattle.wd_seek.specs.Witnesses.{HasScannedRows, IsScannedName, NamesDiffer};
 ghost use Rattle.wd_value.specs.Rows.{instance_of};
-ghost use Rattle.wd_witness.specs.Witnesses.{positions_of, table_rows, witness_of};
+ghost use Rattle.wd_witness_text.specs.Witnesses.{positions_of, table_rows, witness_of};
 
 use crate::probed::Pair;
 use std::alloc::Global;
@@ -13,7 +13,7 @@ use std::collections::BTreeMap;
 use wd_candidates::Outline;
 use wd_schema::Schema;
 use wd_value::{Instance, OutOfMemory, Row};
-use wd_witness::Witness;
+use wd_witness_text::Witness;
 
 /// The witness with the tables of an instance that a plan scans, and a pair of choices over it.
 pub(crate) fn witness_over(

@@ -11,7 +11,7 @@ use Rattle.wd_certificate.specs.declared.certificate.Target.TheVariants as targe
 use Rattle.wd_certificate.specs.declared.error.CertError.{CertError}
 use Rattle.wd_certificate.specs.declared.error.CertError.TheVariants.{OutOfMemory}
 use Rattle.wd_facts.specs.declared.facts.Member.{Member}
-use Rattle.wd_facts.specs.Facts.{FactList, columns_named, is_column, is_plain, is_plain_fact}
+use Rattle.wd_facts.specs.Facts.{FactList, columns_named, is_plain, is_plain_fact}
 use Rattle.wd_facts.specs.Laws.{ArePlain}
 use Rattle.wd_rules.proofs.Kept.{entry_plain}
 use Rattle.wd_rules.specs.Rules.{claims_refusal, entry_refusal, is_target, kept_fact, kept_facts, member_of, trace_or}
@@ -51,11 +51,11 @@ pub keeps_plain : (node : ℕ) (facts : FactList) (plan : PlanTree) (entry : Nod
 keeps_plain node facts plan entry r e passed = entry_plain node facts plan entry (traced_claims node facts plan entry r e ∙ passed)
 
 -- a plain kept fact names columns of the node, and the row
-pub plain_from : (columns : ℕ) (traces : List TraceRecord) (kept : KeptRecord) → is_plain_fact columns (kept_fact traces kept) ≡ true → list_all (is_column columns) (columns_named (trace_or (slice_get traces kept.trace)).from) ≡ true
-plain_from columns traces kept e = (and_parts (list_all (is_column columns) (kept_fact traces kept).from) (list_all (is_plain columns) (kept_fact traces kept).to) e).0
+pub plain_from : (columns : ℕ) (traces : List TraceRecord) (kept : KeptRecord) → is_plain_fact columns (kept_fact traces kept) ≡ true → list_all (is_plain columns) (columns_named (trace_or (slice_get traces kept.trace)).from) ≡ true
+plain_from columns traces kept e = (and_parts (list_all (is_plain columns) (kept_fact traces kept).from) (list_all (is_plain columns) (kept_fact traces kept).to) e).0
 
 pub plain_to : (columns : ℕ) (traces : List TraceRecord) (kept : KeptRecord) → is_plain_fact columns (kept_fact traces kept) ≡ true → list_all (is_target columns) kept.to ≡ true
-plain_to columns traces kept e = targets kept.to (and_parts (list_all (is_column columns) (kept_fact traces kept).from) (list_all (is_plain columns) (kept_fact traces kept).to) e).1
+plain_to columns traces kept e = targets kept.to (and_parts (list_all (is_plain columns) (kept_fact traces kept).from) (list_all (is_plain columns) (kept_fact traces kept).to) e).1
   where
     targets : (to : List Target) → list_all (is_plain columns) (map member_of to) ≡ true → list_all (is_target columns) to ≡ true
     targets [] e = refl

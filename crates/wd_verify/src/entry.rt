@@ -6,7 +6,7 @@ ghost use Rattle.wd_schema.specs.Schemas.{schema_of};
 ghost use Rattle.wd_plan.specs.Fits as fitting;
 ghost use Rattle.wd_plan.specs.Plans.{plan_of};
 ghost use Rattle.wd_certificate.specs.Certificates.{kept_of, node_of, trace_of};
-ghost use Rattle.wd_facts.specs.Facts.{columns_named, facts_of, fact_of, is_column, is_plain_fact, kept_by};
+ghost use Rattle.wd_facts.specs.Facts.{columns_named, facts_of, fact_of, is_plain, is_plain_fact, kept_by};
 ghost use Rattle.wd_facts.specs.Given.{given as given_facts};
 ghost use Rattle.wd_facts.specs.Laws.{AreOfChildren, ArePlain};
 ghost use Rattle.wd_rules.specs.Rules as rules;
@@ -104,7 +104,7 @@ fn traced_columns(
     traces: &[Trace],
     number: u64,
 ) -> Result<Vec<Member>, OutOfMemory>
-    requires { list_all (is_column columns) (columns_named (rules.trace_or (slice_get (map trace_of traces.now) number)).from) ≡ true }
+    requires { list_all (is_plain columns) (columns_named (rules.trace_or (slice_get (map trace_of traces.now) number)).from) ≡ true }
     ensures { IfOk result (λ v. v.items ≡ columns_named (rules.trace_or (slice_get (map trace_of traces.now) number)).from) }
 {
     match traces.get(number as usize) {

@@ -3,7 +3,7 @@
 ghost use Rattle.std.specs.Prelude.{◌≡◌, true, map, nat_lt, slice_get, IfOk, None, Some};
 ghost use Rattle.std.specs.List.{list_all};
 ghost use Rattle.wd_certificate.specs.Certificates.{kept_of};
-ghost use Rattle.wd_facts.specs.Facts.{columns_named, facts_of, is_column};
+ghost use Rattle.wd_facts.specs.Facts.{columns_named, facts_of, is_plain};
 ghost use Rattle.wd_sets.specs.Reaches.{reaches_each};
 ghost use Rattle.wd_sets.specs.Sets.{has};
 ghost use Rattle.wd_rules.specs.Rules as rules;
@@ -118,7 +118,7 @@ pub(crate) fn members_of(
     columns: u16,
     from: &[u64],
 ) -> Result<Vec<Member>, OutOfMemory>
-    requires { list_all (is_column columns) (columns_named from.now) ≡ true }
+    requires { list_all (is_plain columns) (columns_named from.now) ≡ true }
     ensures { IfOk result (λ v. v.items ≡ columns_named from.now) }
 {
     let mut list = Vec::with_capacity(alloc, from.len())?;

@@ -1,13 +1,7 @@
-//! Witnesses, which say why a query has two answers, and their text in JSON.
+//! Witnesses under one name: what they are and their text, the search for one, and whether a text is one. The parts stand in crates
+//! of their own.
 #![tactic(auto)]
 
-mod error;
-mod fits;
-pub mod laws;
-mod read;
-mod witness;
-mod write;
-
-pub use error::WitnessTextError;
-pub use read::read_witness;
-pub use witness::Witness;
+pub use wd_refute::{Refuted, WitnessError, WitnessOrigin, refute};
+pub use wd_seek::seek;
+pub use wd_witness_text::{Witness, WitnessTextError, read_witness};

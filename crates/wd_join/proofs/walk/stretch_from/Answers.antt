@@ -1,4 +1,4 @@
-use Rattle.std.proofs.Common.{◌≡◌, true, false, sym, ◌∙◌}
+use Rattle.std.proofs.Common.{◌≡◌, true, false, sym, ◌∙◌, arith}
 use Rattle.wd_value.specs.Rows.{row_at}
 use Rattle.wd_join.specs.Matching.{lacks_key}
 use Rattle.wd_join.proofs.Holding.{IsStretch-found, IsStretch-none}
@@ -12,4 +12,4 @@ returns-then-lacks_key-clause-is c =
 pub returns-clause-is : goal.returns-clause-is
 returns-clause-is c =
     let whole : lacks_key c.args.columns.now (row_at c.args.left.now c.args.position) ≡ false = sym c.lacks_key.ensures ∙ c.if-lacks_key.false in
-    IsStretch-found c.args.columns.now c.args.right.now c.args.order.now (row_at c.args.left.now c.args.position) c.requires.sorted whole c.end_from-start.result c.end_from-end.result c.end_from-end.ensures.later c.end_from-start.ensures.is c.end_from-end.ensures.is
+    IsStretch-found c.args.columns.now c.args.right.now c.args.order.now (row_at c.args.left.now c.args.position) c.requires.sorted whole c.end_from-start.result c.end_from-end.result (omega (arith, c.end_from-end.ensures.later, c.max-passed.ensures)) c.end_from-start.ensures.is c.end_from-end.ensures.is

@@ -5,7 +5,8 @@ use Rattle.wd_lex.specs.Lexed.{kinds_of}
 use Rattle.wd_syntax.specs.View.{view_joined}
 use Rattle.wd_read_cursor.specs.Cursor.{many}
 use Rattle.wd_read_cursor.proofs.Loops.{many_end, many_may_fail, many_more}
-use Rattle.wd_parse.specs.Reading.{read, inside_of, join_at}
+use Rattle.wd_read_expression.specs.Reading.{read}
+use Rattle.wd_parse.specs.Reading.{inside_of, join_at}
 use Rattle.wd_parse.proofs.query.+select.Goals as goal
 
 pub joins-returns-in_err-item : goal.joins-returns-in_err-item

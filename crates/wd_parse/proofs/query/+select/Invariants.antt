@@ -1,7 +1,8 @@
 use Rattle.std.proofs.Common.{◌≡◌, ◌-◌, ◌+◌, ◌*◌, length, map}
 use Rattle.wd_lex.specs.Lexed.{kinds_of}
 use Rattle.wd_syntax.specs.View.{view_joined}
-use Rattle.wd_parse.specs.Reading.{read, inside_of, join_at}
+use Rattle.wd_read_expression.specs.Reading.{read}
+use Rattle.wd_parse.specs.Reading.{inside_of, join_at}
 use Rattle.wd_read_cursor.specs.Cursor.{many}
 use Rattle.wd_read_cursor.specs.Cursor.{with_front}
 use Rattle.wd_parse.proofs.query.+select.Given as goal

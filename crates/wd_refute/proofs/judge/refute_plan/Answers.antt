@@ -1,7 +1,7 @@
 use Rattle.std.proofs.lemmas.Result.{IfErr-weaker}
 use Rattle.wd_plan.specs.Plans.{plan_of}
 use Rattle.wd_schema.specs.Schemas.{schema_of}
-use Rattle.wd_witness.specs.Witnesses.{witness_of}
+use Rattle.wd_witness_text.specs.Witnesses.{witness_of}
 use Rattle.wd_refute.proofs.Verdicts.{text_refused}
 use Rattle.wd_refute.proofs.judge.refute_plan.Goals as goal
 

@@ -2,9 +2,9 @@ use Rattle.std.proofs.Common.{◌≡◌, ◌∙◌, ap, subst, map}
 use Rattle.std.specs.Prelude.{IfOk}
 use Rattle.std.proofs.lemmas.List.{map-append}
 use Rattle.wd_plan.specs.Plans.{PlanTree, plan_of}
-use Rattle.wd_resolve_scope.specs.Leaves.{formula_of}
-use Rattle.wd_resolve_select.specs.Grouping.{below_of}
-use Rattle.wd_resolve_select.specs.Listing.{needs_shown, row_place}
+use Rattle.wd_resolve_call.specs.Leaves.{formula_of}
+use Rattle.wd_resolve_list.specs.Grouping.{below_of}
+use Rattle.wd_resolve_list.specs.Listing.{needs_shown, row_place}
 use Rattle.wd_resolve_select.specs.Steps.{grouped_on, mapped_over}
 use Rattle.wd_resolve.proofs.More.{mapped_counted, narrow_below}
 use Rattle.wd_resolve.proofs.select.all_mapped.Goals as goal

@@ -1,6 +1,6 @@
 use Rattle.std.proofs.Common.{◌≡◌, Bool, subst}
 use Rattle.std.specs.Prelude.{IfOk}
-use Rattle.wd_resolve_select.specs.Grouping.{below_of}
+use Rattle.wd_resolve_list.specs.Grouping.{below_of}
 use Rattle.wd_resolve.proofs.More.{wide_listed}
 use Rattle.wd_resolve.proofs.select.are_wide.Goals as goal
 

@@ -1,10 +1,10 @@
 use Rattle.std.proofs.Common.{◌≡◌, drop, map, option_map}
 use Rattle.wd_syntax.specs.View.{view_item}
 use Rattle.wd_resolve_scope.specs.Scopes.{scope_of}
-use Rattle.wd_resolve_scope.specs.Windows.{known_of}
+use Rattle.wd_resolve_call.specs.Windows.{known_of}
 use Rattle.wd_resolve_scope.specs.declared.context.Place.TheVariants as place
-use Rattle.wd_resolve_select.specs.Grouping.{below_of, grouped_rule}
-use Rattle.wd_resolve_select.specs.Outputs.{listed, list_meant, output_of}
+use Rattle.wd_resolve_list.specs.Grouping.{below_of, grouped_rule}
+use Rattle.wd_resolve_list.specs.Outputs.{listed, list_meant, output_of}
 use Rattle.wd_resolve.specs.Listings.{IsCounted}
 use Rattle.wd_resolve.proofs.select.list_meant.Given as goal
 

@@ -1,7 +1,7 @@
 use Rattle.std.proofs.Common.{◌≡◌, map, length, vec_len}
-use Rattle.wd_resolve_scope.specs.Leaves.{formula_of}
+use Rattle.wd_resolve_call.specs.Leaves.{formula_of}
 use Rattle.wd_resolve_select.specs.Steps.{column_shown}
-use Rattle.wd_resolve_select.specs.Outputs.{output_of, expressions_of}
+use Rattle.wd_resolve_list.specs.Outputs.{output_of, expressions_of}
 use Rattle.wd_resolve.proofs.select.parts_of.Given as goal
 
 abbrev pub invariant-loop-output : goal.invariant-loop-output

@@ -2,7 +2,7 @@ use Rattle.std.proofs.Common.{◌≡◌, ◌∙◌, sym, ap, ◌<◌, ◌+◌, s
 use Rattle.std.specs.List.{position_or_len}
 use Rattle.std.proofs.lemmas.List.{length-map}
 use Rattle.wd_schema.specs.Schemas.{schema_of}
-use Rattle.wd_resolve_select.proofs.Among.{position_at}
+use Rattle.wd_resolve_list.proofs.Among.{position_at}
 use Rattle.wd_resolve.specs.Selected.{has_name, is_named}
 use Rattle.wd_resolve.proofs.Beside.{named_step}
 use Rattle.wd_resolve.proofs.tables.table_number.Goals as goal

@@ -5,7 +5,7 @@ use Rattle.wd_syntax.specs.Tree.{Binary, Call, Case, window, trees_of, arms_of, 
 use Rattle.wd_syntax.specs.View.{view, view_link, view_arm, view_key, view_window, view_over_option, view_else_option, chained}
 use Rattle.wd_syntax.proofs.Rows.{view_call, view_case, view_chain}
 use Rattle.wd_resolve_scope.specs.declared.context.Place.TheVariants as Place
-use Rattle.wd_resolve_scope.specs.Leaves.{operand_of}
+use Rattle.wd_resolve_call.specs.Leaves.{operand_of}
 use Rattle.wd_resolve_scope.specs.Resolving.{context_of, resolved, all_resolved, all_settled, arguments_in, arms_resolved, keys_resolved, window_resolved, moved_to}
 use Rattle.wd_resolve_operand.specs.Causes.{◌>>=◌}
 use Rattle.wd_resolve_scope.specs.Parts.{chain_meant, link_meant}

@@ -3,7 +3,7 @@ use Rattle.wd_syntax.specs.View.{view_named_window}
 use Rattle.wd_resolve_scope.specs.Grouped.{grouped_of}
 use Rattle.wd_resolve_scope.specs.Resolving.{all_defined}
 use Rattle.wd_resolve_scope.specs.Scopes.{scope_of}
-use Rattle.wd_resolve_scope.specs.Windows.{known_of}
+use Rattle.wd_resolve_call.specs.Windows.{known_of}
 use Rattle.wd_resolve_scope.proofs.expression.all_defined.Given as goal
 
 abbrev pub invariant-loop-window : goal.invariant-loop-window

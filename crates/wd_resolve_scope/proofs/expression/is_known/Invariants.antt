@@ -1,6 +1,6 @@
 use Rattle.std.proofs.Common.{◌≡◌, drop, map}
 use Rattle.wd_resolve_scope.specs.Resolving.{is_known}
-use Rattle.wd_resolve_scope.specs.Windows.{known_of}
+use Rattle.wd_resolve_call.specs.Windows.{known_of}
 use Rattle.wd_resolve_scope.proofs.expression.is_known.Given as goal
 
 abbrev pub invariant-loop-known : goal.invariant-loop-known

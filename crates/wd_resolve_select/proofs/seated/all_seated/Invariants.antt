@@ -1,8 +1,8 @@
 use Rattle.std.proofs.Common.{◌≡◌, map, take}
 use Rattle.wd_plan.specs.Expressions.{expression_of}
-use Rattle.wd_resolve_scope.specs.Leaves.{formula_of}
-use Rattle.wd_resolve_select.specs.Grouping.{below_of}
-use Rattle.wd_resolve_select.specs.Listing.{needs_shown, over, row_place}
+use Rattle.wd_resolve_call.specs.Leaves.{formula_of}
+use Rattle.wd_resolve_list.specs.Grouping.{below_of}
+use Rattle.wd_resolve_list.specs.Listing.{needs_shown, over, row_place}
 use Rattle.wd_resolve_select.proofs.seated.all_seated.Given as goal
 
 abbrev pub invariant-loop-formula : goal.invariant-loop-formula

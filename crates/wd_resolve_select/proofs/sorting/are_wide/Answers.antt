@@ -1,5 +1,5 @@
 use Rattle.std.proofs.Common.{◌≡◌, ◌∙◌, ap, ◌+◌, arith, length, ℕ}
-use Rattle.wd_resolve_select.specs.Listing.{is_wide, needs_shown}
+use Rattle.wd_resolve_list.specs.Listing.{is_wide, needs_shown}
 use Rattle.wd_resolve_select.specs.Sorting.{shown_of}
 use Rattle.wd_resolve_select.proofs.Counted.{wide_shown}
 use Rattle.wd_resolve_select.proofs.sorting.are_wide.Goals as goal

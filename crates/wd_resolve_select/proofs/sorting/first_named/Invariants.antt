@@ -1,6 +1,6 @@
 use Rattle.std.proofs.Common.{◌≡◌, ◌+◌, drop, filter, map}
 use Rattle.std.specs.List.{position_or_len}
-use Rattle.wd_resolve_select.specs.Outputs.{output_of}
+use Rattle.wd_resolve_list.specs.Outputs.{output_of}
 use Rattle.wd_resolve_select.specs.Sorting.{is_named}
 use Rattle.wd_resolve_select.proofs.sorting.first_named.Given as goal
 

@@ -1,7 +1,7 @@
 use Rattle.std.proofs.Common.{◌≡◌, drop, filter, map}
 use Rattle.std.specs.List.{list_all}
-use Rattle.wd_resolve_scope.specs.Leaves.{formula_of}
-use Rattle.wd_resolve_select.specs.Outputs.{output_of}
+use Rattle.wd_resolve_call.specs.Leaves.{formula_of}
+use Rattle.wd_resolve_list.specs.Outputs.{output_of}
 use Rattle.wd_resolve_select.specs.Sorting.{is_named, shows}
 use Rattle.wd_resolve_select.proofs.sorting.names_only.Given as goal
 

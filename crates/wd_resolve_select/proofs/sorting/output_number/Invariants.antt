@@ -1,7 +1,7 @@
 use Rattle.std.proofs.Common.{◌≡◌, ◌+◌, drop, map}
 use Rattle.std.specs.List.{position_or_len}
-use Rattle.wd_resolve_scope.specs.Leaves.{formula_of}
-use Rattle.wd_resolve_select.specs.Outputs.{output_of}
+use Rattle.wd_resolve_call.specs.Leaves.{formula_of}
+use Rattle.wd_resolve_list.specs.Outputs.{output_of}
 use Rattle.wd_resolve_select.specs.Sorting.{shows}
 use Rattle.wd_resolve_select.proofs.sorting.output_number.Given as goal
 

@@ -1,10 +1,10 @@
 use Rattle.std.proofs.Common.{◌∙◌, sym, ap, map}
 use Rattle.wd_resolve_operand.specs.Formulas.{leaves}
-use Rattle.wd_resolve_scope.specs.Leaves.{formula_of}
-use Rattle.wd_resolve_select.specs.Listing.{Needs, all_needs, needs_with}
-use Rattle.wd_resolve_select.specs.Outputs.{expressions_of}
+use Rattle.wd_resolve_call.specs.Leaves.{formula_of}
+use Rattle.wd_resolve_list.specs.Listing.{Needs, all_needs, needs_with}
+use Rattle.wd_resolve_list.specs.Outputs.{expressions_of}
 use Rattle.wd_resolve_select.specs.Sorting.{shown_of}
-use Rattle.wd_resolve_select.proofs.Counted.{needs_pushed}
+use Rattle.wd_resolve_list.proofs.Counted.{needs_pushed}
 use Rattle.wd_resolve_select.proofs.sorting.with_column.Goals as goal
 
 pub returns-clause-counted : goal.returns-clause-counted

@@ -1,7 +1,7 @@
 use Rattle.std.proofs.Common.{◌≡◌, map}
-use Rattle.wd_resolve_scope.specs.Rows.{row_formula_of}
+use Rattle.wd_resolve_call.specs.Rows.{row_formula_of}
 use Rattle.wd_plan.specs.Plans.{class_of}
-use Rattle.wd_resolve_scope.specs.Calls.{call_of}
+use Rattle.wd_resolve_call.specs.Calls.{call_of}
 use Rattle.wd_resolve_select.specs.Steps.{call_over}
 use Rattle.wd_resolve_select.proofs.steps.calls_over.Given as goal
 

@@ -1,9 +1,9 @@
 use Rattle.std.proofs.Common.{◌≡◌, ◌≤◌, drop, map, vec_len, []}
-use Rattle.wd_resolve_scope.specs.Rows.{row_formula_of}
+use Rattle.wd_resolve_call.specs.Rows.{row_formula_of}
 use Rattle.wd_plan.specs.Plans.{class_of}
-use Rattle.wd_resolve_scope.specs.Calls.{call_of}
+use Rattle.wd_resolve_call.specs.Calls.{call_of}
 use Rattle.wd_resolve_select.specs.Steps.{same_class, class_over}
-use Rattle.wd_resolve_select.specs.Listing.{with_new}
+use Rattle.wd_resolve_list.specs.Listing.{with_new}
 use Rattle.wd_resolve_select.proofs.steps.classes_over.Given as goal
 
 abbrev pub invariant-loop-call : goal.invariant-loop-call

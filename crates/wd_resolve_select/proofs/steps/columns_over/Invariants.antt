@@ -1,6 +1,6 @@
 use Rattle.std.proofs.Common.{◌≡◌, map, take}
-use Rattle.wd_resolve_scope.specs.Rows.{row_formula_of}
-use Rattle.wd_resolve_select.specs.Listing.{input_number}
+use Rattle.wd_resolve_call.specs.Rows.{row_formula_of}
+use Rattle.wd_resolve_list.specs.Listing.{input_number}
 use Rattle.wd_resolve_select.proofs.steps.columns_over.Given as goal
 
 abbrev pub invariant-loop-expression : goal.invariant-loop-expression

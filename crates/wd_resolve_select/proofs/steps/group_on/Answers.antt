@@ -1,6 +1,6 @@
 use Rattle.std.proofs.Common.{◌∙◌, ap, subst, ◌≤◌, length, map, sym}
-use Rattle.wd_resolve_select.specs.Listing.{grouped_by_of, group_inputs, shared_call}
-use Rattle.wd_resolve_select.proofs.Narrow.{few_inputs}
+use Rattle.wd_resolve_list.specs.Listing.{grouped_by_of, group_inputs, shared_call}
+use Rattle.wd_resolve_list.proofs.Narrow.{few_inputs}
 use Rattle.wd_resolve_select.proofs.steps.group_on.Goals as goal
 
 pub group_calls_over-requires-clause-few_inputs : goal.group_calls_over-requires-clause-few_inputs

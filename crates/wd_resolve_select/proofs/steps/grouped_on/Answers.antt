@@ -1,9 +1,9 @@
 use Rattle.std.proofs.Common.{◌≡◌, ◌∙◌, ap, refl, subst, List, map, Some, option_map}
 use Rattle.std.specs.Prelude.{IfOk}
 use Rattle.wd_plan.specs.Plans.{PlanTree, plan_of}
-use Rattle.wd_resolve_scope.specs.Rows.{GroupCall}
-use Rattle.wd_resolve_select.specs.Grouping.{below_of}
-use Rattle.wd_resolve_select.specs.Listing.{Below, GroupedBy, grouped_by_of, row_place, shared_call}
+use Rattle.wd_resolve_call.specs.Rows.{GroupCall}
+use Rattle.wd_resolve_list.specs.Grouping.{below_of}
+use Rattle.wd_resolve_list.specs.Listing.{Below, GroupedBy, grouped_by_of, row_place, shared_call}
 use Rattle.wd_resolve_select.specs.Steps.{group_on, grouped_on, having_on}
 use Rattle.wd_resolve_select.proofs.steps.grouped_on.Goals as goal
 

@@ -1,6 +1,6 @@
 use Rattle.std.proofs.Common.{◌≡◌, map, take}
-use Rattle.wd_resolve_scope.specs.Rows.{row_formula_of}
-use Rattle.wd_resolve_scope.specs.Windows.{key_of}
+use Rattle.wd_resolve_call.specs.Rows.{row_formula_of}
+use Rattle.wd_resolve_call.specs.Windows.{key_of}
 use Rattle.wd_resolve_select.specs.Steps.{order_item}
 use Rattle.wd_resolve_select.proofs.steps.items_over.Given as goal
 

@@ -1,5 +1,5 @@
 use Rattle.std.proofs.Common.{◌≡◌, ◌++◌, drop}
-use Rattle.wd_resolve_select.specs.Grouping.{numbers_from}
+use Rattle.wd_resolve_list.specs.Grouping.{numbers_from}
 use Rattle.wd_resolve_select.proofs.steps.set_seated.Given as goal
 
 abbrev pub invariant-loop-number : goal.invariant-loop-number

@@ -1,6 +1,6 @@
 use Rattle.std.proofs.Common.{◌≡◌, map, take}
 use Rattle.wd_plan.specs.Plans.{sets_of}
-use Rattle.wd_resolve_select.specs.Grouping.{set_seated}
+use Rattle.wd_resolve_list.specs.Grouping.{set_seated}
 use Rattle.wd_resolve_select.proofs.steps.sets_seated.Given as goal
 
 abbrev pub invariant-loop-set : goal.invariant-loop-set

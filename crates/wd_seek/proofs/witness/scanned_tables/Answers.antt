@@ -1,7 +1,7 @@
 use Rattle.std.proofs.Common.{◌≡◌, rules, vec_len, length, map, sym, subst, ◌∙◌}
 use Rattle.wd_value.specs.Rows.{instance_of}
 use Rattle.wd_schema.specs.Schemas.{schema_of}
-use Rattle.wd_witness.specs.Witnesses.{table_rows}
+use Rattle.wd_witness_text.specs.Witnesses.{table_rows}
 use Rattle.wd_seek.specs.Witnesses.{IsScannedName}
 use Rattle.wd_seek.proofs.Building.{HasScannedFrom, one_more, popped, popped_rows, popped_length}
 use Rattle.wd_seek.proofs.witness.scanned_tables.Goals as goal

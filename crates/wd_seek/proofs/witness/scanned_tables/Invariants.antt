@@ -1,7 +1,7 @@
 use Rattle.std.proofs.Common.{◌≡◌, length, map, take}
 use Rattle.wd_value.specs.Rows.{instance_of}
 use Rattle.wd_schema.specs.Schemas.{schema_of}
-use Rattle.wd_witness.specs.Witnesses.{table_rows}
+use Rattle.wd_witness_text.specs.Witnesses.{table_rows}
 use Rattle.wd_seek.proofs.Building.{HasScannedFrom}
 use Rattle.wd_seek.proofs.witness.scanned_tables.Given as goal
 

@@ -1,5 +1,0 @@
-use Rattle.wd_syntax.proofs.Rows.{view_case}
-use Rattle.wd_parse.proofs.expr.case_of.Goals as goal
-
-pub returns : goal.returns
-returns c = view_case c.args.arms c.args.other

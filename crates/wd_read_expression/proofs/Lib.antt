@@ -1,0 +1,10 @@
+pub mod Fitting
+pub mod Passing
+pub mod TerminalFacts
+pub mod Pieces
+pub mod Complete
+pub mod SoundPieces
+pub mod Sound
+pub mod CutPieces
+pub mod Cut
+pub mod Loops

@@ -1,0 +1,178 @@
+-- Functions by their names, over their arguments (SQL, window function; PG, Window Functions).
+use Rattle.std.specs.Prelude.{ℕ, ℤ, pos, negsuc, codes, ◌&&◌, List, [], ◌∷◌, length, nat_le, Option, Some, None, Ok, Err, if◌then◌else◌}
+use Rattle.std.specs.Str.{bytes_eq}
+use Rattle.wd_value.specs.declared.value.Value.{Value}
+use Rattle.wd_value.specs.declared.value.Value.TheVariants.{Null, Int}
+use Rattle.wd_plan.specs.declared.expression.ValueKind.{ValueKind}
+use Rattle.wd_plan.specs.declared.expression.ValueKind.TheVariants.{Number}
+use Rattle.wd_plan.specs.Fits.{has_extremes, same_kind}
+use Rattle.wd_plan.specs.Functions.{word}
+use Rattle.wd_plan.specs.declared.function.Direction.{Direction}
+use Rattle.wd_plan.specs.declared.function.Direction.TheVariants as way
+use Rattle.wd_plan.specs.declared.function.FrameRow.TheVariants.{First, Last, Nth}
+use Rattle.wd_plan.specs.declared.function.Ranking.TheVariants as rank
+use Rattle.wd_plan.specs.declared.function.FunctionName.{FunctionName}
+use Rattle.wd_plan.specs.declared.function.FunctionName.TheVariants.{RowNumber, Rank, DenseRank, Ntile, Lag, Lead, FirstValue, LastValue, NthValue, Count, Sum, Min, Max}
+use Rattle.wd_resolve_operand.specs.declared.cause.Cause.TheVariants.{WrongCall}
+use Rattle.wd_resolve_operand.specs.Causes.{Meant, ◌>>=◌}
+use Rattle.wd_resolve_operand.specs.Formulas.{Formula, Leaf, Literal}
+use Rattle.wd_resolve_operand.specs.Operands.{Operand, bare_null, typed, settled, kind_of}
+use Rattle.wd_resolve_call.specs.Rows.{ArgumentMeaning, AggregateMeaning, count_rows, count_of, sum_of, least_of, greatest_of, GroupCall, of_rows, grouping, RowFormula, column}
+use Rattle.wd_resolve_call.specs.Calls.{FunctionMeaning, ranking, away, value_at, aggregate}
+use Rattle.wd_resolve_call.specs.Leaves.{SelectLeaf, of_row, over_columns, over_rows}
+
+-- all functions
+abbrev pub function_names : List FunctionName
+function_names = RowNumber ∷ Rank ∷ DenseRank ∷ Ntile ∷ Lag ∷ Lead ∷ FirstValue ∷ LastValue ∷ NthValue ∷ Count ∷ Sum ∷ Min ∷ Max ∷ []
+
+-- the function among these whose word a name is
+abbrev pub function_in : List FunctionName → List ℕ → Option FunctionName
+function_in [] name = None
+function_in (function ∷ functions) name = if bytes_eq (word function) name then Some function else function_in functions name
+
+abbrev pub function_named : List ℕ → Option FunctionName
+function_named = function_in function_names
+
+-- ---- arguments
+
+-- a whole number of at least so much
+abbrev pub at_least : ℕ → ℤ → Meant ℕ
+at_least least (pos n) = if nat_le least n then Ok n else Err WrongCall
+at_least least (negsuc n) = Err WrongCall
+
+-- a literal whole number of at least so much
+abbrev pub whole : ℕ → Operand SelectLeaf → Meant ℕ
+whole least (typed (Literal (Int n) kind) other) = at_least least n
+whole least a = Err WrongCall
+
+-- a literal of a kind; a bare NULL takes it
+abbrev pub default_of : ValueKind → Operand SelectLeaf → Meant Value
+default_of kind bare_null = Ok Null
+default_of kind (typed (Literal v other) k) = if same_kind kind other then Ok v else Err WrongCall
+default_of kind (typed a other) = Err WrongCall
+
+-- ---- functions over their arguments
+
+-- an operand as a value argument, over what may stand in one
+abbrev pub argument : {E : Type 0} → (Formula SelectLeaf → Meant E) → Operand SelectLeaf → Meant (ArgumentMeaning E)
+argument over x = over (settled x) >>= λ e. Ok (record { expression = e; kind = kind_of x })
+
+-- a function over a value argument, in which no window call stands
+abbrev pub over_argument : (ArgumentMeaning RowFormula → FunctionMeaning) → Operand SelectLeaf → Meant FunctionMeaning
+over_argument function x = argument over_rows x >>= λ a. Ok (function a)
+
+-- a value argument of whole numbers; a bare NULL is one here
+abbrev pub numbers : {E : Type 0} → (Formula SelectLeaf → Meant E) → Operand SelectLeaf → Meant (ArgumentMeaning E)
+numbers over bare_null = over (Literal Null Number) >>= λ e. Ok (record { expression = e; kind = Number })
+numbers over (typed a Number) = argument over (typed a Number)
+numbers over (typed a kind) = Err WrongCall
+
+-- a value argument that MIN and MAX take
+abbrev pub ordered : {E : Type 0} → (Formula SelectLeaf → Meant E) → Operand SelectLeaf → Meant (ArgumentMeaning E)
+ordered over x = if has_extremes (Some (kind_of x)) then argument over x else Err WrongCall
+
+-- NTH_VALUE, with the number of the row from 1
+abbrev pub nth : Operand SelectLeaf → Operand SelectLeaf → Meant FunctionMeaning
+nth x n = whole 1 n >>= λ m. over_argument (value_at (Nth m)) x
+
+-- LAG and LEAD, with how far and the default
+abbrev pub shifted : Direction → Operand SelectLeaf → Operand SelectLeaf → Operand SelectLeaf → Meant FunctionMeaning
+shifted direction x k d = whole 0 k >>= λ n. default_of (kind_of x) d >>= λ default. over_argument (λ a. away direction a n default) x
+
+abbrev pub over_none : FunctionName → Meant FunctionMeaning
+over_none RowNumber = Ok (ranking rank.RowNumber)
+over_none Rank = Ok (ranking rank.Rank)
+over_none DenseRank = Ok (ranking rank.DenseRank)
+over_none name = Err WrongCall
+
+-- an aggregate over its argument
+abbrev pub aggregate_over : {E : Type 0} → (Formula SelectLeaf → Meant E) → FunctionName → Operand SelectLeaf → Meant (AggregateMeaning E)
+aggregate_over over Count x = argument over x >>= λ a. Ok (count_of a)
+aggregate_over over Sum x = numbers over x >>= λ a. Ok (sum_of a)
+aggregate_over over Min x = ordered over x >>= λ a. Ok (least_of a)
+aggregate_over over Max x = ordered over x >>= λ a. Ok (greatest_of a)
+aggregate_over over name x = Err WrongCall
+
+abbrev pub over_one : FunctionName → Operand SelectLeaf → Meant FunctionMeaning
+over_one Ntile n = whole 1 n >>= λ buckets. Ok (ranking (rank.Ntile buckets))
+over_one Lag x = over_argument (λ a. away way.Lag a 1 Null) x
+over_one Lead x = over_argument (λ a. away way.Lead a 1 Null) x
+over_one FirstValue x = over_argument (value_at First) x
+over_one LastValue x = over_argument (value_at Last) x
+over_one RowNumber x = Err WrongCall
+over_one Rank x = Err WrongCall
+over_one DenseRank x = Err WrongCall
+over_one NthValue x = Err WrongCall
+over_one name x = aggregate_over over_rows name x >>= λ a. Ok (aggregate a)
+
+abbrev pub over_two : FunctionName → Operand SelectLeaf → Operand SelectLeaf → Meant FunctionMeaning
+over_two Lag x k = shifted way.Lag x k bare_null
+over_two Lead x k = shifted way.Lead x k bare_null
+over_two NthValue x n = nth x n
+over_two name x y = Err WrongCall
+
+abbrev pub over_three : FunctionName → Operand SelectLeaf → Operand SelectLeaf → Operand SelectLeaf → Meant FunctionMeaning
+over_three Lag x k d = shifted way.Lag x k d
+over_three Lead x k d = shifted way.Lead x k d
+over_three name x y z = Err WrongCall
+
+abbrev pub over_arguments : FunctionName → List (Operand SelectLeaf) → Meant FunctionMeaning
+over_arguments name [] = over_none name
+over_arguments name (x ∷ []) = over_one name x
+over_arguments name (x ∷ y ∷ []) = over_two name x y
+over_arguments name (x ∷ y ∷ z ∷ []) = over_three name x y z
+over_arguments name (x ∷ y ∷ z ∷ u ∷ others) = Err WrongCall
+
+-- a star in the place of arguments, which COUNT alone takes
+abbrev pub over_star : FunctionName → Meant FunctionMeaning
+over_star Count = Ok (aggregate count_rows)
+over_star name = Err WrongCall
+
+-- a function by its name, over its arguments or a star
+abbrev pub applied : Option FunctionName → Option (List (Operand SelectLeaf)) → Meant FunctionMeaning
+applied None arguments = Err WrongCall
+applied (Some name) None = over_star name
+applied (Some name) (Some arguments) = over_arguments name arguments
+
+-- ---- functions without OVER
+
+-- what a call without OVER may be: an aggregate, or GROUPING
+pub data GroupFunction : Type 0 where
+  aggregates : FunctionName → GroupFunction
+  grouped : GroupFunction
+
+abbrev pub if_aggregate : Option FunctionName → Option GroupFunction
+if_aggregate (Some Count) = Some (aggregates Count)
+if_aggregate (Some Sum) = Some (aggregates Sum)
+if_aggregate (Some Min) = Some (aggregates Min)
+if_aggregate (Some Max) = Some (aggregates Max)
+if_aggregate name = None
+
+abbrev pub group_function_named : List ℕ → Option GroupFunction
+group_function_named name = if bytes_eq (codes "grouping") name then Some grouped else if_aggregate (function_named name)
+
+-- the columns of FROM that operands are
+abbrev pub column_only : Operand SelectLeaf → Meant ℕ
+column_only (typed (Leaf (of_row (column n))) kind) = Ok n
+column_only x = Err WrongCall
+
+abbrev pub columns_only : List (Operand SelectLeaf) → Meant (List ℕ)
+columns_only [] = Ok []
+columns_only (x ∷ xs) = column_only x >>= λ n. columns_only xs >>= λ ns. Ok (n ∷ ns)
+
+-- GROUPING takes 1 to 31 columns (own)
+abbrev pub grouping_over : List ℕ → Meant GroupCall
+grouping_over columns = if nat_le 1 (length columns) && nat_le (length columns) 31 then Ok (grouping columns) else Err WrongCall
+
+-- an aggregate over one argument, in which only columns of FROM stand
+abbrev pub aggregate_of_one : FunctionName → List (Operand SelectLeaf) → Meant GroupCall
+aggregate_of_one name (x ∷ []) = aggregate_over over_columns name x >>= λ a. Ok (of_rows a)
+aggregate_of_one name xs = Err WrongCall
+
+-- such a function over its arguments or a star
+abbrev pub grouped_over : GroupFunction → Option (List (Operand SelectLeaf)) → Meant GroupCall
+grouped_over (aggregates Count) None = Ok (of_rows count_rows)
+grouped_over (aggregates name) None = Err WrongCall
+grouped_over (aggregates name) (Some xs) = aggregate_of_one name xs
+grouped_over grouped None = Err WrongCall
+grouped_over grouped (Some xs) = columns_only xs >>= λ columns. grouping_over columns

@@ -1,0 +1,91 @@
+//! What expressions read of the rows that windows are over, and aggregates.
+
+ghost use Rattle.std.specs.Prelude.{◌≡◌, option_map};
+ghost use Rattle.wd_plan.specs.Expressions.{expression_of};
+ghost use Rattle.wd_resolve_call.specs.Rows.{group_call_of, row_formula_of, row_leaf_of, same_row_leaf};
+ghost use Rattle.wd_resolve_call.specs.Rows as spec;
+
+use crate::same::same_group_call;
+use std::rc::Rc;
+use wd_plan::{Expr, ValueKind};
+use wd_resolve_operand::Leaf;
+
+/// An expression that a function reads, and the kind of its values.
+#[derive(Drop)]
+pub struct ValueArgument<E> {
+    pub expression: E,
+    pub kind: ValueKind,
+}
+
+/// What goes by the rows alone, in whatever order they stand.
+#[derive(Drop)]
+pub enum AppliedAggregate<E> {
+    /// COUNT(*).
+    CountRows,
+    Count(ValueArgument<E>),
+    /// Of whole numbers.
+    Sum(ValueArgument<E>),
+    Min(ValueArgument<E>),
+    Max(ValueArgument<E>),
+}
+
+impl<E> AppliedAggregate<E> {
+    /// The value argument, where there is one.
+    pub fn argument(&self) -> Option<&ValueArgument<E>>
+        ensures { option_map (λ a. a.now) result ≡ spec.value_argument self.now }
+    {
+        match self {
+            AppliedAggregate::CountRows => None,
+            AppliedAggregate::Count(argument)
+            | AppliedAggregate::Sum(argument)
+            | AppliedAggregate::Min(argument)
+            | AppliedAggregate::Max(argument) => Some(argument),
+        }
+    }
+}
+
+/// A call over the rows of a group.
+#[derive(Drop)]
+pub enum GroupCall {
+    /// Over the columns of FROM.
+    OfRows(AppliedAggregate<Expr>),
+    /// GROUPING of columns of FROM.
+    Grouping(Vec<u16>),
+}
+
+impl GroupCall {
+    /// The kind of its values.
+    pub fn kind(&self) -> ValueKind
+        ensures { result ≡ spec.kind_of_group_call (group_call_of self.now) }
+    {
+        match self {
+            GroupCall::OfRows(AppliedAggregate::Min(argument)) => argument.kind,
+            GroupCall::OfRows(AppliedAggregate::Max(argument)) => argument.kind,
+            GroupCall::OfRows(_) => ValueKind::Number,
+            GroupCall::Grouping(_) => ValueKind::Number,
+        }
+    }
+}
+
+/// A column of FROM, by its number, or, where the rows are groups, a call over the rows of one.
+#[derive(Drop)]
+pub enum RowLeaf {
+    Column(u16),
+    Group(Rc<GroupCall>),
+}
+
+impl Leaf for RowLeaf {
+    ghost Shown = { spec.RowLeaf };
+
+    ghost shown = { row_leaf_of };
+
+    ghost alike = { same_row_leaf };
+
+    fn same(&self, other: &RowLeaf) -> bool {
+        match (self, other) {
+            (RowLeaf::Column(m), RowLeaf::Column(n)) => *m == *n,
+            (RowLeaf::Group(c), RowLeaf::Group(d)) => same_group_call(c, d),
+            _ => false,
+        }
+    }
+}

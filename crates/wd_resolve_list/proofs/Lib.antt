@@ -1,0 +1,9 @@
+pub mod FirstMet
+pub mod Narrow
+pub mod Counted
+pub mod Among
+pub mod ReadBy
+pub mod TypedFormulas
+pub mod GroupedColumns
+pub mod ListedOutputs
+pub mod ShownColumns

@@ -1,0 +1,196 @@
+-- What the expressions of a select list read of the rows below them, and where it stands above a Window (SQL, query
+-- specification; PG, SELECT List).
+use Rattle.std.specs.Prelude.{ℕ, ◌+◌, Bool, true, false, ◌&&◌, ◌||◌, List, [], ◌∷◌, ◌++◌, map, flat_map, length, nat_eq, nat_lt, Option, Some, None, if◌then◌else◌}
+use Rattle.std.specs.List.{list_any, position_or_len}
+use Rattle.std.specs.declared.alloc.Global.{Global}
+use Rattle.std.specs.declared.rc.Rc.{Rc}
+use Rattle.wd_plan.specs.Expressions.{Expression, Column}
+use Rattle.wd_plan.specs.Equality.{same_expression}
+use Rattle.wd_plan.specs.Plans.{sets_of}
+use Rattle.wd_resolve_operand.specs.Formulas.{Formula, Leaf, leaves, seated}
+use Rattle.wd_resolve_call.specs.declared.row.GroupCall.{GroupCall as CallCode}
+use Rattle.wd_resolve_call.specs.Rows.{GroupCall, of_rows, grouping, RowLeaf, column, of_group, RowFormula, aggregated, group_call_of, row_formula_of, same_group_call, same_row_formula}
+use Rattle.wd_resolve_call.specs.Calls.{FunctionMeaning, ranking, away, value_at, aggregate, CallMeaning, call_of, same_call}
+use Rattle.wd_resolve_call.specs.Leaves.{SelectLeaf, of_row, call}
+use Rattle.wd_resolve_call.specs.Windows.{KeyMeaning}
+use Rattle.wd_resolve_list.specs.declared.grouping.GroupedBy.{GroupedBy as CodeGroupedBy}
+use Rattle.wd_resolve_list.specs.declared.needs.Needs.{Needs as CodeNeeds}
+
+-- ---- leaves
+
+-- the leaves of expressions, from left to right
+abbrev pub all_leaves : List (Formula SelectLeaf) → List SelectLeaf
+all_leaves [] = []
+all_leaves (f ∷ formulas) = leaves f ++ all_leaves formulas
+
+-- the calls among leaves
+abbrev pub calls_among : List SelectLeaf → List CallMeaning
+calls_among [] = []
+calls_among (of_row l ∷ more) = calls_among more
+calls_among (call c ∷ more) = c ∷ calls_among more
+
+-- the value argument of a function; a ranking function has none
+abbrev pub argument_of : FunctionMeaning → List RowFormula
+argument_of (ranking r) = []
+argument_of (away direction a n default) = a.expression ∷ []
+argument_of (value_at row a) = a.expression ∷ []
+argument_of (aggregate a) = aggregated a
+
+abbrev pub sorted_by : KeyMeaning → RowFormula
+sorted_by key = key.expression
+
+-- what a leaf reads below a Window: a leaf of rows itself, and a call its value argument, then its partition, then its order
+abbrev pub read_by : SelectLeaf → List RowFormula
+read_by (of_row l) = Leaf l ∷ []
+read_by (call c) = argument_of c.function ++ c.window.partition ++ map sorted_by c.window.order
+
+abbrev pub read_by_all : List SelectLeaf → List RowFormula
+read_by_all [] = []
+read_by_all (leaf ∷ more) = read_by leaf ++ read_by_all more
+
+-- ---- what is met
+
+-- each element that is new, after those that are there: first occurrences
+abbrev pub with_new : {A : Type 0} → (A → A → Bool) → List A → List A → List A
+with_new same seen [] = seen
+with_new same seen (x ∷ xs) = with_new same (if list_any (same x) seen then seen else seen ++ x ∷ []) xs
+
+-- the calls over groups among leaves of rows
+abbrev pub group_calls_among : List RowLeaf → List GroupCall
+group_calls_among [] = []
+group_calls_among (column n ∷ more) = group_calls_among more
+group_calls_among (of_group c ∷ more) = c ∷ group_calls_among more
+
+-- the leaves of expressions over rows, from left to right
+abbrev pub all_row_leaves : List RowFormula → List RowLeaf
+all_row_leaves [] = []
+all_row_leaves (f ∷ formulas) = leaves f ++ all_row_leaves formulas
+
+-- the calls over groups that leaves are or read
+abbrev pub group_calls_read : List SelectLeaf → List GroupCall
+group_calls_read more = group_calls_among (all_row_leaves (read_by_all more))
+
+-- what expressions need of the rows below them: the distinct window calls, the distinct expressions that the Map below a Window
+-- shows, and the distinct calls over groups, in the order in which they are met
+pub record Needs : Type 0 where
+  pub calls : List CallMeaning
+  pub inputs : List RowFormula
+  pub groups : List GroupCall
+
+-- what is needed so far, and what further leaves need
+abbrev pub needs_with : Needs → List SelectLeaf → Needs
+needs_with needs more = record { calls = with_new same_call needs.calls (calls_among more); inputs = with_new same_row_formula needs.inputs (read_by_all more); groups = with_new same_group_call needs.groups (group_calls_read more) }
+
+-- a call over groups that several places share
+abbrev pub shared_call : Rc CallCode Global → GroupCall
+shared_call c = group_call_of c.value
+
+abbrev pub needs_shown : CodeNeeds → Needs
+needs_shown needs = record { calls = map call_of needs.calls.items; inputs = map row_formula_of needs.inputs.items; groups = map shared_call needs.groups.items }
+
+-- nothing is needed yet
+abbrev pub no_needs : Needs
+no_needs = record { calls = []; inputs = []; groups = [] }
+
+abbrev pub needs_of : List (Formula SelectLeaf) → Needs
+needs_of formulas = needs_with no_needs (all_leaves formulas)
+
+-- ---- groups
+
+-- the columns that a select is grouped by, by their numbers in FROM in order of mention, and its sets of them
+pub record GroupedBy : Type 0 where
+  pub columns : List ℕ
+  pub sets : List (List ℕ)
+
+-- the columns and sets that a value of the code shows
+abbrev pub grouped_by_of : CodeGroupedBy → GroupedBy
+grouped_by_of g = record { columns = g.columns.items; sets = sets_of g.sets.items }
+
+-- what stands below the windows of a select: by what it is grouped, if it is, and the condition of HAVING, where there is one
+pub record Below : Type 0 where
+  pub grouped : Option GroupedBy
+  pub having : Option RowFormula
+
+-- the value arguments of a call over groups
+abbrev pub group_argument_of : GroupCall → List Expression
+group_argument_of (of_rows a) = aggregated a
+group_argument_of (grouping columns) = []
+
+-- what the Map below a Group shows: the columns that are grouped by, and then the arguments that are not there yet
+abbrev pub group_inputs : List ℕ → List GroupCall → List Expression
+group_inputs columns calls = with_new same_expression (map Column columns) (flat_map group_argument_of calls)
+
+-- ---- where leaves stand
+
+-- the number of an element in a list, and the list's length where it is none
+abbrev pub number_in : {A : Type 0} → (A → A → Bool) → List A → A → ℕ
+number_in same xs x = position_or_len (same x) xs
+
+-- the number of an expression among the inputs
+abbrev pub input_number : List RowFormula → RowFormula → ℕ
+input_number inputs f = number_in same_row_formula inputs f
+
+-- the column of FROM that a leaf is; a call over groups is none
+abbrev pub column_of : RowLeaf → ℕ
+column_of (column n) = n
+column_of (of_group c) = 0
+
+-- where a leaf of rows stands: in FROM, or in the Group: among the columns that are grouped by, or, of a call, behind them
+abbrev pub group_place : List ℕ → List GroupCall → RowLeaf → ℕ
+group_place columns calls (column n) = number_in nat_eq columns n
+group_place columns calls (of_group c) = length columns + number_in same_group_call calls c
+
+abbrev pub row_place : Option GroupedBy → List GroupCall → RowLeaf → ℕ
+row_place None calls leaf = column_of leaf
+row_place (Some g) calls leaf = group_place g.columns calls leaf
+
+-- the column of a Window where a leaf stands: among the inputs, or, of a call, behind them
+abbrev pub place_above : List RowFormula → List CallMeaning → SelectLeaf → ℕ
+place_above inputs calls (of_row l) = input_number inputs (Leaf l)
+place_above inputs calls (call c) = length inputs + number_in same_call calls c
+
+-- where a leaf stands below what a select shows: in the Window, or, where there are no calls, where its rows stand
+abbrev pub place_in : (RowLeaf → ℕ) → List RowFormula → List CallMeaning → SelectLeaf → ℕ
+place_in place inputs [] (of_row l) = place l
+place_in place inputs [] (call c) = 0
+place_in place inputs (c ∷ calls) leaf = place_above inputs (c ∷ calls) leaf
+
+-- an expression over the columns below what a select shows
+abbrev pub over : (RowLeaf → ℕ) → Needs → Formula SelectLeaf → Expression
+over place needs f = seated (place_in place needs.inputs needs.calls) f
+
+-- ---- the widths of nodes
+
+abbrev pub has_calls : List CallMeaning → Bool
+has_calls [] = false
+has_calls (c ∷ calls) = true
+
+-- the Window has more than 1,024 columns, where there are calls (own)
+abbrev pub is_window_wide : Needs → Bool
+is_window_wide needs = has_calls needs.calls && nat_lt 1024 (length needs.inputs + length needs.calls)
+
+-- the Group has more than 1,024 columns (own); the Map below it has no more than the Group, since a call has one argument at most
+abbrev pub is_group_wide : Option GroupedBy → List GroupCall → Bool
+is_group_wide None calls = false
+is_group_wide (Some g) calls = nat_lt 1024 (length g.columns + length calls)
+
+-- some node above FROM has more than 1,024 columns: the Map of so many expressions, or what stands below it (own)
+abbrev pub is_wide : ℕ → Option GroupedBy → Needs → Bool
+is_wide shown grouped needs = nat_lt 1024 shown || (is_window_wide needs || is_group_wide grouped needs.groups)
+
+-- the calls over groups so far, and those of HAVING
+abbrev pub having_groups : List GroupCall → Option RowFormula → List GroupCall
+having_groups calls None = calls
+having_groups calls (Some f) = with_new same_group_call calls (group_calls_among (leaves f))
+
+-- what HAVING needs, after what is needed: it stands below the windows, so its calls over groups alone
+abbrev pub with_having : Needs → Option RowFormula → Needs
+with_having needs having = record { calls = needs.calls; inputs = needs.inputs; groups = having_groups needs.groups having }
+
+-- what a select needs: its outputs, then HAVING, then its hidden sort keys
+abbrev pub all_needs : Below → (outputs hidden : List (Formula SelectLeaf)) → Needs
+all_needs below outputs hidden = needs_with (with_having (needs_of outputs) below.having) (all_leaves hidden)
+
+-- some node is too wide for these outputs and hidden sort keys
+abbrev pub are_wide : Below → (outputs hidden : List (Formula SelectLeaf)) → Bool
+are_wide below outputs hidden = is_wide (length outputs + length hidden) below.grouped (all_needs below outputs hidden)

@@ -1,0 +1,154 @@
+//! The distinct expressions that the Map below a Window shows.
+
+ghost use Rattle.std.specs.Prelude.{◌≡◌, ◌≤◌, [], ◌∷◌, map, length, IfOk};
+ghost use Rattle.std.specs.List.{list_any};
+ghost use Rattle.wd_resolve_call.specs.Calls.{call_of, function_of};
+ghost use Rattle.wd_resolve_call.specs.Rows.{aggregate_of, aggregated, row_formula_of, row_leaf_of, same_row_formula};
+ghost use Rattle.wd_resolve_operand.specs.Formulas.{Leaf};
+ghost use Rattle.wd_resolve_call.specs.Leaves.{call};
+ghost use Rattle.wd_resolve_call.specs.Windows.{key_of};
+ghost use Rattle.wd_resolve_list.specs.Listing.{argument_of, read_by, sorted_by, with_new};
+ghost use Rattle.wd_resolve_list.specs.Listing as spec;
+
+use std::alloc::Global;
+use wd_resolve_operand::{Formula, Leaf as _};
+use wd_resolve_scope::{AppliedAggregate, AppliedFunction, OrderKey, RowLeaf, WindowCall, copy_of};
+use wd_value::OutOfMemory;
+
+/// Whether expressions over rows are one and the same.
+fn read_same(a: &Formula<RowLeaf>, b: &Formula<RowLeaf>) -> bool
+    ensures { result ≡ same_row_formula (row_formula_of a.now) (row_formula_of b.now) }
+{
+    a.same(b)
+}
+
+/// The number of an expression among the inputs, and their number where it is none.
+pub fn input_number(inputs: &[Formula<RowLeaf>], expression: &Formula<RowLeaf>) -> usize
+    ensures number { result ≡ spec.input_number (map row_formula_of inputs.now) (row_formula_of expression.now) }
+    ensures within { result ≤ length inputs.now }
+{
+    for (number, input) in inputs.iter().enumerate() {
+        if read_same(expression, input) {
+            return number;
+        }
+    }
+    inputs.len()
+}
+
+/// Whether an expression is among the inputs.
+#[tactic(auto, using(crate::proofs::FirstMet::any_by_number))]
+fn is_among(inputs: &[Formula<RowLeaf>], expression: &Formula<RowLeaf>) -> bool
+    ensures { result ≡ list_any (same_row_formula (row_formula_of expression.now)) (map row_formula_of inputs.now) }
+{
+    input_number(inputs, expression) < inputs.len()
+}
+
+/// Adds an expression, where it is new.
+pub(crate) fn add_input(
+    alloc: Global,
+    inputs: &mut Vec<Formula<RowLeaf>>,
+    expression: &Formula<RowLeaf>,
+) -> Result<(), OutOfMemory>
+    ensures { IfOk result (λ u. map row_formula_of inputs.new.items ≡ with_new same_row_formula (map row_formula_of inputs.old.items) (row_formula_of expression.now ∷ [])) }
+{
+    if is_among(inputs, expression) {
+        return Ok(());
+    }
+    inputs.push(copy_of(alloc, expression)?)?;
+    Ok(())
+}
+
+/// Adds the value argument of an aggregate, where it has one.
+fn add_aggregated(
+    alloc: Global,
+    inputs: &mut Vec<Formula<RowLeaf>>,
+    aggregate: &AppliedAggregate<Formula<RowLeaf>>,
+) -> Result<(), OutOfMemory>
+    ensures { IfOk result (λ u. map row_formula_of inputs.new.items ≡ with_new same_row_formula (map row_formula_of inputs.old.items) (aggregated (aggregate_of row_formula_of aggregate.now))) }
+{
+    match aggregate.argument() {
+        None => Ok(()),
+        Some(argument) => add_input(alloc, inputs, &argument.expression),
+    }
+}
+
+/// Adds the value argument of a function, where it has one.
+fn add_argument(
+    alloc: Global,
+    inputs: &mut Vec<Formula<RowLeaf>>,
+    function: &AppliedFunction,
+) -> Result<(), OutOfMemory>
+    ensures { IfOk result (λ u. map row_formula_of inputs.new.items ≡ with_new same_row_formula (map row_formula_of inputs.old.items) (argument_of (function_of function.now))) }
+{
+    match function {
+        AppliedFunction::Ranking(_) => Ok(()),
+        AppliedFunction::Shift { argument, .. } => add_input(alloc, inputs, &argument.expression),
+        AppliedFunction::ValueAt(_, argument) => add_input(alloc, inputs, &argument.expression),
+        AppliedFunction::Aggregate(aggregate) => add_aggregated(alloc, inputs, aggregate),
+    }
+}
+
+/// Adds the expressions of a partition.
+fn add_partition(
+    alloc: Global,
+    inputs: &mut Vec<Formula<RowLeaf>>,
+    expressions: &[Formula<RowLeaf>],
+) -> Result<(), OutOfMemory>
+    ensures { IfOk result (λ u. map row_formula_of inputs.new.items ≡ with_new same_row_formula (map row_formula_of inputs.old.items) (map row_formula_of expressions.now)) }
+{
+    for expression in expressions {
+        add_input(alloc, inputs, expression)?;
+    }
+    Ok(())
+}
+
+/// Adds the expressions that are sorted by.
+fn add_order(
+    alloc: Global,
+    inputs: &mut Vec<Formula<RowLeaf>>,
+    keys: &[OrderKey],
+) -> Result<(), OutOfMemory>
+    ensures { IfOk result (λ u. map row_formula_of inputs.new.items ≡ with_new same_row_formula (map row_formula_of inputs.old.items) (map sorted_by (map key_of keys.now))) }
+{
+    for key in keys {
+        add_input(alloc, inputs, &key.expression)?;
+    }
+    Ok(())
+}
+
+/// Adds the expressions of a window call: its value argument, then its partition, then its order.
+#[tactic(auto, using(crate::proofs::FirstMet::with_new_append))]
+pub(crate) fn add_read(
+    alloc: Global,
+    inputs: &mut Vec<Formula<RowLeaf>>,
+    window_call: &WindowCall,
+) -> Result<(), OutOfMemory>
+    ensures { IfOk result (λ u. map row_formula_of inputs.new.items ≡ with_new same_row_formula (map row_formula_of inputs.old.items) (read_by (call (call_of window_call.now)))) }
+{
+    add_argument(alloc, inputs, &window_call.function)?;
+    add_partition(alloc, inputs, &window_call.window.partition)?;
+    add_order(alloc, inputs, &window_call.window.order)
+}
+
+/// Whether an input is what a leaf of rows reads.
+fn is_leaf(leaf: &RowLeaf, input: &Formula<RowLeaf>) -> bool
+    ensures { result ≡ same_row_formula (Leaf (row_leaf_of leaf.now)) (row_formula_of input.now) }
+{
+    match input {
+        Formula::Leaf(other) => leaf.same(other),
+        _ => false,
+    }
+}
+
+/// The number of what a leaf of rows reads among the inputs, and their number where it is none.
+pub(crate) fn leaf_number(inputs: &[Formula<RowLeaf>], leaf: &RowLeaf) -> usize
+    ensures number { result ≡ spec.input_number (map row_formula_of inputs.now) (Leaf (row_leaf_of leaf.now)) }
+    ensures within { result ≤ length inputs.now }
+{
+    for (number, input) in inputs.iter().enumerate() {
+        if is_leaf(leaf, input) {
+            return number;
+        }
+    }
+    inputs.len()
+}

@@ -1,0 +1,108 @@
+//! The walk over an expression that makes a tree of it. What is still to be done stands on the heap, and takes nothing of the stack
+//! however deep the expression is.
+
+ghost use Rattle.std.specs.Prelude.{◌<◌, IfOk};
+ghost use Rattle.wd_resolve_operand.specs.Causes.{Gives};
+ghost use Rattle.wd_resolve_operand.specs.Formulas.{formula_of};
+ghost use Rattle.wd_resolve_operand.specs.Mappings.{Leads, closed, mapped, part_steps, pending_steps, steps_left};
+
+use crate::cause::ResolveError;
+use crate::formula::Formula;
+use crate::maker::{Binary, Maker, Unary};
+use std::alloc::Global;
+use wd_plan::Branch;
+
+/// What is still to be done with the tree of an operand.
+#[derive(Drop)]
+enum Pending<'f, K, T> {
+    Under(Unary),
+    /// It stands left; the tree of the right operand is still to be made.
+    Left(Binary, &'f Formula<K>),
+    Right(Binary, Box<T>),
+    /// It is the condition of a branch; the trees of the result and of the rest are still to be made.
+    Condition(Branch, &'f Formula<K>, &'f Formula<K>),
+    Result(Branch, Box<T>, &'f Formula<K>),
+    Rest(Branch, Box<T>, Box<T>),
+}
+
+/// A tree that is made, or the operand whose tree has to be made first.
+#[derive(Drop)]
+enum Step<'f, K, T> {
+    Made(T),
+    Into(Pending<'f, K, T>, &'f Formula<K>),
+}
+
+/// The tree that is made of an expression.
+#[tactic(auto, using(crate::proofs::Walked::all_closed_push, crate::proofs::Walked::all_closed_err))]
+pub(crate) fn made<M: Maker>(
+    alloc: Global,
+    maker: &M,
+    formula: &Formula<M::From>,
+) -> Result<M::To, ResolveError>
+    ensures { Gives M.shown result (mapped M.making (M.meaning maker.now) (formula_of M.read formula.now)) }
+{
+    let mut pending = Vec::new(alloc);
+    let mut step = opened(alloc, maker, formula)?;
+    loop {
+        match step {
+            Step::Into(outer, part) => {
+                pending.push(outer)?;
+                step = opened(alloc, maker, part)?;
+            }
+            Step::Made(tree) => {
+                let Some(outer) = pending.pop() else {
+                    return Ok(tree);
+                };
+                step = closed(alloc, maker, outer, tree)?;
+            }
+        }
+    }
+}
+
+/// The first step into an expression: along its left side.
+fn opened<'f, M: Maker>(
+    alloc: Global,
+    maker: &M,
+    formula: &'f Formula<M::From>,
+) -> Result<Step<'f, M::From, M::To>, ResolveError>
+    ensures leads { Leads M.read M.shown M.making (M.meaning maker.now) result (mapped M.making (M.meaning maker.now) (formula_of M.read formula.now)) }
+    ensures fewer { IfOk result (λ s. steps_left M.read s < part_steps M.read formula.now) }
+{
+    match formula {
+        Formula::Leaf(leaf) => Ok(Step::Made(maker.leaf(alloc, leaf)?)),
+        Formula::Literal(value, kind) => Ok(Step::Made(M::literal(value.copy(alloc)?, *kind))),
+        Formula::Negate(a) => Ok(Step::Into(Pending::Under(Unary::Negate), a)),
+        Formula::Arithmetic(op, a, b) => Ok(Step::Into(
+            Pending::Left(Binary::Arithmetic(*op), b),
+            a,
+        )),
+        Formula::Compare(op, a, b) => Ok(Step::Into(Pending::Left(Binary::Compare(*op), b), a)),
+        Formula::Not(a) => Ok(Step::Into(Pending::Under(Unary::Not), a)),
+        Formula::And(a, b) => Ok(Step::Into(Pending::Left(Binary::And, b), a)),
+        Formula::Or(a, b) => Ok(Step::Into(Pending::Left(Binary::Or, b), a)),
+        Formula::IsNull(a) => Ok(Step::Into(Pending::Under(Unary::IsNull), a)),
+        Formula::IsNotNull(a) => Ok(Step::Into(Pending::Under(Unary::IsNotNull), a)),
+        Formula::Case(branch, a, b, c) => Ok(Step::Into(Pending::Condition(*branch, b, c), a)),
+    }
+}
+
+/// The step after the tree of an operand is made.
+fn closed<'f, M: Maker>(
+    alloc: Global,
+    maker: &M,
+    outer: Pending<'f, M::From, M::To>,
+    tree: M::To,
+) -> Result<Step<'f, M::From, M::To>, ResolveError>
+    ensures leads { Leads M.read M.shown M.making (M.meaning maker.now) result (closed M.read M.shown M.making (M.meaning maker.now) outer.entry (M.shown tree)) }
+    ensures fewer { IfOk result (λ s. steps_left M.read s < pending_steps M.read outer.entry) }
+{
+    let tree = Box::new(alloc, tree)?;
+    match outer {
+        Pending::Under(operator) => Ok(Step::Made(M::under(operator, tree))),
+        Pending::Left(operator, b) => Ok(Step::Into(Pending::Right(operator, tree), b)),
+        Pending::Right(operator, a) => Ok(Step::Made(M::between(operator, a, tree))),
+        Pending::Condition(branch, b, c) => Ok(Step::Into(Pending::Result(branch, tree, c), b)),
+        Pending::Result(branch, a, c) => Ok(Step::Into(Pending::Rest(branch, a, tree), c)),
+        Pending::Rest(branch, a, b) => Ok(Step::Made(M::branch(branch, a, b, tree))),
+    }
+}

@@ -1,8 +1,0 @@
-use Rattle.std.proofs.Common.{◌≡◌, drop, map}
-use Rattle.wd_resolve_scope.specs.Rows.{same_group_call}
-use Rattle.wd_resolve_scope.specs.Windows.{key_of}
-use Rattle.wd_resolve_select.specs.Listing.{all_row_leaves, group_calls_among, shared_call, sorted_by, with_new}
-use Rattle.wd_resolve_select.proofs.groups.add_order_calls.Given as goal
-
-abbrev pub invariant-loop-key : goal.invariant-loop-key
-invariant-loop-key l = with_new same_group_call (map shared_call l.calls.items) (group_calls_among (all_row_leaves (map sorted_by (map key_of (drop l.key-index l.keys))))) ≡ with_new same_group_call (map shared_call l.initial.calls.items) (group_calls_among (all_row_leaves (map sorted_by (map key_of (l.keys)))))

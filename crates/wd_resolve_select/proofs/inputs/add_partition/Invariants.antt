@@ -1,7 +1,0 @@
-use Rattle.std.proofs.Common.{◌≡◌, drop, map}
-use Rattle.wd_resolve_scope.specs.Rows.{row_formula_of, same_row_formula}
-use Rattle.wd_resolve_select.specs.Listing.{with_new}
-use Rattle.wd_resolve_select.proofs.inputs.add_partition.Given as goal
-
-abbrev pub invariant-loop-expression : goal.invariant-loop-expression
-invariant-loop-expression l = with_new same_row_formula (map row_formula_of l.inputs.items) (map row_formula_of (drop l.expression-index l.expressions)) ≡ with_new same_row_formula (map row_formula_of l.initial.inputs.items) (map row_formula_of l.expressions)

@@ -1,7 +1,0 @@
-use Rattle.std.proofs.Common.{◌≡◌, ◌+◌, drop, map}
-use Rattle.std.specs.List.{position_or_len}
-use Rattle.wd_resolve_scope.specs.Rows.{row_formula_of, same_row_formula}
-use Rattle.wd_resolve_select.proofs.inputs.input_number.Given as goal
-
-abbrev pub invariant-loop-number : goal.invariant-loop-number
-invariant-loop-number l = l.number + position_or_len (same_row_formula (row_formula_of l.expression)) (map row_formula_of (drop l.number l.inputs)) ≡ position_or_len (same_row_formula (row_formula_of l.expression)) (map row_formula_of l.inputs)

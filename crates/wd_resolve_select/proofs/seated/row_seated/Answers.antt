@@ -1,0 +1,10 @@
+use Rattle.std.proofs.Common.{◌∙◌, sym}
+use Rattle.wd_resolve_operand.proofs.Mapped.{seated_over}
+use Rattle.wd_resolve_call.specs.Rows.{row_formula_of}
+use Rattle.wd_resolve_call.proofs.Meanings.{ok_is}
+use Rattle.wd_resolve_list.specs.Grouping.{below_of}
+use Rattle.wd_resolve_list.specs.Listing.{needs_shown, row_place}
+use Rattle.wd_resolve_select.proofs.seated.row_seated.Goals as goal
+
+pub returns-in-Ok : goal.returns-in-Ok
+returns-in-Ok c = ok_is _ _ (sym c.in-Ok.ensures ∙ seated_over (row_place (below_of c.args.below.now).grouped (needs_shown c.args.needs.now).groups) (row_formula_of c.args.formula.now))

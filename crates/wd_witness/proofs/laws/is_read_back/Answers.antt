@@ -1,5 +1,0 @@
-use Rattle.wd_witness.proofs.Inverse as laws
-use Rattle.wd_witness.proofs.laws.is_read_back.Goals as goal
-
-pub returns : goal.returns
-returns c = laws.is_read_back
