@@ -9,7 +9,9 @@ ones, for which the aim is a second: four tables of 256 columns, each with 64 ke
 selects stand over one another above them, and a limit by sort keys on top; each of the 31 nodes below the limit keeps 64 facts.
 In the larger one each trace uses all facts of its node, and what it keeps names all columns. Last comes a certificate that says
 nothing, for a table with 64 nullable keys of 150 columns each under 30 selects with 200 conjuncts each, of which one in the
-middle rules NULLs out: there the given facts take the time. Prints the least seconds and the most memory of three runs.
+middle rules NULLs out: there the given facts take the time. Then come certificates that say one thing many times: a column of a trace, a target, a
+use, a kept fact; and one with many kept facts by a single trace of 1,024 columns, each used: their time and memory go with their
+length. Prints the least seconds and the most memory of three runs.
 PROGRAM is the built program (default: crates/wdcheck/out/wdcheck, which ./wdcheck builds). With --write the texts of the large
 ones are written to a folder in place of that.
 """
@@ -24,6 +26,7 @@ import time
 TOP = os.path.dirname(os.path.dirname(os.path.abspath(__file__)))
 TABLES, COLUMNS, KEYS, SELECTS = "abcd", 256, 64, 24
 KEY_COLUMNS, FILTERS, CONJUNCTS = 150, 30, 200
+REPEATED, SHARED = 120_000, 38_000
 TURNS = 3
 
 
@@ -150,12 +153,41 @@ def bare_text(nodes):
     return json.dumps({"nodes": [{"calls": [], "keep": [], "limit": None, "traces": []}] * nodes, "version": 1})
 
 
+def one_column_text(scan, above):
+    """A certificate for a select over a table of one column: what the Scan says, and the trace above, which starts from the input."""
+    nodes = [scan, {"calls": [], "keep": [], "limit": None, "traces": [{"from": [1], "uses": above}]}]
+    return json.dumps({"nodes": nodes, "version": 1}, separators=(",", ":"))
+
+
+def repeated_texts():
+    """Certificates that say one thing many times: a title, a certificate."""
+    trace = {"from": [0] * REPEATED, "uses": []}
+    scan = {"calls": [], "keep": [{"to": [0], "trace": 0}], "limit": None, "traces": [trace]}
+    yield "a column, a use", one_column_text(scan, [0] * REPEATED)
+    scan = dict(scan, keep=[{"to": [], "trace": 0}] * (REPEATED // 10))
+    yield "a column, a kept fact", one_column_text(scan, [])
+    scan = dict(scan, keep=[{"to": [0] * REPEATED, "trace": 0}], traces=[{"from": [0], "uses": []}])
+    yield "a target, a use", one_column_text(scan, [0] * REPEATED)
+
+
+def shared_text():
+    """Many kept facts by one trace of all columns of a Join, each of them used above."""
+    empty, width = entry([], []), len(TABLES) * COLUMNS
+    joins = [empty, empty, empty, empty, empty, empty]
+    keeps = dict(entry([(list(range(width)), [])], []), keep=[{"to": [], "trace": 0}] * SHARED)
+    above = entry([(list(range(width, 2 * width)), list(range(SHARED)))], [])
+    return json.dumps({"nodes": joins + [keeps, dict(above, keep=[])], "version": 1}, separators=(",", ":"))
+
+
 def large_texts():
     """The large ones: a title, and the texts of schema, query and certificate."""
     schema = ";\n".join(table_text(name) for name in TABLES) + ";\n"
     for title, whole in (("64 kept facts a node", False), ("each use and each column", True)):
         yield title, schema, query_text() + "\n", certificate_text(whole)
     yield "nullable keys", nullable_keys_text(), filters_text(), bare_text(1 + 2 * FILTERS)
+    for title, certificate in repeated_texts():
+        yield title, "CREATE TABLE t (c BIGINT);\n", "SELECT c FROM t\n", certificate
+    yield "one trace, many facts", schema, "SELECT * FROM %s\n" % ", ".join(TABLES), shared_text()
 
 
 def measure_cases(program, folder):

@@ -2,7 +2,7 @@
 use Rattle.std.proofs.Common.{◌≡◌, ◌≢◌, List, [], ◌∷◌, ◌++◌, length, sym, ◌∙◌, ap, subst}
 use Rattle.wd_schema.specs.Tables.{TableRule}
 use Rattle.wd_plan.specs.Plans.{PlanTree}
-use Rattle.wd_facts.specs.Facts.{Fact}
+use Rattle.wd_step_facts.specs.Facts.{Fact}
 use Rattle.wd_certificate.specs.declared.certificate.Version.{Version}
 use Rattle.wd_rules.specs.Validity.{IsValidCertificate, version_needed}
 use Rattle.wd_analyse.specs.declared.analysis.Analysis.TheVariants.{Certified, Open}

@@ -4,8 +4,8 @@ use Rattle.std.specs.List.{AllByRecursion}
 use Rattle.wd_plan.specs.Expressions.{Expression}
 use Rattle.wd_plan.specs.Fits.{AreBelow, width}
 use Rattle.wd_plan.specs.Plans.{PlanTree, Scan, Join, Filter, Map, Group, Window, Distinct, Limit}
-use Rattle.wd_facts.specs.Facts.{Fact, FactList}
-use Rattle.wd_facts.specs.Given.{if_copied}
+use Rattle.wd_step_facts.specs.Facts.{Fact, FactList}
+use Rattle.wd_step_facts.specs.Steps.{if_copied}
 use Rattle.wd_facts.specs.Laws.{AreOfChildren, ArePlain}
 use Rattle.wd_facts.proofs.KeyRanges.{wider}
 use Rattle.wd_facts.proofs.Lists.{all_append}

@@ -8,7 +8,7 @@ use Rattle.wd_plan.specs.Expressions.{Expression}
 use Rattle.wd_plan.specs.Fits.{width}
 use Rattle.wd_plan.specs.Plans.{PlanTree, Scan, Join, Filter, Map, Group, Window, Distinct, Limit}
 use Rattle.wd_certificate.specs.Certificates.{NodeRecord}
-use Rattle.wd_facts.specs.Facts.{Fact, FactList}
+use Rattle.wd_step_facts.specs.Facts.{Fact, FactList}
 use Rattle.wd_facts.specs.Given.{given}
 use Rattle.wd_facts.specs.Laws.{AreOfChildren, ArePlain}
 use Rattle.wd_analyse.specs.declared.nodes.Found.{Found}

@@ -8,8 +8,8 @@ use Rattle.wd_plan.specs.Sorting.{class_columns, limit_class, order_columns}
 use Rattle.wd_plan.specs.declared.window.Call.{Call}
 use Rattle.wd_certificate.specs.declared.certificate.Rule.{Rule}
 use Rattle.wd_certificate.specs.declared.error.CertError.TheVariants.{UnjustifiedLimit}
-use Rattle.wd_facts.specs.Facts.{FactList, columns_named}
-use Rattle.wd_facts.specs.Given.{all_columns}
+use Rattle.wd_step_facts.specs.Facts.{FactList, columns_named}
+use Rattle.wd_step_facts.specs.Steps.{all_columns}
 use Rattle.wd_facts.proofs.Lists.{all_append}
 use Rattle.wd_sets.specs.Sets.{is_in}
 use Rattle.wd_rules.specs.Rules.{claims_refusal, entry_refusal, is_whole_or_ties, kept_facts, or_else, refuse_unless, refuse_unless_shown, rules_refusal, shows}

@@ -10,8 +10,8 @@ use Rattle.wd_plan.specs.Plans.{ClassRule, LimitRule, PlanTree, WindowRule, Scan
 use Rattle.wd_plan.specs.Sorting.{class_columns, order_columns}
 use Rattle.wd_plan.proofs.Ranges.{kinds_below, narrow}
 use Rattle.wd_certificate.specs.Certificates.{NodeRecord}
-use Rattle.wd_facts.specs.Facts.{FactList}
-use Rattle.wd_facts.specs.Given.{all_columns}
+use Rattle.wd_step_facts.specs.Facts.{FactList}
+use Rattle.wd_step_facts.specs.Steps.{all_columns}
 use Rattle.wd_facts.proofs.KeyRanges.{wider}
 use Rattle.wd_facts.proofs.UsedBelow.{below_append}
 use Rattle.wd_rules.specs.Rules.{entry_refusal, is_whole_or_ties, kept_facts}

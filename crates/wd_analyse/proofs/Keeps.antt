@@ -6,10 +6,10 @@ use Rattle.wd_plan.specs.Fits.{AreBelow}
 use Rattle.wd_certificate.specs.Certificates.{TraceRecord}
 use Rattle.wd_certificate.specs.declared.error.CertError.{CertError}
 use Rattle.wd_certificate.specs.declared.error.CertError.TheVariants.{OutOfRange, UnreachedClaim}
-use Rattle.wd_facts.specs.declared.facts.Member.{Member}
-use Rattle.wd_facts.specs.declared.facts.Member.TheVariants as member
-use Rattle.wd_facts.specs.Facts.{FactList, columns_named, is_plain, is_plain_fact}
-use Rattle.wd_facts.specs.Given.{all_columns}
+use Rattle.wd_step_facts.specs.declared.facts.Member.{Member}
+use Rattle.wd_step_facts.specs.declared.facts.Member.TheVariants as member
+use Rattle.wd_step_facts.specs.Facts.{FactList, columns_named, is_plain, is_plain_fact}
+use Rattle.wd_step_facts.specs.Steps.{all_columns}
 use Rattle.wd_facts.specs.Laws.{ArePlain}
 use Rattle.wd_sets.specs.Reaches.{reaches_each}
 use Rattle.wd_sets.specs.Sets.{is_in}

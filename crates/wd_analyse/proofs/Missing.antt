@@ -1,8 +1,8 @@
 -- The least column that is not given, among those from a number on.
 use Rattle.std.proofs.Common.{◌≡◌, ℕ, ◌+◌, ◌-◌, ◌<◌, ◌≤◌, Bool, ap, Option, None, if◌then◌else◌, Some}
 use Rattle.std.specs.List.{range_with_len}
-use Rattle.wd_facts.specs.declared.facts.Member.{Member}
-use Rattle.wd_facts.specs.declared.facts.Member.TheVariants.{Column}
+use Rattle.wd_step_facts.specs.declared.facts.Member.{Member}
+use Rattle.wd_step_facts.specs.declared.facts.Member.TheVariants.{Column}
 use Rattle.wd_close.proofs.Ranges.{range_more, range_none}
 use Rattle.wd_analyse.specs.Decisions.{missing_of}
 

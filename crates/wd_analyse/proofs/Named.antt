@@ -18,10 +18,11 @@ use Rattle.wd_plan.specs.Outcomes.{class_at}
 use Rattle.wd_plan.specs.Plans.{ClassRule, GroupCall, OfRows, Grouping, GroupRule, PlanTree, WindowRule, Scan, Join, Filter, Map, Group, Window, Distinct, Limit}
 use Rattle.wd_plan.specs.Sorting.{class_columns, order_columns}
 use Rattle.wd_plan.proofs.Ranges.{IsSound, calls_sound, has_the_table, kinds_below, table_columns}
-use Rattle.wd_facts.specs.declared.facts.Member.{Member}
-use Rattle.wd_facts.specs.declared.facts.Member.TheVariants as member
-use Rattle.wd_facts.specs.Facts.{Fact, FactList, columns_named, is_plain, key_fact, moved, moved_facts}
-use Rattle.wd_facts.specs.Given.{Side, Plain, Fixed, Other, all_columns, are_told_apart, call_facts, cut_fact, facts_of_group, group_key, group_key_facts, grouping_arguments, grouping_columns, calls_facts, comparison_facts, conjunct_facts, conjuncts, conjuncts_of, copy_facts, equality_facts, facts_of_conjuncts, full_keys, given, goes_by_key, gives_row, is_not_null, keys_facts, names_columns, null_facts, nullable_keys, output_facts, outputs_facts, over_frame, row_keys, side_of, table_rule, used, value_fact, rank_fact}
+use Rattle.wd_step_facts.specs.declared.facts.Member.{Member}
+use Rattle.wd_step_facts.specs.declared.facts.Member.TheVariants as member
+use Rattle.wd_step_facts.specs.Facts.{Fact, FactList, columns_named, is_plain, key_fact, moved, moved_facts}
+use Rattle.wd_facts.specs.Given.{full_keys, given, gives_row, is_not_null, keys_facts, names_columns, nullable_keys, row_keys, table_rule}
+use Rattle.wd_step_facts.specs.Steps.{Side, Plain, Fixed, Other, all_columns, are_told_apart, call_facts, cut_fact, facts_of_group, group_key, group_key_facts, grouping_arguments, grouping_columns, calls_facts, comparison_facts, conjunct_facts, conjuncts, conjuncts_of, copy_facts, equality_facts, facts_of_conjuncts, goes_by_key, null_facts, output_facts, outputs_facts, over_frame, side_of, used, value_fact, rank_fact}
 use Rattle.wd_facts.specs.Laws.{AreOfChildren, ArePlain}
 use Rattle.wd_facts.proofs.Embeds.{same_facts}
 use Rattle.wd_facts.proofs.Groupings.{cut_named}

@@ -1,8 +1,8 @@
 -- The columns that are new among those from a number on.
 use Rattle.std.proofs.Common.{◌≡◌, ◌||◌, ℕ, ◌+◌, ◌-◌, ◌<◌, ◌≤◌, Bool, true, false, List, [], ◌∷◌, ◌++◌, filter, append_assoc, refl, sym, ap, ◌∙◌}
 use Rattle.std.specs.List.{range_with_len}
-use Rattle.wd_facts.specs.declared.facts.Member.{Member}
-use Rattle.wd_facts.specs.Facts.{columns_named}
+use Rattle.wd_step_facts.specs.declared.facts.Member.{Member}
+use Rattle.wd_step_facts.specs.Facts.{columns_named}
 use Rattle.wd_close.proofs.Ranges.{range_more, range_none}
 use Rattle.wd_analyse.specs.Evidence.{Closing}
 use Rattle.wd_analyse.specs.Kept.{is_new, new_one}

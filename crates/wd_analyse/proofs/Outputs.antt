@@ -4,10 +4,10 @@ use Rattle.std.specs.List.{list_all}
 use Rattle.std.proofs.lemmas.Bool.{and_parts, false≢true, lt-ltb, ltb-true}
 use Rattle.wd_plan.specs.Expressions.{Expression}
 use Rattle.wd_plan.specs.Fits.{AreBelow}
-use Rattle.wd_facts.specs.declared.facts.Member.{Member}
-use Rattle.wd_facts.specs.declared.facts.Member.TheVariants.{Column, Left, Right, Row}
-use Rattle.wd_facts.specs.Facts.{Fact, is_plain, is_plain_fact}
-use Rattle.wd_facts.specs.Given.{both_copied, copy_from, if_copied, is_side, side_of}
+use Rattle.wd_step_facts.specs.declared.facts.Member.{Member}
+use Rattle.wd_step_facts.specs.declared.facts.Member.TheVariants.{Column, Left, Right, Row}
+use Rattle.wd_step_facts.specs.Facts.{Fact, is_plain, is_plain_fact}
+use Rattle.wd_step_facts.specs.Steps.{both_copied, copy_from, if_copied, is_side, side_of}
 use Rattle.wd_analyse.specs.Sources.{columns_in, left_sides, output_of, outputs_of}
 use Rattle.wd_analyse.specs.Steps.{left_sides_by, output_by, outputs_by}
 

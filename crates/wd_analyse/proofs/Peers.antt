@@ -10,7 +10,7 @@ use Rattle.wd_plan.specs.Settled.{is_by_peers}
 use Rattle.wd_plan.specs.Sorting.{class_columns}
 use Rattle.wd_plan.specs.declared.window.Call.{Call}
 use Rattle.wd_plan.proofs.Ranges.{names_classes}
-use Rattle.wd_facts.specs.Facts.{FactList}
+use Rattle.wd_step_facts.specs.Facts.{FactList}
 use Rattle.wd_rules.specs.Rules.{is_whole_or_ties}
 use Rattle.wd_analyse.specs.declared.analysis.Analysis.TheVariants.{Certified, Open}
 use Rattle.wd_analyse.specs.Decisions.{decide_of, decided_calls, next_exchange}

@@ -6,7 +6,7 @@ use Rattle.wd_schema.specs.Tables.{TableRule}
 use Rattle.wd_plan.specs.Expressions.{Expression}
 use Rattle.wd_plan.specs.Plans.{PlanTree, Scan, Join, Filter, Map, Group, Window, Distinct, Limit, node_count}
 use Rattle.wd_certificate.specs.Certificates.{NodeRecord}
-use Rattle.wd_facts.specs.Facts.{Fact}
+use Rattle.wd_step_facts.specs.Facts.{Fact}
 use Rattle.wd_facts.specs.Given.{given}
 use Rattle.wd_rules.specs.Rules.{entry_refusal, kept_facts, or_else}
 use Rattle.wd_rules.specs.Validity.{all_entries, entry_at, has_its_calls, has_its_limit, kept_below, kept_right, nodes_refusal, top_at, top_number, top_refusal}

@@ -4,7 +4,7 @@ use Rattle.std.proofs.lemmas.Bool.{false≢true}
 use Rattle.std.proofs.lemmas.List.{length-map}
 use Rattle.wd_plan.specs.Fits.{width}
 use Rattle.wd_plan.specs.Plans.{LimitRule, PlanTree, WindowRule, Scan, Join, Filter, Map, Group, Window, Distinct, Limit}
-use Rattle.wd_facts.specs.Facts.{FactList}
+use Rattle.wd_step_facts.specs.Facts.{FactList}
 use Rattle.wd_analyse.specs.declared.closed.Closed.{Closed}
 use Rattle.wd_analyse.specs.Evidence.{closing_of}
 use Rattle.wd_analyse.specs.Findings.{Finding, IsBare, IsOfLimit, IsOfWindow, IsSaid}

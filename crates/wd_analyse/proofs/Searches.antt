@@ -3,7 +3,7 @@ use Rattle.std.proofs.Common.{◌≡◌, ℕ, ◌<◌, ◌≤◌, Bool, true, fa
 use Rattle.std.proofs.lemmas.Bool.{false≢true}
 use Rattle.std.proofs.lemmas.List.{append-nil, length-append, map-append}
 use Rattle.std.proofs.lemmas.List.Elements.{filter-append}
-use Rattle.wd_facts.specs.Facts.{FactList}
+use Rattle.wd_step_facts.specs.Facts.{FactList}
 use Rattle.wd_facts.proofs.Lists.{all_append}
 use Rattle.wd_analyse.specs.Evidence.{Closing, IsClosing}
 use Rattle.wd_analyse.specs.Sources.{distinct, gives_some, is_tried, starts}

@@ -7,7 +7,7 @@ use Rattle.wd_certificate.specs.Certificates.{NodeRecord, node_of}
 use Rattle.wd_certificate.specs.declared.certificate.Node.{Node}
 use Rattle.wd_certificate.specs.declared.certificate.Version.TheVariants.{One, Two}
 use Rattle.wd_certificate.specs.declared.error.CertError.TheVariants as refused
-use Rattle.wd_facts.specs.Facts.{Fact, FactList}
+use Rattle.wd_step_facts.specs.Facts.{Fact, FactList}
 use Rattle.wd_facts.specs.Given.{given}
 use Rattle.wd_facts.specs.Laws.{AreOfChildren, ArePlain}
 use Rattle.wd_rules.specs.Rules.{entry_refusal, or_else, refuse_unless}

@@ -3,8 +3,8 @@ use Rattle.std.proofs.Common.{◌≡◌, ℕ, Bool, true, cond, ◌&&◌, List, 
 use Rattle.std.specs.List.{AllByRecursion, list_all}
 use Rattle.std.proofs.lemmas.Bool.{and_parts}
 use Rattle.wd_certificate.specs.declared.error.CertError.TheVariants.{OutOfRange, UnreachedUse}
-use Rattle.wd_facts.specs.declared.facts.Member.{Member}
-use Rattle.wd_facts.specs.Facts.{Fact, FactList, columns_named}
+use Rattle.wd_step_facts.specs.declared.facts.Member.{Member}
+use Rattle.wd_step_facts.specs.Facts.{Fact, FactList, columns_named}
 use Rattle.wd_sets.specs.Reaches.{also, reaches, reaches_each}
 use Rattle.wd_sets.specs.Sets.{stands_in}
 use Rattle.wd_close.specs.Closure.{Derives}

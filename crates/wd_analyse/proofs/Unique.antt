@@ -8,8 +8,8 @@ use Rattle.wd_plan.specs.Fits.{width}
 use Rattle.wd_plan.specs.Plans.{LimitRule, PlanTree, WindowRule, Scan, Join, Filter, Map, Group, Window, Distinct, Limit}
 use Rattle.wd_plan.specs.declared.window.Call.{Call}
 use Rattle.wd_certificate.specs.declared.certificate.Rule.{Rule}
-use Rattle.wd_facts.specs.declared.facts.Member.{Member}
-use Rattle.wd_facts.specs.Facts.{Fact, FactList}
+use Rattle.wd_step_facts.specs.declared.facts.Member.{Member}
+use Rattle.wd_step_facts.specs.Facts.{Fact, FactList}
 use Rattle.wd_facts.specs.Given.{given}
 use Rattle.wd_close.specs.Closure.{Follows, is_named}
 use Rattle.wd_analyse.specs.declared.analysis.Analysis.{Analysis}

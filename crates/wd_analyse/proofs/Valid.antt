@@ -5,7 +5,7 @@ use Rattle.wd_schema.specs.Tables.{TableRule}
 use Rattle.wd_plan.specs.Fits.{AreBelow, width}
 use Rattle.wd_plan.specs.Plans.{PlanTree, node_count}
 use Rattle.wd_certificate.specs.Certificates.{NodeRecord}
-use Rattle.wd_facts.specs.Facts.{Fact, FactList}
+use Rattle.wd_step_facts.specs.Facts.{Fact, FactList}
 use Rattle.wd_facts.specs.Given.{given}
 use Rattle.wd_facts.specs.Laws.{ArePlain}
 use Rattle.wd_rules.specs.Rules.{entry_refusal, kept_facts}

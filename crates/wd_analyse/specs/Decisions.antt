@@ -5,9 +5,9 @@ use Rattle.wd_plan.specs.Frames.{is_stable}
 use Rattle.wd_plan.specs.Settled.{is_by_peers}
 use Rattle.wd_certificate.specs.declared.certificate.Rule.{Rule}
 use Rattle.wd_certificate.specs.declared.certificate.Rule.TheVariants.{Peers, Unique, Values, Exchange}
-use Rattle.wd_facts.specs.declared.facts.Member.{Member}
-use Rattle.wd_facts.specs.declared.facts.Member.TheVariants as member
-use Rattle.wd_facts.specs.Given.{all_columns}
+use Rattle.wd_step_facts.specs.declared.facts.Member.{Member}
+use Rattle.wd_step_facts.specs.declared.facts.Member.TheVariants as member
+use Rattle.wd_step_facts.specs.Steps.{all_columns}
 use Rattle.wd_rules.specs.Rules.{is_exchange, taken_column}
 use Rattle.wd_analyse.specs.declared.decided.Decided.{Decided}
 use Rattle.wd_analyse.specs.declared.decided.Decided.TheVariants.{By, Open}

@@ -2,8 +2,8 @@
 use Rattle.std.specs.Prelude.{◌≡◌, ℕ, Bool, true, List, [], ◌∷◌, ◌++◌, nat_lt, if◌then◌else◌}
 use Rattle.std.specs.List.{list_all}
 use Rattle.wd_certificate.specs.Certificates.{TraceRecord}
-use Rattle.wd_facts.specs.declared.facts.Member.{Member}
-use Rattle.wd_facts.specs.Facts.{FactList, columns_named}
+use Rattle.wd_step_facts.specs.declared.facts.Member.{Member}
+use Rattle.wd_step_facts.specs.Facts.{FactList, columns_named}
 use Rattle.wd_sets.specs.Sets.{has, is_in, stands_in}
 use Rattle.wd_close.specs.Closure.{Derives, IsClosure}
 use Rattle.wd_analyse.specs.declared.closed.Closed.{Closed}

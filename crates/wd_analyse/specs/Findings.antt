@@ -8,8 +8,9 @@ use Rattle.wd_plan.specs.Sorting.{class_columns}
 use Rattle.wd_certificate.specs.Certificates.{NodeRecord}
 use Rattle.wd_certificate.specs.declared.certificate.Rule.{Rule}
 use Rattle.wd_certificate.specs.declared.certificate.Rule.TheVariants as rule
-use Rattle.wd_facts.specs.Facts.{Fact, FactList}
-use Rattle.wd_facts.specs.Given.{all_columns, given}
+use Rattle.wd_step_facts.specs.Facts.{Fact, FactList}
+use Rattle.wd_facts.specs.Given.{given}
+use Rattle.wd_step_facts.specs.Steps.{all_columns}
 use Rattle.wd_rules.specs.Rules.{is_whole_or_ties}
 use Rattle.wd_analyse.specs.declared.analysis.Mark.{Mark}
 use Rattle.wd_analyse.specs.declared.analysis.Reason.{Reason}

@@ -4,10 +4,10 @@ use Rattle.std.specs.List.{AllByRecursion, list_all, list_any}
 use Rattle.wd_plan.specs.Expressions.{Expression}
 use Rattle.wd_plan.specs.Fits.{width}
 use Rattle.wd_plan.specs.Plans.{PlanTree, Scan, Join, Filter, Map, Group, Window, Distinct, Limit}
-use Rattle.wd_facts.specs.declared.facts.Member.{Member}
-use Rattle.wd_facts.specs.declared.facts.Member.TheVariants.{Column, Left, Right, Row}
-use Rattle.wd_facts.specs.Facts.{Fact, FactList}
-use Rattle.wd_facts.specs.Given.{both_copied, copy_from, if_copied}
+use Rattle.wd_step_facts.specs.declared.facts.Member.{Member}
+use Rattle.wd_step_facts.specs.declared.facts.Member.TheVariants.{Column, Left, Right, Row}
+use Rattle.wd_step_facts.specs.Facts.{Fact, FactList}
+use Rattle.wd_step_facts.specs.Steps.{both_copied, copy_from, if_copied}
 use Rattle.wd_sets.specs.Sets.{is_in}
 use Rattle.wd_analyse.specs.Evidence.{Closing, IsClosing}
 use Rattle.wd_analyse.specs.Kept.{kept_members}

@@ -6,8 +6,8 @@ use Rattle.wd_schema.specs.Tables.{TableRule}
 use Rattle.wd_plan.specs.Fits.{width}
 use Rattle.wd_plan.specs.Plans.{PlanTree, Scan, Join, Filter, Map, Group, Window, Distinct, Limit}
 use Rattle.wd_certificate.specs.Certificates.{NodeRecord, node_of}
-use Rattle.wd_facts.specs.Facts.{Fact, FactList}
-use Rattle.wd_facts.specs.Given.{both_copied, if_copied}
+use Rattle.wd_step_facts.specs.Facts.{Fact, FactList}
+use Rattle.wd_step_facts.specs.Steps.{both_copied, if_copied}
 use Rattle.wd_facts.specs.Laws.{ArePlain}
 use Rattle.wd_analyse.specs.declared.analysis.Mark.{Mark}
 use Rattle.wd_analyse.specs.declared.analysis.Reason.{Reason}

@@ -2,7 +2,7 @@
 
 ghost use Rattle.std.specs.Prelude.{◌≡◌, ◌<◌, ℕ, Some, length, map, if◌then◌else◌, IfOk};
 ghost use Rattle.wd_plan.specs.Expressions.{expression_of};
-ghost use Rattle.wd_facts.specs.Given.{copy_from, is_side, side_of};
+ghost use Rattle.wd_step_facts.specs.Steps.{copy_from, is_side, side_of};
 ghost use Rattle.wd_analyse.specs.Steps.{copy_in};
 
 use indexmap::IndexMap;

@@ -2,7 +2,7 @@
 
 ghost use Rattle.std.specs.Prelude.{◌≡◌, ◌+◌, ◌<◌, map, slice_get, is_some, None, IfOk};
 ghost use Rattle.wd_plan.specs.Plans.{window_of};
-ghost use Rattle.wd_facts.specs.Given.{all_columns};
+ghost use Rattle.wd_step_facts.specs.Steps.{all_columns};
 ghost use Rattle.wd_sets.specs.Sets.{has};
 ghost use Rattle.wd_rules.specs.Rules as rules;
 ghost use Rattle.wd_analyse.specs.Decisions as spec;

@@ -2,8 +2,8 @@
 
 ghost use Rattle.std.specs.Prelude.{◌≡◌, ℕ, ◌++◌, map, filter, IfOk};
 ghost use Rattle.wd_certificate.specs.Certificates.{kept_of};
-ghost use Rattle.wd_facts.specs.Facts.{columns_named, fact_of};
-ghost use Rattle.wd_facts.specs.Given.{all_columns};
+ghost use Rattle.wd_step_facts.specs.Facts.{columns_named, fact_of};
+ghost use Rattle.wd_step_facts.specs.Steps.{all_columns};
 ghost use Rattle.wd_sets.specs.Sets.{has_column, is_in};
 ghost use Rattle.wd_analyse.specs.Evidence.{closing_of};
 ghost use Rattle.wd_analyse.specs.Kept as spec;

@@ -1,7 +1,7 @@
 //! The nodes of a plan in postorder.
 
 ghost use Rattle.std.specs.Prelude.{◌≡◌, true, [], map, IfOk};
-ghost use Rattle.wd_facts.specs.Facts.{fact_of, kept_by};
+ghost use Rattle.wd_step_facts.specs.Facts.{fact_of, kept_by};
 ghost use Rattle.wd_facts.specs.Laws.{AreOfChildren};
 ghost use Rattle.wd_plan.specs.Fits.{fits};
 ghost use Rattle.wd_plan.specs.Plans.{limit_of, plan_of};

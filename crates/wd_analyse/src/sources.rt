@@ -6,7 +6,7 @@ ghost use Rattle.wd_plan.specs.Expressions.{expression_of};
 ghost use Rattle.wd_plan.specs.Fits as fitting;
 ghost use Rattle.wd_plan.specs.Plans.{plan_of};
 ghost use Rattle.wd_schema.specs.Schemas.{schema_of};
-ghost use Rattle.wd_facts.specs.Facts.{fact_of, is_plain_fact, kept_by};
+ghost use Rattle.wd_step_facts.specs.Facts.{fact_of, is_plain_fact, kept_by};
 ghost use Rattle.wd_facts.specs.Laws.{AreOfChildren};
 ghost use Rattle.wd_analyse.specs.Sources as spec;
 ghost use Rattle.wd_analyse.specs.Steps.{copy_in, left_sides_by, output_by, outputs_by};

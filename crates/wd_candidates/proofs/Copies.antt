@@ -13,7 +13,7 @@ use Rattle.wd_plan.specs.Fits.{are_outputs, fits, has_table, is_condition, is_gr
 use Rattle.wd_value.specs.Bags.{positions}
 use Rattle.wd_plan.specs.Plans.{GroupCall, PlanTree, Scan, Join, Filter, Map, Group, Window, Distinct, Limit}
 use Rattle.wd_plan.proofs.Ranges.{has_the_table}
-use Rattle.wd_facts.specs.Given.{conjuncts_of}
+use Rattle.wd_step_facts.specs.Steps.{conjuncts_of}
 use Rattle.wd_candidates.specs.declared.origins.TableColumn.{TableColumn}
 use Rattle.wd_candidates.specs.declared.fixed.Fixing.{Fixing}
 use Rattle.wd_candidates.specs.Origins.{origin, plain_column}

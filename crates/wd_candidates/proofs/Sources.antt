@@ -13,7 +13,8 @@ use Rattle.wd_plan.specs.declared.window.Call.{Call}
 use Rattle.wd_plan.specs.Expressions.{Expression, expression_of}
 use Rattle.wd_plan.specs.Fits.{width}
 use Rattle.wd_plan.specs.Plans.{GroupRule, WindowRule, PlanTree, Scan, Join, Filter, Map, Group, Window, Distinct, Limit, group_call_of, has}
-use Rattle.wd_facts.specs.Given.{table_rule, used}
+use Rattle.wd_facts.specs.Given.{table_rule}
+use Rattle.wd_step_facts.specs.Steps.{used}
 use Rattle.wd_candidates.specs.Marks.{MarkMore, MarksMore, is_marked, marks_of}
 use Rattle.wd_candidates.specs.Origins.{call_columns, group_call_columns, group_columns, is_in_wanted, is_source}
 use Rattle.wd_candidates.specs.Outlines.{AreTied, tied_in}

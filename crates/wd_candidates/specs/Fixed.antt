@@ -8,7 +8,7 @@ use Rattle.wd_plan.specs.declared.expression.ComparisonOp.{ComparisonOp}
 use Rattle.wd_plan.specs.declared.expression.ComparisonOp.TheVariants as op
 use Rattle.wd_plan.specs.Expressions.{Expression, Column, Literal, Negate, Arithmetic, Compare, Not, And, Or, IsNull, IsNotNull, Case, is_null}
 use Rattle.wd_plan.specs.Plans.{PlanTree, Scan, Join, Filter, Map, Group, Window, Distinct, Limit}
-use Rattle.wd_facts.specs.Given.{Side, Plain, Fixed, Other, side_of, conjuncts, conjuncts_of}
+use Rattle.wd_step_facts.specs.Steps.{Side, Plain, Fixed, Other, side_of, conjuncts, conjuncts_of}
 use Rattle.wd_candidates.specs.declared.origins.TableColumn.{TableColumn}
 use Rattle.wd_candidates.specs.declared.fixed.Fixing.{Fixing}
 use Rattle.wd_candidates.specs.declared.fixed.Setting.{Setting}

@@ -8,7 +8,7 @@ use Rattle.wd_plan.specs.Functions.{argument_of, argument_of_aggregate}
 use Rattle.wd_plan.specs.Outcomes.{class_at}
 use Rattle.wd_plan.specs.Plans.{GroupCall, OfRows, Grouping, GroupRule, WindowRule, PlanTree, Scan, Join, Filter, Map, Group, Window, Distinct, Limit, has}
 use Rattle.wd_plan.specs.Sorting.{class_columns}
-use Rattle.wd_facts.specs.Given.{Side, Plain, Fixed, Other, side_of, used}
+use Rattle.wd_step_facts.specs.Steps.{Side, Plain, Fixed, Other, side_of, used}
 use Rattle.wd_candidates.specs.declared.origins.TableColumn.{TableColumn}
 
 -- ---- copies

@@ -3,7 +3,7 @@
 ghost use Rattle.std.specs.Prelude.{◌≡◌, ◌++◌, option_map, option_to_list, IfOk};
 ghost use Rattle.wd_plan.specs.Expressions.{expression_of};
 ghost use Rattle.wd_plan.specs.Plans.{plan_of};
-ghost use Rattle.wd_facts.specs.Given.{conjuncts, conjuncts_of, side_of};
+ghost use Rattle.wd_step_facts.specs.Steps.{conjuncts, conjuncts_of, side_of};
 ghost use Rattle.wd_candidates.specs.Fixed as spec;
 ghost use Rattle.wd_candidates.specs.Listed as listed;
 

@@ -2,7 +2,8 @@
 
 ghost use Rattle.std.specs.Prelude.{◌≡◌, ◌&&◌, ℕ, false, length, nat_eq, option_to_list, IfOk};
 ghost use Rattle.wd_candidates.specs.Marks.{MarkMore, MarksMore, is_marked, marks_of};
-ghost use Rattle.wd_facts.specs.Given.{table_rule, used};
+ghost use Rattle.wd_facts.specs.Given.{table_rule};
+ghost use Rattle.wd_step_facts.specs.Steps.{used};
 ghost use Rattle.wd_plan.specs.Expressions.{expression_of};
 ghost use Rattle.wd_plan.specs.Plans.{class_of, has};
 ghost use Rattle.wd_plan.specs.Sorting.{class_columns};
@@ -78,7 +79,7 @@ pub(crate) fn mark_argument(marks: &mut [bool], argument: Option<u16>)
     }
 }
 
-/// Marks the columns that an expression uses.
+/// Marks the columns that an expression uses. The left operand comes last: a compiler makes a loop of that call.
 pub(crate) fn mark_used(marks: &mut [bool], expression: &Expr)
     ensures { MarksMore marks.old (λ c. has (used (expression_of expression.now)) c) marks.new }
 {
@@ -87,21 +88,21 @@ pub(crate) fn mark_used(marks: &mut [bool], expression: &Expr)
         Expr::Literal(_, _) => {}
         Expr::Negate(a) => mark_used(marks, a),
         Expr::Arithmetic(_, a, b) => {
-            mark_used(marks, a);
             mark_used(marks, b);
+            mark_used(marks, a);
         }
         Expr::Compare(_, a, b) => {
-            mark_used(marks, a);
             mark_used(marks, b);
+            mark_used(marks, a);
         }
         Expr::Not(a) => mark_used(marks, a),
         Expr::And(a, b) => {
-            mark_used(marks, a);
             mark_used(marks, b);
+            mark_used(marks, a);
         }
         Expr::Or(a, b) => {
-            mark_used(marks, a);
             mark_used(marks, b);
+            mark_used(marks, a);
         }
         Expr::IsNull(a) => mark_used(marks, a),
         Expr::IsNotNull(a) => mark_used(marks, a),

@@ -3,6 +3,7 @@
 #![tactic(auto)]
 
 mod all;
+mod altered;
 mod subject;
 
 use all::AllCases;

@@ -1,4 +1,12 @@
-use wd_cases::Failure;
+//! What cases are about, and the cases of each subject.
+use std::alloc::Global;
+use wd_cases::{Cases, Failure};
+use wd_cases_calls::CallCases;
+use wd_cases_certificates::CertificateCases;
+use wd_cases_command::CommandCases;
+use wd_cases_meaning::MeaningCases;
+use wd_cases_plans::PlanCases;
+use wd_cases_reading::ReadingCases;
 
 /// What cases are about: the library that answers them.
 #[derive(Clone, Copy)]
@@ -22,6 +30,46 @@ impl Subject {
             "command" => Ok(Subject::Command),
             "calls" => Ok(Subject::Calls),
             _ => Err(Failure::NoCase),
+        }
+    }
+}
+
+/// The cases of each subject, and the subject of the lines that follow.
+#[derive(Drop)]
+pub struct SubjectCases {
+    pub subject: Subject,
+    reading: ReadingCases,
+    meaning: MeaningCases,
+    plans: PlanCases,
+    certificates: CertificateCases,
+    command: CommandCases,
+    calls: CallCases,
+}
+
+impl SubjectCases {
+    /// Of each subject the cases to which no line has given anything yet.
+    pub fn new(alloc: Global) -> SubjectCases {
+        SubjectCases {
+            subject: Subject::Reading,
+            reading: ReadingCases::new(alloc),
+            meaning: MeaningCases::new(alloc),
+            plans: PlanCases::new(alloc),
+            certificates: CertificateCases::new(alloc),
+            command: CommandCases::new(alloc),
+            calls: CallCases::new(alloc),
+        }
+    }
+}
+
+impl Cases for SubjectCases {
+    fn answer(&mut self, alloc: Global, word: &str, text: &str) -> Result<String, Failure> {
+        match self.subject {
+            Subject::Reading => self.reading.answer(alloc, word, text),
+            Subject::Meaning => self.meaning.answer(alloc, word, text),
+            Subject::Plans => self.plans.answer(alloc, word, text),
+            Subject::Certificates => self.certificates.answer(alloc, word, text),
+            Subject::Command => self.command.answer(alloc, word, text),
+            Subject::Calls => self.calls.answer(alloc, word, text),
         }
     }
 }

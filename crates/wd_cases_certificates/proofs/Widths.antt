@@ -2,7 +2,7 @@
 use Rattle.std.proofs.Common.{◌≡◌, ℕ, List, min, ◌-◌, ◌^◌, true}
 use Rattle.std.proofs.Math.Nat.{min-le_left}
 use Rattle.std.specs.List.{list_all}
-use Rattle.wd_facts.specs.Facts.{Fact, is_plain_fact}
+use Rattle.wd_step_facts.specs.Facts.{Fact, is_plain_fact}
 use Rattle.wd_facts.specs.Laws.{ArePlain}
 use Rattle.wd_facts.proofs.Plain.{facts_wider}
 use Rattle.wd_rules.proofs.Traces.{all_pass}

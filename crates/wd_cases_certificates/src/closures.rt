@@ -3,7 +3,7 @@
 ghost use Rattle.std.specs.Prelude.{◌≡◌, true, nat_lt};
 ghost use Rattle.std.specs.List.{list_all};
 ghost use Rattle.wd_close.specs.Closure as spec;
-ghost use Rattle.wd_facts.specs.Facts.{facts_of};
+ghost use Rattle.wd_step_facts.specs.Facts.{facts_of};
 
 use crate::followed::follow;
 use crate::named::{are_below, are_named, is_split_within};

@@ -1,7 +1,7 @@
 //! The facts given at a node, whose children keep facts.
 
 ghost use Rattle.std.specs.Prelude.{◌≡◌, true, map};
-ghost use Rattle.wd_facts.specs.Facts.{fact_of};
+ghost use Rattle.wd_step_facts.specs.Facts.{fact_of};
 ghost use Rattle.wd_facts.specs.Laws.{AreOfChildren};
 ghost use Rattle.wd_plan.specs.Fits as spec;
 ghost use Rattle.wd_plan.specs.Plans.{plan_of};

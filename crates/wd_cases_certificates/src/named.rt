@@ -3,7 +3,7 @@
 ghost use Rattle.std.specs.Prelude.{◌≡◌, ◌&&◌, nat_lt};
 ghost use Rattle.std.specs.List.{list_all};
 ghost use Rattle.wd_close.specs.Closure as spec;
-ghost use Rattle.wd_facts.specs.Facts.{facts_of};
+ghost use Rattle.wd_step_facts.specs.Facts.{facts_of};
 
 use wd_facts::{Facts, Given, Member};
 

@@ -2,7 +2,7 @@
 
 ghost use Rattle.std.specs.Prelude.{◌≡◌, true, map};
 ghost use Rattle.std.specs.List.{list_all};
-ghost use Rattle.wd_facts.specs.Facts as spec;
+ghost use Rattle.wd_step_facts.specs.Facts as spec;
 ghost use Rattle.wd_facts.specs.Laws.{AreOfChildren, ArePlain};
 ghost use Rattle.wd_plan.specs.Fits.{width};
 ghost use Rattle.wd_plan.specs.Plans.{plan_of};

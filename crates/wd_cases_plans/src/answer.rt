@@ -54,7 +54,7 @@ fn answer(alloc: Global, state: &mut State, line: Line, out: &mut String) -> Res
 /// What is asked of the words and lists that were read.
 fn asked(alloc: Global, state: &State, line: Line, out: &mut String) -> Result<(), Failure> {
     match line.word.name {
-        "sorted_positions" | "sorted_from" | "is_sorted" | "compare_rows_at" => {
+        "sorted_positions" | "sorted_from" | "is_sorted" | "compare_rows_at" | "value_numbers" => {
             sorts::answer(alloc, state, line.word.name, out)
         }
         "sorted_ordering" | "is_ordering" | "partitions" => {
@@ -69,7 +69,7 @@ fn asked(alloc: Global, state: &State, line: Line, out: &mut String) -> Result<(
         "with_fault" => steps::faults(line.word, out),
         "evaluate_window" => plans::window(alloc, state, line.word, out),
         "fits" | "orderings" => plans::plan_answer(state, line.word.name, out),
-        "eval_with" | "run_plan" | "first_choice" | "tied_choice" => {
+        "eval_with" | "eval_within" | "run_plan" | "first_choice" | "tied_choice" => {
             plans::answer(alloc, state, line, out)
         }
         "given" => facts::answer(alloc, state, out),

@@ -13,11 +13,15 @@ use std::alloc::Global;
 use wd_cases::Failure;
 use wd_cases_notation::{Line, State, Word};
 use wd_eval::{
-    EvalError, check_choice, eval_with, evaluate_window, first_choice, run_plan, tied_choice,
+    EvalError, check_choice, eval_with, eval_within, evaluate_window, first_choice, run_plan,
+    tied_choice,
 };
 use wd_plan::{Choice, Outcome, Plan, Window};
 use wd_schema::Schema;
 use wd_value::{Instance, Row};
+
+/// The most rows that a step may have.
+const MOST_ROWS: u64 = 10_000_000;
 
 /// `evaluate_window(FIRST) CLASSES CALLS : ORDERINGS`: the rows with the calls' values, under the
 /// orderings from that number on; over a fault with `evaluate_window(FIRST,FAULT)`.
@@ -111,6 +115,7 @@ fn push_of(
     let instance = &state.instance;
     match line.word.name {
         "eval_with" => push_evaluated(alloc, plan, schema, state, out),
+        "eval_within" => push_within(alloc, plan, schema, state, line.word, out),
         "run_plan" => push_given(out, run_plan(alloc, plan, schema, instance)),
         "first_choice" => push_choice(out, first_choice(alloc, plan, schema, instance)),
         _ => push_tied(alloc, plan, schema, instance, line.word.arguments, out),
@@ -130,6 +135,30 @@ fn push_evaluated(
     let (instance, choice) = (&state.instance, &state.choice);
     push_checked(out, check_choice(alloc, plan, schema, instance, choice))?;
     push_given(out, eval_with(alloc, plan, schema, instance, choice))
+}
+
+/// `eval_within(MOST) : ORDERINGS`: what the choice gives where a step may have so many rows.
+fn push_within(
+    alloc: Global,
+    plan: &Plan,
+    schema: &Schema,
+    state: &State,
+    word: Word,
+    out: &mut String,
+) -> Result<(), Failure>
+    requires { spec.fits (schema_of schema.now) (plan_of plan.now) ≡ true }
+{
+    let (instance, choice) = (&state.instance, &state.choice);
+    match word.number(0) {
+        Some(most) if most <= MOST_ROWS => {
+            let most = most as usize;
+            push_given(
+                out,
+                eval_within(alloc, plan, schema, instance, choice, most),
+            )
+        }
+        _ => Err(Failure::NoCase),
+    }
 }
 
 fn push_checked(out: &mut String, checked: Result<(), EvalError>) -> Result<(), Failure> {

@@ -7,11 +7,12 @@ use wd_cases_notation::{Line, State, Word};
 use wd_columns::RowSource;
 use wd_partition::{Member, Partitions, is_ordering, partitions, sorted_ordering};
 use wd_plan::Class;
-use wd_sort::{compare_rows_at, is_sorted, sorted_from, sorted_positions};
+use wd_sort::{compare_rows_at, is_sorted, sorted_from, sorted_positions, value_numbers};
 use wd_value::{Row, SortColumn};
 
 /// `sorted_positions COLUMNS`, `sorted_from COLUMNS : POSITIONS`, `is_sorted COLUMNS : POSITIONS`,
-/// and `compare_rows_at COLUMNS : 0 3`, how the first of these rows stands beside the last.
+/// `value_numbers COLUMN`, for each row the first one with its number, and
+/// `compare_rows_at COLUMNS : 0 3`, how the first of these rows stands beside the last.
 pub fn answer(alloc: Global, state: &State, name: &str, out: &mut String) -> Result<(), Failure> {
     let columns = columns_of(alloc, &state.stacks.items)?;
     let (rows, given) = (state.rows(), state.ordering());
@@ -19,6 +20,7 @@ pub fn answer(alloc: Global, state: &State, name: &str, out: &mut String) -> Res
         "sorted_positions" => push_numbers(out, &sorted_positions(alloc, rows, &columns)?),
         "sorted_from" => push_numbers(out, &sorted_from(alloc, rows, &columns, given)?),
         "is_sorted" => push_truth(out, is_sorted(rows, &columns, given)),
+        "value_numbers" => push_value_numbers(alloc, rows, &columns, out),
         _ => push_compared(rows, &columns, given, out),
     }
 }
@@ -43,6 +45,35 @@ fn push_compared(
     let first = given.first().copied().unwrap_or(0);
     let last = given.last().copied().unwrap_or(0);
     push_comparison(out, compare_rows_at(rows, columns, first, last))
+}
+
+fn push_value_numbers(
+    alloc: Global,
+    rows: &[Row],
+    columns: &[SortColumn],
+    out: &mut String,
+) -> Result<(), Failure> {
+    let asked = columns.first().ok_or(Failure::NoCase)?;
+    let numbers = value_numbers(alloc, &RowSource::of_rows(rows), asked.column)?;
+    push_numbers(out, &firsts_of(alloc, &numbers.codes)?)
+}
+
+/// For each number the place where it stands first.
+fn firsts_of(alloc: Global, numbers: &[u64]) -> Result<Vec<u64>, AllocError> {
+    let mut firsts = Vec::new(alloc);
+    for number in numbers {
+        firsts.push(first_of(numbers, *number))?;
+    }
+    Ok(firsts)
+}
+
+fn first_of(numbers: &[u64], number: u64) -> u64 {
+    for place in 0..numbers.len() {
+        if numbers[place] == number {
+            return place as u64;
+        }
+    }
+    numbers.len() as u64
 }
 
 /// What is asked of the class of the line.

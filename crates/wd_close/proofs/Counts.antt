@@ -3,7 +3,7 @@ use Rattle.std.proofs.Common.{◌≡◌, ℕ, ◌+◌, Bool, true, false, cond, 
 use Rattle.std.specs.List.{count_by}
 use Rattle.std.proofs.lemmas.Bool.{false≢true}
 use Rattle.std.proofs.lemmas.List.Recursion.{is_count_by}
-use Rattle.wd_facts.specs.declared.facts.Member.{Member}
+use Rattle.wd_step_facts.specs.declared.facts.Member.{Member}
 use Rattle.wd_sets.specs.Sets.{same_member, stands_in}
 use Rattle.wd_close.proofs.Lists.{Apart, all_added_from, all_added_has, apart_all, bool_cases, different, lacking, not_same, or_left, or_right, same_member-is, same_self}
 

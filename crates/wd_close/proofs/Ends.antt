@@ -3,9 +3,9 @@ use Rattle.std.proofs.Common.{◌≡◌, ℕ, zero, suc, ◌+◌, ◌<◌, ◌�
 use Rattle.std.specs.List.{list_all, AllByRecursion, range_with_len}
 use Rattle.std.proofs.lemmas.Bool.{cases_eq, and_parts, false≢true}
 use Rattle.std.proofs.lemmas.List.{length-map, take_all}
-use Rattle.wd_facts.specs.declared.facts.Member.{Member}
-use Rattle.wd_facts.specs.declared.facts.Member.TheVariants.{Left, Right}
-use Rattle.wd_facts.specs.Facts.{Fact, FactList}
+use Rattle.wd_step_facts.specs.declared.facts.Member.{Member}
+use Rattle.wd_step_facts.specs.declared.facts.Member.TheVariants.{Left, Right}
+use Rattle.wd_step_facts.specs.Facts.{Fact, FactList}
 use Rattle.wd_sets.specs.Sets.{has, stands_in}
 use Rattle.wd_close.specs.Closure.{all_members, columns_between, is_named, side_facts}
 use Rattle.wd_close.specs.Reached.{all_added, fired, is_done}

@@ -3,9 +3,9 @@ use Rattle.std.proofs.Common.{◌≡◌, ℕ, true, List, [], ◌∷◌, refl, s
 use Rattle.std.specs.List.{AllByRecursion}
 use Rattle.std.proofs.lemmas.Bool.{false≢true}
 use Rattle.wd_value.specs.Rows.{column_of, row_at}
-use Rattle.wd_facts.specs.declared.facts.Member.{Member}
-use Rattle.wd_facts.specs.declared.facts.Member.TheVariants.{Column, Left, Right, Row}
-use Rattle.wd_facts.specs.Facts.{Fact, FactList, Paired, Same, Holds}
+use Rattle.wd_step_facts.specs.declared.facts.Member.{Member}
+use Rattle.wd_step_facts.specs.declared.facts.Member.TheVariants.{Column, Left, Right, Row}
+use Rattle.wd_step_facts.specs.Facts.{Fact, FactList, Paired, Same, Holds}
 use Rattle.wd_sets.specs.Sets.{stands_in}
 use Rattle.wd_close.specs.Closure.{columns_between, side_facts}
 use Rattle.wd_close.proofs.Lists.{every_at, every_from, stands_one}

@@ -1,8 +1,8 @@
 -- The facts of the sides hold exactly where the positions on each side give its columns, and both give the row.
 use Rattle.std.proofs.Common.{ℕ, Option, Some, None, sym, arith, subst}
 use Rattle.std.specs.List.{AllByRecursion}
-use Rattle.wd_facts.specs.declared.facts.Member.TheVariants.{Column}
-use Rattle.wd_facts.specs.Facts.{Paired, Same, Holds}
+use Rattle.wd_step_facts.specs.declared.facts.Member.TheVariants.{Column}
+use Rattle.wd_step_facts.specs.Facts.{Paired, Same, Holds}
 use Rattle.wd_facts.proofs.Sides.{HasSides}
 use Rattle.wd_close.specs.Closure.{columns_between, side_facts}
 use Rattle.wd_close.proofs.Lists.{between_from, between_has, every_at, every_from}

@@ -4,9 +4,9 @@ use Rattle.std.specs.List.{list_all, AllByRecursion, range_with_len}
 use Rattle.std.proofs.lemmas.Bool.{cases_eq, and_parts, or_cases, false≢true, eqb-true}
 use Rattle.std.proofs.lemmas.List.Folds.{list_any-append}
 use Rattle.std.proofs.lemmas.List.{append_assoc, append-nil}
-use Rattle.wd_facts.specs.declared.facts.Member.{Member}
-use Rattle.wd_facts.specs.declared.facts.Member.TheVariants.{Column, Left, Right, Row}
-use Rattle.wd_facts.specs.Facts.{columns_named}
+use Rattle.wd_step_facts.specs.declared.facts.Member.{Member}
+use Rattle.wd_step_facts.specs.declared.facts.Member.TheVariants.{Column, Left, Right, Row}
+use Rattle.wd_step_facts.specs.Facts.{columns_named}
 use Rattle.wd_sets.specs.Sets.{same_member, stands_in}
 use Rattle.wd_close.specs.Closure.{all_members, columns_between}
 use Rattle.wd_close.specs.Reached.{added, all_added}

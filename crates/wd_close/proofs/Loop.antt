@@ -3,9 +3,9 @@ use Rattle.std.proofs.Common.{◌≡◌, ℕ, ◌+◌, ◌<◌, ◌≤◌, Bool,
 use Rattle.std.specs.List.{list_all, AllByRecursion, range_with_len, count_by, sum_by}
 use Rattle.std.proofs.lemmas.List.{append-nil, drop_all, get_or-replicate, length-replicate, take_all}
 use Rattle.std.proofs.lemmas.List.Recursion.{is_sum_by}
-use Rattle.wd_facts.specs.declared.facts.Member.{Member}
-use Rattle.wd_facts.specs.declared.facts.Member.TheVariants.{Row}
-use Rattle.wd_facts.specs.Facts.{Fact, FactList, columns_named}
+use Rattle.wd_step_facts.specs.declared.facts.Member.{Member}
+use Rattle.wd_step_facts.specs.declared.facts.Member.TheVariants.{Row}
+use Rattle.wd_step_facts.specs.Facts.{Fact, FactList, columns_named}
 use Rattle.wd_sets.specs.Sets.{place, stands_in}
 use Rattle.wd_close.specs.Closure.{IsClosure, all_members, is_named, steps_of}
 use Rattle.wd_close.specs.Reached.{all_added, brought, fallen, fired, used, watching}

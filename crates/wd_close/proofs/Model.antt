@@ -6,9 +6,9 @@ use Rattle.std.proofs.lemmas.List.{get_or-map}
 use Rattle.wd_value.specs.declared.value.Value.{Value}
 use Rattle.wd_value.specs.declared.value.Value.TheVariants.{Int, Null}
 use Rattle.wd_value.specs.Rows.{column_of}
-use Rattle.wd_facts.specs.declared.facts.Member.{Member}
-use Rattle.wd_facts.specs.declared.facts.Member.TheVariants.{Column, Left, Right, Row}
-use Rattle.wd_facts.specs.Facts.{Fact, FactList, Paired, Same, Holds}
+use Rattle.wd_step_facts.specs.declared.facts.Member.{Member}
+use Rattle.wd_step_facts.specs.declared.facts.Member.TheVariants.{Column, Left, Right, Row}
+use Rattle.wd_step_facts.specs.Facts.{Fact, FactList, Paired, Same, Holds}
 use Rattle.wd_close.specs.Closure.{is_named, side_facts}
 use Rattle.wd_close.proofs.Gives.{Gives}
 use Rattle.wd_close.proofs.Names.{IsNamed}

@@ -3,8 +3,8 @@ use Rattle.std.proofs.Common.{◌≡◌, ℕ, ◌+◌, ◌-◌, ◌<◌, ◌≤�
 use Rattle.std.specs.List.{AllByRecursion}
 use Rattle.std.proofs.lemmas.Bool.{eqb-true}
 use Rattle.std.proofs.lemmas.List.{get_or-replicate, length-replicate, length_push}
-use Rattle.wd_facts.specs.declared.facts.Member.{Member}
-use Rattle.wd_facts.specs.Facts.{Fact, FactList}
+use Rattle.wd_step_facts.specs.declared.facts.Member.{Member}
+use Rattle.wd_step_facts.specs.Facts.{Fact, FactList}
 use Rattle.wd_sets.specs.Sets.{place, same_member, stands_in}
 use Rattle.wd_close.specs.Closure.{is_named}
 use Rattle.wd_close.specs.Reached.{added, all_added, count_new, counted, is_last, is_number, watched, watched_each, watched_once, watched_one}

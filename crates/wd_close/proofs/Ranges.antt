@@ -1,9 +1,9 @@
 -- Ranges, a step on and at the end.
 use Rattle.std.proofs.Common.{◌≡◌, ℕ, suc, ◌+◌, ◌-◌, ◌<◌, ◌≤◌, List, [], ◌∷◌, ap, arith, Bool, true, false, cond, filter, ◌∙◌, ◌++◌, refl, sym}
 use Rattle.std.specs.List.{range_with_len}
-use Rattle.wd_facts.specs.declared.facts.Member.{Member}
-use Rattle.wd_facts.specs.declared.facts.Member.TheVariants.{Column}
-use Rattle.wd_facts.specs.Facts.{columns_named}
+use Rattle.wd_step_facts.specs.declared.facts.Member.{Member}
+use Rattle.wd_step_facts.specs.declared.facts.Member.TheVariants.{Column}
+use Rattle.wd_step_facts.specs.Facts.{columns_named}
 use Rattle.wd_close.specs.Closure.{columns_between}
 use Rattle.wd_close.specs.Reached.{added, all_added}
 

@@ -1,8 +1,8 @@
 -- Of some facts only those whose counters are at 0 matter.
 use Rattle.std.proofs.Common.{◌≡◌, ℕ, Bool, true, false, cond, List, [], ◌∷◌, ◌++◌, length, filter, refl, sym, ◌∙◌, ap, arith, ◌⊎◌, inl, inr, slice_get, nat_lt, if◌then◌else◌}
 use Rattle.std.proofs.lemmas.Bool.{ltb-true}
-use Rattle.wd_facts.specs.declared.facts.Member.{Member}
-use Rattle.wd_facts.specs.Facts.{Fact}
+use Rattle.wd_step_facts.specs.declared.facts.Member.{Member}
+use Rattle.wd_step_facts.specs.Facts.{Fact}
 use Rattle.wd_close.specs.Reached.{fired, fired_one, is_done, used, used_one, with_fact}
 use Rattle.wd_close.proofs.Lists.{bool_cases}
 

@@ -3,9 +3,9 @@ use Rattle.std.proofs.Common.{◌≡◌, ℕ, zero, suc, ◌+◌, ◌<◌, ◌�
 use Rattle.std.specs.List.{AllByRecursion}
 use Rattle.std.proofs.lemmas.Bool.{cases_eq, and_parts, false≢true, ltb-true, lt-ltb, eqb-true}
 use Rattle.std.proofs.lemmas.List.{length-append, take-append-le, take-append-drop, take_more}
-use Rattle.wd_facts.specs.declared.facts.Member.{Member}
-use Rattle.wd_facts.specs.declared.facts.Member.TheVariants.{Column, Left, Right, Row}
-use Rattle.wd_facts.specs.Facts.{Fact, FactList, Paired, Holds}
+use Rattle.wd_step_facts.specs.declared.facts.Member.{Member}
+use Rattle.wd_step_facts.specs.declared.facts.Member.TheVariants.{Column, Left, Right, Row}
+use Rattle.wd_step_facts.specs.Facts.{Fact, FactList, Paired, Holds}
 use Rattle.wd_sets.specs.Sets.{same_member, stands_in}
 use Rattle.wd_close.specs.Closure.{columns_between, is_named}
 use Rattle.wd_close.specs.Reached.{added, all_added, brought, fallen, fired, is_done, row_if, with_left, with_right, with_sides}

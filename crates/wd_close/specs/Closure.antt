@@ -1,9 +1,9 @@
 -- What columns give by facts: what they give in each row list in which the facts hold (SQL, functional dependencies).
 use Rattle.std.specs.Prelude.{◌≡◌, ℕ, ◌+◌, ◌-◌, ◌↔◌, Bool, true, ◌&&◌, List, [], ◌∷◌, count_by, sum_by, nat_lt, nat_le, slice_get, Option, Some, None, is_some}
 use Rattle.std.specs.List.{AllByRecursion, list_all, range_with_len}
-use Rattle.wd_facts.specs.declared.facts.Member.{Member}
-use Rattle.wd_facts.specs.declared.facts.Member.TheVariants.{Column, Left, Right, Row}
-use Rattle.wd_facts.specs.Facts.{Fact, FactList, Paired, Holds, columns_named, key_fact}
+use Rattle.wd_step_facts.specs.declared.facts.Member.{Member}
+use Rattle.wd_step_facts.specs.declared.facts.Member.TheVariants.{Column, Left, Right, Row}
+use Rattle.wd_step_facts.specs.Facts.{Fact, FactList, Paired, Holds, columns_named, key_fact}
 use Rattle.wd_sets.specs.Reaches.{also, reaches, reaches_each}
 use Rattle.wd_sets.specs.Sets.{stands_in}
 

@@ -1,9 +1,9 @@
 -- The queue of reached members, and the counters of the facts.
 use Rattle.std.specs.Prelude.{◌≡◌, ℕ, ◌+◌, ◌-◌, Bool, true, false, ◌&&◌, List, filter, [], ◌∷◌, ◌++◌, length, get_or, set, replicate, slice_get, nat_eq, nat_lt, Option, Some, None, if◌then◌else◌}
 use Rattle.std.specs.List.{range_with_len}
-use Rattle.wd_facts.specs.declared.facts.Member.{Member}
-use Rattle.wd_facts.specs.declared.facts.Member.TheVariants.{Column, Left, Right, Row}
-use Rattle.wd_facts.specs.Facts.{Fact, FactList}
+use Rattle.wd_step_facts.specs.declared.facts.Member.{Member}
+use Rattle.wd_step_facts.specs.declared.facts.Member.TheVariants.{Column, Left, Right, Row}
+use Rattle.wd_step_facts.specs.Facts.{Fact, FactList}
 use Rattle.wd_sets.specs.declared.set.Set.{Set}
 use Rattle.wd_sets.specs.Sets.{has, place, stands_in}
 use Rattle.wd_close.specs.Closure.{are_named, columns_between, is_split_within}

@@ -2,7 +2,7 @@
 
 ghost use Rattle.std.specs.Prelude.{◌≡◌, true, nat_lt, IfOk};
 ghost use Rattle.std.specs.List.{list_all};
-ghost use Rattle.wd_facts.specs.Facts.{columns_named, facts_of};
+ghost use Rattle.wd_step_facts.specs.Facts.{columns_named, facts_of};
 ghost use Rattle.wd_sets.specs.Sets.{has, stands_in};
 ghost use Rattle.wd_close.specs.Closure.{Derives, IsClosure, are_named, is_split_within, steps_of};
 

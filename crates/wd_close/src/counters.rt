@@ -2,7 +2,7 @@
 
 ghost use Rattle.std.specs.Prelude.{◌≡◌, filter, map, length, IfOk, option_map};
 ghost use Rattle.std.specs.List.{range_with_len};
-ghost use Rattle.wd_facts.specs.Facts.{fact_of};
+ghost use Rattle.wd_step_facts.specs.Facts.{fact_of};
 ghost use Rattle.wd_close.specs.Reached.{Mirrors};
 ghost use Rattle.wd_close.specs.Reached as spec;
 

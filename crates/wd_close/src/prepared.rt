@@ -2,8 +2,8 @@
 
 ghost use Rattle.std.specs.Prelude.{◌≡◌, ◌<◌, ◌^◌, true, map, length, get_or, nat_lt, vec_items, IfOk};
 ghost use Rattle.std.specs.List.{list_all};
-ghost use Rattle.wd_facts.specs.declared.facts.Member.TheVariants as member;
-ghost use Rattle.wd_facts.specs.Facts.{FactList, columns_named, fact_of, facts_of};
+ghost use Rattle.wd_step_facts.specs.declared.facts.Member.TheVariants as member;
+ghost use Rattle.wd_step_facts.specs.Facts.{FactList, columns_named, fact_of, facts_of};
 ghost use Rattle.wd_sets.specs.Sets.{has, stands_in};
 ghost use Rattle.wd_close.specs.Closure.{Derives, IsClosure, are_named, is_split_within, steps_of};
 ghost use Rattle.wd_close.specs.Reached.{AreReady, Mirrors};

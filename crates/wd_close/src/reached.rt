@@ -1,7 +1,7 @@
 //! The queue of reached members, each of which stands in it once, as the bits of a set tell.
 
 ghost use Rattle.std.specs.Prelude.{◌≡◌, IfOk};
-ghost use Rattle.wd_facts.specs.Facts.{facts_of, columns_named};
+ghost use Rattle.wd_step_facts.specs.Facts.{facts_of, columns_named};
 ghost use Rattle.wd_close.specs.Closure.{columns_between};
 ghost use Rattle.wd_close.specs.Reached.{Mirrors};
 ghost use Rattle.wd_close.specs.Reached as spec;

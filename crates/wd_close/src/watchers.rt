@@ -1,7 +1,7 @@
 //! For each member, the facts in whose left sides it stands.
 
 ghost use Rattle.std.specs.Prelude.{◌≡◌, [], map, get_or, replicate, vec_items, IfOk};
-ghost use Rattle.wd_facts.specs.Facts.{fact_of};
+ghost use Rattle.wd_step_facts.specs.Facts.{fact_of};
 ghost use Rattle.wd_sets.specs.Sets.{place as place_of};
 ghost use Rattle.wd_close.specs.Reached as spec;
 

@@ -14,7 +14,8 @@ use Rattle.wd_schema.specs.Tables.{KeyRule, TableRule}
 use Rattle.wd_schema.specs.declared.table.Column.{Column as TableColumn}
 use Rattle.wd_plan.specs.Expressions.{Column}
 use Rattle.wd_plan.specs.Sorting.{class_columns}
-use Rattle.wd_facts.specs.Given.{gives_row, is_not_null_column, names_columns, used}
+use Rattle.wd_facts.specs.Given.{gives_row, is_not_null_column, names_columns}
+use Rattle.wd_step_facts.specs.Steps.{used}
 use Rattle.wd_candidates.specs.Candidates.{candidate_row, cells, is_keyed, null_or_first, styled_value, value_of_type}
 use Rattle.wd_candidates.specs.declared.shape.Style.TheVariants.{TiedNull}
 use Rattle.wd_candidates.specs.Origins.{is_in_wanted}

@@ -3,10 +3,10 @@ use Rattle.std.proofs.Common.{◌≡◌, inl, inr, ℕ, zero, suc, ◌+◌, ◌-
 use Rattle.std.specs.List.{AllByRecursion, list_all}
 use Rattle.std.proofs.lemmas.Bool.{and_parts, eq-eqb, eqb-true, lt-ltb, ltb-true, false≢true}
 use Rattle.wd_plan.specs.Expressions.{Expression, Column}
-use Rattle.wd_facts.specs.declared.facts.Member.{Member}
-use Rattle.wd_facts.specs.declared.facts.Member.TheVariants as member
-use Rattle.wd_facts.specs.Facts.{Fact, FactList, Holds, Same, columns_named, moved}
-use Rattle.wd_facts.specs.Given.{both_copied, column_fact, copy_from, if_copied, outputs_facts}
+use Rattle.wd_step_facts.specs.declared.facts.Member.{Member}
+use Rattle.wd_step_facts.specs.declared.facts.Member.TheVariants as member
+use Rattle.wd_step_facts.specs.Facts.{Fact, FactList, Holds, Same, columns_named, moved}
+use Rattle.wd_step_facts.specs.Steps.{both_copied, column_fact, copy_from, if_copied, outputs_facts}
 use Rattle.wd_close.specs.Closure.{Follows}
 use Rattle.wd_analyse.specs.Evidence.{Closing, IsClosing}
 use Rattle.wd_analyse.specs.Sources.{columns_in, left_sides, output_of, outputs_of}

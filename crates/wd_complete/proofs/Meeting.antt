@@ -22,7 +22,7 @@ use Rattle.wd_close.specs.Closure.{Follows}
 use Rattle.wd_seek.proofs.Building.{rule_at}
 use Rattle.wd_seek.proofs.Meeting.{rule_of}
 use Rattle.wd_plan.specs.Sorting.{class_columns}
-use Rattle.wd_facts.specs.declared.facts.Member.TheVariants as member
+use Rattle.wd_step_facts.specs.declared.facts.Member.TheVariants as member
 use Rattle.wd_facts.specs.Given.{table_rule}
 use Rattle.wd_candidates.specs.Candidates.{candidate_rows}
 use Rattle.wd_candidates.specs.declared.shape.Style.TheVariants.{TiedNull}

@@ -8,10 +8,10 @@ use Rattle.wd_plan.specs.Fits.{width}
 use Rattle.wd_plan.specs.Frames.{is_stable}
 use Rattle.wd_plan.specs.Sorting.{class_columns}
 use Rattle.wd_plan.specs.declared.window.Frame.{Frame}
-use Rattle.wd_facts.specs.declared.facts.Member.{Member}
-use Rattle.wd_facts.specs.declared.facts.Member.TheVariants as member
-use Rattle.wd_facts.specs.Facts.{FactList}
-use Rattle.wd_facts.specs.Given.{all_columns}
+use Rattle.wd_step_facts.specs.declared.facts.Member.{Member}
+use Rattle.wd_step_facts.specs.declared.facts.Member.TheVariants as member
+use Rattle.wd_step_facts.specs.Facts.{FactList}
+use Rattle.wd_step_facts.specs.Steps.{all_columns}
 use Rattle.wd_analyse.specs.declared.analysis.Reason.{Reason}
 use Rattle.wd_analyse.specs.declared.decided.Lack.TheVariants as lack
 use Rattle.wd_analyse.specs.Decisions.{decide, gives_all, lack_of, missing_of}

@@ -7,9 +7,10 @@ use Rattle.wd_schema.specs.Tables.{KeyRule, TableRule}
 use Rattle.wd_plan.specs.Expressions.{Expression, Column}
 use Rattle.wd_plan.specs.Plans.{PlanTree, Scan, Window}
 use Rattle.wd_plan.specs.Sorting.{class_columns}
-use Rattle.wd_facts.specs.declared.facts.Member.TheVariants as member
-use Rattle.wd_facts.specs.Facts.{Fact, FactList, Holds, Same, columns_named, key_fact, moved_fact, moved_facts}
-use Rattle.wd_facts.specs.Given.{column_fact, given, gives_row, names_columns, outputs_facts, row_keys, table_rule}
+use Rattle.wd_step_facts.specs.declared.facts.Member.TheVariants as member
+use Rattle.wd_step_facts.specs.Facts.{Fact, FactList, Holds, Same, columns_named, key_fact, moved_fact, moved_facts}
+use Rattle.wd_facts.specs.Given.{given, gives_row, names_columns, row_keys, table_rule}
+use Rattle.wd_step_facts.specs.Steps.{column_fact, outputs_facts}
 use Rattle.wd_close.specs.Closure.{Follows}
 use Rattle.wd_analyse.specs.Evidence.{Closing, IsClosing, once as each_once}
 use Rattle.wd_analyse.specs.Findings.{Finding, IsFinding, facts_kept}

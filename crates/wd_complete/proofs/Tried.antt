@@ -3,8 +3,8 @@ use Rattle.std.proofs.Common.{◌≡◌, ◌⊎◌, inl, inr, ℕ, ◌≤◌, Bo
 use Rattle.std.specs.List.{list_any, list_all}
 use Rattle.std.proofs.lemmas.Bool.{and_parts, ltb-true, ltb-false}
 use Rattle.std.proofs.lemmas.List.{length-map}
-use Rattle.wd_facts.specs.declared.facts.Member.TheVariants as member
-use Rattle.wd_facts.specs.Facts.{FactList, columns_named}
+use Rattle.wd_step_facts.specs.declared.facts.Member.TheVariants as member
+use Rattle.wd_step_facts.specs.Facts.{FactList, columns_named}
 use Rattle.wd_analyse.specs.Evidence.{Closing, once}
 use Rattle.wd_analyse.specs.Kept.{kept_fact}
 use Rattle.wd_analyse.specs.Sources.{Keeps, distinct, gives_some, is_tried, same_columns, starts}

@@ -14,8 +14,8 @@ use Rattle.wd_join.specs.Joins.{has_more_rows}
 use Rattle.wd_join.specs.declared.error.StepError.{StepError}
 use Rattle.wd_join.specs.declared.error.StepError.TheVariants as step
 use Rattle.wd_eval.specs.Errors.{error_of}
-use Rattle.wd_eval.specs.Steps.{has_large_step, is_large}
-use Rattle.wd_nodes.specs.Produced.{most_rows, produced_of, IsSmall, IsLarge, group_over, join_over}
+use Rattle.wd_eval.specs.Steps.{has_larger_step, is_larger}
+use Rattle.wd_nodes.specs.Produced.{produced_of, IsSmall, IsLarge, group_over, join_over}
 use Rattle.wd_eval.specs.Nodes.{IsEvaluated, IsStopped, cut_over, IsCut}
 use Rattle.wd_eval.specs.Windows.{IsUnserved, IsExtended, IsLeast, IsWrong, IsWrongIn, window_over}
 use Rattle.wd_eval.specs.Wrong.{IsWrongFrom}
@@ -37,7 +37,7 @@ or_right false b e = e
 neither : (a b : Bool) → a ≡ false → b ≡ false → (a || b) ≡ false
 neither a b h g = λ i. h i || g i
 
-module _ (tables instance : Instance) (choice : List (List ℕ)) (first : ℕ) where
+module _ (most : ℕ) (tables instance : Instance) (choice : List (List ℕ)) (first : ℕ) where
   abbrev rest : List (List ℕ)
   rest = drop first choice
 
@@ -50,80 +50,80 @@ module _ (tables instance : Instance) (choice : List (List ℕ)) (first : ℕ) w
 
   -- ---- Scan
 
-  pub scan_done : (table columns : ℕ) (o : Produced) → IsSmall (Ok (table_at instance table)) (produced_of tables o) → IsEvaluated (Scan table columns) tables instance choice first (record { outcome = o; next = first })
+  pub scan_done : (table columns : ℕ) (o : Produced) → IsSmall most (Ok (table_at instance table)) (produced_of tables o) → IsEvaluated most (Scan table columns) tables instance choice first (record { outcome = o; next = first })
   scan_done table columns o s = record { is = s.is; next = omega arith; served = record { present = omega arith; lawful = tt }; small = s.small; each = s.small }
 
-  pub scan_stopped : (table columns : ℕ) (e : StepError) → IsLarge (Ok (table_at instance table)) e → IsStopped (Scan table columns) instance choice first (error_of e)
+  pub scan_stopped : (table columns : ℕ) (e : StepError) → IsLarge most (Ok (table_at instance table)) e → IsStopped most (Scan table columns) instance choice first (error_of e)
   scan_stopped table columns step.TooManyRows h = h
   scan_stopped table columns step.OutOfMemory h = tt
 
   -- ---- Filter, Map and Distinct
 
-  module _ (input : PlanTree) (below : Evaluated) (b : IsEvaluated input tables instance choice first below) (o : Produced) where
-    pub filter_done : (condition : Expression) → produced_of tables o ≡ and_then (produced_of tables below.outcome) (filter_outcome condition) → IsEvaluated (Filter condition input) tables instance choice first (record { outcome = o; next = below.next })
+  module _ (input : PlanTree) (below : Evaluated) (b : IsEvaluated most input tables instance choice first below) (o : Produced) where
+    pub filter_done : (condition : Expression) → produced_of tables o ≡ and_then (produced_of tables below.outcome) (filter_outcome condition) → IsEvaluated most (Filter condition input) tables instance choice first (record { outcome = o; next = below.next })
     filter_done condition is = record {
       is = is ∙ ap (λ r. and_then r (filter_outcome condition)) b.is;
       next = b.next;
       served = record { present = b.served.present; lawful = b.served.lawful };
-      small = fewer_filter most_rows condition (outcome input instance rest) b.small;
-      each = neither (has_large_step input instance rest) (is_large (Filter condition input) instance rest) b.each (fewer_filter most_rows condition (outcome input instance rest) b.small);
+      small = fewer_filter most condition (outcome input instance rest) b.small;
+      each = neither (has_larger_step most input instance rest) (is_larger most (Filter condition input) instance rest) b.each (fewer_filter most condition (outcome input instance rest) b.small);
     }
 
-    pub map_done : (outputs : List Expression) → produced_of tables o ≡ and_then (produced_of tables below.outcome) (map_outcome outputs) → IsEvaluated (Map outputs input) tables instance choice first (record { outcome = o; next = below.next })
+    pub map_done : (outputs : List Expression) → produced_of tables o ≡ and_then (produced_of tables below.outcome) (map_outcome outputs) → IsEvaluated most (Map outputs input) tables instance choice first (record { outcome = o; next = below.next })
     map_done outputs is = record {
       is = is ∙ ap (λ r. and_then r (map_outcome outputs)) b.is;
       next = b.next;
       served = record { present = b.served.present; lawful = b.served.lawful };
-      small = fewer_map most_rows outputs (outcome input instance rest) b.small;
-      each = neither (has_large_step input instance rest) (is_large (Map outputs input) instance rest) b.each (fewer_map most_rows outputs (outcome input instance rest) b.small);
+      small = fewer_map most outputs (outcome input instance rest) b.small;
+      each = neither (has_larger_step most input instance rest) (is_larger most (Map outputs input) instance rest) b.each (fewer_map most outputs (outcome input instance rest) b.small);
     }
 
-    pub distinct_done : produced_of tables o ≡ and_then (produced_of tables below.outcome) (λ rows. Ok (distinct rows)) → IsEvaluated (Distinct input) tables instance choice first (record { outcome = o; next = below.next })
+    pub distinct_done : produced_of tables o ≡ and_then (produced_of tables below.outcome) (λ rows. Ok (distinct rows)) → IsEvaluated most (Distinct input) tables instance choice first (record { outcome = o; next = below.next })
     distinct_done is = record {
       is = is ∙ ap (λ r. and_then r (λ rows. Ok (distinct rows))) b.is;
       next = b.next;
       served = record { present = b.served.present; lawful = b.served.lawful };
-      small = fewer_distinct most_rows (outcome input instance rest) b.small;
-      each = neither (has_large_step input instance rest) (is_large (Distinct input) instance rest) b.each (fewer_distinct most_rows (outcome input instance rest) b.small);
+      small = fewer_distinct most (outcome input instance rest) b.small;
+      each = neither (has_larger_step most input instance rest) (is_larger most (Distinct input) instance rest) b.each (fewer_distinct most (outcome input instance rest) b.small);
     }
 
-  pub filter_stopped : (condition : Expression) (input : PlanTree) (e : EvalError) → IsStopped input instance choice first e → IsStopped (Filter condition input) instance choice first e
+  pub filter_stopped : (condition : Expression) (input : PlanTree) (e : EvalError) → IsStopped most input instance choice first e → IsStopped most (Filter condition input) instance choice first e
   filter_stopped condition input (NotValid p) h = h
-  filter_stopped condition input TooManyRows h = or_left (has_large_step input instance rest) (is_large (Filter condition input) instance rest) h
+  filter_stopped condition input TooManyRows h = or_left (has_larger_step most input instance rest) (is_larger most (Filter condition input) instance rest) h
   filter_stopped condition input OutOfMemory h = tt
 
-  pub map_stopped : (outputs : List Expression) (input : PlanTree) (e : EvalError) → IsStopped input instance choice first e → IsStopped (Map outputs input) instance choice first e
+  pub map_stopped : (outputs : List Expression) (input : PlanTree) (e : EvalError) → IsStopped most input instance choice first e → IsStopped most (Map outputs input) instance choice first e
   map_stopped outputs input (NotValid p) h = h
-  map_stopped outputs input TooManyRows h = or_left (has_large_step input instance rest) (is_large (Map outputs input) instance rest) h
+  map_stopped outputs input TooManyRows h = or_left (has_larger_step most input instance rest) (is_larger most (Map outputs input) instance rest) h
   map_stopped outputs input OutOfMemory h = tt
 
-  pub distinct_stopped : (input : PlanTree) (e : EvalError) → IsStopped input instance choice first e → IsStopped (Distinct input) instance choice first e
+  pub distinct_stopped : (input : PlanTree) (e : EvalError) → IsStopped most input instance choice first e → IsStopped most (Distinct input) instance choice first e
   distinct_stopped input (NotValid p) h = h
-  distinct_stopped input TooManyRows h = or_left (has_large_step input instance rest) (is_large (Distinct input) instance rest) h
+  distinct_stopped input TooManyRows h = or_left (has_larger_step most input instance rest) (is_larger most (Distinct input) instance rest) h
   distinct_stopped input OutOfMemory h = tt
 
   -- ---- Group
 
-  module _ (rule : GroupRule) (input : PlanTree) (below : Evaluated) (b : IsEvaluated input tables instance choice first below) where
+  module _ (rule : GroupRule) (input : PlanTree) (below : Evaluated) (b : IsEvaluated most input tables instance choice first below) where
     group_is : group_over rule (produced_of tables below.outcome) ≡ outcome (Group rule input) instance rest
     group_is = ap (group_over rule) b.is
 
-    pub group_done : (o : Outcome) → IsSmall (group_over rule (produced_of tables below.outcome)) (outcome_of o) → IsEvaluated (Group rule input) tables instance choice first (record { outcome = Made o; next = below.next })
+    pub group_done : (o : Outcome) → IsSmall most (group_over rule (produced_of tables below.outcome)) (outcome_of o) → IsEvaluated most (Group rule input) tables instance choice first (record { outcome = Made o; next = below.next })
     group_done o s = record {
       is = s.is ∙ group_is;
       next = b.next;
       served = record { present = b.served.present; lawful = b.served.lawful };
-      small = ap (has_more_rows most_rows) (sym group_is) ∙ s.small;
-      each = neither (has_large_step input instance rest) (is_large (Group rule input) instance rest) b.each (ap (has_more_rows most_rows) (sym group_is) ∙ s.small);
+      small = ap (has_more_rows most) (sym group_is) ∙ s.small;
+      each = neither (has_larger_step most input instance rest) (is_larger most (Group rule input) instance rest) b.each (ap (has_more_rows most) (sym group_is) ∙ s.small);
     }
 
-    pub group_stopped : (e : StepError) → IsLarge (group_over rule (produced_of tables below.outcome)) e → IsStopped (Group rule input) instance choice first (error_of e)
-    group_stopped step.TooManyRows h = or_right (has_large_step input instance rest) (is_large (Group rule input) instance rest) (ap (has_more_rows most_rows) (sym group_is) ∙ h)
+    pub group_stopped : (e : StepError) → IsLarge most (group_over rule (produced_of tables below.outcome)) e → IsStopped most (Group rule input) instance choice first (error_of e)
+    group_stopped step.TooManyRows h = or_right (has_larger_step most input instance rest) (is_larger most (Group rule input) instance rest) (ap (has_more_rows most) (sym group_is) ∙ h)
     group_stopped step.OutOfMemory h = tt
 
-  pub group_stopped_below : (rule : GroupRule) (input : PlanTree) (e : EvalError) → IsStopped input instance choice first e → IsStopped (Group rule input) instance choice first e
+  pub group_stopped_below : (rule : GroupRule) (input : PlanTree) (e : EvalError) → IsStopped most input instance choice first e → IsStopped most (Group rule input) instance choice first e
   group_stopped_below rule input (NotValid p) h = h
-  group_stopped_below rule input TooManyRows h = or_left (has_large_step input instance rest) (is_large (Group rule input) instance rest) h
+  group_stopped_below rule input TooManyRows h = or_left (has_larger_step most input instance rest) (is_larger most (Group rule input) instance rest) h
   group_stopped_below rule input OutOfMemory h = tt
 
   -- ---- Window
@@ -134,11 +134,11 @@ module _ (tables instance : Instance) (choice : List (List ℕ)) (first : ℕ) w
   abbrev IsLawfulWindow : WindowRule → RowsOrFault → List (List ℕ) → Type 0
   IsLawfulWindow w input orderings = AtRows input (λ rows. AreOrderings w rows orderings) (AllByRecursion (λ o. o ≡ []) orderings)
 
-  module _ (w : WindowRule) (input : PlanTree) (below : Evaluated) (within : first ≤ length choice) (b : IsEvaluated input tables instance choice first below) where
+  module _ (w : WindowRule) (input : PlanTree) (below : Evaluated) (within : first ≤ length choice) (b : IsEvaluated most input tables instance choice first below) where
     own_is : take (length w.classes) (drop below.next choice) ≡ own_window w input
     own_is = ap (take (length w.classes)) (behind (ordering_count input) below.next b.next)
 
-    pub window_done : (o : Produced) (next : ℕ) → IsExtended w (produced_of tables below.outcome) choice below.next (produced_of tables o) → next ≡ below.next + length w.classes → IsEvaluated (Window w input) tables instance choice first (record { outcome = o; next = next })
+    pub window_done : (o : Produced) (next : ℕ) → IsExtended w (produced_of tables below.outcome) choice below.next (produced_of tables o) → next ≡ below.next + length w.classes → IsEvaluated most (Window w input) tables instance choice first (record { outcome = o; next = next })
     window_done o next x e =
         let long = long_rest within in
         let there = x.served.present in
@@ -150,12 +150,12 @@ module _ (tables instance : Instance) (choice : List (List ℕ)) (first : ℕ) w
             present = omega arith;
             lawful = (b.served.lawful, subst (λ (r : RowsOrFault). IsLawfulWindow w r (own_window w input)) b.is (subst (IsLawfulWindow w (produced_of tables below.outcome)) own_is x.served.lawful));
           };
-          small = fewer_window most_rows w (own_window w input) (outcome input instance rest) b.small;
-          each = neither (has_large_step input instance rest) (is_large (Window w input) instance rest) b.each (fewer_window most_rows w (own_window w input) (outcome input instance rest) b.small);
+          small = fewer_window most w (own_window w input) (outcome input instance rest) b.small;
+          each = neither (has_larger_step most input instance rest) (is_larger most (Window w input) instance rest) b.each (fewer_window most w (own_window w input) (outcome input instance rest) b.small);
         }
 
-  pub window_stopped : (w : WindowRule) (input : PlanTree) (below : Evaluated) → IsEvaluated input tables instance choice first below → (e : EvalError)
-      → IsUnserved (IsLeast (IsWrongIn w (produced_of tables below.outcome) choice below.next)) e → IsStopped (Window w input) instance choice first e
+  pub window_stopped : (w : WindowRule) (input : PlanTree) (below : Evaluated) → IsEvaluated most input tables instance choice first below → (e : EvalError)
+      → IsUnserved (IsLeast (IsWrongIn w (produced_of tables below.outcome) choice below.next)) e → IsStopped most (Window w input) instance choice first e
   window_stopped w input below b (NotValid p) h =
       let own = subst (λ (n : ℕ). IsLeast (IsWrongIn w (outcome input instance rest) choice n) p) b.next (subst (λ (r : RowsOrFault). IsLeast (IsWrongIn w r choice below.next) p) b.is h) in (
         inr own.0,
@@ -167,7 +167,7 @@ module _ (tables instance : Instance) (choice : List (List ℕ)) (first : ℕ) w
   window_stopped w input below b TooManyRows h = absurd h
   window_stopped w input below b OutOfMemory h = tt
 
-  pub window_stopped_below : (w : WindowRule) (input : PlanTree) (e : EvalError) → IsStopped input instance choice first e → IsStopped (Window w input) instance choice first e
+  pub window_stopped_below : (w : WindowRule) (input : PlanTree) (e : EvalError) → IsStopped most input instance choice first e → IsStopped most (Window w input) instance choice first e
   window_stopped_below w input (NotValid p) h = (
     inl h.0,
     λ m earlier x. elim x [
@@ -175,7 +175,7 @@ module _ (tables instance : Instance) (choice : List (List ℕ)) (first : ℕ) w
       | inr y ↦ (let past = y.wrong.0 in let within = (wrong_within instance choice p input first h.0).1 in omega arith)
     ],
   )
-  window_stopped_below w input TooManyRows h = or_left (has_large_step input instance rest) (is_large (Window w input) instance rest) h
+  window_stopped_below w input TooManyRows h = or_left (has_larger_step most input instance rest) (is_larger most (Window w input) instance rest) h
   window_stopped_below w input OutOfMemory h = tt
 
   -- ---- Limit
@@ -183,14 +183,14 @@ module _ (tables instance : Instance) (choice : List (List ℕ)) (first : ℕ) w
   abbrev IsLawfulLimit : LimitRule → RowsOrFault → List ℕ → Type 0
   IsLawfulLimit limit input ordering = AtRows input (λ rows. IsOrdering (limit_class limit) rows ordering) (ordering ≡ [])
 
-  module _ (limit : LimitRule) (input : PlanTree) (below : Evaluated) (within : first ≤ length choice) (b : IsEvaluated input tables instance choice first below) where
+  module _ (limit : LimitRule) (input : PlanTree) (below : Evaluated) (within : first ≤ length choice) (b : IsEvaluated most input tables instance choice first below) where
     own_at : ordering_at choice below.next ≡ ordering_at rest (ordering_count input)
     own_at = ap (ordering_at choice) b.next ∙ sym (get_or-drop first choice (ordering_count input) [])
 
     lawful_here : IsLawfulLimit limit (produced_of tables below.outcome) (ordering_at choice below.next) → IsLawfulLimit limit (outcome input instance rest) (ordering_at rest (ordering_count input))
     lawful_here h = subst (λ (r : RowsOrFault). IsLawfulLimit limit r (ordering_at rest (ordering_count input))) b.is (subst (IsLawfulLimit limit (produced_of tables below.outcome)) own_at h)
 
-    pub limit_done : (o : Outcome) (next : ℕ) → IsCut limit (produced_of tables below.outcome) choice below.next o → next ≡ below.next + 1 → IsEvaluated (Limit limit input) tables instance choice first (record { outcome = Made o; next = next })
+    pub limit_done : (o : Outcome) (next : ℕ) → IsCut limit (produced_of tables below.outcome) choice below.next o → next ≡ below.next + 1 → IsEvaluated most (Limit limit input) tables instance choice first (record { outcome = Made o; next = next })
     limit_done o next x e =
         let long = long_rest within in
         let there = x.served.present in
@@ -200,12 +200,12 @@ module _ (tables instance : Instance) (choice : List (List ℕ)) (first : ℕ) w
           is = x.is ∙ (λ i. cut_over limit (own_at i) (b.is i));
           next = omega arith;
           served = record { present = omega arith; lawful = (b.served.lawful, lawful) };
-          small = fewer_cut most_rows limit (ordering_at rest (ordering_count input)) (outcome input instance rest) lawful b.small;
-          each = neither (has_large_step input instance rest) (is_large (Limit limit input) instance rest) b.each (fewer_cut most_rows limit (ordering_at rest (ordering_count input)) (outcome input instance rest) lawful b.small);
+          small = fewer_cut most limit (ordering_at rest (ordering_count input)) (outcome input instance rest) lawful b.small;
+          each = neither (has_larger_step most input instance rest) (is_larger most (Limit limit input) instance rest) b.each (fewer_cut most limit (ordering_at rest (ordering_count input)) (outcome input instance rest) lawful b.small);
         }
 
-  pub limit_stopped : (limit : LimitRule) (input : PlanTree) (below : Evaluated) → IsEvaluated input tables instance choice first below → (e : EvalError)
-      → IsUnserved (IsWrong (limit_class limit) (produced_of tables below.outcome) choice below.next) e → IsStopped (Limit limit input) instance choice first e
+  pub limit_stopped : (limit : LimitRule) (input : PlanTree) (below : Evaluated) → IsEvaluated most input tables instance choice first below → (e : EvalError)
+      → IsUnserved (IsWrong (limit_class limit) (produced_of tables below.outcome) choice below.next) e → IsStopped most (Limit limit input) instance choice first e
   limit_stopped limit input below b (NotValid p) h =
       let own = subst (λ (n : ℕ). IsWrong (limit_class limit) (outcome input instance rest) choice n p) b.next (subst (λ (r : RowsOrFault). IsWrong (limit_class limit) r choice below.next p) b.is h) in (
         inr own,
@@ -217,7 +217,7 @@ module _ (tables instance : Instance) (choice : List (List ℕ)) (first : ℕ) w
   limit_stopped limit input below b TooManyRows h = absurd h
   limit_stopped limit input below b OutOfMemory h = tt
 
-  pub limit_stopped_below : (limit : LimitRule) (input : PlanTree) (e : EvalError) → IsStopped input instance choice first e → IsStopped (Limit limit input) instance choice first e
+  pub limit_stopped_below : (limit : LimitRule) (input : PlanTree) (e : EvalError) → IsStopped most input instance choice first e → IsStopped most (Limit limit input) instance choice first e
   limit_stopped_below limit input (NotValid p) h = (
     inl h.0,
     λ m earlier x. elim x [
@@ -225,19 +225,19 @@ module _ (tables instance : Instance) (choice : List (List ℕ)) (first : ℕ) w
       | inr y ↦ (let past = y.0 in let within = (wrong_within instance choice p input first h.0).1 in omega arith)
     ],
   )
-  limit_stopped_below limit input TooManyRows h = or_left (has_large_step input instance rest) (is_large (Limit limit input) instance rest) h
+  limit_stopped_below limit input TooManyRows h = or_left (has_larger_step most input instance rest) (is_larger most (Limit limit input) instance rest) h
   limit_stopped_below limit input OutOfMemory h = tt
 
 -- ---- Join
 
-module _ (tables instance : Instance) (choice : List (List ℕ)) (first : ℕ) (condition : Option Expression) (left right : PlanTree) where
+module _ (most : ℕ) (tables instance : Instance) (choice : List (List ℕ)) (first : ℕ) (condition : Option Expression) (left right : PlanTree) where
   abbrev all : List (List ℕ)
   all = drop first choice
 
   abbrev on_right : List (List ℕ)
   on_right = drop (ordering_count left) all
 
-  pub join_stopped_left : (e : EvalError) → IsStopped left instance choice first e → IsStopped (Join condition left right) instance choice first e
+  pub join_stopped_left : (e : EvalError) → IsStopped most left instance choice first e → IsStopped most (Join condition left right) instance choice first e
   join_stopped_left (NotValid p) h = (
     inl h.0,
     λ m earlier x. elim x [
@@ -245,14 +245,14 @@ module _ (tables instance : Instance) (choice : List (List ℕ)) (first : ℕ) (
       | inr y ↦ (let past = (wrong_within instance choice m right (first + ordering_count left) y).0 in let within = (wrong_within instance choice p left first h.0).1 in omega arith)
     ],
   )
-  join_stopped_left TooManyRows h = or_left (has_large_step left instance all || has_large_step right instance on_right) (is_large (Join condition left right) instance all) (or_left (has_large_step left instance all) (has_large_step right instance on_right) h)
+  join_stopped_left TooManyRows h = or_left (has_larger_step most left instance all || has_larger_step most right instance on_right) (is_larger most (Join condition left right) instance all) (or_left (has_larger_step most left instance all) (has_larger_step most right instance on_right) h)
   join_stopped_left OutOfMemory h = tt
 
-  module _ (l : Evaluated) (a : IsEvaluated left tables instance choice first l) where
+  module _ (l : Evaluated) (a : IsEvaluated most left tables instance choice first l) where
     right_is : drop l.next choice ≡ on_right
-    right_is = behind tables instance choice first (ordering_count left) l.next a.next
+    right_is = behind most tables instance choice first (ordering_count left) l.next a.next
 
-    pub join_stopped_right : (e : EvalError) → IsStopped right instance choice l.next e → IsStopped (Join condition left right) instance choice first e
+    pub join_stopped_right : (e : EvalError) → IsStopped most right instance choice l.next e → IsStopped most (Join condition left right) instance choice first e
     join_stopped_right (NotValid p) h =
         let own = subst (λ (n : ℕ). IsLeast (IsWrongFrom right instance choice n) p) a.next h in (
           inr own.0,
@@ -262,11 +262,11 @@ module _ (tables instance : Instance) (choice : List (List ℕ)) (first : ℕ) (
           ],
         )
     join_stopped_right TooManyRows h =
-        let large : has_large_step right instance on_right ≡ true = ap (has_large_step right instance) (sym right_is) ∙ h in
-        or_left (has_large_step left instance all || has_large_step right instance on_right) (is_large (Join condition left right) instance all) (or_right (has_large_step left instance all) (has_large_step right instance on_right) large)
+        let large : has_larger_step most right instance on_right ≡ true = ap (has_larger_step most right instance) (sym right_is) ∙ h in
+        or_left (has_larger_step most left instance all || has_larger_step most right instance on_right) (is_larger most (Join condition left right) instance all) (or_right (has_larger_step most left instance all) (has_larger_step most right instance on_right) large)
     join_stopped_right OutOfMemory h = tt
 
-    module _ (r : Evaluated) (b : IsEvaluated right tables instance choice l.next r) where
+    module _ (r : Evaluated) (b : IsEvaluated most right tables instance choice l.next r) where
       abbrev below : RowsOrFault
       below = join_over condition (produced_of tables l.outcome) (produced_of tables r.outcome)
 
@@ -276,7 +276,7 @@ module _ (tables instance : Instance) (choice : List (List ℕ)) (first : ℕ) (
           right_outcome : produced_of tables r.outcome ≡ outcome right instance on_right
           right_outcome = b.is ∙ ap (outcome right instance) right_is
 
-      pub join_done : (o : Produced) → IsSmall below (produced_of tables o) → IsEvaluated (Join condition left right) tables instance choice first (record { outcome = o; next = r.next })
+      pub join_done : (o : Produced) → IsSmall most below (produced_of tables o) → IsEvaluated most (Join condition left right) tables instance choice first (record { outcome = o; next = r.next })
       join_done o s =
           let here = a.next in
           let there = b.next in
@@ -290,10 +290,10 @@ module _ (tables instance : Instance) (choice : List (List ℕ)) (first : ℕ) (
               present = omega arith;
               lawful = (a.served.lawful, subst (AreLawful right instance) right_is b.served.lawful);
             };
-            small = ap (has_more_rows most_rows) (sym below_is) ∙ s.small;
-            each = neither (has_large_step left instance all || has_large_step right instance on_right) (is_large (Join condition left right) instance all) (neither (has_large_step left instance all) (has_large_step right instance on_right) a.each (subst (λ ch. has_large_step right instance ch ≡ false) right_is b.each)) (ap (has_more_rows most_rows) (sym below_is) ∙ s.small);
+            small = ap (has_more_rows most) (sym below_is) ∙ s.small;
+            each = neither (has_larger_step most left instance all || has_larger_step most right instance on_right) (is_larger most (Join condition left right) instance all) (neither (has_larger_step most left instance all) (has_larger_step most right instance on_right) a.each (subst (λ ch. has_larger_step most right instance ch ≡ false) right_is b.each)) (ap (has_more_rows most) (sym below_is) ∙ s.small);
           }
 
-      pub join_stopped : (e : StepError) → IsLarge below e → IsStopped (Join condition left right) instance choice first (error_of e)
-      join_stopped step.TooManyRows h = or_right (has_large_step left instance all || has_large_step right instance on_right) (is_large (Join condition left right) instance all) (ap (has_more_rows most_rows) (sym below_is) ∙ h)
+      pub join_stopped : (e : StepError) → IsLarge most below e → IsStopped most (Join condition left right) instance choice first (error_of e)
+      join_stopped step.TooManyRows h = or_right (has_larger_step most left instance all || has_larger_step most right instance on_right) (is_larger most (Join condition left right) instance all) (ap (has_more_rows most) (sym below_is) ∙ h)
       join_stopped step.OutOfMemory h = tt

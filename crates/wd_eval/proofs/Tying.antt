@@ -124,7 +124,7 @@ large-append instance (Window w input) choice more h = λ i. large-append instan
 large-append instance (Distinct input) choice more h = λ i. large-append instance input choice more h i || has_more_rows most_rows (outcome-append (Distinct input) instance choice more h i)
 large-append instance (Limit limit input) choice more h = λ i. large-append instance input choice more (omega arith) i || has_more_rows most_rows (outcome-append (Limit limit input) instance choice more h i)
 
-pub evaluated_append : (plan : PlanTree) (tables instance : Instance) (choice more : List (List ℕ)) (first : ℕ) (e : Evaluated) → first ≤ length choice → IsEvaluated plan tables instance choice first e → IsEvaluated plan tables instance (choice ++ more) first e
+pub evaluated_append : (plan : PlanTree) (tables instance : Instance) (choice more : List (List ℕ)) (first : ℕ) (e : Evaluated) → first ≤ length choice → IsEvaluated most_rows plan tables instance choice first e → IsEvaluated most_rows plan tables instance (choice ++ more) first e
 evaluated_append plan tables instance choice more first e h b =
     let cut_off = drop-append-le first choice more h in
     let there = b.served.present in
@@ -152,11 +152,11 @@ module _ (tables instance : Instance) (flipped : Option ℕ) (old : List (List �
   grown_long : (mid own : List (List ℕ)) → mid ≡ old ++ own → length old ≤ length mid
   grown_long mid own e = let long = ap length e ∙ length-append old own in omega arith
 
-  pub scan_tied : (table columns : ℕ) (o : Produced) → IsSmall (Ok (table_at instance table)) (produced_of tables o) → IsTied (Scan table columns) tables instance flipped old old o
+  pub scan_tied : (table columns : ℕ) (o : Produced) → IsSmall most_rows (Ok (table_at instance table)) (produced_of tables o) → IsTied (Scan table columns) tables instance flipped old old o
   scan_tied table columns o s = record {
     own = [];
     grown = sym (append-nil old);
-    evaluated = scan_done tables instance old (length old) table columns o s;
+    evaluated = scan_done most_rows tables instance old (length old) table columns o s;
     tied = tt;
   }
 
@@ -165,7 +165,7 @@ module _ (tables instance : Instance) (flipped : Option ℕ) (old : List (List �
     filter_tied condition is = record {
       own = b.own;
       grown = b.grown;
-      evaluated = filter_done tables instance new (length old) input (record { outcome = below; next = length new }) b.evaluated o condition is;
+      evaluated = filter_done most_rows tables instance new (length old) input (record { outcome = below; next = length new }) b.evaluated o condition is;
       tied = b.tied;
     }
 
@@ -173,7 +173,7 @@ module _ (tables instance : Instance) (flipped : Option ℕ) (old : List (List �
     map_tied outputs is = record {
       own = b.own;
       grown = b.grown;
-      evaluated = map_done tables instance new (length old) input (record { outcome = below; next = length new }) b.evaluated o outputs is;
+      evaluated = map_done most_rows tables instance new (length old) input (record { outcome = below; next = length new }) b.evaluated o outputs is;
       tied = b.tied;
     }
 
@@ -181,7 +181,7 @@ module _ (tables instance : Instance) (flipped : Option ℕ) (old : List (List �
     distinct_tied is = record {
       own = b.own;
       grown = b.grown;
-      evaluated = distinct_done tables instance new (length old) input (record { outcome = below; next = length new }) b.evaluated o is;
+      evaluated = distinct_done most_rows tables instance new (length old) input (record { outcome = below; next = length new }) b.evaluated o is;
       tied = b.tied;
     }
 
@@ -206,11 +206,11 @@ module _ (tables instance : Instance) (flipped : Option ℕ) (old : List (List �
   group_untied_below rule input OutOfMemory h = tt
 
   module _ (rule : GroupRule) (input : PlanTree) (new : List (List ℕ)) (below : Produced) (b : IsTied input tables instance flipped old new below) where
-    pub group_tied : (o : Outcome) → IsSmall (group_over rule (produced_of tables below)) (outcome_of o) → IsTied (Group rule input) tables instance flipped old new (Made o)
+    pub group_tied : (o : Outcome) → IsSmall most_rows (group_over rule (produced_of tables below)) (outcome_of o) → IsTied (Group rule input) tables instance flipped old new (Made o)
     group_tied o s = record {
       own = b.own;
       grown = b.grown;
-      evaluated = group_done tables instance new (length old) rule input (record { outcome = below; next = length new }) b.evaluated o s;
+      evaluated = group_done most_rows tables instance new (length old) rule input (record { outcome = below; next = length new }) b.evaluated o s;
       tied = b.tied;
     }
 
@@ -219,7 +219,7 @@ module _ (tables instance : Instance) (flipped : Option ℕ) (old : List (List �
         let same : outcome input instance choice ≡ outcome input instance (drop (length old) new) = one_outcome instance flipped input (length old) choice (drop (length old) new) long b.evaluated.served.present s b.tied in
         ap (λ r. has_more_rows most_rows (group_over rule r)) (same ∙ sym b.evaluated.is) ∙ h
 
-    pub group_untied : (e : StepError) → IsLarge (group_over rule (produced_of tables below)) e → IsUntied (Group rule input) instance flipped (length old) (error_of e)
+    pub group_untied : (e : StepError) → IsLarge most_rows (group_over rule (produced_of tables below)) e → IsUntied (Group rule input) instance flipped (length old) (error_of e)
     group_untied step.TooManyRows h = λ choice long s. or_right (has_large_step input instance choice) (is_large (Group rule input) instance choice) (large_group h choice long s)
     group_untied step.OutOfMemory h = tt
 
@@ -239,8 +239,8 @@ module _ (tables instance : Instance) (flipped : Option ℕ) (old : List (List �
     abbrev at_mid : Evaluated
     at_mid = record { outcome = o; next = length mid }
 
-    pub still : IsEvaluated plan tables instance new (length old) at_mid
-    still = subst (λ (ch : List (List ℕ)). IsEvaluated plan tables instance ch (length old) at_mid) (sym e)
+    pub still : IsEvaluated most_rows plan tables instance new (length old) at_mid
+    still = subst (λ (ch : List (List ℕ)). IsEvaluated most_rows plan tables instance ch (length old) at_mid) (sym e)
         (evaluated_append plan tables instance mid own (length old) at_mid (grown_long mid b.own b.grown) b.evaluated)
 
     rest : drop (length old) new ≡ drop (length old) mid ++ own
@@ -277,7 +277,7 @@ module _ (tables instance : Instance) (flipped : Option ℕ) (old : List (List �
       record {
         own = b.own ++ own;
         grown = grown_more input mid own new below b e;
-        evaluated = window_done tables instance new (length old) w input (record { outcome = below; next = length mid }) (omega arith) (still input mid own new below b e) o (length new) x.extended (omega arith);
+        evaluated = window_done most_rows tables instance new (length old) w input (record { outcome = below; next = length mid }) (omega arith) (still input mid own new below b e) o (length new) x.extended (omega arith);
         tied = (
           still_tied input mid own new below b e,
           λ k l. (
@@ -301,7 +301,7 @@ module _ (tables instance : Instance) (flipped : Option ℕ) (old : List (List �
       record {
         own = b.own ++ own;
         grown = grown_more input mid own new below b e;
-        evaluated = limit_done tables instance new (length old) limit input (record { outcome = below; next = length mid }) (omega arith) (still input mid own new below b e) o (length new) x.is (omega arith);
+        evaluated = limit_done most_rows tables instance new (length old) limit input (record { outcome = below; next = length mid }) (omega arith) (still input mid own new below b e) o (length new) x.is (omega arith);
         tied = (
           still_tied input mid own new below b e,
           subst (IsSortedOver (limit_class limit) (is_flipped flipped (length old + ordering_count input)) (outcome input instance (drop (length old) new))) (sym at)
@@ -343,11 +343,11 @@ module _ (tables instance : Instance) (flipped : Option ℕ) (old : List (List �
         both_tied : AreTied (Join condition left right) instance flipped (length old) (drop (length old) new)
         both_tied = (still_tied left mid r.own new lo l r.grown, right_tied)
 
-        pub join_tied : (o : Produced) → IsSmall (join_over condition (produced_of tables lo) (produced_of tables ro)) (produced_of tables o) → IsTied (Join condition left right) tables instance flipped old new o
+        pub join_tied : (o : Produced) → IsSmall most_rows (join_over condition (produced_of tables lo) (produced_of tables ro)) (produced_of tables o) → IsTied (Join condition left right) tables instance flipped old new o
         join_tied o s = record {
           own = l.own ++ r.own;
           grown = grown_more left mid r.own new lo l r.grown;
-          evaluated = join_done tables instance new (length old) condition left right (record { outcome = lo; next = length mid }) (still left mid r.own new lo l r.grown) (record { outcome = ro; next = length new }) r.evaluated o s;
+          evaluated = join_done most_rows tables instance new (length old) condition left right (record { outcome = lo; next = length mid }) (still left mid r.own new lo l r.grown) (record { outcome = ro; next = length new }) r.evaluated o s;
           tied = both_tied;
         }
 
@@ -362,7 +362,7 @@ module _ (tables instance : Instance) (flipped : Option ℕ) (old : List (List �
             let on_right : produced_of tables ro ≡ outcome right instance (drop (ordering_count left) (drop (length old) new)) = r.evaluated.is ∙ ap (outcome right instance) (sym right_rest) in
             ap (has_more_rows most_rows) same ∙ (λ i. has_more_rows most_rows (join_over condition (sym on_left i) (sym on_right i))) ∙ h
 
-        pub join_untied : (e : StepError) → IsLarge (join_over condition (produced_of tables lo) (produced_of tables ro)) e → IsUntied (Join condition left right) instance flipped (length old) (error_of e)
+        pub join_untied : (e : StepError) → IsLarge most_rows (join_over condition (produced_of tables lo) (produced_of tables ro)) e → IsUntied (Join condition left right) instance flipped (length old) (error_of e)
         join_untied step.TooManyRows h = λ choice long s. or_right (has_large_step left instance choice || has_large_step right instance (drop (ordering_count left) choice)) (is_large (Join condition left right) instance choice) (large_here h choice long s)
         join_untied step.OutOfMemory h = tt
 

@@ -19,7 +19,7 @@ use Rattle.wd_eval.specs.Windows.{AreFew, orderings_of}
 use Rattle.wd_nodes.specs.Produced.{produced_of, IsSmall, IsLarge, group_over, join_over, most_rows}
 use Rattle.wd_eval.specs.Nodes.{IsStopped}
 use Rattle.wd_eval.specs.Ties.{IsUntied}
-use Rattle.wd_eval.specs.Walks.{IsAt, IsHalted, IsLimitStep, IsWalked, IsWindowStep}
+use Rattle.wd_eval.specs.Walks.{IsAt, IsHalted, IsLimitStep, IsWalked, IsWindowStep, most_of}
 use Rattle.wd_eval.specs.declared.error.EvalError.{EvalError}
 use Rattle.wd_eval.specs.declared.error.EvalError.TheVariants.{NotValid, TooManyRows, OutOfMemory}
 use Rattle.wd_nodes.specs.declared.produced.Produced.{Produced}
@@ -30,22 +30,22 @@ use Rattle.wd_eval.specs.declared.orderings.Orderings.TheVariants.{Chosen, Sorte
 use Rattle.wd_eval.proofs.Nodes.{scan_done, scan_stopped, filter_done, map_done, group_done, group_stopped, distinct_done, window_done, window_stopped, limit_done, limit_stopped, join_done, join_stopped, join_stopped_right}
 use Rattle.wd_eval.proofs.Tying.{scan_tied, filter_tied, map_tied, group_tied, group_untied, distinct_tied, window_tied, limit_tied, join_tied, join_untied, join_untied_right, memory_untied}
 
-few_from : (r : RowsOrFault) → has_more_rows most_rows r ≡ false → AreFew (2 ^ 32 - 1) r
-few_from (Ok rows) h = let few = ltb-false most_rows (length rows) h in omega arith
-few_from (Err fault) h = tt
+few_from : (most : ℕ) (r : RowsOrFault) → most ≤ most_rows → has_more_rows most r ≡ false → AreFew (2 ^ 32 - 1) r
+few_from most (Ok rows) bound h = let few = ltb-false most (length rows) h in omega arith
+few_from most (Err fault) bound h = tt
 
 -- ---- the same under a choice, and under sorted orderings
 
 module _ (plan : PlanTree) (instance : Instance) (first : ℕ) where
-  from_stopped : (choice : Bor (List (Vec ℕ Global))) (e : EvalError) → IsStopped plan instance (orderings_of choice.now) first e → IsHalted plan instance (Chosen choice) first e
-  from_stopped choice (NotValid place) h = h
-  from_stopped choice TooManyRows h = h
-  from_stopped choice OutOfMemory h = tt
+  from_stopped : (choice : Bor (List (Vec ℕ Global))) (most : ℕ) (e : EvalError) → IsStopped most plan instance (orderings_of choice.now) first e → IsHalted plan instance (Chosen choice most) first e
+  from_stopped choice most (NotValid place) h = h
+  from_stopped choice most TooManyRows h = h
+  from_stopped choice most OutOfMemory h = tt
 
-  pub to_stopped : (choice : Bor (List (Vec ℕ Global))) (e : EvalError) → IsHalted plan instance (Chosen choice) first e → IsStopped plan instance (orderings_of choice.now) first e
-  to_stopped choice (NotValid place) h = h
-  to_stopped choice TooManyRows h = h
-  to_stopped choice OutOfMemory h = tt
+  pub to_stopped : (choice : Bor (List (Vec ℕ Global))) (most : ℕ) (e : EvalError) → IsHalted plan instance (Chosen choice most) first e → IsStopped most plan instance (orderings_of choice.now) first e
+  to_stopped choice most (NotValid place) h = h
+  to_stopped choice most TooManyRows h = h
+  to_stopped choice most OutOfMemory h = tt
 
   from_untied : (flipped : Option ℕ) (e : EvalError) → IsUntied plan instance flipped first e → IsHalted plan instance (Sorted flipped) first e
   from_untied flipped (NotValid place) h = h
@@ -68,7 +68,7 @@ behind_made made first e = e ∙ sym (length-map made (λ v. v.items))
 module _ (tables instance : Instance) (first : ℕ) (old new : List (Vec ℕ Global)) where
   -- behind a node
   pub at_next : (orderings : Orderings) (plan : PlanTree) (e : Evaluated) → IsAt orderings first old → IsWalked plan tables instance orderings first old new e → IsAt orderings e.next new
-  at_next (Chosen choice) plan e at b =
+  at_next (Chosen choice most) plan e at b =
       let next = b.next in
       let there = b.served.present in
       let rest = length-drop first (orderings_of choice.now) in
@@ -76,21 +76,21 @@ module _ (tables instance : Instance) (first : ℕ) (old new : List (Vec ℕ Glo
       omega arith
   at_next (Sorted flipped) plan e at b = b.0
 
-  pub few_below : (orderings : Orderings) (plan : PlanTree) (e : Evaluated) → IsWalked plan tables instance orderings first old new e → AreFew (2 ^ 32 - 1) (produced_of tables e.outcome)
-  few_below (Chosen choice) plan e b = subst (AreFew (2 ^ 32 - 1)) (sym b.is) (few_from (outcome plan instance (drop first (orderings_of choice.now))) b.small)
-  few_below (Sorted flipped) plan e b = subst (AreFew (2 ^ 32 - 1)) (sym b.1.evaluated.is) (few_from (outcome plan instance (drop (length (orderings_of old)) (orderings_of new))) b.1.evaluated.small)
+  pub few_below : (orderings : Orderings) (plan : PlanTree) (e : Evaluated) → most_of orderings ≤ most_rows → IsWalked plan tables instance orderings first old new e → AreFew (2 ^ 32 - 1) (produced_of tables e.outcome)
+  few_below (Chosen choice most) plan e bound b = subst (AreFew (2 ^ 32 - 1)) (sym b.is) (few_from most (outcome plan instance (drop first (orderings_of choice.now))) bound b.small)
+  few_below (Sorted flipped) plan e bound b = subst (AreFew (2 ^ 32 - 1)) (sym b.1.evaluated.is) (few_from most_rows (outcome plan instance (drop (length (orderings_of old)) (orderings_of new))) bound b.1.evaluated.small)
 
-  pub small_below : (orderings : Orderings) (plan : PlanTree) (e : Evaluated) → IsWalked plan tables instance orderings first old new e → has_more_rows most_rows (produced_of tables e.outcome) ≡ false
-  small_below (Chosen choice) plan e b = ap (has_more_rows most_rows) b.is ∙ b.small
+  pub small_below : (orderings : Orderings) (plan : PlanTree) (e : Evaluated) → IsWalked plan tables instance orderings first old new e → has_more_rows (most_of orderings) (produced_of tables e.outcome) ≡ false
+  small_below (Chosen choice most) plan e b = ap (has_more_rows most) b.is ∙ b.small
   small_below (Sorted flipped) plan e b = ap (has_more_rows most_rows) b.1.evaluated.is ∙ b.1.evaluated.small
 
 module _ (tables instance : Instance) (first : ℕ) (old : List (Vec ℕ Global)) where
   -- a node stops where one below it does
   pub halted_below : (orderings : Orderings) (plan above : PlanTree) (e : EvalError) → IsAt orderings first old
-      → ((choice : List (List ℕ)) → IsStopped plan instance choice first e → IsStopped above instance choice first e)
+      → ((choice : List (List ℕ)) → IsStopped (most_of orderings) plan instance choice first e → IsStopped (most_of orderings) above instance choice first e)
       → ((flipped : Option ℕ) → IsUntied plan instance flipped (length (orderings_of old)) e → IsUntied above instance flipped (length (orderings_of old)) e)
       → IsHalted plan instance orderings first e → IsHalted above instance orderings first e
-  halted_below (Chosen choice) plan above e at f g h = from_stopped above instance first choice e (f (orderings_of choice.now) (to_stopped plan instance first choice e h))
+  halted_below (Chosen choice most) plan above e at f g h = from_stopped above instance first choice most e (f (orderings_of choice.now) (to_stopped plan instance first choice most e h))
   halted_below (Sorted flipped) plan above e at f g h =
       let here = behind_made old first at in
       from_untied above instance first flipped e
@@ -98,13 +98,13 @@ module _ (tables instance : Instance) (first : ℕ) (old : List (Vec ℕ Global)
 
   -- ---- Scan
 
-  pub scan_walked : (orderings : Orderings) (table columns : ℕ) (o : Produced) → IsAt orderings first old → IsSmall (Ok (table_at instance table)) (produced_of tables o)
+  pub scan_walked : (orderings : Orderings) (table columns : ℕ) (o : Produced) → IsAt orderings first old → IsSmall (most_of orderings) (Ok (table_at instance table)) (produced_of tables o)
       → IsWalked (Scan table columns) tables instance orderings first old old (record { outcome = o; next = first })
-  scan_walked (Chosen choice) table columns o at s = scan_done tables instance (orderings_of choice.now) first table columns o s
+  scan_walked (Chosen choice most) table columns o at s = scan_done most tables instance (orderings_of choice.now) first table columns o s
   scan_walked (Sorted flipped) table columns o at s = (at, scan_tied tables instance flipped (orderings_of old) table columns o s)
 
-  pub scan_halted : (orderings : Orderings) (table columns : ℕ) (e : StepError) → IsLarge (Ok (table_at instance table)) e → IsHalted (Scan table columns) instance orderings first (error_of e)
-  scan_halted (Chosen choice) table columns e h = from_stopped (Scan table columns) instance first choice (error_of e) (scan_stopped tables instance (orderings_of choice.now) first table columns e h)
+  pub scan_halted : (orderings : Orderings) (table columns : ℕ) (e : StepError) → IsLarge (most_of orderings) (Ok (table_at instance table)) e → IsHalted (Scan table columns) instance orderings first (error_of e)
+  scan_halted (Chosen choice most) table columns e h = from_stopped (Scan table columns) instance first choice most (error_of e) (scan_stopped most tables instance (orderings_of choice.now) first table columns e h)
   scan_halted (Sorted flipped) table columns step.TooManyRows h = λ choice long s. h
   scan_halted (Sorted flipped) table columns step.OutOfMemory h = tt
 
@@ -113,30 +113,30 @@ module _ (tables instance : Instance) (first : ℕ) (old : List (Vec ℕ Global)
   module _ (input : PlanTree) (new : List (Vec ℕ Global)) (below : Evaluated) (o : Produced) where
     pub filter_walked : (orderings : Orderings) (condition : Expression) → IsWalked input tables instance orderings first old new below → produced_of tables o ≡ and_then (produced_of tables below.outcome) (filter_outcome condition)
         → IsWalked (Filter condition input) tables instance orderings first old new (record { outcome = o; next = below.next })
-    filter_walked (Chosen choice) condition b is = filter_done tables instance (orderings_of choice.now) first input below b o condition is
+    filter_walked (Chosen choice most) condition b is = filter_done most tables instance (orderings_of choice.now) first input below b o condition is
     filter_walked (Sorted flipped) condition b is = (b.0, filter_tied tables instance flipped (orderings_of old) input (orderings_of new) below.outcome b.1 o condition is)
 
     pub map_walked : (orderings : Orderings) (outputs : List Expression) → IsWalked input tables instance orderings first old new below → produced_of tables o ≡ and_then (produced_of tables below.outcome) (map_outcome outputs)
         → IsWalked (Map outputs input) tables instance orderings first old new (record { outcome = o; next = below.next })
-    map_walked (Chosen choice) outputs b is = map_done tables instance (orderings_of choice.now) first input below b o outputs is
+    map_walked (Chosen choice most) outputs b is = map_done most tables instance (orderings_of choice.now) first input below b o outputs is
     map_walked (Sorted flipped) outputs b is = (b.0, map_tied tables instance flipped (orderings_of old) input (orderings_of new) below.outcome b.1 o outputs is)
 
     pub distinct_walked : (orderings : Orderings) → IsWalked input tables instance orderings first old new below → produced_of tables o ≡ and_then (produced_of tables below.outcome) (λ rows. Ok (distinct rows))
         → IsWalked (Distinct input) tables instance orderings first old new (record { outcome = o; next = below.next })
-    distinct_walked (Chosen choice) b is = distinct_done tables instance (orderings_of choice.now) first input below b o is
+    distinct_walked (Chosen choice most) b is = distinct_done most tables instance (orderings_of choice.now) first input below b o is
     distinct_walked (Sorted flipped) b is = (b.0, distinct_tied tables instance flipped (orderings_of old) input (orderings_of new) below.outcome b.1 o is)
 
   -- ---- Group
 
   module _ (rule : GroupRule) (input : PlanTree) (new : List (Vec ℕ Global)) (below : Evaluated) where
-    pub group_walked : (orderings : Orderings) (o : Outcome) → IsWalked input tables instance orderings first old new below → IsSmall (group_over rule (produced_of tables below.outcome)) (outcome_of o)
+    pub group_walked : (orderings : Orderings) (o : Outcome) → IsWalked input tables instance orderings first old new below → IsSmall (most_of orderings) (group_over rule (produced_of tables below.outcome)) (outcome_of o)
         → IsWalked (Group rule input) tables instance orderings first old new (record { outcome = Made o; next = below.next })
-    group_walked (Chosen choice) o b s = group_done tables instance (orderings_of choice.now) first rule input below b o s
+    group_walked (Chosen choice most) o b s = group_done most tables instance (orderings_of choice.now) first rule input below b o s
     group_walked (Sorted flipped) o b s = (b.0, group_tied tables instance flipped (orderings_of old) rule input (orderings_of new) below.outcome b.1 o s)
 
     pub group_halted : (orderings : Orderings) (e : StepError) → IsAt orderings first old → IsWalked input tables instance orderings first old new below
-        → IsLarge (group_over rule (produced_of tables below.outcome)) e → IsHalted (Group rule input) instance orderings first (error_of e)
-    group_halted (Chosen choice) e at b h = from_stopped (Group rule input) instance first choice (error_of e) (group_stopped tables instance (orderings_of choice.now) first rule input below b e h)
+        → IsLarge (most_of orderings) (group_over rule (produced_of tables below.outcome)) e → IsHalted (Group rule input) instance orderings first (error_of e)
+    group_halted (Chosen choice most) e at b h = from_stopped (Group rule input) instance first choice most (error_of e) (group_stopped most tables instance (orderings_of choice.now) first rule input below b e h)
     group_halted (Sorted flipped) e at b h =
         from_untied (Group rule input) instance first flipped (error_of e)
         (subst (λ (n : ℕ). IsUntied (Group rule input) instance flipped n (error_of e)) (sym (behind_made old first at))
@@ -148,7 +148,7 @@ module _ (tables instance : Instance) (first : ℕ) (old : List (Vec ℕ Global)
     pub window_walked : (orderings : Orderings) (w : WindowRule) (o : Produced) (next : ℕ) → IsAt orderings first old → IsWalked input tables instance orderings first old mid below
         → IsWindowStep (produced_of tables) w (produced_of tables below.outcome) orderings below.next mid new (Ok o) → next ≡ below.next + length w.classes
         → IsWalked (Window w input) tables instance orderings first old new (record { outcome = o; next = next })
-    window_walked (Chosen choice) w o next at b x e = window_done tables instance (orderings_of choice.now) first w input below (within_choice choice.now first at) b o next x.ok e
+    window_walked (Chosen choice most) w o next at b x e = window_done most tables instance (orderings_of choice.now) first w input below (within_choice choice.now first at) b o next x.ok e
     window_walked (Sorted flipped) w o next at b x e =
         let here = behind_made mid below.next b.0 in
         let long = ap length x.ok.put.grown ∙ length-append (orderings_of mid) x.ok.put.own in
@@ -158,13 +158,13 @@ module _ (tables instance : Instance) (first : ℕ) (old : List (Vec ℕ Global)
 
     pub window_halted : (orderings : Orderings) (w : WindowRule) (e : EvalError) → IsWalked input tables instance orderings first old mid below
         → IsWindowStep (produced_of tables) w (produced_of tables below.outcome) orderings below.next mid new (Err e) → IsHalted (Window w input) instance orderings first e
-    window_halted (Chosen choice) w e b x = from_stopped (Window w input) instance first choice e (window_stopped tables instance (orderings_of choice.now) first w input below b e x.refused)
+    window_halted (Chosen choice most) w e b x = from_stopped (Window w input) instance first choice most e (window_stopped most tables instance (orderings_of choice.now) first w input below b e x.refused)
     window_halted (Sorted flipped) w e b x = from_untied (Window w input) instance first flipped e (memory_untied (Window w input) instance flipped first e x.refused)
 
     pub limit_walked : (orderings : Orderings) (limit : LimitRule) (o : Outcome) (next : ℕ) → IsAt orderings first old → IsWalked input tables instance orderings first old mid below
         → IsLimitStep limit (produced_of tables below.outcome) orderings below.next mid new (Ok o) → next ≡ below.next + 1
         → IsWalked (Limit limit input) tables instance orderings first old new (record { outcome = Made o; next = next })
-    limit_walked (Chosen choice) limit o next at b x e = limit_done tables instance (orderings_of choice.now) first limit input below (within_choice choice.now first at) b o next x.ok e
+    limit_walked (Chosen choice most) limit o next at b x e = limit_done most tables instance (orderings_of choice.now) first limit input below (within_choice choice.now first at) b o next x.ok e
     limit_walked (Sorted flipped) limit o next at b x e =
         let here = behind_made mid below.next b.0 in
         let long = ap length x.ok.grown ∙ length-append (orderings_of mid) (x.ok.own ∷ []) in
@@ -173,14 +173,14 @@ module _ (tables instance : Instance) (first : ℕ) (old : List (Vec ℕ Global)
 
     pub limit_halted : (orderings : Orderings) (limit : LimitRule) (e : EvalError) → IsWalked input tables instance orderings first old mid below
         → IsLimitStep limit (produced_of tables below.outcome) orderings below.next mid new (Err e) → IsHalted (Limit limit input) instance orderings first e
-    limit_halted (Chosen choice) limit e b x = from_stopped (Limit limit input) instance first choice e (limit_stopped tables instance (orderings_of choice.now) first limit input below b e x.refused)
+    limit_halted (Chosen choice most) limit e b x = from_stopped (Limit limit input) instance first choice most e (limit_stopped most tables instance (orderings_of choice.now) first limit input below b e x.refused)
     limit_halted (Sorted flipped) limit e b x = from_untied (Limit limit input) instance first flipped e (memory_untied (Limit limit input) instance flipped first e x.refused)
 
   -- ---- Join
 
   module _ (condition : Option Expression) (left right : PlanTree) (mid : List (Vec ℕ Global)) (l : Evaluated) where
     pub join_halted_right : (orderings : Orderings) (e : EvalError) → IsAt orderings first old → IsWalked left tables instance orderings first old mid l → IsHalted right instance orderings l.next e → IsHalted (Join condition left right) instance orderings first e
-    join_halted_right (Chosen choice) e at a h = from_stopped (Join condition left right) instance first choice e (join_stopped_right tables instance (orderings_of choice.now) first condition left right l a e (to_stopped right instance l.next choice e h))
+    join_halted_right (Chosen choice most) e at a h = from_stopped (Join condition left right) instance first choice most e (join_stopped_right most tables instance (orderings_of choice.now) first condition left right l a e (to_stopped right instance l.next choice most e h))
     join_halted_right (Sorted flipped) e at a h =
         let here = behind_made old first at in
         let there = behind_made mid l.next a.0 in
@@ -191,13 +191,13 @@ module _ (tables instance : Instance) (first : ℕ) (old : List (Vec ℕ Global)
 
     module _ (new : List (Vec ℕ Global)) (r : Evaluated) where
       pub join_walked : (orderings : Orderings) (o : Produced) → IsWalked left tables instance orderings first old mid l → IsWalked right tables instance orderings l.next mid new r
-          → IsSmall (join_over condition (produced_of tables l.outcome) (produced_of tables r.outcome)) (produced_of tables o) → IsWalked (Join condition left right) tables instance orderings first old new (record { outcome = o; next = r.next })
-      join_walked (Chosen choice) o a b s = join_done tables instance (orderings_of choice.now) first condition left right l a r b o s
+          → IsSmall (most_of orderings) (join_over condition (produced_of tables l.outcome) (produced_of tables r.outcome)) (produced_of tables o) → IsWalked (Join condition left right) tables instance orderings first old new (record { outcome = o; next = r.next })
+      join_walked (Chosen choice most) o a b s = join_done most tables instance (orderings_of choice.now) first condition left right l a r b o s
       join_walked (Sorted flipped) o a b s = (b.0, join_tied tables instance flipped (orderings_of old) condition left right (orderings_of mid) l.outcome a.1 (orderings_of new) r.outcome b.1 o s)
 
       pub join_halted : (orderings : Orderings) (e : StepError) → IsAt orderings first old → IsWalked left tables instance orderings first old mid l → IsWalked right tables instance orderings l.next mid new r
-          → IsLarge (join_over condition (produced_of tables l.outcome) (produced_of tables r.outcome)) e → IsHalted (Join condition left right) instance orderings first (error_of e)
-      join_halted (Chosen choice) e at a b h = from_stopped (Join condition left right) instance first choice (error_of e) (join_stopped tables instance (orderings_of choice.now) first condition left right l a r b e h)
+          → IsLarge (most_of orderings) (join_over condition (produced_of tables l.outcome) (produced_of tables r.outcome)) e → IsHalted (Join condition left right) instance orderings first (error_of e)
+      join_halted (Chosen choice most) e at a b h = from_stopped (Join condition left right) instance first choice most (error_of e) (join_stopped most tables instance (orderings_of choice.now) first condition left right l a r b e h)
       join_halted (Sorted flipped) e at a b h =
           from_untied (Join condition left right) instance first flipped (error_of e)
           (subst (λ (n : ℕ). IsUntied (Join condition left right) instance flipped n (error_of e)) (sym (behind_made old first at))
@@ -206,5 +206,5 @@ module _ (tables instance : Instance) (first : ℕ) (old : List (Vec ℕ Global)
 -- ---- out of memory
 
 pub limit_memory : (orderings : Orderings) (limit : LimitRule) (input : RowsOrFault) (first : ℕ) (old new : List (Vec ℕ Global)) → IsLimitStep limit input orderings first old new (Err OutOfMemory)
-limit_memory (Chosen choice) limit input first old new = record { ok = tt; refused = tt }
+limit_memory (Chosen choice most) limit input first old new = record { ok = tt; refused = tt }
 limit_memory (Sorted flipped) limit input first old new = record { ok = tt; refused = tt }

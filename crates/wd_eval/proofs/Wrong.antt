@@ -10,7 +10,7 @@ use Rattle.wd_plan.specs.Sorting.{IsOrdering, limit_class}
 use Rattle.wd_eval.specs.Windows.{IsLeast, IsWindowServed}
 use Rattle.wd_eval.proofs.Serving.{class_served}
 use Rattle.wd_eval.specs.Laws.{HasNoWrongOrdering}
-use Rattle.wd_eval.specs.Judged.{IsRefused}
+use Rattle.wd_eval.specs.Judged.{IsRefusedWithin}
 use Rattle.wd_eval.specs.Nodes.{IsServed, IsStopped}
 use Rattle.wd_eval.specs.Wrong.{IsWrongFrom, IsWrongOrdering}
 use Rattle.wd_eval.specs.declared.error.EvalError.{EvalError}
@@ -63,16 +63,16 @@ module _ (instance : Instance) (choice : List (List ℕ)) (place : ℕ) where
 -- ---- whole plans
 
 module _ (plan : PlanTree) (instance : Instance) (choice : List (List ℕ)) where
-  pub stopped_refused : (e : EvalError) → IsStopped plan instance choice 0 e → IsRefused plan instance choice e
-  stopped_refused (NotValid p) h = (
+  pub stopped_refused : (most : ℕ) (e : EvalError) → IsStopped most plan instance choice 0 e → IsRefusedWithin most plan instance choice e
+  stopped_refused most (NotValid p) h = (
     inl h.0,
     λ m earlier x. elim x [
       | inl y ↦ h.1 m earlier y
       | inr y ↦ (let past = y.0 in let within = (wrong_within instance choice p plan 0 h.0).1 in omega arith)
     ],
   )
-  stopped_refused TooManyRows h = h
-  stopped_refused OutOfMemory h = tt
+  stopped_refused most TooManyRows h = h
+  stopped_refused most OutOfMemory h = tt
 
   -- an ordering left over, after those that the plan has
   pub surplus_refused : (p : ℕ) → IsServed plan instance choice → p ≡ ordering_count plan → p < length choice → IsLeast (IsWrongOrdering plan instance choice) p

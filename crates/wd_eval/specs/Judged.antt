@@ -5,33 +5,44 @@ use Rattle.wd_plan.specs.declared.plan.Outcome.{Outcome}
 use Rattle.wd_plan.specs.Choices.{IsValidChoice}
 use Rattle.wd_plan.specs.Outcomes.{RowsOrFault, outcome, outcome_of}
 use Rattle.wd_plan.specs.Plans.{PlanTree}
+use Rattle.wd_nodes.specs.Produced.{most_rows}
 use Rattle.wd_eval.specs.Windows.{IsLeast}
-use Rattle.wd_eval.specs.Steps.{has_large_step}
+use Rattle.wd_eval.specs.Steps.{has_large_step, has_larger_step}
 use Rattle.wd_eval.specs.Wrong.{IsWrongOrdering}
 use Rattle.wd_eval.specs.declared.error.EvalError.{EvalError}
 use Rattle.wd_eval.specs.declared.error.EvalError.TheVariants.{NotValid, TooManyRows, OutOfMemory}
 
--- why a plan has no outcome under a choice: each error only where its cause stands
+-- why a plan has no outcome under a choice, where a step may have so many rows: each error only where its cause stands
+abbrev pub IsRefusedWithin : ℕ → PlanTree → Instance → List (List ℕ) → EvalError → Type 0
+IsRefusedWithin most plan instance choice (NotValid place) = IsLeast (IsWrongOrdering plan instance choice) place
+IsRefusedWithin most plan instance choice TooManyRows = has_larger_step most plan instance choice ≡ true
+IsRefusedWithin most plan instance choice OutOfMemory = ⊤
+
+-- the same for the most rows that any step may have
 abbrev pub IsRefused : PlanTree → Instance → List (List ℕ) → EvalError → Type 0
-IsRefused plan instance choice (NotValid place) = IsLeast (IsWrongOrdering plan instance choice) place
-IsRefused plan instance choice TooManyRows = has_large_step plan instance choice ≡ true
-IsRefused plan instance choice OutOfMemory = ⊤
+IsRefused plan instance choice e = IsRefusedWithin most_rows plan instance choice e
 
 -- a valid choice, under which no step is too large
 pub record IsAllowedChoice (plan : PlanTree) (instance : Instance) (choice : List (List ℕ)) : Type 0 where
   pub valid : IsValidChoice plan instance choice
   pub small : has_large_step plan instance choice ≡ false
 
--- the outcome under a valid choice, under which no step is too large
-pub record IsOutcome (plan : PlanTree) (instance : Instance) (choice : List (List ℕ)) (o : RowsOrFault) : Type 0 where
+-- the outcome under a valid choice, under which no step has more than so many rows
+pub record IsOutcomeWithin (most : ℕ) (plan : PlanTree) (instance : Instance) (choice : List (List ℕ)) (o : RowsOrFault) : Type 0 where
   pub valid : IsValidChoice plan instance choice
-  pub small : has_large_step plan instance choice ≡ false
+  pub small : has_larger_step most plan instance choice ≡ false
   pub is : o ≡ outcome plan instance choice
 
--- the outcome under a choice, or why there is none
-pub record IsOutcomeOrRefused (plan : PlanTree) (instance : Instance) (choice : List (List ℕ)) (r : Result Outcome EvalError) : Type 0 where
-  pub ok : IfOk r (λ o. IsOutcome plan instance choice (outcome_of o))
-  pub refused : IfErr r (λ e. IsRefused plan instance choice e)
+abbrev pub IsOutcome : PlanTree → Instance → List (List ℕ) → RowsOrFault → Type 0
+IsOutcome plan instance choice o = IsOutcomeWithin most_rows plan instance choice o
+
+-- the outcome under a choice, where a step may have so many rows, or why there is none
+pub record IsOutcomeWithinOrRefused (most : ℕ) (plan : PlanTree) (instance : Instance) (choice : List (List ℕ)) (r : Result Outcome EvalError) : Type 0 where
+  pub ok : IfOk r (λ o. IsOutcomeWithin most plan instance choice (outcome_of o))
+  pub refused : IfErr r (λ e. IsRefusedWithin most plan instance choice e)
+
+abbrev pub IsOutcomeOrRefused : PlanTree → Instance → List (List ℕ) → Result Outcome EvalError → Type 0
+IsOutcomeOrRefused plan instance choice r = IsOutcomeWithinOrRefused most_rows plan instance choice r
 
 -- the choice is allowed, or why it is not
 pub record IsAllowedOrRefused {X : Type 0} (plan : PlanTree) (instance : Instance) (choice : List (List ℕ)) (r : Result X EvalError) : Type 0 where

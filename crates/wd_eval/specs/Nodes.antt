@@ -9,8 +9,8 @@ use Rattle.wd_plan.specs.Plans.{PlanTree, LimitRule, ordering_count}
 use Rattle.wd_plan.specs.Sorting.{limit_class}
 use Rattle.wd_join.specs.Joins.{has_more_rows}
 use Rattle.wd_eval.specs.Windows.{HasOrdering, IsLeast, IsUnserved, IsWrong}
-use Rattle.wd_eval.specs.Steps.{has_large_step}
-use Rattle.wd_nodes.specs.Produced.{most_rows, produced_of}
+use Rattle.wd_eval.specs.Steps.{has_larger_step}
+use Rattle.wd_nodes.specs.Produced.{produced_of}
 use Rattle.wd_eval.specs.Wrong.{IsWrongFrom}
 use Rattle.wd_eval.specs.declared.error.EvalError.{EvalError}
 use Rattle.wd_eval.specs.declared.error.EvalError.TheVariants.{NotValid, TooManyRows, OutOfMemory}
@@ -22,19 +22,19 @@ pub record IsServed (plan : PlanTree) (instance : Instance) (choice : List (List
   pub lawful : AreLawful plan instance choice
 
 -- the plan's outcome over the instance under the orderings from `first` on, as these tables show it, with the number of the next
--- one; no step is too large
-pub record IsEvaluated (plan : PlanTree) (tables instance : Instance) (choice : List (List ℕ)) (first : ℕ) (e : Evaluated) : Type 0 where
+-- one; no step has more than `most` rows
+pub record IsEvaluated (most : ℕ) (plan : PlanTree) (tables instance : Instance) (choice : List (List ℕ)) (first : ℕ) (e : Evaluated) : Type 0 where
   pub is : produced_of tables e.outcome ≡ outcome plan instance (drop first choice)
   pub next : e.next ≡ first + ordering_count plan
   pub served : IsServed plan instance (drop first choice)
-  pub small : has_more_rows most_rows (outcome plan instance (drop first choice)) ≡ false
-  pub each : has_large_step plan instance (drop first choice) ≡ false
+  pub small : has_more_rows most (outcome plan instance (drop first choice)) ≡ false
+  pub each : has_larger_step most plan instance (drop first choice) ≡ false
 
 -- each error only where its cause stands, under the orderings from `first` on
-abbrev pub IsStopped : PlanTree → Instance → List (List ℕ) → ℕ → EvalError → Type 0
-IsStopped plan instance choice first (NotValid place) = IsLeast (IsWrongFrom plan instance choice first) place
-IsStopped plan instance choice first TooManyRows = has_large_step plan instance (drop first choice) ≡ true
-IsStopped plan instance choice first OutOfMemory = ⊤
+abbrev pub IsStopped : ℕ → PlanTree → Instance → List (List ℕ) → ℕ → EvalError → Type 0
+IsStopped most plan instance choice first (NotValid place) = IsLeast (IsWrongFrom plan instance choice first) place
+IsStopped most plan instance choice first TooManyRows = has_larger_step most plan instance (drop first choice) ≡ true
+IsStopped most plan instance choice first OutOfMemory = ⊤
 
 -- ---- a Limit over what is below it
 

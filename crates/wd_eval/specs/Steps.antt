@@ -6,18 +6,25 @@ use Rattle.wd_plan.specs.Plans.{PlanTree, Scan, Join, Filter, Map, Group, Window
 use Rattle.wd_join.specs.Joins.{has_more_rows}
 use Rattle.wd_nodes.specs.Produced.{most_rows}
 
--- whether the plan's last step has more rows than that
-abbrev pub is_large : PlanTree → Instance → List (List ℕ) → Bool
-is_large plan instance choice = has_more_rows most_rows (outcome plan instance choice)
+-- whether the plan's last step has more than `most` rows
+abbrev pub is_larger : ℕ → PlanTree → Instance → List (List ℕ) → Bool
+is_larger most plan instance choice = has_more_rows most (outcome plan instance choice)
 
--- whether some step of the plan has more rows than that, under a choice
+-- whether some step of the plan has more than `most` rows, under a choice
+abbrev pub has_larger_step : ℕ → PlanTree → Instance → List (List ℕ) → Bool
+has_larger_step most (Scan table columns) instance choice = is_larger most (Scan table columns) instance choice
+has_larger_step most (Join condition left right) instance choice =
+    (has_larger_step most left instance choice || has_larger_step most right instance (drop (ordering_count left) choice)) || is_larger most (Join condition left right) instance choice
+has_larger_step most (Filter condition input) instance choice = has_larger_step most input instance choice || is_larger most (Filter condition input) instance choice
+has_larger_step most (Map outputs input) instance choice = has_larger_step most input instance choice || is_larger most (Map outputs input) instance choice
+has_larger_step most (Group rule input) instance choice = has_larger_step most input instance choice || is_larger most (Group rule input) instance choice
+has_larger_step most (Window w input) instance choice = has_larger_step most input instance choice || is_larger most (Window w input) instance choice
+has_larger_step most (Distinct input) instance choice = has_larger_step most input instance choice || is_larger most (Distinct input) instance choice
+has_larger_step most (Limit limit input) instance choice = has_larger_step most input instance choice || is_larger most (Limit limit input) instance choice
+
+-- the same for the most rows that any step may have
+abbrev pub is_large : PlanTree → Instance → List (List ℕ) → Bool
+is_large plan instance choice = is_larger most_rows plan instance choice
+
 abbrev pub has_large_step : PlanTree → Instance → List (List ℕ) → Bool
-has_large_step (Scan table columns) instance choice = is_large (Scan table columns) instance choice
-has_large_step (Join condition left right) instance choice =
-    (has_large_step left instance choice || has_large_step right instance (drop (ordering_count left) choice)) || is_large (Join condition left right) instance choice
-has_large_step (Filter condition input) instance choice = has_large_step input instance choice || is_large (Filter condition input) instance choice
-has_large_step (Map outputs input) instance choice = has_large_step input instance choice || is_large (Map outputs input) instance choice
-has_large_step (Group rule input) instance choice = has_large_step input instance choice || is_large (Group rule input) instance choice
-has_large_step (Window w input) instance choice = has_large_step input instance choice || is_large (Window w input) instance choice
-has_large_step (Distinct input) instance choice = has_large_step input instance choice || is_large (Distinct input) instance choice
-has_large_step (Limit limit input) instance choice = has_large_step input instance choice || is_large (Limit limit input) instance choice
+has_large_step plan instance choice = has_larger_step most_rows plan instance choice

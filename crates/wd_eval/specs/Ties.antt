@@ -7,6 +7,7 @@ use Rattle.wd_plan.specs.declared.plan.Outcome.{Outcome}
 use Rattle.wd_plan.specs.Outcomes.{RowsOrFault, class_at, ordering_at}
 use Rattle.wd_plan.specs.Plans.{LimitRule, PlanTree, WindowRule, ordering_count}
 use Rattle.wd_plan.specs.Sorting.{limit_class}
+use Rattle.wd_nodes.specs.Produced.{most_rows}
 use Rattle.wd_eval.specs.Nodes.{IsCut, IsEvaluated}
 use Rattle.wd_eval.specs.Windows.{IsExtended, orderings_of}
 use Rattle.wd_eval.specs.Steps.{has_large_step}
@@ -46,7 +47,7 @@ pub record IsTiedLimit (limit : LimitRule) (input : RowsOrFault) (flipped : Opti
 pub record IsTied (plan : PlanTree) (tables instance : Instance) (flipped : Option ℕ) (old new : List (List ℕ)) (o : Produced) : Type 0 where
   pub own : List (List ℕ)
   pub grown : new ≡ old ++ own
-  pub evaluated : IsEvaluated plan tables instance new (length old) (record { outcome = o; next = length new })
+  pub evaluated : IsEvaluated most_rows plan tables instance new (length old) (record { outcome = o; next = length new })
   pub tied : AreTied plan instance flipped (length old) (drop (length old) new)
 
 -- some step is too large under all sorted orderings

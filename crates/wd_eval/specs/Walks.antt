@@ -8,7 +8,8 @@ use Rattle.wd_plan.specs.Outcomes.{RowsOrFault}
 use Rattle.wd_plan.specs.Plans.{LimitRule, PlanTree, WindowRule}
 use Rattle.wd_eval.specs.Windows.{IsLeast, orderings_of, IsExtendedOrUnserved}
 use Rattle.wd_eval.specs.Nodes.{IsCutOrUnserved, IsEvaluated}
-use Rattle.wd_eval.specs.Steps.{has_large_step}
+use Rattle.wd_eval.specs.Steps.{has_larger_step}
+use Rattle.wd_nodes.specs.Produced.{most_rows}
 use Rattle.wd_eval.specs.Ties.{IsTied, IsTiedLimitOrNoMemory, IsTiedTooLargeFrom, IsTiedWindowOrNoMemory}
 use Rattle.wd_eval.specs.Wrong.{IsWrongFrom}
 use Rattle.wd_eval.specs.declared.error.EvalError.{EvalError}
@@ -17,25 +18,30 @@ use Rattle.wd_eval.specs.declared.node.Evaluated.{Evaluated}
 use Rattle.wd_eval.specs.declared.orderings.Orderings.{Orderings}
 use Rattle.wd_eval.specs.declared.orderings.Orderings.TheVariants.{Chosen, Sorted}
 
+-- the most rows that a step may have under these orderings
+abbrev pub most_of : Orderings → ℕ
+most_of (Chosen choice most) = most
+most_of (Sorted flipped) = most_rows
+
 -- the number of the next ordering: one within the choice, or that of the orderings made so far
 abbrev pub IsAt : Orderings → ℕ → List (Vec ℕ Global) → Type 0
-IsAt (Chosen choice) first made = first ≤ length choice.now
+IsAt (Chosen choice most) first made = first ≤ length choice.now
 IsAt (Sorted flipped) first made = first ≡ length made
 
 -- what a plan gives under the choice's orderings from the number `first` on, or under its sorted orderings, which are put after
 -- those made before, as these tables show it; with the number of the next ordering
 abbrev pub IsWalked : PlanTree → Instance → Instance → Orderings → ℕ → List (Vec ℕ Global) → List (Vec ℕ Global) → Evaluated → Type 0
-IsWalked plan tables instance (Chosen choice) first old new e = IsEvaluated plan tables instance (orderings_of choice.now) first e
+IsWalked plan tables instance (Chosen choice most) first old new e = IsEvaluated most plan tables instance (orderings_of choice.now) first e
 IsWalked plan tables instance (Sorted flipped) first old new e = (e.next ≡ length new) × IsTied plan tables instance flipped (orderings_of old) (orderings_of new) e.outcome
 
 -- the place is that of the first wrong ordering of the choice; no sorted ordering is wrong
 abbrev pub IsWrongAt : PlanTree → Instance → Orderings → ℕ → ℕ → Type 0
-IsWrongAt plan instance (Chosen choice) first place = IsLeast (IsWrongFrom plan instance (orderings_of choice.now) first) place
+IsWrongAt plan instance (Chosen choice most) first place = IsLeast (IsWrongFrom plan instance (orderings_of choice.now) first) place
 IsWrongAt plan instance (Sorted flipped) first place = ⊥
 
 -- some step is too large under these orderings
 abbrev pub IsTooLarge : PlanTree → Instance → Orderings → ℕ → Type 0
-IsTooLarge plan instance (Chosen choice) first = has_large_step plan instance (drop first (orderings_of choice.now)) ≡ true
+IsTooLarge plan instance (Chosen choice most) first = has_larger_step most plan instance (drop first (orderings_of choice.now)) ≡ true
 IsTooLarge plan instance (Sorted flipped) first = IsTiedTooLargeFrom plan instance flipped first
 
 -- why a plan gives nothing
@@ -52,9 +58,9 @@ pub record IsWalkedOrHalted (plan : PlanTree) (tables instance : Instance) (orde
 -- ---- Windows and Limits over their inputs
 
 abbrev pub IsWindowStep : {X : Type 0} → (X → RowsOrFault) → WindowRule → RowsOrFault → Orderings → ℕ → List (Vec ℕ Global) → List (Vec ℕ Global) → Result X EvalError → Type 0
-IsWindowStep view w input (Chosen choice) first old new r = IsExtendedOrUnserved view w input (orderings_of choice.now) first r
+IsWindowStep view w input (Chosen choice most) first old new r = IsExtendedOrUnserved view w input (orderings_of choice.now) first r
 IsWindowStep view w input (Sorted flipped) first old new r = IsTiedWindowOrNoMemory view w input flipped old new r
 
 abbrev pub IsLimitStep : LimitRule → RowsOrFault → Orderings → ℕ → List (Vec ℕ Global) → List (Vec ℕ Global) → Result Outcome EvalError → Type 0
-IsLimitStep limit input (Chosen choice) first old new r = IsCutOrUnserved limit input (orderings_of choice.now) first r
+IsLimitStep limit input (Chosen choice most) first old new r = IsCutOrUnserved limit input (orderings_of choice.now) first r
 IsLimitStep limit input (Sorted flipped) first old new r = IsTiedLimitOrNoMemory limit input flipped old new r

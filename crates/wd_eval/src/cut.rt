@@ -40,7 +40,7 @@ pub(crate) fn limited(
 {
     let input = gathered(alloc, instance, input, 0)?;
     match orderings {
-        Orderings::Chosen(choice) => chosen_limit(alloc, instance, limit, input, choice, first),
+        Orderings::Chosen(choice, _) => chosen_limit(alloc, instance, limit, input, choice, first),
         Orderings::Sorted(flipped) => {
             let outcome = sorted_limit(alloc, instance, limit, input, flipped, made)?;
             Ok(outcome)

@@ -1,10 +1,11 @@
 //! Plans under choices of orderings.
 
-ghost use Rattle.std.specs.Prelude.{◌≡◌, true, None, IfOk};
-ghost use Rattle.wd_eval.specs.Judged.{IsAllowedOrRefused, IsOutcomeOrRefused};
+ghost use Rattle.std.specs.Prelude.{◌≡◌, ◌≤◌, true, None, IfOk};
+ghost use Rattle.wd_eval.specs.Judged.{IsAllowedOrRefused, IsOutcomeOrRefused, IsOutcomeWithinOrRefused};
 ghost use Rattle.wd_eval.specs.Windows.{orderings_of};
 ghost use Rattle.wd_eval.specs.Runs.{IsRunOrRefused, IsTiedOutcomeOrRefused};
 ghost use Rattle.wd_eval.specs.Tied.{IsTiedOrRefused};
+ghost use Rattle.wd_nodes.specs.Produced.{most_rows};
 ghost use Rattle.wd_plan.specs.Fits.{fits};
 ghost use Rattle.wd_plan.specs.Outcomes.{outcome_of};
 ghost use Rattle.wd_plan.specs.Plans.{plan_of};
@@ -14,7 +15,7 @@ ghost use Rattle.wd_value.specs.Rows.{instance_of};
 use crate::answer::{Answer, answer_of};
 use crate::error::EvalError;
 use crate::node::evaluate;
-use crate::orderings::Orderings;
+use crate::orderings::{MOST_ROWS, Orderings};
 use std::alloc::Global;
 use wd_columns::Columns;
 use wd_nodes::{handed_over, outcome_from};
@@ -36,8 +37,25 @@ pub fn eval_with(
     requires { fits (schema_of schema.now) (plan_of plan.now) ≡ true }
     ensures { IsOutcomeOrRefused (plan_of plan.now) (instance_of instance.now.items) (orderings_of choice.now.orderings.items) result }
 {
+    eval_within(alloc, plan, schema, instance, choice, MOST_ROWS)
+}
+
+/// The same where a step may have at most so many rows, which are no more than the 10,000,000 of
+/// [`eval_with`].
+pub fn eval_within(
+    alloc: Global,
+    plan: &Plan,
+    schema: &Schema,
+    instance: &Instance,
+    choice: &Choice,
+    most: usize,
+) -> Result<Outcome, EvalError>
+    requires fits { fits (schema_of schema.now) (plan_of plan.now) ≡ true }
+    requires bounded { most ≤ most_rows }
+    ensures { IsOutcomeWithinOrRefused most (plan_of plan.now) (instance_of instance.now.items) (orderings_of choice.now.orderings.items) result }
+{
     let mut made = Vec::new(alloc);
-    let chosen = Orderings::Chosen(&choice.orderings);
+    let chosen = Orderings::Chosen(&choice.orderings, most as u64);
     let evaluated = evaluate(alloc, plan, instance, None, chosen, 0, &mut made, 0)?;
     if evaluated.next < choice.orderings.len() {
         return Err(EvalError::NotValid(evaluated.next as u64));

@@ -17,7 +17,7 @@ mod window;
 pub use answer::Answer;
 pub use error::EvalError;
 pub use eval::{
-    TiedOutcome, check_choice, eval_tied, eval_with, first_choice, run_columns, run_plan,
-    tied_choice,
+    TiedOutcome, check_choice, eval_tied, eval_with, eval_within, first_choice, run_columns,
+    run_plan, tied_choice,
 };
 pub use window::evaluate_window;

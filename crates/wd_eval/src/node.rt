@@ -1,7 +1,9 @@
 //! A plan under the orderings of its nodes, node by node.
 
 ghost use Rattle.wd_nodes.specs.Held.{IsHeld, IsHeldForSome};
-ghost use Rattle.wd_eval.specs.Walks.{IsAt, IsWalkedOrHalted};
+ghost use Rattle.std.specs.Prelude.{◌≤◌};
+ghost use Rattle.wd_eval.specs.Walks.{IsAt, IsWalkedOrHalted, most_of};
+ghost use Rattle.wd_nodes.specs.Produced.{most_rows};
 ghost use Rattle.wd_plan.specs.Plans.{EachNamesClasses, plan_of};
 ghost use Rattle.wd_value.specs.Rows.{Instance, instance_of};
 
@@ -38,13 +40,15 @@ pub(crate) fn evaluate(
     room: usize,
 ) -> Result<Evaluated, EvalError>
     requires at { IsAt orderings first made.old.items }
+    requires bounded { most_of orderings ≤ most_rows }
     requires named { EachNamesClasses (plan_of plan.now) }
     requires held { IsHeldForSome (plan_of plan.now) (instance_of tables.now) handed }
     ensures { (instance : Instance) → IsHeld (plan_of plan.now) (instance_of tables.now) handed instance → IsWalkedOrHalted (plan_of plan.now) (instance_of tables.now) instance orderings.entry first made.old.items made.new.items result }
 {
+    let most = orderings.most();
     match plan {
         Plan::Scan { table, .. } => {
-            let outcome = scanned(tables, handed, *table)?;
+            let outcome = scanned(tables, handed, *table, most)?;
             Ok(Evaluated {
                 outcome,
                 next: first,
@@ -57,7 +61,7 @@ pub(crate) fn evaluate(
         } => {
             let left = evaluate(alloc, left, tables, handed, orderings, first, made, 0)?;
             let right = evaluate(alloc, right, tables, None, orderings, left.next, made, 0)?;
-            let outcome = joined(alloc, tables, condition, left.outcome, right.outcome)?;
+            let outcome = joined(alloc, tables, condition, left.outcome, right.outcome, most)?;
             Ok(Evaluated {
                 outcome,
                 next: right.next,
@@ -81,7 +85,7 @@ pub(crate) fn evaluate(
         }
         Plan::Group { input, group } => {
             let below = evaluate(alloc, input, tables, handed, orderings, first, made, 0)?;
-            let outcome = grouped(alloc, tables, group, below.outcome)?;
+            let outcome = grouped(alloc, tables, group, below.outcome, most)?;
             Ok(Evaluated {
                 outcome: Produced::Made(outcome),
                 next: below.next,

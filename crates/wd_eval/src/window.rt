@@ -38,7 +38,7 @@ pub(crate) fn extended(
     ensures { IsWindowStep (produced_of (instance_of instance.now)) (window_of window.now) (produced_of (instance_of instance.now) input) orderings.entry first made.old.items made.new.items result }
 {
     match orderings {
-        Orderings::Chosen(choice) => {
+        Orderings::Chosen(choice, _) => {
             let input = outcome_from(alloc, instance, input, window.calls.len())?;
             let outcome = evaluate_window(alloc, window, input, choice, first)?;
             Ok(Produced::Made(outcome))

@@ -7,8 +7,8 @@ use Rattle.wd_plan.specs.Expressions.{Expression}
 use Rattle.wd_plan.specs.Fits.{are_outputs, fits, is_narrow, is_typed, kinds_of, width}
 use Rattle.wd_plan.specs.Plans.{PlanTree, Join, Map}
 use Rattle.wd_plan.proofs.Ranges.{kinds_below, narrow}
-use Rattle.wd_facts.specs.Facts.{Fact, is_plain_fact}
-use Rattle.wd_facts.specs.Given.{used}
+use Rattle.wd_step_facts.specs.Facts.{Fact, is_plain_fact}
+use Rattle.wd_step_facts.specs.Steps.{used}
 use Rattle.wd_facts.specs.Laws.{ArePlain}
 use Rattle.wd_facts.proofs.KeyRanges.{wider}
 use Rattle.wd_facts.proofs.Plain.{facts_wider}

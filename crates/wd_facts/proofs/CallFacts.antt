@@ -25,7 +25,7 @@ use Rattle.wd_plan.specs.declared.window.Frame.{Frame}
 use Rattle.wd_plan.proofs.Places.{in_part, same_members}
 use Rattle.wd_laws.proofs.Frames.{in_stable_frame, stable_test}
 use Rattle.wd_plan.proofs.Groups.{Perm-split, passes_some, group_alike, key_from_group}
-use Rattle.wd_facts.specs.Given.{goes_by_key, keeps_peers_whole}
+use Rattle.wd_step_facts.specs.Steps.{goes_by_key, keeps_peers_whole}
 
 -- ---- ROW_NUMBER: partition and value give the row
 

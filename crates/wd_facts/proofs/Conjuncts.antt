@@ -13,8 +13,8 @@ use Rattle.wd_plan.specs.declared.expression.ComparisonOp.TheVariants as op
 use Rattle.wd_plan.specs.Expressions.{Expression, Column, Literal, Negate, Arithmetic, Compare, Not, And, Or, IsNull, IsNotNull, Case, and_result, and_value, comparison, is_null, is_true, value_of}
 use Rattle.wd_plan.specs.Faults.{and_then}
 use Rattle.wd_plan.specs.Outcomes.{passes}
-use Rattle.wd_facts.specs.Facts.{Paired, Holds}
-use Rattle.wd_facts.specs.Given.{Side, Plain, Fixed, Other, column_fact, comparison_facts, conjunct_facts, conjuncts, equality_facts, facts_of_conjuncts, fixed_fact, is_side, null_facts, rules_out_null, side_of, some_rules_out_null}
+use Rattle.wd_step_facts.specs.Facts.{Paired, Holds}
+use Rattle.wd_step_facts.specs.Steps.{Side, Plain, Fixed, Other, column_fact, comparison_facts, conjunct_facts, conjuncts, equality_facts, facts_of_conjuncts, fixed_fact, is_side, null_facts, rules_out_null, side_of, some_rules_out_null}
 use Rattle.wd_facts.proofs.Lists.{all_append}
 
 abbrev pub IsTrueAt : Expression → RowValues → Type 0

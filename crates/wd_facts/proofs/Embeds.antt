@@ -14,9 +14,9 @@ use Rattle.wd_plan.specs.Plans.{LimitRule}
 use Rattle.wd_value.specs.declared.order.SortColumn.{SortColumn}
 use Rattle.wd_plan.proofs.Places.{place-get_or, range-times, times-get_or, times-range-le}
 use Rattle.wd_plan.specs.Partitions.{place_in}
-use Rattle.wd_facts.specs.declared.facts.Member.{Member}
-use Rattle.wd_facts.specs.declared.facts.Member.TheVariants.{Column, Left, Right, Row}
-use Rattle.wd_facts.specs.Facts.{Fact, Paired, Same, Holds, is_plain, is_plain_fact, moved, moved_fact, moved_facts, unpaired}
+use Rattle.wd_step_facts.specs.declared.facts.Member.{Member}
+use Rattle.wd_step_facts.specs.declared.facts.Member.TheVariants.{Column, Left, Right, Row}
+use Rattle.wd_step_facts.specs.Facts.{Fact, Paired, Same, Holds, is_plain, is_plain_fact, moved, moved_fact, moved_facts, unpaired}
 use Rattle.wd_facts.specs.Laws.{ArePlain}
 
 -- ---- rows that carry the facts of others

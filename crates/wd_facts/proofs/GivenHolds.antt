@@ -15,9 +15,10 @@ use Rattle.wd_plan.specs.Plans.{GroupRule, WindowRule, PlanTree, Scan, Join, Fil
 use Rattle.wd_plan.specs.Sorting.{IsOrdering, limit_class}
 use Rattle.wd_plan.specs.declared.window.Call.{Call}
 use Rattle.wd_plan.proofs.Ranges.{IsSound, calls_sound, group_parts, has_the_table, kinds_below, table_columns}
-use Rattle.wd_facts.specs.declared.facts.Member.TheVariants as member
-use Rattle.wd_facts.specs.Facts.{Fact, Holds, beside, unpaired}
-use Rattle.wd_facts.specs.Given.{calls_facts, facts_of_group, group_key_facts, is_call_not_null, is_group_call_not_null, is_not_null, nullable_keys}
+use Rattle.wd_step_facts.specs.declared.facts.Member.TheVariants as member
+use Rattle.wd_step_facts.specs.Facts.{Fact, Holds, beside, unpaired}
+use Rattle.wd_facts.specs.Given.{is_not_null, nullable_keys}
+use Rattle.wd_step_facts.specs.Steps.{calls_facts, facts_of_group, group_key_facts, is_call_not_null, is_group_call_not_null}
 use Rattle.wd_facts.specs.Laws.{AreKept, ChildrenKeep, GivenFactsHold, GivenHold, InPairs, InRows, Known, KnownHolds}
 use Rattle.wd_facts.proofs.Embeds.{Embeds-cut, Embeds-distinct, hold_moved, same_facts}
 use Rattle.wd_facts.proofs.Groupings.{group_call_not_null, group_kept_hold, group_key_holds, group_not_null, group_wide}

@@ -24,10 +24,10 @@ use Rattle.wd_plan.proofs.Sorted.{Rising}
 use Rattle.wd_laws.proofs.AllValues.{AllOk, all_ok_each}
 use Rattle.wd_laws.proofs.Grouping.{shown_at}
 use Rattle.wd_laws.proofs.Widths.{all_distinct}
-use Rattle.wd_facts.specs.declared.facts.Member.{Member}
-use Rattle.wd_facts.specs.declared.facts.Member.TheVariants as member
-use Rattle.wd_facts.specs.Facts.{Fact, Holds, Same, columns_named, is_column, is_plain, key_fact, unpaired}
-use Rattle.wd_facts.specs.Given.{all_columns, are_told_apart, cut_fact, differ_in, facts_of_group, group_key, group_key_facts, grouping_arguments, grouping_columns, is_group_call_not_null}
+use Rattle.wd_step_facts.specs.declared.facts.Member.{Member}
+use Rattle.wd_step_facts.specs.declared.facts.Member.TheVariants as member
+use Rattle.wd_step_facts.specs.Facts.{Fact, Holds, Same, columns_named, is_column, is_plain, key_fact, unpaired}
+use Rattle.wd_step_facts.specs.Steps.{all_columns, are_told_apart, cut_fact, differ_in, facts_of_group, group_key, group_key_facts, grouping_arguments, grouping_columns, is_group_call_not_null}
 use Rattle.wd_facts.specs.Laws.{ArePlain}
 use Rattle.wd_facts.proofs.Embeds.{Carries, HasWidth-from, hold_moved, same_facts}
 use Rattle.wd_facts.proofs.Keys.{all_map}

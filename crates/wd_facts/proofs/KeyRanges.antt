@@ -7,7 +7,8 @@ use Rattle.wd_plan.specs.Expressions.{Expression}
 use Rattle.wd_plan.specs.Fits.{AreBelow, fits, has_table, is_condition, is_limit, is_narrow, is_window, kinds_of, width}
 use Rattle.wd_plan.specs.Plans.{PlanTree, Scan, Join, Filter, Map, Group, Window, Distinct, Limit}
 use Rattle.wd_plan.proofs.Ranges.{has_the_table, table_columns}
-use Rattle.wd_facts.specs.Given.{both_copied, copied_keys, copies, copy_from, gives_row, if_copied, is_side, names_columns, null_keys, nullable_keys, side_of, table_rule}
+use Rattle.wd_facts.specs.Given.{gives_row, names_columns, null_keys, nullable_keys, table_rule}
+use Rattle.wd_step_facts.specs.Steps.{both_copied, copied_keys, copies, copy_from, if_copied, is_side, side_of}
 
 -- ---- more columns
 

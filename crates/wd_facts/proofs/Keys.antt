@@ -12,9 +12,9 @@ use Rattle.wd_schema.specs.Tables.{KeyRule, TableRule}
 use Rattle.wd_plan.specs.Expressions.{is_null}
 use Rattle.wd_plan.specs.Facts.{IsNullableKey}
 use Rattle.wd_plan.proofs.Parts.{all_filter}
-use Rattle.wd_facts.specs.declared.facts.Member.TheVariants as member
+use Rattle.wd_step_facts.specs.declared.facts.Member.TheVariants as member
 use Rattle.wd_facts.specs.Laws.{DependenciesAreFacts}
-use Rattle.wd_facts.specs.Facts.{Paired, Same, Holds, columns_named, key_fact, unpaired}
+use Rattle.wd_step_facts.specs.Facts.{Paired, Same, Holds, columns_named, key_fact, unpaired}
 use Rattle.wd_facts.specs.Given.{full_keys, gives_row, is_not_null_column, keys_facts, names_columns, null_keys, row_keys}
 
 -- ---- lists

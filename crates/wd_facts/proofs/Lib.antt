@@ -9,10 +9,7 @@ pub mod CallFacts
 pub mod Windows
 pub mod Nodes
 pub mod Groupings
-pub mod GroupsAdded
-pub mod ToldApart
 pub mod GivenHolds
-pub mod Appended
 pub mod UsedBelow
 pub mod Plain
 pub mod Added

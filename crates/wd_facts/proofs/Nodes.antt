@@ -15,10 +15,11 @@ use Rattle.wd_plan.specs.Fits.{AreBelow, width}
 use Rattle.wd_plan.specs.Outcomes.{distinct, filter_outcome, join_outcome, map_outcome, pairs, passes}
 use Rattle.wd_plan.specs.Plans.{LimitRule, PlanTree, Scan, Join, Filter, Map, Distinct, Limit}
 use Rattle.wd_plan.proofs.Parts.{all_filter}
-use Rattle.wd_facts.specs.declared.facts.Member.{Member}
-use Rattle.wd_facts.specs.declared.facts.Member.TheVariants as member
-use Rattle.wd_facts.specs.Facts.{Fact, Paired, Same, Holds, is_plain, key_fact, moved_facts, unpaired}
-use Rattle.wd_facts.specs.Given.{all_columns, conjuncts, conjuncts_of, facts_of_conjuncts, full_keys, given, is_not_null, keys_facts, nullable_keys, names_columns, null_keys, gives_row, row_keys, some_rules_out_null, table_rule}
+use Rattle.wd_step_facts.specs.declared.facts.Member.{Member}
+use Rattle.wd_step_facts.specs.declared.facts.Member.TheVariants as member
+use Rattle.wd_step_facts.specs.Facts.{Fact, Paired, Same, Holds, is_plain, key_fact, moved_facts, unpaired}
+use Rattle.wd_facts.specs.Given.{full_keys, given, is_not_null, keys_facts, nullable_keys, names_columns, null_keys, gives_row, row_keys, table_rule}
+use Rattle.wd_step_facts.specs.Steps.{all_columns, conjuncts, conjuncts_of, facts_of_conjuncts, some_rules_out_null}
 use Rattle.wd_facts.proofs.Conjuncts.{IsTrueAt, conjuncts_hold, conjuncts_true, some_ruled_out}
 use Rattle.wd_facts.proofs.Embeds.{Embeds, Embeds-distinct, Embeds-filter, Embeds-refl, HasWidth-from, distinct_once, hold_moved, hold_of, keys_of, not_null_of, passes_at, same_facts, wide_at, width_of}
 use Rattle.wd_facts.proofs.Keys.{all_map, column_not_null, full_keys_hold, null_keys_hold, row_keys_hold, all_of}

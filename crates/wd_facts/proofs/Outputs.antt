@@ -14,9 +14,9 @@ use Rattle.wd_value.specs.declared.value.Value.TheVariants as value
 use Rattle.wd_plan.specs.Facts.{HasWidth, IsNotNullIn, IsNullableKey}
 use Rattle.wd_plan.specs.Faults.{all_ok, and_then, has_fault, unless, values_among}
 use Rattle.wd_plan.specs.Outcomes.{map_outcome}
-use Rattle.wd_facts.specs.declared.facts.Member.TheVariants as member
-use Rattle.wd_facts.specs.Facts.{Same, Holds, beside, columns_named, unpaired}
-use Rattle.wd_facts.specs.Given.{Side, Plain, Fixed, Other, column_fact, copied_keys, copies, both_copied, if_copied, copy_from, is_output_not_null, is_side_not_null, is_side, output_facts, outputs_facts, side_of, used, used_fact}
+use Rattle.wd_step_facts.specs.declared.facts.Member.TheVariants as member
+use Rattle.wd_step_facts.specs.Facts.{Same, Holds, beside, columns_named, unpaired}
+use Rattle.wd_step_facts.specs.Steps.{Side, Plain, Fixed, Other, column_fact, copied_keys, copies, both_copied, if_copied, copy_from, is_output_not_null, is_side_not_null, is_side, output_facts, outputs_facts, side_of, used, used_fact}
 use Rattle.wd_laws.proofs.AllValues.{AllOk, all_ok_each}
 use Rattle.wd_facts.proofs.Conjuncts.{Says, says}
 use Rattle.wd_facts.proofs.Embeds.{Carries, HasWidth-from}

@@ -8,8 +8,8 @@ use Rattle.wd_value.specs.declared.value.Value.TheVariants.{Null}
 use Rattle.wd_plan.specs.Expressions.{is_null}
 use Rattle.wd_plan.specs.Facts.{HasWidth, IsNullableKey}
 use Rattle.wd_plan.specs.Outcomes.{pairs}
-use Rattle.wd_facts.specs.declared.facts.Member.TheVariants.{Left, Right}
-use Rattle.wd_facts.specs.Facts.{Paired, Holds, key_fact}
+use Rattle.wd_step_facts.specs.declared.facts.Member.TheVariants.{Left, Right}
+use Rattle.wd_step_facts.specs.Facts.{Paired, Holds, key_fact}
 use Rattle.wd_facts.specs.Given.{full_keys, keys_facts}
 use Rattle.wd_facts.proofs.Sides.{AreSides}
 use Rattle.wd_facts.proofs.Embeds.{Carries, Embeds, wide_at}

@@ -1,7 +1,7 @@
 -- The positions that a Join's rows pair, as sides.
 use Rattle.std.proofs.Common.{◌≡◌, ℕ, ◌<◌, ◌≤◌, length, Option, Some, None}
 use Rattle.wd_value.specs.Rows.{column_of, row_at}
-use Rattle.wd_facts.specs.Facts.{Paired}
+use Rattle.wd_step_facts.specs.Facts.{Paired}
 
 -- the positions on each side give its columns, and both give the row
 pub record AreSides (n : Paired) (split columns : ℕ) : Type 0 where

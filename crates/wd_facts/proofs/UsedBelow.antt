@@ -5,7 +5,7 @@ use Rattle.std.proofs.lemmas.Bool.{and_parts, lt-ltb}
 use Rattle.wd_plan.specs.declared.expression.ValueKind.TheVariants.{Number, Truth}
 use Rattle.wd_plan.specs.Expressions.{Expression, Column, Literal, Negate, Arithmetic, Compare, Not, And, Or, IsNull, IsNotNull, Case}
 use Rattle.wd_plan.specs.Fits.{AreBelow, Kinds, are_alike, is_kind, is_typed, kind_of}
-use Rattle.wd_facts.specs.Given.{used}
+use Rattle.wd_step_facts.specs.Steps.{used}
 
 pub below_append : (columns : ℕ) (X Y : List ℕ) → AreBelow columns X → AreBelow columns Y → AreBelow columns (X ++ Y)
 below_append columns [] Y a b = b

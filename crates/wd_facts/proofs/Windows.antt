@@ -32,10 +32,10 @@ use Rattle.wd_plan.specs.declared.function.Ranking.{Ranking}
 use Rattle.wd_plan.specs.declared.function.Ranking.TheVariants.{RowNumber, Rank, DenseRank, Ntile}
 use Rattle.wd_plan.specs.declared.window.Call.{Call}
 use Rattle.wd_plan.specs.declared.window.Frame.{Frame}
-use Rattle.wd_facts.specs.declared.facts.Member.{Member}
-use Rattle.wd_facts.specs.declared.facts.Member.TheVariants as member
-use Rattle.wd_facts.specs.Facts.{Paired, Same, Holds, columns_named, key_fact, unpaired}
-use Rattle.wd_facts.specs.Given.{call_facts, calls_facts, frame_facts, goes_by_key, is_call_not_null, over_frame, rank_fact, ranking_facts, value_fact}
+use Rattle.wd_step_facts.specs.declared.facts.Member.{Member}
+use Rattle.wd_step_facts.specs.declared.facts.Member.TheVariants as member
+use Rattle.wd_step_facts.specs.Facts.{Paired, Same, Holds, columns_named, key_fact, unpaired}
+use Rattle.wd_step_facts.specs.Steps.{call_facts, calls_facts, frame_facts, goes_by_key, is_call_not_null, over_frame, rank_fact, ranking_facts, value_fact}
 use Rattle.wd_facts.proofs.CallFacts.{dense_rank_gives_order, order_gives_aggregate, order_gives_dense_rank, order_gives_rank, rank_gives_order, row_number_gives_row}
 use Rattle.wd_facts.proofs.Embeds.{Carries, HasWidth-from, wide_at}
 use Rattle.wd_laws.proofs.AllValues.{AllOk, all_ok_each}

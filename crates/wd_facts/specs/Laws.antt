@@ -9,8 +9,8 @@ use Rattle.wd_plan.specs.Facts.{Determines, DeterminesRow, HasWidth, IsNotNullIn
 use Rattle.wd_plan.specs.Fits.{AreBelow, fits, width}
 use Rattle.wd_plan.specs.Outcomes.{outcome}
 use Rattle.wd_plan.specs.Plans.{PlanTree, Scan, Join, Filter, Map, Group, Window, Distinct, Limit, ordering_count}
-use Rattle.wd_facts.specs.declared.facts.Member.TheVariants as member
-use Rattle.wd_facts.specs.Facts.{Fact, Holds, Paired, PairsRows, beside, columns_named, is_plain_fact, key_fact, unpaired}
+use Rattle.wd_step_facts.specs.declared.facts.Member.TheVariants as member
+use Rattle.wd_step_facts.specs.Facts.{Fact, Holds, Paired, PairsRows, beside, columns_named, is_plain_fact, key_fact, unpaired}
 use Rattle.wd_facts.specs.Given.{given, is_not_null, nullable_keys}
 
 -- facts of rows with so many columns

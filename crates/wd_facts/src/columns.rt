@@ -8,9 +8,11 @@ ghost use Rattle.wd_plan.specs.Fits as fitting;
 ghost use Rattle.std.specs.List.{list_all};
 ghost use Rattle.wd_plan.specs.Plans.{group_call_of, has, plan_of, sets_of};
 ghost use Rattle.wd_facts.specs.Given as spec;
+ghost use Rattle.wd_step_facts.specs.Steps as steps;
 
 use wd_plan::{Call, Expr, GroupCall, Plan, has_column};
 use wd_schema::{Column, Schema};
+use wd_step_facts::is_column;
 use wd_value::Value;
 
 /// The number of columns of a node's rows.
@@ -21,19 +23,9 @@ pub(crate) fn width(plan: &Plan) -> u16
     plan.width() as u16
 }
 
-/// Whether an expression is this column.
-pub(crate) fn is_column(expression: &Expr, column: u16) -> bool
-    ensures { result ≡ spec.is_side column (spec.side_of (expression_of expression.now)) }
-{
-    match expression {
-        Expr::Column(c) => column == *c,
-        _ => false,
-    }
-}
-
 /// Whether a conjunct that is true leaves no NULL in the column.
 fn conjunct_rules_out_null(conjunct: &Expr, column: u16) -> bool
-    ensures { result ≡ spec.rules_out_null column (expression_of conjunct.now) }
+    ensures { result ≡ steps.rules_out_null column (expression_of conjunct.now) }
 {
     match conjunct {
         Expr::Compare(_, a, b) => is_column(a, column) || is_column(b, column),
@@ -42,19 +34,19 @@ fn conjunct_rules_out_null(conjunct: &Expr, column: u16) -> bool
     }
 }
 
-/// Whether a condition that is true leaves no NULL in the column.
+/// Whether a condition that is true leaves no NULL in the column. The left operand comes last: a compiler makes a loop of that call.
 #[tactic(auto, using(wd_plan::proofs::Groups::any_append))]
 fn rules_out_null(condition: &Expr, column: u16) -> bool
-    ensures { result ≡ spec.some_rules_out_null (spec.conjuncts (expression_of condition.now)) column }
+    ensures { result ≡ steps.some_rules_out_null (steps.conjuncts (expression_of condition.now)) column }
 {
     match condition {
-        Expr::And(a, b) => rules_out_null(a, column) || rules_out_null(b, column),
+        Expr::And(a, b) => rules_out_null(b, column) || rules_out_null(a, column),
         _ => conjunct_rules_out_null(condition, column),
     }
 }
 
 fn join_rules_out_null(condition: &Option<Expr>, column: u16) -> bool
-    ensures { result ≡ spec.some_rules_out_null (spec.conjuncts_of (option_map expression_of condition.now)) column }
+    ensures { result ≡ steps.some_rules_out_null (steps.conjuncts_of (option_map expression_of condition.now)) column }
 {
     match condition {
         Some(condition) => rules_out_null(condition, column),
@@ -84,7 +76,7 @@ fn is_not_null_in(schema: &Schema, table: u16, column: u16) -> bool
 
 /// Whether the call with this number is never NULL.
 fn is_call_not_null(calls: &[Call], number: u16) -> bool
-    ensures { result ≡ spec.is_call_not_null (slice_get calls.now number) }
+    ensures { result ≡ steps.is_call_not_null (slice_get calls.now number) }
 {
     match calls.get(usize::from(number)) {
         Some(call) => !call.function.name().signature().nullable,
@@ -106,7 +98,7 @@ fn is_in_each(sets: &[Vec<u16>], column: u16) -> bool
 
 /// Whether the call of a Group with this number is never NULL.
 fn is_group_call_not_null(calls: &[GroupCall], number: u16) -> bool
-    ensures { result ≡ spec.is_group_call_not_null (slice_get (map group_call_of calls.now) number) }
+    ensures { result ≡ steps.is_group_call_not_null (slice_get (map group_call_of calls.now) number) }
 {
     match calls.get(usize::from(number)) {
         Some(GroupCall::OfRows(aggregate)) => !aggregate.name().signature().nullable,

@@ -2,19 +2,11 @@
 //! which they hold.
 #![tactic(auto)]
 
-mod apart;
-mod calls;
 mod columns;
-mod conditions;
-mod facts;
-mod groups;
 pub mod laws;
-mod maps;
-mod members;
-mod moved;
 mod node;
 mod nullable;
 mod tables;
 
-pub use facts::{Facts, Given, Member};
 pub use node::given;
+pub use wd_step_facts::{Facts, Given, Member};

@@ -2,29 +2,27 @@
 
 ghost use Rattle.std.specs.Prelude.{◌≡◌, ◌+◌, ◌-◌, ◌++◌, ◌<◌, ◌≤◌, [], ◌∷◌, true, length, map, nat_lt, None, Some, option_map, IfOk};
 ghost use Rattle.std.specs.List.{list_all};
-ghost use Rattle.wd_facts.specs.Facts.{fact_of, facts_of, kept_by, key_fact};
-ghost use Rattle.wd_facts.specs.Facts as facts_spec;
+ghost use Rattle.wd_step_facts.specs.Facts.{fact_of, facts_of, kept_by, key_fact};
+ghost use Rattle.wd_step_facts.specs.Facts as facts_spec;
 ghost use Rattle.wd_facts.specs.Given as spec;
+ghost use Rattle.wd_step_facts.specs.Steps as steps;
 ghost use Rattle.wd_facts.specs.Laws.{AreOfChildren};
-ghost use Rattle.wd_facts.specs.declared.facts.Member.TheVariants as member;
+ghost use Rattle.wd_step_facts.specs.declared.facts.Member.TheVariants as member;
 ghost use Rattle.wd_plan.specs.Expressions.{expression_of};
 ghost use Rattle.wd_plan.specs.Fits as fitting;
 ghost use Rattle.wd_plan.specs.Plans.{NamesClasses, plan_of, window_of};
 ghost use Rattle.wd_schema.specs.Schemas.{schema_of};
 
-use crate::calls::add_calls;
 use crate::columns::width;
-use crate::conditions::{add_conjuncts, add_join_conjuncts};
-use crate::facts::{Facts, Given, Member};
-use crate::groups::group_facts;
-use crate::maps::add_outputs;
-use crate::members::{add_key, copied_facts, first_columns};
-use crate::moved::add_moved_facts;
 use crate::nullable::{add_full_keys, moved_keys, nullable_keys};
 use crate::tables::table_facts;
 use std::alloc::Global;
 use wd_plan::{Expr, Plan, Window};
 use wd_schema::Schema;
+use wd_step_facts::{
+    Facts, Given, Member, add_calls, add_conjuncts, add_join_conjuncts, add_key, add_moved_facts,
+    add_outputs, copied_facts, first_columns, group_facts,
+};
 use wd_value::OutOfMemory;
 
 /// The given facts of a plan's top node, in the order in which certificates number them. `kept` has for each child of the node
@@ -123,7 +121,7 @@ fn facts_of_sides(
 ) -> Result<Vec<Given>, OutOfMemory>
     requires left { list_all (facts_spec.is_plain_fact 65536) (map fact_of left.now) ≡ true }
     requires right { list_all (facts_spec.is_plain_fact (65536 - split)) (map fact_of right.now) ≡ true }
-    ensures { IfOk result (λ v. map fact_of v.items ≡ (facts_spec.moved_facts (λ c. c) member.Left (map fact_of left.now) ++ facts_spec.moved_facts (λ c. split + c) member.Right (map fact_of right.now)) ++ spec.facts_of_conjuncts (spec.conjuncts_of (option_map expression_of condition.now))) }
+    ensures { IfOk result (λ v. map fact_of v.items ≡ (facts_spec.moved_facts (λ c. c) member.Left (map fact_of left.now) ++ facts_spec.moved_facts (λ c. split + c) member.Right (map fact_of right.now)) ++ steps.facts_of_conjuncts (steps.conjuncts_of (option_map expression_of condition.now))) }
 {
     let mut list = Vec::new(alloc);
     add_moved_facts(alloc, 0, Member::Left, left, &mut list)?;
@@ -166,7 +164,7 @@ fn filter_facts(
 ) -> Result<Vec<Given>, OutOfMemory>
     requires fits { fitting.fits (schema_of schema.now) (plan_of plan.now) ≡ true }
     requires below { fitting.fits (schema_of schema.now) (plan_of input.now) ≡ true }
-    ensures { IfOk result (λ v. map fact_of v.items ≡ (map fact_of kept.now ++ spec.facts_of_conjuncts (spec.conjuncts (expression_of condition.now))) ++ spec.keys_facts member.Row (spec.full_keys (spec.is_not_null (schema_of schema.now) (plan_of plan.now)) (spec.nullable_keys (schema_of schema.now) (plan_of input.now)))) }
+    ensures { IfOk result (λ v. map fact_of v.items ≡ (map fact_of kept.now ++ steps.facts_of_conjuncts (steps.conjuncts (expression_of condition.now))) ++ spec.keys_facts member.Row (spec.full_keys (spec.is_not_null (schema_of schema.now) (plan_of plan.now)) (spec.nullable_keys (schema_of schema.now) (plan_of input.now)))) }
 {
     let mut list = copied_facts(alloc, kept)?;
     add_conjuncts(alloc, condition, &mut list)?;
@@ -179,8 +177,8 @@ fn filter_facts(
 fn map_facts(alloc: Global, outputs: &[Expr], kept: &[Given]) -> Result<Vec<Given>, OutOfMemory>
     requires narrow { length outputs.now ≤ 1024 }
     requires kept { list_all (facts_spec.is_plain_fact (65536 - length outputs.now)) (map fact_of kept.now) ≡ true }
-    requires used { list_all (λ e. list_all (λ c. nat_lt c (65536 - length outputs.now)) (spec.used e)) (map expression_of outputs.now) ≡ true }
-    ensures { IfOk result (λ v. map fact_of v.items ≡ facts_spec.moved_facts (λ c. length outputs.now + c) member.Row (map fact_of kept.now) ++ spec.outputs_facts (length outputs.now) 0 (map expression_of outputs.now)) }
+    requires used { list_all (λ e. list_all (λ c. nat_lt c (65536 - length outputs.now)) (steps.used e)) (map expression_of outputs.now) ≡ true }
+    ensures { IfOk result (λ v. map fact_of v.items ≡ facts_spec.moved_facts (λ c. length outputs.now + c) member.Row (map fact_of kept.now) ++ steps.outputs_facts (length outputs.now) 0 (map expression_of outputs.now)) }
 {
     let by = outputs.len() as u16;
     let mut list = Vec::new(alloc);
@@ -198,7 +196,7 @@ fn window_facts(
 ) -> Result<Vec<Given>, OutOfMemory>
     requires named { NamesClasses (window_of window.now) }
     requires narrow { first + length (window_of window.now).calls < 65536 }
-    ensures { IfOk result (λ v. map fact_of v.items ≡ map fact_of kept.now ++ spec.calls_facts (window_of window.now) first (window_of window.now).calls) }
+    ensures { IfOk result (λ v. map fact_of v.items ≡ map fact_of kept.now ++ steps.calls_facts (window_of window.now) first (window_of window.now).calls) }
 {
     let mut list = copied_facts(alloc, kept)?;
     add_calls(alloc, window, first, &mut list)?;
@@ -207,7 +205,7 @@ fn window_facts(
 
 /// The facts of a Distinct: those that its input keeps, and that all columns give the row.
 fn distinct_facts(alloc: Global, columns: u16, kept: &[Given]) -> Result<Vec<Given>, OutOfMemory>
-    ensures { IfOk result (λ v. map fact_of v.items ≡ map fact_of kept.now ++ (key_fact member.Row (spec.all_columns columns) ∷ [])) }
+    ensures { IfOk result (λ v. map fact_of v.items ≡ map fact_of kept.now ++ (key_fact member.Row (steps.all_columns columns) ∷ [])) }
 {
     let mut list = copied_facts(alloc, kept)?;
     let all = first_columns(alloc, columns)?;

@@ -6,25 +6,24 @@ ghost use Rattle.wd_schema.specs.Schemas.{schema_of};
 ghost use Rattle.wd_plan.specs.Expressions.{expression_of};
 ghost use Rattle.wd_plan.specs.Fits.{fits};
 ghost use Rattle.wd_plan.specs.Plans.{plan_of};
-ghost use Rattle.wd_facts.specs.Facts.{fact_of};
+ghost use Rattle.wd_step_facts.specs.Facts.{fact_of};
 ghost use Rattle.wd_facts.specs.Given as spec;
+ghost use Rattle.wd_step_facts.specs.Steps as steps;
 ghost use Rattle.wd_facts.specs.Known.{IsKnown};
 
 use crate::columns::{is_not_null, width};
-use crate::facts::{Given, Member};
-use crate::maps::copy_of;
-use crate::members::add_key;
 use crate::tables::table_null_keys;
 use std::alloc::Global;
 use wd_plan::{Expr, Plan};
 use wd_schema::Schema;
+use wd_step_facts::{Given, Member, add_key, copy_of};
 use wd_value::OutOfMemory;
 
 /// The columns by their lowest copies, if each has one.
 #[tactic(auto, using(crate::proofs::Added::copies_next, crate::proofs::Added::copies_stop))]
 fn copies(alloc: Global, outputs: &[Expr], key: &[u16]) -> Result<Option<Vec<u16>>, OutOfMemory>
     requires { length outputs.now < 65536 }
-    ensures { IfOk result (λ o. option_map (λ k. k.items) o ≡ spec.copies (map expression_of outputs.now) key.now) }
+    ensures { IfOk result (λ o. option_map (λ k. k.items) o ≡ steps.copies (map expression_of outputs.now) key.now) }
 {
     let mut list = Vec::with_capacity(alloc, key.len())?;
     for column in key {
@@ -44,7 +43,7 @@ fn add_copied_key(
     list: &mut Vec<Vec<u16>>,
 ) -> Result<(), OutOfMemory>
     requires { length outputs.now < 65536 }
-    ensures { IfOk result (λ _. map (λ k. k.items) list.new.items ≡ map (λ k. k.items) list.old.items ++ spec.if_copied (spec.copies (map expression_of outputs.now) key.now) []) }
+    ensures { IfOk result (λ _. map (λ k. k.items) list.new.items ≡ map (λ k. k.items) list.old.items ++ steps.if_copied (steps.copies (map expression_of outputs.now) key.now) []) }
 {
     if let Some(copy) = copies(alloc, outputs, key)? {
         list.push(copy)?;
@@ -60,7 +59,7 @@ fn copied_keys(
     keys: &[Vec<u16>],
 ) -> Result<Vec<Vec<u16>>, OutOfMemory>
     requires { length outputs.now < 65536 }
-    ensures { IfOk result (λ v. map (λ k. k.items) v.items ≡ spec.copied_keys (map expression_of outputs.now) (map (λ k. k.items) keys.now)) }
+    ensures { IfOk result (λ v. map (λ k. k.items) v.items ≡ steps.copied_keys (map expression_of outputs.now) (map (λ k. k.items) keys.now)) }
 {
     let mut list = Vec::new(alloc);
     for key in keys {

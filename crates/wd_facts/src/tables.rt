@@ -4,15 +4,14 @@ ghost use Rattle.std.specs.Prelude.{◌≡◌, ◌++◌, true, not, ◌&&◌, ma
 ghost use Rattle.std.specs.List.{list_all};
 ghost use Rattle.wd_schema.specs.Schemas.{schema_of};
 ghost use Rattle.wd_schema.specs.Tables.{key_of, table_of};
-ghost use Rattle.wd_facts.specs.declared.facts.Member.TheVariants as member;
-ghost use Rattle.wd_facts.specs.Facts.{fact_of};
+ghost use Rattle.wd_step_facts.specs.declared.facts.Member.TheVariants as member;
+ghost use Rattle.wd_step_facts.specs.Facts.{fact_of};
 ghost use Rattle.wd_facts.specs.Given as spec;
 
 use crate::columns::is_not_null_column;
-use crate::facts::{Given, Member};
-use crate::members::add_key;
 use std::alloc::Global;
 use wd_schema::{Key, Schema, Table};
+use wd_step_facts::{Given, Member, add_key};
 use wd_value::OutOfMemory;
 
 /// Whether the key names columns of the table.

@@ -1,8 +1,8 @@
 pub mod Sets
-pub mod Alike
-pub mod Coding
 pub mod First
 pub mod Calls
-pub mod Marked
 pub mod Masks
-pub mod Order
+pub mod Firsts
+pub mod Listing
+pub mod Numbering
+pub mod Pairing

@@ -1,5 +1,5 @@
 -- A set's groups are the partitions of the rows by the set's columns, and each begins at the first position of its rows.
-use Rattle.std.proofs.Common.{◌≡◌, ℕ, zero, suc, ◌+◌, ◌<◌, ◌≤◌, Bool, true, false, cond, not, ◌&&◌, ◌||◌, List, [], ◌∷◌, ◌++◌, map, filter, length, take, refl, sym, ◌∙◌, ap, arith, Some, slice_get, Result}
+use Rattle.std.proofs.Common.{◌≡◌, ℕ, zero, suc, ◌+◌, ◌<◌, ◌≤◌, Bool, true, false, cond, not, ◌&&◌, ◌||◌, List, [], ◌∷◌, ◌++◌, map, filter, length, take, refl, sym, ◌∙◌, ap, arith, Result}
 use Rattle.std.specs.List.{list_any, range_with_len}
 use Rattle.std.specs.Prelude.{flat_map}
 use Rattle.std.proofs.Math.Seq.{take-suc}
@@ -17,7 +17,6 @@ use Rattle.wd_plan.specs.Partitions.{members, partition_of}
 use Rattle.wd_plan.specs.Plans.{ClassRule, GroupRule, has}
 use Rattle.wd_plan.specs.Sorting.{same_partition}
 use Rattle.wd_plan.proofs.Parts.{partition_of-is}
-use Rattle.wd_partition.specs.Members.{MemberRule, member_of, members_of}
 use Rattle.wd_steps.proofs.Occurrences.{distinct_push}
 use Rattle.wd_group.specs.Sets.{row_from, row_over, rows_from, set_class, set_columns, shown_in}
 
@@ -164,14 +163,3 @@ own_all columns rows =
 -- its one group has all rows
 pub row_of_all : (rule : GroupRule) (rows : List Row) (r : Row) → row_over rule [] (rows_at rows (positions (length rows))) (shown rule.columns [] r) ∷ [] ≡ set_rows rule rows []
 row_of_all rule rows r = ap (λ own. row_over rule [] own (shown rule.columns [] []) ∷ []) (all_rows rows ∙ sym (own_all rule.columns rows))
-
--- ---- the member at a position
-
-get_mapped : {X : Type 0} (f : ℕ → X) (n a p : ℕ) → p < n → slice_get (map f (range_with_len a n)) p ≡ Some (f (a + p))
-get_mapped f zero a p h = absurd (omega arith)
-get_mapped f (suc n) a zero h = ap (λ k. Some (f k)) (omega arith)
-get_mapped f (suc n) a (suc p) h = get_mapped f n (a + 1) p (omega arith) ∙ ap (λ k. Some (f k)) (omega arith)
-
--- what stands at a position
-pub member_there : (class : ClassRule) (rows : List Row) (ordering : List ℕ) (found : List MemberRule) (p : ℕ) → found ≡ members_of class false rows ordering → p < length rows → slice_get found p ≡ Some (member_of class false rows ordering p)
-member_there class rows ordering found p is h = ap (λ ms. slice_get ms p) is ∙ get_mapped (member_of class false rows ordering) (length rows) 0 p h ∙ ap (λ k. Some (member_of class false rows ordering k)) (omega arith)

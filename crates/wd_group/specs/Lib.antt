@@ -1,4 +1,5 @@
-pub mod Coded
 pub mod Gathered
-pub mod Marks
+pub mod Groups
+pub mod Numbered
+pub mod Pairs
 pub mod Sets

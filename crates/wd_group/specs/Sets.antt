@@ -1,17 +1,18 @@
 -- A grouping set's groups as partitions of the rows by its columns.
-use Rattle.std.specs.Prelude.{◌≡◌, ℕ, ◌<◌, Bool, false, not, List, [], ◌∷◌, ◌++◌, filter, flat_map, length, map, slice_get, slice_index_or, option_map, Some, Ok, Result, if◌then◌else◌}
+use Rattle.std.specs.Prelude.{◌≡◌, ℕ, ◌<◌, Bool, false, not, List, [], ◌∷◌, ◌++◌, filter, flat_map, length, map, nat_eq, Ok, Result, if◌then◌else◌}
 use Rattle.std.specs.List.{list_any}
 use Rattle.wd_value.specs.declared.value.Value.{Value}
 use Rattle.wd_value.specs.declared.value.Value.TheVariants.{Null}
 use Rattle.wd_value.specs.declared.value.Fault.{Fault}
-use Rattle.wd_value.specs.Bags.{EachOnce, positions}
+use Rattle.wd_value.specs.Bags.{positions}
 use Rattle.wd_value.specs.Rows.{Row, column_of, row_at}
 use Rattle.wd_plan.specs.Faults.{all_ok, and_then}
 use Rattle.wd_plan.specs.Outcomes.{group_row, group_value, shown}
 use Rattle.wd_plan.specs.Partitions.{members}
 use Rattle.wd_plan.specs.Plans.{ClassRule, GroupRule, has}
 use Rattle.wd_plan.specs.Sorting.{same_partition}
-use Rattle.wd_partition.specs.Members.{MemberRule}
+use Rattle.wd_group.specs.declared.groups.Groups.{Groups}
+use Rattle.wd_group.specs.Groups.{own_list}
 
 -- what a set shows of a row in a grouping column
 abbrev pub shown_in : List ℕ → Row → ℕ → Value
@@ -29,20 +30,18 @@ set_columns columns set = filter (has set) (positions columns)
 abbrev pub set_class : ℕ → List ℕ → ClassRule
 set_class columns set = record { partition = set_columns columns set; order = [] }
 
--- for each row the positions of the rows of its group, as one ordering of all rows has them
-pub record AreGroups (class : ClassRule) (rows : List Row) (found : List MemberRule) : Type 0 where
-  pub ordering : List ℕ
-  pub once : EachOnce (length rows) ordering
-  pub each : (p : ℕ) → p < length rows → option_map (λ m. m.positions) (slice_get found p) ≡ Some (members class rows ordering p)
+-- for each row the positions of the rows of its group, in order
+abbrev pub AreGroups : ClassRule → List Row → Groups → Type 0
+AreGroups class rows groups = (p : ℕ) → p < length rows → own_list groups p ≡ members class rows (positions (length rows)) p
+
+-- whether a position is the first of a list
+abbrev pub begins_at : List ℕ → ℕ → Bool
+begins_at [] p = false
+begins_at (q ∷ qs) p = nat_eq q p
 
 -- whether one of the first n rows is of the group of the row at p
 abbrev pub is_met : ClassRule → List Row → ℕ → ℕ → Bool
 is_met class rows n p = list_any (λ q. same_partition class (row_at rows p) (row_at rows q)) (positions n)
-
--- a mark for each row: whether one of the first n rows is of its group
-pub record AreMarks (class : ClassRule) (rows : List Row) (n : ℕ) (marks : List Bool) : Type 0 where
-  pub long : length marks ≡ length rows
-  pub each : (p : ℕ) → p < length rows → slice_index_or marks p false ≡ is_met class rows n p
 
 -- whether the row at a position stands before all others of its group
 abbrev pub is_first : ℕ → List ℕ → List Row → ℕ → Bool

@@ -1,10 +1,10 @@
 //! The rows of all sets.
 
-ghost use Rattle.std.specs.Prelude.{◌≡◌, ◌^◌, ◌++◌, ◌+◌, ◌<◌, Err, IfOk, IfSome, List, OnOk, Result, false, length, true};
-ghost use Rattle.wd_group.specs.Coded.{AreAlike};
+ghost use Rattle.std.specs.Prelude.{◌≡◌, ◌^◌, ◌++◌, ◌<◌, Err, IfOk, List, OnOk, Result, false, length, true};
 ghost use Rattle.wd_group.specs.Gathered.{AreFirst};
+ghost use Rattle.wd_group.specs.Numbered.{AreNumbersOfEach};
 ghost use Rattle.wd_group.specs.Sets as sets;
-ghost use Rattle.wd_group.specs.Sets.{AreGroups, AreMarks, set_class};
+ghost use Rattle.wd_group.specs.Sets.{AreGroups, set_class};
 ghost use Rattle.wd_join.specs.Joins.{has_more_rows};
 ghost use Rattle.wd_join.specs.declared.error.StepError.TheVariants as error;
 ghost use Rattle.wd_plan.specs.Outcomes as spec;
@@ -13,27 +13,21 @@ ghost use Rattle.wd_plan.specs.Plans.{HaveMasks, grouping_of};
 ghost use Rattle.wd_value.specs.Rows as table;
 ghost use Rattle.wd_value.specs.declared.value.Fault as faults;
 
-use crate::coded::coded_columns;
 use crate::gathered::{Gathered, add, nothing, outcome_within};
-use crate::marks::mark;
+use crate::groups::{Groups, groups_by};
+use crate::numbered::{column_numbers, row_numbers};
 use crate::row::group_row;
-use crate::sorted::{Sorted, partitions_by, unsorted};
 use std::alloc::Global;
-use wd_columns::{Columns, RowSource};
+use wd_columns::RowSource;
 use wd_join::StepError;
-use wd_partition::Partitions;
 use wd_plan::{Group, Outcome, has_column};
-use wd_sort::all_positions;
+use wd_sort::{Coding, all_positions};
 use wd_value::OutOfMemory;
-
-/// Fewer rows are told apart as they are: to find numbers for them would take longer.
-const FEW: usize = 32;
 
 /// For each set in order the rows of its groups, in the order of their first rows, or the least
 /// fault of the calls; or the error that there are more than `most` rows (SQL, group by clause).
-/// The texts of many rows are compared once for all sets. Takes n log n comparisons of numbers for
-/// each set whose columns do not begin those that the rows were sorted by last: one sort serves all
-/// sets of a ROLLUP. Rows past the most are not kept.
+/// Takes time that goes with the rows, for each set: each value is looked up once for all sets, and no
+/// two texts are compared in order. Rows past the most are not kept.
 pub fn group_rows(
     alloc: Global,
     group: &Group,
@@ -46,42 +40,10 @@ pub fn group_rows(
     ensures within { IfOk result (λ o. has_more_rows most (outcome_of o) ≡ false) }
     ensures too_many { result ≡ Err error.TooManyRows → has_more_rows most (spec.group_outcome (grouping_of group.now) rows.now) ≡ true }
 {
-    if group.sets.len() < 2 || rows.len() < FEW {
-        return group_rows_by(alloc, group, rows, None, most);
-    }
-    let coded = coded_columns(alloc, rows, group.columns)?;
-    group_rows_by(alloc, group, rows, Some(&coded), most)
-}
-
-/// The same, where rows are told apart in the grouping columns as these coded rows are, if there are
-/// any.
-fn group_rows_by(
-    alloc: Global,
-    group: &Group,
-    rows: &RowSource,
-    coded: Option<&Columns>,
-    most: u64,
-) -> Result<Outcome, StepError>
-    requires few { length rows.now < 2 ^ 32 }
-    requires masks { HaveMasks (grouping_of group.now) }
-    requires coded { IfSome coded (λ c. AreAlike group.now.columns rows.now c.now) }
-    ensures outcome { IfOk result (λ o. outcome_of o ≡ spec.group_outcome (grouping_of group.now) rows.now) }
-    ensures within { IfOk result (λ o. has_more_rows most (outcome_of o) ≡ false) }
-    ensures too_many { result ≡ Err error.TooManyRows → has_more_rows most (spec.group_outcome (grouping_of group.now) rows.now) ≡ true }
-{
+    let numbers = column_numbers(alloc, rows, group.columns)?;
     let mut gathered = nothing(alloc);
-    let mut last = unsorted(alloc);
     for set in &group.sets {
-        add_set(
-            alloc,
-            group,
-            set,
-            rows,
-            coded,
-            &mut last,
-            most,
-            &mut gathered,
-        )?;
+        add_set(alloc, group, set, rows, &numbers, most, &mut gathered)?;
     }
     outcome_within(gathered, most)
 }
@@ -92,14 +54,12 @@ fn add_set(
     group: &Group,
     set: &[u16],
     rows: &RowSource,
-    coded: Option<&Columns>,
-    last: &mut Sorted,
+    numbers: &[Coding],
     most: u64,
     gathered: &mut Gathered,
 ) -> Result<(), OutOfMemory>
-    requires few { length rows.now < 2 ^ 32 }
     requires masks { HaveMasks (grouping_of group.now) }
-    requires coded { IfSome coded (λ c. AreAlike group.now.columns rows.now c.now) }
+    requires numbers { AreNumbersOfEach group.now.columns rows.now numbers.now }
     ensures { OnOk result ((results : List (Result table.Row faults.Fault)) → AreFirst most results gathered.old → AreFirst most (results ++ spec.set_rows (grouping_of group.now) rows.now set.now) gathered.new) }
 {
     if set.is_empty() {
@@ -107,28 +67,25 @@ fn add_set(
         let row = group_row(alloc, group, set, rows, 0, &all)?;
         return add(gathered, row, most);
     }
-    let found = set_groups(alloc, group.columns, set, rows, coded, last)?;
+    let found = set_groups(alloc, group.columns, set, rows, numbers)?;
     add_groups(alloc, group, set, rows, &found, most, gathered)
 }
 
-/// For each row those of its group under a set, by the coded rows where there are any.
+/// The groups of the rows under a set.
 fn set_groups(
     alloc: Global,
     columns: u16,
     set: &[u16],
     rows: &RowSource,
-    coded: Option<&Columns>,
-    last: &mut Sorted,
-) -> Result<Partitions, OutOfMemory>
-    requires few { length rows.now < 2 ^ 32 }
-    requires coded { IfSome coded (λ c. AreAlike columns rows.now c.now) }
-    ensures { IfOk result (λ v. AreGroups (set_class columns set.now) rows.now v) }
+    numbers: &[Coding],
+) -> Result<Groups, OutOfMemory>
+    requires numbers { AreNumbersOfEach columns rows.now numbers.now }
+    ensures { IfOk result (λ g. AreGroups (set_class columns set.now) rows.now g) }
 {
     let own = set_columns(alloc, columns, set)?;
-    match coded {
-        Some(coded) => partitions_by(alloc, &RowSource::of_columns(coded), &own, last),
-        None => partitions_by(alloc, rows, &own, last),
-    }
+    let joined = row_numbers(alloc, rows, numbers, &own)?;
+    let groups = groups_by(alloc, joined)?;
+    Ok(groups)
 }
 
 /// The columns of a set, of the first so many.
@@ -144,13 +101,13 @@ fn set_columns(alloc: Global, columns: u16, set: &[u16]) -> Result<Vec<u16>, Out
     Ok(found)
 }
 
-/// The rows of a set's groups, which are the partitions by its columns.
+/// The rows of a set's groups.
 fn add_groups(
     alloc: Global,
     group: &Group,
     set: &[u16],
     rows: &RowSource,
-    found: &Partitions,
+    found: &Groups,
     most: u64,
     gathered: &mut Gathered,
 ) -> Result<(), OutOfMemory>
@@ -158,44 +115,42 @@ fn add_groups(
     requires found { AreGroups (set_class group.now.columns set.now) rows.now found.now }
     ensures { OnOk result ((results : List (Result table.Row faults.Fault)) → AreFirst most results gathered.old → AreFirst most (results ++ sets.rows_from (grouping_of group.now) set.now rows.now (length rows.now)) gathered.new) }
 {
-    let mut marks = vec![in alloc; false; rows.len()]?;
     for position in 0..rows.len() {
-        add_group(
-            alloc, group, set, rows, found, position, &mut marks, most, gathered,
-        )?;
+        add_group(alloc, group, set, rows, found, position, most, gathered)?;
     }
     Ok(())
 }
 
-/// The row of the group whose first row is at a position, where there is one. The rows of the groups
-/// before it are marked.
+/// The row of the group whose first row is at a position, where there is one.
 fn add_group(
     alloc: Global,
     group: &Group,
     set: &[u16],
     rows: &RowSource,
-    found: &Partitions,
+    found: &Groups,
     position: usize,
-    marks: &mut [bool],
     most: u64,
     gathered: &mut Gathered,
 ) -> Result<(), OutOfMemory>
     requires masks { HaveMasks (grouping_of group.now) }
     requires found { AreGroups (set_class group.now.columns set.now) rows.now found.now }
     requires within { position < length rows.now }
-    requires marks { AreMarks (set_class group.now.columns set.now) rows.now position marks.old }
-    ensures marks { OnOk result (AreMarks (set_class group.now.columns set.now) rows.now (position + 1) marks.new) }
-    ensures gathered { OnOk result ((results : List (Result table.Row faults.Fault)) → AreFirst most results gathered.old → AreFirst most (results ++ sets.row_from (grouping_of group.now) set.now rows.now position) gathered.new) }
+    ensures { OnOk result ((results : List (Result table.Row faults.Fault)) → AreFirst most results gathered.old → AreFirst most (results ++ sets.row_from (grouping_of group.now) set.now rows.now position) gathered.new) }
 {
-    if marks[position] {
+    let own = found.own(position);
+    if !begins_at(own, position) {
         return Ok(());
     }
-    match found.member(position) {
-        Some(member) => {
-            mark(marks, member.positions);
-            let row = group_row(alloc, group, set, rows, position as u64, member.positions)?;
-            add(gathered, row, most)
-        }
-        None => Ok(()),
+    let row = group_row(alloc, group, set, rows, position as u64, own)?;
+    add(gathered, row, most)
+}
+
+/// Whether a position is the first of a list.
+fn begins_at(positions: &[u64], position: usize) -> bool
+    ensures { result ≡ sets.begins_at positions.now position }
+{
+    match positions.first() {
+        Some(first) => *first == position as u64,
+        None => false,
     }
 }

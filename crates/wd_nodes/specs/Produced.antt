@@ -67,24 +67,24 @@ shown_of (Err fault) = Err fault
 
 -- ---- steps over the outcomes below them
 
--- the most rows that a step may have
+-- the most rows that a step may have, where nothing less is asked for
 abbrev pub most_rows : ℕ
 most_rows = 10000000
 
--- an outcome of not too many rows, or the error that it has too many
-pub record IsSmall (expected found : RowsOrFault) : Type 0 where
+-- an outcome of at most so many rows
+pub record IsSmall (most : ℕ) (expected found : RowsOrFault) : Type 0 where
   pub is : found ≡ expected
-  pub small : has_more_rows most_rows expected ≡ false
+  pub small : has_more_rows most expected ≡ false
 
--- too many rows only where it has too many
-abbrev pub IsLarge : RowsOrFault → StepError → Type 0
-IsLarge expected TooManyRows = has_more_rows most_rows expected ≡ true
-IsLarge expected OutOfMemory = ⊤
+-- too many rows only where it has more
+abbrev pub IsLarge : ℕ → RowsOrFault → StepError → Type 0
+IsLarge most expected TooManyRows = has_more_rows most expected ≡ true
+IsLarge most expected OutOfMemory = ⊤
 
 -- that outcome, as the view of a value has it, or that error
-pub record IsSmallOrLarge {X : Type 0} (expected : RowsOrFault) (view : X → RowsOrFault) (r : Result X StepError) : Type 0 where
-  pub ok : IfOk r (λ x. IsSmall expected (view x))
-  pub refused : IfErr r (λ e. IsLarge expected e)
+pub record IsSmallOrLarge {X : Type 0} (most : ℕ) (expected : RowsOrFault) (view : X → RowsOrFault) (r : Result X StepError) : Type 0 where
+  pub ok : IfOk r (λ x. IsSmall most expected (view x))
+  pub refused : IfErr r (λ e. IsLarge most expected e)
 
 -- what a Join gives, of its condition and inputs in the code
 abbrev pub joined_of : Instance → Option Expr → Produced → Produced → RowsOrFault

@@ -1,9 +1,9 @@
 //! Each step of a plan over the outcomes below it, but for a Window and a Limit.
 
-ghost use Rattle.std.specs.Prelude.{◌≡◌, ◌↔◌, ◌<◌, ℕ, List, true, false, get_or, length, IfNone, IfOk, IfSome, IsTrue, map, None, Ok, Some};
+ghost use Rattle.std.specs.Prelude.{◌≡◌, ◌↔◌, ◌<◌, ◌^◌, ℕ, List, true, false, get_or, length, IfNone, IfOk, IfSome, IsTrue, map, None, Ok, Some};
 ghost use Rattle.wd_columns.specs.Moves.{AreDifferent};
 ghost use Rattle.wd_nodes.specs.Held.{read_at};
-ghost use Rattle.wd_nodes.specs.Produced.{IsSmallOrLarge, given_of, group_over, join_over, joined_of, most_rows, produced_of, side_of};
+ghost use Rattle.wd_nodes.specs.Produced.{IsSmallOrLarge, given_of, group_over, join_over, joined_of, produced_of, side_of};
 ghost use Rattle.wd_plan.specs.Expressions.{Column, expression_of};
 ghost use Rattle.wd_plan.specs.Faults.{and_then};
 ghost use Rattle.wd_plan.specs.Outcomes as spec;
@@ -26,30 +26,28 @@ use wd_steps::{
 };
 use wd_value::{OutOfMemory, Row};
 
-/// The largest number of rows of a step.
-const MOST_ROWS: u64 = 10_000_000;
-
-/// The table that is handed over, and else the one with this number, or the error that these are
-/// too many rows.
+/// The table that is handed over, and else the one with this number, or the error that these are more
+/// than `most` rows.
 pub fn scanned(
     tables: &[Vec<Row>],
     handed: Option<Columns>,
     table: u16,
+    most: u64,
 ) -> Result<Produced, StepError>
-    ensures { IsSmallOrLarge (Ok (read_at (instance_of tables.now) handed table)) (produced_of (instance_of tables.now)) result }
+    ensures { IsSmallOrLarge most (Ok (read_at (instance_of tables.now) handed table)) (produced_of (instance_of tables.now)) result }
 {
     let read = match handed {
         Some(columns) => Produced::ByColumn(columns),
         None => Produced::Table(table),
     };
-    if has_more(tables, &read, MOST_ROWS) {
+    if has_more(tables, &read, most) {
         return Err(StepError::TooManyRows);
     }
     Ok(read)
 }
 
 /// All pairs of a left and a right row for which the condition is true, or the error that there
-/// are too many. Without a condition they are not made yet, nor where the condition consists of
+/// are more than `most`. Without a condition they are not made yet, nor where the condition consists of
 /// equalities.
 pub fn joined(
     alloc: Global,
@@ -57,15 +55,16 @@ pub fn joined(
     condition: &Option<Expr>,
     left: Produced,
     right: Produced,
+    most: u64,
 ) -> Result<Produced, StepError>
-    ensures { IsSmallOrLarge (joined_of (instance_of instance.now) condition.now left right) (produced_of (instance_of instance.now)) result }
+    ensures { IsSmallOrLarge most (joined_of (instance_of instance.now) condition.now left right) (produced_of (instance_of instance.now)) result }
 {
     match condition {
         None => {
             let right = gathered(alloc, instance, right, 0)?;
-            pairs_of(alloc, instance, left, right)
+            pairs_of(alloc, instance, left, right, most)
         }
-        Some(condition) => joined_where(alloc, instance, condition, left, right),
+        Some(condition) => joined_where(alloc, instance, condition, left, right, most),
     }
 }
 
@@ -75,11 +74,12 @@ fn pairs_of(
     instance: &[Vec<Row>],
     left: Produced,
     right: Given,
+    most: u64,
 ) -> Result<Produced, StepError>
-    ensures { IsSmallOrLarge (join_over None (produced_of (instance_of instance.now) left) (given_of (instance_of instance.now) right)) (produced_of (instance_of instance.now)) result }
+    ensures { IsSmallOrLarge most (join_over None (produced_of (instance_of instance.now) left) (given_of (instance_of instance.now) right)) (produced_of (instance_of instance.now)) result }
 {
     let pairs = Produced::Pairs(Box::new(alloc, left)?, right);
-    if has_more(instance, &pairs, MOST_ROWS) {
+    if has_more(instance, &pairs, most) {
         Err(StepError::TooManyRows)
     } else {
         Ok(pairs)
@@ -93,15 +93,16 @@ fn joined_where(
     condition: &Expr,
     left: Produced,
     right: Produced,
+    most: u64,
 ) -> Result<Produced, StepError>
-    ensures { IsSmallOrLarge (join_over (Some (expression_of condition.now)) (produced_of (instance_of instance.now) left) (produced_of (instance_of instance.now) right)) (produced_of (instance_of instance.now)) result }
+    ensures { IsSmallOrLarge most (join_over (Some (expression_of condition.now)) (produced_of (instance_of instance.now) left) (produced_of (instance_of instance.now) right)) (produced_of (instance_of instance.now)) result }
 {
     let left = narrowed_side(alloc, instance, condition, left)?;
     let right = side_from(alloc, instance, right)?;
     match (left, right) {
         (Err(fault), _) => Ok(Produced::Made(Outcome::Fault(fault))),
         (Ok(_), Err(fault)) => Ok(Produced::Made(Outcome::Fault(fault))),
-        (Ok(left), Ok(right)) => joined_sides(alloc, instance, condition, left, right),
+        (Ok(left), Ok(right)) => joined_sides(alloc, instance, condition, left, right, most),
     }
 }
 
@@ -112,20 +113,21 @@ fn joined_sides(
     condition: &Expr,
     left: Side,
     right: Side,
+    most: u64,
 ) -> Result<Produced, StepError>
-    ensures { IsSmallOrLarge (spec.join_outcome (Some (expression_of condition.now)) (spec.pairs (side_of (instance_of instance.now) left) (side_of (instance_of instance.now) right))) (produced_of (instance_of instance.now)) result }
+    ensures { IsSmallOrLarge most (spec.join_outcome (Some (expression_of condition.now)) (spec.pairs (side_of (instance_of instance.now) left) (side_of (instance_of instance.now) right))) (produced_of (instance_of instance.now)) result }
 {
     let found = equal_pairs(
         alloc,
         condition,
         &source(&left, instance),
         &source(&right, instance),
-        MOST_ROWS,
+        most,
     )?;
     match found {
         Some(pairs) => Ok(Produced::Joined(left, right, pairs)),
         None => {
-            let outcome = joined_lists(alloc, instance, condition, left, right)?;
+            let outcome = joined_lists(alloc, instance, condition, left, right, most)?;
             Ok(Produced::Made(outcome))
         }
     }
@@ -138,8 +140,9 @@ fn joined_lists(
     condition: &Expr,
     left: Side,
     right: Side,
+    most: u64,
 ) -> Result<Outcome, StepError>
-    ensures { IsSmallOrLarge (spec.join_outcome (Some (expression_of condition.now)) (spec.pairs (side_of (instance_of instance.now) left) (side_of (instance_of instance.now) right))) outcome_of result }
+    ensures { IsSmallOrLarge most (spec.join_outcome (Some (expression_of condition.now)) (spec.pairs (side_of (instance_of instance.now) left) (side_of (instance_of instance.now) right))) outcome_of result }
 {
     let left = list_from(alloc, left)?;
     let right = list_from(alloc, right)?;
@@ -148,7 +151,7 @@ fn joined_lists(
         Some(condition),
         rows_in(&left, instance),
         rows_in(&right, instance),
-        MOST_ROWS,
+        most,
     )?;
     Ok(outcome)
 }
@@ -336,25 +339,27 @@ fn mapped_rows(
     }
 }
 
-/// The rows of a Group's sets over the input's rows, or the error that there are too many.
+/// The rows of a Group's sets over the input's rows, or the error that there are more than `most`.
 pub fn grouped(
     alloc: Global,
     instance: &[Vec<Row>],
     group: &Group,
     input: Produced,
+    most: u64,
 ) -> Result<Outcome, StepError>
-    requires small { has_more_rows most_rows (produced_of (instance_of instance.now) input) ≡ false }
+    requires few { most < 2 ^ 32 }
+    requires small { has_more_rows most (produced_of (instance_of instance.now) input) ≡ false }
     requires masks { HaveMasks (grouping_of group.now) }
-    ensures { IsSmallOrLarge (group_over (grouping_of group.now) (produced_of (instance_of instance.now) input)) outcome_of result }
+    ensures { IsSmallOrLarge most (group_over (grouping_of group.now) (produced_of (instance_of instance.now) input)) outcome_of result }
 {
     match input {
         Produced::ByColumn(columns) => {
-            let outcome = group_rows(alloc, group, &RowSource::of_columns(&columns), MOST_ROWS)?;
+            let outcome = group_rows(alloc, group, &RowSource::of_columns(&columns), most)?;
             Ok(outcome)
         }
         other => {
             let given = gathered(alloc, instance, other, 0)?;
-            grouped_rows(alloc, instance, group, &given)
+            grouped_rows(alloc, instance, group, &given, most)
         }
     }
 }
@@ -365,15 +370,17 @@ fn grouped_rows(
     instance: &[Vec<Row>],
     group: &Group,
     input: &Given,
+    most: u64,
 ) -> Result<Outcome, StepError>
-    requires small { has_more_rows most_rows (given_of (instance_of instance.now) input.now) ≡ false }
+    requires few { most < 2 ^ 32 }
+    requires small { has_more_rows most (given_of (instance_of instance.now) input.now) ≡ false }
     requires masks { HaveMasks (grouping_of group.now) }
-    ensures { IsSmallOrLarge (group_over (grouping_of group.now) (given_of (instance_of instance.now) input.now)) outcome_of result }
+    ensures { IsSmallOrLarge most (group_over (grouping_of group.now) (given_of (instance_of instance.now) input.now)) outcome_of result }
 {
     match shown(input, instance) {
         Err(fault) => Ok(Outcome::Fault(fault)),
         Ok(rows) => {
-            let outcome = group_rows(alloc, group, &RowSource::of_rows(rows), MOST_ROWS)?;
+            let outcome = group_rows(alloc, group, &RowSource::of_rows(rows), most)?;
             Ok(outcome)
         }
     }

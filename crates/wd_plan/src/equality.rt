@@ -53,7 +53,7 @@ impl Expr {
     }
 
     /// Whether two expressions are one and the same tree. A literal's kind counts, and a CASE within ELSE is another tree
-    /// than a further branch.
+    /// than a further branch. The left operands come last: a compiler makes a loop of that call.
     pub fn same(&self, other: &Expr) -> bool
         ensures { result ≡ spec.same_expression (expression_of self.now) (expression_of other.now) }
     {
@@ -63,14 +63,14 @@ impl Expr {
                 && same_kind(*kind, *other),
             (Expr::Negate(a), Expr::Negate(b)) => a.same(b),
             (Expr::Arithmetic(op, a, b), Expr::Arithmetic(other, c, d)) => {
-                *op == *other && (a.same(c) && b.same(d))
+                *op == *other && (b.same(d) && a.same(c))
             }
             (Expr::Compare(op, a, b), Expr::Compare(other, c, d)) => {
-                *op == *other && (a.same(c) && b.same(d))
+                *op == *other && (b.same(d) && a.same(c))
             }
             (Expr::Not(a), Expr::Not(b)) => a.same(b),
-            (Expr::And(a, b), Expr::And(c, d)) => a.same(c) && b.same(d),
-            (Expr::Or(a, b), Expr::Or(c, d)) => a.same(c) && b.same(d),
+            (Expr::And(a, b), Expr::And(c, d)) => b.same(d) && a.same(c),
+            (Expr::Or(a, b), Expr::Or(c, d)) => b.same(d) && a.same(c),
             (Expr::IsNull(a), Expr::IsNull(b)) => a.same(b),
             (Expr::IsNotNull(a), Expr::IsNotNull(b)) => a.same(b),
             (Expr::Case(branch, a, b, c), Expr::Case(other, x, y, z)) => {

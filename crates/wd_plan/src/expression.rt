@@ -38,7 +38,7 @@ pub enum Branch {
 }
 
 /// A scalar expression over the columns of a row, which are counted from 0.
-#[derive(Debug, Drop)]
+#[derive(Debug)]
 pub enum Expr {
     Column(u16),
     /// A literal, NULL too, with its kind.
@@ -54,4 +54,25 @@ pub enum Expr {
     /// A branch of a CASE: the first part is its condition, the second its result, the third the rest, which is the
     /// next branch or what ELSE gives.
     Case(Branch, Box<Expr>, Box<Expr>, Box<Expr>),
+}
+
+/// Lets go along the left side, and along the branches of a CASE, by a loop: a chain of operators is as deep as it is long.
+impl Drop for Expr {
+    fn drop(mut self) {
+        loop {
+            match self {
+                Expr::Column(_) => return,
+                Expr::Literal(_, _) => return,
+                Expr::Negate(a) => self = Box::into_inner(a),
+                Expr::Arithmetic(_, a, _) => self = Box::into_inner(a),
+                Expr::Compare(_, a, _) => self = Box::into_inner(a),
+                Expr::Not(a) => self = Box::into_inner(a),
+                Expr::And(a, _) => self = Box::into_inner(a),
+                Expr::Or(a, _) => self = Box::into_inner(a),
+                Expr::IsNull(a) => self = Box::into_inner(a),
+                Expr::IsNotNull(a) => self = Box::into_inner(a),
+                Expr::Case(_, _, _, rest) => self = Box::into_inner(rest),
+            }
+        }
+    }
 }

@@ -290,40 +290,41 @@ impl Expr {
         self.source().kind(input, schema)
     }
 
-    /// Whether each operand is of the kind that its place asks for.
+    /// Whether each operand is of the kind that its place asks for. The left one comes last: a compiler makes
+    /// a loop of that call, so that a long chain takes no stack.
     fn is_typed(&self, input: &Plan, schema: &Schema) -> bool
         ensures { result ≡ spec.is_typed (spec.kinds_of (schema_of schema.now) (plan_of input.now)) (expression_of self.now) }
     {
         match self {
             Expr::Column(c) => input.kind(*c, schema).is_some(),
             Expr::Literal(value, kind) => is_of_kind(*kind, value),
-            Expr::Negate(a) => a.is_typed(input, schema)
-                && a.is_of(ValueKind::Number, input, schema),
+            Expr::Negate(a) => a.is_of(ValueKind::Number, input, schema)
+                && a.is_typed(input, schema),
             Expr::Arithmetic(_, a, b) => {
-                a.is_typed(input, schema)
-                    && a.is_of(ValueKind::Number, input, schema)
-                    && b.is_typed(input, schema)
+                a.is_of(ValueKind::Number, input, schema)
                     && b.is_of(ValueKind::Number, input, schema)
+                    && b.is_typed(input, schema)
+                    && a.is_typed(input, schema)
             }
             Expr::Compare(_, a, b) => {
-                a.is_typed(input, schema)
+                a.is_like(b, input, schema)
                     && b.is_typed(input, schema)
-                    && a.is_like(b, input, schema)
+                    && a.is_typed(input, schema)
             }
-            Expr::Not(a) => a.is_typed(input, schema) && a.is_of(ValueKind::Truth, input, schema),
+            Expr::Not(a) => a.is_of(ValueKind::Truth, input, schema) && a.is_typed(input, schema),
             Expr::And(a, b) | Expr::Or(a, b) => {
-                a.is_typed(input, schema)
-                    && a.is_of(ValueKind::Truth, input, schema)
-                    && b.is_typed(input, schema)
+                a.is_of(ValueKind::Truth, input, schema)
                     && b.is_of(ValueKind::Truth, input, schema)
+                    && b.is_typed(input, schema)
+                    && a.is_typed(input, schema)
             }
             Expr::IsNull(a) | Expr::IsNotNull(a) => a.is_typed(input, schema),
             Expr::Case(_, a, b, c) => {
-                a.is_typed(input, schema)
-                    && a.is_of(ValueKind::Truth, input, schema)
+                a.is_of(ValueKind::Truth, input, schema)
+                    && b.is_like(c, input, schema)
+                    && a.is_typed(input, schema)
                     && b.is_typed(input, schema)
                     && c.is_typed(input, schema)
-                    && b.is_like(c, input, schema)
             }
         }
     }

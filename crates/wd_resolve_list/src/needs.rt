@@ -18,7 +18,7 @@ use crate::output::Output;
 use crate::places::{column_read, group_place};
 use std::alloc::Global;
 use std::rc::Rc;
-use wd_resolve_operand::Formula;
+use wd_resolve_operand::{Formula, leaves_of};
 use wd_resolve_scope::{GroupCall, MOST_COLUMNS, RowLeaf, SelectLeaf, WindowCall};
 use wd_value::OutOfMemory;
 
@@ -65,25 +65,11 @@ impl Needs {
     pub fn add(&mut self, alloc: Global, formula: &Formula<SelectLeaf>) -> Result<(), OutOfMemory>
         ensures { IfOk result (λ u. needs_shown self.new ≡ needs_with (needs_shown self.old) (leaves (formula_of formula.now))) }
     {
-        match formula {
-            Formula::Leaf(leaf) => self.add_leaf(alloc, leaf),
-            Formula::Literal(_, _) => Ok(()),
-            Formula::Negate(a) | Formula::Not(a) | Formula::IsNull(a) | Formula::IsNotNull(a) => {
-                self.add(alloc, a)
-            }
-            Formula::Arithmetic(_, a, b)
-            | Formula::Compare(_, a, b)
-            | Formula::And(a, b)
-            | Formula::Or(a, b) => {
-                self.add(alloc, a)?;
-                self.add(alloc, b)
-            }
-            Formula::Case(_, a, b, c) => {
-                self.add(alloc, a)?;
-                self.add(alloc, b)?;
-                self.add(alloc, c)
-            }
+        let leaves = leaves_of(alloc, formula)?;
+        for leaf in leaves.as_slice() {
+            self.add_leaf(alloc, leaf)?;
         }
+        Ok(())
     }
 
     /// Adds the leaves of outputs.

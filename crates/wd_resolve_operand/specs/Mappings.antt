@@ -1,5 +1,7 @@
 -- Expressions over leaves, made anew of what becomes of each leaf.
-use Rattle.std.specs.Prelude.{◌≡◌, ℕ, ◌+◌, List, [], ◌∷◌, Result, Ok, Err}
+use Rattle.std.specs.Prelude.{◌≡◌, ℕ, ◌+◌, List, [], ◌∷◌, ◌++◌, Option, Some, None, Result, Ok, Err}
+use Rattle.std.proofs.Common.{Bor}
+use Rattle.std.specs.List.{sum_by}
 use Rattle.wd_value.specs.declared.value.Value.{Value}
 use Rattle.wd_plan.specs.declared.expression.ValueKind.{ValueKind}
 use Rattle.wd_plan.specs.declared.expression.Branch.{Branch}
@@ -17,7 +19,7 @@ use Rattle.wd_resolve_operand.specs.declared.walk.Step.{Step}
 use Rattle.wd_resolve_operand.specs.declared.walk.Step.TheVariants as step
 use Rattle.wd_resolve_operand.specs.Causes.{Fails, Meant, ◌>>=◌}
 use Rattle.wd_resolve_operand.specs.Formulas as f
-use Rattle.wd_resolve_operand.specs.Formulas.{Formula, formula_of}
+use Rattle.wd_resolve_operand.specs.Formulas.{Formula, formula_of, leaves}
 
 -- how trees are made of their parts
 pub record Making (T : Type 0) : Type 0 where
@@ -135,3 +137,19 @@ module _ {K L T : Type 0} (read : K → L) where
   abbrev pub steps_left : Step K T → ℕ
   steps_left (step.Made tree) = 0
   steps_left (step.Into outer part) = part_steps read part.now + pending_steps outer
+
+-- ---- leaves
+
+-- the leaf that was met, if one was
+abbrev pub leaf_or_none : {K L : Type 0} → (K → L) → Option (Bor K) → List L
+leaf_or_none shown None = []
+leaf_or_none shown (Some k) = shown k.now ∷ []
+
+-- the leaves of the expressions that wait, the last one first
+abbrev pub waiting : {K L : Type 0} → (K → L) → List (Bor (Code K)) → List L
+waiting shown [] = []
+waiting shown (f ∷ fs) = waiting shown fs ++ leaves (formula_of shown f.now)
+
+-- how many steps they take
+abbrev pub waiting_steps : {K L : Type 0} → (K → L) → List (Bor (Code K)) → ℕ
+waiting_steps shown fs = sum_by (λ f. part_steps shown f.now) fs

@@ -21,7 +21,6 @@ pub trait Leaf: Drop {
 }
 
 /// An expression, as one of a plan (`Expr`), with leaves in the place of columns.
-#[derive(Drop)]
 pub enum Formula<L> {
     Leaf(L),
     /// A literal, NULL too, with its kind.
@@ -38,9 +37,30 @@ pub enum Formula<L> {
     Case(Branch, Box<Formula<L>>, Box<Formula<L>>, Box<Formula<L>>),
 }
 
+/// Lets go along the left side, and along the branches of a CASE, by a loop: a chain of operators is as deep as it is long.
+impl<L: Drop> Drop for Formula<L> {
+    fn drop(mut self) {
+        loop {
+            match self {
+                Formula::Leaf(_) => return,
+                Formula::Literal(_, _) => return,
+                Formula::Negate(a) => self = Box::into_inner(a),
+                Formula::Arithmetic(_, a, _) => self = Box::into_inner(a),
+                Formula::Compare(_, a, _) => self = Box::into_inner(a),
+                Formula::Not(a) => self = Box::into_inner(a),
+                Formula::And(a, _) => self = Box::into_inner(a),
+                Formula::Or(a, _) => self = Box::into_inner(a),
+                Formula::IsNull(a) => self = Box::into_inner(a),
+                Formula::IsNotNull(a) => self = Box::into_inner(a),
+                Formula::Case(_, _, _, rest) => self = Box::into_inner(rest),
+            }
+        }
+    }
+}
+
 impl<L: Leaf> Formula<L> {
     /// Whether two expressions are one and the same tree. A literal's kind counts, and a CASE within ELSE is another tree
-    /// than a further branch.
+    /// than a further branch. The left operands come last: a compiler makes a loop of that call.
     pub fn same(&self, other: &Formula<L>) -> bool
         ensures { result ≡ spec.same_formula L.alike (formula_of L.shown self.now) (formula_of L.shown other.now) }
     {
@@ -50,14 +70,14 @@ impl<L: Leaf> Formula<L> {
                 && same_kind(*kind, *other),
             (Formula::Negate(a), Formula::Negate(b)) => a.same(b),
             (Formula::Arithmetic(op, a, b), Formula::Arithmetic(other, c, d)) => {
-                *op == *other && (a.same(c) && b.same(d))
+                *op == *other && (b.same(d) && a.same(c))
             }
             (Formula::Compare(op, a, b), Formula::Compare(other, c, d)) => {
-                *op == *other && (a.same(c) && b.same(d))
+                *op == *other && (b.same(d) && a.same(c))
             }
             (Formula::Not(a), Formula::Not(b)) => a.same(b),
-            (Formula::And(a, b), Formula::And(c, d)) => a.same(c) && b.same(d),
-            (Formula::Or(a, b), Formula::Or(c, d)) => a.same(c) && b.same(d),
+            (Formula::And(a, b), Formula::And(c, d)) => b.same(d) && a.same(c),
+            (Formula::Or(a, b), Formula::Or(c, d)) => b.same(d) && a.same(c),
             (Formula::IsNull(a), Formula::IsNull(b)) => a.same(b),
             (Formula::IsNotNull(a), Formula::IsNotNull(b)) => a.same(b),
             (Formula::Case(branch, a, b, c), Formula::Case(other, x, y, z)) => {

@@ -3,6 +3,7 @@
 
 mod cause;
 mod formula;
+mod leaves;
 mod literals;
 mod maker;
 mod mapping;
@@ -12,6 +13,7 @@ mod walk;
 
 pub use cause::{Cause, ResolveError};
 pub use formula::{Formula, Leaf};
+pub use leaves::leaves_of;
 pub use literals::{literal, number, signed_number};
 pub use mapping::{ColumnMap, LeafMap, over_columns, over_leaves};
 pub use meaning::Meaning;

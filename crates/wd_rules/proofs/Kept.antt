@@ -9,7 +9,7 @@ use Rattle.wd_certificate.specs.declared.certificate.Target.{Target}
 use Rattle.wd_certificate.specs.declared.certificate.Target.TheVariants as target
 use Rattle.wd_certificate.specs.declared.error.CertError.{CertError}
 use Rattle.wd_certificate.specs.declared.error.CertError.TheVariants.{OutOfRange, UnreachedClaim}
-use Rattle.wd_facts.specs.Facts.{columns_named, FactList, Paired, Same, Holds, is_plain, is_plain_fact}
+use Rattle.wd_step_facts.specs.Facts.{columns_named, FactList, Paired, Same, Holds, is_plain, is_plain_fact}
 use Rattle.wd_facts.specs.Laws.{AreKept, ArePlain}
 use Rattle.wd_facts.proofs.Nodes.{unpaired_hold}
 use Rattle.wd_facts.proofs.Sides.{HasSides}

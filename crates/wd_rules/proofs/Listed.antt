@@ -11,7 +11,7 @@ use Rattle.wd_plan.specs.Outcomes.{outcome}
 use Rattle.wd_plan.specs.Plans.{PlanTree, Scan, Join, Filter, Map, Window, Distinct, Group, Limit}
 use Rattle.wd_plan.specs.Sorting.{limit_class, order_columns}
 use Rattle.wd_certificate.specs.Certificates.{NodeRecord}
-use Rattle.wd_facts.specs.Facts.{unpaired}
+use Rattle.wd_step_facts.specs.Facts.{unpaired}
 use Rattle.wd_facts.specs.Laws.{Known}
 use Rattle.wd_rules.specs.Lists.{IsListedPlan, ListedHasOne, final_limit, goes_by_keys}
 use Rattle.wd_rules.specs.Validity.{given_at, nodes_refusal, top_at, top_number, top_refusal}

@@ -20,10 +20,10 @@ use Rattle.wd_plan.proofs.Ranges.{IsSound}
 use Rattle.wd_certificate.specs.declared.certificate.Rule.{Rule}
 use Rattle.wd_certificate.specs.declared.certificate.Rule.TheVariants as rule
 use Rattle.wd_certificate.specs.declared.error.CertError.TheVariants.{SecondExchange, UnjustifiedCall, UnjustifiedLimit}
-use Rattle.wd_facts.specs.declared.facts.Member.{Member}
-use Rattle.wd_facts.specs.declared.facts.Member.TheVariants as member
-use Rattle.wd_facts.specs.Facts.{FactList, Paired, Same, columns_named, unpaired}
-use Rattle.wd_facts.specs.Given.{all_columns}
+use Rattle.wd_step_facts.specs.declared.facts.Member.{Member}
+use Rattle.wd_step_facts.specs.declared.facts.Member.TheVariants as member
+use Rattle.wd_step_facts.specs.Facts.{FactList, Paired, Same, columns_named, unpaired}
+use Rattle.wd_step_facts.specs.Steps.{all_columns}
 use Rattle.wd_facts.proofs.Embeds.{wide_at}
 use Rattle.wd_facts.proofs.Keys.{named_same}
 use Rattle.wd_facts.proofs.Lists.{range_pick}

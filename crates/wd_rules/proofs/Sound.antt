@@ -18,9 +18,9 @@ use Rattle.wd_laws.proofs.TheLaws.{plan_has_one}
 use Rattle.wd_certificate.specs.Certificates.{CertificateRecord, NodeRecord}
 use Rattle.wd_certificate.specs.declared.error.CertError.{CertError}
 use Rattle.wd_certificate.specs.declared.error.CertError.TheVariants.{Version}
-use Rattle.wd_facts.specs.declared.facts.Member.TheVariants as member
-use Rattle.wd_facts.specs.Facts.{Fact, FactList, Holds, Paired, PairsRows, beside, unpaired}
-use Rattle.wd_facts.specs.Given.{calls_facts}
+use Rattle.wd_step_facts.specs.declared.facts.Member.TheVariants as member
+use Rattle.wd_step_facts.specs.Facts.{Fact, FactList, Holds, Paired, PairsRows, beside, unpaired}
+use Rattle.wd_step_facts.specs.Steps.{calls_facts}
 use Rattle.wd_facts.specs.Laws.{AreKept, ChildrenKeep, InPairs, InRows, Known}
 use Rattle.wd_facts.proofs.Embeds.{hold_moved, same_facts}
 use Rattle.wd_facts.proofs.GivenHolds.{given_facts_hold, known_holds}

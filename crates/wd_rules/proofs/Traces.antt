@@ -5,9 +5,9 @@ use Rattle.std.proofs.lemmas.Bool.{eqb-true, or_cases, and_parts, false≢true, 
 use Rattle.wd_value.specs.Rows.{column_of, row_at}
 use Rattle.wd_certificate.specs.Certificates.{TraceRecord}
 use Rattle.wd_certificate.specs.declared.error.CertError.TheVariants.{OutOfRange, UnreachedUse}
-use Rattle.wd_facts.specs.declared.facts.Member.{Member}
-use Rattle.wd_facts.specs.declared.facts.Member.TheVariants.{Column, Left, Right, Row}
-use Rattle.wd_facts.specs.Facts.{Fact, FactList, Paired, Same, Holds, columns_named}
+use Rattle.wd_step_facts.specs.declared.facts.Member.{Member}
+use Rattle.wd_step_facts.specs.declared.facts.Member.TheVariants.{Column, Left, Right, Row}
+use Rattle.wd_step_facts.specs.Facts.{Fact, FactList, Paired, Same, Holds, columns_named}
 use Rattle.wd_facts.proofs.Sides.{HasSides}
 use Rattle.wd_sets.specs.Sets.{is_in, same_member, stands_in}
 use Rattle.wd_rules.specs.Rules.{trace_or}

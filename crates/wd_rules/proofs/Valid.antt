@@ -16,10 +16,10 @@ use Rattle.wd_certificate.specs.declared.certificate.Rule.{Rule}
 use Rattle.wd_certificate.specs.declared.certificate.Rule.TheVariants as rule
 use Rattle.wd_certificate.specs.declared.error.CertError.{CertError}
 use Rattle.wd_certificate.specs.declared.error.CertError.TheVariants as refused
-use Rattle.wd_facts.specs.declared.facts.Member.{Member}
-use Rattle.wd_facts.specs.declared.facts.Member.TheVariants as member
-use Rattle.wd_facts.specs.Facts.{Fact, FactList, columns_named}
-use Rattle.wd_facts.specs.Given.{all_columns}
+use Rattle.wd_step_facts.specs.declared.facts.Member.{Member}
+use Rattle.wd_step_facts.specs.declared.facts.Member.TheVariants as member
+use Rattle.wd_step_facts.specs.Facts.{Fact, FactList, columns_named}
+use Rattle.wd_step_facts.specs.Steps.{all_columns}
 use Rattle.wd_sets.specs.Reaches.{also, reaches_each}
 use Rattle.wd_sets.specs.Sets.{is_in, stands_in}
 use Rattle.wd_rules.specs.Justified.{AreGood, AreJustified, Gives, HasOneExchange, HasRules, IsGoodTrace, IsJustified, IsJustifiedLimit, IsKept, after_uses, right_side, trace_has}

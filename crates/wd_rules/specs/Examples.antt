@@ -18,7 +18,7 @@ use Rattle.wd_certificate.specs.declared.certificate.Target.{Target}
 use Rattle.wd_certificate.specs.declared.certificate.Target.TheVariants as target
 use Rattle.wd_certificate.specs.declared.certificate.Version.TheVariants.{One, Two}
 use Rattle.wd_certificate.specs.declared.error.CertError.TheVariants as refused
-use Rattle.wd_facts.specs.declared.facts.Member.TheVariants as member
+use Rattle.wd_step_facts.specs.declared.facts.Member.TheVariants as member
 use Rattle.wd_rules.specs.Validity.{IsValidCertificate, first_refusal, given_at}
 
 abbrev pub column : ColumnType → Bool → TableColumn

@@ -7,8 +7,8 @@ use Rattle.wd_laws.specs.examples.Literals.{scan_t, select}
 use Rattle.wd_certificate.specs.Certificates.{NodeRecord}
 use Rattle.wd_certificate.specs.declared.certificate.Rule.TheVariants.{Peers, Unique}
 use Rattle.wd_certificate.specs.declared.error.CertError.TheVariants as refused
-use Rattle.wd_facts.specs.declared.facts.Member.TheVariants as member
-use Rattle.wd_facts.specs.Facts.{key_fact}
+use Rattle.wd_step_facts.specs.declared.facts.Member.TheVariants as member
+use Rattle.wd_step_facts.specs.Facts.{key_fact}
 use Rattle.wd_rules.specs.Examples.{keeps_row, nothing, of_table, rules, schema, trace, version_1, version_2}
 use Rattle.wd_rules.specs.Validity.{IsValidCertificate, first_refusal, given_at}
 

@@ -4,8 +4,8 @@ use Rattle.std.specs.List.{list_all}
 use Rattle.wd_certificate.specs.Certificates.{TraceRecord}
 use Rattle.wd_certificate.specs.declared.error.CertError.{CertError}
 use Rattle.wd_certificate.specs.declared.error.CertError.TheVariants.{UnreachedUse, OutOfRange}
-use Rattle.wd_facts.specs.declared.facts.Member.{Member}
-use Rattle.wd_facts.specs.Facts.{Fact, FactList, columns_named}
+use Rattle.wd_step_facts.specs.declared.facts.Member.{Member}
+use Rattle.wd_step_facts.specs.Facts.{Fact, FactList, columns_named}
 use Rattle.wd_sets.specs.Reaches.{also, reaches_each}
 use Rattle.wd_sets.specs.Sets.{stands_in}
 

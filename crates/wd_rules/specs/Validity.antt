@@ -9,7 +9,7 @@ use Rattle.wd_certificate.specs.declared.certificate.Version.{Version}
 use Rattle.wd_certificate.specs.declared.certificate.Version.TheVariants.{One, Two}
 use Rattle.wd_certificate.specs.declared.error.CertError.{CertError}
 use Rattle.wd_certificate.specs.declared.error.CertError.TheVariants as refused
-use Rattle.wd_facts.specs.Facts.{Fact, FactList}
+use Rattle.wd_step_facts.specs.Facts.{Fact, FactList}
 use Rattle.wd_facts.specs.Given.{given}
 use Rattle.wd_rules.specs.Justified.{HasRules, IsGoodTrace, IsKept}
 use Rattle.wd_rules.specs.Rules.{entry_refusal, kept_facts, or_else, refuse_unless}

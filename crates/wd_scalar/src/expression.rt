@@ -138,7 +138,8 @@ fn applied_to(
     }
 }
 
-/// Whether some operation on whole numbers stands in the expression. Without one it has no fault.
+/// Whether some operation on whole numbers stands in the expression. Without one it has no fault. The left operand comes last: a
+/// compiler makes a loop of that call.
 pub fn has_arithmetic(expression: &Expr) -> bool
     ensures { result ≡ faults.has_arithmetic (expression_of expression.now) }
 {
@@ -146,7 +147,7 @@ pub fn has_arithmetic(expression: &Expr) -> bool
         Expr::Column(_) | Expr::Literal(..) => false,
         Expr::Negate(_) | Expr::Arithmetic(..) => true,
         Expr::Compare(_, a, b) | Expr::And(a, b) | Expr::Or(a, b) => {
-            has_arithmetic(a) || has_arithmetic(b)
+            has_arithmetic(b) || has_arithmetic(a)
         }
         Expr::Not(a) | Expr::IsNull(a) | Expr::IsNotNull(a) => has_arithmetic(a),
         Expr::Case(_, a, b, c) => has_arithmetic(a) || has_arithmetic(b) || has_arithmetic(c),

@@ -1,9 +1,9 @@
 -- What is reached with members: a side of a Join brings its columns, both bring the row, and the row brings every column.
 use Rattle.std.specs.Prelude.{ℕ, Bool, false, ◌&&◌, ◌||◌, List, nat_lt, nat_le, Option, Some, None}
 use Rattle.std.specs.List.{list_all}
-use Rattle.wd_facts.specs.declared.facts.Member.{Member}
-use Rattle.wd_facts.specs.declared.facts.Member.TheVariants.{Column, Left, Right, Row}
-use Rattle.wd_facts.specs.Facts.{FactList}
+use Rattle.wd_step_facts.specs.declared.facts.Member.{Member}
+use Rattle.wd_step_facts.specs.declared.facts.Member.TheVariants.{Column, Left, Right, Row}
+use Rattle.wd_step_facts.specs.Facts.{FactList}
 use Rattle.wd_sets.specs.Sets.{stands_in}
 
 -- both sides bring the row

@@ -1,7 +1,7 @@
 //! Sets of members.
 
 ghost use Rattle.std.specs.Prelude.{◌≡◌, ◌<◌, ◌/◌, ℕ, false, not, ◌||◌, nat_eq, length, IfOk, IfErr, get_or};
-ghost use Rattle.wd_facts.specs.declared.facts.Member.{Member as AMember};
+ghost use Rattle.wd_step_facts.specs.declared.facts.Member.{Member as AMember};
 ghost use Rattle.wd_sets.specs.Sets.{same_member};
 ghost use Rattle.wd_sets.specs.Sets as spec;
 

@@ -12,7 +12,7 @@ use Rattle.wd_value.specs.declared.order.SortColumn.{SortColumn}
 use Rattle.wd_value.specs.declared.value.Value.{Value}
 use Rattle.wd_sort.specs.declared.known.Known.{Known}
 use Rattle.wd_sort.specs.Codes.{ArePairs, AreWhole, IsCodingBelow, pair_code, whole_code}
-use Rattle.wd_sort.specs.Known.{AreNumbers, IsAt}
+use Rattle.wd_sort.specs.Known.{AreKnown, AreNumbers, IsAt}
 use Rattle.wd_sort.specs.Ranks.{AreRanks}
 use Rattle.wd_sort.proofs.WholeCodes.{whole_code_below, whole_codes_compare}
 
@@ -57,10 +57,10 @@ module _ (rows : List Row) (given : List ℕ) where
         ∙ then_none _;
   }
 
-  pub coding_of_ranks : (column : SortColumn) (known : Known) (numbers ranks codes : List ℕ) (bound : ℕ) → AreNumbers known column.column rows given numbers → AreRanks column.key known.values.items ranks → codes ≡ map (λ n. get_or ranks n 0) numbers → bound ≡ length ranks
+  pub coding_of_ranks : (column : SortColumn) (known : Known) (numbers ranks codes : List ℕ) (bound : ℕ) → AreKnown known → AreNumbers known column.column rows given numbers → AreRanks column.key known.values.items ranks → codes ≡ map (λ n. get_or ranks n 0) numbers → bound ≡ length ranks
       → IsCodingBelow (column ∷ []) rows given bound codes
-  coding_of_ranks column known numbers ranks codes bound are r codes_are bound_is =
-      let at : (k : ℕ) → k < length given → IsAt known (get_or numbers k 0) (value_at column k) = are.each in
+  coding_of_ranks column known numbers ranks codes bound all are r codes_are bound_is =
+      let at : (k : ℕ) → k < length given → IsAt known (get_or numbers k 0) (value_at column k) = λ k low. all (value_at column k) (get_or numbers k 0) (are.each k low) in
       let code : (k : ℕ) → k < length given → get_or codes k 0 ≡ get_or ranks (get_or numbers k 0) 0 = λ k low. (let long = are.long in ap (λ l. get_or l k 0) codes_are ∙ get_or-map (λ n. get_or ranks n 0) numbers k 0 0 (omega arith)) in
       record {
         long = ap length codes_are ∙ length-map numbers (λ n. get_or ranks n 0) ∙ are.long;

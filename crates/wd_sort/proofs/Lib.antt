@@ -8,3 +8,4 @@ pub mod Knowing
 pub mod Codings
 pub mod TwoSorts
 pub mod AllCodings
+pub mod Telling

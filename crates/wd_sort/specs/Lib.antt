@@ -3,3 +3,4 @@ pub mod Codes
 pub mod Ranks
 pub mod Known
 pub mod AllCodes
+pub mod Numbers

@@ -1,6 +1,6 @@
 //! Numbers for the rows at positions.
 
-ghost use Rattle.std.specs.Prelude.{◌≡◌, ℕ, ◌*◌, ◌<◌, [], ◌∷◌, IfOk, IfSome, get_or, length};
+ghost use Rattle.std.specs.Prelude.{◌≡◌, ℕ, ◌*◌, ◌<◌, ◌^◌, [], ◌∷◌, IfOk, IfSome, get_or, length};
 ghost use Rattle.wd_sort.specs.Codes.{ArePairs, IsCodingBelow};
 
 use crate::numbering::value_codes;
@@ -16,8 +16,8 @@ pub struct Coding {
     pub bound: u64,
 }
 
-/// Numbers that compare as the values of a column; none where it has whole numbers beside values of
-/// another type, or whole numbers too far apart.
+/// Numbers that compare as the values of a column; none where all are whole numbers, too far
+/// apart.
 pub fn column_coding(
     alloc: Global,
     rows: &RowSource,
@@ -28,7 +28,10 @@ pub fn column_coding(
 {
     match whole_range(rows, column.column, positions) {
         Some(range) => whole_codes(alloc, rows, column, positions, range),
-        None => value_codes(alloc, rows, column, positions),
+        None => {
+            let coding = value_codes(alloc, rows, column, positions)?;
+            Ok(Some(coding))
+        }
     }
 }
 
@@ -40,10 +43,23 @@ pub fn combined(first: Coding, others: &Coding) -> Option<Coding>
     requires low { (k : ℕ) → k < length first.codes.items → get_or others.now.codes.items k 0 < others.now.bound }
     ensures { IfSome result (λ c. ArePairs first.codes.items others.now.codes.items others.now.bound c.codes.items × (c.bound ≡ first.bound * others.now.bound)) }
 {
-    let bound = first.bound.checked_mul(others.bound)?;
+    first.bound.checked_mul(others.bound)?;
+    Some(paired(first, others))
+}
+
+/// Both numbers of each position in one, in the memory of the first.
+pub fn paired(first: Coding, others: &Coding) -> Coding
+    requires long { length first.codes.items ≡ length others.now.codes.items }
+    requires high { (k : ℕ) → k < length first.codes.items → get_or first.codes.items k 0 < first.bound }
+    requires low { (k : ℕ) → k < length first.codes.items → get_or others.now.codes.items k 0 < others.now.bound }
+    requires room { first.bound * others.now.bound < 2 ^ 64 }
+    ensures pairs { ArePairs first.codes.items others.now.codes.items others.now.bound result.codes.items }
+    ensures bound { result.bound ≡ first.bound * others.now.bound }
+{
+    let bound = first.bound * others.bound;
     let mut codes = first.codes;
     for k in 0..codes.len() {
         codes[k] = codes[k] * others.bound + others.codes[k];
     }
-    Some(Coding { codes, bound })
+    Coding { codes, bound }
 }

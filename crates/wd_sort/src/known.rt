@@ -1,22 +1,23 @@
-//! The distinct values of a column without whole numbers.
+//! The distinct values of a column.
 
-ghost use Rattle.std.specs.Prelude.{◌≡◌, true, false, IfOk, IfSome, OnOk};
-ghost use Rattle.wd_sort.specs.Known.{AreKnown, IsAt, Keeps};
+ghost use Rattle.std.specs.Prelude.{◌≡◌, true, false, IfOk, OnOk, Some};
+ghost use Rattle.wd_sort.specs.Known.{AreKnown, Keeps, place_in};
 
 use std::alloc::Global;
 use std::collections::HashMap;
 use wd_value::{OutOfMemory, Value};
 
-/// NULL, the truth values, and then the texts in the order in which they are met, with the place of
-/// each.
+/// NULL, the truth values, and then the texts and whole numbers in the order in which they are met,
+/// with the place of each.
 #[derive(Drop)]
 pub struct Known<'a> {
     pub values: Vec<&'a Value>,
     texts: HashMap<&'a str, u64>,
+    wholes: HashMap<i64, u64>,
 }
 
 impl<'a> Known<'a> {
-    /// No text so far.
+    /// No text and no whole number so far.
     pub fn new(
         alloc: Global,
         null: &'a Value,
@@ -29,26 +30,26 @@ impl<'a> Known<'a> {
         ensures { IfOk result AreKnown }
     {
         let values = [null, no, yes].to_vec(alloc)?;
-        let texts = HashMap::new(alloc);
-        Ok(Known { values, texts })
+        Ok(Known {
+            values,
+            texts: HashMap::new(alloc),
+            wholes: HashMap::new(alloc),
+        })
     }
 
-    /// The place of a value, which is known from then on; none for a whole number.
-    pub fn number_of(&mut self, value: &'a Value) -> Result<Option<u64>, OutOfMemory>
+    /// The place of a value, which is known from then on.
+    pub fn number_of(&mut self, value: &'a Value) -> Result<u64, OutOfMemory>
         requires { AreKnown self.old }
         ensures known { OnOk result (AreKnown self.new) }
         ensures kept { OnOk result (Keeps self.old self.new) }
-        ensures is { IfOk result (λ o. IfSome o (λ n. IsAt self.new n value.now)) }
+        ensures is { IfOk result (λ n. place_in self.new value.now ≡ Some n) }
     {
         match value {
-            Value::Null => Ok(Some(0)),
-            Value::Bool(false) => Ok(Some(1)),
-            Value::Bool(true) => Ok(Some(2)),
-            Value::Int(_) => Ok(None),
-            Value::Text(text) => {
-                let number = self.text_number(value, text.as_str())?;
-                Ok(Some(number))
-            }
+            Value::Null => Ok(0),
+            Value::Bool(false) => Ok(1),
+            Value::Bool(true) => Ok(2),
+            Value::Int(whole) => self.whole_number(value, *whole),
+            Value::Text(text) => self.text_number(value, text.as_str()),
         }
     }
 
@@ -57,7 +58,7 @@ impl<'a> Known<'a> {
         requires text { value.now ≡ Value.Text text.now }
         ensures known { OnOk result (AreKnown self.new) }
         ensures kept { OnOk result (Keeps self.old self.new) }
-        ensures is { IfOk result (λ n. IsAt self.new n value.now) }
+        ensures is { IfOk result (λ n. place_in self.new value.now ≡ Some n) }
     {
         match self.texts.get(&text).copied() {
             Some(number) => Ok(number),
@@ -65,6 +66,24 @@ impl<'a> Known<'a> {
                 let number = self.values.len() as u64;
                 self.values.push(value)?;
                 self.texts.insert(text, number)?;
+                Ok(number)
+            }
+        }
+    }
+
+    fn whole_number(&mut self, value: &'a Value, whole: i64) -> Result<u64, OutOfMemory>
+        requires known { AreKnown self.old }
+        requires whole { value.now ≡ Value.Int whole }
+        ensures known { OnOk result (AreKnown self.new) }
+        ensures kept { OnOk result (Keeps self.old self.new) }
+        ensures is { IfOk result (λ n. place_in self.new value.now ≡ Some n) }
+    {
+        match self.wholes.get(&whole).copied() {
+            Some(number) => Ok(number),
+            None => {
+                let number = self.values.len() as u64;
+                self.values.push(value)?;
+                self.wholes.insert(whole, number)?;
                 Ok(number)
             }
         }

@@ -1,8 +1,8 @@
-//! Numbers for the values of a column of texts or truth values.
+//! Numbers for the values of a column by the distinct ones among them.
 
-ghost use Rattle.std.specs.Prelude.{◌≡◌, ◌<◌, ℕ, [], ◌∷◌, IfOk, IfSome, OnOk, length, map, get_or};
+ghost use Rattle.std.specs.Prelude.{◌≡◌, ◌<◌, ℕ, [], ◌∷◌, IfOk, OnOk, length, map, get_or};
 ghost use Rattle.wd_sort.specs.Codes.{IsCodingBelow};
-ghost use Rattle.wd_sort.specs.Known.{AreKnown, AreNumbers, IsAt, Keeps};
+ghost use Rattle.wd_sort.specs.Known.{AreKnown, AreNumbers};
 
 use crate::coding::Coding;
 use crate::known::Known;
@@ -12,14 +12,14 @@ use std::collections::HashMap;
 use wd_columns::RowSource;
 use wd_value::{OutOfMemory, SortColumn, Value};
 
-/// For each position the rank of its value among the column's; none where it has whole numbers.
+/// For each position the rank of its value among the column's.
 pub fn value_codes(
     alloc: Global,
     rows: &RowSource,
     column: SortColumn,
     positions: &[u64],
-) -> Result<Option<Coding>, OutOfMemory>
-    ensures { IfOk result (λ o. IfSome o (λ c. IsCodingBelow (column ∷ []) rows.now positions.now c.bound c.codes.items)) }
+) -> Result<Coding, OutOfMemory>
+    ensures { IfOk result (λ c. IsCodingBelow (column ∷ []) rows.now positions.now c.bound c.codes.items) }
 {
     let null = Value::Null;
     let no = Value::Bool(false);
@@ -36,43 +36,40 @@ fn known_codes<'a>(
     positions: &[u64],
     null: &'a Value,
     known: Known<'a>,
-) -> Result<Option<Coding>, OutOfMemory>
+) -> Result<Coding, OutOfMemory>
     requires null { null.now ≡ Value.Null }
     requires known { AreKnown known }
-    ensures { IfOk result (λ o. IfSome o (λ c. IsCodingBelow (column ∷ []) rows.now positions.now c.bound c.codes.items)) }
+    ensures { IfOk result (λ c. IsCodingBelow (column ∷ []) rows.now positions.now c.bound c.codes.items) }
 {
     let mut known = known;
-    let Some(numbers) = numbers_of(alloc, rows, column.column, positions, null, &mut known)? else {
-        return Ok(None);
-    };
+    let numbers = numbers_of(alloc, rows, column.column, positions, null, &mut known)?;
     let ranks = ranks_of(alloc, &known.values, column.key)?;
     let codes = replaced(numbers, &ranks);
     let bound = ranks.len() as u64;
-    Ok(Some(Coding { codes, bound }))
+    Ok(Coding { codes, bound })
 }
 
-/// For each position the place of its value among those known; none where it is a whole number.
-fn numbers_of<'a>(
+/// For each position the place of its value among those known.
+pub fn numbers_of<'a>(
     alloc: Global,
     rows: &'a RowSource<'_>,
     column: u16,
     positions: &[u64],
     null: &'a Value,
     known: &mut Known<'a>,
-) -> Result<Option<Vec<u64>>, OutOfMemory>
+) -> Result<Vec<u64>, OutOfMemory>
     requires null { null.now ≡ Value.Null }
     requires known { AreKnown known.old }
-    ensures { IfOk result (λ o. IfSome o (λ v. AreNumbers known.new column rows.now positions.now v.items)) }
+    ensures known { OnOk result (AreKnown known.new) }
+    ensures numbers { IfOk result (λ v. AreNumbers known.new column rows.now positions.now v.items) }
 {
     let mut numbers = Vec::with_capacity(alloc, positions.len())?;
     for i in 0..positions.len() {
         let value = rows.value(positions[i], column, null);
-        match known.number_of(value)? {
-            Some(number) => numbers.push(number)?,
-            None => return Ok(None),
-        }
+        let number = known.number_of(value)?;
+        numbers.push(number)?;
     }
-    Ok(Some(numbers))
+    Ok(numbers)
 }
 
 /// For each number the element at that place, in the memory of the numbers.

@@ -17,6 +17,15 @@ pub struct Range {
     greatest: i64,
 }
 
+impl Range {
+    /// How far the greatest is from the least.
+    pub fn width(self) -> u64
+        ensures { result ≡ unsigned_abs (self.greatest -ℤ self.least) }
+    {
+        self.greatest.abs_diff(self.least)
+    }
+}
+
 /// The range of the whole numbers of a column, or that of 0 where all is NULL; none where it has
 /// other values than these.
 pub fn whole_range(rows: &RowSource, column: u16, positions: &[u64]) -> Option<Range>

@@ -8,3 +8,4 @@ pub mod KeyFacts
 pub mod KeyOrder
 pub mod RefusedFacts
 pub mod RefusalLaws
+pub mod WideFacts

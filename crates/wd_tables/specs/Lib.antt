@@ -7,3 +7,4 @@ pub mod Reading
 pub mod Keys
 pub mod Laws
 pub mod Refused
+pub mod Wide

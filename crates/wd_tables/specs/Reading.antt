@@ -60,6 +60,11 @@ RefusesRead text n (NullValue m) = ⊥
 RefusesRead text n (Key m) = ⊥
 RefusesRead text n TooManyRecords = ⊥
 
+-- where a number is given, the record with it is not well-formed
+abbrev pub IsMalformedAt : List ℕ → Option ℕ → Type 0
+IsMalformedAt text None = ⊤
+IsMalformedAt text (Some n) = RefusesRead text n Malformed
+
 -- the header names each column once, and the first n records under it hold these rows, which fit the columns
 pub record HoldsFirst (columns : List Column) (text : List ℕ) (n : ℕ) (rows : List Row) : Type 0 where
   pub names : NamesEachOnce columns (header_of text)

@@ -11,6 +11,7 @@ mod laws;
 mod recent;
 mod record;
 mod row;
+mod wide;
 
 pub use answer::{answer_text, answer_text_from};
 pub use data::{load, load_columns};

@@ -2,7 +2,7 @@ ghost use Rattle.std.specs.Prelude.{◌≡◌, ◌+◌, ℕ, List, [], length, s
 ghost use Rattle.std.specs.Bool.{MatchBool};
 ghost use Rattle.csv.specs.Records.{fields_of};
 ghost use Rattle.wd_tables.specs.Data.{records_of};
-ghost use Rattle.wd_tables.specs.Reading.{HasRead, IsRecord, RefusesRead, refusal_of};
+ghost use Rattle.wd_tables.specs.Reading.{HasRead, IsMalformedAt, IsRecord, RefusesRead, refusal_of};
 
 use crate::error::DataError;
 use csv::{ErrorKind, Reader, StringRecord};
@@ -16,6 +16,23 @@ pub fn next_record(reader: &mut Reader<&[u8]>, fields: &mut StringRecord) -> Res
         Ok(found) => Ok(found),
         Err(error) => Err(refusal(error.into_kind())),
     }
+}
+
+/// The same for the record with a number, which is not read where it is the one that is known not to
+/// be well-formed.
+pub fn next_unless(
+    reader: &mut Reader<&[u8]>,
+    fields: &mut StringRecord,
+    number: u64,
+    malformed: Option<u64>,
+) -> Result<bool, DataError>
+    ensures read { (text : List ℕ) → HasRead text number reader.old → IfOk result (λ found. MatchBool found (HasRead text (number + 1) reader.new × IsRecord text number (fields_of fields.new)) (length (records_of text) ≡ number)) }
+    ensures refused { (text : List ℕ) → HasRead text number reader.old → IsMalformedAt text malformed → IfErr result (λ e. RefusesRead text number e) }
+{
+    if malformed == Some(number) {
+        return Err(DataError::Malformed);
+    }
+    next_record(reader, fields)
 }
 
 // A read of a slice fails for its records, else only where memory runs out.

@@ -2,9 +2,9 @@
 use Rattle.std.proofs.Common.{◌≡◌, ℕ, suc, ◌+◌, ◌-◌, ◌<◌, Bool, false, ◌||◌, List, [], ◌∷◌, ◌++◌, sym, refl, ◌∙◌, ap, arith, nat_eq}
 use Rattle.std.specs.List.{range_with_len}
 use Rattle.wd_plan.proofs.Groups.{any_append}
-use Rattle.wd_facts.specs.declared.facts.Member.{Member}
-use Rattle.wd_facts.specs.declared.facts.Member.TheVariants.{Column}
-use Rattle.wd_facts.specs.Facts.{columns_named}
+use Rattle.wd_step_facts.specs.declared.facts.Member.{Member}
+use Rattle.wd_step_facts.specs.declared.facts.Member.TheVariants.{Column}
+use Rattle.wd_step_facts.specs.Facts.{columns_named}
 use Rattle.wd_sets.specs.Sets.{is_in, stands_in}
 use Rattle.wd_sets.specs.Reaches.{also}
 

@@ -4,7 +4,7 @@ use Rattle.wd_schema.specs.Tables.{TableRule}
 use Rattle.wd_plan.specs.Expressions.{Expression}
 use Rattle.wd_plan.specs.Plans.{PlanTree, Join, node_count}
 use Rattle.wd_certificate.specs.Certificates.{NodeRecord}
-use Rattle.wd_facts.specs.Facts.{Fact}
+use Rattle.wd_step_facts.specs.Facts.{Fact}
 use Rattle.wd_facts.specs.Given.{given}
 use Rattle.wd_rules.specs.Rules.{entry_refusal, kept_facts, or_else}
 use Rattle.wd_rules.specs.Validity.{entry_at, nodes_refusal, top_at, top_refusal}

@@ -1,5 +1,10 @@
+pub mod Alike
 pub mod Calls
 pub mod Claims
 pub mod Columns
 pub mod Joins
+pub mod LeanEntry
+pub mod LeanNodes
 pub mod Members
+pub mod Once
+pub mod Sides

@@ -1,1 +1,2 @@
+pub mod Lean
 pub mod Shown

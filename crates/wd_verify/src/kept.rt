@@ -1,19 +1,23 @@
 //! The facts that an entry keeps, by its traces.
 
-ghost use Rattle.std.specs.Prelude.{◌≡◌, true, map, nat_lt, slice_get, IfOk, None, Some};
+ghost use Rattle.std.specs.Prelude.{◌≡◌, ◌++◌, List, ◌∷◌, true, map, slice_get, IfOk, None, Some};
 ghost use Rattle.std.specs.List.{list_all};
-ghost use Rattle.wd_certificate.specs.Certificates.{kept_of};
-ghost use Rattle.wd_facts.specs.Facts.{columns_named, facts_of, is_plain};
+ghost use Rattle.wd_certificate.specs.Certificates.{kept_of, trace_of};
+ghost use Rattle.wd_certificate.specs.declared.certificate.Target.{Target as ATarget};
+ghost use Rattle.wd_step_facts.specs.Facts.{is_plain_fact};
+ghost use Rattle.wd_facts.specs.Laws.{ArePlain};
 ghost use Rattle.wd_sets.specs.Reaches.{reaches_each};
 ghost use Rattle.wd_sets.specs.Sets.{has};
 ghost use Rattle.wd_rules.specs.Rules as rules;
-ghost use Rattle.wd_verify.specs.Shown.{refusal_of, shown_by, traced_of};
+ghost use Rattle.wd_verify.specs.Lean.{lean_kept, lean_of, lean_trace, once, once_after};
+ghost use Rattle.wd_verify.specs.Shown.{HaveColumns, fact_by, facts_kept, refusal_of, seen_of, shown_by, traced_of};
 
-use crate::evidence::{Evidence, Followed};
+use crate::evidence::Evidence;
+use crate::facts::{Followed, Keeps, KeptFact, NodeFacts, are_columns};
 use crate::trace::reaches;
 use std::alloc::Global;
-use wd_certificate::{CertError, Kept, Target};
-use wd_facts::{Facts, Member};
+use wd_certificate::{CertError, Kept, Node, Target, Trace};
+use wd_facts::Member;
 use wd_sets::Set;
 use wd_value::OutOfMemory;
 
@@ -38,18 +42,6 @@ fn are_targets(columns: u16, targets: &[Target]) -> bool
     true
 }
 
-/// Whether each of the numbers is one of so many columns.
-fn are_columns(columns: u16, from: &[u16]) -> bool
-    ensures { result ≡ list_all (λ c. nat_lt c columns) from.now }
-{
-    for column in from {
-        if *column >= columns {
-            return false;
-        }
-    }
-    true
-}
-
 /// The member that a target names.
 fn member_of(columns: u16, target: Target) -> Member
     requires { rules.is_target columns target ≡ true }
@@ -62,9 +54,9 @@ fn member_of(columns: u16, target: Target) -> Member
 }
 
 /// Whether each of the targets is reached with the members of the set.
-fn reaches_targets(facts: &Facts, set: &Set, columns: u16, targets: &[Target]) -> bool
+fn reaches_targets(facts: &NodeFacts, set: &Set, columns: u16, targets: &[Target]) -> bool
     requires { list_all (rules.is_target columns) targets.now ≡ true }
-    ensures { result ≡ reaches_each (facts_of facts.now) (has set.now) (map rules.member_of targets.now) }
+    ensures { result ≡ reaches_each (seen_of facts.now) (has set.now) (map rules.member_of targets.now) }
 {
     for target in targets {
         if !reaches(facts, set, member_of(columns, *target)) {
@@ -77,12 +69,12 @@ fn reaches_targets(facts: &Facts, set: &Set, columns: u16, targets: &[Target]) -
 /// A kept fact of a node with so many columns, by its trace.
 fn check_kept(
     node: u64,
-    facts: &Facts,
+    facts: &NodeFacts,
     columns: u16,
     targets: &[Target],
     trace: &Followed,
 ) -> Result<(), CertError>
-    ensures { refusal_of result ≡ rules.kept_refusal node (facts_of facts.now) columns targets.now (Some (traced_of trace.now)) }
+    ensures { refusal_of result ≡ rules.kept_refusal node (seen_of facts.now) columns targets.now (Some (traced_of trace.now)) }
 {
     if !are_targets(columns, targets) {
         return Err(CertError::OutOfRange { node });
@@ -96,7 +88,7 @@ fn check_kept(
 
 /// A kept fact, by the trace that it names.
 fn check_claim(evidence: &Evidence, columns: u16, kept: &Kept) -> Result<(), CertError>
-    ensures { refusal_of result ≡ rules.kept_refusal evidence.now.node (facts_of evidence.now.facts) columns (kept_of kept.now).to (slice_get (shown_by evidence.now) (kept_of kept.now).trace) }
+    ensures { refusal_of result ≡ rules.kept_refusal evidence.now.node (seen_of evidence.now.facts) columns (lean_kept (kept_of kept.now)).to (slice_get (shown_by evidence.now) (kept_of kept.now).trace) }
 {
     let trace = evidence.trace(kept.trace)?;
     check_kept(evidence.node, &evidence.facts, columns, &kept.to, trace)
@@ -104,7 +96,7 @@ fn check_claim(evidence: &Evidence, columns: u16, kept: &Kept) -> Result<(), Cer
 
 /// The facts that an entry keeps, in their order.
 pub(crate) fn check_keep(evidence: &Evidence, columns: u16, keep: &[Kept]) -> Result<(), CertError>
-    ensures { refusal_of result ≡ rules.keep_refusal evidence.now.node (facts_of evidence.now.facts) columns (shown_by evidence.now) (map kept_of keep.now) }
+    ensures { refusal_of result ≡ rules.keep_refusal evidence.now.node (seen_of evidence.now.facts) columns (shown_by evidence.now) (map lean_kept (map kept_of keep.now)) }
 {
     for kept in keep {
         check_claim(evidence, columns, kept)?;
@@ -112,34 +104,88 @@ pub(crate) fn check_keep(evidence: &Evidence, columns: u16, keep: &[Kept]) -> Re
     Ok(())
 }
 
-/// Columns, which are among so many, as members.
-pub(crate) fn members_of(
-    alloc: Global,
+/// Meets a target, whose member is added if it was not met before.
+#[tactic(auto, using(crate::proofs::Once::once_met, crate::proofs::Once::once_new))]
+fn meet(
     columns: u16,
-    from: &[u64],
-) -> Result<Vec<Member>, OutOfMemory>
-    requires { list_all (is_plain columns) (columns_named from.now) ≡ true }
-    ensures { IfOk result (λ v. v.items ≡ columns_named from.now) }
+    met: &mut Set,
+    list: &mut Vec<Member>,
+    target: Target,
+) -> Result<(), OutOfMemory>
+    requires { rules.is_target columns target ≡ true }
+    ensures { IfOk result (λ _. (rest : List ATarget) → list.new.items ++ map rules.member_of (once_after rules.member_of (has met.new) rest) ≡ list.old.items ++ map rules.member_of (once_after rules.member_of (has met.old) (target ∷ rest))) }
 {
-    let mut list = Vec::with_capacity(alloc, from.len())?;
-    for column in from {
-        list.push(Member::Column(*column as u16))?;
+    let member = member_of(columns, target);
+    if met.insert(member)? {
+        list.push(member)?;
+    }
+    Ok(())
+}
+
+/// The members that targets name, which are among so many columns, or the row; each once.
+#[tactic(auto, using(crate::proofs::Once::once_first))]
+fn targets_once(alloc: Global, columns: u16, targets: &[Target]) -> Result<Vec<Member>, OutOfMemory>
+    requires { list_all (rules.is_target columns) targets.now ≡ true }
+    ensures { IfOk result (λ v. v.items ≡ map rules.member_of (once rules.member_of targets.now)) }
+{
+    let mut met = Set::new(alloc);
+    let mut list = Vec::new(alloc);
+    for target in targets {
+        meet(columns, &mut met, &mut list, *target)?;
     }
     Ok(list)
 }
 
-/// The members that targets name, which are among so many columns, or the row.
-pub(crate) fn targets_of(
+/// A kept fact.
+#[tactic(auto, using(crate::proofs::Claims::plain_to, crate::proofs::Claims::fact_is))]
+fn kept_fact(
     alloc: Global,
     columns: u16,
-    targets: &[Target],
-) -> Result<Vec<Member>, OutOfMemory>
-    requires { list_all (rules.is_target columns) targets.now ≡ true }
-    ensures { IfOk result (λ v. v.items ≡ map rules.member_of targets.now) }
+    traces: &[Trace],
+    shown: &[Followed],
+    kept: &Kept,
+) -> Result<KeptFact, OutOfMemory>
+    requires plain { is_plain_fact columns (rules.kept_fact (map lean_trace (map trace_of traces.now)) (lean_kept (kept_of kept.now))) ≡ true }
+    requires shown { HaveColumns (map lean_trace (map trace_of traces.now)) (map traced_of shown.now) }
+    ensures { IfOk result (λ k. fact_by (map traced_of shown.now) k ≡ rules.kept_fact (map lean_trace (map trace_of traces.now)) (lean_kept (kept_of kept.now))) }
 {
-    let mut list = Vec::with_capacity(alloc, targets.len())?;
-    for target in targets {
-        list.push(member_of(columns, *target))?;
+    let to = targets_once(alloc, columns, &kept.to)?;
+    Ok(KeptFact {
+        trace: kept.trace as usize,
+        to,
+    })
+}
+
+/// Kept facts, in their order.
+fn kept_list(
+    alloc: Global,
+    columns: u16,
+    entry: &Node,
+    shown: &[Followed],
+) -> Result<Vec<KeptFact>, OutOfMemory>
+    requires plain { ArePlain columns (rules.kept_facts (lean_of entry.now)) }
+    requires shown { HaveColumns (lean_of entry.now).traces (map traced_of shown.now) }
+    ensures { IfOk result (λ v. map (fact_by (map traced_of shown.now)) v.items ≡ rules.kept_facts (lean_of entry.now)) }
+{
+    let mut list = Vec::with_capacity(alloc, entry.keep.len())?;
+    for kept in &entry.keep {
+        let fact = kept_fact(alloc, columns, &entry.traces, shown, kept)?;
+        list.push(fact)?;
     }
     Ok(list)
+}
+
+/// What an entry keeps, of a node with so many columns, by its traces.
+pub(crate) fn keeps_of(
+    alloc: Global,
+    columns: u16,
+    entry: &Node,
+    traces: Vec<Followed>,
+) -> Result<Keeps, OutOfMemory>
+    requires plain { ArePlain columns (rules.kept_facts (lean_of entry.now)) }
+    requires shown { HaveColumns (lean_of entry.now).traces (map traced_of traces.items) }
+    ensures { IfOk result (λ k. facts_kept k ≡ rules.kept_facts (lean_of entry.now)) }
+{
+    let list = kept_list(alloc, columns, entry, &traces)?;
+    Ok(Keeps { traces, list })
 }

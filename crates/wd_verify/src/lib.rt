@@ -3,6 +3,7 @@
 
 mod entry;
 mod evidence;
+mod facts;
 mod kept;
 mod nodes;
 mod rules;

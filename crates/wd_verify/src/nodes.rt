@@ -5,16 +5,17 @@ ghost use Rattle.wd_schema.specs.Schemas.{schema_of};
 ghost use Rattle.wd_plan.specs.Fits as fitting;
 ghost use Rattle.wd_plan.specs.Plans.{node_count, plan_of};
 ghost use Rattle.wd_certificate.specs.Certificates.{node_of};
-ghost use Rattle.wd_facts.specs.Facts.{fact_of, kept_by};
 ghost use Rattle.wd_facts.specs.Given.{given};
 ghost use Rattle.wd_facts.specs.Laws.{AreOfChildren, ArePlain};
 ghost use Rattle.wd_rules.specs.Rules as rules;
 ghost use Rattle.wd_rules.specs.Validity as spec;
+ghost use Rattle.wd_verify.specs.Lean.{lean_of};
+ghost use Rattle.wd_verify.specs.Shown.{HasNoOther, facts_kept};
 
-use crate::entry::{check_entry, kept_facts, width};
+use crate::entry::check_entry;
+use crate::facts::Keeps;
 use std::alloc::Global;
 use wd_certificate::{CertError, Node};
-use wd_facts::Given;
 use wd_plan::Plan;
 use wd_schema::Schema;
 
@@ -109,8 +110,8 @@ pub(crate) fn look_over(plan: &Plan, nodes: &[Node], first: usize) -> Seen
 pub(crate) struct Checked {
     /// The number behind the plan's top node.
     next: usize,
-    /// The facts that the top node's entry keeps.
-    kept: Vec<Given>,
+    /// What the top node's entry keeps.
+    kept: Keeps,
 }
 
 /// The entry of a plan's top node, which has this number, and whose children keep these facts.
@@ -121,20 +122,21 @@ fn check_top(
     schema: &Schema,
     nodes: &[Node],
     number: usize,
-    kept: &[&[Given]],
+    left: Keeps,
+    right: Keeps,
 ) -> Result<Checked, CertError>
     requires fits { fitting.fits (schema_of schema.now) (plan_of plan.now) ≡ true }
     requires within { number < length nodes.now }
-    requires named { AreOfChildren (plan_of plan.now) (kept_by kept.now 0) (kept_by kept.now 1) }
+    requires named { AreOfChildren (plan_of plan.now) (facts_kept left) (facts_kept right) }
+    requires alone { HasNoOther (plan_of plan.now) (facts_kept left) (facts_kept right) }
     ensures next { IfOk result (λ c. c.next ≡ number + 1) }
-    ensures plain { IfOk result (λ c. ArePlain (fitting.width (plan_of plan.now)) (map fact_of c.kept.items)) }
-    ensures kept { IfOk result (λ c. map fact_of c.kept.items ≡ rules.kept_facts (spec.entry_at (map node_of nodes.now) number)) }
-    ensures passed { IfOk result (λ _. rules.entry_refusal number (given (schema_of schema.now) (plan_of plan.now) (kept_by kept.now 0) (kept_by kept.now 1)) (plan_of plan.now) (spec.entry_at (map node_of nodes.now) number) ≡ None) }
-    ensures refused { IfErr result (λ e. e ≢ CertError.OutOfMemory → rules.entry_refusal number (given (schema_of schema.now) (plan_of plan.now) (kept_by kept.now 0) (kept_by kept.now 1)) (plan_of plan.now) (spec.entry_at (map node_of nodes.now) number) ≡ Some e) }
+    ensures plain { IfOk result (λ c. ArePlain (fitting.width (plan_of plan.now)) (facts_kept c.kept)) }
+    ensures kept { IfOk result (λ c. facts_kept c.kept ≡ rules.kept_facts (spec.entry_at (map lean_of nodes.now) number)) }
+    ensures passed { IfOk result (λ _. rules.entry_refusal number (given (schema_of schema.now) (plan_of plan.now) (facts_kept left) (facts_kept right)) (plan_of plan.now) (spec.entry_at (map lean_of nodes.now) number) ≡ None) }
+    ensures refused { IfErr result (λ e. e ≢ CertError.OutOfMemory → rules.entry_refusal number (given (schema_of schema.now) (plan_of plan.now) (facts_kept left) (facts_kept right)) (plan_of plan.now) (spec.entry_at (map lean_of nodes.now) number) ≡ Some e) }
 {
     let entry = &nodes[number];
-    check_entry(alloc, plan, schema, number as u64, entry, kept)?;
-    let kept = kept_facts(alloc, width(plan), entry)?;
+    let kept = check_entry(alloc, plan, schema, number as u64, entry, left, right)?;
     Ok(Checked {
         next: number + 1,
         kept,
@@ -152,23 +154,21 @@ pub(crate) fn check_nodes(
     requires fits { fitting.fits (schema_of schema.now) (plan_of plan.now) ≡ true }
     requires within { first + node_count (plan_of plan.now) ≤ length nodes.now }
     ensures next { IfOk result (λ c. c.next ≡ first + node_count (plan_of plan.now)) }
-    ensures plain { IfOk result (λ c. ArePlain (fitting.width (plan_of plan.now)) (map fact_of c.kept.items)) }
-    ensures kept { IfOk result (λ c. map fact_of c.kept.items ≡ rules.kept_facts (spec.top_at (plan_of plan.now) first (map node_of nodes.now))) }
-    ensures passed { IfOk result (λ _. spec.nodes_refusal (schema_of schema.now) (plan_of plan.now) first (map node_of nodes.now) ≡ None) }
-    ensures refused { IfErr result (λ e. e ≢ CertError.OutOfMemory → spec.nodes_refusal (schema_of schema.now) (plan_of plan.now) first (map node_of nodes.now) ≡ Some e) }
+    ensures plain { IfOk result (λ c. ArePlain (fitting.width (plan_of plan.now)) (facts_kept c.kept)) }
+    ensures kept { IfOk result (λ c. facts_kept c.kept ≡ rules.kept_facts (spec.top_at (plan_of plan.now) first (map lean_of nodes.now))) }
+    ensures passed { IfOk result (λ _. spec.nodes_refusal (schema_of schema.now) (plan_of plan.now) first (map lean_of nodes.now) ≡ None) }
+    ensures refused { IfErr result (λ e. e ≢ CertError.OutOfMemory → spec.nodes_refusal (schema_of schema.now) (plan_of plan.now) first (map lean_of nodes.now) ≡ Some e) }
 {
     match plan {
-        Plan::Scan { .. } => check_top(alloc, plan, schema, nodes, first, &[]),
+        Plan::Scan { .. } => {
+            let (left, right) = (Keeps::none(alloc), Keeps::none(alloc));
+            check_top(alloc, plan, schema, nodes, first, left, right)
+        }
         Plan::Join { left, right, .. } => {
             let left = check_nodes(alloc, left, schema, nodes, first)?;
             let right = check_nodes(alloc, right, schema, nodes, left.next)?;
             check_top(
-                alloc,
-                plan,
-                schema,
-                nodes,
-                right.next,
-                &[&left.kept, &right.kept],
+                alloc, plan, schema, nodes, right.next, left.kept, right.kept,
             )
         }
         Plan::Filter { input, .. }
@@ -178,7 +178,8 @@ pub(crate) fn check_nodes(
         | Plan::Distinct { input }
         | Plan::Limit { input, .. } => {
             let below = check_nodes(alloc, input, schema, nodes, first)?;
-            check_top(alloc, plan, schema, nodes, below.next, &[&below.kept])
+            let right = Keeps::none(alloc);
+            check_top(alloc, plan, schema, nodes, below.next, below.kept, right)
         }
     }
 }

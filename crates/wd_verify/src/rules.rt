@@ -6,19 +6,20 @@ ghost use Rattle.wd_value.specs.Keys.{key_columns};
 ghost use Rattle.wd_plan.specs.Outcomes.{class_at};
 ghost use Rattle.wd_plan.specs.Plans.{class_of, limit_of, NamesClasses, window_of};
 ghost use Rattle.wd_plan.specs.Sorting.{class_columns};
-ghost use Rattle.wd_facts.specs.declared.facts.Member.{Member as AMember};
-ghost use Rattle.wd_facts.specs.Facts.{columns_named, facts_of};
-ghost use Rattle.wd_facts.specs.Given.{all_columns};
+ghost use Rattle.wd_step_facts.specs.declared.facts.Member.{Member as AMember};
+ghost use Rattle.wd_step_facts.specs.Facts.{columns_named};
+ghost use Rattle.wd_step_facts.specs.Steps.{all_columns};
 ghost use Rattle.wd_sets.specs.Reaches as reaching;
 ghost use Rattle.wd_sets.specs.Sets.{has, has_column, is_in};
 ghost use Rattle.wd_rules.specs.Rules as spec;
-ghost use Rattle.wd_verify.specs.Shown.{refusal_of, shown_by, traced_of};
+ghost use Rattle.wd_verify.specs.Shown.{refusal_of, seen_of, shown_by, traced_of};
 
-use crate::evidence::{Evidence, Followed, refuse_unless};
+use crate::evidence::{Evidence, refuse_unless};
+use crate::facts::{Followed, NodeFacts};
 use crate::trace::{reaches, reaches_each};
 use std::alloc::Global;
 use wd_certificate::{CertError, Rule};
-use wd_facts::{Facts, Member};
+use wd_facts::Member;
 use wd_plan::{Call, Class, FrameFunction, Function, Limit, Window};
 use wd_sets::Set;
 use wd_value::{OutOfMemory, SortColumn};
@@ -81,8 +82,8 @@ fn starts_among(among: &Set, from: &[u16]) -> bool
 
 /// Whether the first so many columns are reached with the members of the set.
 #[tactic(auto, using(crate::proofs::Columns::columns_next, crate::proofs::Columns::columns_end))]
-fn reaches_all(facts: &Facts, set: &Set, columns: u16) -> bool
-    ensures { result ≡ reaching.reaches_each (facts_of facts.now) (has set.now) (columns_named (all_columns columns)) }
+fn reaches_all(facts: &NodeFacts, set: &Set, columns: u16) -> bool
+    ensures { result ≡ reaching.reaches_each (seen_of facts.now) (has set.now) (columns_named (all_columns columns)) }
 {
     for column in 0..columns {
         if !reaches(facts, set, Member::Column(column)) {
@@ -93,15 +94,15 @@ fn reaches_all(facts: &Facts, set: &Set, columns: u16) -> bool
 }
 
 /// Whether a trace shows that columns give members.
-fn shows(facts: &Facts, among: &Set, members: &[Member], trace: &Followed) -> bool
-    ensures { result ≡ spec.shows (facts_of facts.now) (has_column among.now) members.now (traced_of trace.now) }
+fn shows(facts: &NodeFacts, among: &Set, members: &[Member], trace: &Followed) -> bool
+    ensures { result ≡ spec.shows (seen_of facts.now) (has_column among.now) members.now (traced_of trace.now) }
 {
     starts_among(among, &trace.from) && reaches_each(facts, &trace.set, members)
 }
 
 /// Whether a trace shows that columns give the first so many.
-fn shows_all(facts: &Facts, among: &Set, columns: u16, trace: &Followed) -> bool
-    ensures { result ≡ spec.shows (facts_of facts.now) (has_column among.now) (columns_named (all_columns columns)) (traced_of trace.now) }
+fn shows_all(facts: &NodeFacts, among: &Set, columns: u16, trace: &Followed) -> bool
+    ensures { result ≡ spec.shows (seen_of facts.now) (has_column among.now) (columns_named (all_columns columns)) (traced_of trace.now) }
 {
     starts_among(among, &trace.from) && reaches_all(facts, &trace.set, columns)
 }
@@ -117,8 +118,8 @@ fn taken_column(function: &Function) -> Option<u16>
 }
 
 /// Whether a trace shows, over a stable frame, the column whose value a call takes.
-fn shows_value(facts: &Facts, among: &Set, call: &Call, trace: &Followed) -> bool
-    ensures { result ≡ spec.shows_value (facts_of facts.now) (has_column among.now) call.now (traced_of trace.now) }
+fn shows_value(facts: &NodeFacts, among: &Set, call: &Call, trace: &Followed) -> bool
+    ensures { result ≡ spec.shows_value (seen_of facts.now) (has_column among.now) call.now (traced_of trace.now) }
 {
     call.frame.is_stable()
         && match taken_column(&call.function) {
@@ -135,7 +136,7 @@ fn check_call(
     call: &Call,
     rule: Rule,
 ) -> Result<(), CertError>
-    ensures { refusal_of result ≡ spec.call_refusal evidence.now.node (facts_of evidence.now.facts) columns (shown_by evidence.now) (has_column among.now) call.now rule }
+    ensures { refusal_of result ≡ spec.call_refusal evidence.now.node (seen_of evidence.now.facts) columns (shown_by evidence.now) (has_column among.now) call.now rule }
 {
     let facts = &evidence.facts;
     let holds = match rule {
@@ -159,7 +160,7 @@ fn check_call_of(
 ) -> Result<(), CertError>
     requires class { call.now.class < length (window_of window.now).classes }
     requires sets { map has_column sets.now ≡ map (λ class. is_in (class_columns class)) (window_of window.now).classes }
-    ensures { refusal_of result ≡ spec.call_refusal evidence.now.node (facts_of evidence.now.facts) columns (shown_by evidence.now) (is_in (class_columns (class_at (window_of window.now) call.now.class))) call.now rule }
+    ensures { refusal_of result ≡ spec.call_refusal evidence.now.node (seen_of evidence.now.facts) columns (shown_by evidence.now) (is_in (class_columns (class_at (window_of window.now) call.now.class))) call.now rule }
 {
     let among = &sets[usize::from(call.class)];
     check_call(evidence, columns, among, call, rule)
@@ -175,7 +176,7 @@ fn check_calls(
 ) -> Result<(), CertError>
     requires named { NamesClasses (window_of window.now) }
     requires sets { map has_column sets.now ≡ map (λ class. is_in (class_columns class)) (window_of window.now).classes }
-    ensures { refusal_of result ≡ spec.calls_refusal evidence.now.node (facts_of evidence.now.facts) columns (shown_by evidence.now) (window_of window.now) (window_of window.now).calls rules.now }
+    ensures { refusal_of result ≡ spec.calls_refusal evidence.now.node (seen_of evidence.now.facts) columns (shown_by evidence.now) (window_of window.now) (window_of window.now).calls rules.now }
 {
     let mut later = rules.iter();
     for call in &window.calls {
@@ -248,8 +249,8 @@ pub(crate) fn check_window(
     rules: &[Rule],
 ) -> Result<(), CertError>
     requires { NamesClasses (window_of window.now) }
-    ensures passed { IfOk result (λ _. spec.window_refusal evidence.now.node (facts_of evidence.now.facts) columns (shown_by evidence.now) (window_of window.now) rules.now ≡ None) }
-    ensures refused { IfErr result (λ e. e ≢ CertError.OutOfMemory → spec.window_refusal evidence.now.node (facts_of evidence.now.facts) columns (shown_by evidence.now) (window_of window.now) rules.now ≡ Some e) }
+    ensures passed { IfOk result (λ _. spec.window_refusal evidence.now.node (seen_of evidence.now.facts) columns (shown_by evidence.now) (window_of window.now) rules.now ≡ None) }
+    ensures refused { IfErr result (λ e. e ≢ CertError.OutOfMemory → spec.window_refusal evidence.now.node (seen_of evidence.now.facts) columns (shown_by evidence.now) (window_of window.now) rules.now ≡ Some e) }
 {
     let sets = class_sets(alloc, &window.classes)?;
     check_calls(evidence, columns, window, &sets, rules)?;
@@ -268,12 +269,12 @@ fn is_whole_or_ties(limit: &Limit) -> bool
 /// Whether the columns of sort keys give the first so many, by a trace.
 fn shows_by_keys(
     alloc: Global,
-    facts: &Facts,
+    facts: &NodeFacts,
     keys: &[SortColumn],
     columns: u16,
     trace: &Followed,
 ) -> Result<bool, OutOfMemory>
-    ensures { IfOk result (λ b. b ≡ spec.shows (facts_of facts.now) (is_in (key_columns keys.now)) (columns_named (all_columns columns)) (traced_of trace.now)) }
+    ensures { IfOk result (λ b. b ≡ spec.shows (seen_of facts.now) (is_in (key_columns keys.now)) (columns_named (all_columns columns)) (traced_of trace.now)) }
 {
     let among = class_set(alloc, &[], keys)?;
     Ok(shows_all(facts, &among, columns, trace))
@@ -287,8 +288,8 @@ pub(crate) fn check_limit(
     limit: &Limit,
     number: Option<u64>,
 ) -> Result<(), CertError>
-    ensures passed { IfOk result (λ _. spec.limit_refusal evidence.now.node (facts_of evidence.now.facts) columns (shown_by evidence.now) (limit_of limit.now) number ≡ None) }
-    ensures refused { IfErr result (λ e. e ≢ CertError.OutOfMemory → spec.limit_refusal evidence.now.node (facts_of evidence.now.facts) columns (shown_by evidence.now) (limit_of limit.now) number ≡ Some e) }
+    ensures passed { IfOk result (λ _. spec.limit_refusal evidence.now.node (seen_of evidence.now.facts) columns (shown_by evidence.now) (limit_of limit.now) number ≡ None) }
+    ensures refused { IfErr result (λ e. e ≢ CertError.OutOfMemory → spec.limit_refusal evidence.now.node (seen_of evidence.now.facts) columns (shown_by evidence.now) (limit_of limit.now) number ≡ Some e) }
 {
     let node = evidence.node;
     let refusal = CertError::UnjustifiedLimit { node };

@@ -1,17 +1,21 @@
 //! What a trace reaches.
 
-ghost use Rattle.std.specs.Prelude.{◌≡◌, ◌≢◌, ◌||◌, true, false, nat_lt, Ok, Err, Some, slice_get, IfOk, IfErr};
+ghost use Rattle.std.specs.Prelude.{◌≡◌, ◌≢◌, ℕ, ◌+◌, ◌-◌, ◌||◌, ◌++◌, List, ◌∷◌, true, false, map, nat_lt, Ok, Err, Some, slice_get, IfOk, IfErr};
 ghost use Rattle.std.specs.List.{list_all};
 ghost use Rattle.wd_certificate.specs.Certificates.{trace_of};
-ghost use Rattle.wd_facts.specs.declared.facts.Member.{Member as AMember};
-ghost use Rattle.wd_facts.specs.Facts.{columns_named, fact_of, facts_of};
+ghost use Rattle.wd_step_facts.specs.declared.facts.Member.{Member as AMember};
+ghost use Rattle.wd_step_facts.specs.declared.facts.Member.TheVariants as member;
+ghost use Rattle.wd_step_facts.specs.Facts.{columns_named, fact_of, is_plain, is_plain_fact, moved, moved_fact};
 ghost use Rattle.wd_sets.specs.Reaches as reaching;
-ghost use Rattle.wd_sets.specs.Sets.{has, stands_in};
+ghost use Rattle.wd_sets.specs.Sets.{has, same_member, stands_in};
 ghost use Rattle.wd_rules.specs.Traces as spec;
+ghost use Rattle.wd_verify.specs.Lean.{columns_once, lean_trace, once_after};
+ghost use Rattle.wd_verify.specs.Shown.{AreNarrow, IsNarrow, fact_by, seen_of, side_facts, traced_of};
 
+use crate::facts::{Followed, KeptFact, NodeFacts, Side, columns_of};
 use std::alloc::Global;
 use wd_certificate::{CertError, Trace};
-use wd_facts::{Facts, Given, Member};
+use wd_facts::{Given, Member};
 use wd_sets::Set;
 use wd_value::OutOfMemory;
 
@@ -41,8 +45,8 @@ fn by_side(split: Option<u16>, columns: u16, set: &Set, column: u16) -> bool
 }
 
 /// Whether a member is reached with these.
-pub(crate) fn reaches(facts: &Facts, set: &Set, member: Member) -> bool
-    ensures { result ≡ reaching.reaches (facts_of facts.now) (has set.now) member }
+pub(crate) fn reaches(facts: &NodeFacts, set: &Set, member: Member) -> bool
+    ensures { result ≡ reaching.reaches (seen_of facts.now) (has set.now) member }
 {
     match member {
         Member::Column(column) => {
@@ -56,8 +60,8 @@ pub(crate) fn reaches(facts: &Facts, set: &Set, member: Member) -> bool
 }
 
 /// Whether each of the members is reached with those of the set.
-pub(crate) fn reaches_each(facts: &Facts, set: &Set, members: &[Member]) -> bool
-    ensures { result ≡ reaching.reaches_each (facts_of facts.now) (has set.now) members.now }
+pub(crate) fn reaches_each(facts: &NodeFacts, set: &Set, members: &[Member]) -> bool
+    ensures { result ≡ reaching.reaches_each (seen_of facts.now) (has set.now) members.now }
 {
     for member in members {
         if !reaches(facts, set, *member) {
@@ -80,9 +84,9 @@ fn insert_each(set: &mut Set, members: &[Member]) -> Result<(), OutOfMemory>
 
 /// Uses a fact.
 #[tactic(auto, using(crate::proofs::Members::used_is))]
-fn use_fact(node: u64, facts: &Facts, set: &mut Set, fact: &Given) -> Result<(), CertError>
-    ensures used { IfOk result (λ _. spec.with_use node (facts_of facts.now) (has set.old) (Some (fact_of fact.now)) ≡ Ok (has set.new)) }
-    ensures refused { IfErr result (λ e. e ≢ CertError.OutOfMemory → spec.with_use node (facts_of facts.now) (has set.old) (Some (fact_of fact.now)) ≡ Err e) }
+fn use_fact(node: u64, facts: &NodeFacts, set: &mut Set, fact: &Given) -> Result<(), CertError>
+    ensures used { IfOk result (λ _. spec.with_use node (seen_of facts.now) (has set.old) (Some (fact_of fact.now)) ≡ Ok (has set.new)) }
+    ensures refused { IfErr result (λ e. e ≢ CertError.OutOfMemory → spec.with_use node (seen_of facts.now) (has set.old) (Some (fact_of fact.now)) ≡ Err e) }
 {
     if !reaches_each(facts, set, &fact.from) {
         return Err(CertError::UnreachedUse { node });
@@ -91,49 +95,220 @@ fn use_fact(node: u64, facts: &Facts, set: &mut Set, fact: &Given) -> Result<(),
     Ok(())
 }
 
-/// Uses the fact with a number.
-fn use_number(node: u64, facts: &Facts, set: &mut Set, number: u64) -> Result<(), CertError>
-    ensures used { IfOk result (λ _. spec.with_use node (facts_of facts.now) (has set.old) (slice_get (facts_of facts.now).list number) ≡ Ok (has set.new)) }
-    ensures refused { IfErr result (λ e. e ≢ CertError.OutOfMemory → spec.with_use node (facts_of facts.now) (has set.old) (slice_get (facts_of facts.now).list number) ≡ Err e) }
+/// Uses the fact with a number, of some that are given.
+fn use_given(
+    node: u64,
+    facts: &NodeFacts,
+    set: &mut Set,
+    list: &[Given],
+    number: usize,
+) -> Result<(), CertError>
+    ensures used { IfOk result (λ _. spec.with_use node (seen_of facts.now) (has set.old) (slice_get (map fact_of list.now) number) ≡ Ok (has set.new)) }
+    ensures refused { IfErr result (λ e. e ≢ CertError.OutOfMemory → spec.with_use node (seen_of facts.now) (has set.old) (slice_get (map fact_of list.now) number) ≡ Err e) }
 {
-    match facts.list.get(number as usize) {
+    match list.get(number) {
         Some(fact) => use_fact(node, facts, set, fact),
         None => Err(CertError::OutOfRange { node }),
     }
 }
 
-/// The columns from which a trace starts, where the facts have each.
-#[tactic(auto, using(crate::proofs::Members::one_more, crate::proofs::Members::not_started))]
-fn start(alloc: Global, node: u64, facts: &Facts, trace: &Trace) -> Result<Set, CertError>
-    ensures below { IfOk result (λ _. list_all (λ c. nat_lt c facts.now.columns) trace.now.from.items ≡ true) }
-    ensures named { IfOk result (λ set. (m : AMember) → has set m ≡ stands_in (columns_named trace.now.from.items) m) }
-    ensures refused { IfErr result (λ e. e ≢ CertError.OutOfMemory → spec.traced node (facts_of facts.now) (trace_of trace.now) ≡ Err e) }
+/// A member of a fact of a child, as the node above names it.
+fn moved_member(by: u16, row: Member, member: Member) -> Member
+    requires { is_plain (65536 - by) member ≡ true }
+    ensures { result ≡ moved (λ c. by + c) row member }
 {
-    let mut set = Set::new(alloc);
+    match member {
+        Member::Column(column) => Member::Column(by + column),
+        Member::Left => Member::Left,
+        Member::Right => Member::Right,
+        Member::Row => row,
+    }
+}
+
+/// Whether each of a child's columns is reached with the members of the set.
+fn reaches_columns(facts: &NodeFacts, set: &Set, by: u16, row: Member, columns: &[u16]) -> bool
+    requires { list_all (is_plain (65536 - by)) (columns_named columns.now) ≡ true }
+    ensures { result ≡ reaching.reaches_each (seen_of facts.now) (has set.now) (map (moved (λ c. by + c) row) (columns_named columns.now)) }
+{
+    for column in columns {
+        let member = moved_member(by, row, Member::Column(*column));
+        if !reaches(facts, set, member) {
+            return false;
+        }
+    }
+    true
+}
+
+/// Puts in what a child's members are at the node above.
+#[tactic(auto, using(crate::proofs::Members::one_more))]
+fn insert_moved(set: &mut Set, by: u16, row: Member, members: &[Member]) -> Result<(), OutOfMemory>
+    requires { list_all (is_plain (65536 - by)) members.now ≡ true }
+    ensures { IfOk result (λ _. (m : AMember) → has set.new m ≡ reaching.also (has set.old) (map (moved (λ c. by + c) row) members.now) m) }
+{
+    for member in members {
+        set.insert(moved_member(by, row, *member))?;
+    }
+    Ok(())
+}
+
+/// Uses a fact that a child keeps.
+#[tactic(auto, using(crate::proofs::Members::used_is))]
+fn use_kept(
+    node: u64,
+    facts: &NodeFacts,
+    set: &mut Set,
+    side: &Side,
+    kept: &KeptFact,
+) -> Result<(), CertError>
+    requires { is_plain_fact (65536 - side.now.by) (fact_by (map traced_of side.now.keeps.traces.items) kept.now) ≡ true }
+    ensures used { IfOk result (λ _. spec.with_use node (seen_of facts.now) (has set.old) (Some (moved_fact (λ c. side.now.by + c) side.now.row (fact_by (map traced_of side.now.keeps.traces.items) kept.now))) ≡ Ok (has set.new)) }
+    ensures refused { IfErr result (λ e. e ≢ CertError.OutOfMemory → spec.with_use node (seen_of facts.now) (has set.old) (Some (moved_fact (λ c. side.now.by + c) side.now.row (fact_by (map traced_of side.now.keeps.traces.items) kept.now))) ≡ Err e) }
+{
+    let from = columns_of(&side.keeps.traces, kept.trace);
+    if !reaches_columns(facts, set, side.by, side.row, from) {
+        return Err(CertError::UnreachedUse { node });
+    }
+    insert_moved(set, side.by, side.row, &kept.to)?;
+    Ok(())
+}
+
+/// Uses the fact with a number, of those that a child keeps.
+fn use_side(
+    node: u64,
+    facts: &NodeFacts,
+    set: &mut Set,
+    side: &Side,
+    number: usize,
+) -> Result<(), CertError>
+    requires { IsNarrow side.now }
+    ensures used { IfOk result (λ _. spec.with_use node (seen_of facts.now) (has set.old) (slice_get (side_facts side.now) number) ≡ Ok (has set.new)) }
+    ensures refused { IfErr result (λ e. e ≢ CertError.OutOfMemory → spec.with_use node (seen_of facts.now) (has set.old) (slice_get (side_facts side.now) number) ≡ Err e) }
+{
+    match side.keeps.list.get(number) {
+        Some(kept) => use_kept(node, facts, set, side, kept),
+        None => Err(CertError::OutOfRange { node }),
+    }
+}
+
+/// Uses the fact with a number, of those that the right child keeps and the last ones.
+#[tactic(auto, using(crate::proofs::Members::in_side, crate::proofs::Members::behind_side))]
+fn use_right(node: u64, facts: &NodeFacts, set: &mut Set, number: usize) -> Result<(), CertError>
+    requires { AreNarrow facts.now }
+    ensures used { IfOk result (λ _. spec.with_use node (seen_of facts.now) (has set.old) (slice_get (side_facts facts.now.right ++ map fact_of facts.now.last.items) number) ≡ Ok (has set.new)) }
+    ensures refused { IfErr result (λ e. e ≢ CertError.OutOfMemory → spec.with_use node (seen_of facts.now) (has set.old) (slice_get (side_facts facts.now.right ++ map fact_of facts.now.last.items) number) ≡ Err e) }
+{
+    let count = facts.right.keeps.list.len();
+    if number < count {
+        use_side(node, facts, set, &facts.right, number)
+    } else {
+        use_given(node, facts, set, &facts.last, number - count)
+    }
+}
+
+/// Uses the fact with a number, of those that the children keep and the last ones.
+#[tactic(auto, using(crate::proofs::Members::in_side, crate::proofs::Members::behind_side))]
+fn use_left(node: u64, facts: &NodeFacts, set: &mut Set, number: usize) -> Result<(), CertError>
+    requires { AreNarrow facts.now }
+    ensures used { IfOk result (λ _. spec.with_use node (seen_of facts.now) (has set.old) (slice_get (side_facts facts.now.left ++ (side_facts facts.now.right ++ map fact_of facts.now.last.items)) number) ≡ Ok (has set.new)) }
+    ensures refused { IfErr result (λ e. e ≢ CertError.OutOfMemory → spec.with_use node (seen_of facts.now) (has set.old) (slice_get (side_facts facts.now.left ++ (side_facts facts.now.right ++ map fact_of facts.now.last.items)) number) ≡ Err e) }
+{
+    let count = facts.left.keeps.list.len();
+    if number < count {
+        use_side(node, facts, set, &facts.left, number)
+    } else {
+        use_right(node, facts, set, number - count)
+    }
+}
+
+/// Uses the fact with a number.
+#[tactic(auto, using(crate::proofs::Members::in_first, crate::proofs::Members::behind_first))]
+fn use_number(node: u64, facts: &NodeFacts, set: &mut Set, number: u64) -> Result<(), CertError>
+    requires { AreNarrow facts.now }
+    ensures used { IfOk result (λ _. spec.with_use node (seen_of facts.now) (has set.old) (slice_get (seen_of facts.now).list number) ≡ Ok (has set.new)) }
+    ensures refused { IfErr result (λ e. e ≢ CertError.OutOfMemory → spec.with_use node (seen_of facts.now) (has set.old) (slice_get (seen_of facts.now).list number) ≡ Err e) }
+{
+    let number = number as usize;
+    let count = facts.first.len();
+    if number < count {
+        use_given(node, facts, set, &facts.first, number)
+    } else {
+        use_left(node, facts, set, number - count)
+    }
+}
+
+/// Meets one of a trace's columns, which is added if it was not met before.
+#[tactic(auto, using(crate::proofs::Once::once_met, crate::proofs::Once::once_new))]
+fn meet(followed: &mut Followed, column: u16) -> Result<(), OutOfMemory>
+    ensures set { IfOk result (λ _. (m : AMember) → has followed.new.set m ≡ (same_member m (member.Column column) || has followed.old.set m)) }
+    ensures from { IfOk result (λ _. (rest : List ℕ) → followed.new.from.items ++ once_after (λ c. member.Column c) (has followed.new.set) rest ≡ followed.old.from.items ++ once_after (λ c. member.Column c) (has followed.old.set) (column ∷ rest)) }
+{
+    if followed.set.insert(Member::Column(column))? {
+        followed.from.push(column)?;
+    }
+    Ok(())
+}
+
+/// The columns from which a trace starts, where the facts have each.
+#[tactic(auto, using(crate::proofs::Members::one_more, crate::proofs::Members::not_started, crate::proofs::Once::once_first))]
+fn start(alloc: Global, node: u64, facts: &NodeFacts, trace: &Trace) -> Result<Followed, CertError>
+    ensures below { IfOk result (λ _. list_all (λ c. nat_lt c facts.now.columns) trace.now.from.items ≡ true) }
+    ensures from { IfOk result (λ f. f.from.items ≡ columns_once trace.now.from.items) }
+    ensures named { IfOk result (λ f. (m : AMember) → has f.set m ≡ stands_in (columns_named trace.now.from.items) m) }
+    ensures refused { IfErr result (λ e. e ≢ CertError.OutOfMemory → spec.traced node (seen_of facts.now) (trace_of trace.now) ≡ Err e) }
+{
+    let mut followed = Followed {
+        from: Vec::new(alloc),
+        set: Set::new(alloc),
+    };
     for column in &trace.from {
         if u64::from(facts.columns) <= *column {
             return Err(CertError::OutOfRange { node });
         }
-        set.insert(Member::Column(*column as u16))?;
+        meet(&mut followed, *column as u16)?;
     }
-    Ok(set)
+    Ok(followed)
 }
 
-/// The members by which a trace reaches what it does.
-#[tactic(auto, using(crate::proofs::Members::started))]
+/// Uses facts, one after another.
+fn use_each(
+    node: u64,
+    facts: &NodeFacts,
+    mut followed: Followed,
+    uses: &[u64],
+) -> Result<Followed, CertError>
+    requires { AreNarrow facts.now }
+    ensures from { IfOk result (λ f. f.from.items ≡ followed.from.items) }
+    ensures used { IfOk result (λ f. spec.with_uses node (seen_of facts.now) (has followed.set) uses.now ≡ Ok (has f.set)) }
+    ensures refused { IfErr result (λ e. e ≢ CertError.OutOfMemory → spec.with_uses node (seen_of facts.now) (has followed.set) uses.now ≡ Err e) }
+{
+    for number in uses {
+        use_number(node, facts, &mut followed.set, *number)?;
+    }
+    Ok(followed)
+}
+
+/// A trace, followed: its columns, and the members by which it reaches what it does.
+fn walk(alloc: Global, node: u64, facts: &NodeFacts, trace: &Trace) -> Result<Followed, CertError>
+    requires { AreNarrow facts.now }
+    ensures from { IfOk result (λ f. f.from.items ≡ columns_once trace.now.from.items) }
+    ensures traced { IfOk result (λ f. spec.traced node (seen_of facts.now) (trace_of trace.now) ≡ Ok (has f.set)) }
+    ensures refused { IfErr result (λ e. e ≢ CertError.OutOfMemory → spec.traced node (seen_of facts.now) (trace_of trace.now) ≡ Err e) }
+{
+    let followed = start(alloc, node, facts, trace)?;
+    use_each(node, facts, followed, &trace.uses)
+}
+
+/// A trace, followed; it reaches what it does with each of its columns once.
 pub(crate) fn follow(
     alloc: Global,
     node: u64,
-    facts: &Facts,
+    facts: &NodeFacts,
     trace: &Trace,
-) -> Result<Set, CertError>
-    ensures below { IfOk result (λ _. list_all (λ c. nat_lt c facts.now.columns) trace.now.from.items ≡ true) }
-    ensures reached { IfOk result (λ set. spec.traced node (facts_of facts.now) (trace_of trace.now) ≡ Ok (has set)) }
-    ensures refused { IfErr result (λ e. e ≢ CertError.OutOfMemory → spec.traced node (facts_of facts.now) (trace_of trace.now) ≡ Err e) }
+) -> Result<Followed, CertError>
+    requires { AreNarrow facts.now }
+    ensures from { IfOk result (λ f. f.from.items ≡ columns_once trace.now.from.items) }
+    ensures traced { IfOk result (λ f. spec.traced node (seen_of facts.now) (lean_trace (trace_of trace.now)) ≡ Ok (has f.set)) }
+    ensures refused { IfErr result (λ e. e ≢ CertError.OutOfMemory → spec.traced node (seen_of facts.now) (lean_trace (trace_of trace.now)) ≡ Err e) }
 {
-    let mut set = start(alloc, node, facts, trace)?;
-    for number in &trace.uses {
-        use_number(node, facts, &mut set, *number)?;
-    }
-    Ok(set)
+    walk(alloc, node, facts, trace)
 }

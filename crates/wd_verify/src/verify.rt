@@ -1,16 +1,16 @@
 //! Whether a certificate is valid.
 
-ghost use Rattle.std.specs.Prelude.{◌≡◌, ◌≢◌, true, map, None, Some, IfOk, IfErr};
+ghost use Rattle.std.specs.Prelude.{◌≡◌, ◌≢◌, ◌≤◌, true, length, map, None, Some, IfOk, IfErr};
 ghost use Rattle.wd_schema.specs.Schemas.{schema_of};
 ghost use Rattle.wd_plan.specs.Fits.{fits};
-ghost use Rattle.wd_plan.specs.Plans.{plan_of};
+ghost use Rattle.wd_plan.specs.Plans.{node_count, plan_of};
 ghost use Rattle.wd_certificate.specs.Certificates.{certificate_of, node_of, nodes_of};
 ghost use Rattle.wd_rules.specs.Laws.{AlwaysShows, HasOneAnswer};
-ghost use Rattle.wd_rules.specs.Validity.{IsValidCertificate, entries_refusal, first_refusal, form_refusal};
+ghost use Rattle.wd_rules.specs.Validity.{IsValidCertificate, entries_refusal, first_refusal, form_refusal, nodes_refusal};
 ghost use Rattle.wd_verify.specs.Shown.{refusal_of};
 
 use crate::evidence::refuse_unless;
-use crate::nodes::{check_nodes, left_over, look_over};
+use crate::nodes::{Checked, check_nodes, left_over, look_over};
 use std::alloc::Global;
 use wd_certificate::{CertError, Certificate, Node};
 use wd_plan::Plan;
@@ -34,6 +34,21 @@ fn check_form(plan: &Plan, nodes: &[Node]) -> Result<(), CertError>
     Ok(())
 }
 
+/// The entries of a plan's nodes, in postorder.
+fn check_entries(
+    alloc: Global,
+    plan: &Plan,
+    schema: &Schema,
+    nodes: &[Node],
+) -> Result<Checked, CertError>
+    requires fits { fits (schema_of schema.now) (plan_of plan.now) ≡ true }
+    requires within { node_count (plan_of plan.now) ≤ length nodes.now }
+    ensures passed { IfOk result (λ _. nodes_refusal (schema_of schema.now) (plan_of plan.now) 0 (map node_of nodes.now) ≡ None) }
+    ensures refused { IfErr result (λ e. e ≢ CertError.OutOfMemory → nodes_refusal (schema_of schema.now) (plan_of plan.now) 0 (map node_of nodes.now) ≡ Some e) }
+{
+    check_nodes(alloc, plan, schema, nodes, 0)
+}
+
 /// The checks of a plan's entries, in their order.
 fn check(alloc: Global, plan: &Plan, schema: &Schema, nodes: &[Node]) -> Result<(), CertError>
     requires { fits (schema_of schema.now) (plan_of plan.now) ≡ true }
@@ -41,7 +56,7 @@ fn check(alloc: Global, plan: &Plan, schema: &Schema, nodes: &[Node]) -> Result<
     ensures refused { IfErr result (λ e. e ≢ CertError.OutOfMemory → entries_refusal (schema_of schema.now) (plan_of plan.now) (map node_of nodes.now) ≡ Some e) }
 {
     check_form(plan, nodes)?;
-    check_nodes(alloc, plan, schema, nodes, 0)?;
+    check_entries(alloc, plan, schema, nodes)?;
     Ok(())
 }
 

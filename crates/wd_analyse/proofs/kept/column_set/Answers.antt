@@ -1,6 +1,6 @@
 use Rattle.std.proofs.Common.{◌∙◌, ◌||◌, ◌+◌, ap, sym, drop, ℕ, List}
 use Rattle.std.proofs.lemmas.List.{at_drop_more}
-use Rattle.wd_facts.specs.declared.facts.Member.TheVariants as member
+use Rattle.wd_step_facts.specs.declared.facts.Member.TheVariants as member
 use Rattle.wd_sets.specs.Sets.{has_column, is_in}
 use Rattle.wd_analyse.proofs.New.{in_or_left}
 use Rattle.wd_analyse.proofs.kept.column_set.Goals as goal

@@ -1,5 +1,5 @@
 use Rattle.std.proofs.Common.{◌≡◌, ◌++◌, drop, map}
-use Rattle.wd_facts.specs.Facts.{fact_of}
+use Rattle.wd_step_facts.specs.Facts.{fact_of}
 use Rattle.wd_analyse.specs.Evidence.{closing_of}
 use Rattle.wd_analyse.specs.Kept.{kept_fact}
 use Rattle.wd_analyse.proofs.kept.kept_facts.Given as goal

@@ -1,5 +1,5 @@
 use Rattle.std.proofs.Common.{◌≡◌, ◌++◌, drop}
-use Rattle.wd_facts.specs.Facts.{columns_named}
+use Rattle.wd_step_facts.specs.Facts.{columns_named}
 use Rattle.wd_analyse.proofs.kept.named.Given as goal
 
 abbrev pub invariant-loop-column : goal.invariant-loop-column

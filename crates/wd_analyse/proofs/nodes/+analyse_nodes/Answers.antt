@@ -1,7 +1,7 @@
 use Rattle.std.proofs.Common.{◌≡◌, true, ⊎_elim, map, option_map, refl, sym, ap, ◌∙◌}
 use Rattle.std.proofs.lemmas.Result.{IfOk-weaker}
 use Rattle.wd_schema.specs.Schemas.{schema_of}
-use Rattle.wd_facts.specs.Facts.{fact_of}
+use Rattle.wd_step_facts.specs.Facts.{fact_of}
 use Rattle.wd_plan.specs.Expressions.{expression_of}
 use Rattle.wd_plan.specs.Plans.{Join, plan_of}
 use Rattle.wd_analyse.proofs.Composed.{both_finds, one_finds, scan_finds}

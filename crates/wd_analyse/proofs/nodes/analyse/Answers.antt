@@ -3,7 +3,7 @@ use Rattle.std.proofs.lemmas.Bool.{eqb-true, false≢true}
 use Rattle.std.proofs.lemmas.List.{nil_from_length}
 use Rattle.wd_schema.specs.Schemas.{schema_of}
 use Rattle.wd_certificate.specs.Certificates.{node_of}
-use Rattle.wd_facts.specs.Facts.{fact_of}
+use Rattle.wd_step_facts.specs.Facts.{fact_of}
 use Rattle.wd_plan.specs.Plans.{plan_of}
 use Rattle.wd_analyse.proofs.Answered.{certified, opened}
 use Rattle.wd_analyse.proofs.nodes.analyse.Goals as goal

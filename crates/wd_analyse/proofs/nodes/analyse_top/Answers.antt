@@ -4,7 +4,7 @@ use Rattle.std.proofs.lemmas.List.{length-map}
 use Rattle.std.proofs.lemmas.Result.{IfOk-weaker}
 use Rattle.wd_schema.specs.Schemas.{schema_of}
 use Rattle.wd_certificate.specs.Certificates.{node_of}
-use Rattle.wd_facts.specs.Facts.{fact_of, facts_of, kept_by}
+use Rattle.wd_step_facts.specs.Facts.{fact_of, facts_of, kept_by}
 use Rattle.wd_plan.specs.Fits.{AreBelow, width}
 use Rattle.wd_plan.specs.Plans.{plan_of}
 use Rattle.wd_analyse.specs.Evidence.{Closing, closing_of}

@@ -3,7 +3,7 @@ use Rattle.std.specs.List.{list_all}
 use Rattle.wd_value.specs.Keys.{key_columns}
 use Rattle.wd_schema.specs.Schemas.{schema_of}
 use Rattle.wd_certificate.specs.Certificates.{node_of}
-use Rattle.wd_facts.specs.Facts.{FactList, fact_of, facts_of}
+use Rattle.wd_step_facts.specs.Facts.{FactList, fact_of, facts_of}
 use Rattle.wd_facts.specs.Given.{given}
 use Rattle.wd_plan.specs.Plans.{limit_of, plan_of}
 use Rattle.wd_analyse.specs.Evidence.{Closing, IsClosing, closing_of}

@@ -1,7 +1,7 @@
 use Rattle.std.proofs.Common.{◌++◌, map, vec_items, ap, ◌∙◌}
 use Rattle.std.proofs.lemmas.Result.{IfOk-weaker}
 use Rattle.wd_plan.specs.Expressions.{expression_of}
-use Rattle.wd_facts.specs.Facts.{fact_of}
+use Rattle.wd_step_facts.specs.Facts.{fact_of}
 use Rattle.wd_analyse.specs.Steps.{copy_in}
 use Rattle.wd_analyse.proofs.Outputs.{left_sides_same}
 use Rattle.wd_analyse.proofs.sources.add_left_sides.Goals as goal

@@ -1,5 +1,5 @@
 use Rattle.std.proofs.Common.{◌≡◌, ◌++◌, drop, map, vec_items}
-use Rattle.wd_facts.specs.Facts.{fact_of}
+use Rattle.wd_step_facts.specs.Facts.{fact_of}
 use Rattle.wd_analyse.specs.Steps.{copy_in, left_sides_by}
 use Rattle.wd_analyse.proofs.sources.add_left_sides_by.Given as goal
 

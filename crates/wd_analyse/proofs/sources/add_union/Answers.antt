@@ -1,6 +1,6 @@
 use Rattle.std.proofs.Common.{◌≡◌, ◌-◌, true, nat_lt, subst, sym, ap, ◌∙◌}
 use Rattle.std.specs.List.{list_all}
-use Rattle.wd_facts.specs.Facts.{fact_of}
+use Rattle.wd_step_facts.specs.Facts.{fact_of}
 use Rattle.wd_analyse.specs.Sources.{columns_in}
 use Rattle.wd_analyse.proofs.Outputs.{plain_low}
 use Rattle.wd_analyse.proofs.sources.add_union.Goals as goal

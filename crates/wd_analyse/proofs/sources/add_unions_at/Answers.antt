@@ -3,7 +3,7 @@ use Rattle.wd_schema.specs.Schemas.{schema_of}
 use Rattle.wd_plan.specs.Expressions.{expression_of}
 use Rattle.wd_plan.specs.Fits.{fits}
 use Rattle.wd_plan.specs.Plans.{plan_of}
-use Rattle.wd_facts.specs.Facts.{kept_by}
+use Rattle.wd_step_facts.specs.Facts.{kept_by}
 use Rattle.wd_facts.specs.Laws.{AreOfChildren}
 use Rattle.wd_facts.proofs.Asked.{right_kept}
 use Rattle.wd_analyse.proofs.sources.add_unions_at.Goals as goal

@@ -1,6 +1,6 @@
 use Rattle.std.proofs.Common.{◌≡◌, ◌-◌, ◌++◌, true, drop, map, vec_items}
 use Rattle.std.specs.List.{list_all}
-use Rattle.wd_facts.specs.Facts.{fact_of, is_plain_fact}
+use Rattle.wd_step_facts.specs.Facts.{fact_of, is_plain_fact}
 use Rattle.wd_analyse.specs.Sources.{unions_with}
 use Rattle.wd_analyse.proofs.sources.add_unions_with.Given as goal
 

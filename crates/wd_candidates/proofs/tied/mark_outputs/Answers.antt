@@ -1,7 +1,7 @@
 use Rattle.std.proofs.Common.{◌∙◌, arith, map, sym}
 use Rattle.std.proofs.lemmas.List.{length-map}
 use Rattle.wd_plan.specs.Expressions.{expression_of}
-use Rattle.wd_facts.specs.Given.{used}
+use Rattle.wd_step_facts.specs.Steps.{used}
 use Rattle.wd_candidates.specs.Marks.{is_marked}
 use Rattle.wd_candidates.proofs.Sources.{output_at}
 use Rattle.wd_candidates.proofs.Wanted.{wanted_next, wanted_passed}

@@ -1,6 +1,6 @@
 use Rattle.std.proofs.Common.{map, take}
 use Rattle.wd_plan.specs.Expressions.{expression_of}
-use Rattle.wd_facts.specs.Given.{used}
+use Rattle.wd_step_facts.specs.Steps.{used}
 use Rattle.wd_candidates.specs.Marks.{MarksMore, is_marked}
 use Rattle.wd_candidates.specs.Origins.{is_in_wanted}
 use Rattle.wd_candidates.proofs.tied.mark_outputs.Given as goal

@@ -1,7 +1,7 @@
 use Rattle.std.proofs.Common.{◌≡◌, ◌&&◌, drop, map}
 use Rattle.std.specs.List.{list_all}
 use Rattle.wd_close.specs.Closure.{is_named}
-use Rattle.wd_facts.specs.Facts.{Fact, fact_of, facts_of}
+use Rattle.wd_step_facts.specs.Facts.{Fact, fact_of, facts_of}
 use Rattle.wd_cases_certificates.proofs.named.are_named.Given as goal
 
 abbrev pub invariant-loop-fact : goal.invariant-loop-fact

@@ -1,6 +1,6 @@
 use Rattle.std.proofs.Common.{◌≡◌, drop, map}
 use Rattle.std.specs.List.{list_all}
-use Rattle.wd_facts.specs.Facts.{fact_of, is_plain_fact}
+use Rattle.wd_step_facts.specs.Facts.{fact_of, is_plain_fact}
 use Rattle.wd_cases_certificates.proofs.plain.are_plain_facts.Given as goal
 
 abbrev pub invariant-loop-fact : goal.invariant-loop-fact

@@ -1,5 +1,5 @@
 use Rattle.std.proofs.Common.{◌≡◌, drop, map}
-use Rattle.wd_facts.specs.Facts.{fact_of}
+use Rattle.wd_step_facts.specs.Facts.{fact_of}
 use Rattle.wd_close.specs.Reached.{Mirrors}
 use Rattle.wd_close.specs.Reached as spec
 use Rattle.wd_close.proofs.counters.fire.Given as goal

@@ -1,5 +1,5 @@
 use Rattle.std.proofs.Common.{◌≡◌, drop}
-use Rattle.wd_facts.specs.Facts.{columns_named}
+use Rattle.wd_step_facts.specs.Facts.{columns_named}
 use Rattle.wd_close.specs.Reached.{Mirrors}
 use Rattle.wd_close.specs.Reached as spec
 use Rattle.wd_close.proofs.reached.add_named.Given as goal

@@ -1,4 +1,4 @@
-use Rattle.std.proofs.Common.{◌≡◌, ◌+◌, ◌∙◌, sym, ap, subst, map, length, rules, None, Ok}
+use Rattle.std.proofs.Common.{◌≡◌, ◌+◌, ◌∙◌, sym, ap, subst, map, length, rules, arith, None, Ok}
 use Rattle.std.specs.Prelude.{option_map}
 use Rattle.std.proofs.lemmas.List.{length-map}
 use Rattle.std.proofs.lemmas.Result.{err_from_is_err_and}
@@ -8,10 +8,11 @@ use Rattle.wd_plan.specs.Faults.{and_then}
 use Rattle.wd_plan.specs.Outcomes.{distinct, filter_outcome, map_outcome, outcome_of}
 use Rattle.wd_plan.specs.Plans.{EachNamesClasses, Filter, Map, Group, Window, Distinct, Limit, Join, class_of, grouping_of, limit_of, plan_of, window_of}
 use Rattle.wd_eval.specs.Windows.{orderings_of}
+use Rattle.wd_join.specs.Joins.{has_more_rows}
 use Rattle.wd_nodes.specs.Held.{IsHeld}
 use Rattle.wd_eval.specs.Errors.{error_of}
-use Rattle.wd_nodes.specs.Produced.{produced_of}
-use Rattle.wd_eval.specs.Walks.{IsHalted, IsWalked}
+use Rattle.wd_nodes.specs.Produced.{IsLarge, IsSmall, group_over, join_over, produced_of}
+use Rattle.wd_eval.specs.Walks.{IsHalted, IsWalked, most_of}
 use Rattle.wd_nodes.specs.declared.produced.Produced.TheVariants.{Made}
 use Rattle.wd_eval.proofs.Nodes.{filter_stopped, map_stopped, group_stopped_below, distinct_stopped, window_stopped_below, limit_stopped_below, join_stopped_left}
 use Rattle.wd_eval.proofs.Tying.{filter_untied, map_untied, group_untied_below, distinct_untied, window_untied, limit_untied, join_untied_left}
@@ -55,7 +56,7 @@ returns-in_err-below-in-Filter t c = λ instance held. (
     rw (err.1, err.2) (record {
       ok = tt;
       refused = subst (λ p. IsHalted p instance orderings first e) (sym (ap plan_of c.in-Filter.is))
-          (halted_below tables instance first old orderings input (Filter condition input) e c.requires.at (λ choice. filter_stopped tables instance choice first condition input e) (λ flipped. filter_untied tables instance flipped (orderings_of old) condition input e) h);
+          (halted_below tables instance first old orderings input (Filter condition input) e c.requires.at (λ choice. filter_stopped (most_of orderings) tables instance choice first condition input e) (λ flipped. filter_untied tables instance flipped (orderings_of old) condition input e) h);
     }))
 
 pub returns-in_ok-outcome-in-Map : goal.returns-in_ok-outcome-in-Map
@@ -95,7 +96,7 @@ returns-in_err-below-in-Map t c = λ instance held. (
     rw (err.1, err.2) (record {
       ok = tt;
       refused = subst (λ p. IsHalted p instance orderings first e) (sym (ap plan_of c.in-Map.is))
-          (halted_below tables instance first old orderings input (Map outputs input) e c.requires.at (λ choice. map_stopped tables instance choice first outputs input e) (λ flipped. map_untied tables instance flipped (orderings_of old) outputs input e) h);
+          (halted_below tables instance first old orderings input (Map outputs input) e c.requires.at (λ choice. map_stopped (most_of orderings) tables instance choice first outputs input e) (λ flipped. map_untied tables instance flipped (orderings_of old) outputs input e) h);
     }))
 
 pub returns-in_ok-outcome-in-Distinct : goal.returns-in_ok-outcome-in-Distinct
@@ -133,7 +134,7 @@ returns-in_err-below-in-Distinct t c = λ instance held. (
     rw (err.1, err.2) (record {
       ok = tt;
       refused = subst (λ p. IsHalted p instance orderings first e) (sym (ap plan_of c.in-Distinct.is))
-          (halted_below tables instance first old orderings input (Distinct input) e c.requires.at (λ choice. distinct_stopped tables instance choice first input e) (λ flipped. distinct_untied tables instance flipped (orderings_of old) input e) h);
+          (halted_below tables instance first old orderings input (Distinct input) e c.requires.at (λ choice. distinct_stopped (most_of orderings) tables instance choice first input e) (λ flipped. distinct_untied tables instance flipped (orderings_of old) input e) h);
     }))
 
 pub returns-in_ok-outcome-in-Window : goal.returns-in_ok-outcome-in-Window
@@ -178,7 +179,7 @@ returns-in_err-below-in-Window t c = λ instance held. (
     rw (err.1, err.2) (record {
       ok = tt;
       refused = subst (λ p. IsHalted p instance orderings first e) (sym (ap plan_of c.in-Window.is))
-          (halted_below tables instance first old orderings input (Window w input) e c.requires.at (λ choice. window_stopped_below tables instance choice first w input e) (λ flipped. window_untied tables instance flipped (orderings_of old) w input e) h);
+          (halted_below tables instance first old orderings input (Window w input) e c.requires.at (λ choice. window_stopped_below (most_of orderings) tables instance choice first w input e) (λ flipped. window_untied tables instance flipped (orderings_of old) w input e) h);
     }))
 
 pub returns-in_err-outcome-in-Window : goal.returns-in_err-outcome-in-Window
@@ -241,7 +242,7 @@ returns-in_err-below-in-Limit t c = λ instance held. (
     rw (err.1, err.2) (record {
       ok = tt;
       refused = subst (λ p. IsHalted p instance orderings first e) (sym (ap plan_of c.in-Limit.is))
-          (halted_below tables instance first old orderings input (Limit limit input) e c.requires.at (λ choice. limit_stopped_below tables instance choice first limit input e) (λ flipped. limit_untied tables instance flipped (orderings_of old) limit input e) h);
+          (halted_below tables instance first old orderings input (Limit limit input) e c.requires.at (λ choice. limit_stopped_below (most_of orderings) tables instance choice first limit input e) (λ flipped. limit_untied tables instance flipped (orderings_of old) limit input e) h);
     }))
 
 pub returns-in_err-outcome-in-Limit : goal.returns-in_err-outcome-in-Limit
@@ -281,7 +282,7 @@ returns-in_err-left-in-Join t c = λ instance held. (
     rw (err.1, err.2) (record {
       ok = tt;
       refused = subst (λ p. IsHalted p instance orderings first e) (sym (ap plan_of c.in-Join.is))
-          (halted_below tables instance first old orderings left (Join condition left right) e c.requires.at (λ choice. join_stopped_left tables instance choice first condition left right e) (λ flipped. join_untied_left tables instance flipped (orderings_of old) condition left right e) h);
+          (halted_below tables instance first old orderings left (Join condition left right) e c.requires.at (λ choice. join_stopped_left (most_of orderings) tables instance choice first condition left right e) (λ flipped. join_untied_left tables instance flipped (orderings_of old) condition left right e) h);
     }))
 
 pub returns-in_err-right-in-Join : goal.returns-in_err-right-in-Join
@@ -327,7 +328,7 @@ returns-in_ok-outcome-in-Join t c = λ instance held. (
     let b = subst (λ p. IsWalked (plan_of p) tables instance orderings l.next mid new r) c.deref-in-Join.ensures (c.in_ok-right-in-Join.ensures instance right_held).ok in
     record {
       ok = subst (λ p. IsWalked p tables instance orderings first old new (record { outcome = o; next = r.next })) (sym (ap plan_of c.in-Join.is))
-          (join_walked tables instance first old condition left right mid l new r orderings o a b c.in_ok-outcome-in-Join.ensures.ok);
+          (join_walked tables instance first old condition left right mid l new r orderings o a b (subst (λ m. IsSmall m (join_over condition (produced_of tables l.outcome) (produced_of tables r.outcome)) (produced_of tables o)) c.most-most.ensures c.in_ok-outcome-in-Join.ensures.ok));
       refused = tt;
     })
 
@@ -352,7 +353,7 @@ returns-in_err-outcome-in-Join t c = λ instance held. (
     let err = err_from_is_err_and c.from_residual-in_err-outcome-in-Join.result c.from_residual-in_err-outcome-in-Join.ensures.1 in
     let a = subst (λ p. IsWalked (plan_of p) tables instance orderings first old mid l) c.deref.ensures (c.in_ok-left-in-Join.ensures instance left_held).ok in
     let b = subst (λ p. IsWalked (plan_of p) tables instance orderings l.next mid new r) c.deref-in-Join.ensures (c.in_ok-right-in-Join.ensures instance right_held).ok in
-    rw (err.1, err.2) (record { ok = tt; refused = subst (λ p. IsHalted p instance orderings first (error_of e)) (sym (ap plan_of c.in-Join.is)) (join_halted tables instance first old condition left right mid l new r orderings e c.requires.at a b c.in_err-outcome-in-Join.ensures.refused) }))
+    rw (err.1, err.2) (record { ok = tt; refused = subst (λ p. IsHalted p instance orderings first (error_of e)) (sym (ap plan_of c.in-Join.is)) (join_halted tables instance first old condition left right mid l new r orderings e c.requires.at a b (subst (λ m. IsLarge m (join_over condition (produced_of tables l.outcome) (produced_of tables r.outcome)) e) c.most-most.ensures c.in_err-outcome-in-Join.ensures.refused)) }))
 
 pub grouped-requires : goal.grouped-requires
 grouped-requires t c =
@@ -364,7 +365,8 @@ grouped-requires t c =
     let b = (c.in_ok-below-in-Group.ensures some.instance below_held).ok in
     let named = subst EachNamesClasses (ap plan_of c.in-Group.is) c.requires.named in
     record {
-      small = small_below tables some.instance c.args.first c.args.made.now.items c.evaluate-in-Group.new.made.items c.args.orderings (plan_of c.deref-in-Group.result.now) below b;
+      few = (let is = c.most-most.ensures in let bound = c.requires.bounded in omega arith);
+      small = ap (λ m. has_more_rows m (produced_of tables below.outcome)) c.most-most.ensures ∙ small_below tables some.instance c.args.first c.args.made.now.items c.evaluate-in-Group.new.made.items c.args.orderings (plan_of c.deref-in-Group.result.now) below b;
       masks = named.1;
     }
 
@@ -384,7 +386,7 @@ returns-in_ok-outcome-in-Group t c = λ instance held. (
     let input = plan_of c.in-Group.input.value in
     let b = subst (λ p. IsWalked (plan_of p) tables instance orderings first old new below) c.deref-in-Group.ensures (c.in_ok-below-in-Group.ensures instance below_held).ok in
     record {
-      ok = subst (λ p. IsWalked p tables instance orderings first old new (record { outcome = Made o; next = below.next })) (sym (ap plan_of c.in-Group.is)) (group_walked tables instance first old rule input new below orderings o b c.in_ok-outcome-in-Group.ensures.ok);
+      ok = subst (λ p. IsWalked p tables instance orderings first old new (record { outcome = Made o; next = below.next })) (sym (ap plan_of c.in-Group.is)) (group_walked tables instance first old rule input new below orderings o b (subst (λ m. IsSmall m (group_over rule (produced_of tables below.outcome)) (outcome_of o)) c.most-most.ensures c.in_ok-outcome-in-Group.ensures.ok));
       refused = tt;
     })
 
@@ -405,7 +407,7 @@ returns-in_err-below-in-Group t c = λ instance held. (
     rw (err.1, err.2) (record {
       ok = tt;
       refused = subst (λ p. IsHalted p instance orderings first e) (sym (ap plan_of c.in-Group.is))
-          (halted_below tables instance first old orderings input (Group rule input) e c.requires.at (λ choice. group_stopped_below tables instance choice first rule input e) (λ flipped. group_untied_below tables instance flipped (orderings_of old) rule input e) h);
+          (halted_below tables instance first old orderings input (Group rule input) e c.requires.at (λ choice. group_stopped_below (most_of orderings) tables instance choice first rule input e) (λ flipped. group_untied_below tables instance flipped (orderings_of old) rule input e) h);
     }))
 
 pub returns-in_err-outcome-in-Group : goal.returns-in_err-outcome-in-Group
@@ -424,4 +426,4 @@ returns-in_err-outcome-in-Group t c = λ instance held. (
     let e = c.in_err-outcome-in-Group.field-0.0 in
     let err = err_from_is_err_and c.from_residual-in_err-outcome-in-Group.result c.from_residual-in_err-outcome-in-Group.ensures.1 in
     let b = subst (λ p. IsWalked (plan_of p) tables instance orderings first old new below) c.deref-in-Group.ensures (c.in_ok-below-in-Group.ensures instance below_held).ok in
-    rw (err.1, err.2) (record { ok = tt; refused = subst (λ p. IsHalted p instance orderings first (error_of e)) (sym (ap plan_of c.in-Group.is)) (group_halted tables instance first old rule input new below orderings e c.requires.at b c.in_err-outcome-in-Group.ensures.refused) }))
+    rw (err.1, err.2) (record { ok = tt; refused = subst (λ p. IsHalted p instance orderings first (error_of e)) (sym (ap plan_of c.in-Group.is)) (group_halted tables instance first old rule input new below orderings e c.requires.at b (subst (λ m. IsLarge m (group_over rule (produced_of tables below.outcome)) e) c.most-most.ensures c.in_err-outcome-in-Group.ensures.refused)) }))

@@ -1,8 +1,8 @@
 use Rattle.std.proofs.Common.{◌≡◌, ◌∙◌, ap, arith, ℕ, ◌+◌, ◌++◌, map, option_map}
 use Rattle.wd_plan.specs.Expressions.{expression_of}
-use Rattle.wd_facts.specs.Facts.{fact_of, moved_facts}
-use Rattle.wd_facts.specs.Given.{conjuncts_of, facts_of_conjuncts}
-use Rattle.wd_facts.specs.declared.facts.Member.TheVariants as member
+use Rattle.wd_step_facts.specs.Facts.{fact_of, moved_facts}
+use Rattle.wd_step_facts.specs.Steps.{conjuncts_of, facts_of_conjuncts}
+use Rattle.wd_step_facts.specs.declared.facts.Member.TheVariants as member
 use Rattle.wd_facts.proofs.node.facts_of_sides.Goals as goal
 
 by_zero : (n : ℕ) → 0 + n ≡ n

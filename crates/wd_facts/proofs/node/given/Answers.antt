@@ -7,8 +7,8 @@ use Rattle.wd_plan.specs.Fits.{fits, width}
 use Rattle.wd_plan.specs.Plans.{Filter, Window, Distinct, Limit, limit_of, plan_of, window_of}
 use Rattle.wd_plan.proofs.Ranges.{names_classes}
 use Rattle.wd_plan.specs.declared.expression.Expr.{Expr}
-use Rattle.wd_facts.specs.Facts.{is_plain_fact, kept_by}
-use Rattle.wd_facts.specs.Given.{used as used_by}
+use Rattle.wd_step_facts.specs.Facts.{is_plain_fact, kept_by}
+use Rattle.wd_step_facts.specs.Steps.{used as used_by}
 use Rattle.wd_facts.specs.Laws.{AreOfChildren}
 use Rattle.wd_facts.proofs.Asked.{width_below, left_kept, right_kept, input_narrow, outputs_narrow, input_kept, outputs_used}
 use Rattle.wd_facts.proofs.node.given.Goals as goal

@@ -1,7 +1,7 @@
 use Rattle.std.proofs.Common.{◌≡◌, ◌++◌, map, take}
 use Rattle.wd_schema.specs.Schemas.{schema_of}
 use Rattle.wd_plan.specs.Plans.{plan_of}
-use Rattle.wd_facts.specs.Facts.{fact_of}
+use Rattle.wd_step_facts.specs.Facts.{fact_of}
 use Rattle.wd_facts.specs.Given.{full_keys, is_not_null, keys_facts}
 use Rattle.wd_facts.proofs.nullable.add_full_keys.Given as goal
 

@@ -1,6 +1,6 @@
 use Rattle.std.proofs.Common.{◌≡◌, ◌++◌, drop, map}
 use Rattle.wd_plan.specs.Expressions.{expression_of}
-use Rattle.wd_facts.specs.Given.{copied_keys}
+use Rattle.wd_step_facts.specs.Steps.{copied_keys}
 use Rattle.wd_facts.proofs.nullable.copied_keys.Given as goal
 
 abbrev pub invariant-loop-key : goal.invariant-loop-key

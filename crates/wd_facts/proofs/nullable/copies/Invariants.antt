@@ -1,6 +1,6 @@
 use Rattle.std.proofs.Common.{◌≡◌, drop, map}
 use Rattle.wd_plan.specs.Expressions.{expression_of}
-use Rattle.wd_facts.specs.Given.{copies}
+use Rattle.wd_step_facts.specs.Steps.{copies}
 use Rattle.wd_facts.proofs.Added.{behind}
 use Rattle.wd_facts.proofs.nullable.copies.Given as goal
 

@@ -1,7 +1,7 @@
 use Rattle.std.proofs.Common.{◌≡◌, ◌&&◌, map, filter, take}
 use Rattle.wd_schema.specs.Tables.{KeyRule, key_of, table_of}
-use Rattle.wd_facts.specs.declared.facts.Member.TheVariants as member
-use Rattle.wd_facts.specs.Facts.{fact_of}
+use Rattle.wd_step_facts.specs.declared.facts.Member.TheVariants as member
+use Rattle.wd_step_facts.specs.Facts.{fact_of}
 use Rattle.wd_facts.specs.Given.{gives_row, keys_facts, names_columns}
 use Rattle.wd_facts.proofs.tables.row_key_facts.Given as goal
 

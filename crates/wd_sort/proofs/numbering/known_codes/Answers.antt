@@ -1,5 +1,6 @@
-use Rattle.std.proofs.Common.{◌≡◌, ◌∙◌, map, get_or, length, rules}
-use Rattle.wd_sort.specs.Known.{AreNumbers}
+use Rattle.std.proofs.Common.{◌≡◌, ◌∙◌, map, get_or, length, rules, arith}
+use Rattle.wd_value.specs.Rows.{column_of, row_at}
+use Rattle.wd_sort.specs.Known.{AreKnown, AreNumbers}
 use Rattle.wd_sort.specs.Ranks.{AreRanks}
 use Rattle.wd_sort.proofs.Codings.{coding_of_ranks}
 use Rattle.wd_sort.proofs.numbering.known_codes.Goals as goal
@@ -10,9 +11,23 @@ returns c =
     let given = c.args.positions.now in
     let known = c.numbers_of.new.known in
     let ranks = c.in_ok-ranks.ranks.items in
-    let numbers = c.in-Some.numbers.items in
+    let numbers = c.in_ok-numbers.numbers.items in
     let are : AreNumbers known c.args.column.column rows given numbers = search rules in
+    let all : AreKnown known = search rules in
     let ranked : AreRanks c.args.column.key known.values.items ranks = search rules in
     let codes : c.replaced-codes.result.items ≡ map (λ n. get_or ranks n 0) numbers = c.replaced-codes.ensures ∙ (λ t. map (λ n. get_or (c.deref-2.ensures.value t) n 0) numbers) in
     let bound : c.len-bound.result ≡ length ranks = search rules in
-    coding_of_ranks rows given c.args.column known numbers ranks c.replaced-codes.result.items c.len-bound.result are ranked codes bound
+    coding_of_ranks rows given c.args.column known numbers ranks c.replaced-codes.result.items c.len-bound.result all are ranked codes bound
+
+pub replaced-codes-requires : goal.replaced-codes-requires
+replaced-codes-requires c = λ k low.
+    (let known = c.numbers_of.new.known in
+    let numbers = c.in_ok-numbers.numbers.items in
+    let are : AreNumbers known c.args.column.column c.args.rows.now c.args.positions.now numbers = c.in_ok-numbers.ensures.numbers in
+    let ranked : AreRanks c.args.column.key known.values.items c.in_ok-ranks.ranks.items = search rules in
+    let there : c.deref-2.result.now ≡ c.in_ok-ranks.ranks.items = search rules in
+    let long = are.long in
+    let at = c.in_ok-numbers.ensures.known (column_of (row_at c.args.rows.now (get_or c.args.positions.now k 0)) c.args.column.column) (get_or numbers k 0) (are.each k (omega arith)) in
+    let low' = at.0 in
+    let long' = ranked.long in
+    rw there (omega arith))

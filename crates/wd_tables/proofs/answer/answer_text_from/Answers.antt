@@ -1,4 +1,4 @@
-use Rattle.std.proofs.Common.{◌≡◌, ◌∙◌, ◌+◌, ◌<◌, [], ◌∷◌, ◌++◌, take, length, get_or, sym, ap, refl, arith}
+use Rattle.std.proofs.Common.{◌≡◌, ◌+◌, [], ◌∷◌, ◌++◌, take, refl, arith}
 use Rattle.std.proofs.lemmas.List.{append-nil, take_more}
 use Rattle.wd_value.specs.Rows.{row_at}
 use Rattle.wd_tables.specs.Answers.{HasWritten, answer_text}

@@ -42,28 +42,30 @@ returns-in-None-clause-fits c text read places first =
     rw c.new-in-None.ensures (fits_all c.args.table.now.columns.items text c.loop-before.before (rows_along (rows_of c.loop-before.columns.items) c.loop-before.before) held)
 
 pub returns-in_err-more-clause-refused : goal.returns-in_err-more-clause-refused
-returns-in_err-more-clause-refused c text read places first =
+returns-in_err-more-clause-refused c text read places first malformed =
+    let last : c.loop-before.before ≡ most_records = omega arith in
     let p = err_from_is_err_and c.from_residual-in_err-more.result c.from_residual-in_err-more.ensures.1 in
     let (before, held, long, wide) = c.loop-before.invariant text read places first in
     let accepted = first_accepted (table_of c.args.table.now) text c.loop-before.before (rows_along (rows_of c.loop-before.columns.items) c.loop-before.before) held (omega arith) in
-    rw (p.1, p.2) (read_refused (table_of c.args.table.now) text (c.loop-before.before + 1) _ accepted (c.in_err-more.ensures.refused text (c.loop-before.before + 1) before))
+    rw (p.1, p.2) (read_refused (table_of c.args.table.now) text (most_records + 1) _ (rw last at accepted) (c.in_err-more.ensures.refused text (rw last at before) malformed))
 
 pub returns-then-more-clause-refused : goal.returns-then-more-clause-refused
-returns-then-more-clause-refused c text read places first =
+returns-then-more-clause-refused c text read places first malformed =
     let last : c.loop-before.before ≡ most_records = omega arith in
     let (before, held, long, wide) = c.loop-before.invariant text read places first in
-    let found = rw c.if-more.true at (c.in_ok-more.ensures.read text (c.loop-before.before + 1) before) in
+    let found = rw c.if-more.true at (c.in_ok-more.ensures.read text (rw last at before)) in
     let accepted = first_accepted (table_of c.args.table.now) text c.loop-before.before (rows_along (rows_of c.loop-before.columns.items) c.loop-before.before) held (omega arith) in
-    too_many (table_of c.args.table.now) text _ (rw last at accepted) (rw last at found.1)
+    too_many (table_of c.args.table.now) text _ (rw last at accepted) found.1
 
 pub returns-clause-holds : goal.returns-clause-holds
 returns-clause-holds c text read places first =
     let (before, held, long, wide) = c.loop-before.invariant text read places first in
-    let all = rw c.if-more.false at (c.in_ok-more.ensures.read text (c.loop-before.before + 1) before) in
     let columns = rows_of c.loop-before.columns.items in
     let last : most_records ≡ c.loop-before.before = omega arith in
+    let all = rw c.if-more.false at (c.in_ok-more.ensures.read text (rw (sym last) at before)) in
+    let count : most_records + 1 ≡ c.loop-before.before + 1 = omega arith in
     let is : c.new-2.result ≡ rows_along columns c.loop-before.before = c.new-2.ensures ∙ ap (rows_along columns) last in
-    rw is (holds_all (table_of c.args.table.now) text c.loop-before.before (rows_along columns c.loop-before.before) held all (omega arith))
+    rw is (holds_all (table_of c.args.table.now) text c.loop-before.before (rows_along columns c.loop-before.before) held (all ∙ count) (omega arith))
 
 pub returns-clause-fits : goal.returns-clause-fits
 returns-clause-fits c text read places first =
@@ -74,8 +76,8 @@ returns-clause-fits c text read places first =
     rw is (fits_all c.args.table.now.columns.items text c.loop-before.before (rows_along columns c.loop-before.before) held)
 
 pub returns-in_err-row-clause-refused : goal.returns-in_err-row-clause-refused
-returns-in_err-row-clause-refused c text read places first =
+returns-in_err-row-clause-refused c text read places first malformed =
     let (before, held, long, wide) = c.loop-before.invariant text read places first in
     let accepted = first_accepted (table_of c.args.table.now) text c.loop-before.before (rows_along (rows_of c.loop-before.columns.items) c.loop-before.before) held (omega arith) in
     let p = err_from_is_err_and c.from_residual-in_err-row.result c.from_residual-in_err-row.ensures.1 in
-    rw (p.1, p.2) (c.in_err-row.ensures.refused text before places (omega arith) (omega arith) accepted)
+    rw (p.1, p.2) (c.in_err-row.ensures.refused text before places (omega arith) (omega arith) accepted malformed)

@@ -1,16 +1,17 @@
-use Rattle.std.proofs.Common.{◌≡◌, Ok, map, subst}
-use Rattle.std.proofs.lemmas.Result.{IfOk-weaker}
+use Rattle.std.proofs.Common.{subst, sym}
+use Rattle.wd_plan.specs.Fits.{width}
 use Rattle.wd_plan.specs.Plans.{plan_of}
-use Rattle.wd_certificate.specs.Certificates.{node_of, trace_of}
-use Rattle.wd_facts.specs.Facts.{facts_of}
-use Rattle.wd_rules.specs.Traces.{each_traced}
-use Rattle.wd_verify.specs.Shown.{traced_of}
-use Rattle.wd_verify.proofs.Claims.{keeps_plain}
+use Rattle.wd_facts.specs.Laws.{ArePlain}
+use Rattle.wd_rules.specs.Rules.{kept_facts}
+use Rattle.wd_rules.proofs.Kept.{entry_plain}
+use Rattle.wd_verify.specs.Lean.{lean_of}
+use Rattle.wd_verify.specs.Shown.{seen_of}
 use Rattle.wd_verify.proofs.entry.check_entry.Goals as goal
+
+pub keeps_of-requires-clause-plain : goal.keeps_of-requires-clause-plain
+keeps_of-requires-clause-plain c =
+    subst (λ w. ArePlain w (kept_facts (lean_of c.args.entry.now))) (sym c.width.ensures) (entry_plain c.args.node (seen_of c.in_ok-facts.facts) (plan_of c.args.plan.now) (lean_of c.args.entry.now) c.in_ok-traces.ensures.passed)
 
 pub returns-clause-plain : goal.returns-clause-plain
 returns-clause-plain c =
-    let facts = facts_of c.in_ok-facts.facts in
-    let shown = map traced_of c.in_ok-traces.traces.items in
-    let traced = subst (λ traces. each_traced c.args.node facts (map trace_of traces) ≡ Ok shown) c.deref.ensures.value c.in_ok-traces.ensures.traced in
-    IfOk-weaker c.check_claims.result _ _ (λ done passed. keeps_plain c.args.node facts (plan_of c.args.plan.now) (node_of c.args.entry.now) (Ok shown) traced passed) c.check_claims.ensures.passed
+    subst (ArePlain (width (plan_of c.args.plan.now))) (sym c.in_ok-keeps.ensures) (entry_plain c.args.node (seen_of c.in_ok-facts.facts) (plan_of c.args.plan.now) (lean_of c.args.entry.now) c.in_ok-traces.ensures.passed)

@@ -2,25 +2,25 @@ use Rattle.std.proofs.Common.{ℕ, ◌≡◌, ◌≢◌, ◌∙◌, IfErr, IfOk,
 use Rattle.wd_schema.specs.Schemas.{schema_of}
 use Rattle.wd_plan.specs.Expressions.{expression_of}
 use Rattle.wd_plan.specs.Plans.{Join, plan_of}
-use Rattle.wd_certificate.specs.Certificates.{node_of}
 use Rattle.wd_certificate.specs.declared.error.CertError.TheVariants.{OutOfMemory}
-use Rattle.wd_facts.specs.Facts.{fact_of}
 use Rattle.wd_facts.specs.Given.{given}
 use Rattle.wd_rules.specs.Rules.{entry_refusal}
 use Rattle.wd_rules.specs.Validity.{entry_at, nodes_refusal}
+use Rattle.wd_verify.specs.Lean.{lean_of}
+use Rattle.wd_verify.specs.Shown.{facts_kept}
 use Rattle.wd_verify.proofs.Joins.{join_refusal}
 use Rattle.wd_verify.proofs.nodes.+check_nodes.Goals as goal
 
 -- past the sides' entries
-by_top : (t : ℕ) (c : goal.After-drop-left-in-Join t) → nodes_refusal (schema_of c.args.schema.now) (plan_of c.args.plan.now) c.args.first (map node_of c.args.nodes.now)
+by_top : (t : ℕ) (c : goal.After-check_top-in-Join t) → nodes_refusal (schema_of c.args.schema.now) (plan_of c.args.plan.now) c.args.first (map lean_of c.args.nodes.now)
     ≡ entry_refusal c.in_ok-right-in-Join.right.next
-    (given (schema_of c.args.schema.now) (plan_of c.args.plan.now) (map fact_of c.deref-in-Join-2.result.now) (map fact_of c.deref-in-Join-3.result.now))
-    (plan_of c.args.plan.now) (entry_at (map node_of c.args.nodes.now) c.in_ok-right-in-Join.right.next)
+    (given (schema_of c.args.schema.now) (plan_of c.args.plan.now) (facts_kept c.in_ok-left-in-Join.left.kept) (facts_kept c.in_ok-right-in-Join.right.kept))
+    (plan_of c.args.plan.now) (entry_at (map lean_of c.args.nodes.now) c.in_ok-right-in-Join.right.next)
 by_top t c =
     let is = ap plan_of c.in-Join.is ∙ (λ i. Join (option_map expression_of c.in-Join.condition) (plan_of (sym c.deref.ensures i)) (plan_of (sym c.deref-in-Join.ensures i))) in
-    join_refusal (schema_of c.args.schema.now) (plan_of c.args.plan.now) _ _ _ c.args.first c.in_ok-left-in-Join.left.next c.in_ok-right-in-Join.right.next (map node_of c.args.nodes.now) _ _ is
+    join_refusal (schema_of c.args.schema.now) (plan_of c.args.plan.now) _ _ _ c.args.first c.in_ok-left-in-Join.left.next c.in_ok-right-in-Join.right.next (map lean_of c.args.nodes.now) _ _ is
     c.in_ok-left-in-Join.ensures.next c.in_ok-right-in-Join.ensures.next
-    (ap (map fact_of) c.deref-in-Join-2.ensures.value ∙ c.in_ok-left-in-Join.ensures.kept) (ap (map fact_of) c.deref-in-Join-3.ensures.value ∙ c.in_ok-right-in-Join.ensures.kept)
+    c.in_ok-left-in-Join.ensures.kept c.in_ok-right-in-Join.ensures.kept
     c.in_ok-left-in-Join.ensures.passed c.in_ok-right-in-Join.ensures.passed
 
 pub returns-in_ok-right-in-Join-clause-passed : goal.returns-in_ok-right-in-Join-clause-passed

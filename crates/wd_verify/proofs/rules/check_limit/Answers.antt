@@ -2,19 +2,19 @@ use Rattle.std.proofs.Common.{◌≡◌, ◌∙◌, ap, sym}
 use Rattle.wd_value.specs.Keys.{key_columns}
 use Rattle.wd_plan.specs.Plans.{limit_of}
 use Rattle.wd_certificate.specs.declared.error.CertError.TheVariants.{UnjustifiedLimit}
-use Rattle.wd_facts.specs.Facts.{columns_named, facts_of}
-use Rattle.wd_facts.specs.Given.{all_columns}
+use Rattle.wd_step_facts.specs.Facts.{columns_named}
+use Rattle.wd_step_facts.specs.Steps.{all_columns}
 use Rattle.wd_sets.specs.Sets.{is_in}
 use Rattle.wd_rules.specs.Rules.{limit_refusal, refuse_unless, refuse_unless_shown, shows}
-use Rattle.wd_verify.specs.Shown.{refusal_of, shown_by, traced_of}
+use Rattle.wd_verify.specs.Shown.{refusal_of, seen_of, shown_by, traced_of}
 use Rattle.wd_verify.proofs.Claims.{passed, refused}
 use Rattle.wd_verify.proofs.rules.check_limit.Goals as goal
 
 -- the limit's keys, by the trace that is named for it
-by_trace : (c : goal.After-refuse_unless-in-Some) → refusal_of c.refuse_unless-in-Some.result ≡ limit_refusal c.args.evidence.now.node (facts_of c.args.evidence.now.facts) c.args.columns (shown_by c.args.evidence.now) (limit_of c.args.limit.now) c.args.number
+by_trace : (c : goal.After-refuse_unless-in-Some) → refusal_of c.refuse_unless-in-Some.result ≡ limit_refusal c.args.evidence.now.node (seen_of c.args.evidence.now.facts) c.args.columns (shown_by c.args.evidence.now) (limit_of c.args.limit.now) c.args.number
 by_trace c =
     let node = c.args.evidence.now.node in
-    let facts = facts_of c.args.evidence.now.facts in
+    let facts = seen_of c.args.evidence.now.facts in
     let shown = shown_by c.args.evidence.now in
     let limit = limit_of c.args.limit.now in
     let all = columns_named (all_columns c.args.columns) in

@@ -1,7 +1,7 @@
 use Rattle.std.proofs.Common.{◌≡◌, drop}
 use Rattle.wd_value.specs.Keys.{key_columns}
-use Rattle.wd_facts.specs.declared.facts.Member.{Member}
-use Rattle.wd_facts.specs.Facts.{columns_named}
+use Rattle.wd_step_facts.specs.declared.facts.Member.{Member}
+use Rattle.wd_step_facts.specs.Facts.{columns_named}
 use Rattle.wd_sets.specs.Sets.{has}
 use Rattle.wd_sets.specs.Reaches.{also}
 use Rattle.wd_verify.proofs.rules.insert_keys.Given as goal

@@ -1,5 +1,5 @@
 use Rattle.std.proofs.Common.{◌≡◌, drop}
-use Rattle.wd_facts.specs.declared.facts.Member.{Member}
+use Rattle.wd_step_facts.specs.declared.facts.Member.{Member}
 use Rattle.wd_sets.specs.Sets.{has}
 use Rattle.wd_sets.specs.Reaches.{also}
 use Rattle.wd_verify.proofs.trace.insert_each.Given as goal

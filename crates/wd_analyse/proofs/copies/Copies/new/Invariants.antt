@@ -1,6 +1,6 @@
 use Rattle.std.proofs.Common.{◌≡◌, ℕ, drop, map}
 use Rattle.wd_plan.specs.Expressions.{expression_of}
-use Rattle.wd_facts.specs.Given.{copy_from}
+use Rattle.wd_step_facts.specs.Steps.{copy_from}
 use Rattle.wd_analyse.specs.Steps.{copy_in}
 use Rattle.wd_analyse.proofs.copies.Copies.new.Given as goal
 

@@ -1,6 +1,6 @@
 use Rattle.std.proofs.Common.{rules, ◌≡◌, ◌+◌, ◌<◌, true, List, map, length, sym, ◌∙◌, ap, subst, arith, vec_items, replicate, [], nat_lt, ℕ}
 use Rattle.std.specs.List.{list_all}
-use Rattle.wd_facts.specs.Facts.{FactList, columns_named, fact_of, facts_of}
+use Rattle.wd_step_facts.specs.Facts.{FactList, columns_named, fact_of, facts_of}
 use Rattle.wd_sets.specs.Sets.{has, stands_in}
 use Rattle.wd_close.specs.Closure.{Derives, IsClosure, is_named, steps_of}
 use Rattle.wd_close.specs.Reached as spec

@@ -1,5 +1,5 @@
 use Rattle.std.proofs.Common.{◌≡◌, ◌+◌, ◌-◌, ◌*◌, ◌≤◌, map, take, length}
-use Rattle.wd_facts.specs.Facts.{columns_named, fact_of, facts_of}
+use Rattle.wd_step_facts.specs.Facts.{columns_named, fact_of, facts_of}
 use Rattle.wd_close.specs.Closure.{all_members}
 use Rattle.wd_close.specs.Reached.{Mirrors}
 use Rattle.wd_close.proofs.Derivations.{IsDerived}

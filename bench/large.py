@@ -1,0 +1,110 @@
+#!/usr/bin/env python3
+"""Measures what inputs of 256 MiB, the most that a file may have, take at worst until they are refused or read.
+
+    python3 bench/large.py [--size MEBIBYTES] [--most GIGABYTES] [PROGRAM]
+    python3 bench/large.py [--size MEBIBYTES] --write FOLDER
+
+First come CSV texts, by `run` over a table of two columns: a header of commas, one that is no UTF-8 at its end, a record of commas
+under a good header, a field of commas. Then certificates, by `verify`, and witnesses, by `refute`: JSON whose values are as small
+as they can be, of no certificate or witness and of lawful ones. Prints the seconds, the most memory and the exit status of one run
+each. PROGRAM is the built program (default: crates/wdcheck/out/wdcheck, which ./wdcheck builds); it may take as much memory as
+--most says (16 GB), past which it answers that memory ran out. With --write the texts are written to a folder in place of that.
+"""
+
+import argparse
+import os
+import resource
+import subprocess
+import tempfile
+import time
+
+import verify
+
+SCHEMA = b"CREATE TABLE t (id BIGINT, name TEXT);\n"
+QUERY = b"SELECT id, ROW_NUMBER() OVER () AS n FROM t\n"
+ENTRY = b'{"nodes":[{"calls":[],"keep":[],"limit":null,"traces":['
+ENTRY_END = b']}],"version":1}'
+
+
+# A text is a front, a part that fills it, and an end. It is written a block at a time: the memory of this script would count as
+# that of the program which it starts.
+TABLES = {
+    "a header of commas": (b"", b",", b""),
+    "one that is no UTF-8": (b"", b",", b"\xff"),
+    "a record of commas": (b"id,name\n1,a\n", b",", b""),
+    "a field of commas": (b'id,name\n1,"', b",", b'"\n'),
+}
+CERTIFICATES = {
+    "a number of zeros": (b"1", b"0", b""),
+    "a list of zeros": (b"[0", b",0", b"]"),
+    "a list of lists of one": (b"[[0]", b",[0]", b"]"),
+    "a list of objects": (b'[{"":0}', b',{"":0}', b"]"),
+    "a trace of zeros": (ENTRY + b'{"from":[0', b",0", b'],"uses":[]}' + ENTRY_END),
+    "traces": (ENTRY + b'{"from":[],"uses":[]}', b',{"from":[],"uses":[]}', ENTRY_END),
+}
+WITNESSES = {
+    "an ordering of zeros": (b'{"first":[[0', b",0", b']],"second":[],"tables":{}}'),
+    "orderings of one": (b'{"first":[[0]', b",[0]", b'],"second":[],"tables":{}}'),
+    "rows of one": (b'{"first":[],"second":[],"tables":{"t":[[0]', b",[0]", b"]}}"),
+}
+# By their command, and what stands before the path of the text.
+COMMANDS = (("run", "t=", TABLES), ("verify", "", CERTIFICATES), ("refute", "", WITNESSES))
+PARTS = 1 << 16
+
+
+def write(folder, name, pieces):
+    """Writes a text, and returns its path."""
+    path = os.path.join(folder, name)
+    with open(path, "wb") as file:
+        file.writelines(pieces)
+    return path
+
+
+def pieces_of(text, size):
+    """A text of at most so many bytes: the front, as many parts as there is room for, and the end."""
+    front, part, end = text
+    parts = (size - len(front) - len(end)) // len(part)
+    yield front
+    for _ in range(parts // PARTS):
+        yield part * PARTS
+    yield part * (parts % PARTS)
+    yield end
+
+
+def measure(words, most):
+    """Seconds, peak memory in MB and the exit status of one run."""
+
+    def narrow():
+        resource.setrlimit(resource.RLIMIT_AS, (most << 30, most << 30))
+
+    start = time.monotonic()
+    child = subprocess.Popen(words, stdout=subprocess.DEVNULL, stderr=subprocess.DEVNULL, preexec_fn=narrow)
+    _, ended, usage = os.wait4(child.pid, 0)
+    return time.monotonic() - start, usage.ru_maxrss / 1024, os.waitstatus_to_exitcode(ended)
+
+
+def main():
+    parser = argparse.ArgumentParser(description=__doc__, formatter_class=argparse.RawDescriptionHelpFormatter)
+    parser.add_argument("program", nargs="*")
+    parser.add_argument("--size", type=int, default=256)
+    parser.add_argument("--most", type=int, default=16)
+    parser.add_argument("--write", metavar="FOLDER")
+    asked = parser.parse_args()
+    size = asked.size << 20
+    if asked.write:
+        for command, _, texts in COMMANDS:
+            for number, text in enumerate(texts.values()):
+                write(asked.write, "%s.%d" % (command, number), pieces_of(text, size))
+        return
+    program = verify.program_of(asked.program)
+    with tempfile.TemporaryDirectory() as folder:
+        first = [write(folder, "schema.sql", [SCHEMA]), write(folder, "query.sql", [QUERY])]
+        for command, before, texts in COMMANDS:
+            for title, text in texts.items():
+                path = write(folder, "text", pieces_of(text, size))
+                seconds, memory, status = measure([program, command, *first, before + path], asked.most)
+                print("%-7s %-24s %6.1f s, %6.0f MB at most, status %d" % (command, title, seconds, memory, status), flush=True)
+
+
+if __name__ == "__main__":
+    main()

@@ -1,6 +1,0 @@
-use Rattle.std.proofs.Common.{◌≡◌}
-use Rattle.wd_facts.specs.Given.{all_columns}
-use Rattle.wd_facts.proofs.members.first_columns.Given as goal
-
-abbrev pub invariant-loop-column : goal.invariant-loop-column
-invariant-loop-column l = l.columns.items ≡ all_columns l.column

@@ -1,0 +1,10 @@
+-- Numbers for the rows, column by column.
+use Rattle.std.specs.Prelude.{◌≡◌, ℕ, ◌<◌, ◌∷◌, [], List, get_or, length}
+use Rattle.wd_value.specs.Rows.{Row}
+use Rattle.wd_sort.specs.declared.coding.Coding.{Coding}
+use Rattle.wd_sort.specs.Numbers.{AreNumbersBy}
+
+-- for each of the first so many columns numbers that tell its values apart
+pub record AreNumbersOfEach (columns : ℕ) (rows : List Row) (numbers : List Coding) : Type 0 where
+  pub long : length numbers ≡ columns
+  pub each : (column : ℕ) (d : Coding) → column < columns → AreNumbersBy (column ∷ []) rows (get_or numbers column d).bound (get_or numbers column d).codes.items

@@ -1,0 +1,4 @@
+pub mod Appended
+pub mod GroupsAdded
+pub mod ToldApart
+pub mod Added

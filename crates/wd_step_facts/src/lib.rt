@@ -1,0 +1,19 @@
+//! Facts, and those that the steps of a plan give: conditions, the outputs of a Map, the calls of a Window, and Groups.
+#![tactic(auto)]
+
+mod apart;
+mod calls;
+mod conditions;
+mod facts;
+mod groups;
+mod maps;
+mod members;
+mod moved;
+
+pub use calls::add_calls;
+pub use conditions::{add_conjuncts, add_join_conjuncts};
+pub use facts::{Facts, Given, Member};
+pub use groups::group_facts;
+pub use maps::{add_outputs, copy_of, is_column};
+pub use members::{add_key, copied_facts, first_columns};
+pub use moved::add_moved_facts;

@@ -1,9 +1,0 @@
-use Rattle.std.proofs.Common.{◌≡◌, ◌++◌, drop, map, true}
-use Rattle.std.specs.List.{list_all}
-use Rattle.wd_rules.specs.Rules.{is_target, member_of}
-use Rattle.wd_verify.proofs.kept.targets_of.Given as goal
-
-abbrev pub invariant-loop-target : goal.invariant-loop-target
-invariant-loop-target l =
-    (list_all (is_target l.columns) (drop l.target-index l.targets) ≡ true)
-    × (l.list.items ++ map member_of (drop l.target-index l.targets) ≡ map member_of l.targets)
