@@ -10,8 +10,8 @@ selects stand over one another above them, and a limit by sort keys on top; each
 In the larger one each trace uses all facts of its node, and what it keeps names all columns. Last comes a certificate that says
 nothing, for a table with 64 nullable keys of 150 columns each under 30 selects with 200 conjuncts each, of which one in the
 middle rules NULLs out: there the given facts take the time. Then come certificates that say one thing many times: a column of a trace, a target, a
-use, a kept fact; and one with many kept facts by a single trace of 1,024 columns, each used: their time and memory go with their
-length. Prints the least seconds and the most memory of three runs.
+use, a kept fact; one with many kept facts by a single trace of 1,024 columns, each used; and one that uses such a fact many times:
+their time and memory go with their length. Prints the least seconds and the most memory of three runs.
 PROGRAM is the built program (default: crates/wdcheck/out/wdcheck, which ./wdcheck builds). With --write the texts of the large
 ones are written to a folder in place of that.
 """
@@ -26,7 +26,7 @@ import time
 TOP = os.path.dirname(os.path.dirname(os.path.abspath(__file__)))
 TABLES, COLUMNS, KEYS, SELECTS = "abcd", 256, 64, 24
 KEY_COLUMNS, FILTERS, CONJUNCTS = 150, 30, 200
-REPEATED, SHARED = 120_000, 38_000
+REPEATED, SHARED, USED = 120_000, 38_000, 500_000
 TURNS = 3
 
 
@@ -170,12 +170,12 @@ def repeated_texts():
     yield "a target, a use", one_column_text(scan, [0] * REPEATED)
 
 
-def shared_text():
-    """Many kept facts by one trace of all columns of a Join, each of them used above."""
+def wide_text(facts, uses):
+    """So many kept facts by one trace of all columns of a Join, and what is used of them above."""
     empty, width = entry([], []), len(TABLES) * COLUMNS
     joins = [empty, empty, empty, empty, empty, empty]
-    keeps = dict(entry([(list(range(width)), [])], []), keep=[{"to": [], "trace": 0}] * SHARED)
-    above = entry([(list(range(width, 2 * width)), list(range(SHARED)))], [])
+    keeps = dict(entry([(list(range(width)), [])], []), keep=[{"to": [], "trace": 0}] * facts)
+    above = entry([(list(range(width, 2 * width)), uses)], [])
     return json.dumps({"nodes": joins + [keeps, dict(above, keep=[])], "version": 1}, separators=(",", ":"))
 
 
@@ -187,7 +187,9 @@ def large_texts():
     yield "nullable keys", nullable_keys_text(), filters_text(), bare_text(1 + 2 * FILTERS)
     for title, certificate in repeated_texts():
         yield title, "CREATE TABLE t (c BIGINT);\n", "SELECT c FROM t\n", certificate
-    yield "one trace, many facts", schema, "SELECT * FROM %s\n" % ", ".join(TABLES), shared_text()
+    joined = "SELECT * FROM %s\n" % ", ".join(TABLES)
+    yield "one trace, many facts", schema, joined, wide_text(SHARED, list(range(SHARED)))
+    yield "one fact, many uses", schema, joined, wide_text(1, [0] * USED)
 
 
 def measure_cases(program, folder):

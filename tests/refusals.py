@@ -7,7 +7,11 @@ An example is a row of a table with the columns 'Number' and 'Example': the prog
 print nothing but the answer that the row shows, on standard error. The page says how an example is written; what it leaves out
 (schema, query, certificate, witness, data, the words of the command line) is the section's, from the code blocks that the page
 has under its headings. Each number must stand in a row, and each row must have an answer. Where the answer names a place,
-tools/place.py must find it in the example. The last line is 'N passed, M failed'.
+tools/place.py must find it in the example.
+
+A row of a table with the column 'At the caret' is tried too: the example must be refused, tools/place.py must show a caret under
+the words of the first cell (each of several takes the place of the first in the example), and the query that the last cell begins
+with must be read. The last line is 'N passed, M failed'.
 """
 
 import os
@@ -118,6 +122,36 @@ def complaint(program, command, kind, given, row):
     return wrong_place(answer, texts)
 
 
+def shown_word(line, path):
+    """What stands over the caret that tools/place.py shows for a refusal's line."""
+    ran = subprocess.run([sys.executable, f"{TOP}/tools/place.py", line, path], capture_output=True, text=True)
+    shown = ran.stdout.split("\n")
+    if ran.returncode or len(shown) < 3:
+        return None
+    return "".join(c for c, under in zip(shown[1], shown[2]) if under == "^")
+
+
+def caret_complaint(program, given, row):
+    """What is wrong with a row of a table by the word at the caret, or None."""
+    words = re.findall(r"`([^`]+)`", row["At the caret"]) if row["At the caret"].startswith("`") else [None]
+    example, instead = row["Example"].strip("`"), re.match(r"`([^`]+)`", row["Write in its place"])
+    read = run(program, "check", given | {"query": instead[1].encode()}) if instead else None
+    if not read or read.returncode > 2:
+        return f"what to write in its place is not read: {read.stderr if read else row}"
+    for word in words:
+        query = example if word is None else example.replace(words[0], word, 1) if word != words[0] else example
+        ran = run(program, "check", given | {"query": query.encode()})
+        line = ran.stderr.decode(errors="replace").strip()
+        with tempfile.TemporaryDirectory() as folder:
+            path = f"{folder}/query.sql"
+            with open(path, "w", encoding="utf-8") as file:
+                file.write(query)
+            shown = shown_word(line, path)
+        if ran.returncode != 3 or not shown or word is not None and shown != word:
+            return f"{query}: status {ran.returncode}, {line}, caret under {shown!r}"
+    return None
+
+
 def cells(line):
     return [cell.strip().replace("\\|", "|") for cell in re.split(r"(?<!\\)\|", line.strip())[1:-1]]
 
@@ -150,12 +184,13 @@ def main():
         found = list(rows(file.read()))
     lost = {str(number) for number in NUMBERS} | FAULTS
     for section, given, row in found:
-        lost.discard(row["Number"])
+        name = row.get("Number") or row["At the caret"]
+        lost.discard(name)
         command, kind = SECTIONS[section]
-        wrong = complaint(program, command, kind, given, row)
+        wrong = complaint(program, command, kind, given, row) if "Number" in row else caret_complaint(program, given, row)
         passed, failed = passed + (not wrong), failed + bool(wrong)
         if wrong:
-            print(f"FAIL {row['Number']}: {wrong}")
+            print(f"FAIL {name}: {wrong}")
     for number in sorted(lost):
         failed += 1
         print(f"FAIL {number}: no row of the page has it")

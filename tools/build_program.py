@@ -1,10 +1,12 @@
 #!/usr/bin/env python3
-"""Proves the program and the crates below it where they are not proved yet, and builds it: crates/wdcheck/out/wdcheck.
+"""Proves a program and the crates below it where they are not proved yet, and builds it: crates/PROGRAM/out/PROGRAM.
 
-    python3 tools/build_program.py
+    python3 tools/build_program.py [PROGRAM]
+
+The program is wdcheck where none is named.
 
 Proved is a crate whose library or program stands in its out/ beside a mark of the very files, kit and libraries below that it was
-made of; what 'rt ci' passed of these on this machine, and kept, is put there first. The others are proved from nothing; what stands
+made of; what 'rt ci' passed of these on this machine, and kept (as some kits do), is put there first. The others are proved from nothing; what stands
 above a library loads its statements alone, and no test is proved. Standard
 error says at once about how long it will take, and then by a line for each crate how many functions are done of all. Ends with
 status 1 where a crate isn't proved.
@@ -19,7 +21,7 @@ import threading
 
 from rt_module import TOP, rt, sum_of
 
-PROGRAM = "wdcheck"
+PROGRAM = sys.argv[1] if len(sys.argv) > 1 else "wdcheck"
 # Processor seconds to prove a crate and each function of it: the 43 crates with their 1,649 functions took some 7,000 of them.
 SECONDS_A_CRATE, SECONDS_A_FUNCTION = 20, 3.7
 FUNCTION = rb"(?m)^ *(?:pub(?:\([a-z]+\))? )?(?:const )?fn \w"
@@ -53,6 +55,8 @@ class Made:
 
     def take_kept(self, crates):
         """Puts what 'rt ci' kept of the very same files, kit and libraries below into the crates' out/; the lowest come first."""
+        if not hasattr(rt, "Kept"):
+            return
         kept, has_said = rt.Kept(crates), False
         for crate in crates:
             if not all(self.is_current(below) for below in crate.below()):
@@ -152,7 +156,9 @@ def main():
     rt.Crate.allowed = rt.handles_of(TOP)
     rt.Crate.cuts_libraries = True
     rt.rtlib.Crate = rt.Crate
-    program = next(crate for crate in rt.rtlib.crates_below(TOP) if crate.name == PROGRAM)
+    program = next((crate for crate in rt.rtlib.crates_below(TOP) if crate.name == PROGRAM and crate.is_program), None)
+    if program is None:
+        sys.exit(f"there is no program {PROGRAM}")
     crates = [*program.below(), program]
     held = rt.rtlib.lock(crates)
     made, progress = Made(), Progress(crates)

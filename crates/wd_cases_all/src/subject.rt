@@ -4,6 +4,7 @@ use wd_cases::{Cases, Failure};
 use wd_cases_calls::CallCases;
 use wd_cases_certificates::CertificateCases;
 use wd_cases_command::CommandCases;
+use wd_cases_growths::GrowthCases;
 use wd_cases_meaning::MeaningCases;
 use wd_cases_plans::PlanCases;
 use wd_cases_reading::ReadingCases;
@@ -17,6 +18,7 @@ pub enum Subject {
     Certificates,
     Command,
     Calls,
+    Growths,
 }
 
 impl Subject {
@@ -29,6 +31,7 @@ impl Subject {
             "certificates" => Ok(Subject::Certificates),
             "command" => Ok(Subject::Command),
             "calls" => Ok(Subject::Calls),
+            "growths" => Ok(Subject::Growths),
             _ => Err(Failure::NoCase),
         }
     }
@@ -44,6 +47,7 @@ pub struct SubjectCases {
     certificates: CertificateCases,
     command: CommandCases,
     calls: CallCases,
+    growths: GrowthCases,
 }
 
 impl SubjectCases {
@@ -57,6 +61,7 @@ impl SubjectCases {
             certificates: CertificateCases::new(alloc),
             command: CommandCases::new(alloc),
             calls: CallCases::new(alloc),
+            growths: GrowthCases,
         }
     }
 }
@@ -70,6 +75,7 @@ impl Cases for SubjectCases {
             Subject::Certificates => self.certificates.answer(alloc, word, text),
             Subject::Command => self.command.answer(alloc, word, text),
             Subject::Calls => self.calls.answer(alloc, word, text),
+            Subject::Growths => self.growths.answer(alloc, word, text),
         }
     }
 }

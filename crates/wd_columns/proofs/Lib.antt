@@ -1,3 +1,4 @@
 pub mod Places
 pub mod Pushes
 pub mod RowsAlong
+pub mod Rooms

@@ -1,3 +1,4 @@
 pub mod Along
 pub mod Moves
 pub mod Kept
+pub mod Room

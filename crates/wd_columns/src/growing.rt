@@ -1,7 +1,8 @@
 //! Columns that grow by a row.
 
-ghost use Rattle.std.specs.Prelude.{◌≡◌, ◌<◌, ◌≤◌, ◌++◌, [], ◌∷◌, IfOk, OnOk, length, set};
+ghost use Rattle.std.specs.Prelude.{◌≡◌, ◌+◌, ◌<◌, ◌≤◌, ◌++◌, [], ◌∷◌, All, IfOk, OnErr, OnOk, drop, length, set};
 ghost use Rattle.wd_columns.specs.Along.{AreLong, with_row};
+ghost use Rattle.wd_columns.specs.Room.{HasRoom};
 ghost use Rattle.wd_value.specs.Rows.{row_at, rows_of};
 
 use std::alloc::Global;
@@ -21,32 +22,48 @@ pub fn empty_columns(alloc: Global, count: usize) -> Result<Vec<Vec<Value>>, Out
 
 /// Puts the values of a row after those of the columns, the first one after the first column's. A
 /// value without a column is dropped.
+///
+/// # Errors
+/// Where memory runs out; the columns then have the values that they had.
 pub fn push_row(columns: &mut Vec<Vec<Value>>, row: Row) -> Result<(), OutOfMemory>
-    ensures { OnOk result (rows_of columns.new.items ≡ with_row (rows_of columns.old.items) row.items) }
+    ensures grown { OnOk result (rows_of columns.new.items ≡ with_row (rows_of columns.old.items) row.items) }
+    ensures kept { OnErr result (rows_of columns.new.items ≡ rows_of columns.old.items) }
 {
+    make_room(columns)?;
     let mut place = 0;
     for value in row {
-        push_at(columns, place, value)?;
+        push_at(columns, place, value);
         place += 1;
     }
     Ok(())
 }
 
-/// Puts a value after those of the column at a place, if there is one.
-fn push_at(columns: &mut Vec<Vec<Value>>, place: usize, value: Value) -> Result<(), OutOfMemory>
-    ensures within { OnOk result (place < length columns.old.items → rows_of columns.new.items ≡ set (rows_of columns.old.items) place (row_at (rows_of columns.old.items) place ++ value ∷ [])) }
-    ensures past { OnOk result (length columns.old.items ≤ place → columns.new.items ≡ columns.old.items) }
+/// Room for a further value in each column.
+fn make_room(columns: &mut Vec<Vec<Value>>) -> Result<(), OutOfMemory>
+    ensures kept { rows_of columns.new.items ≡ rows_of columns.old.items }
+    ensures room { OnOk result (All HasRoom columns.new.items) }
 {
-    if place >= columns.len() {
-        return Ok(());
+    for place in 0..columns.len() {
+        columns[place].reserve(1)?;
     }
-    push_value(&mut columns[place], value)?;
     Ok(())
 }
 
-fn push_value(column: &mut Vec<Value>, value: Value) -> Result<(), OutOfMemory>
-    ensures { OnOk result (column.new.items ≡ column.old.items ++ value ∷ []) }
+/// Puts a value after those of the column at a place, if there is one.
+fn push_at(columns: &mut Vec<Vec<Value>>, place: usize, value: Value)
+    requires { All HasRoom (drop place columns.old.items) }
+    ensures within { place < length columns.old.items → rows_of columns.new.items ≡ set (rows_of columns.old.items) place (row_at (rows_of columns.old.items) place ++ value ∷ []) }
+    ensures past { length columns.old.items ≤ place → columns.new.items ≡ columns.old.items }
+    ensures room { All HasRoom (drop (place + 1) columns.new.items) }
 {
-    column.push(value)?;
-    Ok(())
+    if place < columns.len() {
+        push_value(&mut columns[place], value);
+    }
+}
+
+fn push_value(column: &mut Vec<Value>, value: Value)
+    requires { HasRoom column.old }
+    ensures { column.new.items ≡ column.old.items ++ value ∷ [] }
+{
+    column.push_reserved(value);
 }

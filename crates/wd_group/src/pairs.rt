@@ -5,7 +5,8 @@ ghost use Rattle.wd_group.specs.Pairs.{ArePairNumbers, AreApart, Keeps, number_i
 
 use std::alloc::Global;
 use std::collections::HashMap;
-use wd_sort::Coding;
+use std::hash::{DefaultHasher, Hasher};
+use wd_sort::{Coding, Seeded};
 use wd_value::OutOfMemory;
 
 /// A number for each place of two lists, in the order in which the pairs there are met first: two
@@ -18,7 +19,7 @@ pub(crate) fn pair_numbers(
     requires { length first.now ≡ length second.now }
     ensures { IfOk result (λ c. ArePairNumbers first.now second.now c.bound c.codes.items) }
 {
-    let mut met = HashMap::new(alloc);
+    let mut met = HashMap::with_hasher(alloc, seeded_by(first, second));
     let mut codes = Vec::with_capacity(alloc, first.len())?;
     for k in 0..first.len() {
         let number = pair_number(&mut met, (first[k], second[k]))?;
@@ -28,8 +29,23 @@ pub(crate) fn pair_numbers(
     Ok(Coding { codes, bound })
 }
 
+/// A seed for the hashes of the pairs, made of them.
+fn seeded_by(first: &[u64], second: &[u64]) -> Seeded
+    requires { length first.now ≡ length second.now }
+{
+    let mut all = DefaultHasher::new();
+    for k in 0..first.len() {
+        all.write_u64(first[k]);
+        all.write_u64(second[k]);
+    }
+    Seeded::by(&all)
+}
+
 /// The number of a pair, which is met from then on.
-fn pair_number(met: &mut HashMap<(u64, u64), u64>, pair: (u64, u64)) -> Result<u64, OutOfMemory>
+fn pair_number(
+    met: &mut HashMap<(u64, u64), u64, Seeded>,
+    pair: (u64, u64),
+) -> Result<u64, OutOfMemory>
     requires { AreApart met.old }
     ensures apart { OnOk result (AreApart met.new) }
     ensures kept { OnOk result (Keeps met.old met.new) }

@@ -8,3 +8,4 @@ pub mod ChoiceLaws
 pub mod FitsNodes
 pub mod Ranges
 pub mod SortLaws
+pub mod Copied

@@ -13,3 +13,5 @@ pub mod Settled
 pub mod Fits
 pub mod Equality
 pub mod Sources
+pub mod Walks
+pub mod Copies

@@ -5,6 +5,7 @@ ghost use Rattle.wd_plan.specs.Equality as spec;
 ghost use Rattle.wd_plan.specs.Expressions.{expression_of};
 ghost use Rattle.wd_plan.specs.Fits as fits;
 
+use crate::copy::copied;
 use crate::expression::{Expr, ValueKind};
 use std::alloc::Global;
 use wd_value::{OutOfMemory, same};
@@ -14,42 +15,7 @@ impl Expr {
     pub fn copy(&self, alloc: Global) -> Result<Expr, OutOfMemory>
         ensures { IfOk result (λ e. expression_of e ≡ expression_of self.now) }
     {
-        Ok(Box::into_inner(self.boxed_copy(alloc)?))
-    }
-
-    /// A copy behind a pointer, so that little of the stack is taken for each level.
-    fn boxed_copy(&self, alloc: Global) -> Result<Box<Expr>, OutOfMemory>
-        ensures { IfOk result (λ e. expression_of e.value ≡ expression_of self.now) }
-    {
-        match self {
-            Expr::Column(column) => boxed(alloc, Expr::Column(*column)),
-            Expr::Literal(value, kind) => boxed(alloc, Expr::Literal(value.copy(alloc)?, *kind)),
-            Expr::Negate(a) => boxed(alloc, Expr::Negate(a.boxed_copy(alloc)?)),
-            Expr::Arithmetic(op, a, b) => {
-                let a = a.boxed_copy(alloc)?;
-                boxed(alloc, Expr::Arithmetic(*op, a, b.boxed_copy(alloc)?))
-            }
-            Expr::Compare(op, a, b) => {
-                let a = a.boxed_copy(alloc)?;
-                boxed(alloc, Expr::Compare(*op, a, b.boxed_copy(alloc)?))
-            }
-            Expr::Not(a) => boxed(alloc, Expr::Not(a.boxed_copy(alloc)?)),
-            Expr::And(a, b) => {
-                let a = a.boxed_copy(alloc)?;
-                boxed(alloc, Expr::And(a, b.boxed_copy(alloc)?))
-            }
-            Expr::Or(a, b) => {
-                let a = a.boxed_copy(alloc)?;
-                boxed(alloc, Expr::Or(a, b.boxed_copy(alloc)?))
-            }
-            Expr::IsNull(a) => boxed(alloc, Expr::IsNull(a.boxed_copy(alloc)?)),
-            Expr::IsNotNull(a) => boxed(alloc, Expr::IsNotNull(a.boxed_copy(alloc)?)),
-            Expr::Case(branch, a, b, c) => {
-                let a = a.boxed_copy(alloc)?;
-                let b = b.boxed_copy(alloc)?;
-                boxed(alloc, Expr::Case(*branch, a, b, c.boxed_copy(alloc)?))
-            }
-        }
+        copied(alloc, self)
     }
 
     /// Whether two expressions are one and the same tree. A literal's kind counts, and a CASE within ELSE is another tree
@@ -79,12 +45,6 @@ impl Expr {
             _ => false,
         }
     }
-}
-
-fn boxed(alloc: Global, expression: Expr) -> Result<Box<Expr>, OutOfMemory>
-    ensures { IfOk result (λ e. expression_of e.value ≡ expression_of expression) }
-{
-    Ok(Box::new(alloc, expression)?)
 }
 
 /// Whether two kinds are one.

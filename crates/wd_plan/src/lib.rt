@@ -1,6 +1,7 @@
 //! Plans of queries, and what a plan gives over an instance under a choice of orderings.
 #![tactic(auto)]
 
+mod copy;
 mod equality;
 mod expression;
 mod fits;

@@ -255,10 +255,10 @@ fn with_outputs(
     let Listed {
         below,
         mut outputs,
-        mut needs,
+        needs,
     } = listed;
     let mut more = more;
-    needs.add_all(alloc, &more)?;
+    let needs = needs.add_all(alloc, &more)?;
     outputs.append(&mut more)?;
     Ok((below, outputs, needs))
 }
@@ -326,9 +326,9 @@ fn shown_sorted(
     let Listed {
         below,
         outputs,
-        mut needs,
+        needs,
     } = listed;
-    needs.add_having(&below.having)?;
+    let needs = needs.add_having(&below.having)?;
     let shown = Shown {
         scope,
         groups: below.groups(),

@@ -23,7 +23,7 @@ use wd_resolve_scope::{GroupCall, MOST_COLUMNS, RowLeaf, SelectLeaf, WindowCall}
 use wd_value::OutOfMemory;
 
 /// The distinct window calls, the distinct expressions that the Map below a Window shows, and the distinct calls over groups, in the
-/// order in which they are met.
+/// order in which they are met. A call that adds to them takes them by value: where memory runs out they are dropped.
 #[derive(Drop)]
 pub struct Needs {
     pub calls: Vec<WindowCall>,
@@ -62,7 +62,11 @@ impl Needs {
 
     /// Adds the leaves of an expression, from left to right.
     #[tactic(auto, using(crate::proofs::FirstMet::calls_added, crate::proofs::FirstMet::inputs_added, crate::proofs::FirstMet::read_added))]
-    pub fn add(&mut self, alloc: Global, formula: &Formula<SelectLeaf>) -> Result<(), OutOfMemory>
+    fn add_leaves(
+        &mut self,
+        alloc: Global,
+        formula: &Formula<SelectLeaf>,
+    ) -> Result<(), OutOfMemory>
         ensures { IfOk result (λ u. needs_shown self.new ≡ needs_with (needs_shown self.old) (leaves (formula_of formula.now))) }
     {
         let leaves = leaves_of(alloc, formula)?;
@@ -74,13 +78,29 @@ impl Needs {
 
     /// Adds the leaves of outputs.
     #[tactic(auto, using(crate::proofs::FirstMet::calls_added, crate::proofs::FirstMet::inputs_added, crate::proofs::FirstMet::read_added))]
-    pub fn add_all(&mut self, alloc: Global, outputs: &[Output]) -> Result<(), OutOfMemory>
+    fn add_each(&mut self, alloc: Global, outputs: &[Output]) -> Result<(), OutOfMemory>
         ensures { IfOk result (λ u. needs_shown self.new ≡ needs_with (needs_shown self.old) (all_leaves (expressions_of (map output_of outputs.now)))) }
     {
         for output in outputs {
-            self.add(alloc, &output.expression)?;
+            self.add_leaves(alloc, &output.expression)?;
         }
         Ok(())
+    }
+
+    /// What is needed with the leaves of an expression, from left to right.
+    pub fn add(mut self, alloc: Global, formula: &Formula<SelectLeaf>) -> Result<Needs, OutOfMemory>
+        ensures { IfOk result (λ needs. needs_shown needs ≡ needs_with (needs_shown self) (leaves (formula_of formula.now))) }
+    {
+        self.add_leaves(alloc, formula)?;
+        Ok(self)
+    }
+
+    /// What is needed with the leaves of outputs.
+    pub fn add_all(mut self, alloc: Global, outputs: &[Output]) -> Result<Needs, OutOfMemory>
+        ensures { IfOk result (λ needs. needs_shown needs ≡ needs_with (needs_shown self) (all_leaves (expressions_of (map output_of outputs.now)))) }
+    {
+        self.add_each(alloc, outputs)?;
+        Ok(self)
     }
 
     /// Whether the Window has more than 1,024 columns.
@@ -114,11 +134,12 @@ impl Needs {
         Ok(is_group_wide(&below.grouped, &groups))
     }
 
-    /// Adds the calls over groups of HAVING, which stands below the windows.
-    pub fn add_having(&mut self, having: &Option<Formula<RowLeaf>>) -> Result<(), OutOfMemory>
-        ensures { IfOk result (λ u. needs_shown self.new ≡ spec.with_having (needs_shown self.old) (option_map row_formula_of having.now)) }
+    /// What is needed with the calls over groups of HAVING, which stands below the windows.
+    pub fn add_having(mut self, having: &Option<Formula<RowLeaf>>) -> Result<Needs, OutOfMemory>
+        ensures { IfOk result (λ needs. needs_shown needs ≡ spec.with_having (needs_shown self) (option_map row_formula_of having.now)) }
     {
-        add_having(&mut self.groups, having)
+        add_having(&mut self.groups, having)?;
+        Ok(self)
     }
 
     /// The column of a Window where a leaf stands.

@@ -228,10 +228,10 @@ fn with_column(
     let Sorted {
         mut items,
         mut hidden,
-        mut needs,
+        needs,
     } = sorted;
     let column = (shown.outputs.len() + hidden.len()) as u16;
-    needs.add(alloc, &formula)?;
+    let needs = needs.add(alloc, &formula)?;
     hidden.push(formula)?;
     items.push(SortColumn { column, key })?;
     Ok(Sorted {

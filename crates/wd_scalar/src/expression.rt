@@ -1,18 +1,22 @@
 //! Expressions, kind by kind.
 
-ghost use Rattle.std.specs.Prelude.{◌≡◌, ◌++◌, IfOk, Ok};
+ghost use Rattle.std.specs.Prelude.{◌≡◌, ◌++◌, IfOk};
 ghost use Rattle.wd_plan.specs.Expressions as spec;
 ghost use Rattle.wd_plan.specs.Expressions.{expression_of};
+ghost use Rattle.wd_plan.specs.Faults.{and_then};
 ghost use Rattle.wd_scalar.specs.Operands as operands;
 ghost use Rattle.wd_scalar.specs.Arithmetic as faults;
-ghost use Rattle.wd_value.specs.Rows.{column_of};
 
 use crate::arithmetic::{arithmetic_result, negated};
+use crate::deep::{column_value, deep_value, literal_value};
 use crate::truth::{and_result, comparison_result, is_null, is_true, not_value, or_result};
 use crate::view::RowView;
 use std::alloc::Global;
 use wd_plan::Expr;
 use wd_value::{Fault, OutOfMemory, Value};
+
+/// How many operands deep an expression is evaluated by recursion, which asks for no memory. Few go deeper.
+const NEAR: u8 = 32;
 
 /// The value of an expression over a row, or its fault: operands are evaluated left first, and the
 /// left one's fault is the expression's. A column past the row's last is NULL.
@@ -40,10 +44,6 @@ pub fn value_of_pair(
 }
 
 /// The same over a view of a row.
-///
-/// Operators nest to the left as deep as their chains are long, so this function, which goes down
-/// there, keeps its frame on the stack small.
-#[cycle(value_over)]
 fn value_over(
     alloc: Global,
     expression: &Expr,
@@ -51,10 +51,25 @@ fn value_over(
 ) -> Result<Result<Value, Fault>, OutOfMemory>
     ensures { IfOk result (λ r. r ≡ spec.value_of (expression_of expression.now) row.now) }
 {
+    near_value(alloc, expression, row, NEAR)
+}
+
+/// The value by recursion, which goes so many operands down; what lies deeper is evaluated by a loop.
+#[cycle(near_value)]
+fn near_value(
+    alloc: Global,
+    expression: &Expr,
+    row: &RowView,
+    depth: u8,
+) -> Result<Result<Value, Fault>, OutOfMemory>
+    ensures { IfOk result (λ r. r ≡ spec.value_of (expression_of expression.now) row.now) }
+{
+    let Some(depth) = depth.checked_sub(1) else {
+        return deep_value(alloc, expression, row);
+    };
     match expression {
         Expr::Column(column) => column_value(alloc, row, *column),
         Expr::Literal(value, _) => literal_value(alloc, value),
-        Expr::Case(..) => case_value(alloc, expression, row),
         Expr::Negate(a)
         | Expr::Not(a)
         | Expr::IsNull(a)
@@ -62,79 +77,71 @@ fn value_over(
         | Expr::Arithmetic(_, a, _)
         | Expr::Compare(_, a, _)
         | Expr::And(a, _)
-        | Expr::Or(a, _) => {
-            let first = value_over(alloc, a, row)?;
-            applied(alloc, expression, first, row)
+        | Expr::Or(a, _)
+        | Expr::Case(_, a, _, _) => {
+            let first = near_value(alloc, a, row, depth)?;
+            applied(alloc, expression, first, row, depth)
         }
     }
 }
 
-/// The value of a CASE, of which only what is reached is evaluated.
-#[cycle(value_over)]
-#[inline(never)]
-fn case_value(
-    alloc: Global,
-    expression: &Expr,
-    row: &RowView,
-) -> Result<Result<Value, Fault>, OutOfMemory>
-    ensures { IfOk result (λ r. r ≡ operands.case_value (expression_of expression.now) row.now) }
-{
-    match expression {
-        Expr::Case(_, condition, then, otherwise) => match value_over(alloc, condition, row)? {
-            Ok(test) => if is_true(&test) {
-                value_over(alloc, then, row)
-            } else {
-                value_over(alloc, otherwise, row)
-            },
-            Err(fault) => Ok(Err(fault)),
-        },
-        _ => Ok(Ok(Value::Null)),
-    }
-}
-
-/// The value of an expression, from the result of its first operand.
-#[cycle(value_over)]
+/// The value of an expression, from the result of its first operand. It stands apart, so that a column's value costs little.
+#[cycle(near_value)]
 #[inline(never)]
 fn applied(
     alloc: Global,
     expression: &Expr,
     first: Result<Value, Fault>,
     row: &RowView,
+    depth: u8,
 ) -> Result<Result<Value, Fault>, OutOfMemory>
-    ensures { IfOk result (λ r. r ≡ operands.applied (expression_of expression.now) row.now first) }
+    ensures { IfOk result (λ r. r ≡ and_then first (operands.applied_to (expression_of expression.now) row.now)) }
 {
     match first {
-        Ok(left) => applied_to(alloc, expression, &left, row),
+        Ok(first) => applied_to(alloc, expression, &first, row, depth),
         Err(fault) => Ok(Err(fault)),
     }
 }
 
-/// The value of an expression whose first operand has this value.
-#[cycle(value_over)]
+/// The value of an expression whose first operand has this value. The right side of AND and OR is evaluated only where the
+/// left one doesn't decide, and of a CASE only the branch that is taken.
+#[cycle(near_value)]
 fn applied_to(
     alloc: Global,
     expression: &Expr,
-    left: &Value,
+    first: &Value,
     row: &RowView,
+    depth: u8,
 ) -> Result<Result<Value, Fault>, OutOfMemory>
-    ensures { IfOk result (λ r. r ≡ operands.applied_to (expression_of expression.now) row.now left.now) }
+    ensures { IfOk result (λ r. r ≡ operands.applied_to (expression_of expression.now) row.now first.now) }
 {
     match expression {
-        Expr::Negate(_) => Ok(negated(left)),
-        Expr::Not(_) => Ok(Ok(not_value(left))),
-        Expr::IsNull(_) => Ok(Ok(Value::Bool(is_null(left)))),
-        Expr::IsNotNull(_) => Ok(Ok(Value::Bool(!is_null(left)))),
-        Expr::Arithmetic(op, _, b) => Ok(arithmetic_result(*op, left, value_over(alloc, b, row)?)),
-        Expr::Compare(op, _, b) => Ok(comparison_result(*op, left, value_over(alloc, b, row)?)),
-        Expr::And(_, b) => match left {
+        Expr::Negate(_) => Ok(negated(first)),
+        Expr::Not(_) => Ok(Ok(not_value(first))),
+        Expr::IsNull(_) => Ok(Ok(Value::Bool(is_null(first)))),
+        Expr::IsNotNull(_) => Ok(Ok(Value::Bool(!is_null(first)))),
+        Expr::Arithmetic(op, _, b) => {
+            let right = near_value(alloc, b, row, depth)?;
+            Ok(arithmetic_result(*op, first, right))
+        }
+        Expr::Compare(op, _, b) => {
+            let right = near_value(alloc, b, row, depth)?;
+            Ok(comparison_result(*op, first, right))
+        }
+        Expr::And(_, b) => match first {
             Value::Bool(false) => Ok(Ok(Value::Bool(false))),
-            _ => Ok(and_result(left, value_over(alloc, b, row)?)),
+            _ => Ok(and_result(first, near_value(alloc, b, row, depth)?)),
         },
-        Expr::Or(_, b) => match left {
+        Expr::Or(_, b) => match first {
             Value::Bool(true) => Ok(Ok(Value::Bool(true))),
-            _ => Ok(or_result(left, value_over(alloc, b, row)?)),
+            _ => Ok(or_result(first, near_value(alloc, b, row, depth)?)),
         },
-        Expr::Column(_) | Expr::Literal(..) | Expr::Case(..) => Ok(Ok(Value::Null)),
+        Expr::Case(_, _, then, otherwise) => if is_true(first) {
+            near_value(alloc, then, row, depth)
+        } else {
+            near_value(alloc, otherwise, row, depth)
+        },
+        Expr::Column(_) | Expr::Literal(..) => Ok(Ok(Value::Null)),
     }
 }
 
@@ -152,24 +159,4 @@ pub fn has_arithmetic(expression: &Expr) -> bool
         Expr::Not(a) | Expr::IsNull(a) | Expr::IsNotNull(a) => has_arithmetic(a),
         Expr::Case(_, a, b, c) => has_arithmetic(a) || has_arithmetic(b) || has_arithmetic(c),
     }
-}
-
-/// A copy of the value in a column, and NULL past the last.
-fn column_value(
-    alloc: Global,
-    row: &RowView,
-    column: u16,
-) -> Result<Result<Value, Fault>, OutOfMemory>
-    ensures { IfOk result (λ r. r ≡ Ok (column_of row.now column)) }
-{
-    let null = Value::Null;
-    literal_value(alloc, row.value(column as usize, &null))
-}
-
-/// A copy of a value.
-#[inline(never)]
-fn literal_value(alloc: Global, value: &Value) -> Result<Result<Value, Fault>, OutOfMemory>
-    ensures { IfOk result (λ r. r ≡ Ok value.now) }
-{
-    Ok(Ok(value.copy(alloc)?))
 }

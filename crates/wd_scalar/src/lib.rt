@@ -2,6 +2,7 @@
 #![tactic(auto)]
 
 mod arithmetic;
+mod deep;
 mod expression;
 mod truth;
 mod view;

@@ -8,6 +8,7 @@ ghost use Rattle.wd_value.specs.Bags.{positions as all_of};
 use crate::coding::Coding;
 use crate::known::Known;
 use crate::numbering::numbers_of;
+use crate::seeded::Seeded;
 use crate::sort::all_positions;
 use crate::whole::{whole_codes, whole_range};
 use std::alloc::Global;
@@ -27,7 +28,8 @@ pub fn value_numbers(alloc: Global, rows: &RowSource, column: u16) -> Result<Cod
             let null = Value::Null;
             let no = Value::Bool(false);
             let yes = Value::Bool(true);
-            let known = Known::new(alloc, &null, &no, &yes)?;
+            let seeded = Seeded::by_column(rows, column, &all);
+            let known = Known::new(alloc, seeded, &null, &no, &yes)?;
             known_numbers(alloc, rows, column, &all, &null, known)
         }
     }

@@ -3,6 +3,7 @@
 ghost use Rattle.std.specs.Prelude.{◌≡◌, true, false, IfOk, OnOk, Some};
 ghost use Rattle.wd_sort.specs.Known.{AreKnown, Keeps, place_in};
 
+use crate::seeded::Seeded;
 use std::alloc::Global;
 use std::collections::HashMap;
 use wd_value::{OutOfMemory, Value};
@@ -12,14 +13,15 @@ use wd_value::{OutOfMemory, Value};
 #[derive(Drop)]
 pub struct Known<'a> {
     pub values: Vec<&'a Value>,
-    texts: HashMap<&'a str, u64>,
-    wholes: HashMap<i64, u64>,
+    texts: HashMap<&'a str, u64, Seeded>,
+    wholes: HashMap<i64, u64, Seeded>,
 }
 
 impl<'a> Known<'a> {
-    /// No text and no whole number so far.
+    /// No text and no whole number so far. The hashes of those to come begin with this seed.
     pub fn new(
         alloc: Global,
+        seeded: Seeded,
         null: &'a Value,
         no: &'a Value,
         yes: &'a Value,
@@ -32,8 +34,8 @@ impl<'a> Known<'a> {
         let values = [null, no, yes].to_vec(alloc)?;
         Ok(Known {
             values,
-            texts: HashMap::new(alloc),
-            wholes: HashMap::new(alloc),
+            texts: HashMap::with_hasher(alloc, seeded),
+            wholes: HashMap::with_hasher(alloc, seeded),
         })
     }
 

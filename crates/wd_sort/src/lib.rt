@@ -10,6 +10,7 @@ mod known;
 mod numbering;
 mod ranks;
 mod rows;
+mod seeded;
 mod sort;
 mod whole;
 
@@ -17,5 +18,6 @@ pub use all::{row_coding, sorted_by_coding};
 pub use apart::value_numbers;
 pub use coding::{Coding, paired};
 pub use rows::{compare_rows_at, compare_source_at};
+pub use seeded::Seeded;
 pub use sort::{all_positions, is_sorted, sorted_from, sorted_in, sorted_positions};
 pub use wd_columns::row_in;

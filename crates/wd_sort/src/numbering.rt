@@ -7,8 +7,8 @@ ghost use Rattle.wd_sort.specs.Known.{AreKnown, AreNumbers};
 use crate::coding::Coding;
 use crate::known::Known;
 use crate::ranks::ranks_of;
+use crate::seeded::Seeded;
 use std::alloc::Global;
-use std::collections::HashMap;
 use wd_columns::RowSource;
 use wd_value::{OutOfMemory, SortColumn, Value};
 
@@ -24,7 +24,8 @@ pub fn value_codes(
     let null = Value::Null;
     let no = Value::Bool(false);
     let yes = Value::Bool(true);
-    let known = Known::new(alloc, &null, &no, &yes)?;
+    let seeded = Seeded::by_column(rows, column.column, positions);
+    let known = Known::new(alloc, seeded, &null, &no, &yes)?;
     known_codes(alloc, rows, column, positions, &null, known)
 }
 

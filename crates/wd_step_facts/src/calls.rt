@@ -1,6 +1,6 @@
 //! The facts of a Window's calls.
 
-ghost use Rattle.std.specs.Prelude.{◌≡◌, ◌+◌, ◌++◌, ◌<◌, [], ◌∷◌, length, map, slice_index_or, IfOk};
+ghost use Rattle.std.specs.Prelude.{◌≡◌, ◌+◌, ◌++◌, ◌<◌, [], ◌∷◌, length, map, slice_index_or, IfOk, OnErr, OnOk};
 ghost use Rattle.wd_value.specs.Keys.{key_columns as key_columns_of};
 ghost use Rattle.wd_plan.specs.Plans.{class_of, NamesClasses, window_of};
 ghost use Rattle.wd_plan.specs.Sorting as sorting;
@@ -9,7 +9,7 @@ ghost use Rattle.wd_step_facts.specs.Facts.{columns_named, fact_of, key_fact};
 ghost use Rattle.wd_step_facts.specs.Steps as spec;
 
 use crate::facts::{Given, Member};
-use crate::members::members;
+use crate::members::{add_all, members};
 use std::alloc::Global;
 use wd_plan::{Call, Class, Exclusion, Frame, FrameFunction, Function, Ranking, Window};
 use wd_value::{OutOfMemory, SortColumn};
@@ -188,8 +188,26 @@ fn add_call_of(
     Ok(())
 }
 
-/// Appends the facts of a Window's calls, whose columns begin with this one.
+/// The facts of a Window's calls, whose columns begin with this one.
 #[tactic(auto, using(crate::proofs::Added::calls_next))]
+fn calls_facts(alloc: Global, window: &Window, first: u16) -> Result<Vec<Given>, OutOfMemory>
+    requires named { NamesClasses (window_of window.now) }
+    requires narrow { first + length (window_of window.now).calls < 65536 }
+    ensures { IfOk result (λ v. map fact_of v.items ≡ spec.calls_facts (window_of window.now) first (window_of window.now).calls) }
+{
+    let mut list = Vec::new(alloc);
+    let mut column = first;
+    for call in &window.calls {
+        add_call_of(alloc, &window.classes, call, column, &mut list)?;
+        column += 1;
+    }
+    Ok(list)
+}
+
+/// Appends the facts of a Window's calls, whose columns begin with this one.
+///
+/// # Errors
+/// Where memory runs out; the list is then as it was.
 pub fn add_calls(
     alloc: Global,
     window: &Window,
@@ -198,12 +216,9 @@ pub fn add_calls(
 ) -> Result<(), OutOfMemory>
     requires named { NamesClasses (window_of window.now) }
     requires narrow { first + length (window_of window.now).calls < 65536 }
-    ensures { IfOk result (λ _. map fact_of list.new.items ≡ map fact_of list.old.items ++ spec.calls_facts (window_of window.now) first (window_of window.now).calls) }
+    ensures added { OnOk result (map fact_of list.new.items ≡ map fact_of list.old.items ++ spec.calls_facts (window_of window.now) first (window_of window.now).calls) }
+    ensures kept { OnErr result (list.new.items ≡ list.old.items) }
 {
-    let mut column = first;
-    for call in &window.calls {
-        add_call_of(alloc, &window.classes, call, column, list)?;
-        column += 1;
-    }
-    Ok(())
+    let more = calls_facts(alloc, window, first)?;
+    add_all(more, list)
 }

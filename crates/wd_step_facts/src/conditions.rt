@@ -1,12 +1,12 @@
 //! The facts of a condition's conjuncts.
 
-ghost use Rattle.std.specs.Prelude.{◌≡◌, ◌++◌, map, option_map, IfOk};
+ghost use Rattle.std.specs.Prelude.{◌≡◌, ◌++◌, map, option_map, IfOk, OnErr, OnOk};
 ghost use Rattle.wd_plan.specs.Expressions.{expression_of};
 ghost use Rattle.wd_step_facts.specs.Facts.{fact_of};
 ghost use Rattle.wd_step_facts.specs.Steps as spec;
 
 use crate::facts::Given;
-use crate::members::{add_column_fact, add_fixed};
+use crate::members::{add_all, add_column_fact, add_fixed};
 use std::alloc::Global;
 use wd_plan::{ComparisonOp, Expr};
 use wd_value::OutOfMemory;
@@ -114,9 +114,9 @@ fn add_conjunct(alloc: Global, conjunct: &Expr, list: &mut Vec<Given>) -> Result
     }
 }
 
-/// Appends the facts of a condition's conjuncts.
+/// Appends the facts of a condition's conjuncts to what is gathered.
 #[tactic(auto, using(crate::proofs::Appended::conjuncts_append))]
-pub fn add_conjuncts(
+fn gather_conjuncts(
     alloc: Global,
     condition: &Expr,
     list: &mut Vec<Given>,
@@ -125,8 +125,8 @@ pub fn add_conjuncts(
 {
     match condition {
         Expr::And(a, b) => {
-            add_conjuncts(alloc, a, list)?;
-            add_conjuncts(alloc, b, list)?;
+            gather_conjuncts(alloc, a, list)?;
+            gather_conjuncts(alloc, b, list)?;
             Ok(())
         }
         _ => {
@@ -136,18 +136,37 @@ pub fn add_conjuncts(
     }
 }
 
+/// Appends the facts of a condition's conjuncts.
+///
+/// # Errors
+/// Where memory runs out; the list is then as it was.
+pub fn add_conjuncts(
+    alloc: Global,
+    condition: &Expr,
+    list: &mut Vec<Given>,
+) -> Result<(), OutOfMemory>
+    ensures added { OnOk result (map fact_of list.new.items ≡ map fact_of list.old.items ++ spec.facts_of_conjuncts (spec.conjuncts (expression_of condition.now))) }
+    ensures kept { OnErr result (list.new.items ≡ list.old.items) }
+{
+    let mut more = Vec::new(alloc);
+    gather_conjuncts(alloc, condition, &mut more)?;
+    add_all(more, list)
+}
+
+/// Appends the facts of the conjuncts of a Join's condition, if it has one.
+///
+/// # Errors
+/// Where memory runs out; the list is then as it was.
 pub fn add_join_conjuncts(
     alloc: Global,
     condition: &Option<Expr>,
     list: &mut Vec<Given>,
 ) -> Result<(), OutOfMemory>
-    ensures { IfOk result (λ _. map fact_of list.new.items ≡ map fact_of list.old.items ++ spec.facts_of_conjuncts (spec.conjuncts_of (option_map expression_of condition.now))) }
+    ensures added { OnOk result (map fact_of list.new.items ≡ map fact_of list.old.items ++ spec.facts_of_conjuncts (spec.conjuncts_of (option_map expression_of condition.now))) }
+    ensures kept { OnErr result (list.new.items ≡ list.old.items) }
 {
     match condition {
-        Some(condition) => {
-            add_conjuncts(alloc, condition, list)?;
-            Ok(())
-        }
+        Some(condition) => add_conjuncts(alloc, condition, list),
         None => Ok(()),
     }
 }

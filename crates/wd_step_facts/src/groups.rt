@@ -91,7 +91,7 @@ fn are_columns(columns: u16, list: &[Member]) -> bool
 }
 
 /// Those of the members that are one of the first so many columns or the row.
-fn cut_members(alloc: Global, columns: u16, list: &[Member]) -> Result<Vec<Member>, OutOfMemory>
+pub fn cut_members(alloc: Global, columns: u16, list: &[Member]) -> Result<Vec<Member>, OutOfMemory>
     ensures { IfOk result (λ v. v.items ≡ filter (facts_spec.is_plain columns) list.now) }
 {
     let mut cut = Vec::new(alloc);

@@ -1,13 +1,13 @@
 //! The facts of a Map's outputs.
 
-ghost use Rattle.std.specs.Prelude.{◌≡◌, ◌+◌, ◌-◌, ◌++◌, ◌<◌, true, map, length, nat_lt, IfOk};
+ghost use Rattle.std.specs.Prelude.{◌≡◌, ◌+◌, ◌-◌, ◌++◌, ◌<◌, true, map, length, nat_lt, IfOk, OnErr, OnOk};
 ghost use Rattle.std.specs.List.{list_all};
 ghost use Rattle.wd_plan.specs.Expressions.{expression_of};
 ghost use Rattle.wd_step_facts.specs.Facts.{columns_named, fact_of};
 ghost use Rattle.wd_step_facts.specs.Steps as spec;
 
 use crate::facts::{Given, Member};
-use crate::members::add_column_fact;
+use crate::members::{add_all, add_column_fact};
 use std::alloc::Global;
 use wd_plan::Expr;
 use wd_value::OutOfMemory;
@@ -152,8 +152,26 @@ fn add_output(
     Ok(())
 }
 
-/// Appends the facts of a Map's outputs, where input columns are renumbered.
+/// The facts of a Map's outputs, where input columns are renumbered.
 #[tactic(auto, using(crate::proofs::Added::outputs_next))]
+fn outputs_facts(alloc: Global, by: u16, outputs: &[Expr]) -> Result<Vec<Given>, OutOfMemory>
+    requires narrow { length outputs.now < 65536 }
+    requires used { list_all (λ e. list_all (λ c. nat_lt c (65536 - by)) (spec.used e)) (map expression_of outputs.now) ≡ true }
+    ensures { IfOk result (λ v. map fact_of v.items ≡ spec.outputs_facts by 0 (map expression_of outputs.now)) }
+{
+    let mut list = Vec::new(alloc);
+    let mut number = 0;
+    for output in outputs {
+        add_output(alloc, by, number, output, &mut list)?;
+        number += 1;
+    }
+    Ok(list)
+}
+
+/// Appends the facts of a Map's outputs, where input columns are renumbered.
+///
+/// # Errors
+/// Where memory runs out; the list is then as it was.
 pub fn add_outputs(
     alloc: Global,
     by: u16,
@@ -162,12 +180,9 @@ pub fn add_outputs(
 ) -> Result<(), OutOfMemory>
     requires narrow { length outputs.now < 65536 }
     requires used { list_all (λ e. list_all (λ c. nat_lt c (65536 - by)) (spec.used e)) (map expression_of outputs.now) ≡ true }
-    ensures { IfOk result (λ _. map fact_of list.new.items ≡ map fact_of list.old.items ++ spec.outputs_facts by 0 (map expression_of outputs.now)) }
+    ensures added { OnOk result (map fact_of list.new.items ≡ map fact_of list.old.items ++ spec.outputs_facts by 0 (map expression_of outputs.now)) }
+    ensures kept { OnErr result (list.new.items ≡ list.old.items) }
 {
-    let mut number = 0;
-    for output in outputs {
-        add_output(alloc, by, number, output, list)?;
-        number += 1;
-    }
-    Ok(())
+    let more = outputs_facts(alloc, by, outputs)?;
+    add_all(more, list)
 }

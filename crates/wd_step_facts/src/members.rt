@@ -1,6 +1,6 @@
 //! Facts made of columns, and copies of facts.
 
-ghost use Rattle.std.specs.Prelude.{◌≡◌, ◌++◌, [], ◌∷◌, map, IfOk};
+ghost use Rattle.std.specs.Prelude.{◌≡◌, ◌++◌, [], ◌∷◌, map, IfOk, OnErr, OnOk};
 ghost use Rattle.wd_step_facts.specs.Facts.{columns_named, fact_of, key_fact};
 ghost use Rattle.wd_step_facts.specs.Steps as spec;
 
@@ -29,16 +29,29 @@ fn key_fact_of(alloc: Global, row: Member, columns: &[u16]) -> Result<Given, Out
 }
 
 /// Appends that the columns give the row, or a side.
+///
+/// # Errors
+/// Where memory runs out; the list is then as it was.
 pub fn add_key(
     alloc: Global,
     row: Member,
     columns: &[u16],
     list: &mut Vec<Given>,
 ) -> Result<(), OutOfMemory>
-    ensures { IfOk result (λ _. map fact_of list.new.items ≡ map fact_of list.old.items ++ (key_fact row columns.now ∷ [])) }
+    ensures added { OnOk result (map fact_of list.new.items ≡ map fact_of list.old.items ++ (key_fact row columns.now ∷ [])) }
+    ensures kept { OnErr result (list.new.items ≡ list.old.items) }
 {
     let fact = key_fact_of(alloc, row, columns)?;
     list.push(fact)?;
+    Ok(())
+}
+
+/// Appends facts that were gathered, all or none of them.
+pub fn add_all(mut more: Vec<Given>, list: &mut Vec<Given>) -> Result<(), OutOfMemory>
+    ensures added { OnOk result (map fact_of list.new.items ≡ map fact_of list.old.items ++ map fact_of more.items) }
+    ensures kept { OnErr result (list.new.items ≡ list.old.items) }
+{
+    list.append(&mut more)?;
     Ok(())
 }
 

@@ -1,16 +1,17 @@
 //! Facts renumbered.
 
-ghost use Rattle.std.specs.Prelude.{◌≡◌, ◌+◌, ◌-◌, ◌++◌, true, map, IfOk};
+ghost use Rattle.std.specs.Prelude.{◌≡◌, ◌+◌, ◌-◌, ◌++◌, true, map, IfOk, OnErr, OnOk};
 ghost use Rattle.std.specs.List.{list_all};
 ghost use Rattle.wd_step_facts.specs.Facts as spec;
 ghost use Rattle.wd_step_facts.specs.Facts.{fact_of, is_plain, is_plain_fact, moved};
 
 use crate::facts::{Given, Member};
+use crate::members::add_all;
 use std::alloc::Global;
 use wd_value::OutOfMemory;
 
 /// A member with its column renumbered, the row as the member that stands for it.
-fn moved_member(by: u16, row: Member, member: Member) -> Member
+pub fn moved_member(by: u16, row: Member, member: Member) -> Member
     requires { is_plain (65536 - by) member ≡ true }
     ensures { result ≡ moved (λ c. by + c) row member }
 {
@@ -47,7 +48,27 @@ fn moved_fact(alloc: Global, by: u16, row: Member, fact: &Given) -> Result<Given
     Ok(Given { from, to })
 }
 
+/// The facts renumbered.
+fn moved_facts(
+    alloc: Global,
+    by: u16,
+    row: Member,
+    facts: &[Given],
+) -> Result<Vec<Given>, OutOfMemory>
+    requires { list_all (is_plain_fact (65536 - by)) (map fact_of facts.now) ≡ true }
+    ensures { IfOk result (λ v. map fact_of v.items ≡ spec.moved_facts (λ c. by + c) row (map fact_of facts.now)) }
+{
+    let mut list = Vec::with_capacity(alloc, facts.len())?;
+    for fact in facts {
+        list.push(moved_fact(alloc, by, row, fact)?)?;
+    }
+    Ok(list)
+}
+
 /// Appends the facts renumbered.
+///
+/// # Errors
+/// Where memory runs out; the list is then as it was.
 pub fn add_moved_facts(
     alloc: Global,
     by: u16,
@@ -56,10 +77,9 @@ pub fn add_moved_facts(
     list: &mut Vec<Given>,
 ) -> Result<(), OutOfMemory>
     requires { list_all (is_plain_fact (65536 - by)) (map fact_of facts.now) ≡ true }
-    ensures { IfOk result (λ _. map fact_of list.new.items ≡ map fact_of list.old.items ++ spec.moved_facts (λ c. by + c) row (map fact_of facts.now)) }
+    ensures added { OnOk result (map fact_of list.new.items ≡ map fact_of list.old.items ++ spec.moved_facts (λ c. by + c) row (map fact_of facts.now)) }
+    ensures kept { OnErr result (list.new.items ≡ list.old.items) }
 {
-    for fact in facts {
-        list.push(moved_fact(alloc, by, row, fact)?)?;
-    }
-    Ok(())
+    let more = moved_facts(alloc, by, row, facts)?;
+    add_all(more, list)
 }

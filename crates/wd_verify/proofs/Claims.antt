@@ -19,11 +19,12 @@ use Rattle.wd_rules.proofs.Kept.{entry_plain}
 use Rattle.wd_rules.proofs.Traces.{parts_of}
 use Rattle.wd_rules.specs.Rules.{claims_refusal, entry_refusal, is_target, kept_fact, kept_facts, member_of}
 use Rattle.wd_rules.specs.Traces.{Traced, and_then, each_traced, traced}
-use Rattle.wd_verify.specs.declared.facts.KeptFact.{KeptFact}
+use Rattle.wd_node_facts.specs.declared.facts.KeptFact.{KeptFact}
 use Rattle.wd_verify.specs.Lean.{columns_once, lean_kept, lean_trace, once}
-use Rattle.wd_verify.specs.Shown.{HaveColumns, columns_of, fact_by, refusal_of, traced_of}
+use Rattle.wd_node_facts.specs.Seen.{columns_of, fact_by, traced_of}
+use Rattle.wd_verify.specs.Shown.{HaveColumns, refusal_of}
 use Rattle.wd_sets.specs.Sets.{has}
-use Rattle.wd_verify.specs.declared.facts.Followed.{Followed}
+use Rattle.wd_node_facts.specs.declared.facts.Followed.{Followed}
 use Rattle.wd_verify.proofs.Once.{targets_all}
 
 -- traces that are good, behind those before

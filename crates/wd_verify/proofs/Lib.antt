@@ -7,4 +7,4 @@ pub mod LeanEntry
 pub mod LeanNodes
 pub mod Members
 pub mod Once
-pub mod Sides
+pub mod Used

@@ -12,10 +12,10 @@ use Rattle.wd_step_facts.specs.declared.facts.Given.{Given}
 use Rattle.wd_sets.specs.Sets.{stands_in}
 use Rattle.wd_sets.specs.Reaches.{also, reaches_each}
 use Rattle.wd_rules.specs.Traces.{traced, with_use, with_uses}
-use Rattle.wd_verify.specs.declared.facts.KeptFact.{KeptFact}
-use Rattle.wd_verify.specs.declared.facts.Side.{Side}
-use Rattle.wd_verify.specs.Shown.{IsNarrow, fact_by, facts_kept, side_facts, traced_of}
-use Rattle.wd_verify.proofs.Sides.{get_left, get_right}
+use Rattle.wd_node_facts.specs.declared.facts.KeptFact.{KeptFact}
+use Rattle.wd_node_facts.specs.declared.facts.Side.{Side}
+use Rattle.wd_node_facts.specs.Seen.{IsNarrow, fact_by, facts_kept, side_facts, traced_of}
+use Rattle.wd_node_facts.proofs.Sides.{get_left, get_right}
 
 -- one more of some members, before others
 pub one_more : (same has rest : Bool) → ((same || has) || rest) ≡ (has || (same || rest))

@@ -1,2 +1,3 @@
 pub mod Lean
 pub mod Shown
+pub mod Used

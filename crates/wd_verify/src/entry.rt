@@ -9,14 +9,15 @@ ghost use Rattle.wd_facts.specs.Laws.{AreOfChildren, ArePlain};
 ghost use Rattle.wd_rules.specs.Rules as rules;
 ghost use Rattle.wd_rules.specs.Traces as spec;
 ghost use Rattle.wd_verify.specs.Lean.{lean_of};
-ghost use Rattle.wd_verify.specs.Shown.{AreNarrow, HasNoOther, facts_kept, seen_of, shown_by, traced_of};
+ghost use Rattle.wd_node_facts.specs.Seen.{AreNarrow, HasNoOther, facts_kept, seen_of, traced_of};
+ghost use Rattle.wd_verify.specs.Shown.{shown_by};
 
 use crate::evidence::{Evidence, follow_each};
-use crate::facts::{Followed, Keeps, NodeFacts, facts_at};
 use crate::kept::{check_keep, keeps_of};
 use crate::rules::{check_limit, check_window};
 use std::alloc::Global;
 use wd_certificate::{CertError, Node};
+use wd_node_facts::{Followed, Keeps, NodeFacts, facts_at};
 use wd_plan::Plan;
 use wd_schema::Schema;
 

@@ -6,12 +6,13 @@ ghost use Rattle.wd_certificate.specs.declared.error.CertError.TheVariants as er
 ghost use Rattle.wd_rules.specs.Rules as rules;
 ghost use Rattle.wd_rules.specs.Traces as spec;
 ghost use Rattle.wd_verify.specs.Lean.{lean_trace};
-ghost use Rattle.wd_verify.specs.Shown.{AreNarrow, refusal_of, seen_of, shown_by, traced_of};
+ghost use Rattle.wd_node_facts.specs.Seen.{AreNarrow, seen_of, traced_of};
+ghost use Rattle.wd_verify.specs.Shown.{refusal_of, shown_by};
 
-use crate::facts::{Followed, NodeFacts};
 use crate::trace::follow;
 use std::alloc::Global;
 use wd_certificate::{CertError, Trace};
+use wd_node_facts::{Followed, NodeFacts};
 use wd_value::OutOfMemory;
 
 /// A node's number, the facts given there, and the traces of its entry.

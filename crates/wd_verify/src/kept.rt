@@ -10,14 +10,15 @@ ghost use Rattle.wd_sets.specs.Reaches.{reaches_each};
 ghost use Rattle.wd_sets.specs.Sets.{has};
 ghost use Rattle.wd_rules.specs.Rules as rules;
 ghost use Rattle.wd_verify.specs.Lean.{lean_kept, lean_of, lean_trace, once, once_after};
-ghost use Rattle.wd_verify.specs.Shown.{HaveColumns, fact_by, facts_kept, refusal_of, seen_of, shown_by, traced_of};
+ghost use Rattle.wd_node_facts.specs.Seen.{fact_by, facts_kept, seen_of, traced_of};
+ghost use Rattle.wd_verify.specs.Shown.{HaveColumns, refusal_of, shown_by};
 
 use crate::evidence::Evidence;
-use crate::facts::{Followed, Keeps, KeptFact, NodeFacts, are_columns};
 use crate::trace::reaches;
 use std::alloc::Global;
 use wd_certificate::{CertError, Kept, Node, Target, Trace};
 use wd_facts::Member;
+use wd_node_facts::{Followed, Keeps, KeptFact, NodeFacts, are_columns};
 use wd_sets::Set;
 use wd_value::OutOfMemory;
 

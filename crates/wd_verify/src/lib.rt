@@ -3,7 +3,6 @@
 
 mod entry;
 mod evidence;
-mod facts;
 mod kept;
 mod nodes;
 mod rules;

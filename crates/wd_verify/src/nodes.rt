@@ -10,12 +10,12 @@ ghost use Rattle.wd_facts.specs.Laws.{AreOfChildren, ArePlain};
 ghost use Rattle.wd_rules.specs.Rules as rules;
 ghost use Rattle.wd_rules.specs.Validity as spec;
 ghost use Rattle.wd_verify.specs.Lean.{lean_of};
-ghost use Rattle.wd_verify.specs.Shown.{HasNoOther, facts_kept};
+ghost use Rattle.wd_node_facts.specs.Seen.{HasNoOther, facts_kept};
 
 use crate::entry::check_entry;
-use crate::facts::Keeps;
 use std::alloc::Global;
 use wd_certificate::{CertError, Node};
+use wd_node_facts::Keeps;
 use wd_plan::Plan;
 use wd_schema::Schema;
 

@@ -12,14 +12,15 @@ ghost use Rattle.wd_step_facts.specs.Steps.{all_columns};
 ghost use Rattle.wd_sets.specs.Reaches as reaching;
 ghost use Rattle.wd_sets.specs.Sets.{has, has_column, is_in};
 ghost use Rattle.wd_rules.specs.Rules as spec;
-ghost use Rattle.wd_verify.specs.Shown.{refusal_of, seen_of, shown_by, traced_of};
+ghost use Rattle.wd_node_facts.specs.Seen.{seen_of, traced_of};
+ghost use Rattle.wd_verify.specs.Shown.{refusal_of, shown_by};
 
 use crate::evidence::{Evidence, refuse_unless};
-use crate::facts::{Followed, NodeFacts};
 use crate::trace::{reaches, reaches_each};
 use std::alloc::Global;
 use wd_certificate::{CertError, Rule};
 use wd_facts::Member;
+use wd_node_facts::{Followed, NodeFacts};
 use wd_plan::{Call, Class, FrameFunction, Function, Limit, Window};
 use wd_sets::Set;
 use wd_value::{OutOfMemory, SortColumn};

@@ -1,6 +1,6 @@
 //! What a trace reaches.
 
-ghost use Rattle.std.specs.Prelude.{◌≡◌, ◌≢◌, ℕ, ◌+◌, ◌-◌, ◌||◌, ◌++◌, List, ◌∷◌, true, false, map, nat_lt, Ok, Err, Some, slice_get, IfOk, IfErr};
+ghost use Rattle.std.specs.Prelude.{◌≡◌, ◌≢◌, ℕ, ◌+◌, ◌-◌, ◌||◌, ◌++◌, List, ◌∷◌, true, false, map, nat_lt, Ok, Err, Some, slice_get, IfOk, IfErr, OnOk};
 ghost use Rattle.std.specs.List.{list_all};
 ghost use Rattle.wd_certificate.specs.Certificates.{trace_of};
 ghost use Rattle.wd_step_facts.specs.declared.facts.Member.{Member as AMember};
@@ -10,14 +10,20 @@ ghost use Rattle.wd_sets.specs.Reaches as reaching;
 ghost use Rattle.wd_sets.specs.Sets.{has, same_member, stands_in};
 ghost use Rattle.wd_rules.specs.Traces as spec;
 ghost use Rattle.wd_verify.specs.Lean.{columns_once, lean_trace, once_after};
-ghost use Rattle.wd_verify.specs.Shown.{AreNarrow, IsNarrow, fact_by, seen_of, side_facts, traced_of};
+ghost use Rattle.wd_node_facts.specs.Seen.{AreNarrow, IsNarrow, fact_by, seen_of, side_facts, traced_of};
+ghost use Rattle.wd_verify.specs.Used.{AreUsed, Marks};
 
-use crate::facts::{Followed, KeptFact, NodeFacts, Side, columns_of};
 use std::alloc::Global;
+use std::collections::BTreeSet;
 use wd_certificate::{CertError, Trace};
 use wd_facts::{Given, Member};
+use wd_node_facts::{Followed, KeptFact, NodeFacts, Side, columns_of};
 use wd_sets::Set;
+use wd_step_facts::moved_member;
 use wd_value::OutOfMemory;
+
+/// The most members on a side of a fact that is looked at each time it is used; longer ones are looked at once in a trace.
+const SHORT: usize = 16;
 
 /// Whether the row is reached with these members.
 fn has_row(split: Option<u16>, set: &Set) -> bool
@@ -82,9 +88,14 @@ fn insert_each(set: &mut Set, members: &[Member]) -> Result<(), OutOfMemory>
     Ok(())
 }
 
-/// Uses a fact.
+/// Whether a fact with so many members on its sides is looked at once in a trace.
+fn is_long(from: usize, to: usize) -> bool {
+    from > SHORT || to > SHORT
+}
+
+/// Uses a fact; whether it is a long one.
 #[tactic(auto, using(crate::proofs::Members::used_is))]
-fn use_fact(node: u64, facts: &NodeFacts, set: &mut Set, fact: &Given) -> Result<(), CertError>
+fn use_fact(node: u64, facts: &NodeFacts, set: &mut Set, fact: &Given) -> Result<bool, CertError>
     ensures used { IfOk result (λ _. spec.with_use node (seen_of facts.now) (has set.old) (Some (fact_of fact.now)) ≡ Ok (has set.new)) }
     ensures refused { IfErr result (λ e. e ≢ CertError.OutOfMemory → spec.with_use node (seen_of facts.now) (has set.old) (Some (fact_of fact.now)) ≡ Err e) }
 {
@@ -92,7 +103,7 @@ fn use_fact(node: u64, facts: &NodeFacts, set: &mut Set, fact: &Given) -> Result
         return Err(CertError::UnreachedUse { node });
     }
     insert_each(set, &fact.to)?;
-    Ok(())
+    Ok(is_long(fact.from.len(), fact.to.len()))
 }
 
 /// Uses the fact with a number, of some that are given.
@@ -102,26 +113,13 @@ fn use_given(
     set: &mut Set,
     list: &[Given],
     number: usize,
-) -> Result<(), CertError>
+) -> Result<bool, CertError>
     ensures used { IfOk result (λ _. spec.with_use node (seen_of facts.now) (has set.old) (slice_get (map fact_of list.now) number) ≡ Ok (has set.new)) }
     ensures refused { IfErr result (λ e. e ≢ CertError.OutOfMemory → spec.with_use node (seen_of facts.now) (has set.old) (slice_get (map fact_of list.now) number) ≡ Err e) }
 {
     match list.get(number) {
         Some(fact) => use_fact(node, facts, set, fact),
         None => Err(CertError::OutOfRange { node }),
-    }
-}
-
-/// A member of a fact of a child, as the node above names it.
-fn moved_member(by: u16, row: Member, member: Member) -> Member
-    requires { is_plain (65536 - by) member ≡ true }
-    ensures { result ≡ moved (λ c. by + c) row member }
-{
-    match member {
-        Member::Column(column) => Member::Column(by + column),
-        Member::Left => Member::Left,
-        Member::Right => Member::Right,
-        Member::Row => row,
     }
 }
 
@@ -159,7 +157,7 @@ fn use_kept(
     set: &mut Set,
     side: &Side,
     kept: &KeptFact,
-) -> Result<(), CertError>
+) -> Result<bool, CertError>
     requires { is_plain_fact (65536 - side.now.by) (fact_by (map traced_of side.now.keeps.traces.items) kept.now) ≡ true }
     ensures used { IfOk result (λ _. spec.with_use node (seen_of facts.now) (has set.old) (Some (moved_fact (λ c. side.now.by + c) side.now.row (fact_by (map traced_of side.now.keeps.traces.items) kept.now))) ≡ Ok (has set.new)) }
     ensures refused { IfErr result (λ e. e ≢ CertError.OutOfMemory → spec.with_use node (seen_of facts.now) (has set.old) (Some (moved_fact (λ c. side.now.by + c) side.now.row (fact_by (map traced_of side.now.keeps.traces.items) kept.now))) ≡ Err e) }
@@ -169,7 +167,7 @@ fn use_kept(
         return Err(CertError::UnreachedUse { node });
     }
     insert_moved(set, side.by, side.row, &kept.to)?;
-    Ok(())
+    Ok(is_long(from.len(), kept.to.len()))
 }
 
 /// Uses the fact with a number, of those that a child keeps.
@@ -179,7 +177,7 @@ fn use_side(
     set: &mut Set,
     side: &Side,
     number: usize,
-) -> Result<(), CertError>
+) -> Result<bool, CertError>
     requires { IsNarrow side.now }
     ensures used { IfOk result (λ _. spec.with_use node (seen_of facts.now) (has set.old) (slice_get (side_facts side.now) number) ≡ Ok (has set.new)) }
     ensures refused { IfErr result (λ e. e ≢ CertError.OutOfMemory → spec.with_use node (seen_of facts.now) (has set.old) (slice_get (side_facts side.now) number) ≡ Err e) }
@@ -192,7 +190,7 @@ fn use_side(
 
 /// Uses the fact with a number, of those that the right child keeps and the last ones.
 #[tactic(auto, using(crate::proofs::Members::in_side, crate::proofs::Members::behind_side))]
-fn use_right(node: u64, facts: &NodeFacts, set: &mut Set, number: usize) -> Result<(), CertError>
+fn use_right(node: u64, facts: &NodeFacts, set: &mut Set, number: usize) -> Result<bool, CertError>
     requires { AreNarrow facts.now }
     ensures used { IfOk result (λ _. spec.with_use node (seen_of facts.now) (has set.old) (slice_get (side_facts facts.now.right ++ map fact_of facts.now.last.items) number) ≡ Ok (has set.new)) }
     ensures refused { IfErr result (λ e. e ≢ CertError.OutOfMemory → spec.with_use node (seen_of facts.now) (has set.old) (slice_get (side_facts facts.now.right ++ map fact_of facts.now.last.items) number) ≡ Err e) }
@@ -207,7 +205,7 @@ fn use_right(node: u64, facts: &NodeFacts, set: &mut Set, number: usize) -> Resu
 
 /// Uses the fact with a number, of those that the children keep and the last ones.
 #[tactic(auto, using(crate::proofs::Members::in_side, crate::proofs::Members::behind_side))]
-fn use_left(node: u64, facts: &NodeFacts, set: &mut Set, number: usize) -> Result<(), CertError>
+fn use_left(node: u64, facts: &NodeFacts, set: &mut Set, number: usize) -> Result<bool, CertError>
     requires { AreNarrow facts.now }
     ensures used { IfOk result (λ _. spec.with_use node (seen_of facts.now) (has set.old) (slice_get (side_facts facts.now.left ++ (side_facts facts.now.right ++ map fact_of facts.now.last.items)) number) ≡ Ok (has set.new)) }
     ensures refused { IfErr result (λ e. e ≢ CertError.OutOfMemory → spec.with_use node (seen_of facts.now) (has set.old) (slice_get (side_facts facts.now.left ++ (side_facts facts.now.right ++ map fact_of facts.now.last.items)) number) ≡ Err e) }
@@ -220,9 +218,9 @@ fn use_left(node: u64, facts: &NodeFacts, set: &mut Set, number: usize) -> Resul
     }
 }
 
-/// Uses the fact with a number.
+/// Uses the fact with a number; whether it is a long one.
 #[tactic(auto, using(crate::proofs::Members::in_first, crate::proofs::Members::behind_first))]
-fn use_number(node: u64, facts: &NodeFacts, set: &mut Set, number: u64) -> Result<(), CertError>
+fn use_number(node: u64, facts: &NodeFacts, set: &mut Set, number: u64) -> Result<bool, CertError>
     requires { AreNarrow facts.now }
     ensures used { IfOk result (λ _. spec.with_use node (seen_of facts.now) (has set.old) (slice_get (seen_of facts.now).list number) ≡ Ok (has set.new)) }
     ensures refused { IfErr result (λ e. e ≢ CertError.OutOfMemory → spec.with_use node (seen_of facts.now) (has set.old) (slice_get (seen_of facts.now).list number) ≡ Err e) }
@@ -269,8 +267,40 @@ fn start(alloc: Global, node: u64, facts: &NodeFacts, trace: &Trace) -> Result<F
     Ok(followed)
 }
 
+/// Marks a fact as used.
+fn mark(used: &mut BTreeSet<u64>, number: u64) -> Result<(), OutOfMemory>
+    ensures { OnOk result (Marks number used.old used.new) }
+{
+    used.insert(number)?;
+    Ok(())
+}
+
+/// Uses the fact with a number, unless it is among those that the trace has used: using it again changes nothing.
+fn use_once(
+    node: u64,
+    facts: &NodeFacts,
+    set: &mut Set,
+    used: &mut BTreeSet<u64>,
+    number: u64,
+) -> Result<(), CertError>
+    requires narrow { AreNarrow facts.now }
+    requires before { AreUsed node (seen_of facts.now) (has set.old) used.old }
+    ensures used { IfOk result (λ _. spec.with_use node (seen_of facts.now) (has set.old) (slice_get (seen_of facts.now).list number) ≡ Ok (has set.new)) }
+    ensures after { IfOk result (λ _. AreUsed node (seen_of facts.now) (has set.new) used.new) }
+    ensures refused { IfErr result (λ e. e ≢ CertError.OutOfMemory → spec.with_use node (seen_of facts.now) (has set.old) (slice_get (seen_of facts.now).list number) ≡ Err e) }
+{
+    if used.contains(&number) {
+        return Ok(());
+    }
+    if use_number(node, facts, set, number)? {
+        mark(used, number)?;
+    }
+    Ok(())
+}
+
 /// Uses facts, one after another.
 fn use_each(
+    alloc: Global,
     node: u64,
     facts: &NodeFacts,
     mut followed: Followed,
@@ -281,8 +311,9 @@ fn use_each(
     ensures used { IfOk result (λ f. spec.with_uses node (seen_of facts.now) (has followed.set) uses.now ≡ Ok (has f.set)) }
     ensures refused { IfErr result (λ e. e ≢ CertError.OutOfMemory → spec.with_uses node (seen_of facts.now) (has followed.set) uses.now ≡ Err e) }
 {
+    let mut used = BTreeSet::new(alloc);
     for number in uses {
-        use_number(node, facts, &mut followed.set, *number)?;
+        use_once(node, facts, &mut followed.set, &mut used, *number)?;
     }
     Ok(followed)
 }
@@ -295,7 +326,7 @@ fn walk(alloc: Global, node: u64, facts: &NodeFacts, trace: &Trace) -> Result<Fo
     ensures refused { IfErr result (λ e. e ≢ CertError.OutOfMemory → spec.traced node (seen_of facts.now) (trace_of trace.now) ≡ Err e) }
 {
     let followed = start(alloc, node, facts, trace)?;
-    use_each(node, facts, followed, &trace.uses)
+    use_each(alloc, node, facts, followed, &trace.uses)
 }
 
 /// A trace, followed; it reaches what it does with each of its columns once.

@@ -13,5 +13,5 @@ returns c =
     let kept = map fact_of c.args.left.now in
     let right = moved_facts (λ n. c.args.split + n) member.Right (map fact_of c.args.right.now) in
     let conjuncts = facts_of_conjuncts (conjuncts_of (option_map expression_of c.args.condition.now)) in
-    let first = c.in_ok-add_moved_facts.ensures ∙ ap (λ items. map fact_of items ++ moved_facts (λ n. 0 + n) member.Left kept) c.new-list.ensures.items ∙ (λ i. moved_facts (λ n. by_zero n i) member.Left kept) in
-    c.in_ok-add_join_conjuncts.ensures ∙ ap (λ l. l ++ conjuncts) (c.in_ok-add_moved_facts-2.ensures ∙ ap (λ l. l ++ right) first)
+    let first = c.in_ok-add_moved_facts.ensures.added ∙ ap (λ items. map fact_of items ++ moved_facts (λ n. 0 + n) member.Left kept) c.new-list.ensures.items ∙ (λ i. moved_facts (λ n. by_zero n i) member.Left kept) in
+    c.in_ok-add_join_conjuncts.ensures.added ∙ ap (λ l. l ++ conjuncts) (c.in_ok-add_moved_facts-2.ensures.added ∙ ap (λ l. l ++ right) first)

@@ -11,7 +11,7 @@ pub returns-clause-counted : goal.returns-clause-counted
 returns-clause-counted c =
     let shown = shown_of c.args.shown.now in
     let outputs = expressions_of shown.outputs in
-    c.in_ok-add.ensures
+    c.in_ok-needs.ensures
     ∙ ap (λ (n : Needs). needs_with n (leaves (formula_of c.args.formula))) c.requires.counted
     ∙ sym (needs_pushed shown.below outputs c.args.sorted.hidden.items c.args.formula)
     ∙ ap (λ hidden. all_needs shown.below outputs (map formula_of hidden)) (sym c.in_ok-push.ensures.items)

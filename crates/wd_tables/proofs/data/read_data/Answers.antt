@@ -23,11 +23,11 @@ loop-before-preserved c text read places first =
     let row = c.in-Some.row.items in
     let fields = c.args.table.now.columns.items in
     let as_wide : length row ≡ length columns = sym (row_wide fields text n row record_) ∙ sym wide in
-    let grown : rows_along (rows_of c.push_row.new.columns.items) (n + 1) ≡ rows_along columns n ++ row ∷ [] = ap (λ cs. rows_along cs (n + 1)) c.in_ok-push_row-in-Some.ensures ∙ more columns row n long as_wide in (
+    let grown : rows_along (rows_of c.push_row.new.columns.items) (n + 1) ≡ rows_along columns n ++ row ∷ [] = ap (λ cs. rows_along cs (n + 1)) c.in_ok-push_row-in-Some.ensures.grown ∙ more columns row n long as_wide in (
       now,
       rw grown (holds_more fields text n (rows_along columns n) record_.fields row held record_.read record_.values record_.fits),
-      rw c.in_ok-push_row-in-Some.ensures (longer columns row n long as_wide),
-      rw c.in_ok-push_row-in-Some.ensures (long_row columns row ∙ wide),
+      rw c.in_ok-push_row-in-Some.ensures.grown (longer columns row n long as_wide),
+      rw c.in_ok-push_row-in-Some.ensures.grown (long_row columns row ∙ wide),
     )
 
 pub returns-in-None-clause-holds : goal.returns-in-None-clause-holds

@@ -5,7 +5,7 @@ use Rattle.wd_facts.specs.Laws.{ArePlain}
 use Rattle.wd_rules.specs.Rules.{kept_facts}
 use Rattle.wd_rules.proofs.Kept.{entry_plain}
 use Rattle.wd_verify.specs.Lean.{lean_of}
-use Rattle.wd_verify.specs.Shown.{seen_of}
+use Rattle.wd_node_facts.specs.Seen.{seen_of}
 use Rattle.wd_verify.proofs.entry.check_entry.Goals as goal
 
 pub keeps_of-requires-clause-plain : goal.keeps_of-requires-clause-plain

@@ -1,5 +1,5 @@
 use Rattle.std.proofs.Common.{◌∙◌}
-use Rattle.wd_verify.specs.Shown.{seen_of}
+use Rattle.wd_node_facts.specs.Seen.{seen_of}
 use Rattle.wd_verify.proofs.Claims.{next_traced}
 use Rattle.wd_verify.proofs.evidence.follow_each.Goals as goal
 

@@ -2,7 +2,7 @@ use Rattle.std.proofs.Common.{◌≡◌, drop, map}
 use Rattle.wd_certificate.specs.Certificates.{trace_of}
 use Rattle.wd_rules.specs.Traces.{each_traced}
 use Rattle.wd_verify.specs.Lean.{lean_trace}
-use Rattle.wd_verify.specs.Shown.{seen_of, traced_of}
+use Rattle.wd_node_facts.specs.Seen.{seen_of, traced_of}
 use Rattle.wd_verify.proofs.Claims.{after}
 use Rattle.wd_verify.proofs.evidence.follow_each.Given as goal
 

@@ -2,7 +2,8 @@ use Rattle.std.proofs.Common.{◌≡◌, drop, map}
 use Rattle.wd_certificate.specs.Certificates.{kept_of}
 use Rattle.wd_rules.specs.Rules.{keep_refusal}
 use Rattle.wd_verify.specs.Lean.{lean_kept}
-use Rattle.wd_verify.specs.Shown.{seen_of, shown_by}
+use Rattle.wd_node_facts.specs.Seen.{seen_of}
+use Rattle.wd_verify.specs.Shown.{shown_by}
 use Rattle.wd_verify.proofs.kept.check_keep.Given as goal
 
 abbrev pub invariant-loop-kept : goal.invariant-loop-kept

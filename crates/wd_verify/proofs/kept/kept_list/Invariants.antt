@@ -3,7 +3,7 @@ use Rattle.wd_certificate.specs.Certificates.{kept_of}
 use Rattle.wd_facts.specs.Laws.{ArePlain}
 use Rattle.wd_rules.specs.Rules.{kept_fact, kept_facts}
 use Rattle.wd_verify.specs.Lean.{lean_kept, lean_of}
-use Rattle.wd_verify.specs.Shown.{fact_by, traced_of}
+use Rattle.wd_node_facts.specs.Seen.{fact_by, traced_of}
 use Rattle.wd_verify.proofs.kept.kept_list.Given as goal
 
 abbrev pub invariant-loop-kept : goal.invariant-loop-kept

@@ -1,5 +1,5 @@
 use Rattle.std.proofs.Common.{◌≡◌, drop, map}
-use Rattle.wd_verify.specs.Shown.{seen_of}
+use Rattle.wd_node_facts.specs.Seen.{seen_of}
 use Rattle.wd_rules.specs.Rules.{member_of}
 use Rattle.wd_sets.specs.Reaches.{reaches_each}
 use Rattle.wd_sets.specs.Sets.{has}

@@ -7,7 +7,7 @@ use Rattle.wd_facts.specs.Given.{given}
 use Rattle.wd_rules.specs.Rules.{entry_refusal}
 use Rattle.wd_rules.specs.Validity.{entry_at, nodes_refusal}
 use Rattle.wd_verify.specs.Lean.{lean_of}
-use Rattle.wd_verify.specs.Shown.{facts_kept}
+use Rattle.wd_node_facts.specs.Seen.{facts_kept}
 use Rattle.wd_verify.proofs.Joins.{join_refusal}
 use Rattle.wd_verify.proofs.nodes.+check_nodes.Goals as goal
 

@@ -2,7 +2,8 @@ use Rattle.std.proofs.Common.{◌≡◌, ◌∙◌, ap, slice_index_or, subst}
 use Rattle.wd_plan.specs.Plans.{window_of}
 use Rattle.wd_sets.specs.Sets.{has_column}
 use Rattle.wd_rules.specs.Rules.{call_refusal}
-use Rattle.wd_verify.specs.Shown.{seen_of, shown_by}
+use Rattle.wd_node_facts.specs.Seen.{seen_of}
+use Rattle.wd_verify.specs.Shown.{shown_by}
 use Rattle.wd_verify.proofs.Calls.{class_there}
 use Rattle.wd_verify.proofs.rules.check_call_of.Goals as goal
 

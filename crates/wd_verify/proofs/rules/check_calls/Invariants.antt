@@ -2,7 +2,8 @@ use Rattle.std.proofs.Common.{◌≡◌, drop, length}
 use Rattle.std.specs.Slice.Iter.{iter_rest}
 use Rattle.wd_plan.specs.Plans.{NameBelow, window_of}
 use Rattle.wd_rules.specs.Rules.{calls_refusal}
-use Rattle.wd_verify.specs.Shown.{seen_of, shown_by}
+use Rattle.wd_node_facts.specs.Seen.{seen_of}
+use Rattle.wd_verify.specs.Shown.{shown_by}
 use Rattle.wd_verify.proofs.rules.check_calls.Given as goal
 
 abbrev pub invariant-loop-call : goal.invariant-loop-call

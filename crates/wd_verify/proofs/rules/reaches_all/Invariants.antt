@@ -1,6 +1,6 @@
 use Rattle.std.proofs.Common.{◌≡◌}
 use Rattle.wd_step_facts.specs.Facts.{columns_named}
-use Rattle.wd_verify.specs.Shown.{seen_of}
+use Rattle.wd_node_facts.specs.Seen.{seen_of}
 use Rattle.wd_step_facts.specs.Steps.{all_columns}
 use Rattle.wd_sets.specs.Sets.{has}
 use Rattle.wd_sets.specs.Reaches.{reaches_each}

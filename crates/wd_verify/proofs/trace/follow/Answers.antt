@@ -1,7 +1,7 @@
 use Rattle.std.proofs.Common.{◌∙◌}
 use Rattle.std.proofs.lemmas.Result.{IfErr-weaker, IfOk-weaker}
 use Rattle.wd_certificate.specs.Certificates.{trace_of}
-use Rattle.wd_verify.specs.Shown.{seen_of}
+use Rattle.wd_node_facts.specs.Seen.{seen_of}
 use Rattle.wd_verify.proofs.LeanEntry.{traced_lean}
 use Rattle.wd_verify.proofs.trace.follow.Goals as goal
 

@@ -3,7 +3,7 @@ use Rattle.std.specs.List.{list_all}
 use Rattle.wd_step_facts.specs.Facts.{columns_named, is_plain, moved}
 use Rattle.wd_sets.specs.Reaches.{reaches_each}
 use Rattle.wd_sets.specs.Sets.{has}
-use Rattle.wd_verify.specs.Shown.{seen_of}
+use Rattle.wd_node_facts.specs.Seen.{seen_of}
 use Rattle.wd_verify.proofs.trace.reaches_columns.Given as goal
 
 abbrev pub invariant-loop-column : goal.invariant-loop-column

@@ -1,5 +1,5 @@
 use Rattle.std.proofs.Common.{◌≡◌, drop}
-use Rattle.wd_verify.specs.Shown.{seen_of}
+use Rattle.wd_node_facts.specs.Seen.{seen_of}
 use Rattle.wd_sets.specs.Reaches.{reaches_each}
 use Rattle.wd_sets.specs.Sets.{has}
 use Rattle.wd_verify.proofs.trace.reaches_each.Given as goal

@@ -2,7 +2,7 @@ use Rattle.std.proofs.Common.{◌∙◌, ap}
 use Rattle.std.proofs.lemmas.Result.{IfErr-weaker, IfOk-weaker}
 use Rattle.wd_sets.specs.Sets.{has}
 use Rattle.wd_rules.specs.Traces.{with_use}
-use Rattle.wd_verify.specs.Shown.{seen_of}
+use Rattle.wd_node_facts.specs.Seen.{seen_of}
 use Rattle.wd_verify.proofs.Members.{plain_at, read_at, read_past, side_at, side_past}
 use Rattle.wd_verify.proofs.trace.use_side.Goals as goal
 

@@ -1,0 +1,8 @@
+//! Blocks of what is open in a query: where it stands, what is said of it, the rows of a witness with both answers, and the help.
+#![tactic(auto)]
+
+mod block;
+mod words;
+
+pub use block::{Statement, add_open};
+pub use words::kind_of;

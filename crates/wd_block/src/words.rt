@@ -1,0 +1,45 @@
+//! What is said of a place that is open.
+
+ghost use Rattle.std.specs.Prelude.{◌≡◌};
+ghost use Rattle.wd_block.specs.Kinds as spec;
+
+use wd_analyse::{Lack, Reason};
+use wd_decide::Verdict;
+use wd_finding::Finding;
+use wd_lines::Kind;
+
+/// What a finding counts as.
+pub fn kind_of(finding: &Finding) -> Kind
+    ensures { result ≡ spec.kind_of finding.now.verdict finding.now.further }
+{
+    match (&finding.verdict, &finding.further) {
+        (Verdict::Deterministic(_), _) => Kind::Deterministic,
+        (Verdict::Depends(_), _) => Kind::Depends,
+        (Verdict::Unknown(_), Some(_)) => Kind::Depends,
+        (Verdict::Unknown(_), None) => Kind::MayTie,
+    }
+}
+
+/// What is said of a place that is open in a query of this kind.
+pub(crate) fn place_words(kind: Kind, reason: Reason) -> &'static str {
+    match (kind, reason.call) {
+        (Kind::Depends, Some(_)) => {
+            "depends: rows that tie may stand in any order here, and the answer goes by it"
+        }
+        (Kind::Depends, None) => {
+            "depends: rows that tie are cut in any order here, and the answer goes by it"
+        }
+        (_, Some(_)) => "may tie: rows that tie may stand in any order here; no example found",
+        (_, None) => "may tie: rows that tie are cut in any order here; no example found",
+    }
+}
+
+/// What a call or a limit lacks.
+pub(crate) fn lack_words(lack: Lack) -> &'static str {
+    match lack {
+        Lack::Row => "its sort keys do not tell all rows apart",
+        Lack::Column(_) => "rows that tie may differ in a column that is used here",
+        Lack::SecondClass =>
+            "rows may be exchanged under one ordering alone, and there are several",
+    }
+}

@@ -1,0 +1,42 @@
+-- What is found of a query, from the verdict on it and what the analysis found.
+use Rattle.std.proofs.Common.{◌≡◌, ℕ, List, map, subst, sym, Option}
+use Rattle.std.specs.Prelude.{IfSome}
+use Rattle.wd_schema.specs.Schemas.{schema_of}
+use Rattle.wd_schema.specs.Tables.{TableRule}
+use Rattle.wd_plan.specs.Outcomes.{RowsOrFault, outcome_of}
+use Rattle.wd_plan.specs.Plans.{PlanTree, plan_of}
+use Rattle.wd_value.specs.Rows.{Instance}
+use Rattle.wd_analyse.specs.Analysis.{IsAnswer}
+use Rattle.wd_eval.specs.Judged.{IsOutcome}
+use Rattle.wd_query.specs.Readings.{IsRead}
+use Rattle.wd_query.specs.declared.read.PlannedQuery.{PlannedQuery}
+use Rattle.wd_seek.specs.Sought.{reasons_of}
+use Rattle.wd_decide.specs.Verdicts.{IsExamined, IsVerdict}
+use Rattle.wd_decide.specs.declared.verdict.Examined.{Examined}
+use Rattle.wd_decide.specs.declared.verdict.Verdict.{Verdict}
+use Rattle.wd_further.specs.Finds.{IsFound}
+use Rattle.wd_further.specs.declared.judge.Found.{Found}
+use Rattle.wd_finding.specs.declared.finding.Finding.{Finding}
+use Rattle.wd_finding.specs.Findings.{AreAnswers, IsFinding, reason_of, witness_shown}
+
+pub finding_is : (schema query : List ℕ) (verdict : Verdict) (further : Option Found) (examined : Examined) (finding : Finding)
+    → IsVerdict schema query verdict → IsExamined schema query examined → IfSome further (IsFound schema query) → finding.verdict ≡ verdict → finding.further ≡ further → finding.planned ≡ examined.planned
+    → map reason_of finding.places.items ≡ reasons_of examined.analysis
+    → AreAnswers (schema_of examined.planned.schema) (plan_of examined.planned.resolved.plan) (witness_shown verdict further) finding.answers
+    → IsFinding schema query finding
+finding_is schema query verdict further examined finding v is found same sought planned reasons answers = record {
+  read = subst (λ (p : PlannedQuery). IsRead schema query p) (sym planned) is.read;
+  verdict = subst (λ (w : Verdict). IsVerdict schema query w) (sym same) v;
+  analysis = examined.analysis;
+  analysed = subst (λ (p : PlannedQuery). IsAnswer (schema_of p.schema) (plan_of p.resolved.plan) examined.analysis) (sym planned) is.analysed;
+  reasons = reasons;
+  further = subst (λ (o : Option Found). IfSome o (IsFound schema query)) (sym sought) found;
+  answers =
+      subst (λ (p : PlannedQuery). AreAnswers (schema_of p.schema) (plan_of p.resolved.plan) (witness_shown finding.verdict finding.further) finding.answers) (sym planned)
+      (subst (λ (o : Option Found). AreAnswers (schema_of examined.planned.schema) (plan_of examined.planned.resolved.plan) (witness_shown finding.verdict o) finding.answers) (sym sought)
+      (subst (λ (w : Verdict). AreAnswers (schema_of examined.planned.schema) (plan_of examined.planned.resolved.plan) (witness_shown w further) finding.answers) (sym same) answers));
+}
+
+-- the same outcome over an instance that is equal
+pub outcome_over : (plan : PlanTree) (instance other : Instance) (choice : List (List ℕ)) (o : RowsOrFault) → instance ≡ other → IsOutcome plan instance choice o → IsOutcome plan other choice o
+outcome_over plan instance other choice o e h = subst (λ (i : Instance). IsOutcome plan i choice o) e h

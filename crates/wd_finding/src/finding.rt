@@ -1,0 +1,135 @@
+//! What is found of a query.
+
+ghost use Rattle.std.specs.Prelude.{◌≡◌, true, map, option_map, IfOk, IfErr, IfSome};
+ghost use Rattle.wd_decide.specs.Verdicts.{HasCause};
+ghost use Rattle.wd_finding.specs.Findings.{AreAnswers, IsFinding, reason_of, witness_shown};
+ghost use Rattle.wd_further.specs.Finds.{IsFound};
+ghost use Rattle.wd_plan.specs.Fits.{fits};
+ghost use Rattle.wd_plan.specs.Plans.{plan_of};
+ghost use Rattle.wd_schema.specs.Schemas.{schema_of};
+ghost use Rattle.wd_seek.specs.Sought.{reasons_of};
+
+use crate::answers::{Answers, answers_under};
+use crate::place::{OpenPlace, places};
+use std::alloc::Global;
+use wd_analyse::{Analysis, Reason};
+use wd_decide::{DecideError, Examined, Verdict, decide, examine};
+use wd_further::{Found, seek_further};
+use wd_query::PlannedQuery;
+use wd_value::OutOfMemory;
+use wd_witness_text::Witness;
+
+/// What is found of a query over a schema.
+#[derive(Drop)]
+pub struct Finding {
+    /// The schema, and the plan of the query.
+    pub planned: PlannedQuery,
+    pub verdict: Verdict,
+    /// The calls and the limits for which no rule is known, in postorder.
+    pub places: Vec<OpenPlace>,
+    /// Where the verdict is UNKNOWN, the witness that a further search finds.
+    pub further: Option<Found>,
+    /// The two answers that the witness shows.
+    pub answers: Option<Answers>,
+}
+
+impl Finding {
+    /// The witness that shows two answers of the query: that of the verdict, or the one that the further search finds.
+    pub fn witness(&self) -> Option<&Witness>
+        ensures { option_map (λ w. w.now) result ≡ witness_shown self.now.verdict self.now.further }
+    {
+        witness_of_all(&self.verdict, &self.further)
+    }
+}
+
+/// The witness of a verdict, or the one that the further search finds.
+fn witness_of_all<'a>(verdict: &'a Verdict, further: &'a Option<Found>) -> Option<&'a Witness>
+    ensures { option_map (λ w. w.now) result ≡ witness_shown verdict.now further.now }
+{
+    match (verdict, further) {
+        (Verdict::Depends(witness), _) => Some(witness),
+        (Verdict::Unknown(_), Some(found)) => Some(&found.witness),
+        (Verdict::Unknown(_), None) | (Verdict::Deterministic(_), _) => None,
+    }
+}
+
+/// The verdict on a query over a schema, and the calls and the limits that are open. Where the verdict is UNKNOWN, a further search is
+/// made for a witness. Where there is one, the query's answers over its tables under its two choices.
+///
+/// Each refusal comes only where its cause stands, as `decide` says.
+pub fn judge(alloc: Global, schema: &[u8], query: &[u8]) -> Result<Finding, DecideError>
+    ensures found { IfOk result (IsFinding schema.now query.now) }
+    ensures refused { IfErr result (HasCause schema.now query.now) }
+{
+    let verdict = decide(alloc, schema, query)?;
+    let examined = examine(alloc, schema, query)?;
+    let further = further_witness(alloc, schema, query, &verdict)?;
+    Ok(with_evidence(alloc, query, verdict, further, examined)?)
+}
+
+/// What a further search finds, where the verdict is UNKNOWN.
+fn further_witness(
+    alloc: Global,
+    schema: &[u8],
+    query: &[u8],
+    verdict: &Verdict,
+) -> Result<Option<Found>, OutOfMemory>
+    ensures { IfOk result (λ o. IfSome o (IsFound schema.now query.now)) }
+{
+    match verdict {
+        Verdict::Unknown(_) => seek_further(alloc, schema, query),
+        Verdict::Deterministic(_) | Verdict::Depends(_) => Ok(None),
+    }
+}
+
+/// The finding of a verdict on a query and of what the analysis found of it.
+fn with_evidence(
+    alloc: Global,
+    query: &[u8],
+    verdict: Verdict,
+    further: Option<Found>,
+    examined: Examined,
+) -> Result<Finding, OutOfMemory>
+    requires { fits (schema_of examined.planned.schema) (plan_of examined.planned.resolved.plan) ≡ true }
+    ensures verdict { IfOk result (λ f. f.verdict ≡ verdict) }
+    ensures planned { IfOk result (λ f. f.planned ≡ examined.planned) }
+    ensures reasons { IfOk result (λ f. map reason_of f.places.items ≡ reasons_of examined.analysis) }
+    ensures further { IfOk result (λ f. f.further ≡ further) }
+    ensures answers { IfOk result (λ f. AreAnswers (schema_of examined.planned.schema) (plan_of examined.planned.resolved.plan) (witness_shown verdict further) f.answers) }
+{
+    let Examined { planned, analysis } = examined;
+    let places = places(alloc, query, &planned.resolved.plan, reasons_in(&analysis))?;
+    let answers = answers_of(alloc, &planned, witness_of_all(&verdict, &further))?;
+    Ok(Finding {
+        planned,
+        verdict,
+        places,
+        further,
+        answers,
+    })
+}
+
+/// Why an analysis leaves calls and limits open.
+fn reasons_in(analysis: &Analysis) -> &[Reason]
+    ensures { result.now ≡ reasons_of analysis.now }
+{
+    match analysis {
+        Analysis::Certified(_) => &[],
+        Analysis::Open(reasons, _) => reasons,
+    }
+}
+
+/// The answers that a witness shows.
+fn answers_of(
+    alloc: Global,
+    planned: &PlannedQuery,
+    witness: Option<&Witness>,
+) -> Result<Option<Answers>, OutOfMemory>
+    requires { fits (schema_of planned.now.schema) (plan_of planned.now.resolved.plan) ≡ true }
+    ensures { IfOk result (AreAnswers (schema_of planned.now.schema) (plan_of planned.now.resolved.plan) (option_map (λ w. w.now) witness.entry)) }
+{
+    match witness {
+        Some(witness) => answers_under(alloc, planned, witness),
+        None => Ok(None),
+    }
+}

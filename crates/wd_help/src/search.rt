@@ -1,0 +1,225 @@
+//! Which sort keys close what is open in a query: they are put in, and the analysis is asked what is open then.
+
+use std::alloc::Global;
+use wd_analyse::{Analysis, Reason};
+use wd_decide::{DecideError, Examined, examine};
+use wd_keys::{Change, candidates, changed};
+use wd_lex::lex;
+use wd_sites::{KeyPlace, PlanSite, sites};
+use wd_value::OutOfMemory;
+
+/// The most questions about one query.
+const MOST_QUESTIONS: usize = 1000;
+
+/// The most bytes that the texts of all questions about one query have.
+const MOST_BYTES: usize = 2_000_000;
+
+/// The most orderings that are changed.
+const MOST_ROUNDS: usize = 16;
+
+/// What is open in a text, and where its window calls and limits stand.
+#[derive(Drop)]
+struct Open {
+    reasons: Vec<Reason>,
+    sites: Vec<PlanSite>,
+}
+
+/// A query over a schema, and what is tried on it.
+#[derive(Clone, Copy)]
+struct Search<'a> {
+    alloc: Global,
+    schema: &'a [u8],
+    query: &'a [u8],
+    /// Where its window calls and limits stand as it is.
+    sites: &'a [PlanSite],
+    /// The lists of sort keys that are tried.
+    candidates: &'a [String],
+}
+
+/// The changes with which nothing is open.
+pub(crate) fn found(
+    alloc: Global,
+    schema: &[u8],
+    query: &[u8],
+) -> Result<Option<Vec<Change>>, OutOfMemory> {
+    let Some(examined) = examined(alloc, schema, query)? else {
+        return Ok(None);
+    };
+    let candidates = candidates(
+        alloc,
+        &examined.planned.schema,
+        &examined.planned.resolved.plan,
+        query,
+    )?;
+    let open = open_in(alloc, examined, query)?;
+    let search = Search {
+        alloc,
+        schema,
+        query,
+        sites: &open.sites,
+        candidates: &candidates,
+    };
+    search.run(&open)
+}
+
+/// What the analysis finds of a text. None where the text is refused.
+fn examined(alloc: Global, schema: &[u8], text: &[u8]) -> Result<Option<Examined>, OutOfMemory> {
+    match examine(alloc, schema, text) {
+        Ok(examined) => Ok(Some(examined)),
+        Err(DecideError::OutOfMemory) => Err(OutOfMemory),
+        Err(_) => Ok(None),
+    }
+}
+
+/// What is open in a text.
+fn open_in(alloc: Global, examined: Examined, text: &[u8]) -> Result<Open, OutOfMemory> {
+    let Examined { planned, analysis } = examined;
+    let sites = match lex(alloc, text) {
+        Ok(tokens) => sites(alloc, &tokens, &planned.resolved.plan)?,
+        Err(_) => Vec::new(alloc),
+    };
+    let reasons = match analysis {
+        Analysis::Certified(_) => Vec::new(alloc),
+        Analysis::Open(reasons, _) => reasons,
+    };
+    Ok(Open { reasons, sites })
+}
+
+impl Search<'_> {
+    /// The changes with which nothing is open, where this is open without any.
+    fn run(self, first: &Open) -> Result<Option<Vec<Change>>, OutOfMemory> {
+        let alloc = self.alloc;
+        let mut changes = Vec::new(alloc);
+        let mut left = first.reasons.len();
+        let mut tried = 0;
+        for _ in 0..MOST_ROUNDS {
+            if left == 0 {
+                return Ok(Some(changes));
+            }
+            let Some(open) = self.open_with(&changes)? else {
+                return Ok(None);
+            };
+            match self.lessened(&changes, &open, &mut tried)? {
+                Some((next, still)) => {
+                    changes = next;
+                    left = still;
+                }
+                None => return Ok(None),
+            }
+        }
+        Ok(None)
+    }
+
+    /// What is open with these changes. None where the text is refused then.
+    fn open_with(self, changes: &[Change]) -> Result<Option<Open>, OutOfMemory> {
+        let alloc = self.alloc;
+        let Some(text) = changed(alloc, self.query, changes)? else {
+            return Ok(None);
+        };
+        match examined(alloc, self.schema, &text)? {
+            Some(examined) => Ok(Some(open_in(alloc, examined, &text)?)),
+            None => Ok(None),
+        }
+    }
+
+    /// The first further change with which less is open, and how much is then.
+    fn lessened(
+        self,
+        changes: &[Change],
+        open: &Open,
+        tried: &mut usize,
+    ) -> Result<Option<(Vec<Change>, usize)>, OutOfMemory> {
+        for reason in &open.reasons {
+            let places = self.places_of(open, *reason)?;
+            if places.is_empty() {
+                continue;
+            }
+            if let Some(found) = self.lessened_at(changes, &places, open.reasons.len(), tried)? {
+                return Ok(Some(found));
+            }
+        }
+        Ok(None)
+    }
+
+    /// The same at these places.
+    fn lessened_at(
+        self,
+        changes: &[Change],
+        places: &[KeyPlace],
+        was: usize,
+        tried: &mut usize,
+    ) -> Result<Option<(Vec<Change>, usize)>, OutOfMemory> {
+        for keys in self.candidates {
+            if self.is_spent(*tried) {
+                return Ok(None);
+            }
+            *tried = tried.saturating_add(1);
+            let next = self.with_keys(changes, places, keys.as_str())?;
+            if let Some(open) = self.open_with(&next)? {
+                if open.reasons.len() < was {
+                    return Ok(Some((next, open.reasons.len())));
+                }
+            }
+        }
+        Ok(None)
+    }
+
+    /// Whether no further question is asked.
+    fn is_spent(self, tried: usize) -> bool {
+        tried >= MOST_QUESTIONS || tried.saturating_mul(self.query.len()) >= MOST_BYTES
+    }
+
+    /// Where keys can be added for what is open there, each place once.
+    fn places_of(self, open: &Open, reason: Reason) -> Result<Vec<KeyPlace>, OutOfMemory> {
+        let mut places: Vec<KeyPlace> = Vec::new(self.alloc);
+        if open.sites.len() != self.sites.len() {
+            return Ok(places);
+        }
+        for (now, before) in open.sites.iter().zip(self.sites) {
+            if now.node != reason.node || now.call != reason.call {
+                continue;
+            }
+            if let Some(key) = before.site.key {
+                if !places.iter().any(|place| place.at == key.at) {
+                    places.push(key)?;
+                }
+            }
+        }
+        Ok(places)
+    }
+
+    /// The changes with these keys at each of the places.
+    fn with_keys(
+        self,
+        changes: &[Change],
+        places: &[KeyPlace],
+        keys: &str,
+    ) -> Result<Vec<Change>, OutOfMemory> {
+        let mut all = Vec::with_capacity(self.alloc, changes.len())?;
+        for change in changes {
+            all.push(change.copy(self.alloc)?)?;
+        }
+        for place in places {
+            self.add_keys(&mut all, *place, keys)?;
+        }
+        Ok(all)
+    }
+
+    /// Adds keys at one place.
+    fn add_keys(
+        self,
+        changes: &mut Vec<Change>,
+        place: KeyPlace,
+        keys: &str,
+    ) -> Result<(), OutOfMemory> {
+        for change in changes.iter_mut() {
+            if change.at == place.at {
+                return change.add(self.alloc, keys);
+            }
+        }
+        let change = Change::first(self.alloc, self.query, place, keys)?;
+        let before = changes.iter().filter(|other| other.at < place.at).count();
+        changes.insert(before.min(changes.len()), change)?;
+        Ok(())
+    }
+}

@@ -1,0 +1,24 @@
+-- A text with something put into it.
+use Rattle.std.specs.Prelude.{◌≡◌, ℕ, ◌≤◌, List, [], ◌∷◌, ◌++◌, length, drop, slice_range, string_bytes}
+use Rattle.wd_keys.specs.declared.change.Change.{Change}
+
+-- the text from a byte on, with each change put in at its place
+abbrev pub changed_from : List ℕ → ℕ → List Change → List ℕ
+changed_from text start [] = drop start text
+changed_from text start (change ∷ changes) = slice_range text start change.at ++ string_bytes change.text ++ changed_from text change.at changes
+
+-- the places come in order, from a byte on, within the text
+abbrev pub ComeInOrder : List ℕ → ℕ → List Change → Type 0
+ComeInOrder text start [] = start ≤ length text
+ComeInOrder text start (change ∷ changes) = (start ≤ change.at) × ComeInOrder text change.at changes
+
+-- this is the text with the changes put in
+pub record ArePut (text : List ℕ) (changes : List Change) (after : List ℕ) : Type 0 where
+  pub ordered : ComeInOrder text 0 changes
+  pub is : after ≡ changed_from text 0 changes
+
+-- an equal change, wherever it lies in memory
+pub record IsCopy (change copy : Change) : Type 0 where
+  pub at : copy.at ≡ change.at
+  pub text : string_bytes copy.text ≡ string_bytes change.text
+  pub keys : string_bytes copy.keys ≡ string_bytes change.keys

@@ -1,0 +1,116 @@
+//! What is put into a text.
+
+ghost use Rattle.std.specs.Prelude.{◌≡◌, ◌++◌, codes, string_bytes, IfOk, IfSome, OnErr};
+ghost use Rattle.wd_keys.specs.Changes.{ArePut, IsCopy};
+
+use std::alloc::Global;
+use wd_sites::KeyPlace;
+use wd_value::OutOfMemory;
+
+/// Sort keys that are put into a text.
+#[derive(Drop)]
+pub struct Change {
+    /// The byte before which they are put.
+    pub at: u64,
+    /// What is put there: a comma or ORDER BY, and the keys.
+    pub text: String,
+    /// The keys alone.
+    pub keys: String,
+}
+
+impl Change {
+    /// The first keys at a place of a text: behind a comma, or behind ORDER BY where none stand there.
+    pub fn first(
+        alloc: Global,
+        query: &[u8],
+        place: KeyPlace,
+        keys: &str,
+    ) -> Result<Change, OutOfMemory>
+        ensures at { IfOk result (λ c. c.at ≡ place.at) }
+        ensures keys { IfOk result (λ c. string_bytes c.keys ≡ keys.now) }
+    {
+        let at = place.at as usize;
+        let mut text = String::new(alloc);
+        if place.order.is_some() {
+            text.push_str(", ")?;
+            text.push_str(keys)?;
+        } else {
+            if !matches!(byte_before(query, at), Some(b'(')) {
+                text.push(' ')?;
+            }
+            text.push_str("ORDER BY ")?;
+            text.push_str(keys)?;
+            if matches!(query.get(at), Some(b) if b.is_ascii_alphanumeric()) {
+                text.push(' ')?;
+            }
+        }
+        Ok(Change {
+            at: place.at,
+            text,
+            keys: String::from_str(alloc, keys)?,
+        })
+    }
+
+    /// Adds keys behind those that it has. Where memory runs out, it stays as it was.
+    pub fn add(&mut self, alloc: Global, keys: &str) -> Result<(), OutOfMemory>
+        ensures at { self.new.at ≡ self.old.at }
+        ensures text { IfOk result (λ _. string_bytes self.new.text ≡ string_bytes self.old.text ++ codes ", " ++ keys.now) }
+        ensures keys { IfOk result (λ _. string_bytes self.new.keys ≡ string_bytes self.old.keys ++ codes ", " ++ keys.now) }
+        ensures kept { OnErr result (self.new ≡ self.old) }
+    {
+        let text = longer(alloc, self.text.as_str(), keys)?;
+        let all = longer(alloc, self.keys.as_str(), keys)?;
+        self.text = text;
+        self.keys = all;
+        Ok(())
+    }
+
+    /// An equal change.
+    pub fn copy(&self, alloc: Global) -> Result<Change, OutOfMemory>
+        ensures { IfOk result (λ c. IsCopy self.now c) }
+    {
+        Ok(Change {
+            at: self.at,
+            text: String::from_str(alloc, self.text.as_str())?,
+            keys: String::from_str(alloc, self.keys.as_str())?,
+        })
+    }
+}
+
+/// A text with keys behind it, after a comma.
+fn longer(alloc: Global, text: &str, keys: &str) -> Result<String, OutOfMemory>
+    ensures { IfOk result (λ t. string_bytes t ≡ text.now ++ codes ", " ++ keys.now) }
+{
+    let mut longer = String::from_str(alloc, text)?;
+    longer.push_str(", ")?;
+    longer.push_str(keys)?;
+    Ok(longer)
+}
+
+/// The byte before a place.
+fn byte_before(text: &[u8], at: usize) -> Option<u8> {
+    text.get(at.checked_sub(1)?).copied()
+}
+
+/// A text with changes put in, which come in the order of their places. None where they don't, or one is past the text.
+pub fn changed(
+    alloc: Global,
+    text: &[u8],
+    changes: &[Change],
+) -> Result<Option<Vec<u8>>, OutOfMemory>
+    ensures { IfOk result (λ found. IfSome found (λ t. ArePut text.now changes.now t.items)) }
+{
+    let mut out = Vec::new(alloc);
+    let mut start = 0;
+    for change in changes {
+        let at = change.at as usize;
+        if at < start || at > text.len() {
+            return Ok(None);
+        }
+        out.extend_from_slice(&text[start..at])?;
+        out.extend_from_slice(change.text.as_bytes())?;
+        start = at;
+    }
+    out.extend_from_slice(&text[start..])?;
+    Ok(Some(out))
+}

@@ -1,0 +1,21 @@
+//! The lines of blocks, and the line that counts queries.
+//!
+//! `lines` makes the parts of a block: where something stands, the line of the text with carets, a remark. `tables` shows rows of
+//! tables and `answers` the rows in which two answers differ, by names of columns. `refusal` makes the block of what is not read,
+//! with the sentences of `words`.
+#![tactic(auto)]
+
+mod answers;
+mod count;
+mod lines;
+mod refusal;
+mod tables;
+mod values;
+mod words;
+
+pub use answers::add_answers;
+pub use count::{Counts, Kind};
+pub use lines::{add_excerpt, add_joined, add_place, add_remark_line};
+pub use refusal::{add_refusal, add_remark};
+pub use tables::add_tables;
+pub use values::add_plain;

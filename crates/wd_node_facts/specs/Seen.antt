@@ -1,0 +1,128 @@
+-- The facts that a node keeps, as the code holds them, and the given facts of the node above.
+use Rattle.std.specs.Prelude.{◌≡◌, ℕ, ◌+◌, ◌-◌, Bool, true, false, List, [], ◌++◌, map, length, slice_get, Option, Some, None, ⊤, if◌then◌else◌}
+use Rattle.std.specs.List.{list_all}
+use Rattle.wd_plan.specs.Fits.{width}
+use Rattle.wd_plan.specs.Plans.{PlanTree, Scan, Join, Filter, Map, Group, Window, Distinct, Limit}
+use Rattle.wd_step_facts.specs.declared.facts.Member.{Member}
+use Rattle.wd_step_facts.specs.declared.facts.Member.TheVariants as member
+use Rattle.wd_step_facts.specs.Facts.{Fact, FactList, columns_named, fact_of, is_plain_fact, moved_facts}
+use Rattle.wd_step_facts.specs.Steps.{facts_of_group}
+use Rattle.wd_sets.specs.Sets.{has}
+use Rattle.wd_rules.specs.Traces.{Traced}
+use Rattle.wd_node_facts.specs.declared.facts.Followed.{Followed}
+use Rattle.wd_node_facts.specs.declared.facts.Keeps.{Keeps}
+use Rattle.wd_node_facts.specs.declared.facts.KeptFact.{KeptFact}
+use Rattle.wd_node_facts.specs.declared.facts.NodeFacts.{NodeFacts}
+use Rattle.wd_node_facts.specs.declared.facts.Side.{Side}
+
+-- what a trace that the code followed shows
+abbrev pub traced_of : Followed → Traced
+traced_of followed = record { from = followed.from.items; has = has followed.set }
+
+-- the columns of a trace, if it is there
+abbrev pub columns_of : Option Traced → List ℕ
+columns_of None = []
+columns_of (Some trace) = trace.from
+
+-- a kept fact, by the trace that it names
+abbrev pub fact_by : List Traced → KeptFact → Fact
+fact_by shown kept = record { from = columns_named (columns_of (slice_get shown kept.trace)); to = kept.to.items }
+
+-- the facts that a node keeps
+abbrev pub facts_kept : Keeps → List Fact
+facts_kept keeps = map (fact_by (map traced_of keeps.traces.items)) keeps.list.items
+
+-- these as the node above names them
+abbrev pub side_facts : Side → List Fact
+side_facts side = moved_facts (λ c. side.by + c) side.row (facts_kept side.keeps)
+
+-- the columns of a side's facts can be renumbered
+abbrev pub IsNarrow : Side → Type 0
+IsNarrow side = list_all (is_plain_fact (65536 - side.by)) (facts_kept side.keeps) ≡ true
+
+-- the given facts of a node
+abbrev pub seen_of : NodeFacts → FactList
+seen_of facts = record {
+  columns = facts.columns;
+  split = facts.split;
+  list = map fact_of facts.first.items ++ (side_facts facts.left ++ (side_facts facts.right ++ map fact_of facts.last.items));
+}
+
+pub record AreNarrow (facts : NodeFacts) : Type 0 where
+  pub left : IsNarrow facts.left
+  pub right : IsNarrow facts.right
+
+-- ---- a plan's children
+
+-- nothing is kept where there is no child
+abbrev pub HasNoOther : PlanTree → List Fact → List Fact → Type 0
+HasNoOther (Scan table columns) kept more = (kept ≡ []) × (more ≡ [])
+HasNoOther (Join condition left right) kept more = ⊤
+HasNoOther (Filter condition input) kept more = more ≡ []
+HasNoOther (Map outputs input) kept more = more ≡ []
+HasNoOther (Group g input) kept more = more ≡ []
+HasNoOther (Window w input) kept more = more ≡ []
+HasNoOther (Distinct input) kept more = more ≡ []
+HasNoOther (Limit limit input) kept more = more ≡ []
+
+-- the number that column 0 of the child has among the columns of the facts, at a Join of the left one
+abbrev pub first_below : PlanTree → ℕ
+first_below (Scan table columns) = 0
+first_below (Join condition left right) = 0
+first_below (Filter condition input) = 0
+first_below (Map outputs input) = length outputs
+first_below (Group g input) = 0
+first_below (Window w input) = 0
+first_below (Distinct input) = 0
+first_below (Limit limit input) = 0
+
+-- what the child's row is there
+abbrev pub row_below : PlanTree → Member
+row_below (Scan table columns) = member.Row
+row_below (Join condition left right) = member.Left
+row_below (Filter condition input) = member.Row
+row_below (Map outputs input) = member.Row
+row_below (Group g input) = member.Row
+row_below (Window w input) = member.Row
+row_below (Distinct input) = member.Row
+row_below (Limit limit input) = member.Row
+
+-- the number that column 0 of the right child of a Join has
+abbrev pub first_beside : PlanTree → ℕ
+first_beside (Scan table columns) = 0
+first_beside (Join condition left right) = width left
+first_beside (Filter condition input) = 0
+first_beside (Map outputs input) = 0
+first_beside (Group g input) = 0
+first_beside (Window w input) = 0
+first_beside (Distinct input) = 0
+first_beside (Limit limit input) = 0
+
+-- what is given of what the child keeps: of a Group what its one set keeps of that
+abbrev pub kept_through : PlanTree → List Fact → List Fact
+kept_through (Scan table columns) kept = kept
+kept_through (Join condition left right) kept = kept
+kept_through (Filter condition input) kept = kept
+kept_through (Map outputs input) kept = kept
+kept_through (Group g input) kept = facts_of_group g kept
+kept_through (Window w input) kept = kept
+kept_through (Distinct input) kept = kept
+kept_through (Limit limit input) kept = kept
+
+abbrev pub is_group : PlanTree → Bool
+is_group (Scan table columns) = false
+is_group (Join condition left right) = false
+is_group (Filter condition input) = false
+is_group (Map outputs input) = false
+is_group (Group g input) = true
+is_group (Window w input) = false
+is_group (Distinct input) = false
+is_group (Limit limit input) = false
+
+-- a node's own facts beside those of its sides; those of a Group stand first
+abbrev pub with_own : Bool → FactList → List Fact → List Fact → FactList
+with_own first own left right = record {
+  columns = own.columns;
+  split = own.split;
+  list = (if first then own.list else []) ++ (left ++ (right ++ (if first then [] else own.list)));
+}

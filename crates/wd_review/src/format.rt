@@ -1,0 +1,140 @@
+//! What is found, as a person, a program or a GitHub workflow reads it.
+
+use std::alloc::Global;
+use wd_formats::{Level, annotation, json_line};
+use wd_lines::{Kind, add_remark};
+use wd_source::{Position, position_at};
+use wd_value::OutOfMemory;
+
+/// Who reads what is found.
+#[derive(Clone, Copy, Debug, PartialEq, Eq)]
+pub(crate) enum Format {
+    /// A person: blocks of lines.
+    Text,
+    /// A program: a line of JSON for each block.
+    Json,
+    /// A GitHub workflow: an annotation for each block.
+    Github,
+}
+
+impl Format {
+    /// The format of a word of the command line; that of a person for any other word.
+    pub(crate) fn named(word: Option<&str>) -> Format {
+        match word {
+            Some("json") => Format::Json,
+            Some("github") => Format::Github,
+            _ => Format::Text,
+        }
+    }
+}
+
+/// A block, and what it is about.
+#[derive(Clone, Copy)]
+pub(crate) struct Told<'p, 'b, 'm> {
+    pub(crate) kind: Kind,
+    pub(crate) path: &'p str,
+    pub(crate) position: Position,
+    pub(crate) block: &'b str,
+    /// The text of the statement with which it has one answer, where one is known.
+    pub(crate) mended: Option<&'m [u8]>,
+}
+
+/// What is told of some files, in a format.
+#[derive(Drop)]
+pub(crate) struct Report {
+    pub(crate) format: Format,
+    pub(crate) bytes: Vec<u8>,
+}
+
+impl Report {
+    /// A report that tells nothing yet.
+    pub(crate) fn new(alloc: Global, format: Format) -> Report {
+        Report {
+            format,
+            bytes: Vec::new(alloc),
+        }
+    }
+
+    /// Adds what is told.
+    pub(crate) fn add(&mut self, alloc: Global, told: Told<'_, '_, '_>) -> Result<(), OutOfMemory> {
+        let more = told_in(alloc, self.format, told)?;
+        Ok(self.bytes.extend_from_slice(&more)?)
+    }
+
+    /// Adds a remark on a path of which nothing is read.
+    pub(crate) fn add_remark(
+        &mut self,
+        alloc: Global,
+        path: &str,
+        remark: &str,
+    ) -> Result<(), OutOfMemory> {
+        let mut block = String::new(alloc);
+        add_remark(&mut block, path, remark)?;
+        self.add(
+            alloc,
+            Told {
+                kind: Kind::NotRead,
+                path,
+                position: Position { line: 1, column: 1 },
+                block: block.as_str(),
+                mended: None,
+            },
+        )
+    }
+}
+
+/// What is told, in a format.
+fn told_in(alloc: Global, format: Format, told: Told<'_, '_, '_>) -> Result<Vec<u8>, OutOfMemory> {
+    match format {
+        Format::Text => Ok(Vec::from_slice(alloc, told.block.as_bytes())?),
+        Format::Json => {
+            let line = json_line(
+                alloc,
+                finding_word(told.kind),
+                told.path,
+                told.position,
+                told.block.trim_end(),
+                text_of(told.mended),
+            )?;
+            Ok(Vec::from_slice(alloc, line.as_bytes())?)
+        }
+        Format::Github => annotation(
+            alloc,
+            level_of(told.kind),
+            told.path.as_bytes(),
+            told.position,
+            told.block.trim_end().as_bytes(),
+        ),
+    }
+}
+
+/// Bytes as a text, where they are one.
+fn text_of(bytes: Option<&[u8]>) -> Option<&str> {
+    match bytes {
+        Some(bytes) => str::from_utf8(bytes).ok(),
+        None => None,
+    }
+}
+
+/// The word of a finding in JSON.
+fn finding_word(kind: Kind) -> &'static str {
+    match kind {
+        Kind::Deterministic => "deterministic",
+        Kind::Depends => "depends",
+        Kind::MayTie => "may tie",
+        Kind::NotRead => "not read",
+    }
+}
+
+/// How grave a finding is to a workflow.
+fn level_of(kind: Kind) -> Level {
+    match kind {
+        Kind::Depends | Kind::NotRead => Level::Error,
+        Kind::MayTie | Kind::Deterministic => Level::Warning,
+    }
+}
+
+/// The line and the column of a byte of a text, or of the text's end.
+pub(crate) fn position_in(text: &[u8], byte: u64) -> Position {
+    position_at(text, (byte as usize).min(text.len()))
+}

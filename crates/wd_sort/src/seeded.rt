@@ -1,0 +1,54 @@
+//! Hash maps over values that a stranger may have chosen.
+//!
+//! std's maps begin each hash with one fixed seed, so values can be chosen whose hashes fall together, and a map of them takes
+//! time that goes with the square of their number. Here the seed is itself a hash (SipHash) of all the values that are to be
+//! looked up: whoever changes a value changes the seed. Random numbers from the machine would serve as well, but the calls that
+//! use these maps are handed no machine.
+
+use std::hash::{BuildHasher, DefaultHasher, FoldHasher, Hash, Hasher};
+use wd_columns::RowSource;
+use wd_value::Value;
+
+/// Makes hashers that begin with a seed.
+#[derive(Clone, Copy)]
+pub struct Seeded {
+    initial: FoldHasher,
+}
+
+impl Seeded {
+    /// With the hash of all that was written to a hasher as its seed.
+    pub fn by(all: &DefaultHasher) -> Seeded {
+        let mut initial = FoldHasher::default();
+        initial.write_u64(all.finish());
+        Seeded { initial }
+    }
+
+    /// With a hash of the values that stand in a column at these positions as its seed.
+    pub(crate) fn by_column(rows: &RowSource, column: u16, positions: &[u64]) -> Seeded {
+        let mut all = DefaultHasher::new();
+        for i in 0..positions.len() {
+            write_value(rows, column, positions[i], &mut all);
+        }
+        Seeded::by(&all)
+    }
+}
+
+impl BuildHasher for Seeded {
+    type Hasher = FoldHasher;
+
+    ghost build_hasher = { λ s. s.initial };
+
+    fn build_hasher(&self) -> FoldHasher {
+        self.initial
+    }
+}
+
+/// Writes a text or a whole number of a column to a hasher; other values are not looked up.
+fn write_value(rows: &RowSource, column: u16, position: u64, all: &mut DefaultHasher) {
+    let null = Value::Null;
+    match rows.value(position, column, &null) {
+        Value::Int(whole) => whole.hash(all),
+        Value::Text(text) => text.as_str().hash(all),
+        Value::Null | Value::Bool(_) => {}
+    }
+}

@@ -1,0 +1,12 @@
+//! Files and folders, which of them hold queries, and where these queries' schemas may be.
+#![tactic(auto)]
+
+mod machine;
+mod memory;
+mod paths;
+mod sources;
+
+pub use machine::MachineSources;
+pub use memory::MemorySources;
+pub use paths::{files_at, schemas_for};
+pub use sources::{Entry, MOST_BYTES, SourceError, Sources};

@@ -1,0 +1,127 @@
+//! Which files are judged, and where their schemas may be.
+
+use crate::sources::{Entry, SourceError, Sources};
+use std::alloc::{AllocError, Global};
+
+/// The most members of folders that are looked at.
+const MOST_MEMBERS: u32 = 1_000_000;
+
+/// The most folders that a folder is within.
+const MOST_DEEP: usize = 64;
+
+/// A path to be looked at.
+#[derive(Drop)]
+struct Waiting {
+    path: String,
+    /// How many folders were gone through to it.
+    depth: usize,
+    /// Whether it is known to be a file.
+    is_file: bool,
+}
+
+/// The paths of the files that are judged: a path of a file itself, and the files `*.sql` of a folder and of the folders in it, in
+/// the order of their names, but for those that are named `schema.sql`.
+pub fn files_at<S: Sources>(
+    alloc: Global,
+    sources: &mut S,
+    path: &str,
+) -> Result<Vec<String>, SourceError> {
+    let mut found = Vec::new(alloc);
+    let mut waiting = Vec::new(alloc);
+    waiting.push(Waiting {
+        path: String::from_str(alloc, path)?,
+        depth: 0,
+        is_file: false,
+    })?;
+    for _ in 0..MOST_MEMBERS {
+        let Some(next) = waiting.pop() else {
+            return Ok(found);
+        };
+        if next.is_file {
+            found.push(next.path)?;
+        } else {
+            look(alloc, sources, next, &mut waiting, &mut found)?;
+        }
+    }
+    Ok(found)
+}
+
+/// Looks at a path: a file is found, and the members of a folder wait, the first on top.
+fn look<S: Sources>(
+    alloc: Global,
+    sources: &mut S,
+    next: Waiting,
+    waiting: &mut Vec<Waiting>,
+    found: &mut Vec<String>,
+) -> Result<(), SourceError> {
+    match sources.list(alloc, next.path.as_str())? {
+        None => Ok(found.push(next.path)?),
+        Some(members) => if next.depth < MOST_DEEP {
+            add_members(alloc, next, members, waiting)
+        } else {
+            Ok(())
+        },
+    }
+}
+
+/// Adds the members of a folder that are looked at.
+fn add_members(
+    alloc: Global,
+    folder: Waiting,
+    mut members: Vec<Entry>,
+    waiting: &mut Vec<Waiting>,
+) -> Result<(), SourceError> {
+    members.sort_by(|a, b| b.name.as_str().cmp(a.name.as_str()))?;
+    for member in &members {
+        if member.is_folder || is_query(member.name.as_str()) {
+            waiting.push(Waiting {
+                path: joined(alloc, folder.path.as_str(), member.name.as_str())?,
+                depth: folder.depth.saturating_add(1),
+                is_file: !member.is_folder,
+            })?;
+        }
+    }
+    Ok(())
+}
+
+/// Whether a file of a folder is judged.
+fn is_query(name: &str) -> bool {
+    name.ends_with(".sql") && name != "schema.sql"
+}
+
+/// The path of a folder's member.
+fn joined(alloc: Global, folder: &str, name: &str) -> Result<String, AllocError> {
+    let mut path = String::from_str(alloc, folder)?;
+    if !folder.is_empty() && !folder.ends_with('/') {
+        path.push('/')?;
+    }
+    path.push_str(name)?;
+    Ok(path)
+}
+
+/// The folder that a path is in; none above the topmost.
+fn folder_of(path: &str) -> Option<&str> {
+    if path.is_empty() {
+        return None;
+    }
+    match path.rsplit_once('/') {
+        Some(("", "")) => None,
+        Some(("", _)) => Some("/"),
+        Some((folder, _)) => Some(folder),
+        None => Some(""),
+    }
+}
+
+/// The paths of schemas for a query: beside it, and in the folders above, the nearest first.
+pub fn schemas_for(alloc: Global, query: &str) -> Result<Vec<String>, AllocError> {
+    let mut found = Vec::new(alloc);
+    let mut path = query;
+    for _ in 0..MOST_DEEP {
+        let Some(folder) = folder_of(path) else {
+            return Ok(found);
+        };
+        found.push(joined(alloc, folder, "schema.sql")?)?;
+        path = folder;
+    }
+    Ok(found)
+}

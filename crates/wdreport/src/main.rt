@@ -1,0 +1,36 @@
+//! Tells which SQL queries of files and folders have more than one answer, where, and with which sort key they have one.
+#![tactic(auto)]
+
+use std::env;
+use std::process::ExitCode;
+use wd_review::review_words;
+use wd_sources::MachineSources;
+
+fn main(rt: HostRuntime) -> ExitCode {
+    let alloc = rt.alloc();
+    let mut words = Vec::new(alloc);
+    match env::args(&rt) {
+        Ok(given) => {
+            for word in given.skip(1) {
+                if words.push(word).is_err() {
+                    return ExitCode::from(3);
+                }
+            }
+        }
+        Err(_) => return ExitCode::from(3),
+    }
+    let mut texts = Vec::new(alloc);
+    for word in &words {
+        if texts.push(word.as_str()).is_err() {
+            return ExitCode::from(3);
+        }
+    }
+    let mut sources = MachineSources::new(&rt);
+    ExitCode::from(review_words(
+        alloc,
+        &texts,
+        &mut sources,
+        &mut rt.stdout(),
+        &mut rt.stderr(),
+    ))
+}
