@@ -1,13 +1,13 @@
-"""Verdicts on wrong bodies that are kept from run to run, in a folder outside the checkout.
+"""Verdicts on wrong bodies that are kept from run to run, in the file wrong-bodies/refused.txt of the repository.
 
-Kept is only that an edit was refused, never that it wasn't. A verdict is taken again where all that it rests on is the same:
-the edit's text; the crate's files, and its line in crates.txt; the libraries below, byte by byte as they were built; the kit
-(KIT-ID and WHAT); and the files of the runner (RUNNER). It stands in a file that is named for the checksum of all these, with
-a checksum of its own, so that a broken file is no verdict.
+A line is an edit that was refused, the checksum of all that its verdict rests on, and what the check said:
 
-A library that is built once more of the same sources, libraries and kit has the same bytes, in whatever folder: nothing in it
-names a path or a time. So what was judged over the libraries of one 'rt ci' serves after the next one. Were a library to
-differ, its crates would be judged again: that costs time, and takes no wrong verdict.
+    CRATE/NAME CHECKSUM SAID
+
+Kept is only that an edit was refused, never that it wasn't. A verdict is taken again where that checksum is the same: it is of
+the edit's text; the crate's files, and its line in crates.txt; what a check above reads of the libraries below (their types
+and contracts, definitions and lemmas; no body and no written proof of a function); the kit (KIT-ID and WHAT); and the files of
+the runner (RUNNER).
 
 The other edits of a crate are not part of it, though one check judges many. There an edit is refused by a goal of its own
 function, which stands on the contracts of all others. An edit that changes more than the body and the written proof of its own
@@ -17,108 +17,74 @@ function, as a constant does, is judged by itself, so no other edit is judged ov
 import functools
 import hashlib
 import os
-import re
-import tempfile
-import time
+import threading
 
 from rt_module import TOP, rt, sum_of
+from sources import statements_in
 
-RUNNER = [f"{TOP}/tools/{name}" for name in ("wrong_bodies.py", "kept_verdicts.py", "rt_module.py")]
-# A verdict that no run took for so many days is thrown away.
-MOST_DAYS = 90
-
-
-def usual_folder():
-    """The folder for verdicts among the user's caches."""
-    caches = os.environ.get("XDG_CACHE_HOME", "")
-    # A path from the working directory on is no value of that variable.
-    return f"{caches if os.path.isabs(caches) else os.path.expanduser('~/.cache')}/wdcheck/wrong-bodies"
+STORE = f"{TOP}/wrong-bodies/refused.txt"
+RUNNER = [f"{TOP}/tools/{name}" for name in ("wrong_bodies.py", "kept_verdicts.py", "sources.py", "rt_module.py")]
 
 
 @functools.cache
-def sum_of_library(rlib, _made):
-    return sum_of((f"{at}/{name}" for at, _, names in os.walk(rlib) for name in names), rlib)
-
-
-def library_below(crate):
-    """The name of a library and the checksum of what was built of it; one that is built again is another folder."""
-    made = os.stat(crate.rlib)
-    return crate.name, sum_of_library(crate.rlib, (made.st_ino, made.st_mtime_ns))
+def sum_of_library(folder):
+    return hashlib.sha256(repr(sorted(statements_in(folder).items())).encode()).hexdigest()
 
 
 def basis_of(crate):
     """The checksum of all that the verdicts on a crate's edits rest on, but for the edits."""
     kit = [f"{rt.rtlib.KIT}/{name}" for name in ("KIT-ID", "WHAT")]
-    below = sorted(library_below(it) for it in crate.below())
+    below = sorted((it.name, it.said, sum_of_library(it.folder)) for it in crate.below())
     own = crate.name, crate.said, sorted(crate.of_kit), sum_of(rt.rtlib.files_of(crate.folder), crate.folder)
     return hashlib.sha256(repr((own, below, sum_of(kit, rt.rtlib.KIT), sum_of(RUNNER, TOP))).encode()).hexdigest()
 
 
 def is_basis(basis, crate):
-    """Whether the crate's edits still rest on this."""
+    """Whether the crate's edits still rest on this, by the files as they are now."""
+    sum_of_library.cache_clear()
     try:
         return basis_of(crate) == basis
     except OSError:
         return False
 
 
-def text_of_verdict(key, said):
-    """What a file holds: its own name, what the check said, and a checksum of both."""
-    text = f"{key}\nrefused: {said}\n"
-    return f"{text}{hashlib.sha256(text.encode()).hexdigest()}\n"
+def key_of(basis, edit_text):
+    return hashlib.sha256(repr((basis, edit_text)).encode()).hexdigest()
 
 
 class Kept:
-    """The folder of kept verdicts; where it can't be used, nothing is taken and nothing kept."""
+    """The file of kept verdicts; with `anew` nothing is taken from it."""
 
-    def __init__(self, folder, anew):
-        self.folder, self.anew = folder, anew
-        try:
-            os.makedirs(folder, mode=0o700, exist_ok=True)
-            tempfile.TemporaryFile(dir=folder).close()
-            self.throw_away_old()
-        except OSError as error:
-            print(f"no verdict is kept: {error}", flush=True)
-            self.folder = None
+    def __init__(self, anew):
+        self.anew, self.writing = anew, threading.Lock()
+        with open(STORE, encoding="utf-8") as file:
+            lines = [line.split(" ", 2) for line in file.read().splitlines()]
+        self.verdicts = {line[0]: line[1:] for line in lines if len(line) == 3}
 
-    def throw_away_old(self):
-        for name in os.listdir(self.folder):
-            path = f"{self.folder}/{name}"
-            if re.fullmatch(r"[0-9a-f]{64}", name) and os.stat(path).st_mtime < time.time() - MOST_DAYS * 86400:
-                os.remove(path)
+    def taken(self, name, key):
+        """What was said of the edit when it was refused under this checksum; None where that isn't kept."""
+        kept, said = self.verdicts.get(name, (None, None))
+        return said if kept == key and not self.anew else None
 
-    def path(self, basis, edit_text):
-        return f"{self.folder}/{hashlib.sha256(repr((basis, edit_text)).encode()).hexdigest()}"
+    def note(self, verdicts):
+        """Keeps verdicts, each an edit's name, its checksum and what was said of it, or None in its place where it wasn't refused:
+        then nothing stays of an earlier refusal."""
+        with self.writing:
+            for name, key, said in verdicts:
+                self.verdicts.pop(name, None)
+                if said is not None:
+                    self.verdicts[name] = key, " ".join(said.split())[:200]
+            text = "".join(f"{name} {' '.join(self.verdicts[name])}\n" for name in sorted(self.verdicts))
+            try:
+                with open(f"{STORE}.new", "w", encoding="utf-8") as file:
+                    file.write(text)
+                os.replace(f"{STORE}.new", STORE)
+            except OSError as error:
+                # What isn't kept is judged again.
+                print(f"no verdict is kept: {error}", flush=True)
 
-    def taken(self, basis, edit_text):
-        """What was said of the edit when it was refused on this basis; None where that isn't kept."""
-        if not self.folder or self.anew:
-            return None
-        path = self.path(basis, edit_text)
-        try:
-            with open(path, encoding="utf-8") as file:
-                text = file.read()
-            said = text.split("\n")[1].removeprefix("refused: ")
-            if text != text_of_verdict(os.path.basename(path), said):
-                return None
-            os.utime(path)
-        except (OSError, ValueError, IndexError):
-            return None
-        return said
-
-    def note(self, basis, edit_text, refused, said):
-        """Keeps what was said where the edit was refused; else nothing stays of an earlier refusal."""
-        if not self.folder:
-            return
-        path = self.path(basis, edit_text)
-        try:
-            if not refused:
-                if os.path.lexists(path):
-                    os.remove(path)
-                return
-            with tempfile.NamedTemporaryFile("w", encoding="utf-8", dir=self.folder, delete=False) as file:
-                file.write(text_of_verdict(os.path.basename(path), said))
-            os.replace(file.name, path)
-        except OSError:
-            # What isn't kept is judged again.
-            pass
+    def forget_all_but(self, names):
+        """Takes out what is kept of edits that are not among these."""
+        gone = self.verdicts.keys() - names
+        if gone:
+            self.note([(name, None, None) for name in gone])

@@ -21,7 +21,21 @@ def load():
     loader.exec_module(module)
     # Starts the guard of the commands that follow, which only the main thread may.
     module.rtlib.guarded()
+    module.rtlib.Crate.below = remembered(module.rtlib.Crate.below)
     return module
+
+
+def remembered(below):
+    """The kit's list of the libraries below a crate, made once for each: it goes along each path to each of them, which of 70
+    crates are two millions."""
+    kept = {}
+
+    def once(crate):
+        if crate.folder not in kept or kept[crate.folder][0] != crate.deps:
+            kept[crate.folder] = [*crate.deps], below(crate)
+        return [*kept[crate.folder][1]]
+
+    return once
 
 
 rt = load()

@@ -1,7 +1,7 @@
 #!/usr/bin/env python3
 """Tries the wrong bodies of wrong-bodies/: the prover must refuse each of them, in the function that it changes.
 
-    python3 tools/wrong_bodies.py [--after-gate] [--anew] [--cache FOLDER] [--logs FOLDER] [CRATE..]
+    python3 tools/wrong_bodies.py [--after-gate] [--anew] [--logs FOLDER] [CRATE..]
 
 A file wrong-bodies/CRATE/NAME.edit has the line 'fn: PATH' (the function, as the check names it in its crate) and then
 'file: src/..' with pairs of lines 'old: TEXT' and 'new: TEXT'; each TEXT stands in that file exactly once. A further
@@ -23,9 +23,9 @@ than the body and the written proof of its own function, as a constant or a defi
 its own, so that no other edit is judged over what it changes; that of a definition is refused where the law that it names is
 not proved any more.
 
-That an edit was refused is kept in a folder among the user's caches, and is taken again where the edit, the crate, the
-libraries below it, the kit and this runner are the same; tools/kept_verdicts.py says more. Each edit is still applied, and a
-right one judged, in each run. With --anew all are judged.
+That an edit was refused is kept in wrong-bodies/refused.txt, and is taken again where the edit, the crate, what it reads of the
+libraries below, the kit and this runner are the same; tools/kept_verdicts.py says more. Each edit is still applied, and a right
+one judged, in each run. With --anew all are judged.
 
 With --after-gate the libraries are those that 'rt ci' left in a clean clone; else they are built where they changed.
 The last line is 'N passed, M failed'; the one above it says how many edits were judged, and of how many a verdict was kept.
@@ -33,7 +33,6 @@ The last line is 'N passed, M failed'; the one above it says how many edits were
 
 import argparse
 import collections
-import functools
 import os
 import re
 import resource
@@ -43,16 +42,14 @@ import sys
 import tempfile
 import time
 
-from kept_verdicts import Kept, basis_of, is_basis, usual_folder
+from kept_verdicts import Kept, basis_of, is_basis, key_of
 from rt_module import TOP, rt
+from sources import CYCLE, FUNCTION, cycles_in, homes_in, module_of, sources_of, span_of, spans_in, text_of
 
 EDITS = f"{TOP}/wrong-bodies"
 # An edit is judged in its own function, or in that function's twin of this number where it is not None.
 Edit = collections.namedtuple("Edit", "crate name function right of_definition path cycle twin", defaults=[None, None])
 Twin = collections.namedtuple("Twin", "path text proofs")
-# Where a function stands in a file: its attributes and comments, its body between the braces, and its end; the name of the
-# cycle of calls of several functions that it is in, if it is in one, and whether it is generic over a type.
-Span = collections.namedtuple("Span", "start opening closing end cycle generic")
 
 
 def read_edit(crate, path):
@@ -67,13 +64,6 @@ def read_edit(crate, path):
 
 def judged_name(edit):
     return edit.function if edit.twin is None else f"{edit.function}_twin{edit.twin}"
-
-
-def text_of(path):
-    if not os.path.exists(path):
-        return ""
-    with open(path, encoding="utf-8") as file:
-        return file.read()
 
 
 def write(path, text):
@@ -185,78 +175,12 @@ def write_twin(edit, twin, room):
         write(f"{room}/{path}", proof)
 
 
-FUNCTION = re.compile(r"^(?P<indent> *)(?:pub(?:\([a-z]+\))? )?(?:const )?fn (?P<name>\w+)(?P<generic><[^(]*)?\(", re.M)
-INHERENT = re.compile(r"^impl(?:<[^>]*>)? (?P<type>\w+)(?:<[^>]*>)? \{", re.M)
-DECLARED = re.compile(r"^(?:pub(?:\([a-z]+\))? )?(?:struct|enum) (?P<type>\w+)", re.M)
-CYCLE = re.compile(r"^ *#\[cycle\((?P<name>\w+)\)\]\n", re.M)
 OPEN_BODY = "loop {}"
 OPEN_PROOF = """use Rattle.{crate}.proofs.{module}.Statement.{{statement}}
 
 pub {name}_spec : {{M : Type 1}} → statement M
 {name}_spec 𝓤 𝓛 𝓜 𝓡 w = ?
 """
-
-
-def sources_of(folder):
-    return [path for path in (os.path.relpath(file, folder) for file in rt.rtlib.files_of(folder)) if re.match(r"src/.*\.rt$", path)]
-
-
-def module_of(path):
-    """The path of the module that a file of src/ is."""
-    return "::".join(part for part in path.removeprefix("src/").removesuffix(".rt").split("/") if part not in ("lib", "main", "mod"))
-
-
-def homes_in(folder):
-    """The module of each type that the crate declares under one name alone."""
-    homes = collections.defaultdict(set)
-    for path in sources_of(folder):
-        for found in DECLARED.finditer(text_of(f"{folder}/{path}")):
-            homes[found["type"]].add(module_of(path))
-    return {name: modules.pop() for name, modules in homes.items() if len(modules) == 1}
-
-
-def span_of(text, found):
-    """Where the function stands whose head is found: from its comments and attributes on, to its closing brace. A function that
-    an edit adds is one line without clauses."""
-    indent, line = found["indent"], text[found.start() :].split("\n", 1)[0]
-    start = re.search(r"(?:^ *(?:///?.*|#\[(?:[^\]\n]|\n(?! *\n))*\])\n)*\Z", text[: found.start()], re.M).start()
-    cycle = CYCLE.search(text[start : found.start()])
-    generic = found["generic"] is not None and not re.fullmatch(r"<('\w+,? ?)+>", found["generic"])
-    how = cycle and cycle["name"], generic
-    if line.endswith("}"):
-        return Span(start, found.start() + line.index("{") + 1, found.start() + len(line) - 1, found.start() + len(line) + 1, *how)
-    opening = re.compile(rf"^{indent}(?:(?! )\S.* )?\{{(?=\}}?$)", re.M).search(text, found.start()).end()
-    closing = opening if text[opening] == "}" else text.index(f"\n{indent}}}\n", opening) + 1 + len(indent)
-    return Span(start, opening, closing, closing + len("}\n"), *how)
-
-
-def spans_in(text, module, homes):
-    """The functions of a source file that can stand by their contracts alone: no method of a trait."""
-    spans = {}
-    for found in FUNCTION.finditer(text):
-        owner = owner_of(text, found, module, homes)
-        if owner is not None:
-            spans["::".join(part for part in (*owner, found["name"]) if part)] = span_of(text, found)
-    return spans
-
-
-@functools.cache
-def cycles_in(folder):
-    """The cycle of each function that is in one with others."""
-    homes = homes_in(folder)
-    found = (spans_in(text_of(f"{folder}/{path}"), module_of(path), homes) for path in sources_of(folder))
-    return {function: span.cycle for spans in found for function, span in spans.items() if span.cycle}
-
-
-def owner_of(text, found, module, homes):
-    """The module of a function, or that of the type whose method it is, and the type; None where it is a trait's method."""
-    if not found["indent"]:
-        return [module]
-    owners = list(INHERENT.finditer(text[: found.start()]))
-    if not owners or "\n}" in text[owners[-1].end() : found.start()]:
-        return None
-    name = owners[-1]["type"]
-    return [homes[name], name] if name in homes else None
 
 
 def leave_bodies_out(crate, names, room):
@@ -417,20 +341,27 @@ def rounds(crate, edits, with_twins=True):
 def judge(crate, edits, logs, kept):
     """For each edit whether it is as it must be, and whether that was kept; it is said of each what the check said."""
     basis, texts = basis_of(crate), {edit.path: text_of(edit.path) for edit in edits}
-    left, judged = [], []
+    left, judged, verdicts = [], [], []
     for edit in edits:
-        said = kept.taken(basis, texts[edit.path]) if is_applied(crate, edit) and not edit.right else None
+        takes = is_applied(crate, edit) and not edit.right
+        said = kept.taken(full_name(edit), key_of(basis, texts[edit.path])) if takes else None
         if said is None:
             left.append(edit)
         else:
             judged.append((True, True))
-            print(f"{edit.crate}/{edit.name}: refused, as was kept: {edit.function}: {said[:200]}", flush=True)
+            print(f"{full_name(edit)}: refused, as was kept: {edit.function}: {said}", flush=True)
     for edit, refused, said in judge_anew(crate, left, logs):
         judged.append((refused is (not edit.right), False))
         # Of what was changed meanwhile it can't be told what was judged.
-        if text_of(edit.path) == texts[edit.path] and is_basis(basis, crate):
-            kept.note(basis, texts[edit.path], refused and not edit.right, said)
+        if not edit.right and text_of(edit.path) == texts[edit.path]:
+            verdicts.append((full_name(edit), key_of(basis, texts[edit.path]), said if refused else None))
+    if verdicts and is_basis(basis, crate):
+        kept.note(verdicts)
     return judged
+
+
+def full_name(edit):
+    return f"{edit.crate}/{edit.name}"
 
 
 def is_applied(crate, edit):
@@ -455,7 +386,7 @@ def judge_anew(crate, edits, logs):
                 continue
             word = {True: "refused", False: "NOT REFUSED" if not edit.right else "proved, as it must be", None: "UNCLEAR"}[refused]
             judged.append((edit, refused, said))
-            print(f"{edit.crate}/{edit.name}: {word}: {edit.function}: {said[:200]}", flush=True)
+            print(f"{full_name(edit)}: {word}: {edit.function}: {said[:200]}", flush=True)
         alone = [[edit._replace(twin=None)] for edit in unclear]
         groups += rounds(crate, unclear, with_twins=False) if len(unclear) < len(group) else alone
     return judged
@@ -477,17 +408,17 @@ def main():
     parser.add_argument("crates", nargs="*", metavar="CRATE")
     parser.add_argument("--after-gate", action="store_true", help="use the libraries that rt ci left")
     parser.add_argument("--anew", action="store_true", help="judge all edits, also those of which a verdict is kept")
-    parser.add_argument("--cache", metavar="FOLDER", default=usual_folder(), help="where verdicts are kept (usually %(default)s)")
     parser.add_argument("--logs", metavar="FOLDER", help="keep there what each check said")
     arguments = parser.parse_args()
     if arguments.logs:
         os.makedirs(arguments.logs, exist_ok=True)
     logs = arguments.logs and os.path.abspath(arguments.logs)
-    kept = Kept(os.path.abspath(arguments.cache), arguments.anew)
+    kept = Kept(arguments.anew)
     os.chdir(TOP)
     known = {crate.name: crate for crate in rt.rtlib.crates_below(TOP)}
     edits = {}
-    for name in sorted(arguments.crates or os.listdir(EDITS)):
+    folders = sorted(it for it in os.listdir(EDITS) if os.path.isdir(f"{EDITS}/{it}"))
+    for name in sorted(arguments.crates) or folders:
         files = sorted(os.listdir(f"{EDITS}/{name}"))
         edits[name] = [read_edit(name, f"{EDITS}/{name}/{file}") for file in files]
     lost = [name for name in edits if name not in known or not edits[name]]
@@ -501,6 +432,8 @@ def main():
         size = crate.count(rb"\n") + 30 * len(edits[crate.name])
         tasks[crate.name, "edits"] = [], size, rt.need(crate), lambda _given, _jobs, it=crate: judge(it, edits[it.name], logs, kept)
     judged = [it for each in rt.in_lanes(tasks).values() for it in each]
+    if not arguments.crates:
+        kept.forget_all_but({full_name(edit) for of_crate in edits.values() for edit in of_crate})
     passed, of_kept = sum(well for well, _ in judged), sum(was_kept for _, was_kept in judged)
     used = resource.getrusage(resource.RUSAGE_CHILDREN)
     print(f"processor seconds: {used.ru_utime + used.ru_stime:.0f}")
