@@ -1,5 +1,5 @@
 -- Failures: what is handed up by `?`, statuses, and reasons from those of the parts.
-use Rattle.std.proofs.Common.{◌≡◌, ◌≢◌, ◌++◌, ℕ, List, [], Option, Result, Ok, Err, IfErr, IsErrAnd, Any, drop, map, subst, sym}
+use Rattle.std.proofs.Common.{◌≡◌, ◌≢◌, ◌∙◌, ◌+◌, ◌++◌, ℕ, List, [], Option, Result, Ok, Err, IfErr, IsErrAnd, Any, ap, drop, map, subst, sym}
 use Rattle.std.proofs.KnownBytes.{Keeps-refl}
 use Rattle.std.specs.Prelude.{⊤}
 use Rattle.clap.specs.Values.{kind_of}
@@ -10,7 +10,7 @@ use Rattle.wd_run.specs.Causes as runs
 use Rattle.wd_command.specs.CommandLine.{AreWordsOf, AskFor}
 use Rattle.wd_command.specs.Commands.{data_in, text_at}
 use Rattle.wd_command.specs.Failures.{AskNext, FailsRun, HasReason, IsDecideRefusal, IsFaultOfWords, IsRefusalBy, IsTableWord, IsUnanswered, IsRunRefusal, IsUncut, IsUnread, IsVerifyRefusal, IsWitnessRefusal, Says}
-use Rattle.wd_command.specs.Files.{File, HandsOver, Reads, ReadsNothing, reads}
+use Rattle.wd_command.specs.Files.{AllRead, File, Reads, ReadsNothing}
 use Rattle.wd_command.specs.Statuses.{IsEnding}
 use Rattle.wd_command.specs.Words.{Asked, Task, Check, CheckList, Explain, Verify, VerifyList, Refute, Run, paths_of}
 use Rattle.wd_command.specs.declared.failure.Failure.{Failure}
@@ -28,22 +28,22 @@ IfErr-from_known (Ok x) P Q known step = tt
 IfErr-from_known (Err failure) P Q known step = step failure known
 
 -- a read that failed after files that were handed over before
-pub IsUnread-behind : (before middle after : Option (List File)) (first : List File) (Known Wanted : List File → List ℕ → Type 0) (failures failures_after : ℕ) → HandsOver before middle first
+pub IsUnread-behind : (before middle after : Reads) (first : List File) (Known Wanted : List File → List ℕ → Type 0) → AllRead before middle first
     → ((files : List File) (path : List ℕ) → Known files path → Wanted (first ++ files) path)
-    → (failure : Failure) → IsUnread Known (reads middle failures) (reads after failures_after) failure → IsUnread Wanted (reads before failures) (reads after failures_after) failure
-IsUnread-behind before middle after first Known Wanted failures failures_after handed step (CannotRead path) h = record {
+    → (failure : Failure) → IsUnread Known middle after failure → IsUnread Wanted before after failure
+IsUnread-behind before middle after first Known Wanted read step (CannotRead path) h = record {
   files = first ++ h.files;
-  read = HandsOver-trans before middle after first h.files handed h.read;
-  one_failed = h.one_failed;
+  read = HandsOver-trans before.handed middle.handed after.handed first h.files read.handed h.read;
+  one_failed = h.one_failed ∙ ap (λ n. n + 1) read.none_failed;
   next = step h.files path.now h.next;
 }
-IsUnread-behind before middle after first Known Wanted failures failures_after handed step OutOfMemory h = tt
-IsUnread-behind before middle after first Known Wanted failures failures_after handed step (CommandLine error) h = absurd h
-IsUnread-behind before middle after first Known Wanted failures failures_after handed step (Refused refusal) h = absurd h
-IsUnread-behind before middle after first Known Wanted failures failures_after handed step (Fault fault) h = absurd h
-IsUnread-behind before middle after first Known Wanted failures failures_after handed step NotText h = absurd h
-IsUnread-behind before middle after first Known Wanted failures failures_after handed step (Unassigned word) h = absurd h
-IsUnread-behind before middle after first Known Wanted failures failures_after handed step CannotWrite h = absurd h
+IsUnread-behind before middle after first Known Wanted read step OutOfMemory h = tt
+IsUnread-behind before middle after first Known Wanted read step (CommandLine error) h = absurd h
+IsUnread-behind before middle after first Known Wanted read step (Refused refusal) h = absurd h
+IsUnread-behind before middle after first Known Wanted read step (Fault fault) h = absurd h
+IsUnread-behind before middle after first Known Wanted read step NotText h = absurd h
+IsUnread-behind before middle after first Known Wanted read step (Unassigned word) h = absurd h
+IsUnread-behind before middle after first Known Wanted read step CannotWrite h = absurd h
 
 -- what holds of two values holds of the same ones, and so of three
 pub of_two : {A B : Type 0} (P : A → B → Type 0) (a x : A) (b y : B) → a ≡ x → b ≡ y → P a b → P x y
@@ -114,7 +114,7 @@ of_files (Run s q tables) files failure h = run_of_files tables files failure h
 
 module _ (words : List (List ℕ)) (before after : Reads) where
   -- the files were read, and the task has no answer over them
-  pub HasReason-from_files : (task : Task) (files : List File) → AskFor words task → map (λ f. f.0) files ≡ paths_of task → HandsOver before.handed after.handed files
+  pub HasReason-from_files : (task : Task) (files : List File) → AskFor words task → map (λ f. f.0) files ≡ paths_of task → AllRead before after files
       → (failure : Failure) → IsUnanswered task files failure → HasReason words before after failure
   HasReason-from_files task files asked named read (Refused refusal) h = record { task = task; files = files; asked = asked; named = named; read = read; unanswered = h }
   HasReason-from_files task files asked named read (Fault fault) h = record { task = task; files = files; asked = asked; named = named; read = read; unanswered = h }

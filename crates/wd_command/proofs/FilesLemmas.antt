@@ -1,7 +1,7 @@
 -- What was handed over by several reads.
 use Rattle.std.proofs.Common.{◌≡◌, ◌∙◌, ◌++◌, ℕ, List, [], ◌∷◌, Option, Some, None, ap, append_assoc, append-nil, refl, sym}
 use Rattle.wd_command.specs.Commands.{data_in}
-use Rattle.wd_command.specs.Files.{File, HandsOver, Reads, ReadsNothing}
+use Rattle.wd_command.specs.Files.{AllRead, File, HandsOver, Reads, ReadsNothing}
 
 pub HandsOver-trans : (before middle after : Option (List File)) (files more : List File) → HandsOver before middle files → HandsOver middle after more
     → HandsOver before after (files ++ more)
@@ -16,7 +16,14 @@ HandsOver-nil (Some before) = ap Some (sym (append-nil before))
 
 -- nothing was read yet
 pub ReadsNothing-refl : (before : Reads) → ReadsNothing before before
-ReadsNothing-refl before = record { nothing = HandsOver-nil before.handed; none_failed = refl }
+ReadsNothing-refl before = record { handed = HandsOver-nil before.handed; none_failed = refl }
+
+-- files were read, and then more
+pub AllRead-trans : (before middle after : Reads) (files more : List File) → AllRead before middle files → AllRead middle after more → AllRead before after (files ++ more)
+AllRead-trans before middle after files more first second = record {
+  handed = HandsOver-trans before.handed middle.handed after.handed files more first.handed second.handed;
+  none_failed = second.none_failed ∙ first.none_failed;
+}
 
 -- tables without files have no data
 pub no_data : (tables : List (List ℕ × List ℕ)) → data_in tables [] ≡ []

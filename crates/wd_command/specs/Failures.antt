@@ -25,7 +25,7 @@ use Rattle.wd_decide.specs.declared.error.DecideError.TheVariants as decide
 use Rattle.wd_report.specs.Words.{line}
 use Rattle.wd_command.specs.CommandLine.{AreOtherWords, AreWordsOf, AskFor}
 use Rattle.wd_command.specs.Commands.{HasFault, data_in, text_at}
-use Rattle.wd_command.specs.Files.{File, HandsOver, Reads, ReadsNothing, StandsNext, StopsAt}
+use Rattle.wd_command.specs.Files.{AllRead, File, Reads, ReadsNothing, StandsNext, StopsAt}
 use Rattle.wd_command.specs.Streams.{AppendsPart}
 use Rattle.wd_command.specs.Words.{HasNoEquals, Task, Check, CheckList, Explain, Verify, VerifyList, Refute, Run, paths_of}
 use Rattle.wd_command.specs.declared.failure.Failure.{Failure}
@@ -208,7 +208,7 @@ pub record ComesOfFiles (words : List (List ℕ)) (before after : Reads) (failur
   pub files : List File
   pub asked : AskFor words task
   pub named : map (λ f. f.0) files ≡ paths_of task
-  pub read : HandsOver before.handed after.handed files
+  pub read : AllRead before after files
   pub unanswered : IsUnanswered task files failure
 
 -- the words ask for the paths of these files, in their order, and then for this one

@@ -27,10 +27,14 @@ pub record Reads : Type 0 where
 abbrev pub reads : Option (List File) → ℕ → Reads
 reads handed failures = record { handed = handed; failures = failures }
 
--- nothing was handed over, and no read failed
-pub record ReadsNothing (before after : Reads) : Type 0 where
-  pub nothing : HandsOver before.handed after.handed []
+-- these files were handed over, and no read failed
+pub record AllRead (before after : Reads) (files : List File) : Type 0 where
+  pub handed : HandsOver before.handed after.handed files
   pub none_failed : after.failures ≡ before.failures
+
+-- nothing was handed over, and no read failed
+abbrev pub ReadsNothing : Reads → Reads → Type 0
+ReadsNothing before after = AllRead before after []
 
 -- one read failed, that of a path which comes next after the files that were handed over before it
 pub record StopsAt (IsNext : List File → List ℕ → Type 0) (before after : Reads) (path : List ℕ) : Type 0 where

@@ -3,7 +3,7 @@ use Rattle.std.specs.Prelude.{◌≡◌, ℕ, List, Option}
 use Rattle.std.specs.Io.KnownBytes.{Appends, Keeps}
 use Rattle.wd_command.specs.Commands.{IsOutput}
 use Rattle.wd_command.specs.Failures.{HasReason, Shows, status_of}
-use Rattle.wd_command.specs.Files.{File, HandsOver, Reads}
+use Rattle.wd_command.specs.Files.{AllRead, File, Reads}
 use Rattle.wd_command.specs.Streams.{AppendsPart}
 use Rattle.wd_command.specs.declared.failure.Failure.{Failure}
 use Rattle.wd_command.specs.declared.failure.Failure.TheVariants.{CannotWrite}
@@ -21,7 +21,7 @@ world handed failures out err = record { reads = record { handed = handed; failu
 pub record Writes (words : List (List ℕ)) (before after : Reads) (IsWritten : List ℕ → Type 0) (status : ℕ) : Type 0 where
   pub files : List File
   pub text : List ℕ
-  pub read : HandsOver before.handed after.handed files
+  pub read : AllRead before after files
   pub written : IsWritten text
   pub output : IsOutput words files text status
 

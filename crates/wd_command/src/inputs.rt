@@ -3,7 +3,7 @@
 ghost use Rattle.std.specs.Prelude.{◌≡◌, ◌≢◌, ◌-◌, ◌^◌, ◌<◌, [], ◌∷◌, map, IfOk, IfErr};
 ghost use Rattle.wd_command.specs.CommandLine.{AskFor, asked_by};
 ghost use Rattle.wd_command.specs.Failures.{HasReason, IsUncut, IsUnread};
-ghost use Rattle.wd_command.specs.Files.{HandsOver, StandsNext, reads};
+ghost use Rattle.wd_command.specs.Files.{AllRead, StandsNext, reads};
 ghost use Rattle.wd_command.specs.Inputs.{file_of, files_of};
 ghost use Rattle.wd_command.specs.Inputs as spec;
 ghost use Rattle.wd_command.specs.Words.{IsCut, asked_of, paths_of, tables_of};
@@ -74,7 +74,8 @@ pub fn read_inputs<'a, F: Files>(
     requires { F.failures files.old < 2 ^ 64 - 1 }
     ensures asked { IfOk result (λ inputs. AskFor (map (λ w. w.now) words.now) (spec.task_of inputs.task)) }
     ensures named { IfOk result (λ inputs. map (λ f. f.0) (files_of inputs) ≡ paths_of (spec.task_of inputs.task)) }
-    ensures read { IfOk result (λ inputs. HandsOver (F.handed files.old) (F.handed files.new) (files_of inputs)) }
+    ensures read { IfOk result (λ inputs. AllRead
+        (reads (F.handed files.old) (F.failures files.old)) (reads (F.handed files.new) (F.failures files.new)) (files_of inputs)) }
     ensures err { map (λ w. w.now) words.now ≢ [] → IfErr result (HasReason (map (λ w. w.now) words.now)
         (reads (F.handed files.old) (F.failures files.old)) (reads (F.handed files.new) (F.failures files.new))) }
 {
@@ -187,8 +188,8 @@ fn read_file<'a, F: Files>(
 ) -> Result<InputFile<'a>, Failure<'a>>
     requires { F.failures files.old < 2 ^ 64 - 1 }
     ensures path { IfOk result (λ file. file.path.now ≡ path.entry.now) }
-    ensures read { IfOk result (λ file. HandsOver (F.handed files.old) (F.handed files.new) (file_of file ∷ [])) }
-    ensures failures { IfOk result (λ _. F.failures files.new ≡ F.failures files.old) }
+    ensures read { IfOk result (λ file. AllRead
+        (reads (F.handed files.old) (F.failures files.old)) (reads (F.handed files.new) (F.failures files.new)) (file_of file ∷ [])) }
     ensures err { IfErr result (IsUnread (λ before asked. (before ≡ []) × (asked ≡ path.now))
         (reads (F.handed files.old) (F.failures files.old)) (reads (F.handed files.new) (F.failures files.new))) }
 {
@@ -207,7 +208,8 @@ fn read_files<'a, F: Files>(
 ) -> Result<Vec<InputFile<'a>>, Failure<'a>>
     requires { F.failures files.old < 2 ^ 64 - 1 }
     ensures named { IfOk result (λ v. map (λ f. f.0) (map file_of v.items) ≡ map (λ p. p.now) paths.now) }
-    ensures read { IfOk result (λ v. HandsOver (F.handed files.old) (F.handed files.new) (map file_of v.items)) }
+    ensures read { IfOk result (λ v. AllRead
+        (reads (F.handed files.old) (F.failures files.old)) (reads (F.handed files.new) (F.failures files.new)) (map file_of v.items)) }
     ensures err { IfErr result (IsUnread (StandsNext (map (λ p. p.now) paths.now))
         (reads (F.handed files.old) (F.failures files.old)) (reads (F.handed files.new) (F.failures files.new))) }
 {

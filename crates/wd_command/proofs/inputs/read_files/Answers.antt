@@ -26,7 +26,6 @@ next_path paths read i d below same files path known =
 pub returns-in_err-file-clause-err : goal.returns-in_err-file-clause-err
 returns-in_err-file-clause-err g c =
     let failed = c.in_err-file.field-0.0 in
-    let unread = rw c.loop-path.invariant.failures at c.in_err-file.ensures.err in
     IfErr-from_same c.from_residual-in_err-file.result failed _ c.from_residual-in_err-file.ensures.1
-    (IsUnread-behind _ _ _ _ _ _ _ _ c.loop-path.invariant.handed
-    (next_path c.args.paths.now (map file_of c.loop-path.list.items) c.loop-path.path-index _ c.loop-path-test.true c.loop-path.invariant.named) failed unread)
+    (IsUnread-behind _ _ _ _ _ _ c.loop-path.invariant.read
+    (next_path c.args.paths.now (map file_of c.loop-path.list.items) c.loop-path.path-index _ c.loop-path-test.true c.loop-path.invariant.named) failed c.in_err-file.ensures.err)
