@@ -21,19 +21,21 @@ def load():
     loader.exec_module(module)
     # Starts the guard of the commands that follow, which only the main thread may.
     module.rtlib.guarded()
-    module.rtlib.Crate.below = remembered(module.rtlib.Crate.below)
+    module.rtlib.Crate.below = once_for_each(module.rtlib.Crate.below)
+    module.rtlib.Crate.stamp = once_for_each(module.rtlib.Crate.stamp)
     return module
 
 
-def remembered(below):
-    """The kit's list of the libraries below a crate, made once for each: it goes along each path to each of them, which of 70
-    crates are two millions."""
+def once_for_each(method):
+    """A method of the kit's crates that depends on the crate's libraries and files alone, called once for each crate. The kit calls
+    it for each path from a crate to a library below, and of these 70 crates have two millions."""
     kept = {}
 
     def once(crate):
-        if crate.folder not in kept or kept[crate.folder][0] != crate.deps:
-            kept[crate.folder] = [*crate.deps], below(crate)
-        return [*kept[crate.folder][1]]
+        # (the crate stays, so that no other one gets its number)
+        if id(crate) not in kept:
+            kept[id(crate)] = crate, method(crate)
+        return kept[id(crate)][1]
 
     return once
 

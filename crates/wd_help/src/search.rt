@@ -1,4 +1,7 @@
 //! Which sort keys close what is open in a query: they are put in, and the analysis is asked what is open then.
+//!
+//! Place after place is closed, the first that is open next. A key that closes one may open another, which had no part in the
+//! answer before (two orderings of rows that may be exchanged under one alone): that one's turn comes then.
 
 use std::alloc::Global;
 use wd_analyse::{Analysis, Reason};
@@ -22,6 +25,13 @@ const MOST_ROUNDS: usize = 16;
 struct Open {
     reasons: Vec<Reason>,
     sites: Vec<PlanSite>,
+}
+
+/// Changes, and what is open with them.
+#[derive(Drop)]
+struct Step {
+    changes: Vec<Change>,
+    open: Open,
 }
 
 /// A query over a schema, and what is tried on it.
@@ -59,7 +69,7 @@ pub(crate) fn found(
         sites: &open.sites,
         candidates: &candidates,
     };
-    search.run(&open)
+    search.run()
 }
 
 /// What the analysis finds of a text. None where the text is refused.
@@ -86,24 +96,20 @@ fn open_in(alloc: Global, examined: Examined, text: &[u8]) -> Result<Open, OutOf
 }
 
 impl Search<'_> {
-    /// The changes with which nothing is open, where this is open without any.
-    fn run(self, first: &Open) -> Result<Option<Vec<Change>>, OutOfMemory> {
-        let alloc = self.alloc;
-        let mut changes = Vec::new(alloc);
-        let mut left = first.reasons.len();
+    /// The changes with which nothing is open.
+    fn run(self) -> Result<Option<Vec<Change>>, OutOfMemory> {
+        let changes = Vec::new(self.alloc);
+        let Some(open) = self.open_with(&changes)? else {
+            return Ok(None);
+        };
+        let mut step = Step { changes, open };
         let mut tried = 0;
         for _ in 0..MOST_ROUNDS {
-            if left == 0 {
-                return Ok(Some(changes));
+            if step.open.reasons.is_empty() {
+                return Ok(Some(step.changes));
             }
-            let Some(open) = self.open_with(&changes)? else {
-                return Ok(None);
-            };
-            match self.lessened(&changes, &open, &mut tried)? {
-                Some((next, still)) => {
-                    changes = next;
-                    left = still;
-                }
+            match self.closed(&step, &mut tried)? {
+                Some(next) => step = next,
                 None => return Ok(None),
             }
         }
@@ -122,33 +128,27 @@ impl Search<'_> {
         }
     }
 
-    /// The first further change with which less is open, and how much is then.
-    fn lessened(
-        self,
-        changes: &[Change],
-        open: &Open,
-        tried: &mut usize,
-    ) -> Result<Option<(Vec<Change>, usize)>, OutOfMemory> {
-        for reason in &open.reasons {
-            let places = self.places_of(open, *reason)?;
+    /// The first further change that closes a place which is open.
+    fn closed(self, step: &Step, tried: &mut usize) -> Result<Option<Step>, OutOfMemory> {
+        for reason in &step.open.reasons {
+            let places = self.places_of(&step.open, *reason)?;
             if places.is_empty() {
                 continue;
             }
-            if let Some(found) = self.lessened_at(changes, &places, open.reasons.len(), tried)? {
+            if let Some(found) = self.closed_at(&step.changes, &places, tried)? {
                 return Ok(Some(found));
             }
         }
         Ok(None)
     }
 
-    /// The same at these places.
-    fn lessened_at(
+    /// The first further change that closes these places.
+    fn closed_at(
         self,
         changes: &[Change],
         places: &[KeyPlace],
-        was: usize,
         tried: &mut usize,
-    ) -> Result<Option<(Vec<Change>, usize)>, OutOfMemory> {
+    ) -> Result<Option<Step>, OutOfMemory> {
         for keys in self.candidates {
             if self.is_spent(*tried) {
                 return Ok(None);
@@ -156,12 +156,26 @@ impl Search<'_> {
             *tried = tried.saturating_add(1);
             let next = self.with_keys(changes, places, keys.as_str())?;
             if let Some(open) = self.open_with(&next)? {
-                if open.reasons.len() < was {
-                    return Ok(Some((next, open.reasons.len())));
+                if !self.is_open_at(&open, places)? {
+                    return Ok(Some(Step {
+                        changes: next,
+                        open,
+                    }));
                 }
             }
         }
         Ok(None)
+    }
+
+    /// Whether something is open at one of these places.
+    fn is_open_at(self, open: &Open, places: &[KeyPlace]) -> Result<bool, OutOfMemory> {
+        for reason in &open.reasons {
+            let still = self.places_of(open, *reason)?;
+            if share_a_place(&still, places) {
+                return Ok(true);
+            }
+        }
+        Ok(false)
     }
 
     /// Whether no further question is asked.
@@ -222,4 +236,10 @@ impl Search<'_> {
         changes.insert(before.min(changes.len()), change)?;
         Ok(())
     }
+}
+
+/// Whether a key can be added at one place for both.
+fn share_a_place(some: &[KeyPlace], others: &[KeyPlace]) -> bool {
+    some.iter()
+        .any(|place| others.iter().any(|other| other.at == place.at))
 }
