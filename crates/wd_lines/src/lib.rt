@@ -2,13 +2,14 @@
 //!
 //! `lines` makes the parts of a block: where something stands, the line of the text with carets, a remark. `tables` shows rows of
 //! tables and `answers` the rows in which two answers differ, by names of columns. `refusal` makes the block of what is not read,
-//! with the sentences of `words`.
+//! with the sentences of `words` and what `remedy` has for the word at which it stands.
 #![tactic(auto)]
 
 mod answers;
 mod count;
 mod lines;
 mod refusal;
+mod remedy;
 mod tables;
 mod values;
 mod words;

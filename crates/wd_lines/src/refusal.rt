@@ -1,6 +1,7 @@
 //! Blocks of what is not read.
 
 use crate::lines::{add_excerpt, add_place};
+use crate::remedy::remedy_at;
 use crate::values::add_plain;
 use crate::words::refusal_words;
 use std::fmt::Write;
@@ -15,7 +16,9 @@ pub fn add_refusal(
     number: u32,
     span: Option<Span>,
 ) -> Result<(), OutOfMemory> {
-    let (sentence, remedy) = refusal_words(number);
+    let (sentence, usual) = refusal_words(number);
+    let meant = span.and_then(|span| remedy_at(number, text, span));
+    let remedy = meant.unwrap_or(usual);
     match span {
         Some(span) => add_place(out, path, text, span)?,
         None => {

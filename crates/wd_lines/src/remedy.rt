@@ -1,0 +1,236 @@
+//! What to write in place of a word that is not read.
+//!
+//! A refusal's number says what is wrong in general; the word at which it stands, or else the one before that, often says what its
+//! author meant. So each number that stands at a word has a table of such words here, and `remedy_at` looks one up. The word at the
+//! place comes first: a column may be named `date`.
+
+use wd_lex::Span;
+
+/// What to write in place of what is refused by this number at a stretch of a text, where its word says so.
+pub(crate) fn remedy_at(number: u32, text: &[u8], span: Span) -> Option<&'static str> {
+    let start = (span.start as usize).min(text.len());
+    let end = (span.end as usize).min(text.len()).max(start);
+    let (before, rest) = text.split_at(start);
+    let word = &rest[..end - start];
+    match number {
+        101 => found(&AT_CHARACTER, word),
+        201 => found(&AT_WORD, word).or_else(|| found(&AFTER_WORD, last_word(before))),
+        307 => found(&OF_TYPE, word),
+        309 => found(&IN_SCHEMA, word).or_else(|| found(&OF_TYPE, last_word(before))),
+        _ => None,
+    }
+}
+
+/// What a table has for a word, in upper or lower case.
+fn found(table: &[(&'static str, &'static str)], word: &[u8]) -> Option<&'static str> {
+    for (known, remedy) in table {
+        if word.eq_ignore_ascii_case(known.as_bytes()) {
+            return Some(remedy);
+        }
+    }
+    None
+}
+
+/// The word that stands last in a text, but for white space behind it.
+fn last_word(text: &[u8]) -> &[u8] {
+    let text = text.trim_ascii_end();
+    let start = match text.iter().rposition(|byte| !is_of_word(*byte)) {
+        Some(at) => at + 1,
+        None => 0,
+    };
+    &text[start..]
+}
+
+/// Whether a byte is of a word.
+fn is_of_word(byte: u8) -> bool {
+    byte.is_ascii_alphanumeric() || byte == b'_'
+}
+
+const JOIN_ALL: &str = "write JOIN, where each row finds one; no outer join is read";
+
+const EACH_SELECT: &str = "write each SELECT into a query of its own";
+
+const DATES: &str =
+    "keep dates as texts such as '2026-01-31', which sort rightly, and write the text alone";
+
+const CLAUSES: &str =
+    "the clauses stand in the order FROM, WHERE, GROUP BY, HAVING, WINDOW, ORDER BY, OFFSET, FETCH FIRST; a list ends without a comma";
+
+/// By the character with which no token begins.
+const AT_CHARACTER: [(&str, &str); 9] = [
+    ("|", "`||` is not read: keep the joined text as a column"),
+    (
+        ":",
+        "`::` is not read: keep the value as a column of that type",
+    ),
+    ("%", "for a % b write a - a / b * b"),
+    (
+        "{",
+        "check the compiled query: braces of a template are not read",
+    ),
+    ("`", "write names with double quotes, or without quotes"),
+    ("[", "write names with double quotes, or without quotes"),
+    ("$", "write a value in place of a parameter"),
+    ("?", "write a value in place of a parameter"),
+    ("@", "write a value in place of a variable"),
+];
+
+/// By the word with which no query goes on.
+const AT_WORD: [(&str, &str); 37] = [
+    (
+        "in",
+        "write x = 1 OR x = 2; for a subquery join (SELECT DISTINCT y ..) AS s",
+    ),
+    ("between", "write x >= 1 AND x <= 2"),
+    ("like", "for LIKE 'ab%' write x >= 'ab' AND x < 'ac'"),
+    (
+        "ilike",
+        "compare a column that is in lower case, with >= and <",
+    ),
+    ("similar", "compare with =, or with >= and <"),
+    ("with", "write a derived table: FROM (SELECT ..) AS s"),
+    ("using", "write ON a.c = b.c"),
+    ("natural", "write JOIN b ON a.c = b.c"),
+    ("left", JOIN_ALL),
+    ("right", JOIN_ALL),
+    ("full", JOIN_ALL),
+    ("outer", JOIN_ALL),
+    (
+        "lateral",
+        "join a derived table that does not read the tables beside it",
+    ),
+    ("union", EACH_SELECT),
+    ("intersect", EACH_SELECT),
+    ("except", EACH_SELECT),
+    (
+        "distinct",
+        "for COUNT(DISTINCT x) write COUNT(x) over (SELECT DISTINCT g, x ..) AS s",
+    ),
+    (
+        "select",
+        "a SELECT stands in FROM alone: join (SELECT DISTINCT y ..) AS s",
+    ),
+    ("values", "write the rows into a table of the schema"),
+    (
+        "as",
+        "CAST is not read: keep the value as a column of that type",
+    ),
+    (
+        "from",
+        "take out the comma before it; EXTRACT is not read: keep that part of the date as a column",
+    ),
+    (
+        "within",
+        "percentiles are not read: number the rows and pick one",
+    ),
+    (
+        "qualify",
+        "show the call in a derived table, and write WHERE above it",
+    ),
+    ("top", "write FETCH FIRST n ROWS ONLY at the end"),
+    ("respect", "NULLs count as values: leave it out"),
+    (
+        "ignore",
+        "NULLs can't be passed over: filter them in a derived table",
+    ),
+    ("for", "leave it out: a query only reads"),
+    ("where", CLAUSES),
+    ("group", CLAUSES),
+    ("having", CLAUSES),
+    ("window", CLAUSES),
+    ("order", CLAUSES),
+    ("offset", CLAUSES),
+    ("limit", CLAUSES),
+    ("fetch", CLAUSES),
+    (".", "leave out the schema's name: a table has one name"),
+    (
+        "::",
+        "leave it out: keep the value as a column of that type",
+    ),
+];
+
+/// By the word before the one with which no query goes on.
+const AFTER_WORD: [(&str, &str); 9] = [
+    (
+        "filter",
+        "for SUM(x) FILTER (WHERE p) write SUM(CASE WHEN p THEN x END)",
+    ),
+    ("date", DATES),
+    ("time", DATES),
+    ("timestamp", DATES),
+    ("timestamptz", DATES),
+    (
+        "interval",
+        "keep days or seconds as whole numbers, and add these",
+    ),
+    (
+        "distinct",
+        "for DISTINCT ON number the rows by ROW_NUMBER in a derived table, and keep the first",
+    ),
+    (
+        "by",
+        "name a column: the number of an output, and an expression to group by, are not read",
+    ),
+    ("exists", "join (SELECT DISTINCT y ..) AS s"),
+];
+
+const WHOLE: &str = "write BIGINT";
+
+const TENTHS: &str = "write BIGINT, and keep cents or tenths as whole numbers";
+
+const TEXTS: &str = "write TEXT";
+
+const DAYS: &str = "write TEXT: dates such as '2026-01-31' sort rightly as texts";
+
+/// By a type of other databases.
+const OF_TYPE: [(&str, &str); 24] = [
+    ("varchar", TEXTS),
+    ("character", TEXTS),
+    ("char", TEXTS),
+    ("string", TEXTS),
+    ("uuid", TEXTS),
+    ("citext", TEXTS),
+    ("json", TEXTS),
+    ("jsonb", TEXTS),
+    ("date", DAYS),
+    ("time", DAYS),
+    ("datetime", DAYS),
+    ("timestamp", DAYS),
+    ("timestamptz", DAYS),
+    ("numeric", TENTHS),
+    ("decimal", TENTHS),
+    ("money", TENTHS),
+    ("real", TENTHS),
+    ("double", TENTHS),
+    ("float", TENTHS),
+    ("int", "write INTEGER"),
+    ("int4", "write INTEGER"),
+    ("int8", WHOLE),
+    ("serial", "write INTEGER NOT NULL"),
+    ("bigserial", "write BIGINT NOT NULL"),
+];
+
+const TAKE_OUT: &str = "take it out: of the data only NOT NULL, PRIMARY KEY and UNIQUE are asked";
+
+/// By the word with which no schema goes on.
+const IN_SCHEMA: [(&str, &str); 13] = [
+    ("default", TAKE_OUT),
+    ("check", TAKE_OUT),
+    ("references", TAKE_OUT),
+    ("foreign", TAKE_OUT),
+    ("generated", TAKE_OUT),
+    ("collate", TAKE_OUT),
+    (
+        "constraint",
+        "leave out its name: write PRIMARY KEY (..) or UNIQUE (..) alone",
+    ),
+    ("alter", "write the key into its CREATE TABLE"),
+    ("index", "write UNIQUE (..) into its CREATE TABLE"),
+    ("if", "leave out IF NOT EXISTS"),
+    ("temporary", "leave it out"),
+    (
+        "public",
+        "leave out the schema's name: a table has one name",
+    ),
+    (".", "leave out the schema's name: a table has one name"),
+];
