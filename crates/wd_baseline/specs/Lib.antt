@@ -1,0 +1,5 @@
+pub mod Findings
+pub mod Lines
+pub mod Counts
+pub mod Refusals
+pub mod Baselines
