@@ -1,5 +1,7 @@
 -- What a baseline holds, and its text.
 use Rattle.std.specs.Prelude.{◌≡◌, ℕ, List, ◌∷◌, [], ◌++◌, length, codes, flat_map, String, string_bytes, ⊤}
+use Rattle.std.specs.List.Sorted.{IsPermutation, IsSorted}
+use Rattle.std.specs.String.{string_cmp}
 use Rattle.std.specs.declared.alloc.Global.{Global}
 use Rattle.std.specs.List.{count_by}
 use Rattle.std.specs.Str.{bytes_eq}
@@ -33,6 +35,10 @@ with_feed line = string_bytes line ++ 10 ∷ []
 
 abbrev pub baseline_text : List (String Global) → List ℕ
 baseline_text lines = (codes "{\"version\":1}" ++ 10 ∷ []) ++ flat_map with_feed lines
+
+-- what is written of lines: they stand in the order of their bytes, each as often as it is given
+abbrev pub IsWritten : List (String Global) → List ℕ → Type 0
+IsWritten lines bytes = (sorted : List (String Global)) × IsPermutation lines sorted × IsSorted string_cmp sorted × (bytes ≡ baseline_text sorted)
 
 -- bytes spell findings: the first line is that of the version, and each behind it is one
 pub record Spells (bytes : List ℕ) (fs : List FindingRecord) : Type 0 where

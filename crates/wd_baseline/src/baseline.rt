@@ -1,11 +1,9 @@
 //! A baseline: read, used up, written.
 
-ghost use Rattle.std.specs.Prelude.{◌≡◌, ◌+◌, ◌-◌, ◌<◌, ◌++◌, ℕ, List, flat_map, length, nat_lt, IfOk, IfErr};
+ghost use Rattle.std.specs.Prelude.{◌≡◌, ◌-◌, ◌++◌, ℕ, List, flat_map, nat_lt, IfOk, IfErr};
 ghost use Rattle.std.specs.Str.{bytes_eq};
-ghost use Rattle.std.specs.String.{string_bytes, string_cmp};
-ghost use Rattle.std.specs.List.Sorted.{IsPermutation, IsSorted};
 ghost use Rattle.wd_baseline.specs.Baselines as spec;
-ghost use Rattle.wd_baseline.specs.Baselines.{IsBaselineOf, baseline_text, count_of, left_of};
+ghost use Rattle.wd_baseline.specs.Baselines.{IsBaselineOf, IsWritten, count_of, left_of};
 ghost use Rattle.wd_baseline.specs.Counts.{one_if};
 ghost use Rattle.wd_baseline.specs.Refusals.{HasCause};
 
@@ -82,7 +80,7 @@ fn read_first(alloc: Global, line: &[u8]) -> Result<(), BaselineError>
 /// Writes a baseline of findings, by the lines that `Known::line` gives them: the line of the version, and then theirs in the order of
 /// their bytes, so that few lines of the file change where few findings do.
 pub fn written(alloc: Global, lines: Vec<String>) -> Result<Vec<u8>, OutOfMemory>
-    ensures { IfOk result (λ b. (sorted : List (String Global)) × IsPermutation lines.items sorted × IsSorted string_cmp sorted × (b.items ≡ baseline_text sorted)) }
+    ensures { IfOk result (λ b. IsWritten lines.items b.items) }
 {
     let mut lines = lines;
     lines.sort()?;

@@ -41,8 +41,10 @@ pub(crate) fn lines_in(alloc: Global, bytes: &[u8]) -> Result<Vec<String>, Basel
     while !rest.is_empty() {
         let (line, after) = split_line(rest);
         let number = found.len() as u64 + 2;
-        let text = line_of(alloc, line).map_err(|e| at_line(e, number))?;
-        found.push(text)?;
+        match line_of(alloc, line) {
+            Ok(text) => found.push(text)?,
+            Err(error) => return Err(at_line(error, number)),
+        }
         rest = after;
     }
     Ok(found)

@@ -1,4 +1,4 @@
-use Rattle.std.proofs.Common.{◌+◌, ◌-◌, List, ℕ, take, drop, refl, arith}
+use Rattle.std.proofs.Common.{◌+◌, ◌-◌, List, ℕ, length, take, drop, refl, ap, arith, length-drop}
 use Rattle.std.proofs.lemmas.List.{take_rest}
 use Rattle.std.specs.List.{list_any}
 use Rattle.wd_lex.specs.Characters.{is_line_end}
@@ -25,7 +25,7 @@ loop-len-preserved-then-is_above c =
     record {
       silent = goes_on text c.args.is_first at c.loop-len.is_above len gap (at + len) c.loop-len.is_above c.loop-len.invariant.silent h (gap_bytes (drop at text) len (at + len - at) h (omega arith))
           c.in_default-remark_in.ensures refl (above_before c.loop-len.is_above (list_any is_line_end gap) c.if-is_above.true);
-      within = omega arith;
+      within = omega (arith, c.in-Some.ensures.within.1, ap length (take_rest text at), length-drop at text, c.loop-len.invariant.within);
     }
 
 pub loop-len-preserved : goal.loop-len-preserved
@@ -38,5 +38,5 @@ loop-len-preserved c =
     record {
       silent = goes_on text c.args.is_first at c.loop-len.is_above len gap (at + len) c.ends_line-is_above.result c.loop-len.invariant.silent h (gap_bytes (drop at text) len (at + len - at) h (omega arith))
           c.in_default-remark_in.ensures refl (above_now c.loop-len.is_above (list_any is_line_end gap) c.ends_line-is_above.result c.if-is_above.false c.ends_line-is_above.ensures);
-      within = omega arith;
+      within = omega (arith, c.in-Some.ensures.within.1, ap length (take_rest text at), length-drop at text, c.loop-len.invariant.within);
     }
