@@ -1,7 +1,7 @@
 -- Counting lines.
-use Rattle.std.proofs.Common.{◌≡◌, ◌∙◌, ℕ, ◌+◌, ◌-◌, ◌<◌, ◌≤◌, Bool, true, false, cond, List, [], ◌∷◌, ◌++◌, length, map, take, get_or, Option, Some, None, String, unwrap_or, refl, sym, ap, subst, arith}
+use Rattle.std.proofs.Common.{◌≡◌, ◌∙◌, ℕ, ◌+◌, ◌-◌, ◌<◌, ◌≤◌, Bool, true, false, cond, List, [], ◌∷◌, ◌++◌, length, map, take, get_or, Option, Some, None, String, unwrap_or, refl, sym, ap, subst, arith, append_assoc}
 use Rattle.std.proofs.lemmas.Grind.{flat_map-append}
-use Rattle.std.proofs.lemmas.List.{append-nil, take_more}
+use Rattle.std.proofs.lemmas.List.{append-nil, take_more, take_all}
 use Rattle.std.proofs.lemmas.List.Sums.{sum_by_push}
 use Rattle.std.specs.Cmp.Lexicographic.{bytes_decides}
 use Rattle.std.specs.HashMap.{HashMap, get_by_text}
@@ -45,3 +45,9 @@ same_counts f g line xs ys e = count_by-map f line xs ∙ ap (count_by (λ t. by
 pub feeds_more : (f : String Global → List ℕ) (lines : List (String Global)) (i : ℕ) (d : String Global) → i < length lines → flat_map f (take (i + 1) lines) ≡ flat_map f (take i lines) ++ f (get_or lines i d)
 feeds_more f lines i d within =
     ap (flat_map f) (take_more lines i d within) ∙ flat_map-append f (take i lines) (get_or lines i d ∷ []) ∙ ap (λ e. flat_map f (take i lines) ++ e) (append-nil (f (get_or lines i d)))
+
+pub fed : (f : String Global → List ℕ) (start before between after : List ℕ) (lines : List (String Global)) (i : ℕ) (d : String Global) → before ≡ start ++ flat_map f (take i lines) → i < length lines
+    → f (get_or lines i d) ≡ string_bytes (get_or lines i d) ++ 10 ∷ [] → between ≡ before ++ string_bytes (get_or lines i d) → after ≡ between ++ 10 ∷ [] → after ≡ start ++ flat_map f (take (i + 1) lines)
+fed f start before between after lines i d so_far within line added ended =
+    ended ∙ ap (λ t. t ++ 10 ∷ []) (added ∙ ap (λ t. t ++ string_bytes (get_or lines i d)) so_far) ∙ append_assoc (start ++ flat_map f (take i lines)) (string_bytes (get_or lines i d)) (10 ∷ [])
+    ∙ ap (λ t. (start ++ flat_map f (take i lines)) ++ t) (sym line) ∙ append_assoc start (flat_map f (take i lines)) (f (get_or lines i d)) ∙ ap (λ t. start ++ t) (sym (feeds_more f lines i d within))

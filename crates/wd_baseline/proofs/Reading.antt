@@ -9,7 +9,15 @@ use Rattle.wd_json.specs.declared.misread.Misread.TheVariants as misread
 use Rattle.wd_baseline.specs.declared.error.BaselineError.{BaselineError}
 use Rattle.wd_baseline.specs.Findings.{FindingRecord, finding_json, finding_text}
 use Rattle.wd_baseline.specs.Lines.{line_len, first_line, behind_line, AreFindings, FailBehind}
-use Rattle.wd_baseline.specs.Refusals.{refusal_at, HasLineCause}
+use Rattle.wd_baseline.specs.Refusals.{refusal_at, HasCause, HasLineCause}
+use Rattle.std.specs.List.{count_by}
+use Rattle.std.specs.Str.{bytes_eq}
+use Rattle.serde_json.specs.Data.{Data}
+use Rattle.wd_json.proofs.Inverse.{some_same}
+use Rattle.wd_baseline.specs.declared.baseline.Baseline.{Baseline}
+use Rattle.wd_baseline.specs.declared.error.BaselineError.TheVariants as error
+use Rattle.wd_baseline.specs.Baselines.{IsBaselineOf, IsVersionLine, HasVersionCause, count_of, left_of}
+use Rattle.wd_baseline.proofs.Counting.{same_counts}
 
 -- behind a line there is less
 pub shorter : (bytes : List ℕ) → (length bytes ≡ 0 → ⊥) → length (behind_line bytes) < length bytes
@@ -54,3 +62,29 @@ pub refused : (bytes rest : List ℕ) (found : List (String Global)) (m : Misrea
 refused bytes rest found misread.OutOfMemory number h some none e = tt
 refused bytes rest found misread.Shape number h some none e =
     (h.read, subst (λ fs. FailBehind fs bytes) (append-nil h.read) (h.fail [] (some_bytes rest some, none refl)), e ∙ ap (λ n. n + 2) (as_many bytes rest found h))
+
+-- ---- the whole file
+
+-- bytes are JSON of one value
+pub same_json : (d e : Data) (bytes : List ℕ) → IsJsonOf d bytes → IsJsonOf e bytes → d ≡ e
+same_json d e bytes h k = some_same d e (sym h.1 ∙ k.1)
+
+pub line_cause : (e : BaselineError) (bytes : List ℕ) → IsVersionLine (first_line bytes) → HasLineCause e (behind_line bytes) → HasCause e bytes
+line_cause error.Version bytes v h = absurd h
+line_cause (error.Line number) bytes v h = (v, h)
+line_cause error.OutOfMemory bytes v h = tt
+
+pub version_cause : (e : BaselineError) (bytes : List ℕ) → HasVersionCause e (first_line bytes) → HasCause e bytes
+version_cause error.Version bytes h = h
+version_cause (error.Line number) bytes h = absurd h
+version_cause error.OutOfMemory bytes h = tt
+
+-- a baseline that counts the lines of the findings which bytes spell
+pub is_of : (bytes : List ℕ) (baseline : Baseline) (lines : List (String Global)) → IsVersionLine (first_line bytes) → (fs : List FindingRecord) × AreFindings fs (behind_line bytes) × (map string_bytes lines ≡ map finding_text fs)
+    → ((line : List ℕ) → count_of baseline line ≡ count_by (λ s. bytes_eq (string_bytes s) line) lines) → left_of baseline ≡ length lines → IsBaselineOf bytes baseline
+is_of bytes baseline lines version (fs, are, texts) counted left = record {
+  findings = fs;
+  spelled = record { version = version; findings = are };
+  counted = λ line. counted line ∙ same_counts string_bytes finding_text line lines fs texts;
+  left = left ∙ sym (length-map lines string_bytes) ∙ ap length texts ∙ length-map fs finding_text;
+}

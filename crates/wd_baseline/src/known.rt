@@ -1,7 +1,8 @@
 //! A finding, and its line in a baseline.
 
-ghost use Rattle.std.specs.Prelude.{◌≡◌, ◌≢◌, IfOk, MatchOption};
+ghost use Rattle.std.specs.Prelude.{◌≡◌, ◌≢◌, IfOk, MatchOption, Some};
 ghost use Rattle.std.specs.String.{string_bytes};
+ghost use Rattle.serde_json.specs.Read.{read};
 ghost use Rattle.serde_json.specs.View.{view};
 ghost use Rattle.wd_baseline.specs.Findings.{finding_json, finding_text, said};
 ghost use Rattle.wd_baseline.specs.Findings as spec;
@@ -69,9 +70,10 @@ impl Known<'_, '_> {
     }
 
     /// The line of the finding in a baseline, without its line feed: JSON without white space. Findings are the same where their
-    /// lines are.
+    /// lines are, since the line is read as the finding.
     pub fn line(&self, alloc: Global) -> Result<String, OutOfMemory>
-        ensures { IfOk result (λ s. string_bytes s ≡ finding_text (said self.now)) }
+        ensures text { IfOk result (λ s. string_bytes s ≡ finding_text (said self.now)) }
+        ensures spells { IfOk result (λ s. read (string_bytes s) ≡ Some (finding_json (said self.now))) }
     {
         let value = self.value(alloc)?;
         Ok(value.to_string(alloc)?)
