@@ -22,6 +22,29 @@ module _ {Y S : Type 0} (old new : HashMap (String Y) ℕ S) (line : List ℕ) w
       by_case true same = rw same (ap (λ l. count_in old l + 1) ((bytes_decides line other).0 same))
       by_case false differs = rw differs (omega arith)
 
+-- a count that is set to one less
+module _ {Y S : Type 0} (old new : HashMap (String Y) ℕ S) (line : List ℕ) (was left : ℕ) where
+  pub taken : Some was ≡ get_by_text old line → left ≡ was - 1 → ((other : List ℕ) → get_by_text new other ≡ update bytes_eq (get_by_text old) line (Some left) other)
+      → (other : List ℕ) → count_in new other ≡ count_in old other - one_if (bytes_eq line other)
+  taken known less sets other = ap (λ o. unwrap_or o 0) (sets other) ∙ by_case (bytes_eq line other) refl
+    where
+      here : was ≡ count_in old line
+      here = ap (λ o. unwrap_or o 0) known
+
+      by_case : (b : Bool) → bytes_eq line other ≡ b → unwrap_or (cond (bytes_eq line other) (Some left) (get_by_text old other)) 0 ≡ count_in old other - one_if (bytes_eq line other)
+      by_case true same = rw same (less ∙ ap (λ n. n - 1) (here ∙ ap (count_in old) ((bytes_decides line other).0 same)))
+      by_case false differs = rw differs (omega arith)
+
+-- a line that is not counted is not taken
+pub none_taken : {Y S : Type 0} (m : HashMap (String Y) ℕ S) (line other : List ℕ) → None ≡ get_by_text m line → count_in m other ≡ count_in m other - one_if (bytes_eq line other)
+none_taken m line other none = by_case (bytes_eq line other) refl
+  where
+    by_case : (b : Bool) → bytes_eq line other ≡ b → count_in m other ≡ count_in m other - one_if (bytes_eq line other)
+    by_case true same =
+        let zero_there : count_in m other ≡ 0 = ap (count_in m) (sym ((bytes_decides line other).0 same)) ∙ ap (λ o. unwrap_or o 0) (sym none) in
+        rw same (omega (arith, zero_there))
+    by_case false differs = rw differs (omega arith)
+
 -- one line more is counted once more, where it is that one
 pub count_more : (line : List ℕ) (lines : List (String Global)) (i : ℕ) (d : String Global) → i < length lines
     → count_by (λ s. bytes_eq (string_bytes s) line) (take (i + 1) lines) ≡ count_by (λ s. bytes_eq (string_bytes s) line) (take i lines) + one_if (bytes_eq (string_bytes (get_or lines i d)) line)

@@ -1,2 +1,4 @@
 pub mod Counting
 pub mod Reading
+pub mod OneList
+pub mod WrittenBack

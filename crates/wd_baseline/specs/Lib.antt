@@ -3,3 +3,4 @@ pub mod Lines
 pub mod Counts
 pub mod Refusals
 pub mod Baselines
+pub mod Laws

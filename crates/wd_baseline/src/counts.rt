@@ -34,11 +34,13 @@ pub(crate) fn take_one(counts: &mut HashMap<String, u64>, line: &str) -> bool
     ensures taken { (other : List ℕ) → count_in counts.new other ≡ count_in counts.old other - one_if (bytes_eq line.now other) }
 {
     match counts.get_mut(line) {
-        Some(count) if *count > 0 => {
-            *count -= 1;
-            true
+        Some(count) => {
+            let was = *count;
+            let left = was.saturating_sub(1);
+            *count = left;
+            was > 0
         }
-        _ => false,
+        None => false,
     }
 }
 

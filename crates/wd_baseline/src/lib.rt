@@ -8,6 +8,7 @@ mod baseline;
 mod counts;
 mod error;
 mod known;
+pub mod laws;
 mod lines;
 mod read;
 
