@@ -1,6 +1,5 @@
 -- Bytes spell one list of findings.
-use Rattle.std.proofs.Common.{◌≡◌, ◌∙◌, ℕ, List, [], ◌∷◌, codes, refl, sym, ap, ap₂}
-use Rattle.serde_json.specs.Data.{string}
+use Rattle.std.proofs.Common.{◌≡◌, ℕ, List, [], ◌∷◌, codes, get_or, refl, ap, ap₂, arith}
 use Rattle.wd_baseline.specs.declared.known.Finding.{Finding}
 use Rattle.wd_baseline.specs.declared.known.Finding.TheVariants.{Depends, MayTie, NotRead}
 use Rattle.wd_baseline.specs.Baselines.{Spells}
@@ -9,15 +8,18 @@ use Rattle.wd_baseline.specs.Laws.{HasOneList}
 use Rattle.wd_baseline.specs.Lines.{AreFindings, behind_line, first_line}
 use Rattle.wd_baseline.proofs.Reading.{same_json}
 
+first : (a b : List ℕ) → a ≡ b → get_or a 0 0 ≡ get_or b 0 0
+first a b e = ap (λ l. get_or l 0 0) e
+
 one_word : (a b : Finding) → word a ≡ word b → a ≡ b
 one_word Depends Depends e = refl
-one_word Depends MayTie e = absurd cc
-one_word Depends NotRead e = absurd cc
-one_word MayTie Depends e = absurd cc
+one_word Depends MayTie e = absurd (let h : 100 ≡ 109 = first (codes "depends") (codes "may tie") e in omega (arith, h))
+one_word Depends NotRead e = absurd (let h : 100 ≡ 110 = first (codes "depends") (codes "not read") e in omega (arith, h))
+one_word MayTie Depends e = absurd (let h : 109 ≡ 100 = first (codes "may tie") (codes "depends") e in omega (arith, h))
 one_word MayTie MayTie e = refl
-one_word MayTie NotRead e = absurd cc
-one_word NotRead Depends e = absurd cc
-one_word NotRead MayTie e = absurd cc
+one_word MayTie NotRead e = absurd (let h : 109 ≡ 110 = first (codes "may tie") (codes "not read") e in omega (arith, h))
+one_word NotRead Depends e = absurd (let h : 110 ≡ 100 = first (codes "not read") (codes "depends") e in omega (arith, h))
+one_word NotRead MayTie e = absurd (let h : 110 ≡ 109 = first (codes "not read") (codes "may tie") e in omega (arith, h))
 one_word NotRead NotRead e = refl
 
 -- a JSON value is that of one finding

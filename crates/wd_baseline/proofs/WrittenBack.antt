@@ -1,14 +1,16 @@
 -- What is written is read as what it was written of.
-use Rattle.std.proofs.Common.{◌≡◌, ◌≢◌, ◌∙◌, ℕ, zero, suc, ◌+◌, ◌<◌, ◌≤◌, ◌==◌, Bool, true, false, not, cond, ◌&&◌, List, [], ◌∷◌, ◌++◌, length, take, drop, codes, String, Some, string_bytes, refl, sym, ap, ap₂, subst, arith, append_assoc, length-append}
-use Rattle.std.proofs.lemmas.Bool.{cond-true, and_parts}
+use Rattle.std.proofs.Common.{◌≡◌, ◌≢◌, ◌∙◌, ℕ, zero, suc, ◌+◌, ◌<◌, ◌≤◌, ◌==◌, Bool, true, false, nat_lt, not, cond, ◌&&◌, List, [], ◌∷◌, ◌++◌, length, take, drop, codes, String, Some, string_bytes, refl, sym, ap, ap₂, subst, arith, append_assoc, length-append}
+use Rattle.std.proofs.lemmas.Bool.{cond-true, and_parts, ltb-true}
 use Rattle.std.proofs.lemmas.Bool.Decides.{nat_tests}
 use Rattle.std.proofs.lemmas.List.{take_at, drop_at}
 use Rattle.std.proofs.lemmas.List.Folds.{list_all-append}
-use Rattle.std.proofs.lemmas.Str.{IsUtf8-from_is_utf8}
+use Rattle.std.proofs.lemmas.Str.{IsUtf8-from_ascii, IsUtf8-string_bytes}
 use Rattle.std.specs.List.{flat_map, list_all, prefix_len}
+use Rattle.std.specs.Str.{IsAscii, IsUtf8}
 use Rattle.std.specs.declared.alloc.Global.{Global}
 use Rattle.json.specs.Print.{escape_byte, escape_letter, quoted}
 use Rattle.serde_json.proofs.OnLiterals.{serde_json_on_literals}
+use Rattle.serde_json.specs.Read.{read}
 use Rattle.wd_json.specs.Json.{IsJsonOf}
 use Rattle.wd_baseline.specs.Baselines.{Spells, baseline_text, with_feed}
 use Rattle.wd_baseline.specs.Findings.{FindingRecord, finding_json, finding_text, version_json, word, word_json}
@@ -73,13 +75,24 @@ are_findings (line ∷ lines) (f ∷ fs) h =
     let bytes = string_bytes line in
     let rest = flat_map with_feed lines in
     let none : list_all is_no_feed bytes ≡ true = ap (list_all is_no_feed) h.0.text ∙ text_ends_none f in
-    let json : IsJsonOf (finding_json f) bytes = (h.0.utf8, h.0.spells) in
+    let json : IsJsonOf (finding_json f) bytes = (IsUtf8-string_bytes line, h.0.spells) in
     subst (AreFindings (f ∷ fs)) (sym (append_assoc bytes (10 ∷ []) rest))
     (some_text bytes rest, subst (IsJsonOf (finding_json f)) (sym (first_of_text bytes rest none)) json, subst (AreFindings fs) (sym (behind_text bytes rest none)) (are_findings lines fs h.1))
 
-version_read : IsJsonOf version_json (codes "{\"version\":1}")
+ascii : (bytes : List ℕ) → list_all (λ b. nat_lt b 128) bytes ≡ true → IsAscii bytes
+ascii [] h i = omega arith
+ascii (b ∷ bytes) h zero = ltb-true b 128 (and_parts (nat_lt b 128) (list_all (λ b. nat_lt b 128) bytes) h).0
+ascii (b ∷ bytes) h (suc i) = ascii bytes (and_parts (nat_lt b 128) (list_all (λ b. nat_lt b 128) bytes) h).1 i
+
+version_utf8 : IsUtf8 (codes "{\"version\":1}")
+version_utf8 = IsUtf8-from_ascii (codes "{\"version\":1}") (ascii (codes "{\"version\":1}") refl)
+
+version_json_read : read (codes "{\"version\":1}") ≡ Some version_json
 unfolding serde_json_on_literals
-version_read = (IsUtf8-from_is_utf8 (codes "{\"version\":1}") refl, refl)
+version_json_read = refl
+
+version_read : IsJsonOf version_json (codes "{\"version\":1}")
+version_read = (version_utf8, version_json_read)
 
 pub read_back : IsReadBack
 read_back lines fs h =

@@ -1,5 +1,5 @@
 -- What the definitions of baselines imply.
-use Rattle.std.specs.Prelude.{◌≡◌, List, [], ◌∷◌, ℕ, String, string_bytes, Some, IsUtf8}
+use Rattle.std.specs.Prelude.{◌≡◌, List, [], ◌∷◌, ℕ, String, string_bytes, Some}
 use Rattle.std.specs.declared.alloc.Global.{Global}
 use Rattle.serde_json.specs.Read.{read}
 use Rattle.wd_baseline.specs.Baselines.{Spells, baseline_text}
@@ -11,7 +11,6 @@ HasOneList = (bytes : List ℕ) (fs gs : List FindingRecord) → Spells bytes fs
 
 -- a line as `Known::line` gives it: the text of a finding, which is read as that one
 pub record IsLineOf (line : String Global) (f : FindingRecord) : Type 0 where
-  pub utf8 : IsUtf8 (string_bytes line)
   pub text : string_bytes line ≡ finding_text f
   pub spells : read (string_bytes line) ≡ Some (finding_json f)
 

@@ -1,5 +1,6 @@
-use Rattle.std.proofs.Common.{Some, rules}
+use Rattle.std.proofs.Common.{◌∙◌, Some, ap, rules}
 use Rattle.std.proofs.lemmas.Map.Text.{hash_map_updates_text}
+use Rattle.wd_baseline.specs.Counts.{count_in}
 use Rattle.wd_baseline.proofs.Counting.{none_taken, taken}
 use Rattle.wd_baseline.proofs.counts.take_one.Goals as goal
 
@@ -11,4 +12,4 @@ returns-in-Some-clause-taken c =
     (hash_map_updates_text c.args.line.now c.args.counts.now new (Some left) ((c.get_mut.follows.holds left).3 (search rules)))
 
 pub returns-in-None-clause-taken : goal.returns-in-None-clause-taken
-returns-in-None-clause-taken c = λ other. none_taken c.args.counts.now c.args.line.now other c.in-None.ensures.value
+returns-in-None-clause-taken c = λ other. ap (λ m. count_in m other) c.get_mut.follows.holds-at-none ∙ none_taken c.args.counts.now c.args.line.now other c.in-None.ensures.value
