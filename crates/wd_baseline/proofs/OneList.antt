@@ -2,7 +2,6 @@
 use Rattle.std.proofs.Common.{◌≡◌, ℕ, List, [], ◌∷◌, codes, get_or, refl, ap, ap₂, arith}
 use Rattle.wd_baseline.specs.declared.known.Finding.{Finding}
 use Rattle.wd_baseline.specs.declared.known.Finding.TheVariants.{Depends, MayTie, NotRead}
-use Rattle.wd_baseline.specs.Baselines.{Spells}
 use Rattle.wd_baseline.specs.Findings.{FindingRecord, finding_json, word}
 use Rattle.wd_baseline.specs.Laws.{HasOneList}
 use Rattle.wd_baseline.specs.Lines.{AreFindings, behind_line, first_line}

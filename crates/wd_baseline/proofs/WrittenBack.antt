@@ -1,11 +1,11 @@
 -- What is written is read as what it was written of.
-use Rattle.std.proofs.Common.{◌≡◌, ◌≢◌, ◌∙◌, ℕ, zero, suc, ◌+◌, ◌<◌, ◌≤◌, ◌==◌, Bool, true, false, nat_lt, not, cond, ◌&&◌, List, [], ◌∷◌, ◌++◌, length, take, drop, codes, String, Some, string_bytes, refl, sym, ap, ap₂, subst, arith, append_assoc, length-append}
+use Rattle.std.proofs.Common.{◌≡◌, ◌≢◌, ◌∙◌, ℕ, zero, suc, ◌+◌, ◌==◌, Bool, true, nat_lt, not, ◌&&◌, List, [], ◌∷◌, ◌++◌, length, drop, codes, String, Some, string_bytes, refl, sym, ap, ap₂, subst, arith, append_assoc, length-append}
 use Rattle.std.proofs.lemmas.Bool.{cond-true, and_parts, ltb-true}
 use Rattle.std.proofs.lemmas.Bool.Decides.{nat_tests}
 use Rattle.std.proofs.lemmas.List.{take_at, drop_at}
 use Rattle.std.proofs.lemmas.List.Folds.{list_all-append}
 use Rattle.std.proofs.lemmas.Str.{IsUtf8-from_ascii, IsUtf8-string_bytes}
-use Rattle.std.specs.List.{flat_map, list_all, prefix_len}
+use Rattle.std.specs.List.{flat_map, list_all}
 use Rattle.std.specs.Str.{IsAscii, IsUtf8}
 use Rattle.std.specs.declared.alloc.Global.{Global}
 use Rattle.json.specs.Print.{escape_byte, escape_letter, quoted}
@@ -13,7 +13,7 @@ use Rattle.serde_json.proofs.OnLiterals.{serde_json_on_literals}
 use Rattle.serde_json.specs.Read.{read}
 use Rattle.wd_json.specs.Json.{IsJsonOf}
 use Rattle.wd_baseline.specs.Baselines.{Spells, baseline_text, with_feed}
-use Rattle.wd_baseline.specs.Findings.{FindingRecord, finding_json, finding_text, version_json, word, word_json}
+use Rattle.wd_baseline.specs.Findings.{FindingRecord, finding_json, finding_text, version_json, word}
 use Rattle.wd_baseline.specs.Laws.{AreLinesOf, IsReadBack}
 use Rattle.wd_baseline.specs.Lines.{AreFindings, behind_line, first_line, line_len}
 

@@ -1,5 +1,5 @@
 -- What stands at the front of bytes: white space, a comment, or neither.
-use Rattle.std.proofs.Common.{◌≡◌, ◌≢◌, ◌∙◌, ℕ, ◌+◌, ◌-◌, ◌<◌, ◌≤◌, Bool, true, false, List, [], ◌∷◌, ◌++◌, length, take, drop, codes, nat_eq, slice_index, Option, Some, None, IfSome, MatchOption, Ok, Err, ⊎_elim, refl, sym, ap, subst, arith, length-append, length-drop}
+use Rattle.std.proofs.Common.{◌≡◌, ◌∙◌, ℕ, ◌<◌, ◌≤◌, true, false, List, [], ◌∷◌, ◌++◌, length, take, drop, codes, nat_eq, slice_index, Option, Some, None, IfSome, MatchOption, Ok, ⊎_elim, refl, sym, ap, subst, arith, length-append, length-drop}
 use Rattle.std.proofs.lemmas.Bool.{both_ways, cases_Bool}
 use Rattle.std.specs.List.{prefix_len, take_while, starts_with}
 use Rattle.wd_lex.specs.declared.pieces.Kind.TheVariants as kind

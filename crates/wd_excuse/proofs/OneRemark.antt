@@ -1,10 +1,10 @@
 -- A text has one remark.
-use Rattle.std.proofs.Common.{◌≡◌, ◌≢◌, ◌∙◌, ℕ, ◌+◌, Bool, true, false, ◌&&◌, ◌||◌, List, [], ◌∷◌, ◌++◌, length, Option, Some, None, refl, sym, ap, ap₂, subst, append_assoc}
+use Rattle.std.proofs.Common.{◌≡◌, ◌∙◌, ℕ, ◌+◌, Bool, true, ◌||◌, List, [], ◌∷◌, ◌++◌, length, Option, Some, None, sym, ap, subst, append_assoc}
 use Rattle.std.proofs.lemmas.Bool.{and_parts}
 use Rattle.std.specs.List.{list_all, list_any}
 use Rattle.wd_lex.specs.Characters.{is_line_end}
 use Rattle.wd_lex.specs.Lexed.{start_of}
-use Rattle.wd_lex.specs.Pieces.{Piece, spelling, spellings, Stands, ArePieces}
+use Rattle.wd_lex.specs.Pieces.{Piece, spelling, spellings, ArePieces}
 use Rattle.wd_lex.proofs.TextLaws.{same_piece}
 use Rattle.wd_excuse.specs.Gaps.{is_gap, HasNoGap}
 use Rattle.wd_excuse.specs.Remarks.{Said, or_else, piece_says, first_said, BeginsWithGaps, IsRemark, HasOneRemark}

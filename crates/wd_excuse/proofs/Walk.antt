@@ -1,13 +1,12 @@
 -- Going through the white space and the comments with which a text begins.
-use Rattle.std.proofs.Common.{◌≡◌, ◌∙◌, ℕ, ◌+◌, ◌-◌, ◌<◌, ◌≤◌, Bool, true, false, ◌&&◌, ◌||◌, eqb, nat_eq, List, [], ◌∷◌, ◌++◌, length, take, drop, codes, Option, Some, None, option_map, ⊎_elim, refl, sym, ap, ap₂, subst, arith, append_assoc, append-nil, length-append, eqb-true}
-use Rattle.std.proofs.lemmas.Bool.{cases_Bool, both_ways, and_parts}
+use Rattle.std.proofs.Common.{◌≡◌, ◌∙◌, ℕ, ◌+◌, Bool, true, false, ◌&&◌, ◌||◌, eqb, nat_eq, List, [], ◌∷◌, ◌++◌, length, take, drop, codes, Option, Some, None, ⊎_elim, refl, sym, ap, ap₂, subst, arith, append_assoc, length-append, eqb-true}
+use Rattle.std.proofs.lemmas.Bool.{cases_Bool, both_ways}
 use Rattle.std.proofs.lemmas.List.{take_at, drop_at, drop-drop}
 use Rattle.std.proofs.lemmas.List.Folds.{list_all-append, list_any-append}
-use Rattle.std.specs.List.{list_all, list_any, starts_with}
-use Rattle.wd_lex.specs.declared.token.Span.{Span}
+use Rattle.std.specs.List.{list_any, starts_with}
 use Rattle.wd_lex.specs.Characters.{is_blank, is_line_end}
-use Rattle.wd_lex.specs.Lexed.{IsCut, start_of}
-use Rattle.wd_lex.specs.Pieces.{Piece, Blanks, LineComment, BlockComment, Word, Number, QuotedName, QuotedText, Symbol, spelling, spellings, IsPiece, Stands, ArePieces}
+use Rattle.wd_lex.specs.Lexed.{start_of}
+use Rattle.wd_lex.specs.Pieces.{Piece, Blanks, LineComment, BlockComment, Word, Number, QuotedName, QuotedText, Symbol, spelling, spellings, IsPiece, ArePieces}
 use Rattle.wd_lex.proofs.TextLaws.{ArePieces_push, spellings_push}
 use Rattle.wd_excuse.specs.Gaps.{is_gap, HasGap, HasNoGap}
 use Rattle.wd_excuse.specs.Remarks.{Said, or_else, piece_says, bytes_say, line_says, first_said, BeginsWithGaps, IsRemark}

@@ -4,7 +4,7 @@ use Rattle.std.specs.List.{list_all, list_any, starts_with}
 use Rattle.wd_lex.specs.declared.token.Span.{Span}
 use Rattle.wd_lex.specs.Characters.{is_line_end}
 use Rattle.wd_lex.specs.Lexed.{IsCut, start_of}
-use Rattle.wd_lex.specs.Pieces.{Piece, Blanks, LineComment, BlockComment, Word, Number, QuotedName, QuotedText, Symbol, spelling}
+use Rattle.wd_lex.specs.Pieces.{Piece, LineComment, spelling}
 use Rattle.wd_excuse.specs.declared.remark.Remark.{Remark}
 use Rattle.wd_excuse.specs.declared.remark.Remark.TheVariants as remark
 use Rattle.wd_excuse.specs.Gaps.{is_gap, HasNoGap}

@@ -1,6 +1,4 @@
 use Rattle.std.proofs.Common.{◌∙◌, ◌++◌, ap, refl, string_bytes}
-use Rattle.std.proofs.lemmas.List.{take_all}
-use Rattle.std.specs.List.{flat_map}
 use Rattle.wd_baseline.specs.Baselines.{with_feed}
 use Rattle.wd_baseline.proofs.Counting.{fed}
 use Rattle.wd_baseline.proofs.baseline.add_lines.Goals as goal

@@ -1,4 +1,4 @@
-use Rattle.std.proofs.Common.{◌≡◌, ◌∙◌, ◌+◌, ◌-◌, ◌<◌, ◌≤◌, ◌++◌, [], ◌∷◌, length, ap, sym, subst, arith, eqb-true, length-append}
+use Rattle.std.proofs.Common.{◌∙◌, ◌+◌, [], ◌∷◌, length, ap, sym, subst, arith, eqb-true, length-append}
 use Rattle.std.proofs.lemmas.Bool.{eqb-false}
 use Rattle.wd_json.specs.Json.{IsJsonOf}
 use Rattle.wd_baseline.specs.Findings.{finding_json}

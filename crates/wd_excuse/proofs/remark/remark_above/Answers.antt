@@ -1,4 +1,4 @@
-use Rattle.std.proofs.Common.{◌+◌, ◌-◌, List, ℕ, length, take, drop, refl, ap, arith, length-drop}
+use Rattle.std.proofs.Common.{◌+◌, ◌-◌, length, take, drop, refl, ap, arith, length-drop}
 use Rattle.std.proofs.lemmas.List.{take_rest}
 use Rattle.std.specs.List.{list_any}
 use Rattle.wd_lex.specs.Characters.{is_line_end}
