@@ -2,3 +2,4 @@ pub mod Counting
 pub mod Reading
 pub mod OneList
 pub mod WrittenBack
+pub mod RoundTrip

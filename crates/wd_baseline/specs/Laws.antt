@@ -14,6 +14,10 @@ pub record IsLineOf (line : String Global) (f : FindingRecord) : Type 0 where
   pub text : string_bytes line ≡ finding_text f
   pub spells : read (string_bytes line) ≡ Some (finding_json f)
 
+-- a line of some finding
+abbrev pub IsFindingLine : String Global → Type 0
+IsFindingLine line = (f : FindingRecord) × IsLineOf line f
+
 -- lines of findings, one each
 abbrev pub AreLinesOf : List (String Global) → List FindingRecord → Type 0
 AreLinesOf [] [] = Unit {0}
