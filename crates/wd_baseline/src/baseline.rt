@@ -28,8 +28,8 @@ pub struct Baseline {
 
 impl Baseline {
     /// Reads a baseline: a line `{"version":1}`, and then a line of JSON for each finding, as `Known::line` writes it; white space
-    /// within a line and the order of its members do not matter, and the last line needs no line feed. Equal lines count as often as
-    /// they stand. Refused are another first line, and the first line that is no finding.
+    /// within a line and the order of its members do not matter, and the last line needs no line feed. Equal lines count
+    /// as often as they stand. Refused are another first line, and the first line that is no finding.
     pub fn read(alloc: Global, bytes: &[u8]) -> Result<Baseline, BaselineError>
         ensures ok { IfOk result (λ b. IsBaselineOf bytes.now b) }
         ensures refused { IfErr result (λ e. HasCause e bytes.now) }
@@ -77,8 +77,8 @@ fn read_first(alloc: Global, line: &[u8]) -> Result<(), BaselineError>
     }
 }
 
-/// Writes a baseline of findings, by the lines that `Known::line` gives them: the line of the version, and then theirs in the order of
-/// their bytes, so that few lines of the file change where few findings do.
+/// Writes a baseline of findings, by the lines that `Known::line` gives them: the line of the version, and then theirs in the order
+/// of their bytes, so that few lines of the file change where few findings do.
 pub fn written(alloc: Global, lines: Vec<String>) -> Result<Vec<u8>, OutOfMemory>
     ensures { IfOk result (λ b. IsWritten lines.items b.items) }
 {

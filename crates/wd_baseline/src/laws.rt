@@ -22,7 +22,7 @@ pub fn is_read_back()
     ensures { IsReadBack }
 {}
 
-/// A baseline that is written of the lines of findings and read again has each of them as often as it was given, or memory is wanting.
+/// A baseline that is written of the lines of findings and read again has each as often as it was given, or memory is wanting.
 pub fn read_back(alloc: Global, lines: Vec<String>) -> Result<Baseline, BaselineError>
     ensures same { All IsFindingLine lines.items
         → IfOk result (λ b. (line : List ℕ) → count_of b line ≡ count_by (λ s. bytes_eq (string_bytes s) line) lines.items) }

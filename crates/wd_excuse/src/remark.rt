@@ -20,7 +20,7 @@ pub enum Remark<'t> {
     Unread(Span),
 }
 
-/// The remark above a statement, for the statement's text, which begins with the white space and the comments before its first token.
+/// The remark above a statement, for its text, which begins with the white space and the comments before its first token.
 ///
 /// It is what the first line comment there says that begins `wdreport:`, in upper or lower case. `-- wdreport: may depend, REASON`
 /// excuses the query, where a reason is given and the comment stands on a line of its own or behind another comment: behind the

@@ -56,8 +56,8 @@ impl Counts {
         new_not_read: 0,
     };
 
-    /// Counts one more query. One that is not read is not excused, since nothing is known of it, and one that is deterministic needs
-    /// no excuse. Past the largest number that 64 bits hold nothing is counted.
+    /// Counts one more query. One that is not read is not excused, since nothing is known of it, and one that is deterministic
+    /// needs no excuse. Past the largest number that 64 bits hold nothing is counted.
     pub fn add(&mut self, kind: Kind, standing: Standing, is_mended: bool)
         ensures { self.new ≡ spec.with_query kind standing is_mended self.old }
     {
@@ -87,8 +87,8 @@ impl Counts {
         }
     }
 
-    /// The exit status: 2 where a query is not read, else 1 where one depends or may tie, else 0. What is excused or known counts for
-    /// none of these, nor does what may tie where that is allowed.
+    /// The exit status: 2 where a query is not read, else 1 where one depends or may tie, else 0. What is excused or known counts
+    /// for none of these, nor does what may tie where that is allowed.
     pub fn status(&self, allows_unknown: bool) -> u8
         ensures { result ≡ spec.status allows_unknown self.now }
     {
