@@ -18,7 +18,7 @@ import tempfile
 
 TOP = os.path.dirname(os.path.dirname(os.path.abspath(__file__)))
 FOLDERS = ["shop", "bank", "web", "hr"]
-COUNT = re.compile(r"(\d+) queries: (\d+) deterministic, (\d+) depend, (\d+) may tie, (\d+) not read; (\d+) can be mended by a key")
+COUNT = re.compile(r"(\d+) quer(?:y|ies): (\d+) deterministic, (\d+) depend, (\d+) may tie, (\d+) not read; (\d+) can be mended by a key")
 HEAD = re.compile(r"^(\S+?):(\d+):(\d+): (depends|may tie|not read)(.*)$", re.M)
 results = []
 
@@ -79,9 +79,9 @@ TIED = "SELECT g, ROW_NUMBER() OVER (ORDER BY v) AS n FROM t"
 def small_cases():
     """Cases of one folder each: its files, the words, the status, and what must stand in the output."""
     cases = [
-        ("one answer", {"q.sql": ONE}, ["q.sql"], 0, ["1 queries: 1 deterministic, 0 depend, 0 may tie, 0 not read; 0 can be mended"]),
+        ("one answer", {"q.sql": ONE}, ["q.sql"], 0, ["1 query: 1 deterministic, 0 depend, 0 may tie, 0 not read; 0 can be mended"]),
         ("two statements", {"q.sql": f"-- ; no end\n{ONE};\n{TIED};"}, ["q.sql"], 1, ["q.sql:3:11: depends", "2 queries: 1 deterministic, 1 depend", "help: ORDER BY v, id "]),
-        ("a comment alone", {"q.sql": f"{ONE}; -- behind"}, ["q.sql"], 0, ["1 queries: 1 deterministic"]),
+        ("a comment alone", {"q.sql": f"{ONE}; -- behind"}, ["q.sql"], 0, ["1 query: 1 deterministic"]),
         ("no query", {"q.sql": "-- nothing\n"}, ["q.sql"], 2, ["q.sql: not read", "1 not read"]),
         ("a refusal", {"q.sql": "SELECT id\nFROM t WHERE g IN ('a')"}, ["q.sql"], 2, ["q.sql:2:16: not read", "[201]", "    2 | FROM t WHERE g IN ('a')\n      |                ^^"]),
         ("a refused second statement", {"q.sql": f"{ONE};\n\nSELECT 12.5 FROM t"}, ["q.sql"], 2, ["q.sql:3:8: not read", "[104]"]),

@@ -1,9 +1,11 @@
 -- How queries are counted.
-use Rattle.std.specs.Prelude.{◌≡◌, ℕ, ◌+◌, ◌-◌, ◌^◌, min, Bool, true, false, nat_lt, ◌||◌, List, [], ◌∷◌, ◌++◌, codes, if◌then◌else◌}
+use Rattle.std.specs.Prelude.{ℕ, ◌+◌, ◌-◌, ◌^◌, min, Bool, true, false, nat_lt, ◌==◌, not, ◌&&◌, ◌||◌, List, [], ◌∷◌, ◌++◌, codes, if◌then◌else◌}
 use Rattle.std.specs.Fmt.{decimal}
 use Rattle.wd_lines.specs.declared.count.Counts.{Counts}
 use Rattle.wd_lines.specs.declared.count.Kind.{Kind}
 use Rattle.wd_lines.specs.declared.count.Kind.TheVariants.{Deterministic, Depends, MayTie, NotRead}
+use Rattle.wd_lines.specs.declared.count.Standing.{Standing}
+use Rattle.wd_lines.specs.declared.count.Standing.TheVariants.{New, Excused, Known}
 
 -- a sum as 64 bits hold it, the largest standing for all above
 abbrev pub capped : ℕ → ℕ
@@ -19,25 +21,55 @@ abbrev pub with_mended : Bool → Counts → Counts
 with_mended true counts = record counts { mended = capped (counts.mended + 1) }
 with_mended false counts = counts
 
--- one more query
-abbrev pub with_query : Kind → Bool → Counts → Counts
-with_query kind is_mended counts = with_mended is_mended (with_kind kind counts)
+abbrev pub with_excused : Counts → Counts
+with_excused counts = record counts { excused = capped (counts.excused + 1) }
 
-abbrev pub status : Counts → ℕ
-status counts = if nat_lt 0 counts.not_read then 2 else (if nat_lt 0 counts.depend || nat_lt 0 counts.may_tie then 1 else 0)
+abbrev pub with_known : Counts → Counts
+with_known counts = record counts { known = capped (counts.known + 1) }
+
+-- what is not read is not excused, and what is deterministic needs no excuse
+abbrev pub with_standing : Kind → Standing → Counts → Counts
+with_standing Deterministic New counts = counts
+with_standing Deterministic Excused counts = counts
+with_standing Deterministic Known counts = counts
+with_standing Depends New counts = record counts { new_depend = capped (counts.new_depend + 1) }
+with_standing Depends Excused counts = with_excused counts
+with_standing Depends Known counts = with_known counts
+with_standing MayTie New counts = record counts { new_may_tie = capped (counts.new_may_tie + 1) }
+with_standing MayTie Excused counts = with_excused counts
+with_standing MayTie Known counts = with_known counts
+with_standing NotRead New counts = record counts { new_not_read = capped (counts.new_not_read + 1) }
+with_standing NotRead Excused counts = record counts { new_not_read = capped (counts.new_not_read + 1) }
+with_standing NotRead Known counts = with_known counts
+
+-- one more query
+abbrev pub with_query : Kind → Standing → Bool → Counts → Counts
+with_query kind standing is_mended counts = with_standing kind standing (with_mended is_mended (with_kind kind counts))
+
+-- by what is new: a query that is not read, else one that depends or, where that is not allowed, may tie
+abbrev pub status : (allows_unknown : Bool) → Counts → ℕ
+status allows_unknown counts =
+    if nat_lt 0 counts.new_not_read then 2 else (if nat_lt 0 counts.new_depend || (nat_lt 0 counts.new_may_tie && not allows_unknown) then 1 else 0)
 
 -- how many queries there are
 abbrev pub all_counted : Counts → ℕ
 all_counted counts = capped (capped (capped (counts.deterministic + counts.depend) + counts.may_tie) + counts.not_read)
 
+abbrev pub noun : ℕ → List ℕ
+noun count = if count == 1 then codes "query" else codes "queries"
+
 abbrev pub decided_words : Counts → List ℕ
-decided_words counts = decimal (all_counted counts) ++ codes " queries: " ++ decimal counts.deterministic ++ codes " deterministic, " ++ decimal counts.depend ++ codes " depend, "
+decided_words counts = decimal (all_counted counts) ++ codes " " ++ noun (all_counted counts) ++ codes ": " ++ decimal counts.deterministic ++ codes " deterministic, " ++ decimal counts.depend ++ codes " depend, "
 
 abbrev pub other_words : Counts → List ℕ
 other_words counts = decimal counts.may_tie ++ codes " may tie, " ++ decimal counts.not_read ++ codes " not read; "
 
 abbrev pub mended_words : Counts → List ℕ
-mended_words counts = decimal counts.mended ++ codes " can be mended by a key" ++ 10 ∷ []
+mended_words counts = decimal counts.mended ++ codes " can be mended by a key"
+
+-- how many there are, where there are any
+abbrev pub some_words : ℕ → List ℕ → List ℕ
+some_words count word = if nat_lt 0 count then codes "; " ++ decimal count ++ codes " " ++ word else []
 
 abbrev pub count_line : Counts → List ℕ
-count_line counts = decided_words counts ++ other_words counts ++ mended_words counts
+count_line counts = decided_words counts ++ other_words counts ++ mended_words counts ++ some_words counts.excused (codes "excused") ++ some_words counts.known (codes "known") ++ 10 ∷ []

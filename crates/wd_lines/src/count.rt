@@ -16,7 +16,18 @@ pub enum Kind {
     NotRead,
 }
 
-/// How many queries count as what, and how many of them a key mends.
+/// How a finding is taken.
+#[derive(Clone, Copy, Debug, PartialEq, Eq)]
+pub enum Standing {
+    /// It is new, and counts against the queries.
+    New,
+    /// A comment above the query says that it may depend.
+    Excused,
+    /// The baseline has it.
+    Known,
+}
+
+/// How many queries count as what, how many of them a key mends, how many are excused or known, and how many are neither.
 #[derive(Clone, Copy, Debug, PartialEq, Eq)]
 pub struct Counts {
     pub deterministic: u64,
@@ -24,6 +35,11 @@ pub struct Counts {
     pub may_tie: u64,
     pub not_read: u64,
     pub mended: u64,
+    pub excused: u64,
+    pub known: u64,
+    pub new_depend: u64,
+    pub new_may_tie: u64,
+    pub new_not_read: u64,
 }
 
 impl Counts {
@@ -33,11 +49,32 @@ impl Counts {
         may_tie: 0,
         not_read: 0,
         mended: 0,
+        excused: 0,
+        known: 0,
+        new_depend: 0,
+        new_may_tie: 0,
+        new_not_read: 0,
     };
 
-    /// Counts one more query. Past the largest number that 64 bits hold nothing is counted.
-    pub fn add(&mut self, kind: Kind, is_mended: bool)
-        ensures { self.new ≡ spec.with_query kind is_mended self.old }
+    /// Counts one more query. One that is not read is not excused, since nothing is known of it, and one that is deterministic
+    /// needs no excuse. Past the largest number that 64 bits hold nothing is counted.
+    pub fn add(&mut self, kind: Kind, standing: Standing, is_mended: bool)
+        ensures { self.new ≡ spec.with_query kind standing is_mended self.old }
+    {
+        self.add_kind(kind, is_mended);
+        match (kind, standing) {
+            (Kind::Deterministic, _) => {}
+            (_, Standing::Known) => self.known = self.known.saturating_add(1),
+            (Kind::NotRead, _) => self.new_not_read = self.new_not_read.saturating_add(1),
+            (_, Standing::Excused) => self.excused = self.excused.saturating_add(1),
+            (Kind::Depends, Standing::New) => self.new_depend = self.new_depend.saturating_add(1),
+            (Kind::MayTie, Standing::New) => self.new_may_tie = self.new_may_tie.saturating_add(1),
+        }
+    }
+
+    /// Counts one more query of a kind.
+    fn add_kind(&mut self, kind: Kind, is_mended: bool)
+        ensures { self.new ≡ spec.with_mended is_mended (spec.with_kind kind self.old) }
     {
         match kind {
             Kind::Deterministic => self.deterministic = self.deterministic.saturating_add(1),
@@ -50,13 +87,14 @@ impl Counts {
         }
     }
 
-    /// The exit status: 2 where a query is not read, else 1 where one depends or may tie, else 0.
-    pub fn status(&self) -> u8
-        ensures { result ≡ spec.status self.now }
+    /// The exit status: 2 where a query is not read, else 1 where one depends or may tie, else 0. What is excused or known counts
+    /// for none of these, nor does what may tie where that is allowed.
+    pub fn status(&self, allows_unknown: bool) -> u8
+        ensures { result ≡ spec.status allows_unknown self.now }
     {
-        if self.not_read > 0 {
+        if self.new_not_read > 0 {
             2
-        } else if self.depend > 0 || self.may_tie > 0 {
+        } else if self.new_depend > 0 || (self.new_may_tie > 0 && !allows_unknown) {
             1
         } else {
             0
@@ -78,11 +116,12 @@ impl Counts {
         ensures { IfOk result (λ _. string_bytes text.new ≡ string_bytes text.old ++ spec.decided_words self.now) }
     {
         let all = self.all();
+        let noun = noun(all);
         let deterministic = self.deterministic;
         let depend = self.depend;
         Ok(write!(
             text,
-            "{all} queries: {deterministic} deterministic, {depend} depend, "
+            "{all} {noun}: {deterministic} deterministic, {depend} depend, "
         )?)
     }
 
@@ -95,13 +134,12 @@ impl Counts {
         Ok(write!(text, "{may_tie} may tie, {not_read} not read; ")?)
     }
 
-    /// Adds how many a key mends, and the end of the line.
+    /// Adds how many a key mends.
     fn add_mended(&self, text: &mut String) -> Result<(), OutOfMemory>
         ensures { IfOk result (λ _. string_bytes text.new ≡ string_bytes text.old ++ spec.mended_words self.now) }
     {
         let mended = self.mended;
-        write!(text, "{mended} can be mended by a key")?;
-        Ok(text.push('\n')?)
+        Ok(write!(text, "{mended} can be mended by a key")?)
     }
 
     /// Adds the line that counts the queries.
@@ -110,6 +148,26 @@ impl Counts {
     {
         self.add_decided(text)?;
         self.add_others(text)?;
-        self.add_mended(text)
+        self.add_mended(text)?;
+        add_some(text, self.excused, "excused")?;
+        add_some(text, self.known, "known")?;
+        Ok(text.push('\n')?)
     }
+}
+
+/// What so many queries are called.
+fn noun(count: u64) -> &'static str
+    ensures { result.now ≡ spec.noun count }
+{
+    if count == 1 { "query" } else { "queries" }
+}
+
+/// Adds how many there are of a kind, where there are any.
+fn add_some(text: &mut String, count: u64, word: &str) -> Result<(), OutOfMemory>
+    ensures { IfOk result (λ _. string_bytes text.new ≡ string_bytes text.old ++ spec.some_words count word.now) }
+{
+    if count == 0 {
+        return Ok(());
+    }
+    Ok(write!(text, "; {count} {word}")?)
 }

@@ -15,7 +15,7 @@ mod values;
 mod words;
 
 pub use answers::add_answers;
-pub use count::{Counts, Kind};
+pub use count::{Counts, Kind, Standing};
 pub use lines::{add_excerpt, add_joined, add_place, add_remark_line};
 pub use refusal::{add_refusal, add_remark};
 pub use tables::add_tables;

@@ -7,7 +7,7 @@ use wd_decide::{DecideError, Verdict};
 use wd_finding::{Finding, OpenPlace, RefusedText, judge, refused_place};
 use wd_help::{Help, help_for};
 use wd_lex::Span;
-use wd_lines::{Counts, Kind, add_refusal};
+use wd_lines::{Counts, Kind, Standing, add_refusal};
 use wd_source::statements;
 use wd_value::OutOfMemory;
 
@@ -28,7 +28,7 @@ pub(crate) fn add_file(
 ) -> Result<(), OutOfMemory> {
     let spans = statements(alloc, query.text)?;
     if spans.is_empty() {
-        counts.add(Kind::NotRead, false);
+        counts.add(Kind::NotRead, Standing::New, false);
         return report.add_remark(alloc, query.path, "not read: there is no query in it");
     }
     for span in &spans {
@@ -58,7 +58,7 @@ fn add_statement(
     match judge(alloc, schema.text, text) {
         Ok(finding) => add_judged(alloc, report, counts, schema, text, statement, &finding),
         Err(error) => {
-            counts.add(Kind::NotRead, false);
+            counts.add(Kind::NotRead, Standing::New, false);
             add_refused(alloc, report, schema, text, statement, &error)
         }
     }
@@ -78,7 +78,7 @@ fn add_judged(
         Verdict::Deterministic(_) => None,
         _ => help_for(alloc, schema.text, text)?,
     };
-    counts.add(kind_of(finding), help.is_some());
+    counts.add(kind_of(finding), Standing::New, help.is_some());
     for number in 0..finding.places.len() {
         add_place(alloc, report, statement, finding, number, help.as_ref())?;
     }

@@ -99,7 +99,7 @@ fn finish<O: Write>(alloc: Global, progress: &Progress, out: &mut O) -> io::Resu
     if progress.is_wrong {
         return Ok(WRONG);
     }
-    Ok(progress.counts.status())
+    Ok(progress.counts.status(false))
 }
 
 /// Judges the files of a path.

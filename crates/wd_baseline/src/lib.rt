@@ -1,0 +1,17 @@
+//! Findings that are known: a baseline, of which each finding is a line of JSON, and what of it still occurs.
+//!
+//! `known` makes a finding's line, `lines` reads the lines of a file, `counts` counts lines in a map, and `baseline` takes off one
+//! finding after the other and writes a baseline.
+#![tactic(auto)]
+
+mod baseline;
+mod counts;
+mod error;
+mod known;
+pub mod laws;
+mod lines;
+mod read;
+
+pub use baseline::{Baseline, written};
+pub use error::BaselineError;
+pub use known::{Finding, Known};

@@ -1,0 +1,4 @@
+pub mod Fronts
+pub mod Trims
+pub mod Walk
+pub mod OneRemark

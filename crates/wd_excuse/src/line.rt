@@ -1,0 +1,75 @@
+//! What a line comment says to `wdreport`.
+
+ghost use Rattle.std.specs.Prelude.{◌≡◌, option_map};
+ghost use Rattle.wd_lex.specs.Characters as characters;
+ghost use Rattle.wd_lex.specs.Reading.{drop_while};
+ghost use Rattle.wd_excuse.specs.Lines as spec;
+
+use crate::gap::{blanks, is_blank};
+
+/// What stands behind the white space at the front.
+fn unblanked(bytes: &[u8]) -> &[u8]
+    ensures { result.now ≡ drop_while characters.is_blank bytes.now }
+{
+    &bytes[blanks(bytes)..]
+}
+
+/// The bytes without white space at their start and end.
+fn trimmed(bytes: &[u8]) -> &[u8]
+    ensures { result.now ≡ spec.trimmed bytes.now }
+{
+    unblanked(bytes).trim_ascii_end()
+}
+
+/// What stands behind a word, which white space may stand before, in upper or lower case.
+fn behind<'t>(bytes: &'t [u8], word: &[u8]) -> Option<&'t [u8]>
+    ensures { option_map (λ x. x.now) result ≡ spec.behind word.now bytes.now }
+{
+    let rest = unblanked(bytes);
+    if rest.len() < word.len() {
+        return None;
+    }
+    let (front, rest) = rest.split_at(word.len());
+    if front.eq_ignore_ascii_case(word) {
+        Some(rest)
+    } else {
+        None
+    }
+}
+
+/// The bytes, where white space stands first.
+fn spaced(bytes: &[u8]) -> Option<&[u8]>
+    ensures { option_map (λ x. x.now) result ≡ spec.spaced bytes.now }
+{
+    match bytes {
+        [first, ..] if is_blank(*first) => Some(bytes),
+        _ => None,
+    }
+}
+
+/// What a line comment says to the program, for what follows its `--`; none where it speaks to others.
+pub(crate) fn words_to_program(line: &[u8]) -> Option<&[u8]>
+    ensures { option_map (λ x. x.now) result ≡ spec.words_to_program line.now }
+{
+    behind(behind(line, b"wdreport")?, b":")
+}
+
+/// What follows `may depend` and a comma.
+fn behind_may_depend(words: &[u8]) -> Option<&[u8]>
+    ensures { option_map (λ x. x.now) result ≡ spec.behind_may_depend words.now }
+{
+    let may = spaced(behind(words, b"may")?)?;
+    behind(behind(may, b"depend")?, b",")
+}
+
+/// The reason for which words to the program excuse a query; none where they are no excuse, or give no reason.
+pub(crate) fn reason_in(words: &[u8]) -> Option<&[u8]>
+    ensures { option_map (λ x. x.now) result ≡ spec.reason_in words.now }
+{
+    let reason = trimmed(behind_may_depend(words)?);
+    if reason.is_empty() {
+        None
+    } else {
+        Some(reason)
+    }
+}
