@@ -1,8 +1,10 @@
 //! The files and folders of the machine.
 
-use crate::sources::{Entry, MOST_BYTES, SourceError, Sources};
+use crate::paths::beside;
+use crate::sources::{Entry, MOST_BYTES, STANDARD_INPUT, SourceError, Sources};
 use std::alloc::Global;
-use std::io::Read;
+use std::fs::{OpenFile, OpenOptions};
+use std::io::{Input, Read, Write};
 use std::rt::Files;
 use std::{fs, io};
 
@@ -12,14 +14,17 @@ pub struct MachineSources<'a, R> {
     rt: &'a R,
 }
 
-impl<'a, R: Files + AllocGlobal + Clone + Drop> MachineSources<'a, R> {
+impl<'a, R: Files + Input + AllocGlobal + Clone + Drop> MachineSources<'a, R> {
     pub fn new(rt: &'a R) -> MachineSources<'a, R> {
         MachineSources { rt }
     }
 }
 
-impl<R: Files + AllocGlobal + Clone + Drop> Sources for MachineSources<'_, R> {
+impl<R: Files + Input + AllocGlobal + Clone + Drop> Sources for MachineSources<'_, R> {
     fn read(&mut self, alloc: Global, path: &str) -> Result<Vec<u8>, SourceError> {
+        if path == STANDARD_INPUT {
+            return read_some(alloc, self.rt.reader());
+        }
         match fs::open(self.rt, path) {
             Ok(file) => read_some(alloc, file),
             Err(error) => Err(reason_of(error)),
@@ -27,6 +32,9 @@ impl<R: Files + AllocGlobal + Clone + Drop> Sources for MachineSources<'_, R> {
     }
 
     fn list(&mut self, alloc: Global, path: &str) -> Result<Option<Vec<Entry>>, SourceError> {
+        if path == STANDARD_INPUT {
+            return Ok(None);
+        }
         match fs::metadata(self.rt, path) {
             Ok(metadata) => if metadata.is_dir() {
                 Ok(Some(members(self.rt, alloc, path)?))
@@ -36,6 +44,43 @@ impl<R: Files + AllocGlobal + Clone + Drop> Sources for MachineSources<'_, R> {
             Err(error) => Err(reason_of(error)),
         }
     }
+
+    // The bytes are written to a file beside it, which then takes its name. A link to a file stays, and the file is replaced.
+    fn replace(&mut self, alloc: Global, path: &str, bytes: &[u8]) -> Result<(), SourceError> {
+        let path = match fs::canonicalize(self.rt, path) {
+            Ok(path) => path,
+            Err(error) => return Err(reason_of(error)),
+        };
+        let new = beside(alloc, path.as_str())?;
+        match replace_by(self.rt, path.as_str(), new.as_str(), bytes) {
+            Ok(()) => Ok(()),
+            Err(error) => Err(reason_of(error)),
+        }
+    }
+}
+
+/// Writes bytes to a new file, which takes the place of another one. After an error the other one is as it was, and the new one is
+/// not there.
+fn replace_by<R: Files>(rt: &R, path: &str, new: &str, bytes: &[u8]) -> io::Result<()> {
+    let file = OpenOptions::new()
+        .write(true)
+        .create_new(true)
+        .open(rt, new)?;
+    let written = match fill(rt, path, file, bytes) {
+        Ok(()) => fs::rename(rt, new, path),
+        Err(error) => Err(error),
+    };
+    if written.is_err() {
+        let _ = fs::remove_file(rt, new);
+    }
+    written
+}
+
+/// Writes bytes to a new file, which has the permissions of another one, and waits until they are kept.
+fn fill<R: Files>(rt: &R, path: &str, mut file: R::File, bytes: &[u8]) -> io::Result<()> {
+    file.set_permissions(fs::metadata(rt, path)?.permissions())?;
+    file.write_all(bytes)?;
+    file.sync_all()
 }
 
 /// What a file holds, up to the most bytes that are read.
@@ -74,10 +119,11 @@ fn members<R: Files + AllocGlobal + Clone + Drop>(
     Ok(found)
 }
 
-/// Why the system does not hand something over.
+/// Why the system does not hand something over, or write it.
 fn reason_of(error: io::Error) -> SourceError {
     match error.kind() {
         io::ErrorKind::NotFound => SourceError::Missing,
+        io::ErrorKind::AlreadyExists => SourceError::Taken,
         io::ErrorKind::OutOfMemory => SourceError::OutOfMemory,
         _ => SourceError::Failed,
     }

@@ -1,25 +1,39 @@
 //! Files and folders in memory.
 
 use crate::sources::{Entry, SourceError, Sources};
-use std::alloc::Global;
+use std::alloc::{AllocError, Global};
 
 /// Named texts as files, for tests; a path with files below it is a folder.
 #[derive(Drop)]
-pub struct MemorySources<'a> {
-    files: &'a [(&'a str, &'a [u8])],
+pub struct MemorySources {
+    files: Vec<MemoryFile>,
 }
 
-impl<'a> MemorySources<'a> {
-    pub fn new(files: &'a [(&'a str, &'a [u8])]) -> MemorySources<'a> {
-        MemorySources { files }
+/// A named text.
+#[derive(Drop)]
+struct MemoryFile {
+    path: String,
+    bytes: Vec<u8>,
+}
+
+impl MemorySources {
+    pub fn new(alloc: Global, files: &[(&str, &[u8])]) -> Result<MemorySources, AllocError> {
+        let mut kept = Vec::with_capacity(alloc, files.len())?;
+        for (path, bytes) in files {
+            kept.push(MemoryFile {
+                path: String::from_str(alloc, path)?,
+                bytes: Vec::from_slice(alloc, bytes)?,
+            })?;
+        }
+        Ok(MemorySources { files: kept })
     }
 }
 
-impl Sources for MemorySources<'_> {
+impl Sources for MemorySources {
     fn read(&mut self, alloc: Global, path: &str) -> Result<Vec<u8>, SourceError> {
-        for (name, bytes) in self.files {
-            if *name == path {
-                return Ok(Vec::from_slice(alloc, bytes)?);
+        for file in &self.files {
+            if file.path.as_str() == path {
+                return Ok(Vec::from_slice(alloc, &file.bytes)?);
             }
         }
         Err(SourceError::Missing)
@@ -27,11 +41,11 @@ impl Sources for MemorySources<'_> {
 
     fn list(&mut self, alloc: Global, path: &str) -> Result<Option<Vec<Entry>>, SourceError> {
         let mut found: Vec<Entry> = Vec::new(alloc);
-        for (name, _) in self.files {
-            if *name == path {
+        for file in &self.files {
+            if file.path.as_str() == path {
                 return Ok(None);
             }
-            if let Some((member, is_folder)) = member_of(path, name) {
+            if let Some((member, is_folder)) = member_of(path, file.path.as_str()) {
                 if !found.iter().any(|entry| entry.name.as_str() == member) {
                     let name = String::from_str(alloc, member)?;
                     found.push(Entry { name, is_folder })?;
@@ -42,6 +56,17 @@ impl Sources for MemorySources<'_> {
             return Err(SourceError::Missing);
         }
         Ok(Some(found))
+    }
+
+    fn replace(&mut self, alloc: Global, path: &str, bytes: &[u8]) -> Result<(), SourceError> {
+        let bytes = Vec::from_slice(alloc, bytes)?;
+        for file in &mut self.files {
+            if file.path.as_str() == path {
+                file.bytes = bytes;
+                return Ok(());
+            }
+        }
+        Err(SourceError::Missing)
     }
 }
 
