@@ -1,6 +1,7 @@
 //! The statements of one file.
 
-ghost use Rattle.std.specs.Prelude.{◌≡◌, ◌≤◌, length, IfOk, IfSome};
+ghost use Rattle.std.specs.Prelude.{◌≡◌, ◌<◌, ◌≤◌, length, map, IfOk, IfSome};
+ghost use Rattle.wd_fix.specs.Fixes.{IsFixed, span_of};
 ghost use Rattle.wd_judged.specs.Mended.{AreMended, IsMended, IsMendedText};
 ghost use Rattle.wd_source.specs.Statements.{StandInOrder};
 
