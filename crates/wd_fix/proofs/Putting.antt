@@ -1,15 +1,10 @@
 -- Putting mended statements into a text, one after the other.
-use Rattle.std.proofs.Common.{◌≡◌, ◌∙◌, ℕ, ◌+◌, ◌<◌, ◌≤◌, List, [], ◌∷◌, ◌++◌, length, map, drop, get_or, suc, add-one, drop-cons, append_assoc, sym, ap, arith, slice_range}
+use Rattle.std.proofs.Common.{◌≡◌, ◌∙◌, ℕ, ◌+◌, ◌<◌, ◌≤◌, List, ◌∷◌, ◌++◌, length, map, drop, get_or, suc, add-one, drop-cons, append_assoc, sym, ap, arith, slice_range}
 use Rattle.wd_lex.specs.declared.token.Span.{Span}
 use Rattle.wd_source.specs.Statements.{StandInOrder}
 use Rattle.wd_fix.specs.declared.fix.Fix.{Fix}
 use Rattle.wd_fix.specs.Fixes.{fixed_from, span_of}
-
--- what stands in order ends no earlier than it begins
-pub order_within : (start : ℕ) (spans : List Span) (end : ℕ) → StandInOrder start spans end → start ≤ end
-order_within start [] end h = h
-order_within start (span ∷ spans) end h =
-    let rest = order_within span.end spans end h.2 in omega (arith, h.0, h.1, rest)
+use Rattle.wd_fix.proofs.Choosing.{behind}
 
 -- What is put in up to the rest: with the rest it makes up the whole, and the rest stands in order behind it.
 pub record IsPutUpTo (text : List ℕ) (fixes rest : List Fix) (start : ℕ) (out : List ℕ) : Type 0 where
@@ -36,5 +31,5 @@ at_fix fixes i fix h is = rw add-one (drop-cons fixes i fix h ∙ ap (λ (f : Fi
 pub stands_next : (text : List ℕ) (fixes rest : List Fix) (start : ℕ) (out : List ℕ) (fix : Fix)
     → IsPutUpTo text fixes (fix ∷ rest) start out → (start ≤ fix.span.start) × (fix.span.start ≤ length text)
 stands_next text fixes rest start out fix is =
-    let later = order_within fix.span.end (map span_of rest) (length text) is.stand.2 in
+    let later = behind fix.span.end (map span_of rest) (length text) is.stand.2 in
     (is.stand.0, omega (arith, is.stand.1, later))

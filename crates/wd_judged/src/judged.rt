@@ -74,17 +74,14 @@ pub fn judge_statement(
 {
     let query = &file.text[span.start as usize..span.end as usize];
     match judge(alloc, schema.text, query) {
-        Ok(finding) => of_finding(alloc, schema.text, query, statement_at(file, span), finding),
+        Ok(finding) => of_finding(alloc, schema.text, query, file, span, finding),
         Err(DecideError::OutOfMemory) => Err(OutOfMemory),
-        Err(error) => of_refusal(alloc, schema, query, statement_at(file, span), error),
+        Err(error) => of_refusal(alloc, schema, query, file, span, error),
     }
 }
 
 /// The statement of a file that stands there.
-fn statement_at<'a>(file: File<'a>, span: Span) -> Statement<'a>
-    ensures start { result.start ≡ span.start }
-    ensures end { result.end ≡ span.end }
-{
+fn statement_at<'a>(file: File<'a>, span: Span) -> Statement<'a> {
     Statement {
         path: file.path,
         text: file.text,
@@ -93,21 +90,23 @@ fn statement_at<'a>(file: File<'a>, span: Span) -> Statement<'a>
     }
 }
 
-/// What is judged of a statement of which this is found.
+/// What is judged of a query that stands there in a file, and of which this is found.
 fn of_finding(
     alloc: Global,
     schema: &[u8],
     query: &[u8],
-    statement: Statement<'_>,
+    file: File<'_>,
+    span: Span,
     finding: Finding,
 ) -> Result<Judged, OutOfMemory>
     requires { IsFinding schema.now query.now finding }
-    ensures { IfOk result (IsJudgedAs schema.now query.now (record { start = statement.start; end = statement.end })) }
+    ensures { IfOk result (IsJudgedAs schema.now query.now span) }
 {
     let help = help_where_open(alloc, schema, query, &finding.verdict)?;
+    let statement = statement_at(file, span);
     let blocks = open_blocks(alloc, statement, &finding, help.as_ref())?;
     Ok(Judged {
-        span: span_of(statement),
+        span,
         kind: kind_of(&finding),
         judgement: Judgement::Found(finding),
         help,
@@ -130,34 +129,26 @@ fn help_where_open(
     }
 }
 
-/// What is judged of a statement that is refused, or whose schema is.
+/// What is judged of a query that stands there in a file, and that is refused or whose schema is.
 fn of_refusal(
     alloc: Global,
     schema: File<'_>,
     query: &[u8],
-    statement: Statement<'_>,
+    file: File<'_>,
+    span: Span,
     error: DecideError,
 ) -> Result<Judged, OutOfMemory>
     requires { HasCause schema.entry.text.now query.now error }
-    ensures { IfOk result (IsJudgedAs schema.entry.text.now query.now (record { start = statement.start; end = statement.end })) }
+    ensures { IfOk result (IsJudgedAs schema.entry.text.now query.now span) }
 {
     let mut blocks = Vec::new(alloc);
-    blocks.push(refusal_block(alloc, schema, query, statement, &error)?)?;
+    let block = refusal_block(alloc, schema, query, statement_at(file, span), &error)?;
+    blocks.push(block)?;
     Ok(Judged {
-        span: span_of(statement),
+        span,
         kind: Kind::NotRead,
         judgement: Judgement::Refused(error),
         help: None,
         blocks,
     })
-}
-
-/// Where a statement stands in its file.
-fn span_of(statement: Statement<'_>) -> Span
-    ensures { result ≡ record { start = statement.start; end = statement.end } }
-{
-    Span {
-        start: statement.start,
-        end: statement.end,
-    }
 }

@@ -1,5 +1,9 @@
 //! All files, one after the other.
 
+ghost use Rattle.std.specs.Prelude.{◌≡◌};
+ghost use Rattle.wd_lines.specs.Counts.{status};
+ghost use Rattle.wd_review.specs.Passing.{passed};
+
 use crate::file::{Reviewed, Tally, review_statements};
 use crate::format::{Format, Report};
 use crate::schema::SCHEMA_OF_DATABASE;
@@ -228,8 +232,10 @@ fn finish<O: Write, E: Write>(
     Ok(status_of(review.tally.left, request.allows_unknown))
 }
 
-/// The exit status for what is left.
-fn status_of(left: Counts, allows_unknown: bool) -> u8 {
+/// The exit status for what is left; queries that may tie pass where that is allowed.
+fn status_of(left: Counts, allows_unknown: bool) -> u8
+    ensures { result ≡ status (passed allows_unknown left) }
+{
     if allows_unknown {
         Counts { may_tie: 0, ..left }.status()
     } else {

@@ -1,5 +1,7 @@
 //! Files and folders in memory.
 
+ghost use Rattle.std.specs.Prelude.{◌≡◌, OnErr};
+
 use crate::sources::{Entry, SourceError, Sources};
 use std::alloc::{AllocError, Global};
 
@@ -58,15 +60,21 @@ impl Sources for MemorySources {
         Ok(Some(found))
     }
 
-    fn replace(&mut self, alloc: Global, path: &str, bytes: &[u8]) -> Result<(), SourceError> {
+    fn replace(&mut self, alloc: Global, path: &str, bytes: &[u8]) -> Result<(), SourceError>
+        ensures kept { OnErr result (self.new ≡ self.old) }
+    {
         let bytes = Vec::from_slice(alloc, bytes)?;
-        for file in &mut self.files {
-            if file.path.as_str() == path {
+        let place = self
+            .files
+            .iter()
+            .position(|file| file.path.as_str() == path);
+        match place.and_then(|place| self.files.get_mut(place)) {
+            Some(file) => {
                 file.bytes = bytes;
-                return Ok(());
+                Ok(())
             }
+            None => Err(SourceError::Missing),
         }
-        Err(SourceError::Missing)
     }
 }
 

@@ -1,6 +1,5 @@
-use Rattle.std.proofs.Common.{◌+◌, ◌≤◌, drop, length, map, arith, rules}
-use Rattle.wd_fix.specs.Fixes.{span_of}
-use Rattle.wd_fix.proofs.Putting.{at_fix, order_within, past_fix, stands_next}
+use Rattle.std.proofs.Common.{◌+◌, drop, arith}
+use Rattle.wd_fix.proofs.Putting.{at_fix, stands_next}
 use Rattle.wd_fix.proofs.fix.fixed_text.Goals as goal
 
 pub slice_bounds-extend_from_slice-end : goal.slice_bounds-extend_from_slice-end
