@@ -69,7 +69,7 @@ pub fn judge_statement(
     span: Span,
 ) -> Result<Judged, OutOfMemory>
     requires ordered { span.start ≤ span.end }
-    requires within { span.end ≤ length file.entry.text.now }
+    requires within { span.end ≤ length file.text.now }
     ensures { IfOk result (IsJudged schema.entry.text.now file.entry.text.now span) }
 {
     let query = &file.text[span.start as usize..span.end as usize];
@@ -138,7 +138,7 @@ fn of_refusal(
     span: Span,
     error: DecideError,
 ) -> Result<Judged, OutOfMemory>
-    requires { HasCause schema.entry.text.now query.now error }
+    requires { HasCause schema.text.now query.now error }
     ensures { IfOk result (IsJudgedAs schema.entry.text.now query.now span) }
 {
     let mut blocks = Vec::new(alloc);

@@ -65,7 +65,7 @@ pub(crate) fn review_statements(
     schema: File<'_>,
     query: File<'_>,
 ) -> Result<Reviewed, OutOfMemory>
-    ensures { IfOk result (λ reviewed. IfSome reviewed.text (IsMendedText schema.entry.text.now query.entry.text.now)) }
+    ensures { IfOk result (λ reviewed. IfSome reviewed.text (λ after. IsMendedText schema.entry.text.now query.entry.text.now after.items)) }
 {
     let spans = statements(alloc, query.text)?;
     if spans.is_empty() {
@@ -100,7 +100,7 @@ fn add_statements(
     query: File<'_>,
     spans: &[Span],
 ) -> Result<Vec<Fix>, OutOfMemory>
-    requires { StandInOrder 0 spans.now (length query.entry.text.now) }
+    requires { StandInOrder 0 spans.now (length query.text.now) }
     ensures { IfOk result (λ fixes. AreMended schema.entry.text.now query.entry.text.now fixes.items) }
 {
     let mut fixes = Vec::new(alloc);
@@ -122,7 +122,7 @@ fn add_statement(
     span: Span,
 ) -> Result<Option<Fix>, OutOfMemory>
     requires ordered { span.start ≤ span.end }
-    requires within { span.end ≤ length query.entry.text.now }
+    requires within { span.end ≤ length query.text.now }
     ensures stands { IfOk result (λ found. IfSome found (λ fix. fix.span ≡ span)) }
     ensures mended { IfOk result (λ found. IfSome found (IsMended schema.entry.text.now query.entry.text.now)) }
 {
