@@ -53,9 +53,9 @@ pub(crate) fn coloured(alloc: Global, text: &[u8]) -> Result<Vec<u8>, OutOfMemor
     let mut out = Vec::new(alloc);
     let mut is_head = true;
     for line in text.split_inclusive(|b| *b == b'\n') {
-        let (words, end) = match line.split_last() {
-            Some((b'\n', words)) => (words, &line[words.len()..]),
-            _ => (line, &line[line.len()..]),
+        let words = match line.split_last() {
+            Some((b'\n', words)) => words,
+            _ => line,
         };
         match code_of(words, is_head) {
             Some(code) => {
@@ -65,7 +65,9 @@ pub(crate) fn coloured(alloc: Global, text: &[u8]) -> Result<Vec<u8>, OutOfMemor
             }
             None => out.extend_from_slice(words)?,
         }
-        out.extend_from_slice(end)?;
+        if words.len() < line.len() {
+            out.push(b'\n')?;
+        }
         is_head = words.is_empty();
     }
     Ok(out)
