@@ -46,5 +46,5 @@ pub all_chosen : (fixes : List Fix) (end : ℕ) → StandWith fixes [] end → S
 all_chosen fixes end s = subst (λ (spans : List Span). StandInOrder 0 spans end) (append-nil (map span_of fixes)) s
 
 -- the statement at a place, and those after it
-pub at_span : (spans : List Span) (i : ℕ) (span : Span) → i < length spans → span ≡ get_or spans i span → drop i spans ≡ span ∷ drop (i + 1) spans
-at_span spans i span h is = rw add-one (drop-cons spans i span h ∙ ap (λ (s : Span). s ∷ drop (suc i) spans) (sym is))
+pub at_span : (spans : List Span) (i : ℕ) (other : Span) → i < length spans → drop i spans ≡ get_or spans i other ∷ drop (i + 1) spans
+at_span spans i other h = rw add-one (drop-cons spans i other h)
