@@ -45,6 +45,17 @@ choose fixes fix span rest end e s =
 pub all_chosen : (fixes : List Fix) (end : ℕ) → StandWith fixes [] end → StandInOrder 0 (map span_of fixes) end
 all_chosen fixes end s = subst (λ (spans : List Span). StandInOrder 0 spans end) (append-nil (map span_of fixes)) s
 
--- the statement at a place, and those after it
-pub at_span : (spans : List Span) (i : ℕ) (other : Span) → i < length spans → drop i spans ≡ get_or spans i other ∷ drop (i + 1) spans
-at_span spans i other h = rw add-one (drop-cons spans i other h)
+-- the one at a place is the next of those that are left
+pub next_of : (fixes : List Fix) (spans : List Span) (i : ℕ) (other : Span) (end : ℕ) → i < length spans → StandWith fixes (drop i spans) end
+    → StandWith fixes (get_or spans i other ∷ drop (i + 1) spans) end
+next_of fixes spans i other end h s =
+    let at : drop i spans ≡ get_or spans i other ∷ drop (i + 1) spans = rw add-one (drop-cons spans i other h) in
+    subst (λ (rest : List Span). StandWith fixes rest end) at s
+
+-- the next one ends no earlier than it begins, and within the text
+pub next_within : (fixes : List Fix) (span : Span) (rest : List Span) (end : ℕ) → StandWith fixes (span ∷ rest) end → (span.start ≤ span.end) × (span.end ≤ end)
+next_within fixes span rest end s = stands_within 0 (map span_of fixes) span rest end s
+
+-- the next one is not chosen
+pub pass : (fixes : List Fix) (span : Span) (rest : List Span) (end : ℕ) → StandWith fixes (span ∷ rest) end → StandWith fixes rest end
+pass fixes span rest end s = leave_out 0 (map span_of fixes) span rest end s
