@@ -6,15 +6,22 @@
 The folders of tests/report hold queries with their schemas, and expected.txt what must be said of them: each place that is open, the
 word and the ORDER BY that mends it. Where a query depends, its block must have rows of tables by names of columns and two answers
 that differ. Then cases of the words, the statuses, several statements in a file, refusals with their places, schemas in folders above, files that are not there,
-and what is printed of characters that a terminal would obey. The last line is 'N passed, M failed'.
+and what is printed of characters that a terminal would obey; of what --fix writes, of standard input, of colours and progress on a terminal, and
+of the SQL of `wdreport schema`, which a PostgreSQL runs where one is installed. The last line is 'N passed, M failed'.
 """
 
+import glob
 import json
 import os
+import pty
 import re
+import select
+import shutil
+import stat
 import subprocess
 import sys
 import tempfile
+import time
 
 TOP = os.path.dirname(os.path.dirname(os.path.abspath(__file__)))
 FOLDERS = ["shop", "bank", "web", "hr"]
@@ -23,10 +30,24 @@ HEAD = re.compile(r"^(\S+?):(\d+):(\d+): (depends|may tie|not read)(.*)$", re.M)
 results = []
 
 
-def run(*words, cwd):
-    """What the program prints for these words, and its status."""
-    ran = subprocess.run([PROGRAM, *words], cwd=cwd, stdin=subprocess.DEVNULL, capture_output=True, timeout=300)
+def run(*words, cwd, given=""):
+    """What the program prints for these words, with what is given on standard input, and its status."""
+    ran = subprocess.run([PROGRAM, *words], cwd=cwd, input=given.encode(), capture_output=True, timeout=300)
     return ran.stdout.decode(), ran.stderr.decode(), ran.returncode
+
+
+def put(folder, files):
+    """Writes files into a folder."""
+    for path, text in files.items():
+        os.makedirs(os.path.dirname(f"{folder}/{path}"), exist_ok=True)
+        with open(f"{folder}/{path}", "w", encoding="utf-8", newline="") as file:
+            file.write(text)
+
+
+def held(path):
+    """The text of a file, with the ends of its lines as they are."""
+    with open(path, encoding="utf-8", newline="") as file:
+        return file.read()
 
 
 def check(name, ok, said=""):
@@ -74,6 +95,9 @@ def the_folders():
 SCHEMA = "CREATE TABLE t (id BIGINT PRIMARY KEY, g TEXT NOT NULL, v BIGINT);\n"
 ONE = "SELECT id FROM t"
 TIED = "SELECT g, ROW_NUMBER() OVER (ORDER BY v) AS n FROM t"
+MENDED = "SELECT g, ROW_NUMBER() OVER (ORDER BY v, id) AS n FROM t"
+# The sort key may tie, and past the condition there is no row over which any search could find two answers.
+MAY_TIE = "SELECT g, ROW_NUMBER() OVER (ORDER BY v) AS n FROM t WHERE id * 7 + 3 = 24000000000001"
 
 
 def small_cases():
@@ -95,15 +119,19 @@ def small_cases():
         ("no ORDER BY", {"q.sql": "SELECT g, ROW_NUMBER() OVER () AS n FROM t"}, ["q.sql"], 1, ["help: ORDER BY id "]),
         ("a limit", {"q.sql": "SELECT g FROM t ORDER BY v LIMIT 2"}, ["q.sql"], 1, ["q.sql:1:17: ", "help: ORDER BY v, "]),
         ("a window by its name", {"q.sql": "SELECT g, LAG(g) OVER w AS p, LEAD(g) OVER (w) AS q FROM t WINDOW w AS (ORDER BY v)"}, ["q.sql"], 1, ["q.sql:1:11: ", "q.sql:1:31: ", "help: ORDER BY v, id "]),
+        ("may tie passes", {"q.sql": MAY_TIE}, ["--allow-unknown", "q.sql"], 0, ["q.sql:1:", "may tie: ", "0 depend, 1 may tie"]),
+        ("may tie does not pass", {"q.sql": MAY_TIE}, ["q.sql"], 1, ["0 depend, 1 may tie"]),
+        ("what depends does not pass", {"q.sql": TIED, "r.sql": MAY_TIE}, ["--allow-unknown", "."], 1, ["1 depend, 1 may tie"]),
+        ("what is not read does not pass", {"q.sql": "SELECT", "r.sql": MAY_TIE}, ["--allow-unknown", "."], 2, ["1 may tie, 1 not read"]),
+        ("a folder of that name", {"schema/q.sql": ONE}, ["./schema"], 0, ["1 deterministic"]),
+        ("a path behind schema", {"q.sql": ONE}, ["schema", "q.sql"], 3, []),
+        ("no such colour", {"q.sql": ONE}, ["--color", "red", "q.sql"], 3, []),
         ("no words", {}, [], 3, []),
         ("a wrong word", {"q.sql": ONE}, ["--wrong", "q.sql"], 3, []),
     ]
     for name, files, words, status, wanted in cases:
         with tempfile.TemporaryDirectory() as folder:
-            for path, text in {"schema.sql": SCHEMA, **files}.items():
-                os.makedirs(os.path.dirname(f"{folder}/{path}"), exist_ok=True)
-                with open(f"{folder}/{path}", "w", encoding="utf-8", newline="") as file:
-                    file.write(text)
+            put(folder, {"schema.sql": SCHEMA, **files})
             out, err, ended = run(*words, cwd=folder)
             check(f"{name}: status", ended == status, (ended, out, err))
             for text in wanted:
@@ -136,9 +164,267 @@ def the_formats():
     check("no such format", status == 3 and "xml" in err, (status, err))
 
 
+def fixed(name, files, words, status, after, wanted, given="", printed=None):
+    """A run with --fix: its status, the files after it, and what must stand in what it tells."""
+    with tempfile.TemporaryDirectory() as folder:
+        put(folder, {"schema.sql": SCHEMA, **files})
+        out, err, ended = run("--fix", *words, cwd=folder, given=given)
+        told = out if printed is None else err
+        check(f"{name}: status", ended == status, (ended, out, err))
+        for path, text in {"schema.sql": SCHEMA, **files, **after}.items():
+            check(f"{name}: {path}", held(f"{folder}/{path}") == text, held(f"{folder}/{path}"))
+        for text in wanted:
+            check(f"{name}: {text!r}", text in told, told)
+        check(f"{name}: printed", printed is None or out == printed, out)
+        names = sorted(os.path.relpath(os.path.join(at, f), folder) for at, _, found in os.walk(folder) for f in found)
+        check(f"{name}: no other file", names == sorted({"schema.sql", *files}), names)
+
+
+def the_fixes():
+    """What --fix writes, byte for byte, and where it writes nothing."""
+    two = f"-- first\r\n{ONE};\n\n{TIED} ; -- behind\n"
+    mended = f"-- first\r\n{ONE};\n\n{MENDED} ; -- behind\n"
+    fixed("one of two", {"q.sql": two}, ["q.sql"], 0, {"q.sql": mended}, ["q.sql:4:11: depends", "q.sql: fixed: 1 of 2 queries", "1 can be mended"])
+    fixed("three", {"q.sql": f"{TIED};{TIED};{TIED}"}, ["q.sql"], 0, {"q.sql": f"{MENDED};{MENDED};{MENDED}"}, ["q.sql: fixed: 3 of 3 queries"])
+    fixed("past ASCII", {"q.sql": f"-- é ＠ 🙂\n{TIED}"}, ["q.sql"], 0, {"q.sql": f"-- é ＠ 🙂\n{MENDED}"}, ["fixed: 1 of 1 queries"])
+    fixed("a window by its name", {"q.sql": "SELECT g, LAG(g) OVER w AS p, LEAD(g) OVER (w) AS q FROM t WINDOW w AS (ORDER BY v)"}, ["q.sql"], 0,
+          {"q.sql": "SELECT g, LAG(g) OVER w AS p, LEAD(g) OVER (w) AS q FROM t WINDOW w AS (ORDER BY v, id)"}, ["fixed: 1 of 1 queries"])
+    fixed("no ORDER BY", {"q.sql": "SELECT g, ROW_NUMBER() OVER () AS n FROM t"}, ["q.sql"], 0, {"q.sql": "SELECT g, ROW_NUMBER() OVER (ORDER BY id) AS n FROM t"}, [])
+    fixed("nothing open", {"q.sql": ONE}, ["q.sql"], 0, {}, ["1 queries: 1 deterministic"])
+    fixed("a refused one beside it", {"q.sql": f"SELECT 1.5 FROM t; {TIED}"}, ["q.sql"], 2, {}, ["[104]"])
+    fixed("an unknown column beside it", {"q.sql": f"SELECT x FROM t; {TIED}"}, ["q.sql"], 2, {"q.sql": f"SELECT x FROM t; {MENDED}"}, ["[402]", "fixed: 1 of 2 queries"])
+    fixed("a folder", {"a/q.sql": TIED, "a/b/r.sql": TIED, "a/c.txt": TIED}, ["a"], 0, {"a/q.sql": MENDED, "a/b/r.sql": MENDED}, ["a/b/r.sql: fixed", "a/q.sql: fixed"])
+    # Two rows may be equal in every three of the columns behind the first, and differ in the fourth.
+    fixed("no help", {"q.sql": "SELECT a, b, c, d, e, ROW_NUMBER() OVER (ORDER BY a) AS n FROM u", "schema.sql": "CREATE TABLE u (a BIGINT, b BIGINT, c BIGINT, d BIGINT, e BIGINT)"}, ["q.sql"], 1, {}, ["1 depend", "0 can be mended"])
+    large = TIED + ";" + " " * 65536
+    fixed("too large", {"q.sql": large}, ["q.sql"], 3, {}, ["[107]", "q.sql: not fixed: it has more than 65,536 bytes"])
+    fixed("just not too large", {"q.sql": TIED + " " * (65536 - len(TIED) - 4)}, ["q.sql"], 0, {"q.sql": MENDED + " " * (65536 - len(TIED) - 4)}, ["fixed: 1 of 1"])
+    fixed("the name is taken", {"q.sql": TIED, ".q.sql.wdreport-new": "mine"}, ["q.sql"], 3, {}, ["q.sql: not fixed: "])
+    fixed("standard input", {}, ["-"], 0, {}, ["-:4:11: depends", "-: fixed: 1 of 2 queries", "2 queries: 1 deterministic"], two, mended)
+    fixed("standard input as it is", {}, ["-"], 0, {}, ["1 deterministic"], f"{ONE} ;\n", f"{ONE} ;\n")
+    fixed("standard input beside a file", {"q.sql": TIED}, ["q.sql", "-"], 0, {"q.sql": MENDED}, ["q.sql: fixed", "-: fixed"], TIED, MENDED)
+    fixed("too large a standard input", {}, ["-"], 3, {}, ["-: not fixed: it has more than 65,536 bytes"], large, "")
+    for given, status, text in ((ONE, 0, "1 deterministic"), (TIED, 1, "-:1:11: depends"), ("", 2, "-: not read: there is no query in it")):
+        with tempfile.TemporaryDirectory() as folder:
+            put(folder, {"schema.sql": SCHEMA})
+            out, err, ended = run("-", cwd=folder, given=given)
+            check(f"standard input: {text}", (ended, err) == (status, "") and text in out, (ended, out, err))
+    the_places_of_fixes()
+    the_formats_of_fixes()
+
+
+def the_places_of_fixes():
+    """Permissions and links stay, a file in a folder that can't be written keeps its text, and what was fixed stays fixed."""
+    with tempfile.TemporaryDirectory() as folder:
+        put(folder, {"schema.sql": SCHEMA, "a/q.sql": TIED})
+        os.chmod(f"{folder}/a/q.sql", 0o640)
+        os.symlink("a/q.sql", f"{folder}/link.sql")
+        out, err, ended = run("--fix", "link.sql", cwd=folder)
+        check("a link: status", ended == 0 and "link.sql: fixed: 1 of 1 queries" in out, (ended, out, err))
+        check("a link: it stays", os.path.islink(f"{folder}/link.sql") and held(f"{folder}/a/q.sql") == MENDED)
+        check("permissions stay", stat.S_IMODE(os.stat(f"{folder}/a/q.sql").st_mode) == 0o640)
+        before = os.stat(f"{folder}/a/q.sql")
+        out, err, ended = run("--fix", ".", cwd=folder)
+        after = os.stat(f"{folder}/a/q.sql")
+        check("fixed once", ended == 0 and "fixed" not in out and (before.st_ino, before.st_mtime_ns) == (after.st_ino, after.st_mtime_ns), (ended, out, err))
+        check("the help", "help:" not in out and "2 deterministic" in out, out)
+    if os.getuid() == 0 and not shutil.which("setpriv"):
+        return
+    with tempfile.TemporaryDirectory() as folder:
+        put(folder, {"schema.sql": SCHEMA, "a/q.sql": TIED})
+        os.chmod(folder, 0o755)
+        os.chmod(f"{folder}/a", 0o555)
+        shutil.copy(PROGRAM, f"{folder}/wdreport")
+        words = [f"{folder}/wdreport", "--fix", "a"]
+        if os.getuid() == 0:
+            words = ["setpriv", "--reuid=65534", "--regid=65534", "--clear-groups", *words]
+        ran = subprocess.run(words, cwd=folder, stdin=subprocess.DEVNULL, capture_output=True, timeout=60)
+        check("a folder that can't be written", ran.returncode == 3 and b"a/q.sql: not fixed: it can't be written" in ran.stdout, ran)
+        check("its file stays", held(f"{folder}/a/q.sql") == TIED and os.listdir(f"{folder}/a") == ["q.sql"])
+        os.chmod(f"{folder}/a", 0o755)
+
+
+def the_formats_of_fixes():
+    """What a program and a workflow are told of a file that is fixed."""
+    with tempfile.TemporaryDirectory() as folder:
+        put(folder, {"schema.sql": SCHEMA, "q.sql": TIED, "r.sql": TIED})
+        out, err, status = run("--fix", "--format", "json", "q.sql", cwd=folder)
+        found = [json.loads(line) for line in out.splitlines()]
+        check("json of a fix", (status, err) == (0, "") and [f["finding"] for f in found] == ["depends", "fixed"], (status, out, err))
+        check("json: the text", found[1]["text"] == "q.sql: fixed: 1 of 1 queries" and found[0]["mended"] == MENDED, found)
+        out, err, status = run("--fix", "--format", "github", "r.sql", cwd=folder)
+        check("github of a fix", (status, err) == (0, "") and "\n::warning file=r.sql,line=1,col=1::r.sql: fixed: 1 of 1 queries\n" in out, (status, out, err))
+
+
+def on_terminals(words, cwd):
+    """What the program writes to a terminal that is its standard output, to one that is its standard error, and its status."""
+    (out, out_end), (err, err_end) = pty.openpty(), pty.openpty()
+    running = subprocess.Popen([PROGRAM, *words], cwd=cwd, stdin=subprocess.DEVNULL, stdout=out_end, stderr=err_end)
+    os.close(out_end)
+    os.close(err_end)
+    said = {out: b"", err: b""}
+    left = [out, err]
+    while left:
+        for stream in select.select(left, [], [], 60)[0]:
+            try:
+                more = os.read(stream, 65536)
+            except OSError:
+                more = b""
+            said[stream] += more
+            if not more:
+                left.remove(stream)
+    status = running.wait(60)
+    os.close(out)
+    os.close(err)
+    return said[out].decode().replace("\r\n", "\n"), said[err].decode(), status
+
+
+def the_screen():
+    """Colours are the plain text but for their codes, and progress stands on a terminal alone."""
+    codes = re.compile("\x1b\\[[0-9]*m")
+    with tempfile.TemporaryDirectory() as folder:
+        put(folder, {"schema.sql": SCHEMA, "q.sql": f"{TIED};\nSELECT 1.5 FROM t", "r.sql": TIED})
+        plain, _, _ = run(".", cwd=folder)
+        check("no colours", "\x1b" not in plain, plain)
+        colours, _, _ = run("--color", "always", ".", cwd=folder)
+        check("colours", codes.sub("", colours) == plain, colours)
+        for code, words in (("\x1b[1m", "./r.sql:1:11: depends"), ("\x1b[31m", "      |"), ("\x1b[32m", "      help: ORDER BY v, id")):
+            check(f"colour of {words}", code + words in colours, colours)
+        seen, err, status = on_terminals(["."], folder)
+        check("colours on a terminal", (seen, err, status) == (colours, "", 2), (seen, err, status))
+        seen, _, _ = on_terminals(["--color", "never", "."], folder)
+        check("no colours on a terminal", seen == plain, seen)
+        for form in ("json", "github"):
+            lines, _, _ = run("--color", "always", "--format", form, ".", cwd=folder)
+            check(f"no colours in {form}", "\x1b" not in lines, lines)
+        put(folder, {f"many/{n:04}.sql": TIED if n % 2 else ONE for n in range(1000)})
+        began = time.time()
+        plain, err, status = run("many", cwd=folder)
+        took = time.time() - began
+        check("1,000 files", (status, err) == (1, "") and "1000 queries: 500 deterministic, 500 depend" in plain, (status, err, plain[-200:]))
+        check("1,000 files in time", took < 10, took)
+        again = ["many"] * (1 + int(3 / took))
+        seen, err, status = on_terminals(["--color", "never", *again], folder)
+        check("a long run on a terminal", status == 1 and seen.count("help: ORDER BY v, id ") == 500 * len(again), (status, seen[-200:]))
+        check("progress", re.search(rf"\r\d+ of {len(again)}000 files\x1b\[K", err), err[:200])
+        check("progress is taken off", err.endswith("\r\x1b[K"), err[-60:])
+
+
+# Tables of every kind, and types of every kind.
+DATABASE = r"""
+CREATE TYPE mood AS ENUM ('sad', 'ok');
+CREATE DOMAIN cents AS BIGINT NOT NULL;
+CREATE DOMAIN deep AS cents;
+CREATE TABLE customers (customer_id SERIAL PRIMARY KEY, email VARCHAR(80) NOT NULL UNIQUE, "Full Name" TEXT, "quo""te" INT, is_ok BOOLEAN,
+    owed deep, mood mood, tags TEXT[], amount NUMERIC(12, 2), rate REAL, at TIMESTAMPTZ, small SMALLINT, "range" INT, "rows" INT, "order" INT);
+CREATE TABLE orders (order_id BIGINT GENERATED ALWAYS AS IDENTITY PRIMARY KEY, customer_id INT NOT NULL REFERENCES customers, day DATE,
+    UNIQUE (customer_id, day) INCLUDE (order_id), UNIQUE NULLS NOT DISTINCT (day), CHECK (order_id > 0));
+CREATE UNIQUE INDEX some_rows ON orders (customer_id) WHERE day IS NULL;
+CREATE UNIQUE INDEX expression ON orders ((customer_id + 1));
+CREATE TABLE late (id INT PRIMARY KEY DEFERRABLE INITIALLY DEFERRED);
+CREATE TABLE nothing ();
+CREATE TABLE parted (id INT, at DATE, PRIMARY KEY (id, at)) PARTITION BY RANGE (at);
+CREATE TABLE parted_2020 PARTITION OF parted FOR VALUES FROM ('2020-01-01') TO ('2021-01-01');
+CREATE TABLE base (id INT PRIMARY KEY);
+CREATE TABLE heir (more INT UNIQUE) INHERITS (base);
+CREATE VIEW shown AS SELECT order_id FROM orders;
+CREATE MATERIALIZED VIEW stored AS SELECT order_id FROM orders;
+CREATE UNIQUE INDEX stored_key ON stored (order_id);
+CREATE SCHEMA other;
+CREATE TABLE other.hidden (id INT PRIMARY KEY);
+"""
+# What must be printed of them.
+DATABASE_SCHEMA = """\
+-- without its keys and NOT NULL, since other tables inherit from it
+CREATE TABLE base (
+    id INTEGER
+);
+CREATE TABLE customers (
+    customer_id INTEGER NOT NULL,
+    email TEXT NOT NULL,
+    "Full Name" TEXT,
+    "quo""te" INTEGER,
+    is_ok BOOLEAN,
+    owed BIGINT,
+    mood TEXT, -- mood
+    tags TEXT, -- text[]
+    amount BIGINT, -- numeric(12,2)
+    rate BIGINT, -- real
+    at TEXT, -- timestamp with time zone
+    small SMALLINT,
+    "range" INTEGER,
+    "rows" INTEGER,
+    "order" INTEGER,
+    PRIMARY KEY (customer_id),
+    UNIQUE (email)
+);
+CREATE TABLE heir (
+    id INTEGER NOT NULL,
+    more INTEGER,
+    UNIQUE (more)
+);
+CREATE TABLE late (
+    id INTEGER NOT NULL,
+    PRIMARY KEY (id) -- holds where a transaction has ended
+);
+CREATE TABLE orders (
+    order_id BIGINT NOT NULL,
+    customer_id INTEGER NOT NULL,
+    day TEXT, -- date
+    PRIMARY KEY (order_id),
+    UNIQUE (customer_id, day),
+    UNIQUE NULLS NOT DISTINCT (day)
+);
+CREATE TABLE parted (
+    id INTEGER NOT NULL,
+    at TEXT NOT NULL, -- date
+    PRIMARY KEY (id, at)
+);
+CREATE TABLE stored (
+    order_id BIGINT,
+    UNIQUE (order_id)
+);
+-- left out: without columns, nothing
+-- left out: the view shown
+"""
+
+
+def the_schema():
+    """The SQL of `wdreport schema`: where PostgreSQL 15 or a later one is installed, what it prints of a database, which must be read."""
+    out, err, status = run("schema", cwd=TOP)
+    check("schema", (status, err) == (0, "") and out.startswith("-- ") and out.rstrip().endswith(";"), (status, err))
+    with tempfile.TemporaryDirectory() as folder:
+        put(folder, {"schema.sql": DATABASE_SCHEMA, "q.sql": 'SELECT "range", ROW_NUMBER() OVER (ORDER BY "Full Name", email) AS n FROM customers'})
+        told, err, status = run("q.sql", cwd=folder)
+        check("a schema of a database is read", (status, err) == (0, ""), (status, told, err))
+    servers = sorted(glob.glob("/usr/lib/postgresql/*/bin"), key=lambda path: int(path.split("/")[4]) if path.split("/")[4].isdigit() else 0)
+    if not servers or int(servers[-1].split("/")[4]) < 15 or not shutil.which("psql"):
+        return
+    with tempfile.TemporaryDirectory() as folder:
+        put(folder, {"catalog.sql": out, "database.sql": DATABASE})
+        os.chmod(folder, 0o777)
+        as_user = ["setpriv", "--reuid=65534", "--regid=65534", "--clear-groups"] if os.getuid() == 0 else []
+        server = [*as_user, f"{servers[-1]}/pg_ctl", "-D", f"{folder}/data", "-w", "-l", f"{folder}/log"]
+        made = subprocess.run([*as_user, f"{servers[-1]}/initdb", "-D", f"{folder}/data", "-A", "trust", "-U", "postgres"], capture_output=True)
+        if made.returncode:
+            return check("a server", False, made)
+        subprocess.run([*server, "-o", f"-k {folder} -c listen_addresses=", "start"], capture_output=True)
+        try:
+            psql = ["psql", "-X", "-h", folder, "-U", "postgres", "-qAt", "-v", "ON_ERROR_STOP=1", "-f"]
+            made = subprocess.run([*psql, f"{folder}/database.sql"], capture_output=True)
+            check("the database", made.returncode == 0, made)
+            read = subprocess.run([*psql, f"{folder}/catalog.sql"], capture_output=True)
+            check("the schema of the database", (read.returncode, read.stdout.decode()) == (0, DATABASE_SCHEMA), read)
+        finally:
+            subprocess.run([*server, "-m", "immediate", "stop"], capture_output=True)
+
+
 PROGRAM = os.path.abspath(sys.argv[1])
 the_folders()
 small_cases()
 the_formats()
+the_fixes()
+the_screen()
+the_schema()
 print(f"{sum(results)} passed, {len(results) - sum(results)} failed")
 sys.exit(results.count(False) > 0)

@@ -1,8 +1,11 @@
 //! What is found, as a person, a program or a GitHub workflow reads it.
 
 use std::alloc::Global;
+use wd_finding::RefusedText;
 use wd_formats::{Level, annotation, json_line};
-use wd_lines::{Kind, add_remark};
+use wd_judged::{Block, Judged};
+use wd_lex::Span;
+use wd_lines::{Kind, add_excerpt, add_place, add_remark};
 use wd_source::{Position, position_at};
 use wd_value::OutOfMemory;
 
@@ -30,13 +33,16 @@ impl Format {
 
 /// A block, and what it is about.
 #[derive(Clone, Copy)]
-pub(crate) struct Told<'p, 'b, 'm> {
-    pub(crate) kind: Kind,
-    pub(crate) path: &'p str,
-    pub(crate) position: Position,
-    pub(crate) block: &'b str,
+struct Told<'p, 'b, 'm> {
+    /// What a program calls it.
+    word: &'static str,
+    /// How grave it is to a workflow.
+    level: Level,
+    path: &'p str,
+    position: Position,
+    block: &'b str,
     /// The text of the statement with which it has one answer, where one is known.
-    pub(crate) mended: Option<&'m [u8]>,
+    mended: Option<&'m [u8]>,
 }
 
 /// What is told of some files, in a format.
@@ -56,9 +62,67 @@ impl Report {
     }
 
     /// Adds what is told.
-    pub(crate) fn add(&mut self, alloc: Global, told: Told<'_, '_, '_>) -> Result<(), OutOfMemory> {
+    fn add(&mut self, alloc: Global, told: Told<'_, '_, '_>) -> Result<(), OutOfMemory> {
         let more = told_in(alloc, self.format, told)?;
         Ok(self.bytes.extend_from_slice(&more)?)
+    }
+
+    /// Adds a block of what is judged of a statement of a query's file, over the schema of another file.
+    pub(crate) fn add_block(
+        &mut self,
+        alloc: Global,
+        schema: &str,
+        query: &str,
+        judged: &Judged,
+        block: &Block,
+    ) -> Result<(), OutOfMemory> {
+        let path = match block.about {
+            RefusedText::Schema => schema,
+            RefusedText::Query => query,
+        };
+        let mended = match &judged.help {
+            Some(help) => Some(help.text.as_slice()),
+            None => None,
+        };
+        self.add(
+            alloc,
+            Told {
+                word: kind_word(judged.kind),
+                level: kind_level(judged.kind),
+                path,
+                position: block.position,
+                block: block.text.as_str(),
+                mended,
+            },
+        )
+    }
+
+    /// Adds that a comment of a query's file, which begins as an excuse, is none.
+    pub(crate) fn add_comment(
+        &mut self,
+        alloc: Global,
+        path: &str,
+        text: &[u8],
+        comment: Span,
+    ) -> Result<(), OutOfMemory> {
+        let mut block = String::new(alloc);
+        add_place(&mut block, path, text, comment)?;
+        block.push_str("this comment excuses nothing\n")?;
+        add_excerpt(&mut block, text, comment)?;
+        block.push_str(
+            "      help: -- wdreport: may depend, REASON      (on a line of its own above the query)\n\n",
+        )?;
+        self.add(
+            alloc,
+            Told {
+                word: "comment",
+                level: Level::Warning,
+                path,
+                position: position_at(text, (comment.start as usize).min(text.len())),
+                block: block.as_str(),
+                mended: None,
+            },
+        )
     }
 
     /// Adds a remark on a path of which nothing is read.
@@ -68,12 +132,25 @@ impl Report {
         path: &str,
         remark: &str,
     ) -> Result<(), OutOfMemory> {
+        self.add_line(alloc, kind_word(Kind::NotRead), Level::Error, path, remark)
+    }
+
+    /// Adds a line on a path, which a program knows by this word.
+    pub(crate) fn add_line(
+        &mut self,
+        alloc: Global,
+        word: &'static str,
+        level: Level,
+        path: &str,
+        line: &str,
+    ) -> Result<(), OutOfMemory> {
         let mut block = String::new(alloc);
-        add_remark(&mut block, path, remark)?;
+        add_remark(&mut block, path, line)?;
         self.add(
             alloc,
             Told {
-                kind: Kind::NotRead,
+                word,
+                level,
                 path,
                 position: Position { line: 1, column: 1 },
                 block: block.as_str(),
@@ -90,7 +167,7 @@ fn told_in(alloc: Global, format: Format, told: Told<'_, '_, '_>) -> Result<Vec<
         Format::Json => {
             let line = json_line(
                 alloc,
-                finding_word(told.kind),
+                told.word,
                 told.path,
                 told.position,
                 told.block.trim_end(),
@@ -100,7 +177,7 @@ fn told_in(alloc: Global, format: Format, told: Told<'_, '_, '_>) -> Result<Vec<
         }
         Format::Github => annotation(
             alloc,
-            level_of(told.kind),
+            told.level,
             told.path.as_bytes(),
             told.position,
             told.block.trim_end().as_bytes(),
@@ -116,8 +193,8 @@ fn text_of(bytes: Option<&[u8]>) -> Option<&str> {
     }
 }
 
-/// The word of a finding in JSON.
-fn finding_word(kind: Kind) -> &'static str {
+/// What a program calls a finding.
+fn kind_word(kind: Kind) -> &'static str {
     match kind {
         Kind::Deterministic => "deterministic",
         Kind::Depends => "depends",
@@ -127,14 +204,9 @@ fn finding_word(kind: Kind) -> &'static str {
 }
 
 /// How grave a finding is to a workflow.
-fn level_of(kind: Kind) -> Level {
+fn kind_level(kind: Kind) -> Level {
     match kind {
         Kind::Depends | Kind::NotRead => Level::Error,
         Kind::MayTie | Kind::Deterministic => Level::Warning,
     }
-}
-
-/// The line and the column of a byte of a text, or of the text's end.
-pub(crate) fn position_in(text: &[u8], byte: u64) -> Position {
-    position_at(text, (byte as usize).min(text.len()))
 }

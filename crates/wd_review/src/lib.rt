@@ -1,11 +1,17 @@
 //! The program `wdreport` over its words, files and streams.
 //!
-//! `words` reads the command line, `judge` finds what is to be told of one file, `format` writes it, and `review` goes through all files.
+//! `words` reads the command line, and `schema` has the text of its command of that name. `review` goes through all files, `file` has
+//! each statement of one judged and mends it, `known` knows of a baseline what is found, `format` writes it, and `screen` puts it out,
+//! with colours and progress where a terminal shows it.
 #![tactic(auto)]
 
+mod file;
 mod format;
-mod judge;
+mod known;
 mod review;
+mod schema;
+mod screen;
 mod words;
 
 pub use review::review_words;
+pub use screen::Terminals;

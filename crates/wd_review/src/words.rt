@@ -1,30 +1,60 @@
 //! What the words of the command line ask for.
 
 use crate::format::Format;
-use clap::{Arg, ArgMatches, Command, Error};
+use crate::screen::Colour;
+use clap::{Arg, ArgAction, ArgMatches, Command, Error};
 use std::alloc::{AllocError, Global};
 
 /// What is asked for.
+#[derive(Drop)]
+pub(crate) enum Asked<'a> {
+    /// The SQL that prints a database's schema.
+    Schema,
+    /// A report on queries.
+    Report(Request<'a>),
+}
+
+/// A report that is asked for.
 #[derive(Drop)]
 pub(crate) struct Request<'a> {
     /// The path of the schema, where one is given.
     pub(crate) schema: Option<&'a str>,
     /// Who reads what is found.
     pub(crate) format: Format,
+    /// Whether statements that a key mends are written so.
+    pub(crate) is_fix: bool,
+    /// Whether queries that may tie pass.
+    pub(crate) allows_unknown: bool,
+    /// The path of the baseline, where one is given.
+    pub(crate) baseline: Option<&'a str>,
+    /// Whether it is written and not read.
+    pub(crate) writes_baseline: bool,
+    pub(crate) colour: Colour,
     /// The paths of queries and of folders.
     pub(crate) paths: Vec<&'a str>,
 }
 
 /// Reads the words after the program's own name. The error is help and version too, which have their text.
-pub(crate) fn read_words<'a>(alloc: Global, words: &'a [&'a str]) -> Result<Request<'a>, Error> {
+pub(crate) fn read_words<'a>(alloc: Global, words: &'a [&'a str]) -> Result<Asked<'a>, Error> {
     let mut command = command_line(alloc)?;
     let matches = command.try_get_matches_from_mut(words)?;
-    let schema = matches.get_str("schema");
-    let format = Format::named(matches.get_str("format"));
+    if matches.subcommand_matches("schema").is_some() {
+        return Ok(Asked::Schema);
+    }
+    Ok(Asked::Report(request_in(alloc, &matches)?))
+}
+
+/// The report that is asked for.
+fn request_in<'a>(alloc: Global, matches: &ArgMatches<'a>) -> Result<Request<'a>, AllocError> {
     let paths = Vec::from_slice(alloc, matches.get_strs("paths").unwrap_or(&[]))?;
     Ok(Request {
-        schema,
-        format,
+        schema: matches.get_str("schema"),
+        format: Format::named(matches.get_str("format")),
+        is_fix: matches.get_flag("fix"),
+        allows_unknown: matches.get_flag("allow-unknown"),
+        baseline: matches.get_str("baseline"),
+        writes_baseline: matches.get_flag("baseline-write"),
+        colour: Colour::named(matches.get_str("color")),
         paths,
     })
 }
@@ -34,30 +64,33 @@ const STATUSES: &str =
     "Each statement of each file is judged. A file's schema is FILE, or schema.sql beside it or in the nearest folder above it.
 
 Exit status:
-  0  each query is deterministic
-  1  some depend on the order of rows that tie, or may
-  2  some are not read
-  3  a path, a schema or a word of the command line is wrong";
+  0  each query is deterministic, excused or known
+  1  some others depend on the order of rows that tie, or may
+  2  some others are not read
+  3  a path, a schema, a baseline or a word of the command line is wrong, or a file can't be written
+With --fix it is that of the files as they are written.";
 
 // The words of the formats.
 const FORMATS: [&str; 3] = ["text", "json", "github"];
 
+// When there are colours.
+const COLOURS: [&str; 3] = ["auto", "always", "never"];
+
 // The command line.
 fn command_line<'a>(alloc: Global) -> Result<Command<'a>, AllocError> {
-    let schema = Arg::new(alloc, "schema")
-        .long("schema")
-        .value_name("FILE")
-        .help("A file of CREATE TABLE statements, for all queries");
-    let format = Arg::new(alloc, "format")
-        .long("format")
-        .value_name("FORMAT")
-        .help("text, for a person; json, an object a line; github, annotations of a workflow")
-        .value_parser(FORMATS.as_slice());
-    let paths = Arg::new(alloc, "paths")
-        .num_args(1..)
-        .required(true)
-        .value_name("PATH")
-        .help("A file of queries, or a folder whose files *.sql are judged");
+    with_flags(alloc, program(alloc)?)?
+        .arg(schema_word(alloc))?
+        .arg(format_word(alloc))?
+        .arg(baseline_word(alloc))?
+        .arg(colour_word(alloc))?
+        .arg(paths_words(alloc))
+}
+
+// The program, with the command that prints SQL.
+fn program<'a>(alloc: Global) -> Result<Command<'a>, AllocError> {
+    let schema = Command::new(alloc, "schema").about(
+        "Prints the SQL that makes a schema file from a PostgreSQL database: psql -qAt -f <(wdreport schema) DATABASE > schema.sql",
+    );
     Command::new(alloc, "wdreport")
         .about(
             "Tells which SQL queries have more than one answer, where, and with which sort key they have one.",
@@ -65,8 +98,65 @@ fn command_line<'a>(alloc: Global) -> Result<Command<'a>, AllocError> {
         .after_help(STATUSES)
         .version("1.0.0")
         .no_binary_name(true)
+        .args_conflicts_with_subcommands(true)
+        .disable_help_subcommand(true)
         .bin_name("wdreport")?
-        .arg(schema)?
-        .arg(format)?
-        .arg(paths)
+        .subcommand(schema)
+}
+
+// The program with its flags.
+fn with_flags<'a>(alloc: Global, command: Command<'a>) -> Result<Command<'a>, AllocError> {
+    let fix = Arg::new(alloc, "fix")
+        .long("fix")
+        .action(ArgAction::SetTrue)
+        .help(
+            "Writes the sort keys into the files; with the path -, prints what standard input becomes",
+        );
+    let allow = Arg::new(alloc, "allow-unknown")
+        .long("allow-unknown")
+        .action(ArgAction::SetTrue)
+        .help("Queries that may tie pass: the status is 0 where no other is open");
+    let write = Arg::new(alloc, "baseline-write")
+        .long("baseline-write")
+        .action(ArgAction::SetTrue)
+        .help("Writes the baseline: all that is found now is known");
+    command.arg(fix)?.arg(allow)?.arg(write)
+}
+
+fn schema_word<'a>(alloc: Global) -> Arg<'a> {
+    Arg::new(alloc, "schema")
+        .long("schema")
+        .value_name("FILE")
+        .help("A file of CREATE TABLE statements, for all queries")
+}
+
+fn format_word<'a>(alloc: Global) -> Arg<'a> {
+    Arg::new(alloc, "format")
+        .long("format")
+        .value_name("FORMAT")
+        .help("text, for a person; json, an object a line; github, annotations of a workflow")
+        .value_parser(FORMATS.as_slice())
+}
+
+fn baseline_word<'a>(alloc: Global) -> Arg<'a> {
+    Arg::new(alloc, "baseline")
+        .long("baseline")
+        .value_name("FILE")
+        .help("A file of findings that are known: only others count")
+}
+
+fn colour_word<'a>(alloc: Global) -> Arg<'a> {
+    Arg::new(alloc, "color")
+        .long("color")
+        .value_name("WHEN")
+        .help("Colours in text: auto, where a terminal shows it; always; never")
+        .value_parser(COLOURS.as_slice())
+}
+
+fn paths_words<'a>(alloc: Global) -> Arg<'a> {
+    Arg::new(alloc, "paths")
+        .num_args(1..)
+        .required(true)
+        .value_name("PATH")
+        .help("A file of queries, or a folder whose files *.sql are judged; - is standard input")
 }

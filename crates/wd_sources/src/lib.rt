@@ -2,11 +2,9 @@
 #![tactic(auto)]
 
 mod machine;
-mod memory;
 mod paths;
 mod sources;
 
 pub use machine::MachineSources;
-pub use memory::MemorySources;
 pub use paths::{files_at, schemas_for};
-pub use sources::{Entry, MOST_BYTES, SourceError, Sources};
+pub use sources::{Entry, MOST_BYTES, STANDARD_INPUT, SourceError, Sources};

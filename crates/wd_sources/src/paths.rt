@@ -125,3 +125,16 @@ pub fn schemas_for(alloc: Global, query: &str) -> Result<Vec<String>, AllocError
     }
     Ok(found)
 }
+
+/// The path of the new file that is to take the place of a file: `.NAME.wdreport-new` beside it.
+pub(crate) fn beside(alloc: Global, path: &str) -> Result<String, AllocError> {
+    let (folder, name) = match path.rsplit_once('/') {
+        Some(("", name)) => ("/", name),
+        Some((folder, name)) => (folder, name),
+        None => ("", path),
+    };
+    let mut hidden = String::from_str(alloc, ".")?;
+    hidden.push_str(name)?;
+    hidden.push_str(".wdreport-new")?;
+    joined(alloc, folder, hidden.as_str())
+}

@@ -2,8 +2,9 @@
 #![tactic(auto)]
 
 use std::env;
+use std::io::IsTerminal;
 use std::process::ExitCode;
-use wd_review::review_words;
+use wd_review::{Terminals, review_words};
 use wd_sources::MachineSources;
 
 fn main(rt: HostRuntime) -> ExitCode {
@@ -25,10 +26,16 @@ fn main(rt: HostRuntime) -> ExitCode {
             return ExitCode::from(3);
         }
     }
+    let terminals = Terminals {
+        out: rt.stdout().is_terminal(),
+        err: rt.stderr().is_terminal(),
+    };
     let mut sources = MachineSources::new(&rt);
     ExitCode::from(review_words(
         alloc,
         &texts,
+        terminals,
+        &rt,
         &mut sources,
         &mut rt.stdout(),
         &mut rt.stderr(),

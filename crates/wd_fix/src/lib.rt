@@ -1,0 +1,6 @@
+//! A text with mended statements in the place of those that it had.
+#![tactic(auto)]
+
+mod fix;
+
+pub use fix::{Fix, fixed_text};

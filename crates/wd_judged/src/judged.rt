@@ -1,0 +1,154 @@
+//! What is judged of a statement of a file.
+
+ghost use Rattle.std.specs.Prelude.{◌≡◌, ◌≤◌, length, option_map, IfOk, IfSome};
+ghost use Rattle.wd_decide.specs.Verdicts.{HasCause};
+ghost use Rattle.wd_finding.specs.Findings.{IsFinding};
+ghost use Rattle.wd_help.specs.Helps.{IsHelp};
+ghost use Rattle.wd_judged.specs.Judgements.{IsJudged, IsJudgedAs, fix_of};
+
+use crate::block::{Block, open_blocks, refusal_block};
+use std::alloc::Global;
+use wd_block::{Statement, kind_of};
+use wd_decide::{DecideError, Verdict};
+use wd_finding::{Finding, judge};
+use wd_fix::Fix;
+use wd_help::{Help, help_for};
+use wd_lex::Span;
+use wd_lines::Kind;
+use wd_value::OutOfMemory;
+
+/// A text and its path.
+#[derive(Clone, Copy)]
+pub struct File<'a> {
+    pub path: &'a str,
+    pub text: &'a [u8],
+}
+
+/// What is found of a statement, or why it or its schema is refused.
+#[derive(Drop)]
+pub enum Judgement {
+    Found(Finding),
+    Refused(DecideError),
+}
+
+/// What is judged of a statement of a file.
+#[derive(Drop)]
+pub struct Judged {
+    /// Where the statement stands in its file.
+    pub span: Span,
+    /// What it counts as.
+    pub kind: Kind,
+    pub judgement: Judgement,
+    /// The sort keys with which it has one answer, where some are known; the text with them is in it.
+    pub help: Option<Help>,
+    /// What is told of it: a block for each place that is open, or one for the refusal.
+    pub blocks: Vec<Block>,
+}
+
+impl Judged {
+    /// The statement as it is mended, where a help for it is known.
+    pub fn fix(self) -> Option<Fix>
+        ensures { result ≡ option_map (fix_of self.span) self.help }
+    {
+        let Judged { span, help, .. } = self;
+        match help {
+            Some(help) => Some(Fix {
+                span,
+                text: help.text,
+            }),
+            None => None,
+        }
+    }
+}
+
+/// What is judged of the statement of a file that stands there, over the schema of another file.
+pub fn judge_statement(
+    alloc: Global,
+    schema: File<'_>,
+    file: File<'_>,
+    span: Span,
+) -> Result<Judged, OutOfMemory>
+    requires ordered { span.start ≤ span.end }
+    requires within { span.end ≤ length file.text.now }
+    ensures { IfOk result (IsJudged schema.entry.text.now file.entry.text.now span) }
+{
+    let query = &file.text[span.start as usize..span.end as usize];
+    match judge(alloc, schema.text, query) {
+        Ok(finding) => of_finding(alloc, schema.text, query, file, span, finding),
+        Err(DecideError::OutOfMemory) => Err(OutOfMemory),
+        Err(error) => of_refusal(alloc, schema, query, file, span, error),
+    }
+}
+
+/// The statement of a file that stands there.
+fn statement_at<'a>(file: File<'a>, span: Span) -> Statement<'a> {
+    Statement {
+        path: file.path,
+        text: file.text,
+        start: span.start,
+        end: span.end,
+    }
+}
+
+/// What is judged of a query that stands there in a file, and of which this is found.
+fn of_finding(
+    alloc: Global,
+    schema: &[u8],
+    query: &[u8],
+    file: File<'_>,
+    span: Span,
+    finding: Finding,
+) -> Result<Judged, OutOfMemory>
+    requires { IsFinding schema.now query.now finding }
+    ensures { IfOk result (IsJudgedAs schema.now query.now span) }
+{
+    let help = help_where_open(alloc, schema, query, &finding.verdict)?;
+    let statement = statement_at(file, span);
+    let blocks = open_blocks(alloc, statement, &finding, help.as_ref())?;
+    Ok(Judged {
+        span,
+        kind: kind_of(&finding),
+        judgement: Judgement::Found(finding),
+        help,
+        blocks,
+    })
+}
+
+/// The help for a query of which the verdict is that, where it has not one answer.
+fn help_where_open(
+    alloc: Global,
+    schema: &[u8],
+    query: &[u8],
+    verdict: &Verdict,
+) -> Result<Option<Help>, OutOfMemory>
+    ensures { IfOk result (λ help. IfSome help (IsHelp schema.now query.now)) }
+{
+    match verdict {
+        Verdict::Deterministic(_) => Ok(None),
+        Verdict::Depends(_) | Verdict::Unknown(_) => help_for(alloc, schema, query),
+    }
+}
+
+/// What is judged of a query that stands there in a file, and that is refused or whose schema is.
+fn of_refusal(
+    alloc: Global,
+    schema: File<'_>,
+    query: &[u8],
+    file: File<'_>,
+    span: Span,
+    error: DecideError,
+) -> Result<Judged, OutOfMemory>
+    requires { HasCause schema.text.now query.now error }
+    ensures { IfOk result (IsJudgedAs schema.entry.text.now query.now span) }
+{
+    let mut blocks = Vec::new(alloc);
+    let block = refusal_block(alloc, schema, query, statement_at(file, span), &error)?;
+    blocks.push(block)?;
+    Ok(Judged {
+        span,
+        kind: Kind::NotRead,
+        judgement: Judgement::Refused(error),
+        help: None,
+        blocks,
+    })
+}
