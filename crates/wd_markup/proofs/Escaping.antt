@@ -76,11 +76,11 @@ digits = refl
 named_plain : (c : ℕ) → All IsPlainByte (named c)
 named_plain c =
     let one : (d : ℕ) → All IsPlainByte (digit (d % 16)) = λ d. below digit 16 digits (d % 16) (omega arith) in
-    All-append IsPlainByte (codes "&#10214;U+") _ (all_plain (codes "&#10214;U+") refl)
-    (All-append IsPlainByte (digit (c / 4096 % 16)) _ (one (c / 4096))
-    (All-append IsPlainByte (digit (c / 256 % 16)) _ (one (c / 256))
-    (All-append IsPlainByte (digit (c / 16 % 16)) _ (one (c / 16))
-    (All-append IsPlainByte (digit (c % 16)) _ (one c) (all_plain (codes "&#10215;") refl)))))
+    let last : All IsPlainByte (digit (c % 16) ++ codes "&#10215;") = All-append IsPlainByte (digit (c % 16)) (codes "&#10215;") (one c) (all_plain (codes "&#10215;") refl) in
+    let two : All IsPlainByte (digit (c / 16 % 16) ++ (digit (c % 16) ++ codes "&#10215;")) = All-append IsPlainByte (digit (c / 16 % 16)) (digit (c % 16) ++ codes "&#10215;") (one (c / 16)) last in
+    let three : All IsPlainByte (digit (c / 256 % 16) ++ (digit (c / 16 % 16) ++ (digit (c % 16) ++ codes "&#10215;"))) = All-append IsPlainByte (digit (c / 256 % 16)) (digit (c / 16 % 16) ++ (digit (c % 16) ++ codes "&#10215;")) (one (c / 256)) two in
+    let four : All IsPlainByte (digit (c / 4096 % 16) ++ (digit (c / 256 % 16) ++ (digit (c / 16 % 16) ++ (digit (c % 16) ++ codes "&#10215;")))) = All-append IsPlainByte (digit (c / 4096 % 16)) (digit (c / 256 % 16) ++ (digit (c / 16 % 16) ++ (digit (c % 16) ++ codes "&#10215;"))) (one (c / 4096)) three in
+    All-append IsPlainByte (codes "&#10214;U+") (digit (c / 4096 % 16) ++ (digit (c / 256 % 16) ++ (digit (c / 16 % 16) ++ (digit (c % 16) ++ codes "&#10215;")))) (all_plain (codes "&#10214;U+") refl) four
 
 one_high : (b : ℕ) (bytes : List ℕ) → 128 ≤ b → All IsPlainByte bytes → All IsPlainByte (b ∷ bytes)
 one_high b bytes h rest = All-cons IsPlainByte b bytes (high b h) rest

@@ -18,15 +18,23 @@ pub data Piece : Type 0 where
   Share : Class → ℕ → Piece
   Text : List ℕ → Piece
 
+-- the attribute by which links lead to an element, and the end of its tag
+abbrev pub id_words : ℕ → List ℕ
+id_words n = codes " id='q" ++ decimal n ++ codes "'>"
+
+-- the attribute that says how long a span of a bar is, and the end of its tag
+abbrev pub share_words : ℕ → List ℕ
+share_words n = codes " style='flex-grow:" ++ decimal n ++ codes "'>"
+
 -- A piece as it stands in a page. The words of the file's head and its style are those of two constants.
 abbrev pub shown_piece : Piece → List ℕ
 shown_piece Begin = BEGIN.now
 shown_piece End = END.now
 shown_piece (Opening tag class) = codes "<" ++ tag_name tag ++ class_words class ++ codes ">"
 shown_piece (Closing tag) = codes "</" ++ tag_name tag ++ codes ">"
-shown_piece (Anchor tag class n) = codes "<" ++ tag_name tag ++ class_words class ++ codes " id='q" ++ decimal n ++ codes "'>"
+shown_piece (Anchor tag class n) = codes "<" ++ tag_name tag ++ class_words class ++ id_words n
 shown_piece (LinkTo n) = codes "<a href='#q" ++ decimal n ++ codes "'>"
-shown_piece (Share class n) = codes "<span" ++ class_words class ++ codes " style='flex-grow:" ++ decimal n ++ codes "'>"
+shown_piece (Share class n) = codes "<span" ++ class_words class ++ share_words n
 shown_piece (Text text) = escaped text
 
 abbrev pub shown : List Piece → List ℕ
@@ -34,4 +42,4 @@ shown pieces = flat_map shown_piece pieces
 
 -- Bytes of a page: all of them are tags of fixed words, and escaped texts. So what comes from an input stands in it only escaped.
 abbrev pub IsPage : List ℕ → Type 0
-IsPage bytes = ∥ (pieces : List Piece) × (bytes ≡ shown pieces) ∥₁
+IsPage bytes = ∥ ((pieces : List Piece) × (bytes ≡ shown pieces)) ∥₁

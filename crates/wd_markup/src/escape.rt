@@ -1,6 +1,6 @@
 //! Texts as they stand in HTML.
 
-ghost use Rattle.std.specs.Prelude.{◌≡◌, ◌++◌, ◌<◌, IfOk, OnOk, string_bytes};
+ghost use Rattle.std.specs.Prelude.{◌≡◌, ◌++◌, ◌<◌, [], ◌∷◌, IfOk, OnOk, string_bytes};
 ghost use Rattle.wd_markup.specs.Escapes as spec;
 
 use std::alloc::{AllocError, Global};
@@ -85,11 +85,20 @@ fn push_name(text: &mut String, code: u32) -> Result<(), AllocError>
     ensures { OnOk result (string_bytes text.new ≡ string_bytes text.old ++ spec.named code) }
 {
     text.push_str("&#10214;U+")?;
-    text.push(hex_digit(code / 4096 % 16))?;
-    text.push(hex_digit(code / 256 % 16))?;
-    text.push(hex_digit(code / 16 % 16))?;
-    text.push(hex_digit(code % 16))?;
-    text.push_str("&#10215;")
+    push_digit(text, code / 4096 % 16)?;
+    push_digit(text, code / 256 % 16)?;
+    push_digit(text, code / 16 % 16)?;
+    push_digit(text, code % 16)?;
+    text.push_str("&#10215;")?;
+    Ok(())
+}
+
+/// Appends a digit of a number to the base of 16.
+fn push_digit(text: &mut String, digit: u32) -> Result<(), AllocError>
+    requires { digit < 16 }
+    ensures { OnOk result (string_bytes text.new ≡ string_bytes text.old ++ spec.hex_digit digit ∷ []) }
+{
+    text.push(hex_digit(digit))
 }
 
 /// A digit of a number to the base of 16.

@@ -9,6 +9,7 @@ use crate::escape;
 use crate::style::{BEGIN, END};
 use crate::vocabulary::{Class, Tag, class_words, tag_name};
 use std::alloc::{AllocError, Global};
+use std::fmt::Write;
 use std::marker::Model;
 
 /// A page in the making, which contracts see as its bytes so far. Each is of a tag, or of an escaped text. Where a call is refused for
@@ -43,7 +44,7 @@ impl Page {
         ensures written { OnOk result (self.new ≡ self.old ++ shown_piece piece.Begin) }
         ensures kept { OnErr result (self.new ≡ self.old) }
     {
-        self.html.push_str(BEGIN)
+        self.push(BEGIN)
     }
 
     /// Writes what stands behind the contents of a file.
@@ -51,7 +52,7 @@ impl Page {
         ensures written { OnOk result (self.new ≡ self.old ++ shown_piece piece.End) }
         ensures kept { OnErr result (self.new ≡ self.old) }
     {
-        self.html.push_str(END)
+        self.push(END)
     }
 
     /// Writes the tag that begins an element.
@@ -60,7 +61,7 @@ impl Page {
         ensures kept { OnErr result (self.new ≡ self.old) }
     {
         let tag = opening(self.alloc, tag, class)?;
-        self.html.push_str(tag.as_str())
+        self.push(tag.as_str())
     }
 
     /// Writes the tag that ends an element.
@@ -69,7 +70,7 @@ impl Page {
         ensures kept { OnErr result (self.new ≡ self.old) }
     {
         let tag = closing(self.alloc, tag)?;
-        self.html.push_str(tag.as_str())
+        self.push(tag.as_str())
     }
 
     /// Writes the tag that begins an element to which links lead by its number.
@@ -78,7 +79,7 @@ impl Page {
         ensures kept { OnErr result (self.new ≡ self.old) }
     {
         let tag = anchor(self.alloc, tag, class, number)?;
-        self.html.push_str(tag.as_str())
+        self.push(tag.as_str())
     }
 
     /// Writes the tag that begins a link to the element with this number.
@@ -87,7 +88,7 @@ impl Page {
         ensures kept { OnErr result (self.new ≡ self.old) }
     {
         let tag = link(self.alloc, number)?;
-        self.html.push_str(tag.as_str())
+        self.push(tag.as_str())
     }
 
     /// Writes the tag that begins a span of a bar, as long as its share of it.
@@ -96,7 +97,7 @@ impl Page {
         ensures kept { OnErr result (self.new ≡ self.old) }
     {
         let tag = share_tag(self.alloc, class, share)?;
-        self.html.push_str(tag.as_str())
+        self.push(tag.as_str())
     }
 
     /// Writes a text, escaped.
@@ -105,7 +106,7 @@ impl Page {
         ensures kept { OnErr result (self.new ≡ self.old) }
     {
         let more = escape::escaped(self.alloc, text)?;
-        self.html.push_str(more.as_str())
+        self.push(more.as_str())
     }
 
     /// Writes an element with a text.
@@ -114,7 +115,7 @@ impl Page {
         ensures kept { OnErr result (self.new ≡ self.old) }
     {
         let element = element_of(self.alloc, tag, class, text)?;
-        self.html.push_str(element.as_str())
+        self.push(element.as_str())
     }
 
     /// Writes what another page holds.
@@ -122,7 +123,16 @@ impl Page {
         ensures written { OnOk result (self.new ≡ self.old ++ more.now) }
         ensures kept { OnErr result (self.new ≡ self.old) }
     {
-        self.html.push_str(more.html.as_str())
+        self.push(more.html.as_str())
+    }
+
+    /// Writes what a page may hold.
+    fn push(&mut self, html: &str) -> Result<(), AllocError>
+        requires { IsPage html.now }
+        ensures written { OnOk result (self.new ≡ self.old ++ html.now) }
+        ensures kept { OnErr result (self.new ≡ self.old) }
+    {
+        self.html.push_str(html)
     }
 
     /// The bytes of the page: tags of fixed words, and escaped texts.
@@ -157,18 +167,29 @@ fn element_of(alloc: Global, tag: Tag, class: Class, text: &[u8]) -> Result<Stri
     ensures { IfOk result (λ s. string_bytes s ≡ shown_piece (piece.Opening tag class) ++ escaped text.now ++ shown_piece (piece.Closing tag)) }
 {
     let text = escape::escaped(alloc, text)?;
-    let name = tag_name(tag);
-    let class = class_words(class);
-    format!(in alloc; "<{name}{class}>{text}</{name}>")
+    let last = closing(alloc, tag)?;
+    let mut element = opening(alloc, tag, class)?;
+    element.push_str(text.as_str())?;
+    element.push_str(last.as_str())?;
+    Ok(element)
 }
 
 /// The tag that begins an element with a number.
 fn anchor(alloc: Global, tag: Tag, class: Class, number: u64) -> Result<String, AllocError>
     ensures { IfOk result (λ s. string_bytes s ≡ shown_piece (piece.Anchor tag class number)) }
 {
-    let name = tag_name(tag);
-    let class = class_words(class);
-    format!(in alloc; "<{name}{class} id='q{number}'>")
+    let mut all = String::from_str(alloc, "<")?;
+    all.push_str(tag_name(tag))?;
+    all.push_str(class_words(class))?;
+    add_id(&mut all, number)?;
+    Ok(all)
+}
+
+/// Adds the attribute by which links lead to an element, and the end of its tag.
+fn add_id(tag: &mut String, number: u64) -> Result<(), AllocError>
+    ensures { IfOk result (λ _. string_bytes tag.new ≡ string_bytes tag.old ++ piece.id_words number) }
+{
+    Ok(write!(tag, " id='q{number}'>")?)
 }
 
 /// The tag that begins a link.
@@ -182,6 +203,15 @@ fn link(alloc: Global, number: u64) -> Result<String, AllocError>
 fn share_tag(alloc: Global, class: Class, share: u64) -> Result<String, AllocError>
     ensures { IfOk result (λ s. string_bytes s ≡ shown_piece (piece.Share class share)) }
 {
-    let class = class_words(class);
-    format!(in alloc; "<span{class} style='flex-grow:{share}'>")
+    let mut all = String::from_str(alloc, "<span")?;
+    all.push_str(class_words(class))?;
+    add_share(&mut all, share)?;
+    Ok(all)
+}
+
+/// Adds the attribute that says how long a span of a bar is, and the end of its tag.
+fn add_share(tag: &mut String, share: u64) -> Result<(), AllocError>
+    ensures { IfOk result (λ _. string_bytes tag.new ≡ string_bytes tag.old ++ piece.share_words share) }
+{
+    Ok(write!(tag, " style='flex-grow:{share}'>")?)
 }

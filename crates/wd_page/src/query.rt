@@ -10,30 +10,13 @@ use wd_value::{Row, Text};
 
 /// A statement of a file.
 #[derive(Clone, Copy)]
-pub struct Query<'a> {
-    pub path: &'a str,
+pub struct Query<'p, 't, 'e> {
+    pub path: &'p str,
     /// The line on which it begins, from 1.
     pub line: u64,
-    pub text: &'a [u8],
+    pub text: &'t [u8],
     /// Why it is excused, where it is.
-    pub excused: Option<&'a str>,
-}
-
-/// A call or a limit that is open.
-#[derive(Clone, Copy)]
-pub struct Place {
-    /// The bytes of the statement that it takes, where they are known.
-    pub span: Option<Span>,
-    /// The line on which it begins, in the file.
-    pub line: u64,
-    /// The node's number in postorder.
-    pub node: u64,
-    /// The call's number in its Window; none at a Limit.
-    pub call: Option<u32>,
-    /// What is said of it.
-    pub words: &'static str,
-    /// What its sort keys lack.
-    pub lack: &'static str,
+    pub excused: Option<&'e str>,
 }
 
 /// What is found of a query that is read.
@@ -54,10 +37,10 @@ pub struct Judged<'a> {
 
 /// Why a text is not read.
 #[derive(Clone, Copy)]
-pub struct Refusal<'a> {
+pub struct Refusal<'p, 't> {
     /// The file of the text: the query's, or the schema's.
-    pub path: &'a str,
-    pub text: &'a [u8],
+    pub path: &'p str,
+    pub text: &'t [u8],
     pub number: u32,
     /// What it is about, where it names a place.
     pub span: Option<Span>,

@@ -6,13 +6,14 @@ ghost use Rattle.wd_lines.specs.declared.count.Counts.{Counts};
 ghost use Rattle.wd_lines.specs.declared.count.Kind.TheVariants as k;
 ghost use Rattle.wd_markup.specs.Pages.{IsPage};
 
-use crate::query::{Judged, Place, Query, Refusal};
+use crate::query::{Judged, Query, Refusal};
 use crate::section::{add_judged, add_place, add_refused};
 use crate::words::{kind_class, kind_word};
 use std::alloc::Global;
 use std::marker::Model;
 use wd_lines::{Counts, Kind};
 use wd_markup::{Class, Page, Tag};
+use wd_page_parts::Place;
 use wd_value::OutOfMemory;
 
 /// The heads of the table of all queries.
@@ -56,7 +57,7 @@ impl Report {
     /// Refused for want of memory, the report is as it was.
     pub fn add_judged(
         &mut self,
-        query: Query<'_>,
+        query: Query<'_, '_, '_>,
         judged: Judged<'_>,
         places: &[Place],
         help: Option<&[u8]>,
@@ -70,7 +71,11 @@ impl Report {
     }
 
     /// Adds a query that is not read. Refused for want of memory, the report is as it was.
-    pub fn add_refused(&mut self, query: Query<'_>, refusal: Refusal<'_>) -> Result<(), OutOfMemory>
+    pub fn add_refused(
+        &mut self,
+        query: Query<'_, '_, '_>,
+        refusal: Refusal<'_, '_>,
+    ) -> Result<(), OutOfMemory>
         ensures counted { OnOk result (self.new.1 ≡ with_query k.NotRead false self.old.1) }
         ensures kept { OnErr result (self.new ≡ self.old) }
     {
@@ -197,7 +202,7 @@ fn add_footer(page: &mut Page) -> Result<(), OutOfMemory> {
 fn judged_entry(
     alloc: Global,
     number: u64,
-    query: Query<'_>,
+    query: Query<'_, '_, '_>,
     judged: Judged<'_>,
     places: &[Place],
     help: Option<&[u8]>,
@@ -229,8 +234,8 @@ fn judged_entry(
 fn refused_entry(
     alloc: Global,
     number: u64,
-    query: Query<'_>,
-    refusal: Refusal<'_>,
+    query: Query<'_, '_, '_>,
+    refusal: Refusal<'_, '_>,
 ) -> Result<Entry, OutOfMemory>
     ensures kind { IfOk result (λ e. e.kind ≡ k.NotRead) }
     ensures mended { IfOk result (λ e. e.is_mended ≡ false) }
@@ -252,7 +257,7 @@ fn add_row(
     alloc: Global,
     page: &mut Page,
     number: u64,
-    query: Query<'_>,
+    query: Query<'_, '_, '_>,
     kind: Kind,
     places: &[Place],
     is_mended: bool,

@@ -1,18 +1,16 @@
 //! The part of a page that is about one query.
 
-use crate::answers::add_answers;
-use crate::change::add_change;
-use crate::marked::{add_excerpt, add_marked};
-use crate::plan::add_plan;
-use crate::query::{Judged, Place, Query, Refusal};
-use crate::replay::add_replay;
-use crate::tables::add_tables;
+use crate::query::{Judged, Query, Refusal};
 use crate::words::{kind_class, kind_sentence, kind_word};
 use std::alloc::Global;
 use std::fmt::Write;
 use wd_lex::Span;
 use wd_lines::Kind;
 use wd_markup::{Class, Page, Tag};
+use wd_page_parts::{
+    Grounds, Place, add_answers, add_change, add_excerpt, add_marked, add_plan, add_replay,
+    add_tables,
+};
 use wd_value::OutOfMemory;
 
 /// Adds the section of a query that is read.
@@ -20,7 +18,7 @@ pub(crate) fn add_judged(
     alloc: Global,
     page: &mut Page,
     number: u64,
-    query: Query<'_>,
+    query: Query<'_, '_, '_>,
     judged: Judged<'_>,
     places: &[Place],
     help: Option<&[u8]>,
@@ -40,8 +38,8 @@ pub(crate) fn add_refused(
     alloc: Global,
     page: &mut Page,
     number: u64,
-    query: Query<'_>,
-    refusal: Refusal<'_>,
+    query: Query<'_, '_, '_>,
+    refusal: Refusal<'_, '_>,
 ) -> Result<(), OutOfMemory> {
     begin_section(alloc, page, number, query, Kind::NotRead)?;
     add_refusal(alloc, page, refusal)?;
@@ -57,7 +55,7 @@ fn begin_section(
     alloc: Global,
     page: &mut Page,
     number: u64,
-    query: Query<'_>,
+    query: Query<'_, '_, '_>,
     kind: Kind,
 ) -> Result<(), OutOfMemory> {
     page.open_anchor(Tag::Section, Class::Plain, number)?;
@@ -94,7 +92,11 @@ fn add_excuse(page: &mut Page, excused: Option<&str>) -> Result<(), OutOfMemory>
 }
 
 /// Adds why a text is not read.
-fn add_refusal(alloc: Global, page: &mut Page, refusal: Refusal<'_>) -> Result<(), OutOfMemory> {
+fn add_refusal(
+    alloc: Global,
+    page: &mut Page,
+    refusal: Refusal<'_, '_>,
+) -> Result<(), OutOfMemory> {
     let number = refusal.number;
     let sentence = refusal.sentence;
     let words = format!(in alloc; ": {sentence} [{number}]")?;
@@ -192,7 +194,12 @@ fn add_plan_part(
     };
     page.open(Tag::Details, Class::Plain)?;
     page.element(Tag::Summary, Class::Plain, words.as_bytes())?;
-    add_plan(alloc, page, judged, places, 0, judged.plan)?;
+    let grounds = Grounds {
+        schema: judged.schema,
+        certificate: judged.certificate,
+        places,
+    };
+    add_plan(alloc, page, grounds, 0, judged.plan)?;
     Ok(page.close(Tag::Details)?)
 }
 
@@ -201,7 +208,7 @@ fn add_replay_part(
     alloc: Global,
     page: &mut Page,
     judged: Judged<'_>,
-    query: Query<'_>,
+    query: Query<'_, '_, '_>,
 ) -> Result<(), OutOfMemory> {
     if let Some(tables) = judged.tables {
         page.open(Tag::Details, Class::Plain)?;
@@ -210,7 +217,7 @@ fn add_replay_part(
             Class::Plain,
             b"replay.sql, for PostgreSQL, with these rows in two orders",
         )?;
-        add_replay(alloc, page, judged, tables, query.text)?;
+        add_replay(alloc, page, judged.schema, judged.plan, tables, query.text)?;
         page.close(Tag::Details)?;
     }
     Ok(())

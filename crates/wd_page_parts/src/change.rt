@@ -4,7 +4,7 @@ use wd_markup::{Class, Page, Tag};
 use wd_value::OutOfMemory;
 
 /// Adds the lines in which two texts differ, which have as many: each of the old text in red, and below it that of the new one in green.
-pub(crate) fn add_change(page: &mut Page, old: &[u8], new: &[u8]) -> Result<(), OutOfMemory> {
+pub fn add_change(page: &mut Page, old: &[u8], new: &[u8]) -> Result<(), OutOfMemory> {
     page.open(Tag::Preformatted, Class::Plain)?;
     let mut others = new.split(|byte| *byte == b'\n');
     for line in old.split(|byte| *byte == b'\n') {

@@ -1,31 +1,33 @@
 //! What PostgreSQL may be asked: the tables of a witness, filled in one order and in the other, with the query behind each.
 
-use crate::query::Judged;
 use crate::words::{separator, type_word, value_text};
 use std::alloc::Global;
 use std::collections::BTreeMap;
 use wd_markup::{Class, Page, Tag};
 use wd_plan::Plan;
-use wd_schema::{Column, Table};
+use wd_schema::{Column, Schema, Table};
 use wd_value::{OutOfMemory, Row, Value};
 
 /// Adds a script for PostgreSQL. Its tables have no keys, so that rows are likely to be read in the order in which they are written.
-pub(crate) fn add_replay(
+pub fn add_replay(
     alloc: Global,
     page: &mut Page,
-    judged: Judged<'_>,
+    schema: &Schema,
+    plan: &Plan,
     tables: &BTreeMap<String, Vec<Row>>,
     query: &[u8],
 ) -> Result<(), OutOfMemory> {
     page.open(Tag::Preformatted, Class::Plain)?;
     page.text(b"BEGIN;\n")?;
-    for (number, table) in judged.schema.tables.values().enumerate() {
-        if reads(judged.plan, number) {
+    for (number, table) in schema.tables.values().enumerate() {
+        if reads(plan, number) {
             add_table(page, table)?;
         }
     }
+    page.text(b"-- the rows in one order\n")?;
     add_inserts(alloc, page, tables)?;
     add_query(page, query)?;
+    page.text(b"-- and in the other\n")?;
     add_turned(alloc, page, tables)?;
     add_query(page, query)?;
     page.text(b"ROLLBACK;\n")?;

@@ -2,11 +2,11 @@
 
 use wd_lex::Span;
 use wd_markup::{Class, Page, Tag};
-use wd_source::{line_around, position_at};
+use wd_source::line_around;
 use wd_value::OutOfMemory;
 
 /// Adds a text with marks at these spans of it, which stand in their order. Of spans that overlap, the first is marked.
-pub(crate) fn add_marked(page: &mut Page, text: &[u8], spans: &[Span]) -> Result<(), OutOfMemory> {
+pub fn add_marked(page: &mut Page, text: &[u8], spans: &[Span]) -> Result<(), OutOfMemory> {
     page.open(Tag::Preformatted, Class::Plain)?;
     let mut from = 0;
     for span in spans {
@@ -29,7 +29,7 @@ fn add_mark(page: &mut Page, text: &[u8], from: usize, span: Span) -> Result<usi
 }
 
 /// Adds the line of a text in which a span begins, and a caret below each of the span's characters on it.
-pub(crate) fn add_excerpt(page: &mut Page, text: &[u8], span: Span) -> Result<(), OutOfMemory> {
+pub fn add_excerpt(page: &mut Page, text: &[u8], span: Span) -> Result<(), OutOfMemory> {
     let start = (span.start as usize).min(text.len());
     let line = line_around(text, start);
     let begin = (line.start as usize).min(start);
@@ -71,9 +71,4 @@ fn add_carets(page: &mut Page, text: &[u8]) -> Result<(), OutOfMemory> {
 /// Whether a character begins with that byte in UTF-8.
 fn begins_character(byte: u8) -> bool {
     !(128 <= byte && byte < 192)
-}
-
-/// The line of a text on which a byte stands, from 1.
-pub(crate) fn line_of(text: &[u8], byte: u64) -> u64 {
-    position_at(text, (byte as usize).min(text.len())).line
 }

@@ -8,7 +8,7 @@ use wd_schema::{Column, Schema};
 use wd_value::{OutOfMemory, Row, Value};
 
 /// Adds tables of a schema with these rows, side by side.
-pub(crate) fn add_tables(
+pub fn add_tables(
     alloc: Global,
     page: &mut Page,
     schema: &Schema,

@@ -1,6 +1,6 @@
 //! The plan of a query as boxes within one another: each node stands below what it reads.
 
-use crate::query::{Judged, Place};
+use crate::place::Place;
 use crate::words::{function_word, separator};
 use std::alloc::Global;
 use std::fmt::Write;
@@ -10,12 +10,19 @@ use wd_plan::{Call, Class as CallClass, Expr, Group, GroupCall, Limit, Plan, Win
 use wd_schema::{Key, Schema, Table};
 use wd_value::{OutOfMemory, SortColumn};
 
+/// What is known of a plan: the schema of its tables, what justifies each call and each limit where all are, and what is open.
+#[derive(Clone, Copy)]
+pub struct Grounds<'s, 'c, 'p> {
+    pub schema: &'s Schema,
+    pub certificate: Option<&'c Certificate>,
+    pub places: &'p [Place],
+}
+
 /// Adds the box of a plan, whose nodes are numbered from one on; the number behind them.
-pub(crate) fn add_plan(
+pub fn add_plan(
     alloc: Global,
     page: &mut Page,
-    judged: Judged<'_>,
-    places: &[Place],
+    grounds: Grounds<'_, '_, '_>,
     first: u64,
     plan: &Plan,
 ) -> Result<u64, OutOfMemory> {
@@ -23,17 +30,17 @@ pub(crate) fn add_plan(
     let node = match plan {
         Plan::Scan { .. } => first,
         Plan::Join { left, right, .. } => {
-            let middle = add_plan(alloc, page, judged, places, first, left)?;
-            add_plan(alloc, page, judged, places, middle, right)?
+            let middle = add_plan(alloc, page, grounds, first, left)?;
+            add_plan(alloc, page, grounds, middle, right)?
         }
         Plan::Filter { input, .. }
         | Plan::Map { input, .. }
         | Plan::Group { input, .. }
         | Plan::Window { input, .. }
         | Plan::Distinct { input }
-        | Plan::Limit { input, .. } => add_plan(alloc, page, judged, places, first, input)?,
+        | Plan::Limit { input, .. } => add_plan(alloc, page, grounds, first, input)?,
     };
-    add_node(alloc, page, judged, places, node, plan)?;
+    add_node(alloc, page, grounds, node, plan)?;
     page.close(Tag::Division)?;
     Ok(node.saturating_add(1))
 }
@@ -42,13 +49,12 @@ pub(crate) fn add_plan(
 fn add_node(
     alloc: Global,
     page: &mut Page,
-    judged: Judged<'_>,
-    places: &[Place],
+    grounds: Grounds<'_, '_, '_>,
     node: u64,
     plan: &Plan,
 ) -> Result<(), OutOfMemory> {
     match plan {
-        Plan::Scan { table, .. } => add_scan(alloc, page, judged.schema, *table),
+        Plan::Scan { table, .. } => add_scan(alloc, page, grounds.schema, *table),
         Plan::Join { condition, .. } => add_line(
             page,
             "Join",
@@ -59,12 +65,10 @@ fn add_node(
         ),
         Plan::Filter { .. } => add_line(page, "Filter", "the rows that meet its condition"),
         Plan::Map { outputs, .. } => add_count(alloc, page, "Select", outputs.len() as u64),
-        Plan::Group { input, group } => add_group(alloc, page, judged.schema, input, group),
-        Plan::Window { input, window } => {
-            add_window(alloc, page, judged, places, node, input, window)
-        }
+        Plan::Group { input, group } => add_group(alloc, page, grounds.schema, input, group),
+        Plan::Window { input, window } => { add_window(alloc, page, grounds, node, input, window) }
         Plan::Distinct { .. } => add_line(page, "Distinct", "one of rows that are the same"),
-        Plan::Limit { input, limit } => add_limit(alloc, page, judged, places, node, input, limit),
+        Plan::Limit { input, limit } => add_limit(alloc, page, grounds, node, input, limit),
     }
 }
 
@@ -259,8 +263,7 @@ fn push_class(
 fn add_window(
     alloc: Global,
     page: &mut Page,
-    judged: Judged<'_>,
-    places: &[Place],
+    grounds: Grounds<'_, '_, '_>,
     node: u64,
     input: &Plan,
     window: &Window,
@@ -268,13 +271,13 @@ fn add_window(
     add_line(page, "Window", "")?;
     for (number, call) in window.calls.iter().enumerate() {
         let number = u32::try_from(number).unwrap_or(u32::MAX);
-        let words = call_words(alloc, judged.schema, input, window, call)?;
+        let words = call_words(alloc, grounds.schema, input, window, call)?;
         page.open(Tag::Paragraph, Class::Plain)?;
         page.text(words.as_bytes())?;
         page.text(b" ")?;
-        match judged.certificate {
+        match grounds.certificate {
             Some(certificate) => add_rule(page, call_rule(certificate, node, number))?,
-            None => add_lack(page, lack_of(places, node, Some(number)))?,
+            None => add_lack(page, lack_of(grounds.places, node, Some(number)))?,
         }
         page.close(Tag::Paragraph)?;
     }
@@ -340,25 +343,33 @@ fn add_rule(page: &mut Page, rule: Option<Rule>) -> Result<(), OutOfMemory> {
 fn add_limit(
     alloc: Global,
     page: &mut Page,
-    judged: Judged<'_>,
-    places: &[Place],
+    grounds: Grounds<'_, '_, '_>,
     node: u64,
     input: &Plan,
     limit: &Limit,
 ) -> Result<(), OutOfMemory> {
-    let words = limit_words(alloc, judged.schema, input, limit)?;
+    let words = limit_words(alloc, grounds.schema, input, limit)?;
     page.open(Tag::Paragraph, Class::Plain)?;
-    page.element(Tag::Span, Class::Does, b"Limit")?;
+    page.element(
+        Tag::Span,
+        Class::Does,
+        if is_sort(limit) { "Order by" } else { "Limit" }.as_bytes(),
+    )?;
     page.text(words.as_bytes())?;
     page.text(b" ")?;
-    match judged.certificate {
+    match grounds.certificate {
         Some(certificate) => add_limit_rule(page, limit, limit_trace(certificate, node))?,
-        None => add_lack(page, lack_of(places, node, None))?,
+        None => add_lack(page, lack_of(grounds.places, node, None))?,
     }
     Ok(page.close(Tag::Paragraph)?)
 }
 
-/// What a Limit does.
+/// Whether a Limit only sorts: it keeps all rows.
+fn is_sort(limit: &Limit) -> bool {
+    limit.count.is_none() && limit.offset == 0
+}
+
+/// What a Limit does: its sort keys, and before them which rows it keeps where it doesn't keep all.
 fn limit_words(
     alloc: Global,
     schema: &Schema,
@@ -366,10 +377,24 @@ fn limit_words(
     limit: &Limit,
 ) -> Result<String, OutOfMemory> {
     let mut words = String::new(alloc);
+    if !is_sort(limit) {
+        push_counts(&mut words, limit)?;
+        words.push_str(if limit.keys.is_empty() {
+            ""
+        } else {
+            " order by "
+        })?;
+    }
+    push_keys(&mut words, schema, input, &limit.keys)?;
+    Ok(words)
+}
+
+/// Adds which rows a Limit keeps.
+fn push_counts(words: &mut String, limit: &Limit) -> Result<(), OutOfMemory> {
     let offset = limit.offset;
     match limit.count {
         Some(count) => write!(words, "{count} rows")?,
-        None => words.push_str("all rows")?,
+        None => words.push_str("the rows")?,
     }
     if offset > 0 {
         write!(words, " behind the first {offset}")?;
@@ -377,11 +402,7 @@ fn limit_words(
     if limit.ties {
         words.push_str(" with ties")?;
     }
-    if !limit.keys.is_empty() {
-        words.push_str(" order by ")?;
-        push_keys(&mut words, schema, input, &limit.keys)?;
-    }
-    Ok(words)
+    Ok(())
 }
 
 /// The trace that a certificate has of a node's limit.

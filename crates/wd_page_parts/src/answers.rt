@@ -25,7 +25,7 @@ enum Standing {
 }
 
 /// Adds two answers side by side, with marks where they differ.
-pub(crate) fn add_answers(
+pub fn add_answers(
     alloc: Global,
     page: &mut Page,
     names: &[Text],
