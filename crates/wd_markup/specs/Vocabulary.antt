@@ -1,7 +1,7 @@
 -- The words that tags are made of.
 use Rattle.std.specs.Prelude.{ℕ, List, [], codes}
 use Rattle.wd_markup.specs.declared.vocabulary.Tag.{Tag}
-use Rattle.wd_markup.specs.declared.vocabulary.Tag.TheVariants.{Main, Header, Footer, Section, Division, TitleHeading, SectionHeading, PartHeading, Paragraph, Table, TableHead, TableBody, Row, HeadCell, Cell, Numbered, Bulleted, Item, Preformatted, Code, Mark, Deleted, Inserted, Strong, Span, Details, Summary, Figure, Caption, Link}
+use Rattle.wd_markup.specs.declared.vocabulary.Tag.TheVariants.{Main, Header, Footer, Section, Division, TitleHeading, SectionHeading, PartHeading, Paragraph, Table, TableHead, TableBody, Row, HeadCell, DataCell, Numbered, Bulleted, Item, Preformatted, Code, Mark, Deleted, Inserted, Strong, Span, Details, Summary, Figure, Caption, Link}
 use Rattle.wd_markup.specs.declared.vocabulary.Class.{Class}
 use Rattle.wd_markup.specs.declared.vocabulary.Class.TheVariants as look
 
@@ -21,7 +21,7 @@ tag_name TableHead = codes "thead"
 tag_name TableBody = codes "tbody"
 tag_name Row = codes "tr"
 tag_name HeadCell = codes "th"
-tag_name Cell = codes "td"
+tag_name DataCell = codes "td"
 tag_name Numbered = codes "ol"
 tag_name Bulleted = codes "ul"
 tag_name Item = codes "li"

@@ -263,17 +263,17 @@ fn add_row(
     is_mended: bool,
 ) -> Result<(), OutOfMemory> {
     page.open(Tag::Row, Class::Plain)?;
-    page.open(Tag::Cell, Class::Plain)?;
+    page.open(Tag::DataCell, Class::Plain)?;
     page.open_link(number)?;
     add_place(alloc, page, query.path, query.line)?;
     page.close(Tag::Link)?;
-    page.close(Tag::Cell)?;
-    page.open(Tag::Cell, Class::Plain)?;
+    page.close(Tag::DataCell)?;
+    page.open(Tag::DataCell, Class::Plain)?;
     page.element(Tag::Span, kind_class(kind), kind_word(kind).as_bytes())?;
-    page.close(Tag::Cell)?;
+    page.close(Tag::DataCell)?;
     add_lines(alloc, page, places)?;
     let words = help_words(query.excused.is_some(), is_mended);
-    page.element(Tag::Cell, Class::Plain, words.as_bytes())?;
+    page.element(Tag::DataCell, Class::Plain, words.as_bytes())?;
     Ok(page.close(Tag::Row)?)
 }
 
@@ -289,12 +289,12 @@ fn help_words(is_excused: bool, is_mended: bool) -> &'static str {
 
 /// Adds a cell with the lines of places.
 fn add_lines(alloc: Global, page: &mut Page, places: &[Place]) -> Result<(), OutOfMemory> {
-    page.open(Tag::Cell, Class::Plain)?;
+    page.open(Tag::DataCell, Class::Plain)?;
     for (number, place) in places.iter().enumerate() {
         let line = place.line;
         let words = format!(in alloc; "{line}")?;
         page.text(if number > 0 { ", " } else { "line " }.as_bytes())?;
         page.text(words.as_bytes())?;
     }
-    Ok(page.close(Tag::Cell)?)
+    Ok(page.close(Tag::DataCell)?)
 }

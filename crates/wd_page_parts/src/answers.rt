@@ -69,7 +69,7 @@ fn add_names(page: &mut Page, names: &[Text]) -> Result<(), OutOfMemory> {
 /// Adds a row with a remark in place of values.
 fn add_remark(page: &mut Page, remark: &str) -> Result<(), OutOfMemory> {
     page.open(Tag::Row, Class::Plain)?;
-    page.element(Tag::Cell, Class::Soft, remark.as_bytes())?;
+    page.element(Tag::DataCell, Class::Soft, remark.as_bytes())?;
     Ok(page.close(Tag::Row)?)
 }
 

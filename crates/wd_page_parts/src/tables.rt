@@ -89,5 +89,5 @@ pub(crate) fn add_cell(
     class: Class,
 ) -> Result<(), OutOfMemory> {
     let text = value_text(alloc, value)?;
-    Ok(page.element(Tag::Cell, class, text.as_bytes())?)
+    Ok(page.element(Tag::DataCell, class, text.as_bytes())?)
 }
