@@ -7,7 +7,7 @@ ghost use Rattle.wd_lines.specs.declared.count.Kind.TheVariants as k;
 ghost use Rattle.wd_markup.specs.Pages.{IsPage};
 
 use crate::query::{Judged, Query, Refusal};
-use crate::section::{add_judged, add_place, add_refused};
+use crate::section::{add_judged, add_number, add_place, add_refused};
 use crate::words::{kind_class, kind_word};
 use std::alloc::Global;
 use std::marker::Model;
@@ -291,10 +291,8 @@ fn help_words(is_excused: bool, is_mended: bool) -> &'static str {
 fn add_lines(alloc: Global, page: &mut Page, places: &[Place]) -> Result<(), OutOfMemory> {
     page.open(Tag::DataCell, Class::Plain)?;
     for (number, place) in places.iter().enumerate() {
-        let line = place.line;
-        let words = format!(in alloc; "{line}")?;
-        page.text(if number > 0 { ", " } else { "line " }.as_bytes())?;
-        page.text(words.as_bytes())?;
+        let word = if number > 0 { ", " } else { "line " };
+        add_number(alloc, page, word, place.line)?;
     }
     Ok(page.close(Tag::DataCell)?)
 }

@@ -3,7 +3,6 @@
 use crate::query::{Judged, Query, Refusal};
 use crate::words::{kind_class, kind_sentence, kind_word};
 use std::alloc::Global;
-use std::fmt::Write;
 use wd_lex::Span;
 use wd_lines::Kind;
 use wd_markup::{Class, Page, Tag};
@@ -75,9 +74,8 @@ pub(crate) fn add_place(
     path: &str,
     line: u64,
 ) -> Result<(), OutOfMemory> {
-    let line = format!(in alloc; ":{line}")?;
     page.text(path.as_bytes())?;
-    Ok(page.text(line.as_bytes())?)
+    add_number(alloc, page, ":", line)
 }
 
 /// Adds why a query is excused, where it is.
@@ -97,13 +95,21 @@ fn add_refusal(
     page: &mut Page,
     refusal: Refusal<'_, '_>,
 ) -> Result<(), OutOfMemory> {
-    let number = refusal.number;
-    let sentence = refusal.sentence;
-    let words = format!(in alloc; ": {sentence} [{number}]")?;
     page.open(Tag::Paragraph, Class::Plain)?;
     page.element(Tag::Code, Class::Plain, refusal.path.as_bytes())?;
-    page.text(words.as_bytes())?;
+    add_sentence(alloc, page, refusal.sentence, refusal.number)?;
     Ok(page.close(Tag::Paragraph)?)
+}
+
+/// Adds the sentence of a refusal with its number.
+fn add_sentence(
+    alloc: Global,
+    page: &mut Page,
+    sentence: &str,
+    number: u32,
+) -> Result<(), OutOfMemory> {
+    let words = format!(in alloc; ": {sentence} [{number}]")?;
+    Ok(page.text(words.as_bytes())?)
 }
 
 /// Adds a query's text, with marks at what is open.
@@ -143,15 +149,26 @@ fn add_places(alloc: Global, page: &mut Page, places: &[Place]) -> Result<(), Ou
 
 /// Adds what is said of a place that is open.
 fn add_open(alloc: Global, page: &mut Page, place: Place) -> Result<(), OutOfMemory> {
-    let line = place.line;
-    let mut words = String::new(alloc);
+    page.open(Tag::Item, Class::Plain)?;
     if place.span.is_some() {
-        write!(words, "line {line}: ")?;
+        add_number(alloc, page, "line ", place.line)?;
+        page.text(b": ")?;
     }
-    words.push_str(place.words)?;
-    words.push_str(": ")?;
-    words.push_str(place.lack)?;
-    Ok(page.element(Tag::Item, Class::Plain, words.as_bytes())?)
+    page.text(place.words.as_bytes())?;
+    page.text(b": ")?;
+    page.text(place.lack.as_bytes())?;
+    Ok(page.close(Tag::Item)?)
+}
+
+/// Adds a number behind a word.
+pub(crate) fn add_number(
+    alloc: Global,
+    page: &mut Page,
+    word: &str,
+    number: u64,
+) -> Result<(), OutOfMemory> {
+    let words = format!(in alloc; "{word}{number}")?;
+    Ok(page.text(words.as_bytes())?)
 }
 
 /// Adds the heading of a part.

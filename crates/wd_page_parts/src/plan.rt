@@ -214,11 +214,22 @@ fn add_group(
     group: &Group,
 ) -> Result<(), OutOfMemory> {
     let mut words = String::new(alloc);
-    for column in 0..group.columns {
-        words.push_str(separator(usize::from(column)))?;
-        push_column(&mut words, schema, input, u32::from(column))?;
-    }
+    push_grouped(&mut words, schema, input, group.columns)?;
     add_line(page, "Group by", words.as_str())
+}
+
+/// Adds the first so many columns of a Group's input.
+fn push_grouped(
+    words: &mut String,
+    schema: &Schema,
+    input: &Plan,
+    columns: u16,
+) -> Result<(), OutOfMemory> {
+    for column in 0..columns {
+        words.push_str(separator(usize::from(column)))?;
+        push_column(words, schema, input, u32::from(column))?;
+    }
+    Ok(())
 }
 
 /// Adds the sort keys of a node.
@@ -271,17 +282,38 @@ fn add_window(
     add_line(page, "Window", "")?;
     for (number, call) in window.calls.iter().enumerate() {
         let number = u32::try_from(number).unwrap_or(u32::MAX);
-        let words = call_words(alloc, grounds.schema, input, window, call)?;
         page.open(Tag::Paragraph, Class::Plain)?;
-        page.text(words.as_bytes())?;
-        page.text(b" ")?;
-        match grounds.certificate {
-            Some(certificate) => add_rule(page, call_rule(certificate, node, number))?,
-            None => add_lack(page, lack_of(grounds.places, node, Some(number)))?,
-        }
+        add_call(alloc, page, grounds.schema, input, window, call)?;
+        add_call_grounds(page, grounds, node, number)?;
         page.close(Tag::Paragraph)?;
     }
     Ok(())
+}
+
+/// Adds what a call does.
+fn add_call(
+    alloc: Global,
+    page: &mut Page,
+    schema: &Schema,
+    input: &Plan,
+    window: &Window,
+    call: &Call,
+) -> Result<(), OutOfMemory> {
+    let words = call_words(alloc, schema, input, window, call)?;
+    Ok(page.text(words.as_bytes())?)
+}
+
+/// Adds the rule of a call, or what it lacks.
+fn add_call_grounds(
+    page: &mut Page,
+    grounds: Grounds<'_, '_, '_>,
+    node: u64,
+    call: u32,
+) -> Result<(), OutOfMemory> {
+    match grounds.certificate {
+        Some(certificate) => add_rule(page, call_rule(certificate, node, call)),
+        None => add_lack(page, lack_of(grounds.places, node, Some(call))),
+    }
 }
 
 /// What a call does.
@@ -320,7 +352,7 @@ fn lack_of(places: &[Place], node: u64, call: Option<u32>) -> Option<&'static st
 fn add_lack(page: &mut Page, lack: Option<&'static str>) -> Result<(), OutOfMemory> {
     if let Some(words) = lack {
         page.open(Tag::Span, Class::Open)?;
-        page.text(b"open: ")?;
+        page.text(b" open: ")?;
         page.text(words.as_bytes())?;
         page.close(Tag::Span)?;
     }
@@ -331,10 +363,10 @@ fn add_lack(page: &mut Page, lack: Option<&'static str>) -> Result<(), OutOfMemo
 fn add_rule(page: &mut Page, rule: Option<Rule>) -> Result<(), OutOfMemory> {
     let words = match rule {
         None => "",
-        Some(Rule::Peers) => "rows that tie have the same value of it",
-        Some(Rule::Unique(_)) => "its columns have a key among them, so no two rows tie",
-        Some(Rule::Values(_)) => "rows that tie have the same argument of it",
-        Some(Rule::Exchange(_)) => "rows that tie are the same in all columns",
+        Some(Rule::Peers) => " rows that tie have the same value of it",
+        Some(Rule::Unique(_)) => " its columns have a key among them, so no two rows tie",
+        Some(Rule::Values(_)) => " rows that tie have the same argument of it",
+        Some(Rule::Exchange(_)) => " rows that tie are the same in all columns",
     };
     Ok(page.element(Tag::Span, Class::Rule, words.as_bytes())?)
 }
@@ -348,20 +380,37 @@ fn add_limit(
     input: &Plan,
     limit: &Limit,
 ) -> Result<(), OutOfMemory> {
-    let words = limit_words(alloc, grounds.schema, input, limit)?;
+    let does = if is_sort(limit) { "Order by" } else { "Limit" };
     page.open(Tag::Paragraph, Class::Plain)?;
-    page.element(
-        Tag::Span,
-        Class::Does,
-        if is_sort(limit) { "Order by" } else { "Limit" }.as_bytes(),
-    )?;
-    page.text(words.as_bytes())?;
-    page.text(b" ")?;
-    match grounds.certificate {
-        Some(certificate) => add_limit_rule(page, limit, limit_trace(certificate, node))?,
-        None => add_lack(page, lack_of(grounds.places, node, None))?,
-    }
+    page.element(Tag::Span, Class::Does, does.as_bytes())?;
+    add_limit_words(alloc, page, grounds.schema, input, limit)?;
+    add_limit_grounds(page, grounds, node, limit)?;
     Ok(page.close(Tag::Paragraph)?)
+}
+
+/// Adds what a Limit does.
+fn add_limit_words(
+    alloc: Global,
+    page: &mut Page,
+    schema: &Schema,
+    input: &Plan,
+    limit: &Limit,
+) -> Result<(), OutOfMemory> {
+    let words = limit_words(alloc, schema, input, limit)?;
+    Ok(page.text(words.as_bytes())?)
+}
+
+/// Adds the rule of a Limit, or what it lacks.
+fn add_limit_grounds(
+    page: &mut Page,
+    grounds: Grounds<'_, '_, '_>,
+    node: u64,
+    limit: &Limit,
+) -> Result<(), OutOfMemory> {
+    match grounds.certificate {
+        Some(certificate) => add_limit_rule(page, limit, limit_trace(certificate, node)),
+        None => add_lack(page, lack_of(grounds.places, node, None)),
+    }
 }
 
 /// Whether a Limit only sorts: it keeps all rows.
@@ -413,9 +462,9 @@ fn limit_trace(certificate: &Certificate, node: u64) -> Option<u64> {
 /// Adds the rule of a Limit.
 fn add_limit_rule(page: &mut Page, limit: &Limit, trace: Option<u64>) -> Result<(), OutOfMemory> {
     let words = match (trace, limit.count) {
-        (Some(_), _) => "its keys tell all rows apart, so the same rows are kept",
-        (None, Some(_)) => "rows that tie with the last are kept, too",
-        (None, None) => "no row is left out by chance",
+        (Some(_), _) => " its keys tell all rows apart, so the same rows are kept",
+        (None, Some(_)) => " rows that tie with the last are kept, too",
+        (None, None) => " no row is left out by chance",
     };
     Ok(page.element(Tag::Span, Class::Rule, words.as_bytes())?)
 }
