@@ -5,4 +5,4 @@ mod block;
 mod words;
 
 pub use block::{Statement, add_open};
-pub use words::kind_of;
+pub use words::{kind_of, lack_words, place_words};

@@ -21,7 +21,7 @@ pub fn kind_of(finding: &Finding) -> Kind
 }
 
 /// What is said of a place that is open in a query of this kind.
-pub(crate) fn place_words(kind: Kind, reason: Reason) -> &'static str {
+pub fn place_words(kind: Kind, reason: Reason) -> &'static str {
     match (kind, reason.call) {
         (Kind::Depends, Some(_)) => {
             "depends: rows that tie may stand in any order here, and the answer goes by it"
@@ -35,7 +35,7 @@ pub(crate) fn place_words(kind: Kind, reason: Reason) -> &'static str {
 }
 
 /// What a call or a limit lacks.
-pub(crate) fn lack_words(lack: Lack) -> &'static str {
+pub fn lack_words(lack: Lack) -> &'static str {
     match lack {
         Lack::Row => "its sort keys do not tell all rows apart",
         Lack::Column(_) => "rows that tie may differ in a column that is used here",

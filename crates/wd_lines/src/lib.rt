@@ -20,3 +20,4 @@ pub use lines::{add_excerpt, add_joined, add_place, add_remark_line};
 pub use refusal::{add_refusal, add_remark};
 pub use tables::add_tables;
 pub use values::add_plain;
+pub use words::refusal_words;

@@ -1,0 +1,31 @@
+//! A help: the lines of a query that change, as they are and as they have to be.
+
+use wd_markup::{Class, Page, Tag};
+use wd_value::OutOfMemory;
+
+/// Adds the lines in which two texts differ, which have as many: each of the old text in red, and below it that of the new one in green.
+pub fn add_change(page: &mut Page, old: &[u8], new: &[u8]) -> Result<(), OutOfMemory> {
+    page.open(Tag::Preformatted, Class::Plain)?;
+    let mut others = new.split(|byte| *byte == b'\n');
+    for line in old.split(|byte| *byte == b'\n') {
+        if let Some(other) = others.next() {
+            add_line(page, line, other)?;
+        }
+    }
+    Ok(page.close(Tag::Preformatted)?)
+}
+
+/// Adds a line and what it becomes, where it changes.
+fn add_line(page: &mut Page, old: &[u8], new: &[u8]) -> Result<(), OutOfMemory> {
+    if old == new {
+        return Ok(());
+    }
+    page.open(Tag::Deleted, Class::Plain)?;
+    page.text(b"- ")?;
+    page.text(old)?;
+    page.close(Tag::Deleted)?;
+    page.open(Tag::Inserted, Class::Plain)?;
+    page.text(b"+ ")?;
+    page.text(new)?;
+    Ok(page.close(Tag::Inserted)?)
+}

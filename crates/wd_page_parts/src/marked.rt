@@ -1,0 +1,74 @@
+//! Texts with marks.
+
+use wd_lex::Span;
+use wd_markup::{Class, Page, Tag};
+use wd_source::line_around;
+use wd_value::OutOfMemory;
+
+/// Adds a text with marks at these spans of it, which stand in their order. Of spans that overlap, the first is marked.
+pub fn add_marked(page: &mut Page, text: &[u8], spans: &[Span]) -> Result<(), OutOfMemory> {
+    page.open(Tag::Preformatted, Class::Plain)?;
+    let mut from = 0;
+    for span in spans {
+        from = add_mark(page, text, from, *span)?;
+    }
+    page.text(&text[from.min(text.len())..])?;
+    Ok(page.close(Tag::Preformatted)?)
+}
+
+/// Adds the text from a byte to the end of a span, which is marked; that end. Where the span begins before that byte, nothing is added.
+fn add_mark(page: &mut Page, text: &[u8], from: usize, span: Span) -> Result<usize, OutOfMemory> {
+    let start = (span.start as usize).min(text.len());
+    let end = (span.end as usize).min(text.len());
+    if start < from || end <= start {
+        return Ok(from);
+    }
+    page.text(&text[from..start])?;
+    page.element(Tag::Mark, Class::Plain, &text[start..end])?;
+    Ok(end)
+}
+
+/// Adds the line of a text in which a span begins, and a caret below each of the span's characters on it.
+pub fn add_excerpt(page: &mut Page, text: &[u8], span: Span) -> Result<(), OutOfMemory> {
+    let start = (span.start as usize).min(text.len());
+    let line = line_around(text, start);
+    let begin = (line.start as usize).min(start);
+    let end = (line.end as usize).min(text.len()).max(start);
+    let last = (span.end as usize).min(end).max(start);
+    page.open(Tag::Preformatted, Class::Plain)?;
+    page.text(&text[begin..end])?;
+    page.text(b"\n")?;
+    add_blanks(page, &text[begin..start])?;
+    page.open(Tag::Span, Class::Caret)?;
+    add_carets(page, &text[start..last])?;
+    page.close(Tag::Span)?;
+    Ok(page.close(Tag::Preformatted)?)
+}
+
+/// Adds a blank for each character, and a tab for each tab.
+fn add_blanks(page: &mut Page, text: &[u8]) -> Result<(), OutOfMemory> {
+    for byte in text {
+        if *byte == b'\t' {
+            page.text(b"\t")?;
+        } else if begins_character(*byte) {
+            page.text(b" ")?;
+        }
+    }
+    Ok(())
+}
+
+/// Adds a caret for each character, and one where there is none.
+fn add_carets(page: &mut Page, text: &[u8]) -> Result<(), OutOfMemory> {
+    page.text(b"^")?;
+    for byte in text.iter().skip(1) {
+        if begins_character(*byte) {
+            page.text(b"^")?;
+        }
+    }
+    Ok(())
+}
+
+/// Whether a character begins with that byte in UTF-8.
+fn begins_character(byte: u8) -> bool {
+    !(128 <= byte && byte < 192)
+}

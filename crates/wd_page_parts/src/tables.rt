@@ -1,0 +1,93 @@
+//! Rows of tables.
+
+use crate::words::value_text;
+use std::alloc::Global;
+use std::collections::BTreeMap;
+use wd_markup::{Class, Page, Tag};
+use wd_schema::{Column, Schema};
+use wd_value::{OutOfMemory, Row, Value};
+
+/// Adds tables of a schema with these rows, side by side.
+pub fn add_tables(
+    alloc: Global,
+    page: &mut Page,
+    schema: &Schema,
+    tables: &BTreeMap<String, Vec<Row>>,
+) -> Result<(), OutOfMemory> {
+    page.open(Tag::Division, Class::Side)?;
+    for (name, rows) in tables {
+        add_table(alloc, page, schema, name.as_str(), rows)?;
+    }
+    Ok(page.close(Tag::Division)?)
+}
+
+/// Adds a table with its name.
+fn add_table(
+    alloc: Global,
+    page: &mut Page,
+    schema: &Schema,
+    name: &str,
+    rows: &[Row],
+) -> Result<(), OutOfMemory> {
+    begin_table(page, name)?;
+    if let Some(table) = schema.table(name) {
+        add_columns(page, &table.columns)?;
+    }
+    for row in rows {
+        add_row(alloc, page, row)?;
+    }
+    end_table(page)
+}
+
+/// Begins a figure with a table, below this caption.
+pub(crate) fn begin_table(page: &mut Page, caption: &str) -> Result<(), OutOfMemory> {
+    page.open(Tag::Figure, Class::Plain)?;
+    page.element(Tag::Caption, Class::Plain, caption.as_bytes())?;
+    page.open(Tag::Division, Class::Scroll)?;
+    Ok(page.open(Tag::Table, Class::Plain)?)
+}
+
+/// Ends a figure with a table.
+pub(crate) fn end_table(page: &mut Page) -> Result<(), OutOfMemory> {
+    page.close(Tag::Table)?;
+    page.close(Tag::Division)?;
+    Ok(page.close(Tag::Figure)?)
+}
+
+/// Adds the names of a table's columns.
+fn add_columns(page: &mut Page, columns: &[Column]) -> Result<(), OutOfMemory> {
+    page.open(Tag::Row, Class::Plain)?;
+    for column in columns {
+        page.element(Tag::HeadCell, Class::Plain, column.name.as_bytes())?;
+    }
+    Ok(page.close(Tag::Row)?)
+}
+
+/// Adds a row.
+fn add_row(alloc: Global, page: &mut Page, row: &[Value]) -> Result<(), OutOfMemory> {
+    page.open(Tag::Row, Class::Plain)?;
+    for value in row {
+        add_cell(alloc, page, value, class_of(value))?;
+    }
+    Ok(page.close(Tag::Row)?)
+}
+
+/// What a cell with a value looks like.
+pub(crate) fn class_of(value: &Value) -> Class {
+    match value {
+        Value::Null => Class::Null,
+        Value::Int(_) => Class::Number,
+        Value::Text(_) | Value::Bool(_) => Class::Plain,
+    }
+}
+
+/// Adds a cell with a value.
+pub(crate) fn add_cell(
+    alloc: Global,
+    page: &mut Page,
+    value: &Value,
+    class: Class,
+) -> Result<(), OutOfMemory> {
+    let text = value_text(alloc, value)?;
+    Ok(page.element(Tag::DataCell, class, text.as_bytes())?)
+}

@@ -1,0 +1,62 @@
+//! The words of functions, types, faults and values.
+
+use std::alloc::Global;
+use std::fmt::Write;
+use wd_plan::FunctionName;
+use wd_value::{ColumnType, Fault, OutOfMemory, Value};
+
+/// What a fault is called.
+pub(crate) fn fault_words(fault: Fault) -> &'static str {
+    match fault {
+        Fault::DivisionByZero => "an error: division by zero",
+        Fault::OutOfRange => "an error: a number out of range",
+    }
+}
+
+/// The name of a function in SQL.
+pub(crate) fn function_word(name: FunctionName) -> &'static str {
+    match name {
+        FunctionName::RowNumber => "ROW_NUMBER",
+        FunctionName::Rank => "RANK",
+        FunctionName::DenseRank => "DENSE_RANK",
+        FunctionName::Ntile => "NTILE",
+        FunctionName::Lag => "LAG",
+        FunctionName::Lead => "LEAD",
+        FunctionName::FirstValue => "FIRST_VALUE",
+        FunctionName::LastValue => "LAST_VALUE",
+        FunctionName::NthValue => "NTH_VALUE",
+        FunctionName::Count => "COUNT",
+        FunctionName::Sum => "SUM",
+        FunctionName::Min => "MIN",
+        FunctionName::Max => "MAX",
+    }
+}
+
+/// The name of a column's type in SQL.
+pub(crate) fn type_word(kind: ColumnType) -> &'static str {
+    match kind {
+        ColumnType::SmallInt => "SMALLINT",
+        ColumnType::Integer => "INTEGER",
+        ColumnType::BigInt => "BIGINT",
+        ColumnType::Text => "TEXT",
+        ColumnType::Boolean => "BOOLEAN",
+    }
+}
+
+/// A value as a reader of a table sees it.
+pub(crate) fn value_text(alloc: Global, value: &Value) -> Result<String, OutOfMemory> {
+    let mut text = String::new(alloc);
+    match value {
+        Value::Null => text.push_str("NULL")?,
+        Value::Int(number) => write!(text, "{number}")?,
+        Value::Bool(true) => text.push_str("true")?,
+        Value::Bool(false) => text.push_str("false")?,
+        Value::Text(value) => text.push_str(value.as_str())?,
+    }
+    Ok(text)
+}
+
+/// What stands before an item of a list with this number.
+pub(crate) fn separator(number: usize) -> &'static str {
+    if number > 0 { ", " } else { "" }
+}
