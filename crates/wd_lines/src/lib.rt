@@ -17,7 +17,6 @@ mod words;
 pub use answers::add_answers;
 pub use count::{Counts, Kind, Standing};
 pub use lines::{add_excerpt, add_joined, add_place, add_remark_line};
-pub use refusal::{add_refusal, add_remark};
+pub use refusal::{add_refusal, add_remark, refusal_words_at};
 pub use tables::add_tables;
 pub use values::add_plain;
-pub use words::refusal_words;

@@ -8,6 +8,18 @@ use std::fmt::Write;
 use wd_lex::Span;
 use wd_value::OutOfMemory;
 
+/// The sentence of a refusal of this number in a text, and what to write in place of what is refused: by the word at which it stands,
+/// where that says what was meant.
+pub fn refusal_words_at(
+    number: u32,
+    text: &[u8],
+    span: Option<Span>,
+) -> (&'static str, &'static str) {
+    let (sentence, usual) = refusal_words(number);
+    let meant = span.and_then(|span| remedy_at(number, text, span));
+    (sentence, meant.unwrap_or(usual))
+}
+
 /// Adds the block of a refusal of this number in a text of a path: where it stands, where a place is known.
 pub fn add_refusal(
     out: &mut String,
@@ -16,9 +28,7 @@ pub fn add_refusal(
     number: u32,
     span: Option<Span>,
 ) -> Result<(), OutOfMemory> {
-    let (sentence, usual) = refusal_words(number);
-    let meant = span.and_then(|span| remedy_at(number, text, span));
-    let remedy = meant.unwrap_or(usual);
+    let (sentence, remedy) = refusal_words_at(number, text, span);
     match span {
         Some(span) => add_place(out, path, text, span)?,
         None => {

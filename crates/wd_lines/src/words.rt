@@ -11,7 +11,7 @@ pub(crate) fn fault_words(fault: Fault) -> &'static str {
 }
 
 /// The sentence of a refusal's number, and what to write in place of what is refused.
-pub fn refusal_words(number: u32) -> (&'static str, &'static str) {
+pub(crate) fn refusal_words(number: u32) -> (&'static str, &'static str) {
     match number {
         101 => (
             "no token begins with this character",

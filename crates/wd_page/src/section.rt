@@ -79,11 +79,11 @@ pub(crate) fn add_place(
 }
 
 /// Adds why a query is excused, where it is.
-fn add_excuse(page: &mut Page, excused: Option<&str>) -> Result<(), OutOfMemory> {
+fn add_excuse(page: &mut Page, excused: Option<&[u8]>) -> Result<(), OutOfMemory> {
     if let Some(reason) = excused {
         page.open(Tag::Paragraph, Class::Soft)?;
         page.text(b"Excused in the text: ")?;
-        page.text(reason.as_bytes())?;
+        page.text(reason)?;
         page.close(Tag::Paragraph)?;
     }
     Ok(())

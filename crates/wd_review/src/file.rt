@@ -7,6 +7,7 @@ ghost use Rattle.wd_source.specs.Statements.{StandInOrder};
 
 use crate::format::Report;
 use crate::known::Knowledge;
+use crate::shown::show;
 use std::alloc::Global;
 use wd_excuse::{Remark, remark_above};
 use wd_fix::{Fix, fixed_text};
@@ -26,16 +27,19 @@ pub(crate) struct Tally {
     /// What they are in the files that are written.
     pub(crate) left: Counts,
     pub(crate) knowledge: Knowledge,
+    /// The page on which all is shown, where one is asked for.
+    pub(crate) page: Option<wd_page::Report>,
 }
 
 impl Tally {
     /// None so far.
-    pub(crate) fn new(is_fix: bool, knowledge: Knowledge) -> Tally {
+    pub(crate) fn new(is_fix: bool, knowledge: Knowledge, page: Option<wd_page::Report>) -> Tally {
         Tally {
             is_fix,
             found: Counts::NONE,
             left: Counts::NONE,
             knowledge,
+            page,
         }
     }
 
@@ -148,43 +152,59 @@ fn tell(
     query: File<'_>,
     judged: &Judged,
 ) -> Result<Standing, OutOfMemory> {
-    let is_excused = is_excused(alloc, report, query, judged.span)?;
-    if is_excused && matches!(judged.kind, Kind::Depends | Kind::MayTie) {
-        return Ok(Standing::Excused);
+    let excuse = excuse(alloc, report, query, judged.span)?;
+    let standing = match (judged.kind, excuse) {
+        (Kind::Depends | Kind::MayTie, Some(_)) => Standing::Excused,
+        _ => tell_blocks(alloc, report, tally, schema, query, judged)?,
+    };
+    if let Some(page) = &mut tally.page {
+        show(alloc, page, schema, query, judged, standing, excuse)?;
     }
-    let mut has_new = judged.blocks.is_empty();
-    for block in &judged.blocks {
-        if !tally.knowledge.knows(alloc, query.path, judged, block)? {
-            has_new = true;
-            report.add_block(alloc, schema.path, query.path, judged, block)?;
-        }
-    }
-    Ok(if has_new {
+    Ok(standing)
+}
+
+/// Tells what is found of one statement at each place that is not known, and gives how it is taken.
+fn tell_blocks(
+    alloc: Global,
+    report: &mut Report,
+    tally: &mut Tally,
+    schema: File<'_>,
+    query: File<'_>,
+    judged: &Judged,
+) -> Result<Standing, OutOfMemory> {
+    let mut standing = if judged.blocks.is_empty() {
         Standing::New
     } else {
         Standing::Known
-    })
+    };
+    for block in &judged.blocks {
+        if !tally.knowledge.knows(alloc, query.path, judged, block)? {
+            standing = Standing::New;
+            report.add_block(alloc, schema.path, query.path, judged, block)?;
+        }
+    }
+    Ok(standing)
 }
 
-/// Whether a comment above a statement excuses it. One that begins as an excuse and is none is told.
-fn is_excused(
+/// Why a comment above a statement excuses it. One that begins as an excuse and is none is told.
+fn excuse<'a>(
     alloc: Global,
     report: &mut Report,
-    query: File<'_>,
+    query: File<'a>,
     span: Span,
-) -> Result<bool, OutOfMemory> {
+) -> Result<Option<&'a [u8]>, OutOfMemory> {
     let end = (span.end as usize).min(query.text.len());
     let start = (span.start as usize).min(end);
     match remark_above(&query.text[start..end], start == 0) {
-        Some(Remark::Excused(_)) => Ok(true),
+        Some(Remark::Excused(reason)) => Ok(Some(reason)),
         Some(Remark::Unread(comment)) => {
             let comment = Span {
                 start: comment.start.saturating_add(start as u64),
                 end: comment.end.saturating_add(start as u64),
             };
             report.add_comment(alloc, query.path, query.text, comment)?;
-            Ok(false)
+            Ok(None)
         }
-        None => Ok(false),
+        None => Ok(None),
     }
 }

@@ -79,6 +79,8 @@ enum Stop {
     BaselineUnread,
     /// The baseline can't be written.
     BaselineUnwritten,
+    /// The page can't be written.
+    PageUnwritten,
 }
 
 impl Stop {
@@ -89,6 +91,7 @@ impl Stop {
             Stop::NoBaseline => b"wdreport: --baseline-write wants --baseline FILE\n",
             Stop::BaselineUnread => b"wdreport: the baseline can't be read\n",
             Stop::BaselineUnwritten => b"wdreport: the baseline can't be written\n",
+            Stop::PageUnwritten => b"wdreport: the page can't be written\n",
         }
     }
 }
@@ -143,7 +146,11 @@ fn review_all<S: Sources, C: Clock, O: Write, E: Write>(
 ) -> Result<u8, Stop> {
     let knowledge = knowledge(alloc, request, sources, err)?;
     let mut review = Review {
-        tally: Tally::new(request.is_fix, knowledge),
+        tally: Tally::new(
+            request.is_fix,
+            knowledge,
+            request.html.map(|_| wd_page::Report::new(alloc)),
+        ),
         is_wrong: false,
         schemas: Vec::new(alloc),
         mended_input: Vec::new(alloc),
@@ -160,6 +167,7 @@ fn review_all<S: Sources, C: Clock, O: Write, E: Write>(
         done = done.saturating_add(1);
     }
     write_baseline(alloc, request, &mut review, sources)?;
+    write_page(alloc, request, &review, sources)?;
     finish(alloc, request, &review, &mut progress, out, err)
 }
 
@@ -212,6 +220,23 @@ fn write_baseline<S: Sources>(
             review.tally.knowledge = knowledge;
             Ok(())
         }
+    }
+}
+
+/// Writes the page, where one is asked for.
+fn write_page<S: Sources>(
+    alloc: Global,
+    request: &Request<'_>,
+    review: &Review,
+    sources: &mut S,
+) -> Result<(), Stop> {
+    let (Some(path), Some(page)) = (request.html, &review.tally.page) else {
+        return Ok(());
+    };
+    let bytes = page.to_bytes()?;
+    match sources.write(alloc, path, &bytes) {
+        Ok(()) => Ok(()),
+        Err(_) => Err(Stop::PageUnwritten),
     }
 }
 

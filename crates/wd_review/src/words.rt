@@ -25,6 +25,8 @@ pub(crate) struct Request<'a> {
     pub(crate) is_fix: bool,
     /// Whether queries that may tie pass.
     pub(crate) allows_unknown: bool,
+    /// The path of the page, where one is asked for.
+    pub(crate) html: Option<&'a str>,
     /// The path of the baseline, where one is given.
     pub(crate) baseline: Option<&'a str>,
     /// Whether it is written and not read.
@@ -52,6 +54,7 @@ fn request_in<'a>(alloc: Global, matches: &ArgMatches<'a>) -> Result<Request<'a>
         format: Format::named(matches.get_str("format")),
         is_fix: matches.get_flag("fix"),
         allows_unknown: matches.get_flag("allow-unknown"),
+        html: matches.get_str("html"),
         baseline: matches.get_str("baseline"),
         writes_baseline: matches.get_flag("baseline-write"),
         colour: Colour::named(matches.get_str("color")),
@@ -81,6 +84,7 @@ fn command_line<'a>(alloc: Global) -> Result<Command<'a>, AllocError> {
     with_flags(alloc, program(alloc)?)?
         .arg(schema_word(alloc))?
         .arg(format_word(alloc))?
+        .arg(page_word(alloc))?
         .arg(baseline_word(alloc))?
         .arg(colour_word(alloc))?
         .arg(paths_words(alloc))
@@ -136,6 +140,12 @@ fn format_word<'a>(alloc: Global) -> Arg<'a> {
         .value_name("FORMAT")
         .help("text, for a person; json, an object a line; github, annotations of a workflow")
         .value_parser(FORMATS.as_slice())
+}
+
+fn page_word<'a>(alloc: Global) -> Arg<'a> {
+    Arg::new(alloc, "html").long("html").value_name("FILE").help(
+        "Writes a page of HTML that shows all queries, with what is found of each",
+    )
 }
 
 fn baseline_word<'a>(alloc: Global) -> Arg<'a> {
