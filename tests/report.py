@@ -118,6 +118,7 @@ def small_cases():
         ("characters that a terminal obeys", {"q.sql": "SELECT g, ROW_NUMBER() OVER (ORDER BY v) AS \"\x1b[31m\u202e\" FROM t"}, ["q.sql"], 1, ["q.sql:1:11: depends"]),
         ("no ORDER BY", {"q.sql": "SELECT g, ROW_NUMBER() OVER () AS n FROM t"}, ["q.sql"], 1, ["help: ORDER BY id "]),
         ("a limit", {"q.sql": "SELECT g FROM t ORDER BY v LIMIT 2"}, ["q.sql"], 1, ["q.sql:1:17: ", "help: ORDER BY v, "]),
+        ("two orders", {"q.sql": "SELECT LAG(g) OVER (ORDER BY g, v) AS a, LAG(g) OVER (ORDER BY v) AS b FROM t"}, ["q.sql"], 1, ["help: ORDER BY g, v, id ", "help: ORDER BY v, id "]),
         ("a window by its name", {"q.sql": "SELECT g, LAG(g) OVER w AS p, LEAD(g) OVER (w) AS q FROM t WINDOW w AS (ORDER BY v)"}, ["q.sql"], 1, ["q.sql:1:11: ", "q.sql:1:31: ", "help: ORDER BY v, id "]),
         ("may tie passes", {"q.sql": MAY_TIE}, ["--allow-unknown", "q.sql"], 0, ["q.sql:1:", "may tie: ", "0 depend, 1 may tie"]),
         ("may tie does not pass", {"q.sql": MAY_TIE}, ["q.sql"], 1, ["0 depend, 1 may tie"]),
@@ -419,6 +420,104 @@ def the_schema():
             subprocess.run([*server, "-m", "immediate", "stop"], capture_output=True)
 
 
+def lines_of(name):
+    """The lines of a file of cases, but for its comments: each a pair of texts."""
+    with open(f"{TOP}/tests/report/{name}", encoding="utf-8") as file:
+        lines = [line.rstrip("\n") for line in file if not line.startswith("#")]
+    return [tuple(line.split("\t")) if "\t" in line else tuple(line.rsplit(" || ", 1)) for line in lines]
+
+
+def the_remedies():
+    """What to write in place of a word that is not read."""
+    for text, wanted in lines_of("remedies.txt"):
+        is_schema = text.startswith("CREATE")
+        with tempfile.TemporaryDirectory() as folder:
+            put(folder, {"schema.sql": text if is_schema else SCHEMA, "q.sql": "SELECT id FROM t" if is_schema else text})
+            out, _, status = run("q.sql", cwd=folder)
+            helps = [line for line in out.splitlines() if line.startswith("      help: ")]
+            check(f"remedy for {text}", status == 2 and len(helps) == 1 and wanted in helps[0], (status, out))
+
+
+def the_excuses():
+    """Comments above a query."""
+    for text, wanted in lines_of("remarks.txt"):
+        text = json.loads(text)
+        before = "SELECT id FROM t" if text.startswith(";") else ""
+        with tempfile.TemporaryDirectory() as folder:
+            put(folder, {"schema.sql": SCHEMA, "q.sql": before + text + TIED})
+            out, _, status = run("q.sql", cwd=folder)
+            is_excused = wanted.startswith("excused")
+            check(f"remark {text!r}: status", status == (0 if is_excused else 1), (status, out))
+            check(f"remark {text!r}: counted", ("; 1 excused" in out) == is_excused, out)
+            check(f"remark {text!r}: told", ("this comment excuses nothing" in out) == (wanted == "told"), out)
+            check(f"remark {text!r}: block", ("depends" in out.split(" queries:")[0].split(" query:")[0]) != is_excused, out)
+            page, _, _ = run("--html", "page.html", "q.sql", cwd=folder)
+            with open(f"{folder}/page.html", encoding="utf-8") as file:
+                shown = file.read()
+            reason = wanted.removeprefix("excused ").replace("&", "&amp;").replace("<", "&lt;").replace(">", "&gt;").replace("'", "&#39;").replace('"', "&quot;")
+            check(f"remark {text!r}: page", (f"Excused in the text: {reason}" in shown) if is_excused and reason.isprintable() else True, shown[-2000:])
+
+
+def the_baselines():
+    """Findings that are known."""
+    for text, wanted in lines_of("baselines.txt"):
+        word, number = wanted.split(" ")
+        with tempfile.TemporaryDirectory() as folder:
+            put(folder, {"schema.sql": SCHEMA, "q.sql": ONE, "known": json.loads(text)})
+            out, err, status = run("--baseline", "known", "q.sql", cwd=folder)
+            if word == "read":
+                gone = f"{number} of the baseline no longer occur" if number != "0" else "1 deterministic"
+                check(f"baseline {text}", status == 0 and gone in out and ("no longer" in out) == (number != "0"), (status, out, err))
+            else:
+                check(f"baseline {text}", status == 3 and f"known: line {number} " in err, (status, out, err))
+    with tempfile.TemporaryDirectory() as folder:
+        put(folder, {"schema.sql": SCHEMA, "q.sql": TIED, "r.sql": "SELECT x FROM t"})
+        words = ["--baseline", "known", "q.sql", "r.sql"]
+        out, err, status = run("--baseline-write", *words, cwd=folder)
+        check("a baseline is written", status == 0 and "; 2 known" in out and "depends: " not in out, (status, out, err))
+        kept = held(f"{folder}/known")
+        wanted = '{"version":1}\n{"finding":"depends","path":"q.sql","place":"ROW_NUMBER() OVER (ORDER BY v)"}\n{"finding":"not read","path":"r.sql","place":"402"}\n'
+        check("what is written", kept == wanted, kept)
+        out, err, status = run(*words, cwd=folder)
+        check("what is known passes", status == 0 and "; 2 known" in out, (status, out, err))
+        put(folder, {"q.sql": f"-- moved\n\n{TIED};\n{TIED}"})
+        out, err, status = run(*words, cwd=folder)
+        check("of two one is new", status == 1 and "; 2 known" in out and out.count("depends: ") == 1 and "q.sql:4:" in out, (status, out, err))
+        out, err, status = run("--baseline", "none", "q.sql", cwd=folder)
+        check("no baseline there", status == 3 and "the baseline can't be read" in err, (status, out, err))
+        out, err, status = run("--baseline-write", "q.sql", cwd=folder)
+        check("no baseline named", status == 3 and "--baseline FILE" in err, (status, out, err))
+        put(folder, {"q.sql": f"-- wdreport: may depend, any will do\n{TIED}"})
+        out, err, status = run("--fix", "q.sql", cwd=folder)
+        check("what is excused is not mended", status == 0 and held(f"{folder}/q.sql").endswith(TIED), (status, out, err))
+
+
+HOSTILE = "SELECT g AS \"</pre><script>alert(1)</script>\", '<b>&\"\u202e' AS \"it's\", ROW_NUMBER() OVER (ORDER BY v) AS n FROM t"
+
+
+def the_page():
+    """The page: one file, in which what comes from an input stands escaped."""
+    with tempfile.TemporaryDirectory() as folder:
+        put(folder, {"schema.sql": SCHEMA, "a/<i>.sql": HOSTILE, "b.sql": ONE, "c.sql": "SELECT x FROM t", "d.sql": f"{TIED};\n{MAY_TIE}"})
+        out, err, status = run("--html", "page.html", "a", "b.sql", "c.sql", "d.sql", cwd=folder)
+        check("page: status", (status, err) == (2, ""), (status, out, err))
+        page = held(f"{folder}/page.html")
+        check("page: whole", page.startswith("<!DOCTYPE html>") and page.rstrip().endswith("</html>"), page[:200])
+        check("page: no script", "<script" not in page and "</pre><script" not in page and "javascript:" not in page, page[:200])
+        check("page: nothing from elsewhere", not re.search(r"(src|href)=['\"](?!#)", page) and "@import" not in page and "url(" not in page, page[:200])
+        for text in ("&lt;i&gt;.sql", "&lt;script&gt;alert(1)", "U+202E", "it&#39;s", "ORDER BY v", "5 queries: 1 deterministic", "INSERT INTO", "402"):
+            check(f"page: {text}", text in page, page[-3000:])
+        check("page: no mark of direction", "\u202e" not in page, "")
+        check("page: links", len(re.findall(r"<a href='#q\d+'>", page)) == 5 and len(re.findall(r" id='q\d+'", page)) == 5, page[:3000])
+        for tag in ("table", "section", "div", "pre", "details"):
+            check(f"page: {tag} ends", len(re.findall(rf"<{tag}[ >]", page)) == page.count(f"</{tag}>"), tag)
+        run("--html", "page.html", "b.sql", cwd=folder)
+        again = held(f"{folder}/page.html")
+        check("page: written anew", "1 query: 1 deterministic" in again and "alert" not in again, again[-500:])
+        out, err, status = run("--html", "none/page.html", "b.sql", cwd=folder)
+        check("page: no such folder", status == 3 and "the page can't be written" in err, (status, out, err))
+
+
 PROGRAM = os.path.abspath(sys.argv[1])
 the_folders()
 small_cases()
@@ -426,5 +525,9 @@ the_formats()
 the_fixes()
 the_screen()
 the_schema()
+the_remedies()
+the_excuses()
+the_baselines()
+the_page()
 print(f"{sum(results)} passed, {len(results) - sum(results)} failed")
 sys.exit(results.count(False) > 0)
