@@ -137,9 +137,10 @@ fn add_statement(
     let judged = judge_statement(alloc, schema, query, span)?;
     let standing = tell(alloc, report, tally, schema, query, &judged)?;
     tally.add(judged.kind, standing, judged.help.is_some());
+    let fix = judged.fix();
     match standing {
         Standing::Excused => Ok(None),
-        Standing::New | Standing::Known => Ok(judged.fix()),
+        _ => Ok(fix),
     }
 }
 

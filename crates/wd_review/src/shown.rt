@@ -31,7 +31,7 @@ pub(crate) fn show(
     standing: Standing,
     excused: Option<&[u8]>,
 ) -> Result<(), OutOfMemory> {
-    let trimmed = trimmed(file.text, judged.span);
+    let trimmed = without_blanks(file.text, judged.span);
     let query = Query {
         path: file.path,
         line: trimmed.line,
@@ -49,7 +49,7 @@ pub(crate) fn show(
 }
 
 /// The text of the statement that stands there in its file, without the white space around it.
-fn trimmed(text: &[u8], span: Span) -> Trimmed<'_> {
+fn without_blanks(text: &[u8], span: Span) -> Trimmed<'_> {
     let end = (span.end as usize).min(text.len());
     let start = (span.start as usize).min(end);
     let statement = &text[start..end];
