@@ -12,8 +12,8 @@ use std::alloc::{AllocError, Global};
 use std::fmt::Write;
 use std::marker::Model;
 
-/// A page in the making, which contracts see as its bytes so far. Each is of a tag, or of an escaped text. Where a call is refused for
-/// want of memory, the page is as it was.
+/// A page in the making, which contracts see as its bytes so far. Each is of a tag, or of an escaped text. Where a call is
+/// refused for want of memory, the page is as it was.
 #[derive(Drop)]
 pub struct Page {
     alloc: Global,

@@ -54,8 +54,8 @@ impl Report {
         }
     }
 
-    /// Adds a query that is read: the calls and the limits that are open, and the text with which it has one answer, where one is known.
-    /// Refused for want of memory, the report is as it was.
+    /// Adds a query that is read: the calls and the limits that are open, and the text with which it has one answer, where one
+    /// is known. Refused for want of memory, the report is as it was.
     pub fn add_judged(
         &mut self,
         query: Query<'_, '_, '_>,

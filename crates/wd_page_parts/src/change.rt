@@ -3,7 +3,8 @@
 use wd_markup::{Class, Page, Tag};
 use wd_value::OutOfMemory;
 
-/// Adds the lines in which two texts differ, which have as many: each of the old text in red, and below it that of the new one in green.
+/// Adds the lines in which two texts differ, which have as many: each of the old text in red, and below it that of the new one
+/// in green.
 pub fn add_change(page: &mut Page, old: &[u8], new: &[u8]) -> Result<(), OutOfMemory> {
     page.open(Tag::Preformatted, Class::Plain)?;
     let mut others = new.split(|byte| *byte == b'\n');

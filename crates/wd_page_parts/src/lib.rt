@@ -1,9 +1,9 @@
 //! What a section of wdreport's page shows of a query.
 //!
-//! `marked` has its text with marks, and the line of a refusal, `tables` the rows of a witness and `answers` its two answers, `change`
-//! the help, `plan` the plan with what is known of it, `place` what is open, and `replay` what PostgreSQL may be asked; `words` has the
-//! words of values, types and functions. All of it is written through `wd_markup`, so that whatever comes from an input stands in the
-//! page as an escaped text.
+//! `marked` has its text with marks, and the line of a refusal, `tables` the rows of a witness and `answers` its two answers,
+//! `change` the help, `plan` the plan with what is known of it, `place` what is open, and `replay` what PostgreSQL may be
+//! asked; `words` has the words of values, types and functions. All of it is written through `wd_markup`, so that whatever
+//! comes from an input stands in the page as an escaped text.
 #![tactic(auto)]
 
 mod answers;

@@ -16,7 +16,8 @@ pub fn add_marked(page: &mut Page, text: &[u8], spans: &[Span]) -> Result<(), Ou
     Ok(page.close(Tag::Preformatted)?)
 }
 
-/// Adds the text from a byte to the end of a span, which is marked; that end. Where the span begins before that byte, nothing is added.
+/// Adds the text from a byte to the end of a span, which is marked; that end. Where the span begins before that byte, nothing
+/// is added.
 fn add_mark(page: &mut Page, text: &[u8], from: usize, span: Span) -> Result<usize, OutOfMemory> {
     let start = (span.start as usize).min(text.len());
     let end = (span.end as usize).min(text.len());

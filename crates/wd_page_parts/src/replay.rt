@@ -8,7 +8,8 @@ use wd_plan::Plan;
 use wd_schema::{Column, Schema, Table};
 use wd_value::{OutOfMemory, Row, Value};
 
-/// Adds a script for PostgreSQL. Its tables have no keys, so that rows are likely to be read in the order in which they are written.
+/// Adds a script for PostgreSQL. Its tables have no keys, so that rows are likely to be read in the order in which they are
+/// written.
 pub fn add_replay(
     alloc: Global,
     page: &mut Page,
