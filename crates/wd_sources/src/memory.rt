@@ -68,9 +68,9 @@ impl Sources for MemorySources {
             .files
             .iter()
             .position(|file| file.path.as_str() == path);
-        match place.and_then(|place| self.files.get_mut(place)) {
-            Some(file) => {
-                file.bytes = bytes;
+        match place {
+            Some(place) => {
+                self.files[place].bytes = bytes;
                 Ok(())
             }
             None => Err(SourceError::Missing),
