@@ -1,5 +1,5 @@
 -- Choosing statements of a text, one after the other: those that are chosen and those that are left stand in order all the while.
-use Rattle.std.proofs.Common.{◌≡◌, ◌∙◌, ℕ, ◌+◌, ◌<◌, ◌≤◌, List, [], ◌∷◌, ◌++◌, length, map, drop, get_or, suc, add-one, drop-cons, append_assoc, sym, ap, subst, arith}
+use Rattle.std.proofs.Common.{◌≡◌, ◌∙◌, ℕ, ◌+◌, ◌<◌, ◌≤◌, List, [], ◌∷◌, ◌++◌, length, map, drop, get_or, add-one, drop-cons, append_assoc, sym, ap, subst, arith}
 use Rattle.std.proofs.lemmas.List.{map-append, append-nil}
 use Rattle.wd_lex.specs.declared.token.Span.{Span}
 use Rattle.wd_source.specs.Statements.{StandInOrder}
