@@ -2,6 +2,7 @@
 
 use crate::words::{kind_of, lack_words, place_words};
 use std::alloc::Global;
+use std::fmt::Write;
 use wd_finding::{Finding, OpenPlace};
 use wd_help::Help;
 use wd_lex::Span;
@@ -9,6 +10,7 @@ use wd_lines::{
     Kind, add_answers, add_excerpt, add_joined, add_place, add_plain, add_remark_line, add_tables,
 };
 use wd_sites::{KeyPlace, Site};
+use wd_source::{Position, position_at};
 use wd_value::OutOfMemory;
 
 /// A statement of a file: the file's path and text, and where in it the statement stands.
@@ -39,6 +41,9 @@ pub fn add_open(
     }
     if let Some(help) = help {
         add_help(out, statement, *place, help)?;
+        if number == 0 {
+            add_other_helps(out, statement, &finding.places, help)?;
+        }
     }
     Ok(out.push('\n')?)
 }
@@ -121,6 +126,33 @@ fn add_help(
         }
     }
     Ok(())
+}
+
+/// Adds the helps for what is not open as the query stands, and would be with the other helps.
+fn add_other_helps(
+    out: &mut String,
+    statement: Statement<'_>,
+    places: &[OpenPlace],
+    help: &Help,
+) -> Result<(), OutOfMemory> {
+    for change in &help.changes {
+        if !places.iter().any(|place| is_at(*place, change.at)) {
+            let at = (statement.start.saturating_add(change.at) as usize).min(statement.text.len());
+            let Position { line, column } = position_at(statement.text, at);
+            write!(out, "      help: also at {line}:{column}: ")?;
+            add_plain(out, change.text.as_str().trim_start())?;
+            out.push_str("      (with the other helps DETERMINISTIC)\n")?;
+        }
+    }
+    Ok(())
+}
+
+/// Whether the keys for an open place are put there.
+fn is_at(place: OpenPlace, at: u64) -> bool {
+    match place.site {
+        Some(Site { key: Some(key), .. }) => key.at == at,
+        _ => false,
+    }
 }
 
 /// Adds the ORDER BY of a place up to where the keys are put.

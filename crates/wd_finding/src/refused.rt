@@ -2,7 +2,7 @@
 
 use std::alloc::Global;
 use wd_decide::DecideError;
-use wd_lex::{Span, Token, lex};
+use wd_lex::{Span, Terminal, Token, TokenKind, lex};
 use wd_query::TextError;
 
 /// Which text a refusal is about.
@@ -18,7 +18,7 @@ pub struct RefusedPlace {
     pub text: RefusedText,
     pub number: u32,
     /// The bytes that it is about, where it names a place: of 101 to 105 a byte, of the others a token, or the end of the text where
-    /// more of them are wanted.
+    /// more of them are wanted; of 307 the type.
     pub span: Option<Span>,
 }
 
@@ -37,6 +37,7 @@ pub fn refused_place(
     };
     let span = match error.place() {
         Some(place) => span_at(alloc, bytes, number, place),
+        None if number == UNKNOWN_TYPE => unread_type(alloc, bytes),
         None => None,
     };
     Some(RefusedPlace { text, number, span })
@@ -74,4 +75,54 @@ fn token_span(tokens: &[Token], end: u64, number: u64) -> Option<Span> {
             end: end,
         }),
     }
+}
+
+/// The number of the refusal of a schema that has a type which is not read.
+const UNKNOWN_TYPE: u32 = 307;
+
+/// The types that are read.
+const TYPES: [&str; 5] = ["smallint", "integer", "bigint", "text", "boolean"];
+
+/// The first type of a column, in a schema's text, that is not read.
+fn unread_type(alloc: Global, text: &[u8]) -> Option<Span> {
+    let tokens = match lex(alloc, text) {
+        Ok(tokens) => tokens,
+        Err(_) => return None,
+    };
+    for (at, token) in tokens.iter().enumerate() {
+        if begins_member(&token.kind) {
+            let name = tokens.get(at.saturating_add(1));
+            let kind = tokens.get(at.saturating_add(2));
+            if let (Some(name), Some(kind)) = (name, kind) {
+                if is_name(name) && is_unread(text, kind) {
+                    return Some(kind.span);
+                }
+            }
+        }
+    }
+    None
+}
+
+/// Whether a member of a table, as a column, may stand behind a token.
+fn begins_member(kind: &TokenKind) -> bool {
+    matches!(
+        kind,
+        TokenKind::Terminal(Terminal::LeftBracket | Terminal::Comma)
+    )
+}
+
+/// Whether a token is a name.
+fn is_name(token: &Token) -> bool {
+    matches!(token.kind, TokenKind::Word(_) | TokenKind::Quoted(_))
+}
+
+/// Whether a token is a word that is no type.
+fn is_unread(text: &[u8], token: &Token) -> bool {
+    let end = (token.span.end as usize).min(text.len());
+    let start = (token.span.start as usize).min(end);
+    let word = &text[start..end];
+    matches!(token.kind, TokenKind::Word(_))
+        && !TYPES
+            .iter()
+            .any(|known| word.eq_ignore_ascii_case(known.as_bytes()))
 }

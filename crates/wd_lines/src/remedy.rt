@@ -57,13 +57,12 @@ const CLAUSES: &str =
     "the clauses stand in the order FROM, WHERE, GROUP BY, HAVING, WINDOW, ORDER BY, OFFSET, FETCH FIRST; a list ends without a comma";
 
 /// By the character with which no token begins.
-const AT_CHARACTER: [(&str, &str); 9] = [
+const AT_CHARACTER: [(&str, &str); 8] = [
     ("|", "`||` is not read: keep the joined text as a column"),
     (
         ":",
         "`::` is not read: keep the value as a column of that type",
     ),
-    ("%", "for a % b write a - a / b * b"),
     (
         "{",
         "check the compiled query: braces of a template are not read",
@@ -213,20 +212,16 @@ const OF_TYPE: [(&str, &str); 24] = [
 const TAKE_OUT: &str = "take it out: of the data only NOT NULL, PRIMARY KEY and UNIQUE are asked";
 
 /// By the word with which no schema goes on.
-const IN_SCHEMA: [(&str, &str); 13] = [
+const IN_SCHEMA: [(&str, &str); 12] = [
     ("default", TAKE_OUT),
     ("check", TAKE_OUT),
     ("references", TAKE_OUT),
     ("foreign", TAKE_OUT),
     ("generated", TAKE_OUT),
     ("collate", TAKE_OUT),
-    (
-        "constraint",
-        "leave out its name: write PRIMARY KEY (..) or UNIQUE (..) alone",
-    ),
     ("alter", "write the key into its CREATE TABLE"),
     ("index", "write UNIQUE (..) into its CREATE TABLE"),
-    ("if", "leave out IF NOT EXISTS"),
+    ("not", "leave out IF NOT EXISTS"),
     ("temporary", "leave it out"),
     (
         "public",
