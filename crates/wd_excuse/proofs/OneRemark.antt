@@ -28,7 +28,7 @@ same_said is_above place (gap ∷ gaps) [] rest more a b each all same are too e
     absurd (subst (λ x. Ends x more) (sym f) stop gap (spellings gaps ++ rest) (and_parts _ _ are).0 each.0 (sym same ∙ append_assoc (spelling gap) (spellings gaps) rest))
 same_said is_above place (gap ∷ gaps) (other ∷ others) rest more a b each all same are too ends stop e f =
     let known = same_piece gap other (spellings gaps ++ rest) (spellings others ++ more) each.0 all.0
-          (sym (append_assoc (spelling gap) (spellings gaps) rest) ∙ same ∙ append_assoc (spelling other) (spellings others) more) in
+    (sym (append_assoc (spelling gap) (spellings gaps) rest) ∙ same ∙ append_assoc (spelling other) (spellings others) more) in
     let there : first_said is_above place (gap ∷ others) ≡ b = ap (λ g. first_said is_above place (g ∷ others)) known.0 ∙ f in
     or_same (piece_says is_above place gap) a b _ _ e there
     (λ x y. same_said (is_above || list_any is_line_end (spelling gap)) (place + length (spelling gap)) gaps others rest more a b each.1 all.1 known.1 (and_parts _ _ are).1 (and_parts _ _ too).1 ends stop x y)

@@ -34,4 +34,4 @@ cut_at (b ∷ bytes) (suc n) within white last =
 pub trim_end : (bytes r : List ℕ) → IsTrimAsciiEnd bytes r → r ≡ cut_behind bytes
 trim_end bytes r (n, is, long, within, white, last) =
     is ∙ cut_at bytes n within (λ i h k. blank (get_or bytes i 0) (white i h k))
-        (λ m e. let some : 0 < n = omega arith in let before : n - 1 ≡ m = omega arith in other (get_or bytes m 0) (subst (λ k. is_ascii_whitespace (get_or bytes k 0) ≡ false) before (last some)))
+    (λ m e. let some : 0 < n = omega arith in let before : n - 1 ≡ m = omega arith in other (get_or bytes m 0) (subst (λ k. is_ascii_whitespace (get_or bytes k 0) ≡ false) before (last some)))

@@ -53,7 +53,7 @@ said_more is_above place (first ∷ pieces) piece =
     let above = is_above || list_any is_line_end (spelling first) in
     let behind = place + length (spelling first) in
     let ends : (above || list_any is_line_end (spellings pieces)) ≡ (is_above || list_any is_line_end (spelling first ++ spellings pieces)) =
-          sym (or_assoc is_above _ _) ∙ ap (λ t. is_above || t) (sym (list_any-append is_line_end (spelling first) (spellings pieces))) in
+    sym (or_assoc is_above _ _) ∙ ap (λ t. is_above || t) (sym (list_any-append is_line_end (spelling first) (spellings pieces))) in
     let there : behind + length (spellings pieces) ≡ place + length (spelling first ++ spellings pieces) = omega (arith, length-append (spelling first) (spellings pieces)) in
     ap (or_else (piece_says is_above place first)) (said_more above behind pieces piece ∙ ap₂ (λ a p. or_else (first_said above behind pieces) (piece_says a p piece)) ends there)
     ∙ sym (or_else-assoc (piece_says is_above place first) (first_said above behind pieces) _)

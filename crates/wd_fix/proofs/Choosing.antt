@@ -37,8 +37,8 @@ pub choose : (fixes : List Fix) (fix : Fix) (span : Span) (rest : List Span) (en
     → fix.span ≡ span → StandWith fixes (span ∷ rest) end → StandWith (fixes ++ fix ∷ []) rest end
 choose fixes fix span rest end e s =
     let whole : map span_of (fixes ++ fix ∷ []) ++ rest ≡ map span_of fixes ++ span ∷ rest =
-        ap (λ (spans : List Span). spans ++ rest) (map-append span_of fixes (fix ∷ []))
-        ∙ (append_assoc (map span_of fixes) (fix.span ∷ []) rest ∙ ap (λ (s : Span). map span_of fixes ++ s ∷ rest) e) in
+    ap (λ (spans : List Span). spans ++ rest) (map-append span_of fixes (fix ∷ []))
+    ∙ (append_assoc (map span_of fixes) (fix.span ∷ []) rest ∙ ap (λ (s : Span). map span_of fixes ++ s ∷ rest) e) in
     subst (λ (spans : List Span). StandInOrder 0 spans end) (sym whole) s
 
 -- none is left

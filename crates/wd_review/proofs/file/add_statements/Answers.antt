@@ -8,21 +8,21 @@ use Rattle.wd_review.proofs.file.add_statements.Goals.{in-Some+in_ok-push, in_de
 pub add_statement-requires-clause-ordered : goal.add_statement-requires-clause-ordered
 add_statement-requires-clause-ordered c =
     let next = next_of c.loop-span.fixes.items c.args.spans.now c.loop-span.span-index (record { start = 0; end = 0 }) (length c.args.query.text.now) c.loop-span-test.true
-        c.loop-span.invariant.ordered in
+    c.loop-span.invariant.ordered in
     let within = next_within c.loop-span.fixes.items _ _ (length c.args.query.text.now) next in
     within.0
 
 pub add_statement-requires-clause-within : goal.add_statement-requires-clause-within
 add_statement-requires-clause-within c =
     let next = next_of c.loop-span.fixes.items c.args.spans.now c.loop-span.span-index (record { start = 0; end = 0 }) (length c.args.query.text.now) c.loop-span-test.true
-        c.loop-span.invariant.ordered in
+    c.loop-span.invariant.ordered in
     let within = next_within c.loop-span.fixes.items _ _ (length c.args.query.text.now) next in
     within.1
 
 pub loop-span-preserved : goal.loop-span-preserved
 loop-span-preserved c =
     let next = next_of c.loop-span.fixes.items c.args.spans.now c.loop-span.span-index (record { start = 0; end = 0 }) (length c.args.query.text.now) c.loop-span-test.true
-        c.loop-span.invariant.ordered in
+    c.loop-span.invariant.ordered in
     elim c.match-branch-2.branch [
       | in-Some+in_ok-push w ↦
           let stands = rw w.in-Some.is at c.in_ok-fix.ensures.stands in
