@@ -110,7 +110,7 @@ def small_cases():
         ("a refusal", {"q.sql": "SELECT id\nFROM t WHERE g IN ('a')"}, ["q.sql"], 2, ["q.sql:2:16: not read", "[201]", "    2 | FROM t WHERE g IN ('a')\n      |                ^^"]),
         ("a refused second statement", {"q.sql": f"{ONE};\n\nSELECT 12.5 FROM t"}, ["q.sql"], 2, ["q.sql:3:8: not read", "[104]"]),
         ("a refusal without a place", {"q.sql": "SELECT idd FROM t"}, ["q.sql"], 2, ["q.sql: not read", "[402]"]),
-        ("a bad schema", {"q.sql": ONE, "schema.sql": "CREATE TABLE t (a DATE)"}, ["q.sql"], 2, ["schema.sql: not read", "[307]"]),
+        ("a bad schema", {"q.sql": ONE, "schema.sql": "CREATE TABLE t (a DATE)"}, ["q.sql"], 2, ["schema.sql:1:19: not read", "[307]", "help: write TEXT"]),
         ("no such file", {"q.sql": ONE}, ["none.sql", "q.sql"], 3, ["none.sql: there is no such file", "1 deterministic"]),
         ("a folder", {"a/q.sql": ONE, "a/b/r.sql": TIED, "a/c.txt": "no"}, ["a"], 1, ["a/b/r.sql:1:11: depends", "2 queries"]),
         ("the nearest schema", {"a/schema.sql": "CREATE TABLE u (x BIGINT)", "a/q.sql": "SELECT x FROM u", "q.sql": ONE}, ["."], 0, ["2 queries: 2 deterministic"]),
