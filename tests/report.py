@@ -398,7 +398,7 @@ def the_schema():
         put(folder, {"schema.sql": DATABASE_SCHEMA, "q.sql": 'SELECT "range", ROW_NUMBER() OVER (ORDER BY "Full Name", email) AS n FROM customers'})
         told, err, status = run("q.sql", cwd=folder)
         check("a schema of a database is read", (status, err) == (0, ""), (status, told, err))
-    servers = sorted(glob.glob("/usr/lib/postgresql/*/bin"), key=lambda path: int(path.split("/")[4]) if path.split("/")[4].isdigit() else 0)
+    servers = sorted((path.removesuffix("/initdb") for path in glob.glob("/usr/lib/postgresql/*/bin/initdb")), key=lambda path: int(path.split("/")[4]) if path.split("/")[4].isdigit() else 0)
     if not servers or int(servers[-1].split("/")[4]) < 15 or not shutil.which("psql"):
         return
     with tempfile.TemporaryDirectory() as folder:
@@ -408,6 +408,8 @@ def the_schema():
         server = [*as_user, f"{servers[-1]}/pg_ctl", "-D", f"{folder}/data", "-w", "-l", f"{folder}/log"]
         made = subprocess.run([*as_user, f"{servers[-1]}/initdb", "-D", f"{folder}/data", "-A", "trust", "-U", "postgres"], capture_output=True)
         if made.returncode:
+            print(f"no server of PostgreSQL starts here, so its catalog is not read: {made.stderr.decode()[-200:]}")
+            return
             return check("a server", False, made)
         subprocess.run([*server, "-o", f"-k {folder} -c listen_addresses=", "start"], capture_output=True)
         try:
