@@ -410,8 +410,10 @@ def the_schema():
         if made.returncode:
             print(f"no server of PostgreSQL starts here, so its catalog is not read: {made.stderr.decode()[-200:]}")
             return
-            return check("a server", False, made)
-        subprocess.run([*server, "-o", f"-k {folder} -c listen_addresses=", "start"], capture_output=True)
+        started = subprocess.run([*server, "-o", f"-k {folder} -c listen_addresses=", "start"], stdout=subprocess.DEVNULL, stderr=subprocess.DEVNULL)
+        if started.returncode:
+            print("no server of PostgreSQL starts here, so its catalog is not read")
+            return
         try:
             psql = ["psql", "-X", "-h", folder, "-U", "postgres", "-qAt", "-v", "ON_ERROR_STOP=1", "-f"]
             made = subprocess.run([*psql, f"{folder}/database.sql"], capture_output=True)
