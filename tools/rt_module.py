@@ -22,13 +22,12 @@ def load():
     # Starts the guard of the commands that follow, which only the main thread may.
     module.rtlib.guarded()
     module.rtlib.Crate.below = once_for_each(module.rtlib.Crate.below)
-    module.rtlib.Crate.stamp = once_for_each(module.rtlib.Crate.stamp)
     return module
 
 
 def once_for_each(method):
-    """A method of the kit's crates that depends on the crate's libraries and files alone, called once for each crate. The kit calls
-    it for each path from a crate to a library below, and of these 70 crates have two millions."""
+    """A method of the kit's crates that depends on the crate's libraries alone, called once for each crate. The kit calls it for each
+    path from a crate to a library below, and of these 70 crates have two millions."""
     kept = {}
 
     def once(crate):
