@@ -1,14 +1,13 @@
 -- Outcomes that are the same in the columns that are read.
-use Rattle.std.proofs.Common.{◌≡◌, ℕ, ◌<◌, Bool, true, false, List, [], ◌∷◌, ◌++◌, map, flat_map, length, refl, sym, ◌∙◌, ap, subst, eq-eqb, ◌||◌, nat_eq, Result, Ok, Err}
-use Rattle.std.specs.List.{AllByRecursion, list_any}
-use Rattle.wd_value.specs.Rows.{Row, rows_at}
+use Rattle.std.proofs.Common.{◌≡◌, ℕ, Bool, true, false, List, [], ◌∷◌, ◌++◌, map, flat_map, refl, sym, ◌∙◌, ap, eq-eqb, ◌||◌, nat_eq, Ok, Err}
+use Rattle.std.specs.List.{AllByRecursion}
+use Rattle.wd_value.specs.Rows.{Row}
 use Rattle.wd_plan.specs.Choices.{AtRows}
 use Rattle.wd_plan.specs.Faults.{and_then}
 use Rattle.wd_plan.specs.Outcomes.{RowsOrFault}
 use Rattle.wd_plan.specs.Plans.{has}
-use Rattle.wd_simpler.proofs.Masks.{mask, mask_every, mask_more}
+use Rattle.wd_simpler.proofs.Masks.{mask, mask_every}
 use Rattle.wd_simpler.proofs.Results.{over}
-use Rattle.wd_simpler.proofs.Values.{AreRead, map_of_map}
 use Rattle.wd_simpler.specs.Simpler.{Read, and_also, every}
 
 -- rows that are so, one by one
@@ -101,6 +100,7 @@ has_right (x ∷ xs) ys c h = ap (λ b. nat_eq c x || b) (has_right xs ys c h) �
 -- the columns of each are among those of all
 pub has_each : {X : Type 0} (f : X → List ℕ) (xs : List X) → AllByRecursion (λ x. AllByRecursion (λ c. has (flat_map f xs) c ≡ true) (f x)) xs
 has_each f [] = tt
-has_each f (x ∷ xs) =
-    ( all_weaken (λ c. has (f x) c ≡ true) (λ c. has (f x ++ flat_map f xs) c ≡ true) (has_left (f x) (flat_map f xs)) (f x) (has_own (f x))
-    , all_weaken (λ y. AllByRecursion (λ c. has (flat_map f xs) c ≡ true) (f y)) (λ y. AllByRecursion (λ c. has (f x ++ flat_map f xs) c ≡ true) (f y)) (λ y a. all_weaken (λ c. has (flat_map f xs) c ≡ true) (λ c. has (f x ++ flat_map f xs) c ≡ true) (has_right (f x) (flat_map f xs)) (f y) a) xs (has_each f xs))
+has_each f (x ∷ xs) = (
+  all_weaken (λ c. has (f x) c ≡ true) (λ c. has (f x ++ flat_map f xs) c ≡ true) (has_left (f x) (flat_map f xs)) (f x) (has_own (f x)),
+  all_weaken (λ y. AllByRecursion (λ c. has (flat_map f xs) c ≡ true) (f y)) (λ y. AllByRecursion (λ c. has (f x ++ flat_map f xs) c ≡ true) (f y)) (λ y a. all_weaken (λ c. has (flat_map f xs) c ≡ true) (λ c. has (f x ++ flat_map f xs) c ≡ true) (has_right (f x) (flat_map f xs)) (f y) a) xs (has_each f xs),
+)

@@ -1,9 +1,8 @@
 -- Rows with NULL in the columns that are not read.
-use Rattle.std.proofs.Common.{◌≡◌, ℕ, zero, suc, ◌+◌, Bool, true, false, cond, ◌||◌, List, [], ◌∷◌, ◌++◌, map, length, refl, sym, ◌∙◌, ap, add-suc, suc-add, zero-add}
-use Rattle.std.specs.List.{AllByRecursion}
+use Rattle.std.proofs.Common.{◌≡◌, ℕ, zero, suc, Bool, true, false, cond, List, [], ◌∷◌, ◌++◌, map, length, refl, sym, ◌∙◌, ap, suc-add, zero-add}
 use Rattle.wd_value.specs.declared.value.Value.{Value}
 use Rattle.wd_value.specs.declared.value.Value.TheVariants.{Null}
-use Rattle.wd_value.specs.Rows.{Row, column_of, columns_of, row_at, rows_at}
+use Rattle.wd_value.specs.Rows.{Row, column_of, row_at, rows_at}
 use Rattle.wd_simpler.specs.Simpler.{Read, after, every, next}
 
 abbrev pub mask : Read → Row → Row

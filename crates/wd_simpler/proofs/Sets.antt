@@ -1,7 +1,8 @@
 -- Sets to which columns are added one after another.
-use Rattle.std.proofs.Common.{◌≡◌, ℕ, ◌+◌, ◌<◌, Bool, true, false, ◌||◌, List, [], ◌∷◌, ◌++◌, map, flat_map, take, length, get_or, nat_eq, refl, sym, ◌∙◌, ap, subst, arith}
+use Rattle.std.proofs.Common.{◌≡◌, ℕ, ◌+◌, ◌<◌, ◌⊎◌, inl, inr, Bool, true, false, ◌&&◌, ◌||◌, List, [], ◌∷◌, ◌++◌, flat_map, take, length, get_or, nat_eq, nat_lt, refl, sym, ◌∙◌, ap, subst, arith}
+use Rattle.std.proofs.lemmas.Bool.{cases_order, eq-eqb, le-ltb, lt-ltb, ne_eqb}
 use Rattle.std.proofs.Math.Bool.{or_assoc, or-false}
-use Rattle.std.proofs.lemmas.List.{append-nil, flat_map_more, take_more}
+use Rattle.std.proofs.lemmas.List.{flat_map_more, take_more}
 use Rattle.std.proofs.lemmas.List.Folds.{list_any-append}
 use Rattle.wd_plan.specs.Plans.{has}
 use Rattle.wd_sets.specs.Sets.{has_column}
@@ -44,3 +45,27 @@ pub also_more : {X : Type 0} (f : X → List ℕ) (a b d : Set) (xs : List X) (i
 also_more f a b d xs i x h is m n =
     subst (λ l. HasAlso a (flat_map f l) d) (sym (take_more xs i x h))
     (subst (λ (l : List ℕ). HasAlso a l d) (flat_map_more f [] (take i xs) (get_or xs i x)) (subst (λ y. HasAlso a (flat_map f (take i xs) ++ f y) d) is (also_then a b d (flat_map f (take i xs)) (f x) m n)))
+
+-- ---- the columns after the first so many
+
+-- one more that is in the set
+pub beside_in : (s : ℕ → Bool) (first i c : ℕ) (old new : Bool) → s (first + i) ≡ true → old ≡ (nat_lt c i && s (first + c)) → new ≡ (nat_eq c i || old) → new ≡ (nat_lt c (i + 1) && s (first + c))
+beside_in s first i c old new here before is = by (cases_order c i)
+  where
+    by : (c ≡ i) ⊎ ((c < i) ⊎ (i < c)) → new ≡ (nat_lt c (i + 1) && s (first + c))
+    by (inl e) = is ∙ ap (λ b. b || old) (eq-eqb c i e) ∙ (λ t. sym (lt-ltb c (i + 1) (omega (arith, e))) t && sym (ap (λ k. s (first + k)) e ∙ here) t)
+    by (inr (inl h)) = is ∙ ap (λ b. b || old) (ne_eqb c i (λ e. omega (arith, h, e))) ∙ before ∙ ap (λ b. b && s (first + c)) (lt-ltb c i h ∙ sym (lt-ltb c (i + 1) (omega (arith, h))))
+    by (inr (inr h)) = is ∙ ap (λ b. b || old) (ne_eqb c i (λ e. omega (arith, h, e))) ∙ before ∙ ap (λ b. b && s (first + c)) (le-ltb c i (omega (arith, h)) ∙ sym (le-ltb c (i + 1) (omega (arith, h))))
+
+-- one more that is not
+pub beside_out : (s : ℕ → Bool) (first i c : ℕ) (old : Bool) → s (first + i) ≡ false → old ≡ (nat_lt c i && s (first + c)) → old ≡ (nat_lt c (i + 1) && s (first + c))
+beside_out s first i c old here before = by (cases_order c i)
+  where
+    by : (c ≡ i) ⊎ ((c < i) ⊎ (i < c)) → old ≡ (nat_lt c (i + 1) && s (first + c))
+    by (inl e) = before ∙ ap (λ b. b && s (first + c)) (le-ltb c i (omega (arith, e))) ∙ sym (ap (λ k. s (first + k)) e ∙ here) ∙ ap (λ b. b && s (first + c)) (sym (lt-ltb c (i + 1) (omega (arith, e))))
+    by (inr (inl h)) = before ∙ ap (λ b. b && s (first + c)) (lt-ltb c i h ∙ sym (lt-ltb c (i + 1) (omega (arith, h))))
+    by (inr (inr h)) = before ∙ ap (λ b. b && s (first + c)) (le-ltb c i (omega (arith, h)) ∙ sym (le-ltb c (i + 1) (omega (arith, h))))
+
+-- all of so many
+pub beside_all : (s : ℕ → Bool) (first count c : ℕ) (found : Bool) → c < count → found ≡ (nat_lt c count && s (first + c)) → found ≡ s (first + c)
+beside_all s first count c found h is = is ∙ ap (λ b. b && s (first + c)) (lt-ltb c count h)

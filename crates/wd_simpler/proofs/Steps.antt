@@ -1,20 +1,18 @@
 -- Filters, Maps and Limits over rows with NULL in the columns that are not read.
-use Rattle.std.proofs.Common.{◌≡◌, ℕ, zero, suc, Bool, true, false, cond, not, ◌||◌, List, [], ◌∷◌, ◌++◌, map, flat_map, filter, take_while, drop, length, refl, sym, ◌∙◌, ap, is_eq, is_gt, Option, None, Some, Result, Ok, Err}
+use Rattle.std.proofs.Common.{◌≡◌, ℕ, zero, suc, Bool, true, false, cond, List, [], ◌∷◌, ◌++◌, map, flat_map, filter, take_while, drop, length, refl, sym, ◌∙◌, ap, is_eq, Option, None, Some, Result, Ok}
 use Rattle.std.specs.List.{AllByRecursion}
-use Rattle.std.proofs.lemmas.List.{length-map, drop-map, map-append}
+use Rattle.std.proofs.lemmas.List.{drop-map, map-append}
 use Rattle.std.proofs.lemmas.List.Sums.{take_while-cons}
 use Rattle.wd_value.specs.declared.order.SortColumn.{SortColumn}
 use Rattle.wd_value.specs.declared.value.Fault.{Fault}
 use Rattle.wd_value.specs.declared.value.Value.{Value}
 use Rattle.wd_value.specs.declared.value.Value.TheVariants.{Null}
-use Rattle.wd_value.specs.declared.value.Value.TheVariants as value
 use Rattle.wd_value.specs.Keys.{key_columns}
 use Rattle.wd_value.specs.Rows.{Row, column_of, rows_at}
-use Rattle.wd_facts.proofs.Lists.{all_left, all_right}
 use Rattle.wd_facts.proofs.Outputs.{value_same}
 use Rattle.wd_plan.specs.Expressions.{Expression, Column, Literal, Negate, Arithmetic, Compare, Not, And, Or, IsNull, IsNotNull, Case, value_of}
 use Rattle.wd_plan.specs.Facts.{HasWidth}
-use Rattle.wd_plan.specs.Faults.{all_ok, and_then, least_fault, unless}
+use Rattle.wd_plan.specs.Faults.{all_ok, least_fault, unless}
 use Rattle.wd_plan.specs.Outcomes.{RowsOrFault, cut, filter_outcome, first_rows, join_outcome, map_outcome, pairs, passes, peers}
 use Rattle.wd_plan.specs.Plans.{LimitRule, has}
 use Rattle.wd_step_facts.specs.Steps.{used}
@@ -204,10 +202,10 @@ cut_alike : (read : Read) (limit : LimitRule) (ordering : List ℕ) (rows others
 cut_alike read limit ordering =
     let more = and_also read (key_columns limit.keys) in
     read_step read more (also_read read (key_columns limit.keys)) (λ rows. Ok (cut limit (rows_at rows ordering)))
-      (λ rows. ap (λ x. Ok x) (
-        ap (λ x. map (mask read) (cut limit x)) (rows_read more rows ordering)
-        ∙ ap (map (mask read)) (cut_read more limit (limit_reads read limit) (rows_at rows ordering))
-        ∙ masked_more read more (also_read read (key_columns limit.keys)) (cut limit (rows_at rows ordering))))
+    (λ rows. ap (λ x. Ok x) (
+    ap (λ x. map (mask read) (cut limit x)) (rows_read more rows ordering)
+    ∙ ap (map (mask read)) (cut_read more limit (limit_reads read limit) (rows_at rows ordering))
+    ∙ masked_more read more (also_read read (key_columns limit.keys)) (cut limit (rows_at rows ordering))))
 
 pub limit_alike : (read : Read) (limit : LimitRule) (ordering : List ℕ) (rows others : List Row) → AreSameOn (and_also read (key_columns limit.keys)) rows others → AreAlikeOn read (Ok (cut limit (rows_at rows ordering))) (Ok (cut (plain_limit limit) (rows_at others ordering)))
 limit_alike read limit ordering rows others e = cut_alike read limit ordering rows others e ∙ ap (λ x. Ok (map (mask read) x)) (plain_cut limit (rows_at others ordering))

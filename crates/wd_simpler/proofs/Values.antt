@@ -1,5 +1,5 @@
 -- The values of window calls over rows with NULL in the columns that are not read.
-use Rattle.std.proofs.Common.{◌≡◌, ℕ, zero, suc, ◌+◌, ◌-◌, ℤ, pos, ◌-ℤ◌, Bool, true, false, cond, not, ◌&&◌, List, [], ◌∷◌, ◌++◌, map, filter, length, count_by, refl, sym, ◌∙◌, ap, is_lt, is_gt, nat_eq, nat_lt, nat_le, Option, None, Some, option_to_list, Ok}
+use Rattle.std.proofs.Common.{◌≡◌, ℕ, ◌+◌, ◌-◌, pos, ◌-ℤ◌, Bool, true, cond, not, ◌&&◌, List, [], ◌∷◌, map, filter, count_by, refl, sym, ◌∙◌, ap, is_lt, nat_eq, nat_lt, nat_le, option_to_list, Ok}
 use Rattle.std.specs.List.{AllByRecursion, enumerate_from}
 use Rattle.std.specs.Ordering.{ordering_then}
 use Rattle.std.proofs.lemmas.List.{length-map}
@@ -17,7 +17,7 @@ use Rattle.wd_plan.specs.Frames.{Distances, bound_asks, ends_at, frame_of, in_fr
 use Rattle.wd_plan.specs.Functions.{argument_of}
 use Rattle.wd_plan.specs.Partitions.{different, group_of, members, partition_of, place_in}
 use Rattle.wd_plan.specs.Plans.{ClassRule}
-use Rattle.wd_plan.specs.Sorting.{class_columns, order_columns, same_partition}
+use Rattle.wd_plan.specs.Sorting.{order_columns, same_partition}
 use Rattle.wd_plan.specs.declared.function.Aggregate.{Aggregate as AggregateFunction}
 use Rattle.wd_plan.specs.declared.function.Aggregate.TheVariants.{CountRows, Count, Sum, Min, Max}
 use Rattle.wd_plan.specs.declared.function.Direction.TheVariants.{Lag, Lead}
@@ -91,8 +91,8 @@ module _ (read : Read) where
     group_read : (part : List Row) (r : Row) → group_of class (map m part) (m r) ≡ group_of class part r
     group_read part r =
         ap different (
-          ap (map (columns_of (key_columns class.order))) (filter_map m (λ q. is_lt (compare_keys class.order q (m r))) (λ q. is_lt (compare_keys class.order q r)) (λ q. ap is_lt (keys_read class.order keys q r)) part)
-          ∙ map_of_map m (columns_of (key_columns class.order)) (columns_of (key_columns class.order)) (columns_read (key_columns class.order) keys) (filter (λ q. is_lt (compare_keys class.order q r)) part))
+        ap (map (columns_of (key_columns class.order))) (filter_map m (λ q. is_lt (compare_keys class.order q (m r))) (λ q. is_lt (compare_keys class.order q r)) (λ q. ap is_lt (keys_read class.order keys q r)) part)
+        ∙ map_of_map m (columns_of (key_columns class.order)) (columns_of (key_columns class.order)) (columns_read (key_columns class.order) keys) (filter (λ q. is_lt (compare_keys class.order q r)) part))
 
     test_read : (frame : Frame) (part : List Row) (i : ℕ) (a : Row) (j : ℕ) (b : Row) → in_frame class frame (group_of class (map m part)) i (m a) j (m b) ≡ in_frame class frame (group_of class part) i a j b
     test_read frame part i a j b = λ t.
@@ -107,8 +107,8 @@ module _ (read : Read) where
         let old = λ (x : ℕ × Row). in_frame class frame (group_of class part) i (row_at part i) x.0 x.1 in
         let new = λ (x : ℕ × Row). in_frame class frame (group_of class (map m part)) i (row_at (map m part) i) x.0 x.1 in
         let picked : filter new (enumerate_from 0 (map m part)) ≡ map numbered (filter old (enumerate_from 0 part)) =
-          ap (filter new) (enumerate_of_map m 0 part)
-          ∙ filter_map numbered new old (λ x. ap (λ r. in_frame class frame (group_of class (map m part)) i r x.0 (m x.1)) (row_read part i) ∙ test_read frame part i (row_at part i) x.0 x.1) (enumerate_from 0 part) in
+        ap (filter new) (enumerate_of_map m 0 part)
+        ∙ filter_map numbered new old (λ x. ap (λ r. in_frame class frame (group_of class (map m part)) i r x.0 (m x.1)) (row_read part i) ∙ test_read frame part i (row_at part i) x.0 x.1) (enumerate_from 0 part) in
         ap (map (λ (x : ℕ × Row). x.1)) picked
         ∙ map_of_map numbered (λ (x : ℕ × Row). x.1) (λ (x : ℕ × Row). m x.1) (λ x. refl) (filter old (enumerate_from 0 part))
         ∙ sym (map_of_map (λ (x : ℕ × Row). x.1) m (λ (x : ℕ × Row). m x.1) (λ x. refl) (filter old (enumerate_from 0 part)))

@@ -1,11 +1,10 @@
 -- Windows and orderings over rows with NULL in the columns that are not read.
-use Rattle.std.proofs.Common.{◌≡◌, ℕ, zero, suc, ◌+◌, ◌<◌, ◌≤◌, Bool, true, false, cond, not, ◌||◌, List, [], ◌∷◌, ◌++◌, map, flat_map, length, get_or, refl, sym, ◌∙◌, ap, subst, arith, is_gt, option_to_list, Result, Ok, Err}
-use Rattle.std.specs.List.{AllByRecursion, range_with_len}
+use Rattle.std.proofs.Common.{◌≡◌, ℕ, zero, suc, ◌<◌, Bool, true, false, cond, not, ◌||◌, List, [], ◌∷◌, ◌++◌, map, flat_map, length, refl, sym, ◌∙◌, ap, subst, arith, is_gt, option_to_list, Result, Ok, Err}
+use Rattle.std.specs.List.{AllByRecursion}
 use Rattle.std.proofs.lemmas.List.{length-map}
 use Rattle.wd_value.specs.Bags.{EachOnce, positions}
 use Rattle.wd_value.specs.declared.value.Fault.{Fault}
 use Rattle.wd_value.specs.declared.value.Value.{Value}
-use Rattle.wd_value.specs.declared.value.Value.TheVariants.{Null, Int}
 use Rattle.wd_value.specs.Keys.{compare_keys}
 use Rattle.wd_value.specs.Rows.{Row, row_at, rows_at}
 use Rattle.wd_facts.proofs.Lists.{all_left, all_right}
@@ -28,7 +27,7 @@ use Rattle.wd_plan.specs.declared.window.Frame.{Frame}
 use Rattle.wd_simpler.proofs.Alike.{AreAlikeOn, AreSameOn, all_weaken, also_read, has_also, has_each, has_left, has_right}
 use Rattle.wd_simpler.proofs.Masks.{mask, mask_append, mask_long, mask_more}
 use Rattle.wd_simpler.proofs.Results.{before, over, over_all}
-use Rattle.wd_simpler.proofs.Steps.{masked_before, masked_more, shown_of}
+use Rattle.wd_simpler.proofs.Steps.{masked_before, shown_of}
 use Rattle.wd_simpler.proofs.Values.{AreRead, keys_read, map_of_map, partition_read, row_read, rows_read, value_read}
 use Rattle.wd_simpler.specs.Simpler.{Read, after, and_also, count_of, never_faults, next, read_call, read_calls, read_window, window_reads}
 
@@ -122,7 +121,7 @@ module _ (read : Read) (n : ℕ) (w : WindowRule) (orderings : List (List ℕ)) 
   row_swapped rows r long =
       let row = row_at rows r in
       let calls : over (mask (after (length row) read)) (all_ok (map (call_at w rows orderings r) w.calls)) ≡ over (mask (after (length row) read)) (all_ok (map (call_at w rows orderings r) (read_calls (after n read) w.calls))) =
-        subst (λ k. over (mask (after k read)) (all_ok (map (call_at w rows orderings r) w.calls)) ≡ over (mask (after k read)) (all_ok (map (call_at w rows orderings r) (read_calls (after n read) w.calls)))) (sym long) (calls_swapped w rows orderings r (after n read) w.calls) in
+      subst (λ k. over (mask (after k read)) (all_ok (map (call_at w rows orderings r) w.calls)) ≡ over (mask (after k read)) (all_ok (map (call_at w rows orderings r) (read_calls (after n read) w.calls)))) (sym long) (calls_swapped w rows orderings r (after n read) w.calls) in
       after_row read row (all_ok (map (call_at w rows orderings r) w.calls))
       ∙ ap (over (λ values. mask read row ++ values)) calls
       ∙ sym (after_row read row (all_ok (map (call_at w rows orderings r) (read_calls (after n read) w.calls))))
@@ -138,8 +137,8 @@ module _ (read : Read) (n : ℕ) (w : WindowRule) (orderings : List (List ℕ)) 
 module _ (read : Read) (w : WindowRule) where
   class_reads : AllByRecursion (λ (class : ClassRule). AreRead (and_also read (window_reads w)) (class_columns class)) w.classes
   class_reads = all_weaken (λ (class : ClassRule). AllByRecursion (λ c. has (flat_map class_columns w.classes) c ≡ true) (class_columns class)) (λ (class : ClassRule). AreRead (and_also read (window_reads w)) (class_columns class))
-    (λ class a. all_weaken (λ c. has (flat_map class_columns w.classes) c ≡ true) (λ c. and_also read (window_reads w) c ≡ true) (λ c h. has_also read (window_reads w) c (has_left (flat_map class_columns w.classes) (flat_map (λ (call : Call). option_to_list (argument_of call.function)) w.calls) c h)) (class_columns class) a)
-    w.classes (has_each class_columns w.classes)
+      (λ class a. all_weaken (λ c. has (flat_map class_columns w.classes) c ≡ true) (λ c. and_also read (window_reads w) c ≡ true) (λ c h. has_also read (window_reads w) c (has_left (flat_map class_columns w.classes) (flat_map (λ (call : Call). option_to_list (argument_of call.function)) w.calls) c h)) (class_columns class) a)
+      w.classes (has_each class_columns w.classes)
 
   -- also a class that is not there, which has no columns
   pub class_read : (n : ℕ) → AreRead (and_also read (window_reads w)) (class_columns (class_at w n))
@@ -156,8 +155,8 @@ module _ (read : Read) (w : WindowRule) where
 
   argument_reads : AllByRecursion ArgumentIsRead w.calls
   argument_reads = all_weaken (λ (call : Call). AllByRecursion (λ c. has (flat_map (λ (call : Call). option_to_list (argument_of call.function)) w.calls) c ≡ true) (option_to_list (argument_of call.function))) ArgumentIsRead
-    (λ call a. all_weaken (λ c. has (flat_map (λ (call : Call). option_to_list (argument_of call.function)) w.calls) c ≡ true) (λ c. and_also read (window_reads w) c ≡ true) (λ c h. has_also read (window_reads w) c (has_right (flat_map class_columns w.classes) (flat_map (λ (call : Call). option_to_list (argument_of call.function)) w.calls) c h)) (option_to_list (argument_of call.function)) a)
-    w.calls (has_each (λ (call : Call). option_to_list (argument_of call.function)) w.calls)
+      (λ call a. all_weaken (λ c. has (flat_map (λ (call : Call). option_to_list (argument_of call.function)) w.calls) c ≡ true) (λ c. and_also read (window_reads w) c ≡ true) (λ c h. has_also read (window_reads w) c (has_right (flat_map class_columns w.classes) (flat_map (λ (call : Call). option_to_list (argument_of call.function)) w.calls) c h)) (option_to_list (argument_of call.function)) a)
+      w.calls (has_each (λ (call : Call). option_to_list (argument_of call.function)) w.calls)
 
   -- ---- its outcome
 
@@ -171,7 +170,7 @@ module _ (read : Read) (w : WindowRule) where
         let m = mask more in
         let row = row_at rows r in
         let calls : all_ok (map (call_at w (map m rows) orderings r) w.calls) ≡ all_ok (map (call_at w rows orderings r) w.calls) =
-          ap all_ok (map_same ArgumentIsRead (call_at w (map m rows) orderings r) (call_at w rows orderings r) (call_same rows r) w.calls argument_reads) in
+        ap all_ok (map_same ArgumentIsRead (call_at w (map m rows) orderings r) (call_at w rows orderings r) (call_same rows r) w.calls argument_reads) in
         let values = all_ok (map (call_at w rows orderings r) w.calls) in
         (λ i. over (mask read) (and_then (calls i) (λ vs. Ok (row_read more rows r i ++ vs))))
         ∙ after_row read (m row) values

@@ -1,5 +1,5 @@
 -- Sets of columns that are read, as the code has them.
-use Rattle.std.specs.Prelude.{◌≡◌, ◌||◌, ℕ, List, Option, None, Some, nat_eq}
+use Rattle.std.specs.Prelude.{◌≡◌, ◌||◌, ℕ, List, Option, None, Some}
 use Rattle.wd_plan.specs.Plans.{has}
 use Rattle.wd_sets.specs.Sets.{has_column}
 use Rattle.wd_sets.specs.declared.set.Set.{Set}

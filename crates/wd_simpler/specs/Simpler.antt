@@ -19,7 +19,7 @@ use Rattle.wd_plan.specs.declared.window.FrameMode.TheVariants.{Range}
 use Rattle.wd_plan.specs.Expressions.{Expression, Column, Literal, Negate, Arithmetic, Compare, Not, And, Or, IsNull, IsNotNull, Case}
 use Rattle.wd_plan.specs.Fits.{width}
 use Rattle.wd_plan.specs.Functions.{argument_of}
-use Rattle.wd_plan.specs.Plans.{ClassRule, WindowRule, LimitRule, PlanTree, Scan, Join, Filter, Map, Group, Window, Distinct, Limit, has}
+use Rattle.wd_plan.specs.Plans.{WindowRule, LimitRule, PlanTree, Scan, Join, Filter, Map, Group, Window, Distinct, Limit, has}
 use Rattle.wd_plan.specs.Sorting.{class_columns}
 use Rattle.wd_step_facts.specs.Steps.{used}
 

@@ -147,7 +147,12 @@ fn with_condition(read: Option<Set>, condition: &Option<Expr>) -> Result<Option<
 }
 
 /// What is read of so many columns after the first so many.
-fn right_of(alloc: Global, read: &Option<Set>, first: u32, count: u32) -> Result<Option<Set>, OutOfMemory>
+fn right_of(
+    alloc: Global,
+    read: &Option<Set>,
+    first: u32,
+    count: u32,
+) -> Result<Option<Set>, OutOfMemory>
     requires { first + count < 65536 }
     ensures { IfOk result (λ o. (c : ℕ) → c < count → read_of o c ≡ spec.after first (read_of read.now) c) }
 {
