@@ -10,13 +10,14 @@ use wd_lines::Kind;
 
 /// What a finding counts as.
 pub fn kind_of(finding: &Finding) -> Kind
-    ensures { result ≡ spec.kind_of finding.now.verdict finding.now.further }
+    ensures { result ≡ spec.kind_of finding.now.verdict finding.now.certain finding.now.further }
 {
-    match (&finding.verdict, &finding.further) {
-        (Verdict::Deterministic(_), _) => Kind::Deterministic,
-        (Verdict::Depends(_), _) => Kind::Depends,
-        (Verdict::Unknown(_), Some(_)) => Kind::Depends,
-        (Verdict::Unknown(_), None) => Kind::MayTie,
+    match (&finding.verdict, &finding.certain, &finding.further) {
+        (Verdict::Deterministic(_), _, _) => Kind::Deterministic,
+        (Verdict::Depends(_), _, _) => Kind::Depends,
+        (Verdict::Unknown(_), Some(_), _) => Kind::Deterministic,
+        (Verdict::Unknown(_), None, Some(_)) => Kind::Depends,
+        (Verdict::Unknown(_), None, None) => Kind::MayTie,
     }
 }
 

@@ -1,5 +1,5 @@
 -- What a finding says.
-use Rattle.std.specs.Prelude.{◌≡◌, ℕ, List, [], map, Option, Some, None, IfSome, option_map}
+use Rattle.std.specs.Prelude.{◌≡◌, ℕ, List, [], map, Option, Some, None, IfSome, option_map, ⊤}
 use Rattle.wd_schema.specs.Schemas.{schema_of}
 use Rattle.wd_schema.specs.Tables.{TableRule}
 use Rattle.wd_plan.specs.Outcomes.{outcome_of}
@@ -7,6 +7,9 @@ use Rattle.wd_plan.specs.Plans.{PlanTree, plan_of}
 use Rattle.wd_analyse.specs.Analysis.{IsAnswer}
 use Rattle.wd_analyse.specs.declared.analysis.Analysis.{Analysis}
 use Rattle.wd_analyse.specs.declared.analysis.Reason.{Reason}
+use Rattle.wd_accept.specs.Acceptance.{HaveOneAnswer}
+use Rattle.wd_certain.specs.Certain.{IsCertain}
+use Rattle.wd_certain.specs.declared.certain.Certain.{Certain}
 use Rattle.wd_eval.specs.Judged.{IsOutcome}
 use Rattle.wd_query.specs.Readings.{IsRead}
 use Rattle.wd_seek.specs.Sought.{reasons_of}
@@ -40,13 +43,27 @@ AreAnswers tables plan (Some witness) answers = IfSome answers (AreUnder tables 
 abbrev pub reason_of : OpenPlace → Reason
 reason_of place = place.reason
 
--- The plan reads the two texts, the verdict is one of `decide` on them, what is open is what the analysis of the plan leaves open, what a
--- further search found is true, and the answers are those of the witness.
+abbrev pub IsUnknown : Verdict → Type 0
+IsUnknown (Deterministic certificate) = ⊥
+IsUnknown (Depends witness) = ⊥
+IsUnknown (Unknown reasons) = ⊤
+
+-- what is told as open: what the analysis leaves open, and nothing where a simpler plan is certified
+abbrev pub open_in : Option Certain → Analysis → List Reason
+open_in None analysis = reasons_of analysis
+open_in (Some certain) analysis = []
+
+-- The plan reads the two texts, the verdict is one of `decide` on them; where that is UNKNOWN, there may be a certificate of a simpler plan,
+-- and then the query has one answer; what is open is what the analysis of the plan leaves open; what a further search found is true, and
+-- the answers are those of the witness.
 pub record IsFinding (schema query : List ℕ) (finding : Finding) : Type 0 where
   pub read : IsRead schema query finding.planned
   pub verdict : IsVerdict schema query finding.verdict
+  pub unknown : IfSome finding.certain (λ c. IsUnknown finding.verdict)
+  pub certain : IfSome finding.certain (IsCertain schema query)
+  pub one_answer : IfSome finding.certain (λ c. HaveOneAnswer schema query)
   pub analysis : Analysis
   pub analysed : IsAnswer (schema_of finding.planned.schema) (plan_of finding.planned.resolved.plan) analysis
-  pub reasons : map reason_of finding.places.items ≡ reasons_of analysis
+  pub reasons : map reason_of finding.places.items ≡ open_in finding.certain analysis
   pub further : IfSome finding.further (IsFound schema query)
   pub answers : AreAnswers (schema_of finding.planned.schema) (plan_of finding.planned.resolved.plan) (witness_shown finding.verdict finding.further) finding.answers

@@ -1,18 +1,20 @@
 //! What is found of a query.
 
 ghost use Rattle.std.specs.Prelude.{◌≡◌, true, map, option_map, IfOk, IfErr, IfSome};
+ghost use Rattle.wd_accept.specs.Acceptance.{HaveOneAnswer};
+ghost use Rattle.wd_certain.specs.Certain.{IsCertain};
 ghost use Rattle.wd_decide.specs.Verdicts.{HasCause};
-ghost use Rattle.wd_finding.specs.Findings.{AreAnswers, IsFinding, reason_of, witness_shown};
+ghost use Rattle.wd_finding.specs.Findings.{AreAnswers, IsFinding, IsUnknown, open_in, reason_of, witness_shown};
 ghost use Rattle.wd_further.specs.Finds.{IsFound};
 ghost use Rattle.wd_plan.specs.Fits.{fits};
 ghost use Rattle.wd_plan.specs.Plans.{plan_of};
 ghost use Rattle.wd_schema.specs.Schemas.{schema_of};
-ghost use Rattle.wd_seek.specs.Sought.{reasons_of};
 
 use crate::answers::{Answers, answers_under};
 use crate::place::{OpenPlace, places};
 use std::alloc::Global;
 use wd_analyse::{Analysis, Reason};
+use wd_certain::{Certain, certify_simpler};
 use wd_decide::{DecideError, Examined, Verdict, decide, examine};
 use wd_further::{Found, seek_further};
 use wd_query::PlannedQuery;
@@ -25,7 +27,9 @@ pub struct Finding {
     /// The schema, and the plan of the query.
     pub planned: PlannedQuery,
     pub verdict: Verdict,
-    /// The calls and the limits for which no rule is known, in postorder.
+    /// Where the verdict is UNKNOWN, the certificate of a simpler plan, for which the query has one answer.
+    pub certain: Option<Certain>,
+    /// The calls and the limits for which no rule is known, in postorder; none where the simpler plan is certified.
     pub places: Vec<OpenPlace>,
     /// Where the verdict is UNKNOWN, the witness that a further search finds.
     pub further: Option<Found>,
@@ -53,8 +57,9 @@ fn witness_of_all<'a>(verdict: &'a Verdict, further: &'a Option<Found>) -> Optio
     }
 }
 
-/// The verdict on a query over a schema, and the calls and the limits that are open. Where the verdict is UNKNOWN, a further search is
-/// made for a witness. Where there is one, the query's answers over its tables under its two choices.
+/// The verdict on a query over a schema, and the calls and the limits that are open. Where the verdict is UNKNOWN, a simpler plan is
+/// analysed, and where that leaves something open too, a further search is made for a witness. Where there is one, the query's
+/// answers over its tables under its two choices.
 ///
 /// Each refusal comes only where its cause stands, as `decide` says.
 pub fn judge(alloc: Global, schema: &[u8], query: &[u8]) -> Result<Finding, DecideError>
@@ -63,22 +68,41 @@ pub fn judge(alloc: Global, schema: &[u8], query: &[u8]) -> Result<Finding, Deci
 {
     let verdict = decide(alloc, schema, query)?;
     let examined = examine(alloc, schema, query)?;
-    let further = further_witness(alloc, schema, query, &verdict)?;
-    Ok(with_evidence(alloc, query, verdict, further, examined)?)
+    let certain = certified(alloc, schema, query, &verdict)?;
+    let further = further_witness(alloc, schema, query, &verdict, &certain)?;
+    Ok(with_evidence(alloc, query, verdict, certain, further, examined)?)
 }
 
-/// What a further search finds, where the verdict is UNKNOWN.
+/// The certificate of a simpler plan, where the verdict is UNKNOWN.
+fn certified(
+    alloc: Global,
+    schema: &[u8],
+    query: &[u8],
+    verdict: &Verdict,
+) -> Result<Option<Certain>, OutOfMemory>
+    ensures certain { IfOk result (λ o. IfSome o (IsCertain schema.now query.now)) }
+    ensures one_answer { IfOk result (λ o. IfSome o (λ _. HaveOneAnswer schema.now query.now)) }
+    ensures unknown { IfOk result (λ o. IfSome o (λ _. IsUnknown verdict.now)) }
+{
+    match verdict {
+        Verdict::Unknown(_) => certify_simpler(alloc, schema, query),
+        Verdict::Deterministic(_) | Verdict::Depends(_) => Ok(None),
+    }
+}
+
+/// What a further search finds, where the verdict is UNKNOWN and no simpler plan is certified.
 fn further_witness(
     alloc: Global,
     schema: &[u8],
     query: &[u8],
     verdict: &Verdict,
+    certain: &Option<Certain>,
 ) -> Result<Option<Found>, OutOfMemory>
     ensures { IfOk result (λ o. IfSome o (IsFound schema.now query.now)) }
 {
-    match verdict {
-        Verdict::Unknown(_) => seek_further(alloc, schema, query),
-        Verdict::Deterministic(_) | Verdict::Depends(_) => Ok(None),
+    match (verdict, certain) {
+        (Verdict::Unknown(_), None) => seek_further(alloc, schema, query),
+        _ => Ok(None),
     }
 }
 
@@ -87,35 +111,39 @@ fn with_evidence(
     alloc: Global,
     query: &[u8],
     verdict: Verdict,
+    certain: Option<Certain>,
     further: Option<Found>,
     examined: Examined,
 ) -> Result<Finding, OutOfMemory>
     requires { fits (schema_of examined.planned.schema) (plan_of examined.planned.resolved.plan) ≡ true }
     ensures verdict { IfOk result (λ f. f.verdict ≡ verdict) }
+    ensures certain { IfOk result (λ f. f.certain ≡ certain) }
     ensures planned { IfOk result (λ f. f.planned ≡ examined.planned) }
-    ensures reasons { IfOk result (λ f. map reason_of f.places.items ≡ reasons_of examined.analysis) }
+    ensures reasons { IfOk result (λ f. map reason_of f.places.items ≡ open_in certain examined.analysis) }
     ensures further { IfOk result (λ f. f.further ≡ further) }
     ensures answers { IfOk result (λ f. AreAnswers (schema_of examined.planned.schema) (plan_of examined.planned.resolved.plan) (witness_shown verdict further) f.answers) }
 {
     let Examined { planned, analysis } = examined;
-    let places = places(alloc, query, &planned.resolved.plan, reasons_in(&analysis))?;
+    let open = reasons_in(&certain, &analysis);
+    let places = places(alloc, query, &planned.resolved.plan, open)?;
     let answers = answers_of(alloc, &planned, witness_of_all(&verdict, &further))?;
     Ok(Finding {
         planned,
         verdict,
+        certain,
         places,
         further,
         answers,
     })
 }
 
-/// Why an analysis leaves calls and limits open.
-fn reasons_in(analysis: &Analysis) -> &[Reason]
-    ensures { result.now ≡ reasons_of analysis.now }
+/// Why an analysis leaves calls and limits open, where no simpler plan is certified.
+fn reasons_in<'a>(certain: &Option<Certain>, analysis: &'a Analysis) -> &'a [Reason]
+    ensures { result.now ≡ open_in certain.now analysis.now }
 {
-    match analysis {
-        Analysis::Certified(_) => &[],
-        Analysis::Open(reasons, _) => reasons,
+    match (certain, analysis) {
+        (None, Analysis::Open(reasons, _)) => reasons,
+        _ => &[],
     }
 }
 

@@ -9,7 +9,7 @@ ghost use Rattle.wd_judged.specs.Judgements.{IsJudged, IsJudgedAs, fix_of};
 use crate::block::{Block, open_blocks, refusal_block};
 use std::alloc::Global;
 use wd_block::{Statement, kind_of};
-use wd_decide::{DecideError, Verdict};
+use wd_decide::DecideError;
 use wd_finding::{Finding, judge};
 use wd_fix::Fix;
 use wd_help::{Help, help_for};
@@ -102,7 +102,7 @@ fn of_finding(
     requires { IsFinding schema.now query.now finding }
     ensures { IfOk result (IsJudgedAs schema.now query.now span) }
 {
-    let help = help_where_open(alloc, schema, query, &finding.verdict)?;
+    let help = help_where_open(alloc, schema, query, kind_of(&finding))?;
     let statement = statement_at(file, span);
     let blocks = open_blocks(alloc, statement, &finding, help.as_ref())?;
     Ok(Judged {
@@ -114,18 +114,18 @@ fn of_finding(
     })
 }
 
-/// The help for a query of which the verdict is that, where it has not one answer.
+/// The help for a query that counts as this, where it may have several answers.
 fn help_where_open(
     alloc: Global,
     schema: &[u8],
     query: &[u8],
-    verdict: &Verdict,
+    kind: Kind,
 ) -> Result<Option<Help>, OutOfMemory>
     ensures { IfOk result (λ help. IfSome help (IsHelp schema.now query.now)) }
 {
-    match verdict {
-        Verdict::Deterministic(_) => Ok(None),
-        Verdict::Depends(_) | Verdict::Unknown(_) => help_for(alloc, schema, query),
+    match kind {
+        Kind::Depends | Kind::MayTie => help_for(alloc, schema, query),
+        _ => Ok(None),
     }
 }
 

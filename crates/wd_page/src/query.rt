@@ -27,6 +27,8 @@ pub struct Judged<'a> {
     pub kind: Kind,
     pub schema: &'a Schema,
     pub plan: &'a Plan,
+    /// Whether that is not the query's own plan but a simpler one with the same answers.
+    pub is_simpler: bool,
     /// The names of the answer's columns.
     pub names: &'a [Text],
     /// What justifies each call and each limit, where the query is deterministic.

@@ -206,6 +206,9 @@ fn add_plan_part(
     places: &[Place],
 ) -> Result<(), OutOfMemory> {
     let words = match judged.kind {
+        Kind::Deterministic if judged.is_simpler => {
+            "Why: a simpler plan with the same answers, with its rules; NULL and count(*) stand for what nothing reads"
+        }
         Kind::Deterministic => "Why: the plan, from the tables to the answer, with its rules",
         _ => "The plan, from the tables to the answer",
     };

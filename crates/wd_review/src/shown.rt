@@ -76,11 +76,16 @@ fn show_finding(
     let shown = Shown {
         kind: judged.kind,
         schema: &finding.planned.schema,
-        plan: &finding.planned.resolved.plan,
+        plan: match &finding.certain {
+            Some(certain) => &certain.plan,
+            None => &finding.planned.resolved.plan,
+        },
+        is_simpler: finding.certain.is_some(),
         names: &finding.planned.resolved.names,
-        certificate: match &finding.verdict {
-            Verdict::Deterministic(certificate) => Some(certificate),
-            Verdict::Depends(_) | Verdict::Unknown(_) => None,
+        certificate: match (&finding.verdict, &finding.certain) {
+            (Verdict::Deterministic(certificate), _) => Some(certificate),
+            (_, Some(certain)) => Some(&certain.certificate),
+            _ => None,
         },
         tables: match finding.witness() {
             Some(witness) => Some(&witness.tables),

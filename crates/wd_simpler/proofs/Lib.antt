@@ -1,0 +1,9 @@
+pub mod Masks
+pub mod Results
+pub mod Values
+pub mod Alike
+pub mod Steps
+pub mod Windows
+pub mod Plans
+pub mod Same
+pub mod Sets

@@ -1,0 +1,147 @@
+-- A plan of whose columns some are read beside the narrowed one: the same choices are lawful, and what is read is the same.
+use Rattle.std.proofs.Common.{◌≡◌, ℕ, ◌+◌, true, List, [], map, length, take, drop, refl, sym, ◌∙◌, ap, subst, Ok}
+use Rattle.std.specs.List.{AllByRecursion}
+use Rattle.std.proofs.lemmas.Bool.{and_parts}
+use Rattle.wd_value.specs.declared.order.SortColumn.{SortColumn}
+use Rattle.wd_value.specs.Keys.{key_columns}
+use Rattle.wd_value.specs.Rows.{Instance, Row, rows_at}
+use Rattle.wd_schema.specs.Meets.{Meets}
+use Rattle.wd_schema.specs.Tables.{TableRule}
+use Rattle.wd_laws.proofs.Widths.{has_widths}
+use Rattle.wd_plan.specs.Choices.{AreLawful, AreOrderings, AtRows}
+use Rattle.wd_plan.specs.Facts.{HasWidth}
+use Rattle.wd_plan.specs.Faults.{and_then}
+use Rattle.wd_plan.specs.Fits.{fits, width}
+use Rattle.wd_plan.specs.Outcomes.{RowsOrFault, cut, distinct, filter_outcome, group_outcome, join_outcome, map_outcome, ordering_at, outcome, pairs, window_outcome}
+use Rattle.wd_plan.specs.Plans.{PlanTree, Scan, Join, Filter, Map, Group, Window, Distinct, Limit, ordering_count}
+use Rattle.wd_plan.specs.Sorting.{IsOrdering, limit_class}
+use Rattle.wd_simpler.proofs.Alike.{AreAlikeOn, AreSameOn, alike_every, always, at_alike, every_step, step_alike}
+use Rattle.wd_simpler.proofs.Masks.{mask}
+use Rattle.wd_simpler.proofs.Results.{over}
+use Rattle.wd_simpler.proofs.Steps.{filter_alike, join_alike, limit_alike, limit_reads, map_alike, pairs_alike, plain_keys}
+use Rattle.wd_simpler.proofs.Windows.{ordering_alike, orderings_alike, orderings_back, orderings_read, window_alike}
+use Rattle.wd_simpler.specs.Laws.{SimplerIsAlike}
+use Rattle.wd_simpler.specs.Simpler.{Read, after, and_also, condition_reads, every, narrowed, plain_limit, read_outputs, read_window, window_reads}
+
+-- the orderings stay
+count_stays : (plan : PlanTree) (read : Read) → ordering_count (narrowed plan read) ≡ ordering_count plan
+count_stays (Scan table columns) read = refl
+count_stays (Join condition left right) read =
+    let more = and_also read (condition_reads condition) in
+    λ i. count_stays left more i + count_stays right (after (width left) more) i
+count_stays (Filter condition input) read = count_stays input _
+count_stays (Map outputs input) read = count_stays input _
+count_stays (Group rule input) read = count_stays input _
+count_stays (Window w input) read = ap (λ n. n + length w.classes) (count_stays input _)
+count_stays (Distinct input) read = count_stays input _
+count_stays (Limit limit input) read = ap (λ n. n + 1) (count_stays input _)
+
+-- a plan and another one under a choice
+record Narrows (plan other : PlanTree) (read : Read) (instance : Instance) (choice : List (List ℕ)) : Type 0 where
+  lawful : AreLawful plan instance choice → AreLawful other instance choice
+  back : AreLawful other instance choice → AreLawful plan instance choice
+  alike : AreLawful plan instance choice → AreAlikeOn read (outcome plan instance choice) (outcome other instance choice)
+
+-- the other way round
+back_alike : (read : Read) (a b : RowsOrFault) → AreAlikeOn read a b → AreAlikeOn read b a
+back_alike read a b e = sym e
+
+module _ (tables : List TableRule) (instance : Instance) (meets : Meets tables instance) where
+  -- a step that has no orderings
+  over_step : (input other : PlanTree) (more : Read) (choice : List (List ℕ)) (below : Narrows input other more instance choice) (read : Read) (f g : List Row → RowsOrFault) → ((rows others : List Row) → AreSameOn more rows others → AreAlikeOn read (f rows) (g others)) → AreLawful input instance choice → AreAlikeOn read (and_then (outcome input instance choice) f) (and_then (outcome other instance choice) g)
+  over_step input other more choice below read f g h lawful = step_alike (λ rows. Unit {0}) more read f g (λ rows others q e. h rows others e) (outcome input instance choice) (outcome other instance choice) (always (outcome input instance choice)) (below.alike lawful)
+
+  narrows : (plan : PlanTree) (read : Read) (choice : List (List ℕ)) → fits tables plan ≡ true → Narrows plan (narrowed plan read) read instance choice
+  narrows (Scan table columns) read choice fit = record { lawful = λ a. a; back = λ a. a; alike = λ a. refl }
+  narrows (Join condition left right) read choice fit =
+      let fit_sides = and_parts (fits tables left) (fits tables right) (and_parts _ _ fit).0 in
+      let columns = width left in
+      let more = and_also read (condition_reads condition) in
+      let rest = drop (ordering_count left) choice in
+      let l = narrows left more choice fit_sides.0 in
+      let r = narrows right (after columns more) rest fit_sides.1 in
+      let other = narrowed right (after columns more) in
+      let count : ordering_count (narrowed left more) ≡ ordering_count left = count_stays left more in
+      record {
+        lawful = λ a. (l.lawful a.0, subst (λ n. AreLawful other instance (drop n choice)) (sym count) (r.lawful a.1));
+        back = λ a. (l.back a.0, r.back (subst (λ n. AreLawful other instance (drop n choice)) count a.1));
+        alike = λ a.
+            step_alike (HasWidth columns) more read (λ ls. and_then (outcome right instance rest) (λ rs. join_outcome condition (pairs ls rs))) (λ ls. and_then (outcome other instance rest) (λ rs. join_outcome condition (pairs ls rs)))
+            (λ ls others wide e. step_alike (λ rows. Unit {0}) (after columns more) read (λ rs. join_outcome condition (pairs ls rs)) (λ rs. join_outcome condition (pairs others rs)) (λ rs rows q f. join_alike read condition (pairs ls rs) (pairs others rows) (pairs_alike columns more ls others rs rows wide e f)) (outcome right instance rest) (outcome other instance rest) (always (outcome right instance rest)) (r.alike a.1))
+            (outcome left instance choice) (outcome (narrowed left more) instance choice) (has_widths tables left instance choice fit_sides.0 meets a.0) (l.alike a.0)
+            ∙ ap (λ n. over (map (mask read)) (and_then (outcome (narrowed left more) instance choice) (λ ls. and_then (outcome other instance (drop n choice)) (λ rs. join_outcome condition (pairs ls rs))))) (sym count);
+      }
+  narrows (Filter condition input) read choice fit =
+      let below = narrows input (and_also read _) choice (and_parts _ _ fit).0 in
+      record {
+        lawful = below.lawful;
+        back = below.back;
+        alike = over_step input _ _ choice below read (filter_outcome condition) (filter_outcome condition) (filter_alike read condition);
+      }
+  narrows (Map outputs input) read choice fit =
+      let below = narrows input _ choice (and_parts _ _ fit).0 in
+      record {
+        lawful = below.lawful;
+        back = below.back;
+        alike = over_step input _ _ choice below read (map_outcome outputs) (map_outcome (read_outputs read outputs)) (map_alike read outputs);
+      }
+  narrows (Group rule input) read choice fit =
+      let below = narrows input every choice (and_parts _ _ fit).0 in
+      record {
+        lawful = below.lawful;
+        back = below.back;
+        alike = λ a. every_step read (group_outcome rule) _ _ (below.alike a);
+      }
+  narrows (Window w input) read choice fit =
+      let columns = width input in
+      let own = read_window (after columns read) w in
+      let more = and_also read (window_reads own) in
+      let below = narrows input more choice (and_parts _ _ fit).0 in
+      let other = narrowed input more in
+      let count : ordering_count other ≡ ordering_count input = count_stays input more in
+      let orderings = λ (n : ℕ). take (length w.classes) (drop n choice) in
+      let here = orderings (ordering_count input) in
+      let Served = λ (n : ℕ). AtRows (outcome other instance choice) (λ rows. AreOrderings own rows (orderings n)) (AllByRecursion (λ o. o ≡ []) (orderings n)) in
+      record {
+        lawful = λ a. (below.lawful a.0, subst Served (sym count) (at_alike (λ rows. AreOrderings w rows here) (λ rows. AreOrderings own rows here) (AllByRecursion (λ o. o ≡ []) here) more (λ rows others e o. orderings_alike read own here rows others e (orderings_read (after columns read) w rows here o)) (outcome input instance choice) (outcome other instance choice) (below.alike a.0) a.1));
+        back = λ a. (below.back a.0, at_alike (λ rows. AreOrderings own rows here) (λ rows. AreOrderings w rows here) (AllByRecursion (λ o. o ≡ []) here) more (λ rows others e o. orderings_back (after columns read) w others here (orderings_alike read own here rows others e o)) (outcome other instance choice) (outcome input instance choice) (sym (below.alike (below.back a.0))) (subst Served count a.1));
+        alike = λ a.
+            step_alike (HasWidth columns) more read (λ rows. window_outcome w rows here) (λ rows. window_outcome own rows here) (λ rows others wide e. window_alike read columns w here rows others wide e) (outcome input instance choice) (outcome other instance choice) (has_widths tables input instance choice (and_parts _ _ fit).0 meets a.0) (below.alike a.0)
+            ∙ ap (λ n. over (map (mask read)) (and_then (outcome other instance choice) (λ rows. window_outcome own rows (orderings n)))) (sym count);
+      }
+  narrows (Distinct input) read choice fit =
+      let below = narrows input every choice fit in
+      record {
+        lawful = below.lawful;
+        back = below.back;
+        alike = λ a. every_step read (λ rows. Ok (distinct rows)) _ _ (below.alike a);
+      }
+  narrows (Limit limit input) read choice fit =
+      let more = and_also read (key_columns limit.keys) in
+      let below = narrows input more choice (and_parts _ _ fit).0 in
+      let other = narrowed input more in
+      let count : ordering_count other ≡ ordering_count input = count_stays input more in
+      let here = ordering_at choice (ordering_count input) in
+      let Lawful = λ (keys : List SortColumn) (rows : List Row) (ordering : List ℕ). IsOrdering (record { partition = []; order = keys }) rows ordering in
+      let Served = λ (keys : List SortColumn) (n : ℕ). AtRows (outcome other instance choice) (λ rows. Lawful keys rows (ordering_at choice n)) (ordering_at choice n ≡ []) in
+      let keys : (plain_limit limit).keys ≡ limit.keys = plain_keys limit in
+      let lawful_too : (rows others : List Row) → AreSameOn more rows others → Lawful limit.keys rows here → Lawful limit.keys others here =
+      λ rows others e o. ordering_alike more (limit_class limit) tt (limit_reads read limit) rows others e here o in
+      record {
+        lawful = λ a. (below.lawful a.0, subst (λ k. Served k (ordering_count other)) (sym keys) (subst (Served limit.keys) (sym count) (at_alike (λ rows. Lawful limit.keys rows here) (λ rows. Lawful limit.keys rows here) (here ≡ []) more lawful_too (outcome input instance choice) (outcome other instance choice) (below.alike a.0) a.1)));
+        back = λ a. (below.back a.0, at_alike (λ rows. Lawful limit.keys rows here) (λ rows. Lawful limit.keys rows here) (here ≡ []) more lawful_too (outcome other instance choice) (outcome input instance choice) (sym (below.alike (below.back a.0))) (subst (Served limit.keys) count (subst (λ k. Served k (ordering_count other)) keys a.1)));
+        alike = λ a.
+            over_step input other more choice below read (λ rows. Ok (cut limit (rows_at rows here))) (λ rows. Ok (cut (plain_limit limit) (rows_at rows here))) (limit_alike read limit here) a.0
+            ∙ ap (λ n. over (map (mask read)) (and_then (outcome other instance choice) (λ rows. Ok (cut (plain_limit limit) (rows_at rows (ordering_at choice n)))))) (sym count);
+      }
+
+pub simpler_is_alike : SimplerIsAlike
+simpler_is_alike tables plan instance fit meets =
+    let count = count_stays plan every in
+    record {
+      valid = λ choice. let n = narrows tables instance meets plan every choice fit in (
+        (λ v. record { number = v.number ∙ sym count; lawful = n.lawful v.lawful }),
+        (λ v. record { number = v.number ∙ count; lawful = n.back v.lawful }),
+      );
+      same = λ choice v. let n = narrows tables instance meets plan every choice fit in alike_every _ _ (n.alike v.lawful);
+    }

@@ -1,0 +1,72 @@
+use Rattle.std.proofs.Common.{◌≡◌, ℕ, ◌+◌, ◌<◌, map, flat_map, option_map, true, ap, sym, subst, ◌∙◌, arith}
+use Rattle.std.proofs.lemmas.Bool.{and_parts}
+use Rattle.wd_plan.proofs.Ranges.{narrow}
+use Rattle.wd_plan.specs.Expressions.{expression_of}
+use Rattle.wd_plan.specs.Fits.{fits, width}
+use Rattle.wd_plan.specs.Plans.{Filter, Join, Limit, Map, PlanTree, Window, WindowRule, has, limit_of, plan_of, window_of}
+use Rattle.wd_schema.specs.Schemas.{schema_of}
+use Rattle.wd_simpler.proofs.Same.{narrow_alike, narrow_same}
+use Rattle.wd_simpler.specs.Sets.{read_of}
+use Rattle.wd_simpler.specs.Simpler.{after, and_also, condition_reads, narrowed, read_window, window_reads}
+use Rattle.wd_step_facts.specs.Steps.{used}
+use Rattle.wd_value.specs.Keys.{key_columns}
+use Rattle.wd_simpler.proofs.plan.+narrowed.Goals as goal
+
+pub returns-in_ok-new-in-Filter : goal.returns-in_ok-new-in-Filter
+returns-in_ok-new-in-Filter t c =
+    let e = narrow_alike (plan_of c.in-Filter.input.value) (read_of c.in_ok-more-in-Filter.more) (and_also (read_of c.args.read) (used (expression_of c.in-Filter.condition))) c.in_ok-more-in-Filter.ensures in
+    rw c.in-Filter.is (ap (Filter (expression_of c.in-Filter.condition)) (ap plan_of c.in_ok-new-in-Filter.ensures.ok ∙ c.in_ok-input-in-Filter.ensures ∙ ap (λ p. narrowed (plan_of p) (read_of c.in_ok-more-in-Filter.more)) c.into_inner-in-Filter.ensures ∙ e))
+
+pub returns-in_ok-new-in-Limit : goal.returns-in_ok-new-in-Limit
+returns-in_ok-new-in-Limit t c =
+    let e = narrow_alike (plan_of c.in-Limit.input.value) (read_of c.in_ok-more-in-Limit.more) (and_also (read_of c.args.read) (key_columns (limit_of c.in-Limit.limit).keys)) c.in_ok-more-in-Limit.ensures in
+    let below : plan_of c.in_ok-new-in-Limit.field-0.value ≡ narrowed (plan_of c.in-Limit.input.value) (and_also (read_of c.args.read) (key_columns (limit_of c.in-Limit.limit).keys)) =
+    ap plan_of c.in_ok-new-in-Limit.ensures.ok ∙ c.in_ok-input-in-Limit.ensures ∙ ap (λ p. narrowed (plan_of p) (read_of c.in_ok-more-in-Limit.more)) c.into_inner-in-Limit.ensures ∙ e in
+    rw c.in-Limit.is (λ i. Limit (c.plain_limit.ensures i) (below i))
+
+pub returns-in_ok-new-in-Map : goal.returns-in_ok-new-in-Map
+returns-in_ok-new-in-Map t c =
+    let own = map expression_of c.in_ok-outputs-in-Map.outputs.items in
+    let shown = subst (λ l. (d : ℕ) → read_of c.in_ok-below-in-Map.below d ≡ has (flat_map used (map expression_of l)) d) c.deref-in-Map.ensures.value c.in_ok-below-in-Map.ensures in
+    let e = narrow_alike (plan_of c.in-Map.input.value) (read_of c.in_ok-below-in-Map.below) (has (flat_map used own)) shown in
+    let below : plan_of c.in_ok-new-in-Map.field-0.value ≡ narrowed (plan_of c.in-Map.input.value) (has (flat_map used own)) =
+    ap plan_of c.in_ok-new-in-Map.ensures.ok ∙ c.in_ok-input-in-Map.ensures ∙ ap (λ p. narrowed (plan_of p) (read_of c.in_ok-below-in-Map.below)) c.into_inner-in-Map.ensures ∙ e in
+    rw c.in-Map.is (ap (Map own) below ∙ ap (λ es. Map es (narrowed (plan_of c.in-Map.input.value) (has (flat_map used es)))) c.in_ok-outputs-in-Map.ensures)
+
+pub returns-in_ok-new-in-Window : goal.returns-in_ok-new-in-Window
+returns-in_ok-new-in-Window t c =
+    let input : PlanTree = plan_of c.in-Window.input.value in
+    let read = read_of c.args.read in
+    let own : WindowRule = window_of c.in_ok-window-in-Window.window in
+    let fit = subst (λ p. fits (schema_of c.args.schema.now) (plan_of p) ≡ true) c.in-Window.is c.requires in
+    let small = narrow (schema_of c.args.schema.now) input (and_parts _ _ fit).0 in
+    let there : width (plan_of c.deref-in-Window.result.now) ≡ width input = ap (λ p. width (plan_of p)) c.deref-in-Window.ensures in
+    let columns : c.width-in-Window.result ≡ width input = omega (arith, c.width-in-Window.ensures, there, small) in
+    let e = narrow_alike input (read_of c.in_ok-more-in-Window.more) (and_also read (window_reads own)) c.in_ok-more-in-Window.ensures in
+    let below : plan_of c.in_ok-new-in-Window.field-0.value ≡ narrowed input (and_also read (window_reads own)) =
+    ap plan_of c.in_ok-new-in-Window.ensures.ok ∙ c.in_ok-input-in-Window.ensures ∙ ap (λ p. narrowed (plan_of p) (read_of c.in_ok-more-in-Window.more)) c.into_inner-in-Window.ensures ∙ e in
+    let is : own ≡ read_window (after (width input) read) (window_of c.in-Window.window) = c.in_ok-window-in-Window.ensures ∙ ap (λ n. read_window (after n read) (window_of c.in-Window.window)) columns in
+    rw c.in-Window.is (ap (Window own) below ∙ ap (λ w. Window w (narrowed input (and_also read (window_reads w)))) is)
+
+pub returns-in_ok-new-in-Join-2 : goal.returns-in_ok-new-in-Join-2
+returns-in_ok-new-in-Join-2 t c =
+    let left : PlanTree = plan_of c.in-Join.left.value in
+    let right : PlanTree = plan_of c.in-Join.right.value in
+    let condition = option_map expression_of c.in-Join.condition in
+    let read = and_also (read_of c.args.read) (condition_reads condition) in
+    let fit = subst (λ p. fits (schema_of c.args.schema.now) (plan_of p) ≡ true) c.in-Join.is c.requires in
+    let sides = and_parts (fits (schema_of c.args.schema.now) left) (fits (schema_of c.args.schema.now) right) (and_parts _ _ fit).0 in
+    let small_left = narrow (schema_of c.args.schema.now) left sides.0 in
+    let small_right = narrow (schema_of c.args.schema.now) right sides.1 in
+    let there_left : width (plan_of c.deref.result.now) ≡ width left = ap (λ p. width (plan_of p)) c.deref.ensures in
+    let there_right : width (plan_of c.deref-in-Join.result.now) ≡ width right = ap (λ p. width (plan_of p)) c.deref-in-Join.ensures in
+    let first : c.width.result ≡ width left = omega (arith, c.width.ensures, there_left, small_left) in
+    let count : c.width-in-Join.result ≡ width right = omega (arith, c.width-in-Join.ensures, there_right, small_right) in
+    let e = narrow_alike left (read_of c.in_ok-more-in-Join.more) read c.in_ok-more-in-Join.ensures in
+    let f = narrow_same right (read_of c.in_ok-beside-in-Join.beside) (after (width left) read)
+    (λ d k. c.in_ok-beside-in-Join.ensures d (subst (λ n. d < n) (sym count) k) ∙ c.in_ok-more-in-Join.ensures (c.width.result + d) ∙ ap (λ n. read (n + d)) first) in
+    let l : plan_of c.in_ok-new-in-Join.field-0.value ≡ narrowed left read =
+    ap plan_of c.in_ok-new-in-Join.ensures.ok ∙ c.in_ok-left-in-Join.ensures ∙ ap (λ p. narrowed (plan_of p) (read_of c.in_ok-more-in-Join.more)) c.into_inner.ensures ∙ e in
+    let r : plan_of c.in_ok-new-in-Join-2.field-0.value ≡ narrowed right (after (width left) read) =
+    ap plan_of c.in_ok-new-in-Join-2.ensures.ok ∙ c.in_ok-right-in-Join.ensures ∙ ap (λ p. narrowed (plan_of p) (read_of c.in_ok-beside-in-Join.beside)) c.into_inner-in-Join.ensures ∙ f in
+    rw c.in-Join.is (λ i. Join condition (l i) (r i))

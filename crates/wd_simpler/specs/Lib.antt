@@ -1,0 +1,3 @@
+pub mod Simpler
+pub mod Laws
+pub mod Sets

@@ -1,0 +1,324 @@
+//! A plan without what nothing reads.
+
+ghost use Rattle.std.specs.Prelude.{◌≡◌, ◌+◌, ◌<◌, ◌≤◌, ◌^◌, ℕ, true, length, map, option_map, IfOk, flat_map, Some};
+ghost use Rattle.wd_plan.specs.Expressions.{expression_of};
+ghost use Rattle.wd_plan.specs.Fits.{fits, width};
+ghost use Rattle.wd_plan.specs.Plans.{grouping_of, has, limit_of, plan_of, window_of};
+ghost use Rattle.wd_schema.specs.Schemas.{schema_of};
+ghost use Rattle.wd_simpler.specs.Sets.{HasAlso, read_of};
+ghost use Rattle.wd_simpler.specs.Simpler as spec;
+ghost use Rattle.wd_step_facts.specs.Steps.{used};
+ghost use Rattle.wd_value.specs.Keys.{key_columns};
+
+use crate::columns::{add_all_used, add_arguments, add_classes, add_keys, add_used};
+use std::alloc::Global;
+use wd_facts::Member;
+use wd_plan::{
+    Aggregate, Bound, Call, Exclusion, Expr, Frame, FrameFunction, FrameMode, Function, Limit,
+    Plan, ValueKind, Window,
+};
+use wd_schema::Schema;
+use wd_sets::Set;
+use wd_value::{OutOfMemory, Value};
+
+/// The plan with NULL for outputs, and COUNT(*) for window calls, that no step above reads and that can't fault; of a Limit of no rows
+/// with ties.
+///
+/// For both plans the same choices are valid, and under each of them they have the same outcome ([`crate::laws::simpler_is_alike`]).
+/// The plan has to fit the schema, which is not read otherwise.
+pub fn simpler(alloc: Global, schema: &Schema, plan: Plan) -> Result<Plan, OutOfMemory>
+    requires { fits (schema_of schema.now) (plan_of plan) ≡ true }
+    ensures { IfOk result (λ p. plan_of p ≡ spec.simpler (plan_of plan)) }
+{
+    narrowed(alloc, schema, plan, None)
+}
+
+/// The same of a plan of whose columns these are read.
+fn narrowed(
+    alloc: Global,
+    schema: &Schema,
+    plan: Plan,
+    read: Option<Set>,
+) -> Result<Plan, OutOfMemory>
+    requires { fits (schema_of schema.now) (plan_of plan) ≡ true }
+    ensures { IfOk result (λ p. plan_of p ≡ spec.narrowed (plan_of plan) (read_of read)) }
+{
+    match plan {
+        Plan::Scan { table, columns } => Ok(Plan::Scan { table, columns }),
+        Plan::Join {
+            left,
+            right,
+            condition,
+        } => {
+            let more = with_condition(read, &condition)?;
+            let beside = right_of(alloc, &more, left.width(), right.width())?;
+            let left = narrowed(alloc, schema, Box::into_inner(left), more)?;
+            let right = narrowed(alloc, schema, Box::into_inner(right), beside)?;
+            Ok(Plan::Join {
+                left: Box::new(alloc, left)?,
+                right: Box::new(alloc, right)?,
+                condition,
+            })
+        }
+        Plan::Filter { input, condition } => {
+            let more = with_used(read, &condition)?;
+            let input = narrowed(alloc, schema, Box::into_inner(input), more)?;
+            Ok(Plan::Filter {
+                input: Box::new(alloc, input)?,
+                condition,
+            })
+        }
+        Plan::Map { input, outputs } => {
+            let outputs = read_outputs(alloc, &read, outputs)?;
+            let below = used_by(alloc, &outputs)?;
+            let input = narrowed(alloc, schema, Box::into_inner(input), below)?;
+            Ok(Plan::Map {
+                input: Box::new(alloc, input)?,
+                outputs,
+            })
+        }
+        Plan::Group { input, group } => {
+            let input = narrowed(alloc, schema, Box::into_inner(input), None)?;
+            Ok(Plan::Group {
+                input: Box::new(alloc, input)?,
+                group,
+            })
+        }
+        Plan::Window { input, window } => {
+            let window = read_window(alloc, &read, input.width(), window)?;
+            let more = with_window(read, &window)?;
+            let input = narrowed(alloc, schema, Box::into_inner(input), more)?;
+            Ok(Plan::Window {
+                input: Box::new(alloc, input)?,
+                window,
+            })
+        }
+        Plan::Distinct { input } => {
+            let input = narrowed(alloc, schema, Box::into_inner(input), None)?;
+            Ok(Plan::Distinct {
+                input: Box::new(alloc, input)?,
+            })
+        }
+        Plan::Limit { input, limit } => {
+            let more = with_keys(read, &limit)?;
+            let input = narrowed(alloc, schema, Box::into_inner(input), more)?;
+            Ok(Plan::Limit {
+                input: Box::new(alloc, input)?,
+                limit: plain_limit(limit),
+            })
+        }
+    }
+}
+
+// ---- what is read below a step
+
+/// Whether a column is read.
+fn is_read(read: &Option<Set>, column: u16) -> bool
+    ensures { result ≡ read_of read.now column }
+{
+    match read {
+        None => true,
+        Some(set) => set.contains(Member::Column(column)),
+    }
+}
+
+/// What is read below a Filter.
+fn with_used(read: Option<Set>, condition: &Expr) -> Result<Option<Set>, OutOfMemory>
+    ensures { IfOk result (λ o. (c : ℕ) → read_of o c ≡ spec.and_also (read_of read) (used (expression_of condition.now)) c) }
+{
+    match read {
+        None => Ok(None),
+        Some(set) => {
+            let mut set = set;
+            add_used(&mut set, condition)?;
+            Ok(Some(set))
+        }
+    }
+}
+
+/// What is read below a Join, of the columns of both sides.
+fn with_condition(read: Option<Set>, condition: &Option<Expr>) -> Result<Option<Set>, OutOfMemory>
+    ensures { IfOk result (λ o. (c : ℕ) → read_of o c ≡ spec.and_also (read_of read) (spec.condition_reads (option_map expression_of condition.now)) c) }
+{
+    match condition {
+        None => Ok(read),
+        Some(condition) => with_used(read, condition),
+    }
+}
+
+/// What is read of so many columns after the first so many.
+fn right_of(
+    alloc: Global,
+    read: &Option<Set>,
+    first: u32,
+    count: u32,
+) -> Result<Option<Set>, OutOfMemory>
+    requires { first + count < 65536 }
+    ensures { IfOk result (λ o. (c : ℕ) → c < count → read_of o c ≡ spec.after first (read_of read.now) c) }
+{
+    let Some(set) = read else {
+        return Ok(None);
+    };
+    let mut beside = Set::new(alloc);
+    for column in 0..count {
+        if set.contains(Member::Column((first + column) as u16)) {
+            beside.insert(Member::Column(column as u16))?;
+        }
+    }
+    Ok(Some(beside))
+}
+
+/// What is read below a Map.
+fn used_by(alloc: Global, outputs: &[Expr]) -> Result<Option<Set>, OutOfMemory>
+    ensures { IfOk result (λ o. (c : ℕ) → read_of o c ≡ has (flat_map used (map expression_of outputs.now)) c) }
+{
+    let mut set = Set::new(alloc);
+    add_all_used(&mut set, outputs)?;
+    Ok(Some(set))
+}
+
+/// What is read below a Window.
+fn with_window(read: Option<Set>, window: &Window) -> Result<Option<Set>, OutOfMemory>
+    ensures { IfOk result (λ o. (c : ℕ) → read_of o c ≡ spec.and_also (read_of read) (spec.window_reads (window_of window.now)) c) }
+{
+    match read {
+        None => Ok(None),
+        Some(set) => {
+            let mut set = set;
+            add_classes(&mut set, &window.classes)?;
+            add_arguments(&mut set, &window.calls)?;
+            Ok(Some(set))
+        }
+    }
+}
+
+/// What is read below a Limit.
+fn with_keys(read: Option<Set>, limit: &Limit) -> Result<Option<Set>, OutOfMemory>
+    ensures { IfOk result (λ o. (c : ℕ) → read_of o c ≡ spec.and_also (read_of read) (key_columns (limit_of limit.now).keys) c) }
+{
+    match read {
+        None => Ok(None),
+        Some(set) => {
+            let mut set = set;
+            add_keys(&mut set, &limit.keys)?;
+            Ok(Some(set))
+        }
+    }
+}
+
+// ---- the steps
+
+/// The outputs, with NULL for those that are not read and can't fault.
+fn read_outputs(
+    alloc: Global,
+    read: &Option<Set>,
+    outputs: Vec<Expr>,
+) -> Result<Vec<Expr>, OutOfMemory>
+    requires { length outputs.items ≤ 1024 }
+    ensures { IfOk result (λ v. map expression_of v.items ≡ spec.read_outputs (read_of read.now) (map expression_of outputs.items)) }
+{
+    let mut kept = Vec::with_capacity(alloc, outputs.len())?;
+    let mut number = 0u16;
+    for output in outputs {
+        kept.push(read_output(is_read(read, number), output))?;
+        number += 1;
+    }
+    Ok(kept)
+}
+
+fn read_output(is_read: bool, output: Expr) -> Expr
+    ensures { expression_of result ≡ spec.read_output is_read (expression_of output) }
+{
+    if is_read || !is_plain(&output) {
+        output
+    } else {
+        Expr::Literal(Value::Null, ValueKind::Number)
+    }
+}
+
+/// Whether an expression has a value over every row, and no fault: a column or a literal.
+fn is_plain(expression: &Expr) -> bool
+    ensures { result ≡ spec.is_plain (expression_of expression.now) }
+{
+    match expression {
+        Expr::Column(_) | Expr::Literal(_, _) => true,
+        _ => false,
+    }
+}
+
+/// The Window, with COUNT(*) for calls that are not read and can't fault, over an input of so many columns.
+fn read_window(
+    alloc: Global,
+    read: &Option<Set>,
+    columns: u32,
+    window: Window,
+) -> Result<Window, OutOfMemory>
+    requires { columns + length window.calls.items ≤ 1024 }
+    ensures { IfOk result (λ w. window_of w ≡ spec.read_window (spec.after columns (read_of read.now)) (window_of window)) }
+{
+    let Window { classes, calls } = window;
+    let calls = read_calls(alloc, read, columns, calls)?;
+    Ok(Window { classes, calls })
+}
+
+fn read_calls(
+    alloc: Global,
+    read: &Option<Set>,
+    columns: u32,
+    calls: Vec<Call>,
+) -> Result<Vec<Call>, OutOfMemory>
+    requires { columns + length calls.items ≤ 1024 }
+    ensures { IfOk result (λ v. v.items ≡ spec.read_calls (spec.after columns (read_of read.now)) calls.items) }
+{
+    let mut kept = Vec::with_capacity(alloc, calls.len())?;
+    let mut number = columns as u16;
+    for call in calls {
+        kept.push(read_call(is_read(read, number), call))?;
+        number += 1;
+    }
+    Ok(kept)
+}
+
+fn read_call(is_read: bool, call: Call) -> Call
+    ensures { result ≡ spec.read_call is_read call }
+{
+    if is_read || !never_faults(&call.function) {
+        call
+    } else {
+        Call {
+            class: call.class,
+            function: Function::OfFrame(FrameFunction::Aggregate(Aggregate::CountRows)),
+            frame: Frame {
+                mode: FrameMode::Range,
+                start: Bound::UnboundedPreceding,
+                end: Bound::UnboundedFollowing,
+                exclusion: Exclusion::NoOthers,
+            },
+        }
+    }
+}
+
+/// Whether a function has a value at every row, and no fault: all but SUM.
+fn never_faults(function: &Function) -> bool
+    ensures { result ≡ spec.never_faults function.now }
+{
+    match function {
+        Function::OfFrame(FrameFunction::Aggregate(Aggregate::Sum(_))) => false,
+        _ => true,
+    }
+}
+
+/// The Limit; one of no rows goes by no offset, and takes all that tie.
+fn plain_limit(limit: Limit) -> Limit
+    ensures { limit_of result ≡ spec.plain_limit (limit_of limit) }
+{
+    match limit.count {
+        Some(0) => Limit {
+            keys: limit.keys,
+            offset: 0,
+            count: Some(0),
+            ties: true,
+        },
+        _ => limit,
+    }
+}

@@ -1,0 +1,11 @@
+pub mod Aid
+pub mod Aid2
+pub mod Aid3
+pub mod Masks
+pub mod Results
+pub mod Values
+pub mod Alike
+pub mod Steps
+pub mod Windows
+pub mod Plans
+pub mod Same

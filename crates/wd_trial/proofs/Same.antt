@@ -1,0 +1,40 @@
+-- A narrowed plan goes by what is read of the plan's own columns.
+use Rattle.std.proofs.Common.{◌≡◌, ℕ, zero, suc, ◌+◌, ◌<◌, Bool, ◌||◌, List, [], ◌∷◌, flat_map, length, refl, sym, ◌∙◌, ap, arith}
+use Rattle.wd_value.specs.Keys.{key_columns}
+use Rattle.wd_plan.specs.Expressions.{Expression}
+use Rattle.wd_plan.specs.Fits.{width}
+use Rattle.wd_plan.specs.Plans.{PlanTree, Scan, Join, Filter, Map, Group, Window, WindowRule, Distinct, Limit, has}
+use Rattle.wd_plan.specs.declared.window.Call.{Call}
+use Rattle.wd_trial.specs.Used.{used}
+use Rattle.wd_trial.specs.Simpler.{Read, after, and_also, condition_reads, every, narrowed, next, plain_limit, read_call, read_calls, read_output, read_outputs, read_window, window_reads}
+
+module _ (read other : Read) where
+  and_same : (n : ℕ) (columns : List ℕ) → ((c : ℕ) → c < n → read c ≡ other c) → (c : ℕ) → c < n → and_also read columns c ≡ and_also other columns c
+  and_same n columns h c k = ap (λ b. b || has columns c) (h c k)
+
+outputs_same : (read other : Read) (outputs : List Expression) → ((c : ℕ) → c < length outputs → read c ≡ other c) → read_outputs read outputs ≡ read_outputs other outputs
+outputs_same read other [] h = refl
+outputs_same read other (e ∷ outputs) h = λ i. read_output (h 0 (omega arith) i) e ∷ outputs_same (next read) (next other) outputs (λ c k. h (suc c) (omega arith)) i
+
+calls_same : (read other : Read) (calls : List Call) → ((c : ℕ) → c < length calls → read c ≡ other c) → read_calls read calls ≡ read_calls other calls
+calls_same read other [] h = refl
+calls_same read other (call ∷ calls) h = λ i. read_call (h 0 (omega arith) i) call ∷ calls_same (next read) (next other) calls (λ c k. h (suc c) (omega arith)) i
+
+pub narrow_same : (plan : PlanTree) (read other : Read) → ((c : ℕ) → c < width plan → read c ≡ other c) → narrowed plan read ≡ narrowed plan other
+narrow_same (Scan table columns) read other h = refl
+narrow_same (Join condition left right) read other h =
+    let columns = condition_reads condition in
+    let both = and_same read other (width left + width right) columns h in
+    λ i. Join condition
+      (narrow_same left (and_also read columns) (and_also other columns) (λ c k. both c (omega arith)) i)
+      (narrow_same right (after (width left) (and_also read columns)) (after (width left) (and_also other columns)) (λ c k. both (width left + c) (omega arith)) i)
+narrow_same (Filter condition input) read other h = ap (Filter condition) (narrow_same input (and_also read (used condition)) (and_also other (used condition)) (and_same read other (width input) (used condition) h))
+narrow_same (Map outputs input) read other h = ap (λ own. Map own (narrowed input (has (flat_map used own)))) (outputs_same read other outputs h)
+narrow_same (Group rule input) read other h = refl
+narrow_same (Window w input) read other h =
+    let own = read_window (after (width input) other) w in
+    let calls = calls_same (after (width input) read) (after (width input) other) w.calls (λ c k. h (width input + c) (omega arith)) in
+    (λ i. let own : WindowRule = record { classes = w.classes; calls = calls i } in Window own (narrowed input (and_also read (window_reads own))))
+    ∙ ap (Window own) (narrow_same input (and_also read (window_reads own)) (and_also other (window_reads own)) (and_same read other (width input) (window_reads own) (λ c k. h c (omega arith))))
+narrow_same (Distinct input) read other h = refl
+narrow_same (Limit limit input) read other h = ap (Limit (plain_limit limit)) (narrow_same input (and_also read (key_columns limit.keys)) (and_also other (key_columns limit.keys)) (and_same read other (width input) (key_columns limit.keys) h))

@@ -1,0 +1,11 @@
+//! Trial.
+#![tactic(auto)]
+
+ghost use Rattle.std.specs.Prelude.{◌≡◌};
+
+/// One.
+pub fn one() -> u32
+    ensures { result ≡ 1 }
+{
+    1
+}
