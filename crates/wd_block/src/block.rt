@@ -40,9 +40,10 @@ pub fn add_open(
 {
     if number < finding.places.len() {
         let block = open_block(alloc, statement, finding, number, help)?;
-        out.push_str(block.as_str())?;
+        Ok(out.push_str(block.as_str())?)
+    } else {
+        Ok(())
     }
-    Ok(())
 }
 
 /// The block for a place that is open.

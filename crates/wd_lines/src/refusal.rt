@@ -12,8 +12,8 @@ use std::fmt::Write;
 use wd_lex::Span;
 use wd_value::OutOfMemory;
 
-/// The sentence of a refusal of this number in a text, and what to write in place of what is refused: by the word at which it stands,
-/// where that says what was meant.
+/// The sentence of a refusal of this number in a text, and what to write in place of what is refused: by the word at which it
+/// stands, where that says what was meant.
 pub fn refusal_words_at(
     number: u32,
     text: &[u8],

@@ -7,8 +7,8 @@ use std::alloc::Global;
 use std::fmt::Write;
 use wd_value::{OutOfMemory, Value};
 
-/// Adds a text of an input on one line: a blank stands for each control character and for each mark that turns the direction of what
-/// follows.
+/// Adds a text of an input on one line: a blank stands for each control character and for each mark that turns the direction of
+/// what follows.
 pub fn add_plain(out: &mut String, text: &str) -> Result<(), OutOfMemory>
     ensures written { OnOk result (string_bytes out.new ≡ string_bytes out.old ++ spec.plain text.now) }
     ensures kept { OnErr result (string_bytes out.new ≡ string_bytes out.old) }
