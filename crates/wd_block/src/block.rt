@@ -1,5 +1,7 @@
 //! Blocks of what is open in a query.
 
+ghost use Rattle.std.specs.Prelude.{◌≡◌, ◌<◌, ◌≤◌, length, take, string_bytes, OnErr, OnOk};
+
 use crate::words::{kind_of, lack_words, place_words};
 use std::alloc::Global;
 use std::fmt::Write;
@@ -23,7 +25,7 @@ pub struct Statement<'a> {
 }
 
 /// Adds the block for the place with a number that is open in a statement; that of the first has the rows of the witness and both
-/// answers.
+/// answers. Where there is no such place, nothing is added, and where memory runs out, the text stays as it was.
 pub fn add_open(
     alloc: Global,
     out: &mut String,
@@ -31,21 +33,43 @@ pub fn add_open(
     finding: &Finding,
     number: usize,
     help: Option<&Help>,
-) -> Result<(), OutOfMemory> {
-    let Some(place) = finding.places.get(number) else {
-        return Ok(());
-    };
-    add_head(out, statement, kind_of(finding), *place)?;
+) -> Result<(), OutOfMemory>
+    ensures appended { OnOk result (take (length (string_bytes out.old)) (string_bytes out.new) ≡ string_bytes out.old) }
+    ensures none { length finding.now.places.items ≤ number → string_bytes out.new ≡ string_bytes out.old }
+    ensures kept { OnErr result (string_bytes out.new ≡ string_bytes out.old) }
+{
+    if number < finding.places.len() {
+        let block = open_block(alloc, statement, finding, number, help)?;
+        Ok(out.push_str(block.as_str())?)
+    } else {
+        Ok(())
+    }
+}
+
+/// The block for a place that is open.
+fn open_block(
+    alloc: Global,
+    statement: Statement<'_>,
+    finding: &Finding,
+    number: usize,
+    help: Option<&Help>,
+) -> Result<String, OutOfMemory>
+    requires { number < length finding.now.places.items }
+{
+    let place = finding.places[number];
+    let mut block = String::new(alloc);
+    add_head(&mut block, statement, kind_of(finding), place)?;
     if number == 0 {
-        add_evidence(alloc, out, finding)?;
+        add_evidence(alloc, &mut block, finding)?;
     }
     if let Some(help) = help {
-        add_help(out, statement, *place, help)?;
+        add_help(&mut block, statement, place, help)?;
         if number == 0 {
-            add_other_helps(out, statement, &finding.places, help)?;
+            add_other_helps(&mut block, statement, &finding.places, help)?;
         }
     }
-    Ok(out.push('\n')?)
+    block.push('\n')?;
+    Ok(block)
 }
 
 /// Adds where a place stands and what is said of it.

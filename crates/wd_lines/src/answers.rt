@@ -1,5 +1,7 @@
 //! The rows in which two answers differ.
 
+ghost use Rattle.std.specs.Prelude.{◌≡◌, length, take, string_bytes, OnErr, OnOk};
+
 use crate::values::{add_plain, add_value};
 use crate::words::fault_words;
 use std::alloc::Global;
@@ -20,24 +22,51 @@ pub fn add_answers(
     names: &[Text],
     first: &Outcome,
     second: &Outcome,
-) -> Result<(), OutOfMemory> {
+) -> Result<(), OutOfMemory>
+    ensures appended { OnOk result (take (length (string_bytes out.old)) (string_bytes out.new) ≡ string_bytes out.old) }
+    ensures kept { OnErr result (string_bytes out.new ≡ string_bytes out.old) }
+{
+    let lines = answers_lines(alloc, names, first, second)?;
+    Ok(out.push_str(lines.as_str())?)
+}
+
+/// Lines for the rows in which two answers differ.
+fn answers_lines(
+    alloc: Global,
+    names: &[Text],
+    first: &Outcome,
+    second: &Outcome,
+) -> Result<String, OutOfMemory> {
+    let mut lines = String::new(alloc);
     match (first, second) {
         (Outcome::Rows(first), Outcome::Rows(second)) => {
-            if first.len() > MOST_COMPARED || second.len() > MOST_COMPARED {
-                return add_sizes(out, first.len() as u64, second.len() as u64);
-            }
-            let left = lacking(alloc, first, second)?;
-            let right = lacking(alloc, second, first)?;
-            add_pairs(out, names, &left, &right)
+            add_differing(alloc, &mut lines, names, first, second)?;
         }
         (first, second) => {
-            out.push_str("      = answer: ")?;
-            add_outcome(out, first)?;
-            out.push_str("   or   ")?;
-            add_outcome(out, second)?;
-            Ok(out.push('\n')?)
+            lines.push_str("      = answer: ")?;
+            add_outcome(&mut lines, first)?;
+            lines.push_str("   or   ")?;
+            add_outcome(&mut lines, second)?;
+            lines.push('\n')?;
         }
     }
+    Ok(lines)
+}
+
+/// Adds lines for the rows in which two answers of rows differ.
+fn add_differing(
+    alloc: Global,
+    out: &mut String,
+    names: &[Text],
+    first: &[Row],
+    second: &[Row],
+) -> Result<(), OutOfMemory> {
+    if first.len() > MOST_COMPARED || second.len() > MOST_COMPARED {
+        return add_sizes(out, first.len() as u64, second.len() as u64);
+    }
+    let left = lacking(alloc, first, second)?;
+    let right = lacking(alloc, second, first)?;
+    add_pairs(out, names, &left, &right)
 }
 
 /// Adds a line for two answers of many rows.

@@ -1,9 +1,9 @@
 //! How many queries have which verdict.
 
-ghost use Rattle.std.specs.Prelude.{◌≡◌, ◌++◌, IfOk};
-ghost use Rattle.std.specs.String.{string_bytes};
+ghost use Rattle.std.specs.Prelude.{◌≡◌, ◌++◌, IfOk, OnErr, OnOk, string_bytes};
 ghost use Rattle.wd_lines.specs.Counts as spec;
 
+use std::alloc::Global;
 use std::fmt::Write;
 use wd_value::OutOfMemory;
 
@@ -144,14 +144,25 @@ impl Counts {
 
     /// Adds the line that counts the queries.
     pub fn add_line(&self, text: &mut String) -> Result<(), OutOfMemory>
-        ensures { IfOk result (λ _. string_bytes text.new ≡ string_bytes text.old ++ spec.count_line self.now) }
+        ensures written { OnOk result (string_bytes text.new ≡ string_bytes text.old ++ spec.count_line self.now) }
+        ensures kept { OnErr result (string_bytes text.new ≡ string_bytes text.old) }
     {
-        self.add_decided(text)?;
-        self.add_others(text)?;
-        self.add_mended(text)?;
-        add_some(text, self.excused, "excused")?;
-        add_some(text, self.known, "known")?;
-        Ok(text.push('\n')?)
+        let line = self.line(*text.allocator())?;
+        Ok(text.push_str(line.as_str())?)
+    }
+
+    /// The line that counts the queries.
+    fn line(&self, alloc: Global) -> Result<String, OutOfMemory>
+        ensures { IfOk result (λ line. string_bytes line ≡ spec.count_line self.now) }
+    {
+        let mut line = String::new(alloc);
+        self.add_decided(&mut line)?;
+        self.add_others(&mut line)?;
+        self.add_mended(&mut line)?;
+        add_some(&mut line, self.excused, "excused")?;
+        add_some(&mut line, self.known, "known")?;
+        line.push('\n')?;
+        Ok(line)
     }
 }
 

@@ -26,7 +26,7 @@ pub(crate) fn add_judged(
     add_text(alloc, page, query.text, places)?;
     add_places(alloc, page, places)?;
     add_evidence(alloc, page, judged)?;
-    add_help(page, query.text, help)?;
+    add_help(alloc, page, query.text, help)?;
     add_plan_part(alloc, page, judged, places)?;
     add_replay_part(alloc, page, judged, query)?;
     Ok(page.close(Tag::Section)?)
@@ -43,7 +43,7 @@ pub(crate) fn add_refused(
     begin_section(alloc, page, number, query, Kind::NotRead)?;
     add_refusal(alloc, page, refusal)?;
     if let Some(span) = refusal.span {
-        add_excerpt(page, refusal.text, span)?;
+        add_excerpt(alloc, page, refusal.text, span)?;
     }
     page.element(Tag::Paragraph, Class::Soft, refusal.remedy.as_bytes())?;
     Ok(page.close(Tag::Section)?)
@@ -120,7 +120,7 @@ fn add_text(
     places: &[Place],
 ) -> Result<(), OutOfMemory> {
     let spans = spans_of(alloc, places)?;
-    add_marked(page, text, &spans)
+    add_marked(alloc, page, text, &spans)
 }
 
 /// The spans of places, in order.
@@ -190,10 +190,15 @@ fn add_evidence(alloc: Global, page: &mut Page, judged: Judged<'_>) -> Result<()
 }
 
 /// Adds the help, where there is one.
-fn add_help(page: &mut Page, text: &[u8], help: Option<&[u8]>) -> Result<(), OutOfMemory> {
+fn add_help(
+    alloc: Global,
+    page: &mut Page,
+    text: &[u8],
+    help: Option<&[u8]>,
+) -> Result<(), OutOfMemory> {
     if let Some(changed) = help {
         add_heading(page, "A key with which it has one answer")?;
-        add_change(page, text, changed)?;
+        add_change(alloc, page, text, changed)?;
     }
     Ok(())
 }

@@ -1,5 +1,7 @@
 //! The two answers that a witness shows.
 
+ghost use Rattle.std.specs.Prelude.{◌≡◌, length, take, OnErr, OnOk};
+
 use crate::tables::{add_cell, begin_table, class_of, end_table};
 use crate::words::fault_words;
 use std::alloc::Global;
@@ -31,11 +33,27 @@ pub fn add_answers(
     names: &[Text],
     first: &Outcome,
     second: &Outcome,
-) -> Result<(), OutOfMemory> {
+) -> Result<(), OutOfMemory>
+    ensures appended { OnOk result (take (length page.old) page.new ≡ page.old) }
+    ensures kept { OnErr result (page.new ≡ page.old) }
+{
+    let part = answers_part(alloc, names, first, second)?;
+    Ok(page.append(&part)?)
+}
+
+/// Two answers side by side.
+fn answers_part(
+    alloc: Global,
+    names: &[Text],
+    first: &Outcome,
+    second: &Outcome,
+) -> Result<Page, OutOfMemory> {
+    let mut page = Page::new(alloc);
     page.open(Tag::Division, Class::Side)?;
-    add_answer(alloc, page, "One answer", names, first, second)?;
-    add_answer(alloc, page, "Another answer", names, second, first)?;
-    Ok(page.close(Tag::Division)?)
+    add_answer(alloc, &mut page, "One answer", names, first, second)?;
+    add_answer(alloc, &mut page, "Another answer", names, second, first)?;
+    page.close(Tag::Division)?;
+    Ok(page)
 }
 
 /// Adds an answer beside another one.

@@ -1,5 +1,7 @@
 //! The plan of a query as boxes within one another: each node stands below what it reads.
 
+ghost use Rattle.std.specs.Prelude.{◌≡◌, length, take, OnErr, OnOk};
+
 use crate::place::Place;
 use crate::words::{function_word, separator};
 use std::alloc::Global;
@@ -25,20 +27,37 @@ pub fn add_plan(
     grounds: Grounds<'_, '_, '_>,
     first: u64,
     plan: &Plan,
+) -> Result<u64, OutOfMemory>
+    ensures appended { OnOk result (take (length page.old) page.new ≡ page.old) }
+    ensures kept { OnErr result (page.new ≡ page.old) }
+{
+    let mut part = Page::new(alloc);
+    let last = add_box(alloc, &mut part, grounds, first, plan)?;
+    page.append(&part)?;
+    Ok(last)
+}
+
+/// Adds the box of a plan to a page of its own.
+fn add_box(
+    alloc: Global,
+    page: &mut Page,
+    grounds: Grounds<'_, '_, '_>,
+    first: u64,
+    plan: &Plan,
 ) -> Result<u64, OutOfMemory> {
     page.open(Tag::Division, Class::Node)?;
     let node = match plan {
         Plan::Scan { .. } => first,
         Plan::Join { left, right, .. } => {
-            let middle = add_plan(alloc, page, grounds, first, left)?;
-            add_plan(alloc, page, grounds, middle, right)?
+            let middle = add_box(alloc, page, grounds, first, left)?;
+            add_box(alloc, page, grounds, middle, right)?
         }
         Plan::Filter { input, .. }
         | Plan::Map { input, .. }
         | Plan::Group { input, .. }
         | Plan::Window { input, .. }
         | Plan::Distinct { input }
-        | Plan::Limit { input, .. } => add_plan(alloc, page, grounds, first, input)?,
+        | Plan::Limit { input, .. } => add_box(alloc, page, grounds, first, input)?,
     };
     add_node(alloc, page, grounds, node, plan)?;
     page.close(Tag::Division)?;

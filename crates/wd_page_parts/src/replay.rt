@@ -1,5 +1,7 @@
 //! What PostgreSQL may be asked: the tables of a witness, filled in one order and in the other, with the query behind each.
 
+ghost use Rattle.std.specs.Prelude.{◌≡◌, length, take, OnErr, OnOk};
+
 use crate::words::{separator, type_word, value_text};
 use std::alloc::Global;
 use std::collections::BTreeMap;
@@ -17,22 +19,39 @@ pub fn add_replay(
     plan: &Plan,
     tables: &BTreeMap<String, Vec<Row>>,
     query: &[u8],
-) -> Result<(), OutOfMemory> {
+) -> Result<(), OutOfMemory>
+    ensures appended { OnOk result (take (length page.old) page.new ≡ page.old) }
+    ensures kept { OnErr result (page.new ≡ page.old) }
+{
+    let part = replay_part(alloc, schema, plan, tables, query)?;
+    Ok(page.append(&part)?)
+}
+
+/// A script for PostgreSQL.
+fn replay_part(
+    alloc: Global,
+    schema: &Schema,
+    plan: &Plan,
+    tables: &BTreeMap<String, Vec<Row>>,
+    query: &[u8],
+) -> Result<Page, OutOfMemory> {
+    let mut page = Page::new(alloc);
     page.open(Tag::Preformatted, Class::Plain)?;
     page.text(b"BEGIN;\n")?;
     for (number, table) in schema.tables.values().enumerate() {
         if reads(plan, number) {
-            add_table(page, table)?;
+            add_table(&mut page, table)?;
         }
     }
     page.text(b"-- the rows in one order\n")?;
-    add_inserts(alloc, page, tables)?;
-    add_query(page, query)?;
+    add_inserts(alloc, &mut page, tables)?;
+    add_query(&mut page, query)?;
     page.text(b"-- and in the other\n")?;
-    add_turned(alloc, page, tables)?;
-    add_query(page, query)?;
+    add_turned(alloc, &mut page, tables)?;
+    add_query(&mut page, query)?;
     page.text(b"ROLLBACK;\n")?;
-    Ok(page.close(Tag::Preformatted)?)
+    page.close(Tag::Preformatted)?;
+    Ok(page)
 }
 
 /// Whether a plan reads the table with this number.

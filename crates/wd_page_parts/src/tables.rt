@@ -1,5 +1,7 @@
 //! Rows of tables.
 
+ghost use Rattle.std.specs.Prelude.{◌≡◌, length, take, OnErr, OnOk};
+
 use crate::words::value_text;
 use std::alloc::Global;
 use std::collections::BTreeMap;
@@ -13,12 +15,27 @@ pub fn add_tables(
     page: &mut Page,
     schema: &Schema,
     tables: &BTreeMap<String, Vec<Row>>,
-) -> Result<(), OutOfMemory> {
+) -> Result<(), OutOfMemory>
+    ensures appended { OnOk result (take (length page.old) page.new ≡ page.old) }
+    ensures kept { OnErr result (page.new ≡ page.old) }
+{
+    let part = tables_part(alloc, schema, tables)?;
+    Ok(page.append(&part)?)
+}
+
+/// Tables of a schema with these rows, side by side.
+fn tables_part(
+    alloc: Global,
+    schema: &Schema,
+    tables: &BTreeMap<String, Vec<Row>>,
+) -> Result<Page, OutOfMemory> {
+    let mut page = Page::new(alloc);
     page.open(Tag::Division, Class::Side)?;
     for (name, rows) in tables {
-        add_table(alloc, page, schema, name.as_str(), rows)?;
+        add_table(alloc, &mut page, schema, name.as_str(), rows)?;
     }
-    Ok(page.close(Tag::Division)?)
+    page.close(Tag::Division)?;
+    Ok(page)
 }
 
 /// Adds a table with its name.
