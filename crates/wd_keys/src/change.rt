@@ -1,7 +1,7 @@
 //! What is put into a text.
 
 ghost use Rattle.std.specs.Prelude.{◌≡◌, ◌++◌, codes, string_bytes, IfOk, IfSome, IfNone, OnErr};
-ghost use Rattle.wd_keys.specs.Changes.{ArePut, ComeInOrder, IsCopy};
+ghost use Rattle.wd_keys.specs.Changes.{ArePut, ComeInOrder, IsBlank, IsCopy, IsKeyChange, IsOrderBy};
 
 use std::alloc::Global;
 use wd_sites::KeyPlace;
@@ -28,25 +28,12 @@ impl Change {
         place: KeyPlace,
         keys: &str,
     ) -> Result<Change, OutOfMemory>
-        ensures at { IfOk result (λ c. c.at ≡ place.at) }
-        ensures end { IfOk result (λ c. c.end ≡ place.at) }
-        ensures keys { IfOk result (λ c. string_bytes c.keys ≡ keys.now) }
+        ensures { IfOk result (IsKeyChange place keys.now) }
     {
-        let at = place.at as usize;
-        let mut text = String::new(alloc);
-        if place.order.is_some() {
-            text.push_str(", ")?;
-            text.push_str(keys)?;
-        } else {
-            if !matches!(byte_before(query, at), Some(b'(')) {
-                text.push(' ')?;
-            }
-            text.push_str("ORDER BY ")?;
-            text.push_str(keys)?;
-            if matches!(query.get(at), Some(b) if b.is_ascii_alphanumeric()) {
-                text.push(' ')?;
-            }
-        }
+        let text = match place.order {
+            Some(_) => format!(in alloc; ", {keys}")?,
+            None => order_by(alloc, query, place.at as usize, keys)?,
+        };
         Ok(Change {
             at: place.at,
             end: place.at,
@@ -91,6 +78,22 @@ fn longer(alloc: Global, text: &str, keys: &str) -> Result<String, OutOfMemory>
     longer.push_str(", ")?;
     longer.push_str(keys)?;
     Ok(longer)
+}
+
+/// ORDER BY and keys, to be put in at a place of a text: with a blank where a word or a token stands beside it.
+fn order_by(alloc: Global, query: &[u8], at: usize, keys: &str) -> Result<String, OutOfMemory>
+    ensures { IfOk result (λ t. IsOrderBy keys.now (string_bytes t)) }
+{
+    let before = blank_if(!matches!(byte_before(query, at), Some(b'(')));
+    let after = blank_if(matches!(query.get(at), Some(b) if b.is_ascii_alphanumeric()));
+    Ok(format!(in alloc; "{before}ORDER BY {keys}{after}")?)
+}
+
+/// A blank, where it is wanted.
+fn blank_if(is_wanted: bool) -> &'static str
+    ensures { IsBlank result.now }
+{
+    if is_wanted { " " } else { "" }
 }
 
 /// The byte before a place.
