@@ -467,6 +467,24 @@ def the_places():
             check(f"place of {number} in {text[:80]}", ok, (status, out))
 
 
+def the_ties():
+    """RANK and WITH TIES, where the query has one answer with them."""
+    for text, wanted in lines_of("ties.txt"):
+        with tempfile.TemporaryDirectory() as folder:
+            put(folder, {"schema.sql": SCHEMA, "q.sql": text})
+            out, _, status = run("q.sql", cwd=folder)
+            helps = [line.strip() for line in out.splitlines() if line.strip().startswith("help: or ")]
+            lines = [] if wanted == "none" else [f"help: or {line}      (" for line in wanted.split(" && ")]
+            ok = status == 1 and len(helps) == len(lines) and all(said.startswith(line) and "DETERMINISTIC" in said for said, line in zip(helps, lines))
+            check(f"ties of {text}", ok, (status, out))
+            for line in lines:
+                mended = line.removeprefix("help: or ").split(": ", 1)[1].split("      (")[0]
+                if len(lines) == 1 and mended.startswith("ORDER BY"):
+                    put(folder, {"q.sql": text[: text.rindex("ORDER BY")] + mended})
+                    out, _, status = run("q.sql", cwd=folder)
+                    check(f"mended by {mended}", status == 0, (status, out))
+
+
 def the_excuses():
     """Comments above a query."""
     for text, wanted in lines_of("remarks.txt"):
@@ -556,6 +574,7 @@ the_screen()
 the_schema()
 the_remedies()
 the_places()
+the_ties()
 the_excuses()
 the_baselines()
 the_page()

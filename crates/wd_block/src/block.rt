@@ -1,5 +1,6 @@
 //! Blocks of what is open in a query.
 
+use crate::alike::add_alike;
 use crate::words::{kind_of, lack_words, place_words};
 use std::alloc::Global;
 use std::fmt::Write;
@@ -23,7 +24,7 @@ pub struct Statement<'a> {
 }
 
 /// Adds the block for the place with a number that is open in a statement; that of the first has the rows of the witness and both
-/// answers.
+/// answers. `help` has the sort keys that mend the statement, `alike` RANK or WITH TIES.
 pub fn add_open(
     alloc: Global,
     out: &mut String,
@@ -31,6 +32,7 @@ pub fn add_open(
     finding: &Finding,
     number: usize,
     help: Option<&Help>,
+    alike: Option<&Help>,
 ) -> Result<(), OutOfMemory> {
     let Some(place) = finding.places.get(number) else {
         return Ok(());
@@ -44,6 +46,9 @@ pub fn add_open(
         if number == 0 {
             add_other_helps(out, statement, &finding.places, help)?;
         }
+    }
+    if let Some(alike) = alike {
+        add_alike(alloc, out, statement, *place, alike)?;
     }
     Ok(out.push('\n')?)
 }

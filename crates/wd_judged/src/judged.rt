@@ -12,9 +12,12 @@ use wd_block::{Statement, kind_of};
 use wd_decide::{DecideError, Verdict};
 use wd_finding::{Finding, judge};
 use wd_fix::Fix;
-use wd_help::{Help, help_for};
-use wd_lex::Span;
+use wd_help::{Help, alike_for, help_for};
+use wd_keys::candidates;
+use wd_lex::{Span, lex};
 use wd_lines::Kind;
+use wd_plan::Plan;
+use wd_sites::{PlanSite, sites};
 use wd_value::OutOfMemory;
 
 /// A text and its path.
@@ -41,6 +44,8 @@ pub struct Judged {
     pub judgement: Judgement,
     /// The sort keys with which it has one answer, where some are known; the text with them is in it.
     pub help: Option<Help>,
+    /// RANK or WITH TIES, with which it has one answer too, where these serve.
+    pub alike: Option<Help>,
     /// What is told of it: a block for each place that is open, or one for the refusal.
     pub blocks: Vec<Block>,
 }
@@ -102,30 +107,61 @@ fn of_finding(
     requires { IsFinding schema.now query.now finding }
     ensures { IfOk result (IsJudgedAs schema.now query.now span) }
 {
-    let help = help_where_open(alloc, schema, query, &finding.verdict)?;
+    let help = help_where_open(alloc, schema, query, &finding)?;
+    let alike = alike_where_open(alloc, schema, query, &finding.verdict)?;
     let statement = statement_at(file, span);
-    let blocks = open_blocks(alloc, statement, &finding, help.as_ref())?;
+    let blocks = open_blocks(alloc, statement, &finding, help.as_ref(), alike.as_ref())?;
     Ok(Judged {
         span,
         kind: kind_of(&finding),
         judgement: Judgement::Found(finding),
         help,
+        alike,
         blocks,
     })
 }
 
-/// The help for a query of which the verdict is that, where it has not one answer.
+/// The help for a query of which this is found, where it has not one answer.
 fn help_where_open(
+    alloc: Global,
+    schema: &[u8],
+    query: &[u8],
+    finding: &Finding,
+) -> Result<Option<Help>, OutOfMemory>
+    ensures { IfOk result (λ help. IfSome help (IsHelp schema.now query.now)) }
+{
+    match finding.verdict {
+        Verdict::Deterministic(_) => Ok(None),
+        Verdict::Depends(_) | Verdict::Unknown(_) => {
+            let planned = &finding.planned;
+            let plan = &planned.resolved.plan;
+            let sites = sites_in(alloc, query, plan)?;
+            let lists = candidates(alloc, &planned.schema, plan, query)?;
+            help_for(alloc, schema, query, &sites, &lists)
+        }
+    }
+}
+
+/// Where the window calls and the limits of a plan stand in its query.
+fn sites_in(alloc: Global, query: &[u8], plan: &Plan) -> Result<Vec<PlanSite>, OutOfMemory> {
+    match lex(alloc, query) {
+        Ok(tokens) => sites(alloc, &tokens, plan),
+        Err(_) => Ok(Vec::new(alloc)),
+    }
+}
+
+/// RANK or WITH TIES for a query of which the verdict is that, where it has not one answer.
+fn alike_where_open(
     alloc: Global,
     schema: &[u8],
     query: &[u8],
     verdict: &Verdict,
 ) -> Result<Option<Help>, OutOfMemory>
-    ensures { IfOk result (λ help. IfSome help (IsHelp schema.now query.now)) }
+    ensures { IfOk result (λ alike. IfSome alike (IsHelp schema.now query.now)) }
 {
     match verdict {
         Verdict::Deterministic(_) => Ok(None),
-        Verdict::Depends(_) | Verdict::Unknown(_) => help_for(alloc, schema, query),
+        Verdict::Depends(_) | Verdict::Unknown(_) => alike_for(alloc, schema, query),
     }
 }
 
@@ -149,6 +185,7 @@ fn of_refusal(
         kind: Kind::NotRead,
         judgement: Judgement::Refused(error),
         help: None,
+        alike: None,
         blocks,
     })
 }
