@@ -1,5 +1,5 @@
 -- When changes of a query's text help.
-use Rattle.std.specs.Prelude.{◌≡◌, ℕ, ◌/◌, min, max, List, length, take, Option, Some, None, String, ⊤}
+use Rattle.std.specs.Prelude.{◌≡◌, ℕ, ◌/◌, min, max, List, length, slice_range, Option, Some, None, String, ⊤}
 use Rattle.wd_certificate.specs.declared.certificate.Certificate.{Certificate}
 use Rattle.wd_decide.specs.Verdicts.{IsVerdict}
 use Rattle.wd_decide.specs.declared.verdict.Verdict.TheVariants.{Deterministic}
@@ -19,6 +19,10 @@ pub record IsHelp (schema query : List ℕ) (help : Help) : Type 0 where
 abbrev pub most_lists : ℕ → ℕ
 most_lists bytes = min 1000 (2000000 / max bytes 1)
 
+-- the lists that are tried
+abbrev pub lists_tried : List ℕ → List String → List String
+lists_tried query lists = slice_range lists 0 (min (most_lists (length query)) (length lists))
+
 abbrev pub help_of : Mended → Help
 help_of mended = record { changes = mended.changes; text = mended.text }
 
@@ -30,5 +34,5 @@ Gives (Some mended) help = help ≡ Some (help_of mended)
 -- where one of the lists mends the query, put at the places of what is open first, the help is the first such
 pub record IsFirstHelp (schema query : List ℕ) (sites : List PlanSite) (lists : List String) (help : Option Help) : Type 0 where
   pub mended : Option Mended
-  pub first : IsMendedFirst schema query sites (take (most_lists (length query)) lists) mended
+  pub first : IsMendedFirst schema query sites (lists_tried query lists) mended
   pub gives : Gives mended help

@@ -28,6 +28,7 @@ pub struct Help {
 /// Of so many lists as a query of this length is asked about, the first with which nothing is open is taken, put where the first call or
 /// limit that is open stands. Where none of them serves, for each ORDER BY the first list is taken with which less is open. None where
 /// no such lists are found, and where nothing is open or a text is refused.
+#[tactic(auto, using(crate::proofs::Verdict::is_help))]
 pub fn help_for(
     alloc: Global,
     schema: &[u8],
@@ -39,7 +40,7 @@ pub fn help_for(
     ensures first { IfOk result (IsFirstHelp schema.now query.now sites.now lists.now) }
 {
     let most = most_lists(query.len()).min(lists.len());
-    match mended_first(alloc, schema, query, sites, &lists[..most])? {
+    match mended_first(alloc, schema, query, sites, &lists[0..most])? {
         Some(mended) => Ok(Some(help_of(mended))),
         None => further_help(alloc, schema, query, sites, lists),
     }

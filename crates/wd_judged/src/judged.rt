@@ -130,7 +130,7 @@ fn help_where_open(
 ) -> Result<Option<Help>, OutOfMemory>
     ensures { IfOk result (λ help. IfSome help (IsHelp schema.now query.now)) }
 {
-    match finding.verdict {
+    match &finding.verdict {
         Verdict::Deterministic(_) => Ok(None),
         Verdict::Depends(_) | Verdict::Unknown(_) => {
             let planned = &finding.planned;

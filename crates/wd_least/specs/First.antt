@@ -52,11 +52,15 @@ pub record IsRefused (schema query : List ℕ) : Type 0 where
 abbrev pub IsLeftOpen : List ℕ → List ℕ → Type 0
 IsLeftOpen schema query = IsRefused schema query ⊎ Analyses IsOpen schema query
 
--- changes of the query, and the text with them, in which nothing is open
-pub record Serves (schema query : List ℕ) (places : List KeyPlace) (keys : List ℕ) (mended : Mended) : Type 0 where
-  pub are : AreKeyChanges keys places mended.changes.items
+-- the query's text with changes put in, in which nothing is open
+pub record IsMended (schema query : List ℕ) (mended : Mended) : Type 0 where
   pub put : ArePut query mended.changes.items mended.text.items
   pub closed : Analyses IsCertified schema mended.text.items
+
+-- the changes put the keys in, and nothing is open then
+pub record Serves (schema query : List ℕ) (places : List KeyPlace) (keys : List ℕ) (mended : Mended) : Type 0 where
+  pub are : AreKeyChanges keys places mended.changes.items
+  pub mends : IsMended schema query mended
 
 -- the keys can't be put in, or leave something open, or make a text that is refused
 pub record Fails (schema query : List ℕ) (places : List KeyPlace) (keys : List ℕ) : Type 0 where

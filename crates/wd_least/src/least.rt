@@ -1,8 +1,7 @@
 //! Lists of sort keys, tried one after the other.
 
-ghost use Rattle.std.specs.Prelude.{◌≡◌, ℕ, true, List, IfOk};
-ghost use Rattle.wd_keys.specs.Changes.{ArePut};
-ghost use Rattle.wd_least.specs.First.{AnswersKeys, AreKeyChanges, IsFirst, IsFirstOpen, IsMendedFirst, IsTried};
+ghost use Rattle.std.specs.Prelude.{◌≡◌, ℕ, true, List, IfOk, IfSome};
+ghost use Rattle.wd_least.specs.First.{AnswersKeys, AreKeyChanges, IsFirst, IsFirstOpen, IsMended, IsMendedFirst, IsTried};
 ghost use Rattle.wd_plan.specs.Fits.{fits};
 ghost use Rattle.wd_plan.specs.Plans.{plan_of};
 ghost use Rattle.wd_query.specs.Readings.{IsRead};
@@ -34,7 +33,8 @@ pub fn mended_first(
     sites: &[PlanSite],
     lists: &[String],
 ) -> Result<Option<Mended>, OutOfMemory>
-    ensures { IfOk result (IsMendedFirst schema.now query.now sites.now lists.now) }
+    ensures first { IfOk result (IsMendedFirst schema.now query.now sites.now lists.now) }
+    ensures mended { IfOk result (λ found. IfSome found (IsMended schema.now query.now)) }
 {
     match first_open(alloc, schema, query)? {
         Some(reason) => {
@@ -77,7 +77,8 @@ fn first_mended(
     places: &[KeyPlace],
     lists: &[String],
 ) -> Result<Option<Mended>, OutOfMemory>
-    ensures { IfOk result (IsFirst schema.now query.now places.now lists.now) }
+    ensures first { IfOk result (IsFirst schema.now query.now places.now lists.now) }
+    ensures mended { IfOk result (λ found. IfSome found (IsMended schema.now query.now)) }
 {
     for keys in lists {
         if let Some(mended) = tried(alloc, schema, query, places, keys.as_str())? {

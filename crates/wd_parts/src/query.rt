@@ -10,11 +10,7 @@ use wd_syntax::{
 use wd_value::OutOfMemory;
 
 /// The parts of a query that may be the cause of a refusal of this number.
-pub fn query_parts(
-    alloc: Global,
-    query: &Query,
-    number: u32,
-) -> Result<Vec<Part>, OutOfMemory> {
+pub fn query_parts(alloc: Global, query: &Query, number: u32) -> Result<Vec<Part>, OutOfMemory> {
     let mut walk = Walk::new(alloc, number);
     add_select(alloc, &mut walk, &query.select)?;
     Ok(walk.parts)
@@ -221,16 +217,17 @@ fn add_windows(walk: &mut Walk, windows: &[NamedWindow]) -> Result<(), OutOfMemo
     Ok(())
 }
 
+/// Whether a final sort key may be the cause of a refusal of this number.
+fn is_of_sort_key(number: u32) -> bool {
+    matches!(number, 412 | 414 | 415)
+}
+
 /// Adds the parts of the final ORDER BY.
 fn add_order(walk: &mut Walk, keys: &[SortKey]) -> Result<(), OutOfMemory> {
     for (number, key) in keys.iter().enumerate() {
         let first = walk.at;
         walk.pass(if number > 0 { 1 } else { 2 });
-        let opened = walk.open(
-            matches!(walk.number, 412 | 414 | 415),
-            first,
-            Neutral::Nothing,
-        )?;
+        let opened = walk.open(is_of_sort_key(walk.number), first, Neutral::Nothing)?;
         add_expression(walk, &key.expr)?;
         walk.show(opened);
         pass_direction(walk, key);

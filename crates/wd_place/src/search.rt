@@ -107,20 +107,20 @@ impl<J: Judge> Search<'_, J> {
         requires { IsLexed self.now.text.now self.now.tokens.now }
         ensures { IfOk result (λ found. IfSome found (IsCauseAt (J.Refused self.now.judge.now) (J.Passed self.now.judge.now) self.now.text.now)) }
     {
-        let mut without = 0;
-        let mut with = self.parts.len();
+        let mut passing = 0;
+        let mut refused = self.parts.len();
         for _ in 0..usize::BITS {
-            if with.saturating_sub(without) <= 1 {
+            if refused.saturating_sub(passing) <= 1 {
                 break;
             }
-            let middle = without + (with - without) / 2;
+            let middle = passing + (refused - passing) / 2;
             let changes = self.changes_from(middle)?;
             match self.refuses(&changes)? {
-                Some(true) => with = middle,
-                _ => without = middle,
+                Some(true) => refused = middle,
+                _ => passing = middle,
             }
         }
-        self.judged(without)
+        self.judged(passing)
     }
 
     /// The changes that replace the parts from the one of this number on.
