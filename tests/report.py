@@ -109,7 +109,7 @@ def small_cases():
         ("no query", {"q.sql": "-- nothing\n"}, ["q.sql"], 2, ["q.sql: not read", "1 not read"]),
         ("a refusal", {"q.sql": "SELECT id\nFROM t WHERE g IN ('a')"}, ["q.sql"], 2, ["q.sql:2:16: not read", "[201]", "    2 | FROM t WHERE g IN ('a')\n      |                ^^"]),
         ("a refused second statement", {"q.sql": f"{ONE};\n\nSELECT 12.5 FROM t"}, ["q.sql"], 2, ["q.sql:3:8: not read", "[104]"]),
-        ("a refusal without a place", {"q.sql": "SELECT idd FROM t"}, ["q.sql"], 2, ["q.sql: not read", "[402]"]),
+        ("an unknown column in a second statement", {"q.sql": f"{ONE};\nSELECT idd FROM t"}, ["q.sql"], 2, ["q.sql:2:8: not read", "[402]", "    2 | SELECT idd FROM t\n      |        ^^^"]),
         ("a bad schema", {"q.sql": ONE, "schema.sql": "CREATE TABLE t (a DATE)"}, ["q.sql"], 2, ["schema.sql:1:19: not read", "[307]", "help: write TEXT"]),
         ("no such file", {"q.sql": ONE}, ["none.sql", "q.sql"], 3, ["none.sql: there is no such file", "1 deterministic"]),
         ("a folder", {"a/q.sql": ONE, "a/b/r.sql": TIED, "a/c.txt": "no"}, ["a"], 1, ["a/b/r.sql:1:11: depends", "2 queries"]),
@@ -442,6 +442,49 @@ def the_remedies():
             check(f"remedy for {text}", status == 2 and len(helps) == 1 and wanted in helps[0], (status, out))
 
 
+def marked(line):
+    """A line of places.txt: the number, the text, and what it marks with its line and column."""
+    number, text = line.split(" ", 1)
+    text = re.sub(r"\{(\d+):([^}]*)\}", lambda m: "".join(m[2].replace("#", str(n + 1)) for n in range(int(m[1]))), text.replace("\\n", "\n"))
+    before, words, behind = re.split("[«»]", text)
+    return number, before + words + behind, words, before.count("\n") + 1, len(before.rsplit("\n", 1)[-1]) + 1
+
+
+def the_places():
+    """Where the cause of a refusal stands that names no place."""
+    with open(f"{TOP}/tests/report/places.txt", encoding="utf-8") as file:
+        cases = [marked(line.rstrip("\n")) for line in file if not line.startswith("#")]
+    wanted = [str(number) for number in [*range(301, 309), *range(401, 420)]]
+    check("each number has a place", sorted({case[0] for case in cases}) == wanted, sorted({case[0] for case in cases}))
+    for number, text, words, line, column in cases:
+        is_schema = text.startswith("CREATE")
+        with tempfile.TemporaryDirectory() as folder:
+            put(folder, {"schema.sql": text if is_schema else SCHEMA, "q.sql": ONE if is_schema else text})
+            out, _, status = run("q.sql", cwd=folder)
+            place = f"{'schema' if is_schema else 'q'}.sql:{line}:{column}: not read"
+            carets = [shown for shown in out.splitlines() if re.fullmatch(r" +\| +\^+", shown)]
+            ok = status == 2 and out.startswith(place) and f"[{number}]" in out and len(carets) == 1 and carets[0].count("^") == len(words)
+            check(f"place of {number} in {text[:80]}", ok, (status, out))
+
+
+def the_ties():
+    """RANK and WITH TIES, where the query has one answer with them."""
+    for text, wanted in lines_of("ties.txt"):
+        with tempfile.TemporaryDirectory() as folder:
+            put(folder, {"schema.sql": SCHEMA, "q.sql": text})
+            out, _, status = run("q.sql", cwd=folder)
+            helps = [line.strip() for line in out.splitlines() if line.strip().startswith("help: or ")]
+            lines = [] if wanted == "none" else [f"help: or {line}      (" for line in wanted.split(" && ")]
+            ok = status == 1 and len(helps) == len(lines) and all(said.startswith(line) and "DETERMINISTIC" in said for said, line in zip(helps, lines))
+            check(f"ties of {text}", ok, (status, out))
+            for line in lines:
+                mended = line.removeprefix("help: or ").split(": ", 1)[1].split("      (")[0]
+                if len(lines) == 1 and mended.startswith("ORDER BY"):
+                    put(folder, {"q.sql": text[: text.rindex("ORDER BY")] + mended})
+                    out, _, status = run("q.sql", cwd=folder)
+                    check(f"mended by {mended}", status == 0, (status, out))
+
+
 def the_excuses():
     """Comments above a query."""
     for text, wanted in lines_of("remarks.txt"):
@@ -530,6 +573,8 @@ the_fixes()
 the_screen()
 the_schema()
 the_remedies()
+the_places()
+the_ties()
 the_excuses()
 the_baselines()
 the_page()

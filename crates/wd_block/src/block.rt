@@ -2,6 +2,7 @@
 
 ghost use Rattle.std.specs.Prelude.{◌≡◌, ◌<◌, ◌≤◌, length, take, string_bytes, OnErr, OnOk};
 
+use crate::alike::add_alike;
 use crate::words::{kind_of, lack_words, place_words};
 use std::alloc::Global;
 use std::fmt::Write;
@@ -25,7 +26,8 @@ pub struct Statement<'a> {
 }
 
 /// Adds the block for the place with a number that is open in a statement; that of the first has the rows of the witness and both
-/// answers. Where there is no such place, nothing is added, and where memory runs out, the text stays as it was.
+/// answers. `help` has the sort keys that mend the statement, `alike` RANK or WITH TIES. Where there is no such place, nothing is added, and
+/// where memory runs out, the text stays as it was.
 pub fn add_open(
     alloc: Global,
     out: &mut String,
@@ -33,13 +35,14 @@ pub fn add_open(
     finding: &Finding,
     number: usize,
     help: Option<&Help>,
+    alike: Option<&Help>,
 ) -> Result<(), OutOfMemory>
     ensures appended { OnOk result (take (length (string_bytes out.old)) (string_bytes out.new) ≡ string_bytes out.old) }
     ensures none { length finding.now.places.items ≤ number → string_bytes out.new ≡ string_bytes out.old }
     ensures kept { OnErr result (string_bytes out.new ≡ string_bytes out.old) }
 {
     if number < finding.places.len() {
-        let block = open_block(alloc, statement, finding, number, help)?;
+        let block = open_block(alloc, statement, finding, number, help, alike)?;
         Ok(out.push_str(block.as_str())?)
     } else {
         Ok(())
@@ -53,6 +56,7 @@ fn open_block(
     finding: &Finding,
     number: usize,
     help: Option<&Help>,
+    alike: Option<&Help>,
 ) -> Result<String, OutOfMemory>
     requires { number < length finding.now.places.items }
 {
@@ -67,6 +71,9 @@ fn open_block(
         if number == 0 {
             add_other_helps(&mut block, statement, &finding.places, help)?;
         }
+    }
+    if let Some(alike) = alike {
+        add_alike(alloc, &mut block, statement, place, alike)?;
     }
     block.push('\n')?;
     Ok(block)

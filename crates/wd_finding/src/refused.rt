@@ -2,7 +2,8 @@
 
 use std::alloc::Global;
 use wd_decide::DecideError;
-use wd_lex::{Span, Terminal, Token, TokenKind, lex};
+use wd_lex::{Span, Token, lex};
+use wd_place::{query_place, schema_place};
 use wd_query::TextError;
 
 /// Which text a refusal is about.
@@ -17,8 +18,8 @@ pub enum RefusedText {
 pub struct RefusedPlace {
     pub text: RefusedText,
     pub number: u32,
-    /// The bytes that it is about, where it names a place: of 101 to 105 a byte, of the others a token, or the end of the text where
-    /// more of them are wanted; of 307 the type.
+    /// The bytes that it is about: of 101 to 105 a byte, of 201, 202 and 309 a token, or the end of the text where more of them are
+    /// wanted; of the others the tokens at which their cause is found to stand.
     pub span: Option<Span>,
 }
 
@@ -37,8 +38,7 @@ pub fn refused_place(
     };
     let span = match error.place() {
         Some(place) => span_at(alloc, bytes, number, place),
-        None if number == UNKNOWN_TYPE => unread_type(alloc, bytes),
-        None => None,
+        None => cause_at(alloc, schema, query, text, number)?,
     };
     Some(RefusedPlace { text, number, span })
 }
@@ -50,6 +50,21 @@ fn refused_text(error: &DecideError) -> Option<RefusedText> {
         DecideError::Texts(TextError::Query(_)) => Some(RefusedText::Query),
         DecideError::OutOfMemory => None,
     }
+}
+
+/// Where the cause of a refusal of this number is found to stand. None where memory runs out.
+fn cause_at(
+    alloc: Global,
+    schema: &[u8],
+    query: &[u8],
+    text: RefusedText,
+    number: u32,
+) -> Option<Option<Span>> {
+    let found = match text {
+        RefusedText::Schema => schema_place(alloc, schema, number),
+        RefusedText::Query => query_place(alloc, schema, query, number),
+    };
+    found.ok()
 }
 
 /// The bytes of a place that a refusal of this number names.
@@ -75,54 +90,4 @@ fn token_span(tokens: &[Token], end: u64, number: u64) -> Option<Span> {
             end: end,
         }),
     }
-}
-
-/// The number of the refusal of a schema that has a type which is not read.
-const UNKNOWN_TYPE: u32 = 307;
-
-/// The types that are read.
-const TYPES: [&str; 5] = ["smallint", "integer", "bigint", "text", "boolean"];
-
-/// The first type of a column, in a schema's text, that is not read.
-fn unread_type(alloc: Global, text: &[u8]) -> Option<Span> {
-    let tokens = match lex(alloc, text) {
-        Ok(tokens) => tokens,
-        Err(_) => return None,
-    };
-    for (at, token) in tokens.iter().enumerate() {
-        if begins_member(&token.kind) {
-            let name = tokens.get(at.saturating_add(1));
-            let kind = tokens.get(at.saturating_add(2));
-            if let (Some(name), Some(kind)) = (name, kind) {
-                if is_name(name) && is_unread(text, kind) {
-                    return Some(kind.span);
-                }
-            }
-        }
-    }
-    None
-}
-
-/// Whether a member of a table, as a column, may stand behind a token.
-fn begins_member(kind: &TokenKind) -> bool {
-    matches!(
-        kind,
-        TokenKind::Terminal(Terminal::LeftBracket | Terminal::Comma)
-    )
-}
-
-/// Whether a token is a name.
-fn is_name(token: &Token) -> bool {
-    matches!(token.kind, TokenKind::Word(_) | TokenKind::Quoted(_))
-}
-
-/// Whether a token is a word that is no type.
-fn is_unread(text: &[u8], token: &Token) -> bool {
-    let end = (token.span.end as usize).min(text.len());
-    let start = (token.span.start as usize).min(end);
-    let word = &text[start..end];
-    matches!(token.kind, TokenKind::Word(_))
-        && !TYPES
-            .iter()
-            .any(|known| word.eq_ignore_ascii_case(known.as_bytes()))
 }

@@ -1,32 +1,82 @@
 //! The help for a query.
 
-ghost use Rattle.std.specs.Prelude.{IfOk, IfSome};
+ghost use Rattle.std.specs.Prelude.{◌≡◌, IfOk, IfSome};
 ghost use Rattle.wd_keys.specs.Changes.{ArePut};
-ghost use Rattle.wd_help.specs.Helps.{IsHelp};
+ghost use Rattle.wd_help.specs.Helps.{IsFirstHelp, IsHelp, help_of};
 
-use crate::search::found;
+use crate::alike::all_alike;
+use crate::search::{found, most_lists};
 use std::alloc::Global;
 use wd_decide::{DecideError, Verdict, decide};
 use wd_keys::{Change, changed};
+use wd_least::{Mended, mended_first};
+use wd_sites::PlanSite;
 use wd_value::OutOfMemory;
 
-/// Sort keys with which a query has one answer.
+/// Changes with which a query has one answer.
 #[derive(Drop)]
 pub struct Help {
-    /// The keys, each with its place in the query's text, in order.
+    /// The changes, each with its place in the query's text, in order.
     pub changes: Vec<Change>,
-    /// The text with the keys put in.
+    /// The text with the changes put in.
     pub text: Vec<u8>,
 }
 
-/// Sort keys for the window calls and the limits of a query that are open, so that the verdict on the changed text is
-/// DETERMINISTIC. For each ORDER BY the shortest list of columns is taken with which less is open, of those that are tried: keys of
-/// the tables come first, then their other columns, and a list has at most three. None where no such list is found, and where nothing is
-/// open or a text is refused.
-pub fn help_for(alloc: Global, schema: &[u8], query: &[u8]) -> Result<Option<Help>, OutOfMemory>
+/// Sort keys for the window calls and the limits of a query that are open, so that the verdict on the changed text is DETERMINISTIC. Where
+/// the window calls and the limits of the query stand is told, and which lists of sort keys may be tried.
+///
+/// Of so many lists as a query of this length is asked about, the first with which nothing is open is taken, put where the first call or
+/// limit that is open stands. Where none of them serves, for each ORDER BY the first list is taken with which less is open. None where
+/// no such lists are found, and where nothing is open or a text is refused.
+#[tactic(auto, using(crate::proofs::Verdict::is_help))]
+pub fn help_for(
+    alloc: Global,
+    schema: &[u8],
+    query: &[u8],
+    sites: &[PlanSite],
+    lists: &[String],
+) -> Result<Option<Help>, OutOfMemory>
+    ensures helps { IfOk result (λ found. IfSome found (IsHelp schema.now query.now)) }
+    ensures first { IfOk result (IsFirstHelp schema.now query.now sites.now lists.now) }
+{
+    let most = most_lists(query.len()).min(lists.len());
+    match mended_first(alloc, schema, query, sites, &lists[0..most])? {
+        Some(mended) => Ok(Some(help_of(mended))),
+        None => further_help(alloc, schema, query, sites, lists),
+    }
+}
+
+/// The help that a mended text is.
+fn help_of(mended: Mended) -> Help
+    ensures { result ≡ help_of mended }
+{
+    let Mended { changes, text } = mended;
+    Help { changes, text }
+}
+
+/// A help with keys in several places.
+fn further_help(
+    alloc: Global,
+    schema: &[u8],
+    query: &[u8],
+    sites: &[PlanSite],
+    lists: &[String],
+) -> Result<Option<Help>, OutOfMemory>
     ensures { IfOk result (λ found. IfSome found (IsHelp schema.now query.now)) }
 {
-    match found(alloc, schema, query)? {
+    match found(alloc, schema, query, sites, lists)? {
+        Some(changes) => judged(alloc, schema, query, changes),
+        None => Ok(None),
+    }
+}
+
+/// Changes with which rows that tie are treated alike at each place that is open in a query, so that the verdict on the changed text is
+/// DETERMINISTIC: RANK in the place of ROW_NUMBER, and WITH TIES for a limit without an OFFSET. None where one of the places has no such
+/// change, and where nothing is open or a text is refused.
+pub fn alike_for(alloc: Global, schema: &[u8], query: &[u8]) -> Result<Option<Help>, OutOfMemory>
+    ensures { IfOk result (λ found. IfSome found (IsHelp schema.now query.now)) }
+{
+    match all_alike(alloc, schema, query)? {
         Some(changes) => judged(alloc, schema, query, changes),
         None => Ok(None),
     }

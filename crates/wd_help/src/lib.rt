@@ -1,10 +1,11 @@
-//! Sort keys with which a query that may have several answers has one.
+//! Changes with which a query that may have several answers has one.
 //!
-//! `search` puts keys into the text and asks the analysis which of them close what is open, and `help` asks for the verdict on the
-//! text that is left.
+//! `search` puts sort keys into the text and asks the analysis which of them close what is open; `alike` has the changes with which
+//! rows that tie are treated alike. `help` asks for the verdict on the text with either.
 #![tactic(auto)]
 
+mod alike;
 mod help;
 mod search;
 
-pub use help::{Help, help_for};
+pub use help::{Help, alike_for, help_for};

@@ -3,10 +3,13 @@
 //! Place after place is closed, the first that is open next. A key that closes one may open another, which had no part in the
 //! answer before (two orderings of rows that may be exchanged under one alone): that one's turn comes then.
 
+ghost use Rattle.std.specs.Prelude.{◌≡◌};
+ghost use Rattle.wd_help.specs.Helps.{most_lists};
+
 use std::alloc::Global;
 use wd_analyse::{Analysis, Reason};
 use wd_decide::{DecideError, Examined, examine};
-use wd_keys::{Change, candidates, changed};
+use wd_keys::{Change, changed};
 use wd_lex::lex;
 use wd_sites::{KeyPlace, PlanSite, sites};
 use wd_value::OutOfMemory;
@@ -22,9 +25,9 @@ const MOST_ROUNDS: usize = 16;
 
 /// What is open in a text, and where its window calls and limits stand.
 #[derive(Drop)]
-struct Open {
-    reasons: Vec<Reason>,
-    sites: Vec<PlanSite>,
+pub(crate) struct Open {
+    pub(crate) reasons: Vec<Reason>,
+    pub(crate) sites: Vec<PlanSite>,
 }
 
 /// Changes, and what is open with them.
@@ -46,34 +49,37 @@ struct Search<'a> {
     candidates: &'a [String],
 }
 
-/// The changes with which nothing is open.
+/// How many lists are tried on a query of so many bytes.
+pub(crate) fn most_lists(bytes: usize) -> usize
+    ensures { result ≡ most_lists bytes }
+{
+    MOST_QUESTIONS.min(MOST_BYTES / bytes.max(1))
+}
+
+/// The changes with which nothing is open, where several ORDER BYs may be changed.
 pub(crate) fn found(
     alloc: Global,
     schema: &[u8],
     query: &[u8],
+    sites: &[PlanSite],
+    candidates: &[String],
 ) -> Result<Option<Vec<Change>>, OutOfMemory> {
-    let Some(examined) = examined(alloc, schema, query)? else {
-        return Ok(None);
-    };
-    let candidates = candidates(
-        alloc,
-        &examined.planned.schema,
-        &examined.planned.resolved.plan,
-        query,
-    )?;
-    let open = open_in(alloc, examined, query)?;
     let search = Search {
         alloc,
         schema,
         query,
-        sites: &open.sites,
-        candidates: &candidates,
+        sites,
+        candidates,
     };
     search.run()
 }
 
 /// What the analysis finds of a text. None where the text is refused.
-fn examined(alloc: Global, schema: &[u8], text: &[u8]) -> Result<Option<Examined>, OutOfMemory> {
+pub(crate) fn examined(
+    alloc: Global,
+    schema: &[u8],
+    text: &[u8],
+) -> Result<Option<Examined>, OutOfMemory> {
     match examine(alloc, schema, text) {
         Ok(examined) => Ok(Some(examined)),
         Err(DecideError::OutOfMemory) => Err(OutOfMemory),
@@ -82,7 +88,7 @@ fn examined(alloc: Global, schema: &[u8], text: &[u8]) -> Result<Option<Examined
 }
 
 /// What is open in a text.
-fn open_in(alloc: Global, examined: Examined, text: &[u8]) -> Result<Open, OutOfMemory> {
+pub(crate) fn open_in(alloc: Global, examined: Examined, text: &[u8]) -> Result<Open, OutOfMemory> {
     let Examined { planned, analysis } = examined;
     let sites = match lex(alloc, text) {
         Ok(tokens) => sites(alloc, &tokens, &planned.resolved.plan)?,
@@ -180,7 +186,7 @@ impl Search<'_> {
 
     /// Whether no further question is asked.
     fn is_spent(self, tried: usize) -> bool {
-        tried >= MOST_QUESTIONS || tried.saturating_mul(self.query.len()) >= MOST_BYTES
+        tried >= most_lists(self.query.len())
     }
 
     /// Where keys can be added for what is open there, each place once.

@@ -27,12 +27,13 @@ abbrev pub places_told : Judgement → ℕ
 places_told (Found finding) = length finding.places.items
 places_told (Refused error) = 1
 
--- This is judged of a query's text, which stands there in its file: what is found of it, a help that is one for it, and a block for each
+-- This is judged of a query's text, which stands there in its file: what is found of it, helps that are some for it, and a block for each
 -- place.
 pub record IsJudgedAs (schema query : List ℕ) (span : Span) (judged : Judged) : Type 0 where
   pub stands : judged.span ≡ span
   pub judgement : IsJudgement schema query judged.kind judged.judgement
   pub help : IfSome judged.help (IsHelp schema query)
+  pub alike : IfSome judged.alike (IsHelp schema query)
   pub told : length judged.blocks.items ≡ places_told judged.judgement
 
 -- this is judged of the statement of a text that stands there

@@ -35,12 +35,13 @@ pub(crate) fn open_blocks(
     statement: Statement<'_>,
     finding: &Finding,
     help: Option<&Help>,
+    alike: Option<&Help>,
 ) -> Result<Vec<Block>, OutOfMemory>
     ensures { IfOk result (λ blocks. length blocks.items ≡ length finding.now.places.items) }
 {
     let mut blocks = Vec::new(alloc);
     for number in 0..finding.places.len() {
-        blocks.push(open_block(alloc, statement, finding, number, help)?)?;
+        blocks.push(open_block(alloc, statement, finding, number, help, alike)?)?;
     }
     Ok(blocks)
 }
@@ -52,9 +53,10 @@ fn open_block(
     finding: &Finding,
     number: usize,
     help: Option<&Help>,
+    alike: Option<&Help>,
 ) -> Result<Block, OutOfMemory> {
     let mut text = String::new(alloc);
-    add_open(alloc, &mut text, statement, finding, number, help)?;
+    add_open(alloc, &mut text, statement, finding, number, help, alike)?;
     let span = match finding.places.get(number) {
         Some(
             OpenPlace {

@@ -12,9 +12,12 @@ use wd_block::{Statement, kind_of};
 use wd_decide::DecideError;
 use wd_finding::{Finding, judge};
 use wd_fix::Fix;
-use wd_help::{Help, help_for};
-use wd_lex::Span;
+use wd_help::{Help, alike_for, help_for};
+use wd_keys::candidates;
+use wd_lex::{Span, lex};
 use wd_lines::Kind;
+use wd_plan::Plan;
+use wd_sites::{PlanSite, sites};
 use wd_value::OutOfMemory;
 
 /// A text and its path.
@@ -41,6 +44,8 @@ pub struct Judged {
     pub judgement: Judgement,
     /// The sort keys with which it has one answer, where some are known; the text with them is in it.
     pub help: Option<Help>,
+    /// RANK or WITH TIES, with which it has one answer too, where these serve.
+    pub alike: Option<Help>,
     /// What is told of it: a block for each place that is open, or one for the refusal.
     pub blocks: Vec<Block>,
 }
@@ -102,29 +107,60 @@ fn of_finding(
     requires { IsFinding schema.now query.now finding }
     ensures { IfOk result (IsJudgedAs schema.now query.now span) }
 {
-    let help = help_where_open(alloc, schema, query, kind_of(&finding))?;
+    let help = help_where_open(alloc, schema, query, &finding)?;
+    let alike = alike_where_open(alloc, schema, query, kind_of(&finding))?;
     let statement = statement_at(file, span);
-    let blocks = open_blocks(alloc, statement, &finding, help.as_ref())?;
+    let blocks = open_blocks(alloc, statement, &finding, help.as_ref(), alike.as_ref())?;
     Ok(Judged {
         span,
         kind: kind_of(&finding),
         judgement: Judgement::Found(finding),
         help,
+        alike,
         blocks,
     })
 }
 
-/// The help for a query that counts as this, where it may have several answers.
+/// The help for a query of which this is found, where it may have several answers.
 fn help_where_open(
+    alloc: Global,
+    schema: &[u8],
+    query: &[u8],
+    finding: &Finding,
+) -> Result<Option<Help>, OutOfMemory>
+    ensures { IfOk result (λ help. IfSome help (IsHelp schema.now query.now)) }
+{
+    match kind_of(finding) {
+        Kind::Depends | Kind::MayTie => {
+            let planned = &finding.planned;
+            let plan = &planned.resolved.plan;
+            let sites = sites_in(alloc, query, plan)?;
+            let lists = candidates(alloc, &planned.schema, plan, query)?;
+            help_for(alloc, schema, query, &sites, &lists)
+        }
+        _ => Ok(None),
+    }
+}
+
+/// Where the window calls and the limits of a plan stand in its query.
+fn sites_in(alloc: Global, query: &[u8], plan: &Plan) -> Result<Vec<PlanSite>, OutOfMemory> {
+    match lex(alloc, query) {
+        Ok(tokens) => sites(alloc, &tokens, plan),
+        Err(_) => Ok(Vec::new(alloc)),
+    }
+}
+
+/// RANK or WITH TIES for a query that counts as this, where it may have several answers.
+fn alike_where_open(
     alloc: Global,
     schema: &[u8],
     query: &[u8],
     kind: Kind,
 ) -> Result<Option<Help>, OutOfMemory>
-    ensures { IfOk result (λ help. IfSome help (IsHelp schema.now query.now)) }
+    ensures { IfOk result (λ alike. IfSome alike (IsHelp schema.now query.now)) }
 {
     match kind {
-        Kind::Depends | Kind::MayTie => help_for(alloc, schema, query),
+        Kind::Depends | Kind::MayTie => alike_for(alloc, schema, query),
         _ => Ok(None),
     }
 }
@@ -149,6 +185,7 @@ fn of_refusal(
         kind: Kind::NotRead,
         judgement: Judgement::Refused(error),
         help: None,
+        alike: None,
         blocks,
     })
 }

@@ -1,16 +1,17 @@
--- A text with something put into it.
-use Rattle.std.specs.Prelude.{◌≡◌, ℕ, ◌≤◌, List, [], ◌∷◌, ◌++◌, length, drop, slice_range, string_bytes}
+-- A text with stretches of it changed.
+use Rattle.std.specs.Prelude.{◌≡◌, ◌⊎◌, ℕ, ◌≤◌, List, [], ◌∷◌, ◌++◌, length, drop, Option, Some, None, codes, slice_range, string_bytes}
+use Rattle.wd_sites.specs.declared.site.KeyPlace.{KeyPlace}
 use Rattle.wd_keys.specs.declared.change.Change.{Change}
 
--- the text from a byte on, with each change put in at its place
+-- the text from a byte on, with each change put in the place of its stretch
 abbrev pub changed_from : List ℕ → ℕ → List Change → List ℕ
 changed_from text start [] = drop start text
-changed_from text start (change ∷ changes) = slice_range text start change.at ++ string_bytes change.text ++ changed_from text change.at changes
+changed_from text start (change ∷ changes) = slice_range text start change.at ++ string_bytes change.text ++ changed_from text change.end changes
 
--- the places come in order, from a byte on, within the text
+-- the stretches come in order and apart, from a byte on, within the text
 abbrev pub ComeInOrder : List ℕ → ℕ → List Change → Type 0
 ComeInOrder text start [] = start ≤ length text
-ComeInOrder text start (change ∷ changes) = (start ≤ change.at) × ComeInOrder text change.at changes
+ComeInOrder text start (change ∷ changes) = (start ≤ change.at) × (change.at ≤ change.end) × ComeInOrder text change.end changes
 
 -- this is the text with the changes put in
 pub record ArePut (text : List ℕ) (changes : List Change) (after : List ℕ) : Type 0 where
@@ -20,5 +21,30 @@ pub record ArePut (text : List ℕ) (changes : List Change) (after : List ℕ) :
 -- an equal change, wherever it lies in memory
 pub record IsCopy (change copy : Change) : Type 0 where
   pub at : copy.at ≡ change.at
+  pub end : copy.end ≡ change.end
   pub text : string_bytes copy.text ≡ string_bytes change.text
   pub keys : string_bytes copy.keys ≡ string_bytes change.keys
+
+-- a blank, or nothing
+abbrev pub IsBlank : List ℕ → Type 0
+IsBlank text = (text ≡ []) ⊎ (text ≡ codes " ")
+
+-- ORDER BY and the keys, with blanks around them or none
+pub record IsOrderBy (keys text : List ℕ) : Type 0 where
+  pub before : List ℕ
+  pub after : List ℕ
+  pub blank_before : IsBlank before
+  pub blank_after : IsBlank after
+  pub is : text ≡ before ++ codes "ORDER BY " ++ keys ++ after
+
+-- what is put in for keys: a comma first where an ORDER BY stands before them
+abbrev pub IsKeyText : Option ℕ → List ℕ → List ℕ → Type 0
+IsKeyText (Some order) keys text = text ≡ codes ", " ++ keys
+IsKeyText None keys text = IsOrderBy keys text
+
+-- the change that puts keys in at a place
+pub record IsKeyChange (place : KeyPlace) (keys : List ℕ) (change : Change) : Type 0 where
+  pub at : change.at ≡ place.at
+  pub end : change.end ≡ place.at
+  pub text : IsKeyText place.order keys (string_bytes change.text)
+  pub alone : string_bytes change.keys ≡ keys

@@ -1,20 +1,22 @@
 //! What is put into a text.
 
-ghost use Rattle.std.specs.Prelude.{◌≡◌, ◌++◌, codes, string_bytes, IfOk, IfSome, OnErr};
-ghost use Rattle.wd_keys.specs.Changes.{ArePut, IsCopy};
+ghost use Rattle.std.specs.Prelude.{◌≡◌, ◌++◌, codes, string_bytes, IfOk, IfSome, IfNone, OnErr};
+ghost use Rattle.wd_keys.specs.Changes.{ArePut, ComeInOrder, IsBlank, IsCopy, IsKeyChange, IsOrderBy};
 
 use std::alloc::Global;
 use wd_sites::KeyPlace;
 use wd_value::OutOfMemory;
 
-/// Sort keys that are put into a text.
+/// A stretch of a text, and what is put in its place. Sort keys are put in where nothing is taken out.
 #[derive(Drop)]
 pub struct Change {
-    /// The byte before which they are put.
+    /// The byte at which the stretch begins.
     pub at: u64,
-    /// What is put there: a comma or ORDER BY, and the keys.
+    /// The byte before which it ends.
+    pub end: u64,
+    /// What is put there: of sort keys a comma or ORDER BY, and the keys.
     pub text: String,
-    /// The keys alone.
+    /// The sort keys alone.
     pub keys: String,
 }
 
@@ -26,26 +28,15 @@ impl Change {
         place: KeyPlace,
         keys: &str,
     ) -> Result<Change, OutOfMemory>
-        ensures at { IfOk result (λ c. c.at ≡ place.at) }
-        ensures keys { IfOk result (λ c. string_bytes c.keys ≡ keys.now) }
+        ensures { IfOk result (IsKeyChange place keys.now) }
     {
-        let at = place.at as usize;
-        let mut text = String::new(alloc);
-        if place.order.is_some() {
-            text.push_str(", ")?;
-            text.push_str(keys)?;
-        } else {
-            if !matches!(byte_before(query, at), Some(b'(')) {
-                text.push(' ')?;
-            }
-            text.push_str("ORDER BY ")?;
-            text.push_str(keys)?;
-            if matches!(query.get(at), Some(b) if b.is_ascii_alphanumeric()) {
-                text.push(' ')?;
-            }
-        }
+        let text = match place.order {
+            Some(_) => format!(in alloc; ", {keys}")?,
+            None => order_by(alloc, query, place.at as usize, keys)?,
+        };
         Ok(Change {
             at: place.at,
+            end: place.at,
             text,
             keys: String::from_str(alloc, keys)?,
         })
@@ -54,6 +45,7 @@ impl Change {
     /// Adds keys behind those that it has. Where memory runs out, it stays as it was.
     pub fn add(&mut self, alloc: Global, keys: &str) -> Result<(), OutOfMemory>
         ensures at { self.new.at ≡ self.old.at }
+        ensures end { self.new.end ≡ self.old.end }
         ensures text { IfOk result (λ _. string_bytes self.new.text ≡ string_bytes self.old.text ++ codes ", " ++ keys.now) }
         ensures keys { IfOk result (λ _. string_bytes self.new.keys ≡ string_bytes self.old.keys ++ codes ", " ++ keys.now) }
         ensures kept { OnErr result (self.new ≡ self.old) }
@@ -71,6 +63,7 @@ impl Change {
     {
         Ok(Change {
             at: self.at,
+            end: self.end,
             text: String::from_str(alloc, self.text.as_str())?,
             keys: String::from_str(alloc, self.keys.as_str())?,
         })
@@ -87,29 +80,47 @@ fn longer(alloc: Global, text: &str, keys: &str) -> Result<String, OutOfMemory>
     Ok(longer)
 }
 
+/// ORDER BY and keys, to be put in at a place of a text: with a blank where a word or a token stands beside it.
+fn order_by(alloc: Global, query: &[u8], at: usize, keys: &str) -> Result<String, OutOfMemory>
+    ensures { IfOk result (λ t. IsOrderBy keys.now (string_bytes t)) }
+{
+    let before = blank_if(!matches!(byte_before(query, at), Some(b'(')));
+    let after = blank_if(matches!(query.get(at), Some(b) if b.is_ascii_alphanumeric()));
+    Ok(format!(in alloc; "{before}ORDER BY {keys}{after}")?)
+}
+
+/// A blank, where it is wanted.
+fn blank_if(is_wanted: bool) -> &'static str
+    ensures { IsBlank result.now }
+{
+    if is_wanted { " " } else { "" }
+}
+
 /// The byte before a place.
 fn byte_before(text: &[u8], at: usize) -> Option<u8> {
     text.get(at.checked_sub(1)?).copied()
 }
 
-/// A text with changes put in, which come in the order of their places. None where they don't, or one is past the text.
+/// A text with changes put in, which come in the order of their places and apart. None where they don't, or one is past the text.
 pub fn changed(
     alloc: Global,
     text: &[u8],
     changes: &[Change],
 ) -> Result<Option<Vec<u8>>, OutOfMemory>
-    ensures { IfOk result (λ found. IfSome found (λ t. ArePut text.now changes.now t.items)) }
+    ensures put { IfOk result (λ found. IfSome found (λ t. ArePut text.now changes.now t.items)) }
+    ensures wrong { IfOk result (λ found. IfNone found (ComeInOrder text.now 0 changes.now → ⊥)) }
 {
     let mut out = Vec::new(alloc);
     let mut start = 0;
     for change in changes {
         let at = change.at as usize;
-        if at < start || at > text.len() {
+        let end = change.end as usize;
+        if at < start || end < at || end > text.len() {
             return Ok(None);
         }
         out.extend_from_slice(&text[start..at])?;
         out.extend_from_slice(change.text.as_bytes())?;
-        start = at;
+        start = end;
     }
     out.extend_from_slice(&text[start..])?;
     Ok(Some(out))
