@@ -89,13 +89,15 @@ def the_folders():
             check(f"{place} answers", answers and all(len(a) == 2 and a[0] != a[1] for a in answers), lines)
     count = COUNT.search(out)
     numbers = [int(n) for n in count.groups()] if count else []
-    check("the count", numbers and numbers[:2] == [16, 7] and numbers[2] + numbers[3] == 9 and numbers[4:] == [0, 9], numbers)
+    check("the count", numbers and numbers[:2] == [16, 8] and numbers[2] + numbers[3] == 8 and numbers[4:] == [0, 8], numbers)
 
 
 SCHEMA = "CREATE TABLE t (id BIGINT PRIMARY KEY, g TEXT NOT NULL, v BIGINT);\n"
 ONE = "SELECT id FROM t"
 TIED = "SELECT g, ROW_NUMBER() OVER (ORDER BY v) AS n FROM t"
 MENDED = "SELECT g, ROW_NUMBER() OVER (ORDER BY v, id) AS n FROM t"
+# Rows are numbered by a column that may tie, in a derived table of which some columns are shown.
+NUMBERED = "SELECT {} FROM (SELECT {}, ROW_NUMBER() OVER (ORDER BY v) AS n FROM t) AS s"
 # The sort key may tie, and past the condition there is no row over which any search could find two answers.
 MAY_TIE = "SELECT g, ROW_NUMBER() OVER (ORDER BY v) AS n FROM t WHERE id * 7 + 3 = 24000000000001"
 
@@ -104,6 +106,13 @@ def small_cases():
     """Cases of one folder each: its files, the words, the status, and what must stand in the output."""
     cases = [
         ("one answer", {"q.sql": ONE}, ["q.sql"], 0, ["1 query: 1 deterministic, 0 depend, 0 may tie, 0 not read; 0 can be mended"]),
+        ("a column that nothing reads", {"q.sql": NUMBERED.format("n", "id, v")}, ["q.sql"], 0, ["1 query: 1 deterministic, 0 depend, 0 may tie"]),
+        ("a column that is read", {"q.sql": NUMBERED.format("id, n", "id, v")}, ["q.sql"], 1, ["1 query: 0 deterministic, 1 depend"]),
+        ("a column that a condition reads", {"q.sql": NUMBERED.format("n", "id, v") + " WHERE id > 1"}, ["q.sql"], 1, ["1 query: 0 deterministic"]),
+        ("a side of a join of which one column is read", {"q.sql": f"SELECT s.n, t.id FROM ({NUMBERED.format('id, n', 'id, v')}) AS s JOIN t ON s.n = t.id"}, ["q.sql"], 0, ["1 query: 1 deterministic"]),
+        ("a call that nothing reads", {"q.sql": NUMBERED.format("id", "id")}, ["q.sql"], 0, ["1 query: 1 deterministic"]),
+        ("a sum that nothing reads and that may be out of range", {"q.sql": "SELECT id FROM (SELECT id, SUM(v) OVER (ORDER BY g ROWS UNBOUNDED PRECEDING) AS s FROM t) AS s"}, ["q.sql"], 1, ["1 query: 0 deterministic, 0 depend, 1 may tie"]),
+        ("a limit of no rows", {"q.sql": "SELECT g FROM t ORDER BY v LIMIT 0"}, ["q.sql"], 0, ["1 query: 1 deterministic"]),
         ("two statements", {"q.sql": f"-- ; no end\n{ONE};\n{TIED};"}, ["q.sql"], 1, ["q.sql:3:11: depends", "2 queries: 1 deterministic, 1 depend", "help: ORDER BY v, id "]),
         ("a comment alone", {"q.sql": f"{ONE}; -- behind"}, ["q.sql"], 0, ["1 query: 1 deterministic"]),
         ("no query", {"q.sql": "-- nothing\n"}, ["q.sql"], 2, ["q.sql: not read", "1 not read"]),
