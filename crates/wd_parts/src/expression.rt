@@ -39,7 +39,8 @@ pub(crate) fn add_expression(walk: &mut Walk, tree: &Expr) -> Result<(), OutOfMe
         }
         Expr::Case(arms, other) => {
             walk.pass(1);
-            add_arms(walk, arms, other)?;
+            add_arms(walk, arms)?;
+            add_else(walk, other)?;
             walk.pass(1);
         }
         Expr::Bracket(inner) => {
@@ -106,20 +107,28 @@ fn add_links(walk: &mut Walk, links: &[Link]) -> Result<(), OutOfMemory> {
     Ok(())
 }
 
-/// Adds the parts of a CASE.
+/// Adds the parts of the branches of a CASE.
 #[cycle(walk)]
-fn add_arms(walk: &mut Walk, arms: &[Arm], other: &Option<Box<Expr>>) -> Result<(), OutOfMemory> {
+fn add_arms(walk: &mut Walk, arms: &[Arm]) -> Result<(), OutOfMemory> {
     for arm in arms {
         walk.pass(1);
         add_expression(walk, &arm.when)?;
         walk.pass(1);
         add_expression(walk, &arm.gives)?;
     }
-    if let Some(other) = other {
-        walk.pass(1);
-        add_expression(walk, other)?;
-    }
     Ok(())
+}
+
+/// Adds the parts of what ELSE gives, where it is written.
+#[cycle(walk)]
+fn add_else(walk: &mut Walk, other: &Option<Box<Expr>>) -> Result<(), OutOfMemory> {
+    match other {
+        None => Ok(()),
+        Some(tree) => {
+            walk.pass(1);
+            add_expression(walk, tree)
+        }
+    }
 }
 
 /// Adds the parts of what stands in OVER, where it is written.
