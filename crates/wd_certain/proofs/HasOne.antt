@@ -29,11 +29,11 @@ simpler_has_one agreeing commutes is_alike tables plan fit one instance other c1
     let as_they_are : SameTables instance instance = λ table. agreeing.itself (Ok (table_at instance table)) in
     let agree : Agree (outcome (simpler plan) instance c1) (outcome (simpler plan) instance own) = one instance instance c1 own meets as_they_are ((alike.valid c1).0 v1) ((alike.valid own).0 valid) in
     let first : Agree (outcome plan instance c1) (outcome plan instance own) =
-      subst (λ o. Agree o (outcome plan instance own)) (sym (alike.same c1 v1)) (subst (Agree (outcome (simpler plan) instance c1)) (sym (alike.same own valid)) agree) in
+    subst (λ o. Agree o (outcome plan instance own)) (sym (alike.same c1 v1)) (subst (Agree (outcome (simpler plan) instance c1)) (sym (alike.same own valid)) agree) in
     agreeing.on (outcome plan instance c1) (outcome plan instance own) (outcome plan other c2) first (commutes.same plan instance other c2 own same v2 renamed.1)
 
 pub certain_has_one : HasOneMeaning → HasOnePlan → PlansFit → ValidHasOne → SimplerHasOne → CertainHasOne
 certain_has_one one_meaning one_plan plans_fit valid_has_one has_one schema query certain is read reads =
     let here = every one_meaning one_plan schema query (IsCertainOf certain) is.0 read is.1 reads is.2 in
     has_one reads.tables read.plan (plans_fit reads.tables reads.tree read reads.means)
-      (subst (HasOneAnswer reads.tables) here.simpler (valid_has_one reads.tables (plan_of certain.plan) (certificate_of certain.certificate) here.fits here.valid))
+    (subst (HasOneAnswer reads.tables) here.simpler (valid_has_one reads.tables (plan_of certain.plan) (certificate_of certain.certificate) here.fits here.valid))

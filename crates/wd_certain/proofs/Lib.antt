@@ -1,1 +1,2 @@
 pub mod HasOne
+pub mod Uncertain
