@@ -8,4 +8,4 @@ returns-clause-found c =
     c.in_ok-with_evidence.ensures.reasons c.in_ok-with_evidence.ensures.answers
   where
     shown : Shown c.args.schema.now c.args.query.now c.in_ok-verdict.verdict c.in_ok-certain.certain
-    shown = record { unknown = c.in_ok-certain.ensures.unknown; certain = c.in_ok-certain.ensures.certain; one_answer = c.in_ok-certain.ensures.one_answer; }
+    shown = record { unknown = c.in_ok-certain.ensures.unknown; certain = c.in_ok-certain.ensures.certain; one_answer = c.in_ok-certain.ensures.one_answer }
