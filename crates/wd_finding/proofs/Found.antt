@@ -22,10 +22,10 @@ use Rattle.wd_finding.specs.declared.finding.Finding.{Finding}
 use Rattle.wd_finding.specs.Findings.{AreAnswers, IsFinding, IsUnknown, open_in, reason_of, witness_shown}
 
 -- what a simpler plan shows of a query with this verdict
-pub record Shown (schema query : List ℕ) (verdict : Verdict) (certain : Option Certain) : Type 0 where
-  pub unknown : IfSome certain (λ c. IsUnknown verdict)
-  pub certain : IfSome certain (IsCertain schema query)
-  pub one_answer : IfSome certain (λ c. HaveOneAnswer schema query)
+pub record Shown (schema query : List ℕ) (verdict : Verdict) (o : Option Certain) : Type 0 where
+  pub unknown : IfSome o (λ c. IsUnknown verdict)
+  pub certain : IfSome o (IsCertain schema query)
+  pub one_answer : IfSome o (λ c. HaveOneAnswer schema query)
 
 pub finding_is : (schema query : List ℕ) (verdict : Verdict) (certain : Option Certain) (further : Option Found) (examined : Examined) (finding : Finding)
     → IsVerdict schema query verdict → IsExamined schema query examined → Shown schema query verdict certain → IfSome further (IsFound schema query)
