@@ -1,5 +1,5 @@
 -- Where the cause of a refusal stands.
-use Rattle.std.specs.Prelude.{◌≡◌, ◌≢◌, ◌⊎◌, ℕ, nat_le, Bool, true, false, ◌&&◌, List, Option, Some}
+use Rattle.std.specs.Prelude.{◌≡◌, ◌≢◌, ◌⊎◌, ℕ, nat_le, Bool, true, false, ◌&&◌, List, Some}
 use Rattle.std.specs.List.{list_any}
 use Rattle.wd_lex.specs.Lexed.{IsLexed}
 use Rattle.wd_lex.specs.declared.token.Span.{Span}
