@@ -20,7 +20,7 @@ abbrev pub most_lists : ℕ → ℕ
 most_lists bytes = min 1000 (2000000 / max bytes 1)
 
 -- the lists that are tried
-abbrev pub lists_tried : List ℕ → List String → List String
+abbrev pub lists_tried : List ℕ → List (String Global) → List (String Global)
 lists_tried query lists = slice_range lists 0 (min (most_lists (length query)) (length lists))
 
 abbrev pub help_of : Mended → Help
@@ -32,7 +32,7 @@ Gives None help = ⊤
 Gives (Some mended) help = help ≡ Some (help_of mended)
 
 -- where one of the lists mends the query, put at the places of what is open first, the help is the first such
-pub record IsFirstHelp (schema query : List ℕ) (sites : List PlanSite) (lists : List String) (help : Option Help) : Type 0 where
+pub record IsFirstHelp (schema query : List ℕ) (sites : List PlanSite) (lists : List (String Global)) (help : Option Help) : Type 0 where
   pub mended : Option Mended
   pub first : IsMendedFirst schema query sites (lists_tried query lists) mended
   pub gives : Gives mended help

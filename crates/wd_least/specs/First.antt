@@ -1,5 +1,6 @@
 -- The first of some lists of sort keys with which nothing is open in a query.
 use Rattle.std.specs.Prelude.{◌≡◌, ◌⊎◌, ℕ, List, [], ◌∷◌, Option, Some, None, IsSome, String, ⊤, string_bytes}
+use Rattle.std.specs.declared.alloc.Global.{Global}
 use Rattle.wd_schema.specs.Schemas.{schema_of}
 use Rattle.wd_plan.specs.Plans.{plan_of}
 use Rattle.wd_analyse.specs.Analysis.{IsAnswer}
@@ -79,7 +80,7 @@ IsTried schema query places keys None = Fails schema query places keys
 IsTried schema query places keys (Some mended) = Serves schema query places keys mended
 
 -- the first of the lists that serves, each before it failing; none where all fail
-abbrev pub IsFirst : List ℕ → List ℕ → List KeyPlace → List String → Option Mended → Type 0
+abbrev pub IsFirst : List ℕ → List ℕ → List KeyPlace → List (String Global) → Option Mended → Type 0
 IsFirst schema query places [] None = ⊤
 IsFirst schema query places [] (Some mended) = ⊥
 IsFirst schema query places (keys ∷ lists) None = Fails schema query places (string_bytes keys) × IsFirst schema query places lists None
@@ -102,11 +103,11 @@ IsFirstOpen schema query None = IsRefused schema query ⊎ Analyses IsCertified 
 IsFirstOpen schema query (Some reason) = Analyses (OpensWith reason) schema query
 
 -- the first of the lists that serves, put at the places of what is open first
-abbrev pub IsMendedFor : List ℕ → List ℕ → List PlanSite → List String → Option Reason → Option Mended → Type 0
+abbrev pub IsMendedFor : List ℕ → List ℕ → List PlanSite → List (String Global) → Option Reason → Option Mended → Type 0
 IsMendedFor schema query sites lists None found = found ≡ None
 IsMendedFor schema query sites lists (Some reason) found = IsFirst schema query (places_at reason [] sites) lists found
 
-pub record IsMendedFirst (schema query : List ℕ) (sites : List PlanSite) (lists : List String) (found : Option Mended) : Type 0 where
+pub record IsMendedFirst (schema query : List ℕ) (sites : List PlanSite) (lists : List (String Global)) (found : Option Mended) : Type 0 where
   pub first : Option Reason
-  pub open : IsFirstOpen schema query first
+  pub opens : IsFirstOpen schema query first
   pub mended : IsMendedFor schema query sites lists first found

@@ -25,11 +25,7 @@ pub(crate) fn places_at(
 }
 
 /// Adds the place of a site, where it is one of the call or the limit and its place is new.
-fn add_place(
-    places: &mut Vec<KeyPlace>,
-    reason: Reason,
-    found: PlanSite,
-) -> Result<(), OutOfMemory>
+fn add_place(places: &mut Vec<KeyPlace>, reason: Reason, found: PlanSite) -> Result<(), OutOfMemory>
     ensures { OnOk result (places.new.items ≡ spec.with_site reason places.old.items found) }
 {
     if found.node != reason.node || found.call != reason.call {
