@@ -1,5 +1,5 @@
 -- A text in whose plan nothing is open has the verdict DETERMINISTIC.
-use Rattle.std.proofs.Common.{◌≡◌, ℕ, List, refl, subst, sym, absurd}
+use Rattle.std.proofs.Common.{ℕ, List, refl, subst, sym}
 use Rattle.wd_schema.specs.Schemas.{schema_of}
 use Rattle.wd_plan.specs.Plans.{plan_of}
 use Rattle.wd_analyse.specs.Analysis.{IsAnswer}
@@ -24,7 +24,7 @@ pub decided : (schema query : List ℕ) (planned : PlannedQuery) (certificate : 
     → IsAnswer (schema_of planned.schema) (plan_of planned.resolved.plan) (Certified certificate) → IsDecided schema query
 decided schema query planned certificate read is = record {
   certificate = certificate;
-  decided = (resolved_of planned.resolved, read.reads, Certified certificate, subst (λ tables. IsAnswer tables (plan_of planned.resolved.plan) (Certified certificate)) (sym read.tables) is, refl);
+  decided = (resolved_of planned.resolved, read.reads, (Certified certificate, subst (λ tables. IsAnswer tables (plan_of planned.resolved.plan) (Certified certificate)) (sym read.tables) is, refl));
 }
 
 certified : (schema query : List ℕ) (planned : PlannedQuery) (analysis : Analysis) → IsRead schema query planned

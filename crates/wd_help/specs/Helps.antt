@@ -1,5 +1,6 @@
 -- When changes of a query's text help.
 use Rattle.std.specs.Prelude.{◌≡◌, ℕ, ◌/◌, min, max, List, length, slice_range, Option, Some, None, String, ⊤}
+use Rattle.std.specs.declared.alloc.Global.{Global}
 use Rattle.wd_certificate.specs.declared.certificate.Certificate.{Certificate}
 use Rattle.wd_decide.specs.Verdicts.{IsVerdict}
 use Rattle.wd_decide.specs.declared.verdict.Verdict.TheVariants.{Deterministic}

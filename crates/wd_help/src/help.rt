@@ -28,7 +28,6 @@ pub struct Help {
 /// Of so many lists as a query of this length is asked about, the first with which nothing is open is taken, put where the first call or
 /// limit that is open stands. Where none of them serves, for each ORDER BY the first list is taken with which less is open. None where
 /// no such lists are found, and where nothing is open or a text is refused.
-#[tactic(auto, using(crate::proofs::Verdict::is_help))]
 pub fn help_for(
     alloc: Global,
     schema: &[u8],
