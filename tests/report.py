@@ -6,7 +6,7 @@
 The folders of tests/report hold queries with their schemas, and expected.txt what must be said of them: each place that is open, the
 word and the ORDER BY that mends it. Where a query depends, its block must have rows of tables by names of columns and two answers
 that differ. Then cases of the words, the statuses, several statements in a file, refusals with their places, schemas in folders above, files that are not there,
-and what is printed of characters that a terminal would obey; of what --fix writes, of standard input, of colours and progress on a terminal, and
+and what is printed of characters that a terminal would obey; of what --fix writes, of locks, of outputs that would take the place of other files, of standard input, of colours and progress on a terminal, and
 of the SQL of `wdreport schema`, which a PostgreSQL runs where one is installed. The last line is 'N passed, M failed'.
 """
 
@@ -316,8 +316,16 @@ def the_screen():
         again = ["many"] * (1 + int(3 / took))
         seen, err, status = on_terminals(["--color", "never", *again], folder)
         check("a long run on a terminal", status == 1 and seen.count("help: ORDER BY v, id ") == 500 * len(again), (status, seen[-200:]))
-        check("progress", re.search(rf"\r\d+ of {len(again)}000 files\x1b\[K", err), err[:200])
+        numbers = [int(n) for n in re.findall(r"\r(\d+) of about \d+ queries\x1b\[K", err)]
+        check("progress", re.search(rf"\r\d+ of about {len(again)}000 queries\x1b\[K", err) and numbers == sorted(numbers), err[:200])
         check("progress is taken off", err.endswith("\r\x1b[K"), err[-60:])
+        # A file that is read shows how many queries it has.
+        put(folder, {"all.sql": f"{TIED};\n" * 1000})
+        began = time.time()
+        run("all.sql", cwd=folder)
+        again = ["all.sql"] * (1 + int(3 / (time.time() - began)))
+        _, err, _ = on_terminals(["--color", "never", *again], folder)
+        check("progress by queries", re.search(rf"\r\d+ of {len(again)}000 queries\x1b\[K", err), err[-200:])
 
 
 # Tables of every kind, and types of every kind.
@@ -514,6 +522,21 @@ def the_excuses():
             check(f"remark {text!r}: page", (f"Excused in the text: {reason}" in shown) if is_excused and reason.isprintable() else True, shown[-2000:])
 
 
+    # Behind the last query of a file nothing is excused, whatever is said.
+    for behind, place in (("\n-- wdreport: may depend, too late", "2:1"), (";\n\n  -- wdreport: may depend, too late\n", "3:3"), (" -- wdreport: may depend, too late", f"1:{len(ONE) + 2}"),
+                          ("; -- wdreport: may depent", f"1:{len(ONE) + 3}"), (";\n/* a */ -- WDREPORT : may depend, x", "2:9")):
+        with tempfile.TemporaryDirectory() as folder:
+            put(folder, {"schema.sql": SCHEMA, "q.sql": ONE + behind})
+            out, _, status = run("q.sql", cwd=folder)
+            check(f"behind the last query {behind!r}", status == 0 and f"q.sql:{place}: this comment excuses nothing" in out and out.count("excuses nothing") == 1, (status, out))
+    with tempfile.TemporaryDirectory() as folder:
+        put(folder, {"schema.sql": SCHEMA, "q.sql": f"{ONE}; -- wdreporter: may depend, x\n-- of wdreport: may depend, x\n/* wdreport: may depend, x */", "r.sql": "-- wdreport: may depend, x"})
+        out, _, status = run("q.sql", cwd=folder)
+        check("behind the last query others are spoken to", status == 0 and "excuses nothing" not in out, (status, out))
+        out, _, status = run("r.sql", cwd=folder)
+        check("an excuse without a query", status == 2 and "r.sql:1:1: this comment excuses nothing" in out and "r.sql: not read" in out, (status, out))
+
+
 def the_baselines():
     """Findings that are known."""
     for text, wanted in lines_of("baselines.txt"):
@@ -546,6 +569,149 @@ def the_baselines():
         put(folder, {"q.sql": f"-- wdreport: may depend, any will do\n{TIED}"})
         out, err, status = run("--fix", "q.sql", cwd=folder)
         check("what is excused is not mended", status == 0 and held(f"{folder}/q.sql").endswith(TIED), (status, out, err))
+
+
+    # Of a baseline 64 MiB are read, and one with more is refused.
+    head = '{"version":1}'
+    for size, wanted in ((64 << 20, 0), ((64 << 20) + 1, 3)):
+        with tempfile.TemporaryDirectory() as folder:
+            put(folder, {"schema.sql": SCHEMA, "q.sql": ONE, "known": head + " " * (size - len(head) - 1) + "\n"})
+            out, err, status = run("--baseline", "known", "q.sql", cwd=folder)
+            check(f"a baseline of {size} bytes", status == wanted and ("the baseline has more than 64 MiB" in err) == (wanted == 3), (status, out, err))
+
+
+def held_all(folder):
+    """The bytes of all files of a folder, by their paths."""
+    found = {}
+    for at, _, names in os.walk(folder):
+        for name in names:
+            with open(f"{at}/{name}", "rb") as file:
+                found[os.path.relpath(f"{at}/{name}", folder)] = file.read()
+    return found
+
+
+def the_outputs():
+    """A page or a baseline takes the place of no file that is read, nor of one another, by whatever path it is named."""
+    cases = [
+        ["--html", "q.sql", "q.sql"], ["--html", "./q.sql", "q.sql"], ["--html", "a/../q.sql", "q.sql"], ["--html", "q.sql", "a/../q.sql"], ["--html", "link.sql", "q.sql"],
+        ["--html", "q.sql", "link.sql"], ["--html", "linked/r.sql", "a"], ["--html", "a/r.sql", "."], ["--html", "schema.sql", "q.sql"], ["--html", "schema.sql", "a"],
+        ["--html", "linked/../schema.sql", "a"], ["--schema", "s.ddl", "--html", "./s.ddl", "q.sql"], ["--html", "known", "--baseline", "known", "q.sql"],
+        ["--html", "known", "--baseline", "./known", "--baseline-write", "q.sql"], ["--html", "new", "--baseline", "a/../new", "--baseline-write", "q.sql"],
+        ["--baseline", "q.sql", "--baseline-write", "q.sql"], ["--baseline", "schema.sql", "--baseline-write", "q.sql"], ["--baseline", "link.sql", "--baseline-write", "a", "q.sql"],
+        ["--html", "q.sql.cert", "q.sql"], ["--baseline", "a/r.sql.cert", "--baseline-write", "a"],
+    ]
+    with tempfile.TemporaryDirectory() as folder:
+        put(folder, {"schema.sql": SCHEMA, "s.ddl": SCHEMA, "q.sql": ONE, "a/r.sql": ONE, "known": '{"version":1}\n'})
+        os.symlink("q.sql", f"{folder}/link.sql")
+        os.symlink("a", f"{folder}/linked")
+        before = held_all(folder)
+        for words in cases:
+            out, err, status = run(*words, cwd=folder)
+            check(f"outputs {words}: refused", (status, out) == (3, "") and err.startswith("wdreport: ") and "would be written over" in err, (status, out, err))
+            check(f"outputs {words}: nothing is written", held_all(folder) == before and os.path.islink(f"{folder}/link.sql"), held_all(folder))
+        # What is only named like one of them is written.
+        out, err, status = run("--html", "a/q.sql.html", "--baseline", "a/known", "--baseline-write", "q.sql", cwd=folder)
+        check("outputs of their own", status == 0 and sorted(held_all(folder)) == sorted([*before, "a/q.sql.html", "a/known"]), (status, out, err, sorted(held_all(folder))))
+    with tempfile.TemporaryDirectory() as folder:
+        put(folder, {"schema.sql": SCHEMA, "q.sql": ONE, ".page.html.wdreport-new": "mine"})
+        os.symlink("nowhere", f"{folder}/link.html")
+        before = {"schema.sql", "q.sql", ".page.html.wdreport-new"}
+        for page in ("page.html", "link.html"):
+            out, err, status = run("--html", page, "q.sql", cwd=folder)
+            names = {name for name in os.listdir(folder)} - {"link.html"}
+            check(f"a page that can't be written: {page}", status == 3 and "the page can't be written" in err and names == before and held(f"{folder}/.page.html.wdreport-new") == "mine", (status, err, names))
+        out, err, status = run("--html", "new.html", "q.sql", cwd=folder)
+        check("a new page leaves no other file", status == 0 and set(os.listdir(folder)) == before | {"link.html", "new.html"}, (status, err, os.listdir(folder)))
+
+
+# Over the plan of ONE, with a limit.
+FIRST = "SELECT id FROM t ORDER BY id LIMIT 1"
+
+
+def locked(name, files, words, status, wanted, unwanted=(), after=None):
+    """A run beside a lock: its status, what must stand in what it tells and what must not, and the files after it."""
+    with tempfile.TemporaryDirectory() as folder:
+        put(folder, {"schema.sql": SCHEMA, **files})
+        out, err, ended = run(*words, cwd=folder)
+        check(f"lock, {name}: status", ended == status, (ended, out, err))
+        for text in wanted:
+            check(f"lock, {name}: {text!r}", text in out, out)
+        for text in unwanted:
+            check(f"lock, {name}: no {text!r}", text not in out, out)
+        for path, text in (after or {}).items():
+            there = os.path.exists(f"{folder}/{path}")
+            check(f"lock, {name}: {path}", (held(f"{folder}/{path}") if there else None) == text, there)
+        return out, err
+
+
+def the_locks():
+    """The locks that `wdreport lock` writes, and what a later run tells of them."""
+    with tempfile.TemporaryDirectory() as folder:
+        put(folder, {"schema.sql": SCHEMA, "q.sql": f"{ONE};\n{TIED};\n{FIRST};\nSELECT x FROM t", "one.sql": ONE, "first.sql": FIRST, "open.sql": TIED, "open.sql.cert": "null\n"})
+        out, err, status = run("lock", "q.sql", "one.sql", "first.sql", "open.sql", cwd=folder)
+        check("lock: status", (status, err) == (0, ""), (status, out, err))
+        for text in ("q.sql: locked: 2 of 4 queries", "one.sql: locked: 1 of 1 queries", "open.sql: locked: 0 of 1 queries", "\nlocked: 4 of 7 queries\n"):
+            check(f"lock: {text!r}", text in out, out)
+        check("lock: one without a certificate goes", not os.path.exists(f"{folder}/open.sql.cert"))
+        check("lock: no other file", sorted(os.listdir(folder)) == sorted(["schema.sql", "q.sql", "one.sql", "first.sql", "open.sql", "q.sql.cert", "one.sql.cert", "first.sql.cert"]), os.listdir(folder))
+        one, first = held(f"{folder}/one.sql.cert"), held(f"{folder}/first.sql.cert")
+        check("lock: a line for each query", held(f"{folder}/q.sql.cert") == f"{one}null\n{first}null\n" and one.count("\n") == 1 and one.endswith("\n"), held(f"{folder}/q.sql.cert"))
+        for text, nodes in ((one, 2), (first, 3)):
+            certificate = json.loads(text)
+            check("lock: a certificate", sorted(certificate) == ["nodes", "version"] and certificate["version"] == 1 and len(certificate["nodes"]) >= nodes, text)
+        checker = os.path.join(os.path.dirname(os.path.dirname(os.path.dirname(PROGRAM))), "wdcheck/out/wdcheck")
+        if os.access(checker, os.X_OK):
+            ran = subprocess.run([checker, "verify", "schema.sql", "first.sql", "first.sql.cert"], cwd=folder, capture_output=True)
+            check("lock: wdcheck accepts it", (ran.returncode, ran.stdout) == (0, b"ACCEPTED\n"), ran)
+        out, err, status = run("q.sql", cwd=folder)
+        check("lock: a later run", status == 2 and "4 queries: 2 deterministic, 1 depend, 0 may tie, 1 not read" in out and "lost" not in out and "stale" not in out, (status, out, err))
+        out, err, status = run("lock", "q.sql", cwd=folder)
+        check("lock: again the same", status == 0 and held(f"{folder}/q.sql.cert") == f"{one}null\n{first}null\n", out)
+    locked("kept", {"q.sql": ONE, "q.sql.cert": one}, ["q.sql"], 0, ["1 query: 1 deterministic"], ["lost", "stale"])
+    locked("kept, spelled otherwise", {"q.sql": ONE, "q.sql.cert": " " + one.rstrip("\n").replace(":", " : ")}, ["q.sql"], 0, ["1 deterministic"], ["lost", "stale"])
+    locked("lost", {"q.sql": TIED, "q.sql.cert": one}, ["q.sql"], 1, ["q.sql:1:1: lost its certificate: the one in q.sql.cert no longer holds", "q.sql:1:11: depends", "\n1 query lost its certificate\n"])
+    locked("two lost", {"q.sql": f"{TIED};\n\n{TIED}", "q.sql.cert": one + first}, ["q.sql"], 1, ["q.sql:1:1: lost", "q.sql:3:1: lost", "\n2 queries lost their certificates\n"])
+    locked("lost where it is not read", {"q.sql": "SELECT x FROM t", "q.sql.cert": one}, ["q.sql"], 2, ["q.sql:1:1: lost", "[402]"])
+    locked("lost where it may tie", {"q.sql": MAY_TIE, "q.sql.cert": one}, ["--allow-unknown", "q.sql"], 1, ["q.sql:1:1: lost", "1 query lost its certificate"])
+    locked("lost and excused", {"q.sql": f"-- wdreport: may depend, so it is\n{TIED}", "q.sql.cert": one}, ["q.sql"], 0, ["q.sql:2:1: lost", "; 1 excused"], ["1 query lost its"])
+    locked("lost and known", {"q.sql": TIED, "q.sql.cert": one, "known": '{"version":1}\n{"finding":"depends","path":"q.sql","place":"ROW_NUMBER() OVER (ORDER BY v)"}\n'},
+           ["--baseline", "known", "q.sql"], 0, ["q.sql:1:1: lost", "; 1 known"], ["1 query lost its"])
+    locked("lost and mended", {"q.sql": TIED, "q.sql.cert": one}, ["--fix", "q.sql"], 0, ["q.sql:1:1: lost", "q.sql: fixed"], ["1 query lost its"], {"q.sql": MENDED, "q.sql.cert": one})
+    locked("stale", {"q.sql": f"{ONE};\n{ONE}", "q.sql.cert": first + one}, ["q.sql"], 0, ["q.sql.cert: stale: the query on line 1 of the file has another certificate now", "2 deterministic"], ["lost", "q.sql:2"])
+    locked("that of another query", {"q.sql": f"{TIED};\n{FIRST}", "q.sql.cert": f"{first}null\n"}, ["q.sql"], 1, ["q.sql:1:1: lost", "1 deterministic, 1 depend"], ["q.sql:2:1", "stale"])
+    locked("null", {"q.sql": TIED, "q.sql.cert": "null\n"}, ["q.sql"], 1, ["q.sql:1:11: depends", "0 deterministic, 1 depend"], ["lost", "stale"])
+    locked("null of a query with one answer", {"q.sql": ONE, "q.sql.cert": " null"}, ["q.sql"], 0, ["1 deterministic"], ["lost", "stale"])
+    locked("another number of lines", {"q.sql": f"{ONE};\n{ONE}", "q.sql.cert": one}, ["q.sql"], 3, ["q.sql.cert: the lock has 1 lines, and the file 2 queries", "2 deterministic"], ["lost", "stale"])
+    locked("too many lines", {"q.sql": ONE, "q.sql.cert": one + one}, ["q.sql"], 3, ["q.sql.cert: the lock has 2 lines, and the file 1 queries"])
+    locked("a line that is no JSON", {"q.sql": f"{ONE};{ONE}", "q.sql.cert": f"{one}<<<<<<< HEAD\n"}, ["q.sql"], 3, ["q.sql.cert: line 2 of the lock is neither a certificate nor null", "2 deterministic"])
+    locked("a line of another form", {"q.sql": ONE, "q.sql.cert": "{}\n"}, ["q.sql"], 3, ["line 1 of the lock is neither"])
+    locked("a line of a later version", {"q.sql": ONE, "q.sql.cert": one.replace('"version":1', '"version":3')}, ["q.sql"], 3, ["line 1 of the lock is neither"])
+    locked("an empty line", {"q.sql": ONE, "q.sql.cert": "\n"}, ["q.sql"], 3, ["line 1 of the lock is neither"])
+    locked("a folder", {"q.sql": ONE, "q.sql.cert/x": ""}, ["q.sql"], 3, ["q.sql.cert: the lock can't be read", "1 deterministic"])
+    locked("too large", {"q.sql": ONE, "q.sql.cert": " " * ((64 << 20) + 1)}, ["q.sql"], 3, ["q.sql.cert: the lock has more than 64 MiB"])
+    locked("of another file", {"q.sql": TIED, "r.sql.cert": one}, ["q.sql"], 1, ["depends"], ["lost"])
+    locked("a folder of queries", {"a/q.sql": ONE, "a/b/r.sql": ONE}, ["lock", "a"], 0, ["a/q.sql: locked: 1 of 1 queries", "locked: 2 of 2 queries"], [], {"a/q.sql.cert": one, "a/b/r.sql.cert": one})
+    locked("a schema that is named", {"a/q.sql": "SELECT x FROM u", "u.ddl": "CREATE TABLE u (x BIGINT)"}, ["lock", "--schema", "u.ddl", "a"], 0, ["locked: 1 of 1 queries"])
+    locked("a query as a lock", {"q.sql": ONE, "q.sql.cert": TIED}, ["lock", "q.sql", "q.sql.cert"], 3, ["q.sql: not locked: its lock would be written over a query that is judged"], [], {"q.sql.cert": TIED})
+    locked("a schema as a lock", {"q.sql": ONE, "q.sql.cert": SCHEMA}, ["lock", "--schema", "./q.sql.cert", "q.sql"], 3, ["q.sql: not locked: its lock would be written over the schema"], [], {"q.sql.cert": SCHEMA})
+    locked("one that can't be written", {"q.sql": ONE, ".q.sql.cert.wdreport-new": "mine"}, ["lock", "q.sql"], 3, ["q.sql.cert: a file .NAME.wdreport-new stands beside it"], [], {"q.sql.cert": None})
+    locked("no such file", {"q.sql": ONE}, ["lock", "none.sql", "q.sql"], 3, ["none.sql: there is no such file", "q.sql: locked: 1 of 1"], [], {"q.sql.cert": one})
+    locked("standard input", {}, ["lock", "-"], 3, ["-: not locked: standard input"])
+    for words in (["lock"], ["lock", "--html", "page", "q.sql"], ["lock", "--fix", "q.sql"], ["lock", "--baseline", "known", "q.sql"], ["lock", "--format", "json", "q.sql"], ["lock", "--allow-unknown", "q.sql"]):
+        _, err = locked(f"the words {words}", {"q.sql": ONE}, words, 3, [], [], {"q.sql.cert": None})
+        check(f"lock, the words {words}: told", "error:" in err, err)
+    locked("a folder of that name", {"lock/q.sql": ONE}, ["./lock"], 0, ["1 deterministic"])
+    with tempfile.TemporaryDirectory() as folder:
+        put(folder, {"schema.sql": SCHEMA, "q.sql": f"{TIED};\n{ONE}", "q.sql.cert": one + first})
+        out, _, status = run("--format", "json", "q.sql", cwd=folder)
+        found = [json.loads(line) for line in out.splitlines()]
+        check("lock: json", status == 1 and [(f["finding"], f["path"], f["line"]) for f in found] == [("depends", "q.sql", 1), ("lost", "q.sql", 1), ("stale", "q.sql.cert", 1)], out)
+        out, _, status = run("--format", "github", "q.sql", cwd=folder)
+        check("lock: github", status == 1 and "\n::error file=q.sql,line=1,col=1::q.sql:1:1: lost its certificate" in out and "\n::warning file=q.sql.cert,line=1,col=1::q.sql.cert: stale" in out, out)
+        page, _, status = run("--html", "page.html", "q.sql", cwd=folder)
+        check("lock: the page", status == 1 and "2 queries: 1 deterministic" in held(f"{folder}/page.html"), page)
+    out, _, status = run("lock", "--help", cwd=TOP)
+    check("lock: help", status == 0 and "Usage: wdreport lock" in out and "--schema" in out and "--html" not in out, out)
 
 
 HOSTILE = "SELECT g AS \"</pre><script>alert(1)</script>\", '<b>&\"\u202e' AS \"it's\", ROW_NUMBER() OVER (ORDER BY v) AS n FROM t"
@@ -586,6 +752,8 @@ the_places()
 the_ties()
 the_excuses()
 the_baselines()
+the_outputs()
+the_locks()
 the_page()
 print(f"{sum(results)} passed, {len(results) - sum(results)} failed")
 sys.exit(results.count(False) > 0)

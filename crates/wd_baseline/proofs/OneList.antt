@@ -1,11 +1,12 @@
 -- Bytes spell one list of findings.
-use Rattle.std.proofs.Common.{◌≡◌, ℕ, List, [], ◌∷◌, codes, get_or, refl, ap, ap₂, arith}
+use Rattle.std.proofs.Common.{◌≡◌, ℕ, List, codes, get_or, refl, ap, ap₂, arith}
 use Rattle.wd_baseline.specs.declared.known.Finding.{Finding}
 use Rattle.wd_baseline.specs.declared.known.Finding.TheVariants.{Depends, MayTie, NotRead}
 use Rattle.wd_baseline.specs.Findings.{FindingRecord, finding_json, word}
 use Rattle.wd_baseline.specs.Laws.{HasOneList}
-use Rattle.wd_baseline.specs.Lines.{AreFindings, behind_line, first_line}
-use Rattle.wd_baseline.proofs.Reading.{same_json}
+use Rattle.wd_json.specs.Json.{IsJsonOf}
+use Rattle.wd_json_lines.specs.Lines.{behind_line}
+use Rattle.wd_json_lines.proofs.Reading.{one_list_by, same_json}
 
 first : (a b : List ℕ) → a ≡ b → get_or a 0 0 ≡ get_or b 0 0
 first a b e = ap (λ l. get_or l 0 0) e
@@ -29,12 +30,8 @@ one_finding f g e =
     let places : f.place ≡ g.place = cc in
     ap₂ (λ (w : Finding) (p : List ℕ × List ℕ). record { finding = w; path = p.0; place = p.1 }) (one_word f.finding g.finding words) (ap₂ (λ x y. (x, y)) paths places)
 
-one_list_of : (bytes : List ℕ) (fs gs : List FindingRecord) → AreFindings fs bytes → AreFindings gs bytes → fs ≡ gs
-one_list_of bytes [] [] h k = refl
-one_list_of bytes [] (g ∷ gs) h k = absurd (k.0 h)
-one_list_of bytes (f ∷ fs) [] h k = absurd (h.0 k)
-one_list_of bytes (f ∷ fs) (g ∷ gs) h k =
-    ap₂ (λ x xs. x ∷ xs) (one_finding f g (same_json (finding_json f) (finding_json g) (first_line bytes) h.1 k.1)) (one_list_of (behind_line bytes) fs gs h.2 k.2)
+one_line : (f g : FindingRecord) (line : List ℕ) → IsJsonOf (finding_json f) line → IsJsonOf (finding_json g) line → f ≡ g
+one_line f g line h k = one_finding f g (same_json (finding_json f) (finding_json g) line h k)
 
 pub one_list : HasOneList
-one_list bytes fs gs h k = one_list_of (behind_line bytes) fs gs h.findings k.findings
+one_list bytes fs gs h k = one_list_by finding_json one_line (behind_line bytes) fs gs h.findings k.findings

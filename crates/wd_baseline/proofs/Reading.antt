@@ -1,5 +1,5 @@
 -- Reading the lines of findings, one after another.
-use Rattle.std.proofs.Common.{◌≡◌, ◌≢◌, ◌∙◌, ℕ, ◌+◌, ◌<◌, List, [], ◌∷◌, ◌++◌, length, map, String, refl, sym, ap, ap₂, subst, arith, append_assoc, append-nil, length-drop}
+use Rattle.std.proofs.Common.{◌≡◌, ◌∙◌, ℕ, ◌+◌, List, [], ◌∷◌, ◌++◌, length, map, String, refl, sym, ap, ap₂, arith}
 use Rattle.std.proofs.lemmas.List.{length-map, map_push}
 use Rattle.std.specs.String.{string_bytes}
 use Rattle.std.specs.declared.alloc.Global.{Global}
@@ -8,37 +8,29 @@ use Rattle.wd_json.specs.declared.misread.Misread.{Misread}
 use Rattle.wd_json.specs.declared.misread.Misread.TheVariants as misread
 use Rattle.wd_baseline.specs.declared.error.BaselineError.{BaselineError}
 use Rattle.wd_baseline.specs.Findings.{FindingRecord, finding_json, finding_text}
-use Rattle.wd_baseline.specs.Lines.{line_len, first_line, behind_line, AreFindings, FailBehind}
+use Rattle.wd_json_lines.specs.Lines.{first_line, behind_line}
+use Rattle.wd_json_lines.proofs.Reading as generic
+use Rattle.wd_baseline.specs.Lines.{AreFindings}
 use Rattle.wd_baseline.specs.Refusals.{refusal_at, HasCause, HasLineCause}
 use Rattle.std.specs.List.{count_by}
 use Rattle.std.specs.Str.{bytes_eq}
-use Rattle.serde_json.specs.Data.{Data}
-use Rattle.wd_json.proofs.Inverse.{some_same}
 use Rattle.wd_baseline.specs.declared.baseline.Baseline.{Baseline}
 use Rattle.wd_baseline.specs.declared.error.BaselineError.TheVariants as error
 use Rattle.wd_baseline.specs.Baselines.{IsBaselineOf, IsVersionLine, HasVersionCause, count_of, left_of}
 use Rattle.wd_baseline.proofs.Counting.{same_counts}
 
--- behind a line there is less
-pub shorter : (bytes : List ℕ) → (length bytes ≡ 0 → ⊥) → length (behind_line bytes) < length bytes
-shorter bytes some = omega (arith, some, length-drop (line_len bytes + 1) bytes)
-
 -- so far each line is a finding, and these are their lines
 pub record AreReadUpTo (bytes rest : List ℕ) (found : List (String Global)) : Type 0 where
   pub read : List FindingRecord
-  pub findings : (more : List FindingRecord) → AreFindings more rest → AreFindings (read ++ more) bytes
-  pub fail : (more : List FindingRecord) → FailBehind more rest → FailBehind (read ++ more) bytes
+  pub lines : generic.AreReadUpTo finding_json bytes rest read
   pub texts : map string_bytes found ≡ map finding_text read
 
 pub none_read : (bytes : List ℕ) (found : List (String Global)) → found ≡ [] → AreReadUpTo bytes bytes found
-none_read bytes found none = record { read = []; findings = λ more h. h; fail = λ more h. h; texts = ap (map string_bytes) none }
+none_read bytes found none = record { read = []; lines = generic.none_read finding_json bytes [] refl; texts = ap (map string_bytes) none }
 
 -- how many they are
 pub as_many : (bytes rest : List ℕ) (found : List (String Global)) → (h : AreReadUpTo bytes rest found) → length found ≡ length h.read
 as_many bytes rest found h = sym (length-map found string_bytes) ∙ ap length h.texts ∙ length-map h.read finding_text
-
-some_bytes : (bytes : List ℕ) → (length bytes ≡ 0 → ⊥) → bytes ≢ []
-some_bytes bytes some e = some (ap length e)
 
 -- a line spells a finding, and that is its text
 abbrev pub IsLineOf : List ℕ → String Global → Type 0
@@ -46,28 +38,23 @@ IsLineOf line text = (f : FindingRecord) × IsJsonOf (finding_json f) line × (s
 
 pub one_more : (bytes rest after : List ℕ) (found later : List (String Global)) (text : String Global) → AreReadUpTo bytes rest found → (length rest ≡ 0 → ⊥) → IsLineOf (first_line rest) text
     → later ≡ found ++ text ∷ [] → after ≡ behind_line rest → AreReadUpTo bytes after later
-one_more bytes rest after found later text h some (f, json, is) e behind = rw behind (record {
+one_more bytes rest after found later text h some (f, json, is) e behind = record {
   read = h.read ++ f ∷ [];
-  findings = λ more k. subst (λ fs. AreFindings fs bytes) (sym (append_assoc h.read (f ∷ []) more)) (h.findings (f ∷ more) (some_bytes rest some, json, k));
-  fail = λ more k. subst (λ fs. FailBehind fs bytes) (sym (append_assoc h.read (f ∷ []) more)) (h.fail (f ∷ more) (some_bytes rest some, json, k));
+  lines = generic.one_more finding_json bytes rest after h.read (h.read ++ f ∷ []) f h.lines some json refl behind;
   texts = ap (map string_bytes) e ∙ map_push string_bytes found text ∙ ap₂ (λ l x. l ++ x ∷ []) h.texts is ∙ sym (map_push finding_text h.read f);
-})
+}
 
 pub no_more : (bytes rest : List ℕ) (found : List (String Global)) → (h : AreReadUpTo bytes rest found) → length rest ≡ 0 → AreFindings h.read bytes
-no_more bytes [] found h none = subst (λ fs. AreFindings fs bytes) (append-nil h.read) (h.findings [] refl)
-no_more bytes (b ∷ rest) found h none = absurd (omega arith)
+no_more bytes rest found h none = generic.no_more finding_json bytes rest h.read h.lines none
 
 pub refused : (bytes rest : List ℕ) (found : List (String Global)) (m : Misread) (number : ℕ) → AreReadUpTo bytes rest found → (length rest ≡ 0 → ⊥)
     → (m ≡ misread.Shape → (f : FindingRecord) → ¬ IsJsonOf (finding_json f) (first_line rest)) → number ≡ length found + 2 → HasLineCause (refusal_at m number) bytes
 refused bytes rest found misread.OutOfMemory number h some none e = tt
 refused bytes rest found misread.Shape number h some none e =
-    (h.read, subst (λ fs. FailBehind fs bytes) (append-nil h.read) (h.fail [] (some_bytes rest some, none refl)), e ∙ ap (λ n. n + 2) (as_many bytes rest found h))
+    let cause = generic.refused finding_json bytes rest h.read misread.Shape (length h.read + 1) h.lines some none refl in
+    (cause.0, cause.1, omega (arith, e, as_many bytes rest found h, cause.2))
 
 -- ---- the whole file
-
--- bytes are JSON of one value
-pub same_json : (d e : Data) (bytes : List ℕ) → IsJsonOf d bytes → IsJsonOf e bytes → d ≡ e
-same_json d e bytes h k = some_same d e (sym h.1 ∙ k.1)
 
 pub line_cause : (e : BaselineError) (bytes : List ℕ) → IsVersionLine (first_line bytes) → HasLineCause e (behind_line bytes) → HasCause e bytes
 line_cause error.Version bytes v h = absurd h

@@ -9,9 +9,10 @@ use Rattle.wd_baseline.specs.declared.baseline.Baseline.{Baseline}
 use Rattle.wd_baseline.specs.declared.error.BaselineError.{BaselineError}
 use Rattle.wd_baseline.specs.declared.error.BaselineError.TheVariants as error
 use Rattle.wd_baseline.specs.Baselines.{IsBaselineOf, IsWritten, Spells, count_of}
-use Rattle.wd_baseline.specs.Findings.{FindingRecord, finding_text}
+use Rattle.wd_baseline.specs.Findings.{FindingRecord, finding_json, finding_text}
 use Rattle.wd_baseline.specs.Laws.{AreLinesOf, IsFindingLine}
-use Rattle.wd_baseline.specs.Lines.{AreFindings, FailBehind, behind_line}
+use Rattle.wd_json_lines.specs.Lines.{behind_line}
+use Rattle.wd_json_lines.proofs.Reading.{no_failure}
 use Rattle.wd_baseline.specs.Refusals.{HasCause}
 use Rattle.wd_baseline.proofs.Counting.{same_counts}
 use Rattle.wd_baseline.proofs.OneList.{one_list}
@@ -51,16 +52,9 @@ same_counted lines bytes b all is h line =
     let spells = is_spelled lines bytes all is in
     h.counted line ∙ ap (count_by (λ f. bytes_eq (finding_text f) line)) (one_list bytes h.findings spells.findings h.spelled spells.spelled) ∙ spells.counted line
 
--- bytes that spell findings have no line that spells none
-no_fail : (bytes : List ℕ) (fs gs : List FindingRecord) → AreFindings fs bytes → FailBehind gs bytes → ⊥
-no_fail bytes [] [] h k = k.0 h
-no_fail bytes [] (g ∷ gs) h k = k.0 h
-no_fail bytes (f ∷ fs) [] h k = k.1 f h.1
-no_fail bytes (f ∷ fs) (g ∷ gs) h k = no_fail (behind_line bytes) fs gs h.2 k.2
-
 no_cause : (bytes : List ℕ) (fs : List FindingRecord) (e : BaselineError) → Spells bytes fs → HasCause e bytes → e ≡ error.OutOfMemory
 no_cause bytes fs error.Version h cause = absurd (cause h.version)
-no_cause bytes fs (error.Line number) h cause = absurd (no_fail (behind_line bytes) fs cause.1.0 h.findings cause.1.1)
+no_cause bytes fs (error.Line number) h cause = absurd (no_failure finding_json (behind_line bytes) fs cause.1.0 h.findings cause.1.1)
 no_cause bytes fs error.OutOfMemory h cause = refl
 
 pub not_refused : (lines : List (String Global)) (bytes : List ℕ) (e : BaselineError) → All IsFindingLine lines → IsWritten lines bytes → HasCause e bytes → e ≡ error.OutOfMemory

@@ -11,7 +11,8 @@ use Rattle.wd_baseline.specs.declared.error.BaselineError.{BaselineError}
 use Rattle.wd_baseline.specs.declared.error.BaselineError.TheVariants as error
 use Rattle.wd_baseline.specs.Counts.{count_in}
 use Rattle.wd_baseline.specs.Findings.{FindingRecord, finding_text, version_json}
-use Rattle.wd_baseline.specs.Lines.{AreFindings, first_line, behind_line}
+use Rattle.wd_json_lines.specs.Lines.{first_line, behind_line}
+use Rattle.wd_baseline.specs.Lines.{AreFindings}
 
 -- how often a baseline has the finding of a line
 abbrev pub count_of : Baseline → List ℕ → ℕ

@@ -6,7 +6,8 @@ use Rattle.wd_json.specs.Json.{IsJsonOf}
 use Rattle.wd_baseline.specs.declared.error.BaselineError.{BaselineError}
 use Rattle.wd_baseline.specs.declared.error.BaselineError.TheVariants as error
 use Rattle.wd_baseline.specs.Findings.{FindingRecord, version_json}
-use Rattle.wd_baseline.specs.Lines.{first_line, behind_line, FailBehind}
+use Rattle.wd_json_lines.specs.Lines.{first_line, behind_line}
+use Rattle.wd_baseline.specs.Lines.{FailBehind}
 
 -- a line with that number is misread
 abbrev pub refusal_at : Misread → ℕ → BaselineError

@@ -9,11 +9,12 @@ ghost use Rattle.wd_baseline.specs.Refusals.{HasCause};
 
 use crate::counts::{counted, take_one};
 use crate::error::BaselineError;
-use crate::lines::{lines_in, split_line};
+use crate::lines::lines_in;
 use crate::read::read_version;
 use std::alloc::Global;
 use std::collections::HashMap;
 use wd_json::Misread;
+use wd_json_lines::split_line;
 use wd_value::OutOfMemory;
 
 /// The first line of a baseline.

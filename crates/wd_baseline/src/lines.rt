@@ -1,35 +1,15 @@
 //! The lines of a baseline.
 
-ghost use Rattle.std.specs.Prelude.{◌≡◌, ◌≤◌, List, map, length, IfOk, IfErr};
+ghost use Rattle.std.specs.Prelude.{◌≡◌, List, map, IfOk, IfErr};
 ghost use Rattle.std.specs.String.{string_bytes};
 ghost use Rattle.wd_baseline.specs.Findings.{FindingRecord, finding_text};
-ghost use Rattle.wd_baseline.specs.Lines.{AreFindings, behind_line, first_line};
-ghost use Rattle.wd_baseline.specs.Lines as spec;
+ghost use Rattle.wd_baseline.specs.Lines.{AreFindings};
 ghost use Rattle.wd_baseline.specs.Refusals.{HasLineCause};
 
 use crate::error::{BaselineError, at_line};
 use crate::read::line_of;
 use std::alloc::Global;
-
-/// How many bytes the first line has, without its line feed.
-fn line_len(bytes: &[u8]) -> usize
-    ensures value { result ≡ spec.line_len bytes.now }
-    ensures within { result ≤ length bytes.now }
-{
-    bytes.iter().take_while(|b| **b != b'\n').count()
-}
-
-/// The first line without its line feed, and what follows that.
-pub(crate) fn split_line(bytes: &[u8]) -> (&[u8], &[u8])
-    ensures line { result.0.now ≡ first_line bytes.now }
-    ensures rest { result.1.now ≡ behind_line bytes.now }
-{
-    let (line, rest) = bytes.split_at(line_len(bytes));
-    match rest {
-        [_, rest @ ..] => (line, rest),
-        [] => (line, rest),
-    }
-}
+use wd_json_lines::split_line;
 
 /// The lines of the findings that bytes spell, as `Known::line` writes them. The first line has the number 2.
 pub(crate) fn lines_in(alloc: Global, bytes: &[u8]) -> Result<Vec<String>, BaselineError>

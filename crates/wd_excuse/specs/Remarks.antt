@@ -10,19 +10,24 @@ use Rattle.wd_excuse.specs.declared.remark.Remark.TheVariants as remark
 use Rattle.wd_excuse.specs.Gaps.{is_gap, HasNoGap}
 use Rattle.wd_excuse.specs.Lines.{words_to_program, reason_in}
 
--- a reason, or where a comment stands that speaks to wdreport and excuses nothing
+-- where a comment stands that speaks to wdreport, and the reason that it gives, or that it excuses nothing
 pub data Said : Type 0 where
-  Reason : List ℕ → Said
+  Reason : List ℕ → Span → Said
   Unread : Span → Said
 
 -- what a remark of the code says
 abbrev pub seen : Remark → Said
-seen (remark.Excused reason) = Reason reason.now
-seen (remark.Unread span) = Unread span
+seen (remark.Excused reason comment) = Reason reason.now comment
+seen (remark.Unread comment) = Unread comment
+
+-- where the comment stands
+abbrev pub comment_of : Said → Span
+comment_of (Reason reason comment) = comment
+comment_of (Unread comment) = comment
 
 -- a reason counts in a comment above the statement
 abbrev pub reason_says : Bool → Span → Option (List ℕ) → Said
-reason_says true span (Some reason) = Reason reason
+reason_says true span (Some reason) = Reason reason span
 reason_says true span None = Unread span
 reason_says false span reason = Unread span
 

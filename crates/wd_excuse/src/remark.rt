@@ -15,9 +15,20 @@ use wd_lex::Span;
 #[derive(Clone, Copy)]
 pub enum Remark<'t> {
     /// The query may depend on the order of rows that tie, for this reason, which has no white space at its start and end.
-    Excused(&'t [u8]),
-    /// A comment that begins `wdreport:` and excuses nothing, by the bytes of the statement's text from its `--` to its line's end.
-    Unread(Span),
+    Excused { reason: &'t [u8], comment: Span },
+    /// A comment that begins `wdreport:` and excuses nothing.
+    Unread { comment: Span },
+}
+
+impl Remark<'_> {
+    /// The comment, by the bytes of the statement's text from its `--` to its line's end.
+    pub fn comment(self) -> Span
+        ensures { result ≡ spec.comment_of (spec.seen self.entry) }
+    {
+        match self {
+            Remark::Excused { comment, .. } | Remark::Unread { comment } => comment,
+        }
+    }
 }
 
 /// The remark above a statement, for its text, which begins with the white space and the comments before its first token.
@@ -77,7 +88,10 @@ fn remark_of(words: &[u8], span: Span, is_above: bool) -> Remark<'_>
     ensures { spec.seen result ≡ spec.words_say is_above span words.now }
 {
     match reason_in(words) {
-        Some(reason) if is_above => Remark::Excused(reason),
-        _ => Remark::Unread(span),
+        Some(reason) if is_above => Remark::Excused {
+            reason,
+            comment: span,
+        },
+        _ => Remark::Unread { comment: span },
     }
 }

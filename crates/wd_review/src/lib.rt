@@ -1,18 +1,15 @@
 //! The program `wdreport` over its words, files and streams.
 //!
-//! `words` reads the command line, and `schema` has the text of its command of that name. `review` goes through all files, `file` has
-//! each statement of one judged and mends it, `known` knows of a baseline what is found, `format` writes it, `shown` puts it on a page,
-//! and `screen` puts it out, with colours and progress where a terminal shows it.
+//! `review` goes through all files and `lock` makes their locks. `run` has what both work with: the files and folders, and the
+//! schemas that were read. `outputs` writes the page and the baseline, and sees to it that no file is written over which is read;
+//! `mended` writes files with the keys put in; `stop` says why a run ends before its end.
 #![tactic(auto)]
 
-mod file;
-mod format;
-mod known;
+mod lock;
+mod mended;
+mod outputs;
 mod review;
-mod schema;
-mod screen;
-mod shown;
-mod words;
+mod run;
+mod stop;
 
 pub use review::review_words;
-pub use screen::Terminals;

@@ -1,10 +1,11 @@
 //! The files and folders of the machine.
 
-use crate::paths::beside;
+use crate::paths::{beside, folder_and_name, joined};
 use crate::sources::{Entry, STANDARD_INPUT, SourceError, Sources};
 use std::alloc::Global;
-use std::fs::{OpenFile, OpenOptions};
+use std::fs::{OpenFile, OpenOptions, Permissions};
 use std::io::{Input, Read, Write};
+use std::path::PathBuf;
 use std::rt::Files;
 use std::{fs, io};
 
@@ -47,52 +48,82 @@ impl<R: Files + Input + AllocGlobal + Clone + Drop> Sources for MachineSources<'
 
     // The bytes are written to a file beside it, which then takes its name. A link to a file stays, and the file is replaced.
     fn replace(&mut self, alloc: Global, path: &str, bytes: &[u8]) -> Result<(), SourceError> {
-        let path = match fs::canonicalize(self.rt, path) {
-            Ok(path) => path,
+        let path = canonical(self.rt, path)?;
+        let new = beside(alloc, path.as_str())?;
+        let permissions = match fs::metadata(self.rt, path.as_str()) {
+            Ok(metadata) => metadata.permissions(),
             Err(error) => return Err(reason_of(error)),
         };
-        let new = beside(alloc, path.as_str())?;
-        match replace_by(self.rt, path.as_str(), new.as_str(), bytes) {
-            Ok(()) => Ok(()),
-            Err(error) => Err(reason_of(error)),
-        }
+        done(put(
+            self.rt,
+            path.as_str(),
+            new.as_str(),
+            Some(permissions),
+            bytes,
+        ))
     }
 
+    // One that is not there is made in the same way. A link that leads nowhere is left alone.
     fn write(&mut self, alloc: Global, path: &str, bytes: &[u8]) -> Result<(), SourceError> {
         match self.replace(alloc, path, bytes) {
-            Err(SourceError::Missing) => match make(self.rt, path, bytes) {
-                Ok(()) => Ok(()),
-                Err(error) => Err(reason_of(error)),
-            },
+            Err(SourceError::Missing) => {
+                if fs::symlink_metadata(self.rt, path).is_ok() {
+                    return Err(SourceError::Failed);
+                }
+                let new = beside(alloc, path)?;
+                done(put(self.rt, path, new.as_str(), None, bytes))
+            }
             done => done,
         }
     }
+
+    fn remove(&mut self, _alloc: Global, path: &str) -> Result<(), SourceError> {
+        done(fs::remove_file(self.rt, path))
+    }
+
+    fn resolved(&mut self, alloc: Global, path: &str) -> Result<String, SourceError> {
+        match canonical(self.rt, path) {
+            Ok(path) => Ok(String::from_str(alloc, path.as_str())?),
+            Err(SourceError::Missing) => {
+                let (folder, name) = folder_and_name(path);
+                let folder = canonical(self.rt, folder)?;
+                Ok(joined(alloc, folder.as_str(), name)?)
+            }
+            Err(error) => Err(error),
+        }
+    }
 }
 
-/// Writes bytes to a new file. After an error it is not there.
-fn make<R: Files>(rt: &R, path: &str, bytes: &[u8]) -> io::Result<()> {
-    let mut file = OpenOptions::new()
-        .write(true)
-        .create_new(true)
-        .open(rt, path)?;
-    let mut written = file.write_all(bytes);
-    if written.is_ok() {
-        written = file.sync_all();
+/// The path of a file or a folder without links and without `.` and `..`.
+fn canonical<R: Files + AllocGlobal>(rt: &R, path: &str) -> Result<PathBuf, SourceError> {
+    match fs::canonicalize(rt, path) {
+        Ok(path) => Ok(path),
+        Err(error) => Err(reason_of(error)),
     }
-    if written.is_err() {
-        let _ = fs::remove_file(rt, path);
-    }
-    written
 }
 
-/// Writes bytes to a new file, which takes the place of another one. After an error the other one is as it was, and the new one is
-/// not there.
-fn replace_by<R: Files>(rt: &R, path: &str, new: &str, bytes: &[u8]) -> io::Result<()> {
+/// That something is done, or why not.
+fn done(ended: io::Result<()>) -> Result<(), SourceError> {
+    match ended {
+        Ok(()) => Ok(()),
+        Err(error) => Err(reason_of(error)),
+    }
+}
+
+/// Writes bytes to a new file, which then takes a name, and with it the place of the file that has it. After an error that one is
+/// as it was, and the new one is not there.
+fn put<R: Files>(
+    rt: &R,
+    path: &str,
+    new: &str,
+    permissions: Option<Permissions>,
+    bytes: &[u8],
+) -> io::Result<()> {
     let file = OpenOptions::new()
         .write(true)
         .create_new(true)
         .open(rt, new)?;
-    let written = match fill(rt, path, file, bytes) {
+    let written = match fill(file, permissions, bytes) {
         Ok(()) => fs::rename(rt, new, path),
         Err(error) => Err(error),
     };
@@ -102,9 +133,15 @@ fn replace_by<R: Files>(rt: &R, path: &str, new: &str, bytes: &[u8]) -> io::Resu
     written
 }
 
-/// Writes bytes to a new file, which has the permissions of another one, and waits until they are kept.
-fn fill<R: Files>(rt: &R, path: &str, mut file: R::File, bytes: &[u8]) -> io::Result<()> {
-    file.set_permissions(fs::metadata(rt, path)?.permissions())?;
+/// Writes bytes to a new file, and waits until they are kept.
+fn fill<F: Write + OpenFile + Drop>(
+    mut file: F,
+    permissions: Option<Permissions>,
+    bytes: &[u8],
+) -> io::Result<()> {
+    if let Some(permissions) = permissions {
+        file.set_permissions(permissions)?;
+    }
     file.write_all(bytes)?;
     file.sync_all()
 }

@@ -90,7 +90,7 @@ fn is_query(name: &str) -> bool {
 }
 
 /// The path of a folder's member.
-fn joined(alloc: Global, folder: &str, name: &str) -> Result<String, AllocError> {
+pub(crate) fn joined(alloc: Global, folder: &str, name: &str) -> Result<String, AllocError> {
     let mut path = String::from_str(alloc, folder)?;
     if !folder.is_empty() && !folder.ends_with('/') {
         path.push('/')?;
@@ -126,13 +126,18 @@ pub fn schemas_for(alloc: Global, query: &str) -> Result<Vec<String>, AllocError
     Ok(found)
 }
 
-/// The path of the new file that is to take the place of a file: `.NAME.wdreport-new` beside it.
-pub(crate) fn beside(alloc: Global, path: &str) -> Result<String, AllocError> {
-    let (folder, name) = match path.rsplit_once('/') {
+/// The folder of a path, and its name there.
+pub(crate) fn folder_and_name(path: &str) -> (&str, &str) {
+    match path.rsplit_once('/') {
         Some(("", name)) => ("/", name),
         Some((folder, name)) => (folder, name),
-        None => ("", path),
-    };
+        None => (".", path),
+    }
+}
+
+/// The path of the new file that is to take the place of a file: `.NAME.wdreport-new` beside it.
+pub(crate) fn beside(alloc: Global, path: &str) -> Result<String, AllocError> {
+    let (folder, name) = folder_and_name(path);
     let mut hidden = String::from_str(alloc, ".")?;
     hidden.push_str(name)?;
     hidden.push_str(".wdreport-new")?;

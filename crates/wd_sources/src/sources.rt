@@ -32,8 +32,16 @@ pub trait Sources {
     /// Writes other bytes into a file that is there. After an error it has those that it had.
     fn replace(&mut self, alloc: Global, path: &str, bytes: &[u8]) -> Result<(), SourceError>;
 
-    /// Writes bytes into a file, which is made where it is not there. After an error a file that was there has those that it had.
+    /// Writes bytes into a file, which is made where it is not there. After an error a file that was there has those that it had,
+    /// and one that was not there is not there.
     fn write(&mut self, alloc: Global, path: &str, bytes: &[u8]) -> Result<(), SourceError>;
+
+    /// Takes a file away.
+    fn remove(&mut self, alloc: Global, path: &str) -> Result<(), SourceError>;
+
+    /// The path of a file that is the same for all spellings by which it can be named. The file itself need not be there, but its
+    /// folder.
+    fn resolved(&mut self, alloc: Global, path: &str) -> Result<String, SourceError>;
 }
 
 /// The path that stands for standard input.

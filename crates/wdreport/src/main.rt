@@ -4,7 +4,8 @@
 use std::env;
 use std::io::IsTerminal;
 use std::process::ExitCode;
-use wd_review::{Terminals, review_words};
+use wd_output::Terminals;
+use wd_review::review_words;
 use wd_sources::MachineSources;
 
 fn main(rt: HostRuntime) -> ExitCode {

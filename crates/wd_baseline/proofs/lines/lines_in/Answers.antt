@@ -2,9 +2,10 @@ use Rattle.std.proofs.Common.{◌∙◌, ◌+◌, [], ◌∷◌, length, ap, sym
 use Rattle.std.proofs.lemmas.Bool.{eqb-false}
 use Rattle.wd_json.specs.Json.{IsJsonOf}
 use Rattle.wd_baseline.specs.Findings.{finding_json}
-use Rattle.wd_baseline.specs.Lines.{first_line}
+use Rattle.wd_json_lines.specs.Lines.{first_line}
+use Rattle.wd_json_lines.proofs.Reading.{shorter}
 use Rattle.wd_baseline.specs.Refusals.{HasLineCause}
-use Rattle.wd_baseline.proofs.Reading.{IsLineOf, no_more, one_more, refused, shorter}
+use Rattle.wd_baseline.proofs.Reading.{IsLineOf, no_more, one_more, refused}
 use Rattle.wd_baseline.proofs.lines.lines_in.Goals as goal
 
 pub returns-in-Err-clause-refused : goal.returns-in-Err-clause-refused

@@ -1,0 +1,16 @@
+//! Lines of JSON: texts of which each line is a value of one form.
+//!
+//! `line` has what a line may be and where one ends, `read` and `write` go through the lines of a text, and `laws` says that what
+//! is written is read again.
+#![tactic(auto)]
+
+mod error;
+pub mod laws;
+mod line;
+mod read;
+mod write;
+
+pub use error::LineError;
+pub use line::{InLine, split_line};
+pub use read::read_lines;
+pub use write::write_lines;

@@ -1,0 +1,151 @@
+//! What a terminal shows: what is told, in colours, and how far a run is.
+//!
+//! Where standard error is a terminal and a run takes more than a second, its last line tells how many queries are done. It is
+//! taken off before anything else is written, and at the end.
+
+use crate::colours::coloured;
+use crate::progress::Progress;
+use crate::report::Report;
+use std::alloc::Global;
+use std::io;
+use std::io::Write;
+use std::rt::Clock;
+use wd_value::OutOfMemory;
+use wd_words::{Colour, Format};
+
+/// Which of the streams are terminals.
+#[derive(Clone, Copy, Debug, PartialEq, Eq)]
+pub struct Terminals {
+    /// Whether standard output is one.
+    pub out: bool,
+    /// Whether standard error is one.
+    pub err: bool,
+}
+
+/// How a run shows what it tells.
+#[derive(Clone, Copy, Debug, PartialEq, Eq)]
+pub struct Look {
+    pub colour: Colour,
+    /// Whether standard output has another text, so that what is told goes to standard error.
+    pub is_filter: bool,
+}
+
+/// Why what is told is not written.
+#[derive(Clone, Copy, Debug, PartialEq, Eq)]
+pub enum ScreenError {
+    /// A stream can't be written.
+    Unwritten,
+    OutOfMemory,
+}
+
+impl From<OutOfMemory> for ScreenError {
+    fn from(_error: OutOfMemory) -> Self {
+        ScreenError::OutOfMemory
+    }
+}
+
+impl From<io::Error> for ScreenError {
+    fn from(_error: io::Error) -> Self {
+        ScreenError::Unwritten
+    }
+}
+
+/// What is told how far a run is.
+pub trait Watch {
+    /// One more file is begun.
+    fn begin_file(&mut self);
+
+    /// The file has so many queries.
+    fn add_queries(&mut self, queries: u64);
+
+    /// One more query is done.
+    fn add_done(&mut self);
+}
+
+/// The streams of a run, and how far it is.
+#[derive(Drop)]
+pub struct Screen<'s, C, O, E> {
+    look: Look,
+    terminals: Terminals,
+    clock: &'s C,
+    out: &'s mut O,
+    err: &'s mut E,
+    progress: Progress,
+}
+
+impl<'s, C: Clock, O: Write, E: Write> Screen<'s, C, O, E> {
+    /// The streams of a run over so many files that begins now.
+    pub fn new(
+        look: Look,
+        terminals: Terminals,
+        files: u64,
+        clock: &'s C,
+        out: &'s mut O,
+        err: &'s mut E,
+    ) -> Screen<'s, C, O, E> {
+        Screen {
+            look,
+            terminals,
+            clock,
+            out,
+            err,
+            progress: Progress::new(clock, terminals.err, files),
+        }
+    }
+
+    /// Writes what is told, in colours where a terminal shows a text.
+    pub fn tell(&mut self, alloc: Global, report: &Report) -> Result<(), ScreenError> {
+        if report.bytes.is_empty() {
+            return Ok(());
+        }
+        let is_terminal = if self.look.is_filter {
+            self.terminals.err
+        } else {
+            self.terminals.out
+        };
+        if report.format == Format::Text && self.look.colour.is_on(is_terminal) {
+            let bytes = coloured(alloc, &report.bytes)?;
+            self.write(&bytes)
+        } else {
+            self.write(&report.bytes)
+        }
+    }
+
+    /// Writes bytes of what is told.
+    pub fn write(&mut self, bytes: &[u8]) -> Result<(), ScreenError> {
+        self.progress.clear(self.err);
+        if self.look.is_filter {
+            Ok(self.err.write_all(bytes)?)
+        } else {
+            Ok(self.out.write_all(bytes)?)
+        }
+    }
+
+    /// Writes the text that standard output has, and waits until all is handed on.
+    pub fn finish(&mut self, text: &[u8]) -> Result<(), ScreenError> {
+        self.progress.clear(self.err);
+        self.out.write_all(text)?;
+        Ok(self.out.flush()?)
+    }
+
+    /// Shows how far the run is.
+    fn show(&mut self) {
+        self.progress.show(self.clock, self.err);
+    }
+}
+
+impl<C: Clock, O: Write, E: Write> Watch for Screen<'_, C, O, E> {
+    fn begin_file(&mut self) {
+        self.progress.begin_file();
+    }
+
+    fn add_queries(&mut self, queries: u64) {
+        self.progress.add_queries(queries);
+        self.show();
+    }
+
+    fn add_done(&mut self) {
+        self.progress.add_done();
+        self.show();
+    }
+}

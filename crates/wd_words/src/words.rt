@@ -1,0 +1,171 @@
+//! Reading the words of the command line.
+
+use crate::request::{Asked, Colour, Format, LockRequest, Request};
+use clap::{Arg, ArgAction, ArgMatches, Command, Error};
+use std::alloc::{AllocError, Global};
+
+/// Reads the words after the program's own name. The error is help and version too, which have their text.
+pub fn read_words<'a>(alloc: Global, words: &'a [&'a str]) -> Result<Asked<'a>, Error> {
+    let mut command = command_line(alloc)?;
+    let matches = command.try_get_matches_from_mut(words)?;
+    if matches.subcommand_matches("schema").is_some() {
+        return Ok(Asked::Catalog);
+    }
+    if let Some(lock) = matches.subcommand_matches("lock") {
+        return Ok(Asked::Lock(LockRequest {
+            schema: lock.get_str("schema"),
+            paths: paths_in(alloc, lock)?,
+        }));
+    }
+    Ok(Asked::Report(request_in(alloc, &matches)?))
+}
+
+/// The paths among the words.
+fn paths_in<'a>(alloc: Global, matches: &ArgMatches<'a>) -> Result<Vec<&'a str>, AllocError> {
+    Vec::from_slice(alloc, matches.get_strs("paths").unwrap_or(&[]))
+}
+
+/// The report that is asked for.
+fn request_in<'a>(alloc: Global, matches: &ArgMatches<'a>) -> Result<Request<'a>, AllocError> {
+    Ok(Request {
+        schema: matches.get_str("schema"),
+        format: Format::named(matches.get_str("format")),
+        is_fix: matches.get_flag("fix"),
+        allows_unknown: matches.get_flag("allow-unknown"),
+        html: matches.get_str("html"),
+        baseline: matches.get_str("baseline"),
+        writes_baseline: matches.get_flag("baseline-write"),
+        colour: Colour::named(matches.get_str("color")),
+        paths: paths_in(alloc, matches)?,
+    })
+}
+
+// What stands below the words in the program's help.
+const STATUSES: &str =
+    "Each statement of each file is judged. A file's schema is FILE, or schema.sql beside it or in the nearest folder above it.
+
+Exit status:
+  0  each query is deterministic, excused or known
+  1  some others depend on the order of rows that tie, or may, or lost their certificate
+  2  some others are not read
+  3  a path, a schema, a baseline, a lock or a word of the command line is wrong, or a file can't be written
+With --fix it is that of the files as they are written.";
+
+// What stands below the words in the help of `lock`.
+const LOCKS: &str =
+    "The lock of latest.sql is latest.sql.cert. It has a line for each query of the file: its certificate, or null where none is found.
+wdreport PATH.. counts a query as deterministic where its certificate still holds, and tells which queries lost theirs.
+
+Exit status:
+  0  each lock is written
+  3  a path, a schema or a word of the command line is wrong, or a file can't be written";
+
+// The words of the formats.
+const FORMATS: [&str; 3] = ["text", "json", "github"];
+
+// When there are colours.
+const COLOURS: [&str; 3] = ["auto", "always", "never"];
+
+// The command line.
+fn command_line<'a>(alloc: Global) -> Result<Command<'a>, AllocError> {
+    with_flags(alloc, program(alloc)?)?
+        .arg(schema_word(alloc))?
+        .arg(format_word(alloc))?
+        .arg(page_word(alloc))?
+        .arg(baseline_word(alloc))?
+        .arg(colour_word(alloc))?
+        .arg(paths_words(alloc))
+}
+
+// The program, with its commands.
+fn program<'a>(alloc: Global) -> Result<Command<'a>, AllocError> {
+    let schema = Command::new(alloc, "schema").about(
+        "Prints the SQL that makes a schema file from a PostgreSQL database: psql -qAt -f <(wdreport schema) DATABASE > schema.sql",
+    );
+    Command::new(alloc, "wdreport")
+        .about(
+            "Tells which SQL queries have more than one answer, where, and with which sort key they have one.",
+        )
+        .after_help(STATUSES)
+        .version("1.0.0")
+        .no_binary_name(true)
+        .args_conflicts_with_subcommands(true)
+        .disable_help_subcommand(true)
+        .bin_name("wdreport")?
+        .subcommand(schema)?
+        .subcommand(lock_command(alloc)?)
+}
+
+// The command that writes locks.
+fn lock_command<'a>(alloc: Global) -> Result<Command<'a>, AllocError> {
+    Command::new(alloc, "lock")
+        .about(
+            "Writes the certificates of queries beside them, so that a later run tells which of them no longer hold",
+        )
+        .after_help(LOCKS)
+        .arg(schema_word(alloc))?
+        .arg(paths_words(alloc))
+}
+
+// The program with its flags.
+fn with_flags<'a>(alloc: Global, command: Command<'a>) -> Result<Command<'a>, AllocError> {
+    let fix = Arg::new(alloc, "fix")
+        .long("fix")
+        .action(ArgAction::SetTrue)
+        .help(
+            "Writes the sort keys into the files; with the path -, prints what standard input becomes",
+        );
+    let allow = Arg::new(alloc, "allow-unknown")
+        .long("allow-unknown")
+        .action(ArgAction::SetTrue)
+        .help("Queries that may tie pass: the status is 0 where no other is open");
+    let write = Arg::new(alloc, "baseline-write")
+        .long("baseline-write")
+        .action(ArgAction::SetTrue)
+        .help("Writes the baseline: all that is found now is known");
+    command.arg(fix)?.arg(allow)?.arg(write)
+}
+
+fn schema_word<'a>(alloc: Global) -> Arg<'a> {
+    Arg::new(alloc, "schema")
+        .long("schema")
+        .value_name("FILE")
+        .help("A file of CREATE TABLE statements, for all queries")
+}
+
+fn format_word<'a>(alloc: Global) -> Arg<'a> {
+    Arg::new(alloc, "format")
+        .long("format")
+        .value_name("FORMAT")
+        .help("text, for a person; json, an object a line; github, annotations of a workflow")
+        .value_parser(FORMATS.as_slice())
+}
+
+fn page_word<'a>(alloc: Global) -> Arg<'a> {
+    Arg::new(alloc, "html").long("html").value_name("FILE").help(
+        "Writes a page of HTML that shows all queries, with what is found of each",
+    )
+}
+
+fn baseline_word<'a>(alloc: Global) -> Arg<'a> {
+    Arg::new(alloc, "baseline")
+        .long("baseline")
+        .value_name("FILE")
+        .help("A file of findings that are known: only others count")
+}
+
+fn colour_word<'a>(alloc: Global) -> Arg<'a> {
+    Arg::new(alloc, "color")
+        .long("color")
+        .value_name("WHEN")
+        .help("Colours in text: auto, where a terminal shows it; always; never")
+        .value_parser(COLOURS.as_slice())
+}
+
+fn paths_words<'a>(alloc: Global) -> Arg<'a> {
+    Arg::new(alloc, "paths")
+        .num_args(1..)
+        .required(true)
+        .value_name("PATH")
+        .help("A file of queries, or a folder whose files *.sql are judged; - is standard input")
+}
