@@ -11,6 +11,7 @@ of the SQL of `wdreport schema`, which a PostgreSQL runs where one is installed.
 """
 
 import glob
+import html
 import json
 import os
 import pty
@@ -740,6 +741,17 @@ def the_page():
         check("page: no such folder", status == 3 and "the page can't be written" in err, (status, out, err))
 
 
+def the_spelled():
+    """Conditions and select lists in the plan of a page."""
+    schema = f'{SCHEMA}CREATE TABLE u (id BIGINT, "Two words" TEXT);\n'
+    for text, wanted in lines_of("spelled.txt"):
+        with tempfile.TemporaryDirectory() as folder:
+            put(folder, {"schema.sql": schema, "q.sql": text})
+            _, err, _ = run("--html", "page.html", "q.sql", cwd=folder)
+            shown = [html.unescape(it) for it in re.findall(r"<code>(.*?)</code>", held(f"{folder}/page.html"), re.S)]
+            check(f"spelled: {text[:100]}", wanted in shown, (shown, err))
+
+
 PROGRAM = os.path.abspath(sys.argv[1])
 the_folders()
 small_cases()
@@ -755,5 +767,6 @@ the_baselines()
 the_outputs()
 the_locks()
 the_page()
+the_spelled()
 print(f"{sum(results)} passed, {len(results) - sum(results)} failed")
 sys.exit(results.count(False) > 0)

@@ -3,14 +3,20 @@
 ghost use Rattle.std.specs.Prelude.{◌≡◌, length, take, OnErr, OnOk};
 
 use crate::place::Place;
-use crate::words::{function_word, separator};
+use crate::words::separator;
 use std::alloc::Global;
 use std::fmt::Write;
 use wd_certificate::{Certificate, Rule};
 use wd_markup::{Class, Page, Tag};
-use wd_plan::{Call, Class as CallClass, Expr, Group, GroupCall, Limit, Plan, Window};
+use wd_plan::{Call, Class as CallClass, Expr, Group, Limit, Plan, Window};
 use wd_schema::{Key, Schema, Table};
-use wd_value::{OutOfMemory, SortColumn};
+use wd_spelling::{
+    call_text, group_names, output_names, scan_names, spelled, table_names, window_names,
+};
+use wd_value::{OutOfMemory, SortColumn, Text};
+
+/// The length from which a list of names is cut, in bytes.
+const LONG: usize = 400;
 
 /// What is known of a plan: the schema of its tables, what justifies each call and each limit where all are, and what is open.
 #[derive(Clone, Copy)]
@@ -31,10 +37,29 @@ pub fn add_plan(
     ensures appended { OnOk result (take (length page.old) page.new ≡ page.old) }
     ensures kept { OnErr result (page.new ≡ page.old) }
 {
+    let tables = table_names(alloc, grounds.schema, plan)?;
     let mut part = Page::new(alloc);
-    let last = add_box(alloc, &mut part, grounds, first, plan)?;
+    let from = At {
+        node: first,
+        scan: 0,
+    };
+    let drawn = add_box(alloc, &mut part, grounds, &tables, from, plan)?;
     page.append(&part)?;
-    Ok(last)
+    Ok(drawn.behind.node)
+}
+
+/// Where a walk over a plan is: the number of the next node, and how many tables it has met.
+#[derive(Clone, Copy)]
+struct At {
+    node: u64,
+    scan: usize,
+}
+
+/// What is drawn of a plan: where the walk is behind it, and the names of its columns.
+#[derive(Drop)]
+struct Drawn {
+    behind: At,
+    names: Vec<Text>,
 }
 
 /// Adds the box of a plan to a page of its own.
@@ -42,52 +67,122 @@ fn add_box(
     alloc: Global,
     page: &mut Page,
     grounds: Grounds<'_, '_, '_>,
-    first: u64,
+    tables: &[Text],
+    at: At,
     plan: &Plan,
-) -> Result<u64, OutOfMemory> {
+) -> Result<Drawn, OutOfMemory> {
     page.open(Tag::Division, Class::Node)?;
-    let node = match plan {
-        Plan::Scan { .. } => first,
+    let below = match plan {
+        Plan::Scan { .. } => Drawn {
+            behind: at,
+            names: Vec::new(alloc),
+        },
         Plan::Join { left, right, .. } => {
-            let middle = add_box(alloc, page, grounds, first, left)?;
-            add_box(alloc, page, grounds, middle, right)?
+            let first = add_box(alloc, page, grounds, tables, at, left)?;
+            let second = add_box(alloc, page, grounds, tables, first.behind, right)?;
+            joined(first.names, second)?
         }
         Plan::Filter { input, .. }
         | Plan::Map { input, .. }
         | Plan::Group { input, .. }
         | Plan::Window { input, .. }
         | Plan::Distinct { input }
-        | Plan::Limit { input, .. } => add_box(alloc, page, grounds, first, input)?,
+        | Plan::Limit { input, .. } => add_box(alloc, page, grounds, tables, at, input)?,
     };
-    add_node(alloc, page, grounds, node, plan)?;
+    add_node(
+        alloc,
+        page,
+        grounds,
+        tables,
+        below.behind,
+        &below.names,
+        plan,
+    )?;
     page.close(Tag::Division)?;
-    Ok(node.saturating_add(1))
+    above(alloc, grounds.schema, tables, below, plan)
 }
 
-/// Adds what a plan's top node does.
+/// Two plans side by side.
+fn joined(names: Vec<Text>, second: Drawn) -> Result<Drawn, OutOfMemory> {
+    let Drawn {
+        behind,
+        names: more,
+    } = second;
+    let mut names = names;
+    for name in more {
+        names.push(name)?;
+    }
+    Ok(Drawn { behind, names })
+}
+
+/// What is drawn with the top node of a plan, whose inputs are drawn.
+fn above(
+    alloc: Global,
+    schema: &Schema,
+    tables: &[Text],
+    below: Drawn,
+    plan: &Plan,
+) -> Result<Drawn, OutOfMemory> {
+    let Drawn { behind, names } = below;
+    let At { node, scan } = behind;
+    let node = node.saturating_add(1);
+    match plan {
+        Plan::Scan { table, .. } => Ok(Drawn {
+            behind: At {
+                node,
+                scan: scan.saturating_add(1),
+            },
+            names: scan_names(alloc, schema, *table, qualifier(tables, scan))?,
+        }),
+        _ => Ok(Drawn {
+            behind: At { node, scan },
+            names: names_above(alloc, names, plan)?,
+        }),
+    }
+}
+
+/// What stands before the names of a table's columns, where several tables are read.
+fn qualifier(tables: &[Text], scan: usize) -> Option<&str> {
+    if tables.len() < 2 {
+        return None;
+    }
+    match tables.get(scan) {
+        Some(name) => Some(name.as_str()),
+        None => None,
+    }
+}
+
+/// The names of a plan's columns, over those of its inputs.
+fn names_above(alloc: Global, names: Vec<Text>, plan: &Plan) -> Result<Vec<Text>, OutOfMemory> {
+    match plan {
+        Plan::Map { outputs, .. } => output_names(alloc, &names, outputs),
+        Plan::Group { group, .. } => group_names(alloc, &names, group),
+        Plan::Window { window, .. } => window_names(alloc, &names, window),
+        _ => Ok(names),
+    }
+}
+
+/// Adds what a plan's top node does, over columns of these names.
 fn add_node(
     alloc: Global,
     page: &mut Page,
     grounds: Grounds<'_, '_, '_>,
-    node: u64,
+    tables: &[Text],
+    at: At,
+    names: &[Text],
     plan: &Plan,
 ) -> Result<(), OutOfMemory> {
     match plan {
-        Plan::Scan { table, .. } => add_scan(alloc, page, grounds.schema, *table),
-        Plan::Join { condition, .. } => add_line(
-            page,
-            "Join",
-            match condition {
-                Some(_) => "the pairs of rows that meet its condition",
-                None => "all pairs of rows",
-            },
-        ),
-        Plan::Filter { .. } => add_line(page, "Filter", "the rows that meet its condition"),
-        Plan::Map { outputs, .. } => add_count(alloc, page, "Select", outputs.len() as u64),
-        Plan::Group { input, group } => add_group(alloc, page, grounds.schema, input, group),
-        Plan::Window { input, window } => { add_window(alloc, page, grounds, node, input, window) }
+        Plan::Scan { table, .. } => add_scan(alloc, page, grounds.schema, tables, at, *table),
+        Plan::Join { condition, .. } => add_join(alloc, page, names, condition.as_ref()),
+        Plan::Filter { condition, .. } => {
+            add_condition(alloc, page, "Filter", "the rows with", names, condition)
+        }
+        Plan::Map { outputs, .. } => add_select(alloc, page, names, outputs),
+        Plan::Group { group, .. } => add_group(alloc, page, names, group),
+        Plan::Window { window, .. } => add_window(alloc, page, grounds, at.node, names, window),
         Plan::Distinct { .. } => add_line(page, "Distinct", "one of rows that are the same"),
-        Plan::Limit { input, limit } => add_limit(alloc, page, grounds, node, input, limit),
+        Plan::Limit { limit, .. } => add_limit(alloc, page, grounds, at.node, names, limit),
     }
 }
 
@@ -99,10 +194,111 @@ fn add_line(page: &mut Page, does: &str, words: &str) -> Result<(), OutOfMemory>
     Ok(page.close(Tag::Paragraph)?)
 }
 
-/// Adds what a node does, and how many columns it shows.
-fn add_count(alloc: Global, page: &mut Page, does: &str, count: u64) -> Result<(), OutOfMemory> {
-    let words = format!(in alloc; "{count} columns of each row")?;
-    add_line(page, does, words.as_str())
+/// Adds what a node does, and SQL.
+fn add_sql(page: &mut Page, does: &str, words: &str, sql: &str) -> Result<(), OutOfMemory> {
+    page.open(Tag::Paragraph, Class::Plain)?;
+    page.element(Tag::Span, Class::Does, does.as_bytes())?;
+    page.text(words.as_bytes())?;
+    page.text(b" ")?;
+    page.element(Tag::Code, Class::Plain, sql.as_bytes())?;
+    Ok(page.close(Tag::Paragraph)?)
+}
+
+/// Adds what a node does by a condition.
+fn add_condition(
+    alloc: Global,
+    page: &mut Page,
+    does: &str,
+    words: &str,
+    names: &[Text],
+    condition: &Expr,
+) -> Result<(), OutOfMemory> {
+    let sql = spelled(alloc, names, condition)?;
+    add_sql(page, does, words, sql.as_str())
+}
+
+/// Adds which pairs of rows a Join gives.
+fn add_join(
+    alloc: Global,
+    page: &mut Page,
+    names: &[Text],
+    condition: Option<&Expr>,
+) -> Result<(), OutOfMemory> {
+    match condition {
+        Some(condition) => {
+            add_condition(
+                alloc,
+                page,
+                "Join",
+                "the pairs of rows with",
+                names,
+                condition,
+            )
+        }
+        None => add_line(page, "Join", "all pairs of rows"),
+    }
+}
+
+/// Adds what a select list gives.
+fn add_select(
+    alloc: Global,
+    page: &mut Page,
+    names: &[Text],
+    outputs: &[Expr],
+) -> Result<(), OutOfMemory> {
+    let sql = listed_outputs(alloc, names, outputs)?;
+    add_sql(page, "Select", "", sql.as_str())
+}
+
+/// Outputs in a row, as many as a reader takes in.
+fn listed_outputs(alloc: Global, names: &[Text], outputs: &[Expr]) -> Result<String, OutOfMemory> {
+    let mut words = String::new(alloc);
+    for (number, output) in outputs.iter().enumerate() {
+        if words.len() > LONG {
+            return more(words);
+        }
+        words.push_str(separator(number))?;
+        words.push_str(spelled(alloc, names, output)?.as_str())?;
+    }
+    Ok(words)
+}
+
+/// Adds what a Group groups by, and its calls.
+fn add_group(
+    alloc: Global,
+    page: &mut Page,
+    names: &[Text],
+    group: &Group,
+) -> Result<(), OutOfMemory> {
+    let given = group_names(alloc, names, group)?;
+    let (keys, calls) = given.split_at(usize::from(group.columns).min(given.len()));
+    let sql = listed(alloc, keys)?;
+    add_sql(page, "Group by", "", sql.as_str())?;
+    if calls.is_empty() {
+        return Ok(());
+    }
+    let sql = listed(alloc, calls)?;
+    add_sql(page, "", "with", sql.as_str())
+}
+
+/// Names in a row, as many as a reader takes in.
+fn listed(alloc: Global, names: &[Text]) -> Result<String, OutOfMemory> {
+    let mut words = String::new(alloc);
+    for (number, name) in names.iter().enumerate() {
+        if words.len() > LONG {
+            return more(words);
+        }
+        words.push_str(separator(number))?;
+        words.push_str(name.as_str())?;
+    }
+    Ok(words)
+}
+
+/// Words of which some more are not shown.
+fn more(words: String) -> Result<String, OutOfMemory> {
+    let mut words = words;
+    words.push_str(", ..")?;
+    Ok(words)
 }
 
 /// Adds the table that a node reads, and its keys.
@@ -110,17 +306,28 @@ fn add_scan(
     alloc: Global,
     page: &mut Page,
     schema: &Schema,
+    tables: &[Text],
+    at: At,
     table: u16,
 ) -> Result<(), OutOfMemory> {
+    let called = match tables.get(at.scan) {
+        Some(name) => name.as_str(),
+        None => "",
+    };
     match schema.tables.get_index(usize::from(table)) {
-        Some((_, table)) => add_table(alloc, page, table),
+        Some((_, table)) => add_table(alloc, page, called, table),
         None => Ok(()),
     }
 }
 
-/// Adds a table and its keys.
-fn add_table(alloc: Global, page: &mut Page, table: &Table) -> Result<(), OutOfMemory> {
-    add_line(page, "Table", table.name.as_str())?;
+/// Adds a table, as it is called, and its keys.
+fn add_table(
+    alloc: Global,
+    page: &mut Page,
+    called: &str,
+    table: &Table,
+) -> Result<(), OutOfMemory> {
+    add_line(page, "Table", called)?;
     for key in &table.keys {
         let words = key_words(alloc, table, key)?;
         page.element(Tag::Paragraph, Class::Soft, words.as_bytes())?;
@@ -142,125 +349,19 @@ fn key_words(alloc: Global, table: &Table, key: &Key) -> Result<String, OutOfMem
     Ok(words)
 }
 
-/// Adds the name of a column of a plan's rows: of a table's column its own, of a call that of its function, else its number from 1.
-fn push_column(
-    words: &mut String,
-    schema: &Schema,
-    plan: &Plan,
-    column: u32,
-) -> Result<(), OutOfMemory> {
-    match plan {
-        Plan::Scan { table, .. } => push_name(words, schema, *table, column),
-        Plan::Join { left, right, .. } => {
-            let width = left.width();
-            if column < width {
-                push_column(words, schema, left, column)
-            } else {
-                push_column(words, schema, right, column - width)
-            }
-        }
-        Plan::Filter { input, .. } | Plan::Distinct { input } | Plan::Limit { input, .. } => {
-            push_column(words, schema, input, column)
-        }
-        Plan::Map { input, outputs } => match outputs.get(column as usize) {
-            Some(Expr::Column(number)) => push_column(words, schema, input, u32::from(*number)),
-            _ => push_number(words, column),
-        },
-        Plan::Group { input, group } => {
-            let width = u32::from(group.columns);
-            if column < width {
-                push_column(words, schema, input, column)
-            } else {
-                push_group_call(words, group, column - width)
-            }
-        }
-        Plan::Window { input, window } => {
-            let width = input.width();
-            if column < width {
-                push_column(words, schema, input, column)
-            } else {
-                push_call(words, window, column - width)
-            }
-        }
+/// Adds the name of a column.
+fn push_column(words: &mut String, names: &[Text], column: u16) -> Result<(), OutOfMemory> {
+    match names.get(usize::from(column)) {
+        Some(name) => Ok(words.push_str(name.as_str())?),
+        None => Ok(()),
     }
-}
-
-/// Adds the name of a column of a table.
-fn push_name(
-    words: &mut String,
-    schema: &Schema,
-    table: u16,
-    column: u32,
-) -> Result<(), OutOfMemory> {
-    match schema.tables.get_index(usize::from(table)) {
-        Some((_, table)) => match table.columns.get(column as usize) {
-            Some(column) => Ok(words.push_str(column.name.as_str())?),
-            None => push_number(words, column),
-        },
-        None => push_number(words, column),
-    }
-}
-
-/// Adds the number of a column that has no name, from 1.
-fn push_number(words: &mut String, column: u32) -> Result<(), OutOfMemory> {
-    let number = u64::from(column) + 1;
-    Ok(write!(words, "column {number}")?)
-}
-
-/// Adds the name of a window call's column.
-fn push_call(words: &mut String, window: &Window, number: u32) -> Result<(), OutOfMemory> {
-    match window.calls.get(number as usize) {
-        Some(call) => Ok(words.push_str(function_word(call.function.name()))?),
-        None => push_number(words, number),
-    }
-}
-
-/// Adds the name of a group's call's column.
-fn push_group_call(words: &mut String, group: &Group, number: u32) -> Result<(), OutOfMemory> {
-    match group.calls.get(number as usize) {
-        Some(GroupCall::OfRows(aggregate)) => Ok(words.push_str(function_word(aggregate.name()))?),
-        Some(GroupCall::Grouping(_)) => Ok(words.push_str("GROUPING")?),
-        None => push_number(words, number),
-    }
-}
-
-/// Adds what a Group groups by.
-fn add_group(
-    alloc: Global,
-    page: &mut Page,
-    schema: &Schema,
-    input: &Plan,
-    group: &Group,
-) -> Result<(), OutOfMemory> {
-    let mut words = String::new(alloc);
-    push_grouped(&mut words, schema, input, group.columns)?;
-    add_line(page, "Group by", words.as_str())
-}
-
-/// Adds the first so many columns of a Group's input.
-fn push_grouped(
-    words: &mut String,
-    schema: &Schema,
-    input: &Plan,
-    columns: u16,
-) -> Result<(), OutOfMemory> {
-    for column in 0..columns {
-        words.push_str(separator(usize::from(column)))?;
-        push_column(words, schema, input, u32::from(column))?;
-    }
-    Ok(())
 }
 
 /// Adds the sort keys of a node.
-fn push_keys(
-    words: &mut String,
-    schema: &Schema,
-    input: &Plan,
-    keys: &[SortColumn],
-) -> Result<(), OutOfMemory> {
+fn push_keys(words: &mut String, names: &[Text], keys: &[SortColumn]) -> Result<(), OutOfMemory> {
     for (number, key) in keys.iter().enumerate() {
         words.push_str(separator(number))?;
-        push_column(words, schema, input, u32::from(key.column))?;
+        push_column(words, names, key.column)?;
         if key.key.desc {
             words.push_str(" DESC")?;
         }
@@ -269,22 +370,17 @@ fn push_keys(
 }
 
 /// Adds the partition and the sort keys of a class of calls.
-fn push_class(
-    words: &mut String,
-    schema: &Schema,
-    input: &Plan,
-    class: &CallClass,
-) -> Result<(), OutOfMemory> {
+fn push_class(words: &mut String, names: &[Text], class: &CallClass) -> Result<(), OutOfMemory> {
     if !class.partition.is_empty() {
         words.push_str(" partition by ")?;
         for (number, column) in class.partition.iter().enumerate() {
             words.push_str(separator(number))?;
-            push_column(words, schema, input, u32::from(*column))?;
+            push_column(words, names, *column)?;
         }
     }
     if !class.order.is_empty() {
         words.push_str(" order by ")?;
-        push_keys(words, schema, input, &class.order)?;
+        push_keys(words, names, &class.order)?;
     }
     Ok(())
 }
@@ -295,14 +391,14 @@ fn add_window(
     page: &mut Page,
     grounds: Grounds<'_, '_, '_>,
     node: u64,
-    input: &Plan,
+    names: &[Text],
     window: &Window,
 ) -> Result<(), OutOfMemory> {
     add_line(page, "Window", "")?;
     for (number, call) in window.calls.iter().enumerate() {
         let number = u32::try_from(number).unwrap_or(u32::MAX);
         page.open(Tag::Paragraph, Class::Plain)?;
-        add_call(alloc, page, grounds.schema, input, window, call)?;
+        add_call(alloc, page, names, window, call)?;
         add_call_grounds(page, grounds, node, number)?;
         page.close(Tag::Paragraph)?;
     }
@@ -313,12 +409,11 @@ fn add_window(
 fn add_call(
     alloc: Global,
     page: &mut Page,
-    schema: &Schema,
-    input: &Plan,
+    names: &[Text],
     window: &Window,
     call: &Call,
 ) -> Result<(), OutOfMemory> {
-    let words = call_words(alloc, schema, input, window, call)?;
+    let words = call_words(alloc, names, window, call)?;
     Ok(page.text(words.as_bytes())?)
 }
 
@@ -338,15 +433,13 @@ fn add_call_grounds(
 /// What a call does.
 fn call_words(
     alloc: Global,
-    schema: &Schema,
-    input: &Plan,
+    names: &[Text],
     window: &Window,
     call: &Call,
 ) -> Result<String, OutOfMemory> {
-    let mut words = String::new(alloc);
-    words.push_str(function_word(call.function.name()))?;
+    let mut words = call_text(alloc, names, &call.function)?;
     if let Some(class) = window.classes.get(usize::from(call.class)) {
-        push_class(&mut words, schema, input, class)?;
+        push_class(&mut words, names, class)?;
     }
     Ok(words)
 }
@@ -396,13 +489,13 @@ fn add_limit(
     page: &mut Page,
     grounds: Grounds<'_, '_, '_>,
     node: u64,
-    input: &Plan,
+    names: &[Text],
     limit: &Limit,
 ) -> Result<(), OutOfMemory> {
     let does = if is_sort(limit) { "Order by" } else { "Limit" };
     page.open(Tag::Paragraph, Class::Plain)?;
     page.element(Tag::Span, Class::Does, does.as_bytes())?;
-    add_limit_words(alloc, page, grounds.schema, input, limit)?;
+    add_limit_words(alloc, page, names, limit)?;
     add_limit_grounds(page, grounds, node, limit)?;
     Ok(page.close(Tag::Paragraph)?)
 }
@@ -411,11 +504,10 @@ fn add_limit(
 fn add_limit_words(
     alloc: Global,
     page: &mut Page,
-    schema: &Schema,
-    input: &Plan,
+    names: &[Text],
     limit: &Limit,
 ) -> Result<(), OutOfMemory> {
-    let words = limit_words(alloc, schema, input, limit)?;
+    let words = limit_words(alloc, names, limit)?;
     Ok(page.text(words.as_bytes())?)
 }
 
@@ -438,12 +530,7 @@ fn is_sort(limit: &Limit) -> bool {
 }
 
 /// What a Limit does: its sort keys, and before them which rows it keeps where it doesn't keep all.
-fn limit_words(
-    alloc: Global,
-    schema: &Schema,
-    input: &Plan,
-    limit: &Limit,
-) -> Result<String, OutOfMemory> {
+fn limit_words(alloc: Global, names: &[Text], limit: &Limit) -> Result<String, OutOfMemory> {
     let mut words = String::new(alloc);
     if !is_sort(limit) {
         push_counts(&mut words, limit)?;
@@ -453,7 +540,7 @@ fn limit_words(
             " order by "
         })?;
     }
-    push_keys(&mut words, schema, input, &limit.keys)?;
+    push_keys(&mut words, names, &limit.keys)?;
     Ok(words)
 }
 

@@ -1,8 +1,7 @@
-//! The words of functions, types, faults and values.
+//! The words of types, faults and values.
 
 use std::alloc::Global;
 use std::fmt::Write;
-use wd_plan::FunctionName;
 use wd_value::{ColumnType, Fault, OutOfMemory, Value};
 
 /// What a fault is called.
@@ -10,25 +9,6 @@ pub(crate) fn fault_words(fault: Fault) -> &'static str {
     match fault {
         Fault::DivisionByZero => "an error: division by zero",
         Fault::OutOfRange => "an error: a number out of range",
-    }
-}
-
-/// The name of a function in SQL.
-pub(crate) fn function_word(name: FunctionName) -> &'static str {
-    match name {
-        FunctionName::RowNumber => "ROW_NUMBER",
-        FunctionName::Rank => "RANK",
-        FunctionName::DenseRank => "DENSE_RANK",
-        FunctionName::Ntile => "NTILE",
-        FunctionName::Lag => "LAG",
-        FunctionName::Lead => "LEAD",
-        FunctionName::FirstValue => "FIRST_VALUE",
-        FunctionName::LastValue => "LAST_VALUE",
-        FunctionName::NthValue => "NTH_VALUE",
-        FunctionName::Count => "COUNT",
-        FunctionName::Sum => "SUM",
-        FunctionName::Min => "MIN",
-        FunctionName::Max => "MAX",
     }
 }
 
