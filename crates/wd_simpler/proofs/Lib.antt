@@ -4,6 +4,7 @@ pub mod Values
 pub mod Alike
 pub mod Steps
 pub mod Windows
+pub mod Groups
 pub mod Plans
 pub mod Same
 pub mod Sets

@@ -16,12 +16,13 @@ use Rattle.wd_plan.specs.Outcomes.{RowsOrFault, cut, distinct, filter_outcome, g
 use Rattle.wd_plan.specs.Plans.{PlanTree, Scan, Join, Filter, Map, Group, Window, Distinct, Limit, ordering_count}
 use Rattle.wd_plan.specs.Sorting.{IsOrdering, limit_class}
 use Rattle.wd_simpler.proofs.Alike.{AreAlikeOn, AreSameOn, alike_every, always, at_alike, every_step, step_alike}
+use Rattle.wd_simpler.proofs.Groups.{group_alike}
 use Rattle.wd_simpler.proofs.Masks.{mask}
 use Rattle.wd_simpler.proofs.Results.{over}
 use Rattle.wd_simpler.proofs.Steps.{filter_alike, join_alike, limit_alike, limit_reads, map_alike, pairs_alike, plain_keys}
 use Rattle.wd_simpler.proofs.Windows.{ordering_alike, orderings_alike, orderings_back, orderings_read, window_alike}
 use Rattle.wd_simpler.specs.Laws.{SimplerIsAlike}
-use Rattle.wd_simpler.specs.Simpler.{Read, after, and_also, condition_reads, every, narrowed, plain_limit, read_outputs, read_window, window_reads}
+use Rattle.wd_simpler.specs.Simpler.{Read, after, and_also, condition_reads, every, narrowed, plain_limit, read_group, read_outputs, read_window, window_reads}
 
 -- the orderings stay
 count_stays : (plan : PlanTree) (read : Read) → ordering_count (narrowed plan read) ≡ ordering_count plan
@@ -86,11 +87,12 @@ module _ (tables : List TableRule) (instance : Instance) (meets : Meets tables i
         alike = over_step input _ _ choice below read (map_outcome outputs) (map_outcome (read_outputs read outputs)) (map_alike read outputs);
       }
   narrows (Group rule input) read choice fit =
-      let below = narrows input every choice (and_parts _ _ fit).0 in
+      let own = read_group (after rule.columns read) rule in
+      let below = narrows input _ choice (and_parts _ _ fit).0 in
       record {
         lawful = below.lawful;
         back = below.back;
-        alike = λ a. every_step read (group_outcome rule) _ _ (below.alike a);
+        alike = over_step input _ _ choice below read (group_outcome rule) (group_outcome own) (group_alike read rule);
       }
   narrows (Window w input) read choice fit =
       let columns = width input in

@@ -3,10 +3,10 @@ use Rattle.std.proofs.Common.{◌≡◌, ℕ, suc, ◌+◌, ◌<◌, ◌||◌, L
 use Rattle.wd_value.specs.Keys.{key_columns}
 use Rattle.wd_plan.specs.Expressions.{Expression}
 use Rattle.wd_plan.specs.Fits.{width}
-use Rattle.wd_plan.specs.Plans.{PlanTree, Scan, Join, Filter, Map, Group, Window, WindowRule, Distinct, Limit, has}
+use Rattle.wd_plan.specs.Plans.{GroupCall, GroupRule, PlanTree, Scan, Join, Filter, Map, Group, Window, WindowRule, Distinct, Limit, has}
 use Rattle.wd_plan.specs.declared.window.Call.{Call}
 use Rattle.wd_step_facts.specs.Steps.{used}
-use Rattle.wd_simpler.specs.Simpler.{Read, after, and_also, condition_reads, narrowed, next, plain_limit, read_call, read_calls, read_output, read_outputs, read_window, window_reads}
+use Rattle.wd_simpler.specs.Simpler.{Read, after, and_also, condition_reads, group_reads, narrowed, next, plain_limit, read_call, read_calls, read_group_call, read_group_calls, read_output, read_outputs, read_window, window_reads}
 
 module _ (read other : Read) where
   and_same : (n : ℕ) (columns : List ℕ) → ((c : ℕ) → c < n → read c ≡ other c) → (c : ℕ) → c < n → and_also read columns c ≡ and_also other columns c
@@ -20,6 +20,10 @@ calls_same : (read other : Read) (calls : List Call) → ((c : ℕ) → c < leng
 calls_same read other [] h = refl
 calls_same read other (call ∷ calls) h = λ i. read_call (h 0 (omega arith) i) call ∷ calls_same (next read) (next other) calls (λ c k. h (suc c) (omega arith)) i
 
+group_calls_same : (read other : Read) (calls : List GroupCall) → ((c : ℕ) → c < length calls → read c ≡ other c) → read_group_calls read calls ≡ read_group_calls other calls
+group_calls_same read other [] h = refl
+group_calls_same read other (call ∷ calls) h = λ i. read_group_call (h 0 (omega arith) i) call ∷ group_calls_same (next read) (next other) calls (λ c k. h (suc c) (omega arith)) i
+
 pub narrow_same : (plan : PlanTree) (read other : Read) → ((c : ℕ) → c < width plan → read c ≡ other c) → narrowed plan read ≡ narrowed plan other
 narrow_same (Scan table columns) read other h = refl
 narrow_same (Join condition left right) read other h =
@@ -30,7 +34,9 @@ narrow_same (Join condition left right) read other h =
     (narrow_same right (after (width left) (and_also read columns)) (after (width left) (and_also other columns)) (λ c k. both (width left + c) (omega arith)) i)
 narrow_same (Filter condition input) read other h = ap (Filter condition) (narrow_same input (and_also read (used condition)) (and_also other (used condition)) (and_same read other (width input) (used condition) h))
 narrow_same (Map outputs input) read other h = ap (λ own. Map own (narrowed input (has (flat_map used own)))) (outputs_same read other outputs h)
-narrow_same (Group rule input) read other h = refl
+narrow_same (Group rule input) read other h =
+    let calls = group_calls_same (after rule.columns read) (after rule.columns other) rule.calls (λ c k. h (rule.columns + c) (omega arith)) in
+    λ i. let own : GroupRule = record { columns = rule.columns; sets = rule.sets; calls = calls i } in Group own (narrowed input (has (group_reads own)))
 narrow_same (Window w input) read other h =
     let own = read_window (after (width input) other) w in
     let calls = calls_same (after (width input) read) (after (width input) other) w.calls (λ c k. h (width input + c) (omega arith)) in
@@ -48,6 +54,10 @@ outputs_push read (o ∷ outputs) e = ap (λ l. read_output (read 0) o ∷ l) (o
 pub calls_push : (read : Read) (calls : List Call) (call : Call) → read_calls read (calls ++ call ∷ []) ≡ read_calls read calls ++ read_call (read (length calls)) call ∷ []
 calls_push read [] call = refl
 calls_push read (first ∷ calls) call = ap (λ l. read_call (read 0) first ∷ l) (calls_push (next read) calls call)
+
+pub group_calls_push : (read : Read) (calls : List GroupCall) (call : GroupCall) → read_group_calls read (calls ++ call ∷ []) ≡ read_group_calls read calls ++ read_group_call (read (length calls)) call ∷ []
+group_calls_push read [] call = refl
+group_calls_push read (first ∷ calls) call = ap (λ l. read_group_call (read 0) first ∷ l) (group_calls_push (next read) calls call)
 
 -- by what is read alike of every column
 pub narrow_alike : (plan : PlanTree) (read other : Read) → ((c : ℕ) → read c ≡ other c) → narrowed plan read ≡ narrowed plan other

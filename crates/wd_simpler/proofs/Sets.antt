@@ -1,10 +1,12 @@
 -- Sets to which columns are added one after another.
-use Rattle.std.proofs.Common.{◌≡◌, ℕ, ◌+◌, ◌<◌, ◌⊎◌, inl, inr, Bool, true, false, ◌&&◌, ◌||◌, List, [], ◌∷◌, ◌++◌, flat_map, take, length, get_or, nat_eq, nat_lt, refl, sym, ◌∙◌, ap, subst, arith}
+use Rattle.std.proofs.Common.{◌≡◌, ℕ, ◌+◌, ◌<◌, ◌⊎◌, inl, inr, Bool, true, false, ◌&&◌, ◌||◌, List, [], ◌∷◌, ◌++◌, flat_map, take, length, get_or, nat_eq, nat_lt, refl, sym, ◌∙◌, ap, subst, arith, add-one, zero-add}
 use Rattle.std.proofs.lemmas.Bool.{cases_order, eq-eqb, le-ltb, lt-ltb, ne_eqb}
 use Rattle.std.proofs.Math.Bool.{or_assoc, or-false}
 use Rattle.std.proofs.lemmas.List.{flat_map_more, take_more}
 use Rattle.std.proofs.lemmas.List.Folds.{list_any-append}
 use Rattle.wd_plan.specs.Plans.{has}
+use Rattle.wd_step_facts.proofs.Added.{range_more}
+use Rattle.wd_value.specs.Bags.{positions}
 use Rattle.wd_sets.specs.Sets.{has_column}
 use Rattle.wd_sets.specs.declared.set.Set.{Set}
 use Rattle.wd_simpler.specs.Sets.{HasAlso}
@@ -45,6 +47,10 @@ pub also_more : {X : Type 0} (f : X → List ℕ) (a b d : Set) (xs : List X) (i
 also_more f a b d xs i x h is m n =
     subst (λ l. HasAlso a (flat_map f l) d) (sym (take_more xs i x h))
     (subst (λ (l : List ℕ). HasAlso a l d) (flat_map_more f [] (take i xs) (get_or xs i x)) (subst (λ y. HasAlso a (flat_map f (take i xs) ++ f y) d) is (also_then a b d (flat_map f (take i xs)) (f x) m n)))
+
+-- one column more of the first ones
+pub also_position : (a b d : Set) (n : ℕ) → HasAlso a (positions n) b → HasAlso b (n ∷ []) d → HasAlso a (positions (n + 1)) d
+also_position a b d n m k = subst (λ (l : List ℕ). HasAlso a l d) (sym (ap positions (add-one n) ∙ range_more 0 n n (zero-add n))) (also_then a b d (positions n) (n ∷ []) m k)
 
 -- ---- the columns after the first so many
 

@@ -80,7 +80,7 @@ module _ (read : Read) where
   values_read : (c : ℕ) → read c ≡ true → (rows : List Row) → column_values c (map m rows) ≡ column_values c rows
   values_read c h rows = map_of_map m (λ r. column_of r c) (λ r. column_of r c) (λ r. mask_read read r c h) rows
 
-  aggregate_read : (a : AggregateFunction) → AreRead (option_to_list (argument_of (OfFrame (Aggregate a)))) → (rows : List Row) → aggregate_value a (map m rows) ≡ aggregate_value a rows
+  pub aggregate_read : (a : AggregateFunction) → AreRead (option_to_list (argument_of (OfFrame (Aggregate a)))) → (rows : List Row) → aggregate_value a (map m rows) ≡ aggregate_value a rows
   aggregate_read CountRows h rows = ap (λ n. Ok (Int (pos n))) (length-map rows m)
   aggregate_read (Count c) h rows = ap (λ n. Ok (Int (pos n))) (count_of_map m (λ r. not (is_null (column_of r c))) (λ r. not (is_null (column_of r c))) (λ r. ap (λ v. not (is_null v)) (mask_read read r c h.0)) rows)
   aggregate_read (Sum c) h rows = ap sum_of (values_read c h.0 rows)

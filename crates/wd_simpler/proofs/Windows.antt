@@ -99,11 +99,11 @@ module _ (w : WindowRule) (rows : List Row) (orderings : List (List ℕ)) (r : �
 -- ---- rows with the values of their calls
 
 -- what is read of a row and of values after it
-after_row : (read : Read) (row : Row) (s : Result Row Fault) → over (mask read) (and_then s (λ values. Ok (row ++ values))) ≡ over (λ values. mask read row ++ values) (over (mask (after (length row) read)) s)
+pub after_row : (read : Read) (row : Row) (s : Result Row Fault) → over (mask read) (and_then s (λ values. Ok (row ++ values))) ≡ over (λ values. mask read row ++ values) (over (mask (after (length row) read)) s)
 after_row read row (Ok values) = ap (λ x. Ok x) (mask_append read row values)
 after_row read row (Err fault) = refl
 
-map_same : {X Y : Type 0} (P : X → Type 0) (f g : X → Y) → ((x : X) → P x → f x ≡ g x) → (xs : List X) → AllByRecursion P xs → map f xs ≡ map g xs
+pub map_same : {X Y : Type 0} (P : X → Type 0) (f g : X → Y) → ((x : X) → P x → f x ≡ g x) → (xs : List X) → AllByRecursion P xs → map f xs ≡ map g xs
 map_same P f g h [] a = refl
 map_same P f g h (x ∷ xs) a = λ i. h x a.0 i ∷ map_same P f g h xs a.1 i
 

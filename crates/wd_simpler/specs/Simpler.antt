@@ -1,8 +1,9 @@
--- A plan without what nothing reads: outputs of its Maps are NULL, and calls of its Windows COUNT(*), where no step above reads
--- them and they can't fault. And a Limit that keeps no row keeps none with ties either. Its nodes, their columns and their
--- orderings stay.
+-- A plan without what nothing reads: outputs of its Maps are NULL, and calls of its Windows and Groups COUNT(*), where no step
+-- above reads them and they can't fault. And a Limit that keeps no row keeps none with ties either. Its nodes, their columns and
+-- their orderings stay.
 use Rattle.std.specs.Prelude.{ℕ, zero, suc, ◌+◌, Bool, true, false, not, ◌||◌, List, [], ◌∷◌, ◌++◌, flat_map, if◌then◌else◌, Option, None, Some, option_to_list}
 use Rattle.wd_value.specs.declared.value.Value.TheVariants.{Null}
+use Rattle.wd_value.specs.Bags.{positions}
 use Rattle.wd_value.specs.Keys.{key_columns}
 use Rattle.wd_plan.specs.declared.expression.ValueKind.TheVariants.{Number}
 use Rattle.wd_plan.specs.declared.function.Aggregate.{Aggregate as AggregateFunction}
@@ -18,8 +19,8 @@ use Rattle.wd_plan.specs.declared.window.Frame.{Frame}
 use Rattle.wd_plan.specs.declared.window.FrameMode.TheVariants.{Range}
 use Rattle.wd_plan.specs.Expressions.{Expression, Column, Literal, Negate, Arithmetic, Compare, Not, And, Or, IsNull, IsNotNull, Case}
 use Rattle.wd_plan.specs.Fits.{width}
-use Rattle.wd_plan.specs.Functions.{argument_of}
-use Rattle.wd_plan.specs.Plans.{WindowRule, LimitRule, PlanTree, Scan, Join, Filter, Map, Group, Window, Distinct, Limit, has}
+use Rattle.wd_plan.specs.Functions.{argument_of, argument_of_aggregate}
+use Rattle.wd_plan.specs.Plans.{GroupCall, OfRows, Grouping, GroupRule, WindowRule, LimitRule, PlanTree, Scan, Join, Filter, Map, Group, Window, Distinct, Limit, has}
 use Rattle.wd_plan.specs.Sorting.{class_columns}
 use Rattle.wd_step_facts.specs.Steps.{used}
 
@@ -109,6 +110,33 @@ read_window read w = record { classes = w.classes; calls = read_calls read w.cal
 abbrev pub window_reads : WindowRule → List ℕ
 window_reads w = flat_map class_columns w.classes ++ flat_map (λ (call : Call). option_to_list (argument_of call.function)) w.calls
 
+-- ---- calls of a Group
+
+-- an aggregate, and COUNT(*) in its place where it is not read and can't fault
+abbrev pub read_aggregate : Bool → AggregateFunction → AggregateFunction
+read_aggregate is_read a = if is_read || not (is_total a) then a else CountRows
+
+abbrev pub read_group_call : Bool → GroupCall → GroupCall
+read_group_call is_read (OfRows a) = OfRows (read_aggregate is_read a)
+read_group_call is_read (Grouping columns) = Grouping columns
+
+abbrev pub read_group_calls : Read → List GroupCall → List GroupCall
+read_group_calls read [] = []
+read_group_calls read (call ∷ calls) = read_group_call (read 0) call ∷ read_group_calls (next read) calls
+
+-- a Group with such calls, of which these columns are read
+abbrev pub read_group : Read → GroupRule → GroupRule
+read_group read rule = record { columns = rule.columns; sets = rule.sets; calls = read_group_calls read rule.calls }
+
+-- the column that a call of a Group reads, beside those that show its group
+abbrev pub group_argument : GroupCall → Option ℕ
+group_argument (OfRows a) = argument_of_aggregate a
+group_argument (Grouping columns) = None
+
+-- the columns that a Group reads: its grouping columns, and its calls' arguments
+abbrev pub group_reads : GroupRule → List ℕ
+group_reads rule = positions rule.columns ++ flat_map (λ call. option_to_list (group_argument call)) rule.calls
+
 -- ---- Limits
 
 -- a Limit; one of no rows goes by no offset, and takes all that tie
@@ -133,7 +161,7 @@ narrowed (Scan table columns) read = Scan table columns
 narrowed (Join condition left right) read = let more = and_also read (condition_reads condition) in Join condition (narrowed left more) (narrowed right (after (width left) more))
 narrowed (Filter condition input) read = Filter condition (narrowed input (and_also read (used condition)))
 narrowed (Map outputs input) read = let own = read_outputs read outputs in Map own (narrowed input (has (flat_map used own)))
-narrowed (Group rule input) read = Group rule (narrowed input every)
+narrowed (Group rule input) read = let own = read_group (after rule.columns read) rule in Group own (narrowed input (has (group_reads own)))
 narrowed (Window w input) read = let own = read_window (after (width input) read) w in Window own (narrowed input (and_also read (window_reads own)))
 narrowed (Distinct input) read = Distinct (narrowed input every)
 narrowed (Limit limit input) read = Limit (plain_limit limit) (narrowed input (and_also read (key_columns limit.keys)))

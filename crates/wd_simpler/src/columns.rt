@@ -3,15 +3,17 @@
 ghost use Rattle.std.specs.Prelude.{◌≡◌, [], ◌∷◌, flat_map, option_to_list, IfOk, map};
 ghost use Rattle.wd_plan.specs.Expressions.{expression_of};
 ghost use Rattle.wd_plan.specs.Functions.{argument_of};
-ghost use Rattle.wd_plan.specs.Plans.{class_of};
+ghost use Rattle.wd_plan.specs.Plans.{class_of, group_call_of};
 ghost use Rattle.wd_plan.specs.Sorting.{class_columns};
 ghost use Rattle.wd_plan.specs.declared.window.Call.{Call as ACall};
 ghost use Rattle.wd_simpler.specs.Sets.{HasAlso};
+ghost use Rattle.wd_simpler.specs.Simpler.{group_argument};
 ghost use Rattle.wd_step_facts.specs.Steps.{used};
+ghost use Rattle.wd_value.specs.Bags.{positions};
 ghost use Rattle.wd_value.specs.Keys.{key_columns};
 
 use wd_facts::Member;
-use wd_plan::{Call, Class, Expr};
+use wd_plan::{Aggregate, Call, Class, Expr, GroupCall};
 use wd_sets::Set;
 use wd_value::{OutOfMemory, SortColumn};
 
@@ -62,6 +64,41 @@ pub(crate) fn add_arguments(set: &mut Set, calls: &[Call]) -> Result<(), OutOfMe
         if let Some(column) = call.function.argument() {
             add_column(set, column)?;
         }
+    }
+    Ok(())
+}
+
+/// Puts the first so many columns into a set.
+pub(crate) fn add_first(set: &mut Set, count: u16) -> Result<(), OutOfMemory>
+    ensures { IfOk result (λ _. HasAlso set.old (positions count) set.new) }
+{
+    for column in 0..count {
+        add_column(set, column)?;
+    }
+    Ok(())
+}
+
+/// Puts the argument of a Group's call into a set.
+fn add_group_argument(set: &mut Set, call: &GroupCall) -> Result<(), OutOfMemory>
+    ensures { IfOk result (λ _. HasAlso set.old (option_to_list (group_argument (group_call_of call.now))) set.new) }
+{
+    match call {
+        GroupCall::OfRows(Aggregate::CountRows) | GroupCall::Grouping(_) => Ok(()),
+        GroupCall::OfRows(
+            Aggregate::Count(column)
+            | Aggregate::Sum(column)
+            | Aggregate::Min(column)
+            | Aggregate::Max(column),
+        ) => add_column(set, *column),
+    }
+}
+
+/// Puts the arguments of a Group's calls into a set.
+pub(crate) fn add_group_arguments(set: &mut Set, calls: &[GroupCall]) -> Result<(), OutOfMemory>
+    ensures { IfOk result (λ _. HasAlso set.old (flat_map (λ call. option_to_list (group_argument call)) (map group_call_of calls.now)) set.new) }
+{
+    for call in calls {
+        add_group_argument(set, call)?;
     }
     Ok(())
 }

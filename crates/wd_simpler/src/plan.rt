@@ -3,19 +3,21 @@
 ghost use Rattle.std.specs.Prelude.{◌≡◌, ◌+◌, ◌<◌, ◌≤◌, ◌^◌, ℕ, true, length, map, option_map, IfOk, flat_map, Some};
 ghost use Rattle.wd_plan.specs.Expressions.{expression_of};
 ghost use Rattle.wd_plan.specs.Fits.{fits, width};
-ghost use Rattle.wd_plan.specs.Plans.{grouping_of, has, limit_of, plan_of, window_of};
+ghost use Rattle.wd_plan.specs.Plans.{group_call_of, grouping_of, has, limit_of, plan_of, window_of};
 ghost use Rattle.wd_schema.specs.Schemas.{schema_of};
 ghost use Rattle.wd_simpler.specs.Sets.{HasAlso, read_of};
 ghost use Rattle.wd_simpler.specs.Simpler as spec;
 ghost use Rattle.wd_step_facts.specs.Steps.{used};
 ghost use Rattle.wd_value.specs.Keys.{key_columns};
 
-use crate::columns::{add_all_used, add_arguments, add_classes, add_keys, add_used};
+use crate::columns::{
+    add_all_used, add_arguments, add_classes, add_first, add_group_arguments, add_keys, add_used,
+};
 use std::alloc::Global;
 use wd_facts::Member;
 use wd_plan::{
-    Aggregate, Bound, Call, Exclusion, Expr, Frame, FrameFunction, FrameMode, Function, Limit,
-    Plan, ValueKind, Window,
+    Aggregate, Bound, Call, Exclusion, Expr, Frame, FrameFunction, FrameMode, Function, Group,
+    GroupCall, Limit, Plan, ValueKind, Window,
 };
 use wd_schema::Schema;
 use wd_sets::Set;
@@ -78,7 +80,9 @@ fn narrowed(
             })
         }
         Plan::Group { input, group } => {
-            let input = narrowed(alloc, schema, Box::into_inner(input), None)?;
+            let group = read_group(alloc, &read, group)?;
+            let below = read_by_group(alloc, &group)?;
+            let input = narrowed(alloc, schema, Box::into_inner(input), below)?;
             Ok(Plan::Group {
                 input: Box::new(alloc, input)?,
                 group,
@@ -177,6 +181,16 @@ fn used_by(alloc: Global, outputs: &[Expr]) -> Result<Option<Set>, OutOfMemory>
     Ok(Some(set))
 }
 
+/// What is read below a Group.
+fn read_by_group(alloc: Global, group: &Group) -> Result<Option<Set>, OutOfMemory>
+    ensures { IfOk result (λ o. (c : ℕ) → read_of o c ≡ has (spec.group_reads (grouping_of group.now)) c) }
+{
+    let mut set = Set::new(alloc);
+    add_first(&mut set, group.columns)?;
+    add_group_arguments(&mut set, &group.calls)?;
+    Ok(Some(set))
+}
+
 /// What is read below a Window.
 fn with_window(read: Option<Set>, window: &Window) -> Result<Option<Set>, OutOfMemory>
     ensures { IfOk result (λ o. (c : ℕ) → read_of o c ≡ spec.and_also (read_of read) (spec.window_reads (window_of window.now)) c) }
@@ -244,6 +258,68 @@ fn is_plain(expression: &Expr) -> bool
         Expr::Column(_) | Expr::Literal(_, _) => true,
         _ => false,
     }
+}
+
+/// The Group, with COUNT(*) for calls that are not read and can't fault.
+fn read_group(alloc: Global, read: &Option<Set>, group: Group) -> Result<Group, OutOfMemory>
+    requires { group.columns + length group.calls.items ≤ 1024 }
+    ensures { IfOk result (λ g. grouping_of g ≡ spec.read_group (spec.after group.columns (read_of read.now)) (grouping_of group)) }
+{
+    let Group {
+        columns,
+        sets,
+        calls,
+    } = group;
+    let calls = read_group_calls(alloc, read, columns, calls)?;
+    Ok(Group {
+        columns,
+        sets,
+        calls,
+    })
+}
+
+fn read_group_calls(
+    alloc: Global,
+    read: &Option<Set>,
+    columns: u16,
+    calls: Vec<GroupCall>,
+) -> Result<Vec<GroupCall>, OutOfMemory>
+    requires { columns + length calls.items ≤ 1024 }
+    ensures { IfOk result (λ v. map group_call_of v.items ≡ spec.read_group_calls (spec.after columns (read_of read.now)) (map group_call_of calls.items)) }
+{
+    let mut kept = Vec::with_capacity(alloc, calls.len())?;
+    let mut number = columns;
+    for call in calls {
+        kept.push(read_group_call(is_read(read, number), call))?;
+        number += 1;
+    }
+    Ok(kept)
+}
+
+fn read_group_call(is_read: bool, call: GroupCall) -> GroupCall
+    ensures { group_call_of result ≡ spec.read_group_call is_read (group_call_of call) }
+{
+    match call {
+        GroupCall::OfRows(aggregate) => GroupCall::OfRows(read_aggregate(is_read, aggregate)),
+        GroupCall::Grouping(columns) => GroupCall::Grouping(columns),
+    }
+}
+
+fn read_aggregate(is_read: bool, aggregate: Aggregate) -> Aggregate
+    ensures { result ≡ spec.read_aggregate is_read aggregate }
+{
+    if is_read || !is_total(aggregate) {
+        aggregate
+    } else {
+        Aggregate::CountRows
+    }
+}
+
+/// Whether an aggregate has a value over any rows: a SUM can be out of range.
+fn is_total(aggregate: Aggregate) -> bool
+    ensures { result ≡ spec.is_total aggregate }
+{
+    !matches!(aggregate, Aggregate::Sum(_))
 }
 
 /// The Window, with COUNT(*) for calls that are not read and can't fault, over an input of so many columns.

@@ -3,11 +3,11 @@ use Rattle.std.proofs.lemmas.Bool.{and_parts}
 use Rattle.wd_plan.proofs.Ranges.{narrow}
 use Rattle.wd_plan.specs.Expressions.{expression_of}
 use Rattle.wd_plan.specs.Fits.{fits, width}
-use Rattle.wd_plan.specs.Plans.{Filter, Join, Limit, Map, PlanTree, Window, WindowRule, has, limit_of, plan_of, window_of}
+use Rattle.wd_plan.specs.Plans.{Filter, Group, GroupRule, Join, Limit, Map, PlanTree, Window, WindowRule, grouping_of, has, limit_of, plan_of, window_of}
 use Rattle.wd_schema.specs.Schemas.{schema_of}
 use Rattle.wd_simpler.proofs.Same.{narrow_alike, narrow_same}
 use Rattle.wd_simpler.specs.Sets.{read_of}
-use Rattle.wd_simpler.specs.Simpler.{after, and_also, condition_reads, narrowed, read_window, window_reads}
+use Rattle.wd_simpler.specs.Simpler.{after, and_also, condition_reads, group_reads, narrowed, read_window, window_reads}
 use Rattle.wd_step_facts.specs.Steps.{used}
 use Rattle.wd_value.specs.Keys.{key_columns}
 use Rattle.wd_simpler.proofs.plan.+narrowed.Goals as goal
@@ -32,6 +32,15 @@ returns-in_ok-new-in-Map t c =
     let below : plan_of c.in_ok-new-in-Map.field-0.value ≡ narrowed (plan_of c.in-Map.input.value) (has (flat_map used own)) =
     ap plan_of c.in_ok-new-in-Map.ensures.ok ∙ c.in_ok-input-in-Map.ensures ∙ ap (λ p. narrowed (plan_of p) (read_of c.in_ok-below-in-Map.below)) c.into_inner-in-Map.ensures ∙ e in
     rw c.in-Map.is (ap (Map own) below ∙ ap (λ es. Map es (narrowed (plan_of c.in-Map.input.value) (has (flat_map used es)))) c.in_ok-outputs-in-Map.ensures)
+
+pub returns-in_ok-new-in-Group : goal.returns-in_ok-new-in-Group
+returns-in_ok-new-in-Group t c =
+    let input : PlanTree = plan_of c.in-Group.input.value in
+    let own : GroupRule = grouping_of c.in_ok-group-in-Group.group in
+    let e = narrow_alike input (read_of c.in_ok-below-in-Group.below) (has (group_reads own)) c.in_ok-below-in-Group.ensures in
+    let below : plan_of c.in_ok-new-in-Group.field-0.value ≡ narrowed input (has (group_reads own)) =
+    ap plan_of c.in_ok-new-in-Group.ensures.ok ∙ c.in_ok-input-in-Group.ensures ∙ ap (λ p. narrowed (plan_of p) (read_of c.in_ok-below-in-Group.below)) c.into_inner-in-Group.ensures ∙ e in
+    rw c.in-Group.is (ap (Group own) below ∙ ap (λ g. Group g (narrowed input (has (group_reads g)))) c.in_ok-group-in-Group.ensures)
 
 pub returns-in_ok-new-in-Window : goal.returns-in_ok-new-in-Window
 returns-in_ok-new-in-Window t c =
