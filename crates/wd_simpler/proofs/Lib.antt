@@ -5,6 +5,10 @@ pub mod Alike
 pub mod Steps
 pub mod Windows
 pub mod Groups
+pub mod Conditions
+pub mod Least
+pub mod Empty
+pub mod Kept
 pub mod Plans
 pub mod Same
 pub mod Sets

@@ -1,5 +1,5 @@
 -- A plan of whose columns some are read beside the narrowed one: the same choices are lawful, and what is read is the same.
-use Rattle.std.proofs.Common.{◌≡◌, ℕ, ◌+◌, true, List, [], map, length, take, drop, refl, sym, ◌∙◌, ap, subst, Ok}
+use Rattle.std.proofs.Common.{◌≡◌, ℕ, ◌+◌, Bool, true, List, [], map, length, take, drop, refl, sym, ◌∙◌, ap, subst, Ok, Err}
 use Rattle.std.specs.List.{AllByRecursion}
 use Rattle.std.proofs.lemmas.Bool.{and_parts}
 use Rattle.wd_value.specs.declared.order.SortColumn.{SortColumn}
@@ -16,13 +16,18 @@ use Rattle.wd_plan.specs.Outcomes.{RowsOrFault, cut, distinct, filter_outcome, g
 use Rattle.wd_plan.specs.Plans.{PlanTree, Scan, Join, Filter, Map, Group, Window, Distinct, Limit, ordering_count}
 use Rattle.wd_plan.specs.Sorting.{IsOrdering, limit_class}
 use Rattle.wd_simpler.proofs.Alike.{AreAlikeOn, AreSameOn, alike_every, always, at_alike, every_step, step_alike}
+use Rattle.wd_simpler.proofs.Empty.{AreNone, HasNone, no_rows}
 use Rattle.wd_simpler.proofs.Groups.{group_alike}
+use Rattle.wd_simpler.proofs.Kept.{AreNoneIn, condition_alike, limit_kept, none_in, window_kept}
+use Rattle.wd_simpler.proofs.Least.{all_from}
 use Rattle.wd_simpler.proofs.Masks.{mask}
 use Rattle.wd_simpler.proofs.Results.{over}
-use Rattle.wd_simpler.proofs.Steps.{filter_alike, join_alike, limit_alike, limit_reads, map_alike, pairs_alike, plain_keys}
-use Rattle.wd_simpler.proofs.Windows.{ordering_alike, orderings_alike, orderings_back, orderings_read, window_alike}
+use Rattle.wd_simpler.proofs.Steps.{join_alike, limit_reads, map_alike, pairs_alike, read_keys}
+use Rattle.wd_simpler.proofs.Windows.{ordering_alike, orderings_alike, orderings_back, orderings_read}
+use Rattle.wd_simpler.proofs.Conditions.{IsFrom}
 use Rattle.wd_simpler.specs.Laws.{SimplerIsAlike}
-use Rattle.wd_simpler.specs.Simpler.{Read, after, and_also, condition_reads, every, narrowed, plain_limit, read_group, read_outputs, read_window, window_reads}
+use Rattle.wd_step_facts.specs.Steps.{used}
+use Rattle.wd_simpler.specs.Simpler.{Read, after, and_also, condition_reads, every, is_empty, is_unmet, kept_reads, least_of, narrowed, read_condition, read_group, read_limit, read_outputs, read_window, takes_none, window_reads}
 
 -- the orderings stay
 count_stays : (plan : PlanTree) (read : Read) → ordering_count (narrowed plan read) ≡ ordering_count plan
@@ -46,6 +51,11 @@ record Narrows (plan other : PlanTree) (read : Read) (instance : Instance) (choi
 -- the other way round
 back_alike : (read : Read) (a b : RowsOrFault) → AreAlikeOn read a b → AreAlikeOn read b a
 back_alike read a b e = sym e
+
+-- a fact of the rows, and that there are none where that is known
+both_known : (P : List Row → Type 0) (none : Bool) (r : RowsOrFault) → AtRows r P (Unit {0}) → (none ≡ true → HasNone r) → AtRows r (λ rows. P rows × (none ≡ true → AreNone rows)) (Unit {0})
+both_known P none (Ok rows) p h = (p, h)
+both_known P none (Err fault) p h = tt
 
 module _ (tables : List TableRule) (instance : Instance) (meets : Meets tables instance) where
   -- a step that has no orderings
@@ -73,11 +83,16 @@ module _ (tables : List TableRule) (instance : Instance) (meets : Meets tables i
             ∙ ap (λ n. over (map (mask read)) (and_then (outcome (narrowed left more) instance choice) (λ ls. and_then (outcome other instance (drop n choice)) (λ rs. join_outcome condition (pairs ls rs))))) (sym count);
       }
   narrows (Filter condition input) read choice fit =
-      let below = narrows input (and_also read _) choice (and_parts _ _ fit).0 in
+      let unmet = is_unmet (least_of input) condition in
+      let own = read_condition unmet condition in
+      let more = and_also (kept_reads unmet read) (used own) in
+      let below = narrows input more choice (and_parts _ _ fit).0 in
       record {
         lawful = below.lawful;
         back = below.back;
-        alike = over_step input _ _ choice below read (filter_outcome condition) (filter_outcome condition) (filter_alike read condition);
+        alike = λ a. step_alike (AllByRecursion (IsFrom (least_of input))) more read (filter_outcome condition) (filter_outcome own)
+            (λ rows others from e. condition_alike read (least_of input) condition unmet refl rows others from e) (outcome input instance choice) (outcome (narrowed input more) instance choice)
+            (all_from tables instance meets input choice (and_parts _ _ fit).0 a) (below.alike a);
       }
   narrows (Map outputs input) read choice fit =
       let below = narrows input _ choice (and_parts _ _ fit).0 in
@@ -96,7 +111,8 @@ module _ (tables : List TableRule) (instance : Instance) (meets : Meets tables i
       }
   narrows (Window w input) read choice fit =
       let columns = width input in
-      let own = read_window (after columns read) w in
+      let none = is_empty input in
+      let own = read_window none (after columns read) w in
       let more = and_also read (window_reads own) in
       let below = narrows input more choice (and_parts _ _ fit).0 in
       let other = narrowed input more in
@@ -105,10 +121,11 @@ module _ (tables : List TableRule) (instance : Instance) (meets : Meets tables i
       let here = orderings (ordering_count input) in
       let Served = λ (n : ℕ). AtRows (outcome other instance choice) (λ rows. AreOrderings own rows (orderings n)) (AllByRecursion (λ o. o ≡ []) (orderings n)) in
       record {
-        lawful = λ a. (below.lawful a.0, subst Served (sym count) (at_alike (λ rows. AreOrderings w rows here) (λ rows. AreOrderings own rows here) (AllByRecursion (λ o. o ≡ []) here) more (λ rows others e o. orderings_alike read own here rows others e (orderings_read (after columns read) w rows here o)) (outcome input instance choice) (outcome other instance choice) (below.alike a.0) a.1));
-        back = λ a. (below.back a.0, at_alike (λ rows. AreOrderings own rows here) (λ rows. AreOrderings w rows here) (AllByRecursion (λ o. o ≡ []) here) more (λ rows others e o. orderings_back (after columns read) w others here (orderings_alike read own here rows others e o)) (outcome other instance choice) (outcome input instance choice) (sym (below.alike (below.back a.0))) (subst Served count a.1));
+        lawful = λ a. (below.lawful a.0, subst Served (sym count) (at_alike (λ rows. AreOrderings w rows here) (λ rows. AreOrderings own rows here) (AllByRecursion (λ o. o ≡ []) here) more (λ rows others e o. orderings_alike read own here rows others e (orderings_read none (after columns read) w rows here o)) (outcome input instance choice) (outcome other instance choice) (below.alike a.0) a.1));
+        back = λ a. (below.back a.0, at_alike (λ rows. AreOrderings own rows here) (λ rows. AreOrderings w rows here) (AllByRecursion (λ o. o ≡ []) here) more (λ rows others e o. orderings_back none (after columns read) w others here (orderings_alike read own here rows others e o)) (outcome other instance choice) (outcome input instance choice) (sym (below.alike (below.back a.0))) (subst Served count a.1));
         alike = λ a.
-            step_alike (HasWidth columns) more read (λ rows. window_outcome w rows here) (λ rows. window_outcome own rows here) (λ rows others wide e. window_alike read columns w here rows others wide e) (outcome input instance choice) (outcome other instance choice) (has_widths tables input instance choice (and_parts _ _ fit).0 meets a.0) (below.alike a.0)
+            step_alike (λ rows. HasWidth columns rows × (none ≡ true → AreNone rows)) more read (λ rows. window_outcome w rows here) (λ rows. window_outcome own rows here) (λ rows others known e. window_kept none read columns w here rows others known.0 known.1 e) (outcome input instance choice) (outcome other instance choice)
+            (both_known (HasWidth columns) none (outcome input instance choice) (has_widths tables input instance choice (and_parts _ _ fit).0 meets a.0) (no_rows tables instance meets input choice (and_parts _ _ fit).0 a.0)) (below.alike a.0)
             ∙ ap (λ n. over (map (mask read)) (and_then (outcome other instance choice) (λ rows. window_outcome own rows (orderings n)))) (sym count);
       }
   narrows (Distinct input) read choice fit =
@@ -119,22 +136,26 @@ module _ (tables : List TableRule) (instance : Instance) (meets : Meets tables i
         alike = λ a. every_step read (λ rows. Ok (distinct rows)) _ _ (below.alike a);
       }
   narrows (Limit limit input) read choice fit =
-      let more = and_also read (key_columns limit.keys) in
+      let none = is_empty input in
+      let own = read_limit none limit in
+      let kept = kept_reads (takes_none limit.count) read in
+      let more = and_also kept (key_columns limit.keys) in
       let below = narrows input more choice (and_parts _ _ fit).0 in
       let other = narrowed input more in
       let count : ordering_count other ≡ ordering_count input = count_stays input more in
       let here = ordering_at choice (ordering_count input) in
       let Lawful = λ (keys : List SortColumn) (rows : List Row) (ordering : List ℕ). IsOrdering (record { partition = []; order = keys }) rows ordering in
       let Served = λ (keys : List SortColumn) (n : ℕ). AtRows (outcome other instance choice) (λ rows. Lawful keys rows (ordering_at choice n)) (ordering_at choice n ≡ []) in
-      let keys : (plain_limit limit).keys ≡ limit.keys = plain_keys limit in
+      let keys : own.keys ≡ limit.keys = read_keys none limit in
       let lawful_too : (rows others : List Row) → AreSameOn more rows others → Lawful limit.keys rows here → Lawful limit.keys others here =
-      λ rows others e o. ordering_alike more (limit_class limit) tt (limit_reads read limit) rows others e here o in
+      λ rows others e o. ordering_alike more (limit_class limit) tt (limit_reads kept limit) rows others e here o in
       record {
         lawful = λ a. (below.lawful a.0, subst (λ k. Served k (ordering_count other)) (sym keys) (subst (Served limit.keys) (sym count) (at_alike (λ rows. Lawful limit.keys rows here) (λ rows. Lawful limit.keys rows here) (here ≡ []) more lawful_too (outcome input instance choice) (outcome other instance choice) (below.alike a.0) a.1)));
         back = λ a. (below.back a.0, at_alike (λ rows. Lawful limit.keys rows here) (λ rows. Lawful limit.keys rows here) (here ≡ []) more lawful_too (outcome other instance choice) (outcome input instance choice) (sym (below.alike (below.back a.0))) (subst (Served limit.keys) count (subst (λ k. Served k (ordering_count other)) keys a.1)));
         alike = λ a.
-            over_step input other more choice below read (λ rows. Ok (cut limit (rows_at rows here))) (λ rows. Ok (cut (plain_limit limit) (rows_at rows here))) (limit_alike read limit here) a.0
-            ∙ ap (λ n. over (map (mask read)) (and_then (outcome other instance choice) (λ rows. Ok (cut (plain_limit limit) (rows_at rows (ordering_at choice n)))))) (sym count);
+            step_alike (λ rows. none ≡ true → AreNoneIn here rows) more read (λ rows. Ok (cut limit (rows_at rows here))) (λ rows. Ok (cut own (rows_at rows here))) (λ rows others known e. limit_kept none (takes_none limit.count) read limit refl here rows others known e) (outcome input instance choice) (outcome other instance choice)
+            (none_in (limit_class limit) here none (outcome input instance choice) (no_rows tables instance meets input choice (and_parts _ _ fit).0 a.0) a.1) (below.alike a.0)
+            ∙ ap (λ n. over (map (mask read)) (and_then (outcome other instance choice) (λ rows. Ok (cut own (rows_at rows (ordering_at choice n)))))) (sym count);
       }
 
 pub simpler_is_alike : SimplerIsAlike

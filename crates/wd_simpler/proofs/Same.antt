@@ -1,12 +1,16 @@
 -- A narrowed plan goes by what is read of the plan's own columns.
-use Rattle.std.proofs.Common.{◌≡◌, ℕ, suc, ◌+◌, ◌<◌, ◌||◌, List, [], ◌∷◌, ◌++◌, flat_map, length, refl, ◌∙◌, ap, arith}
+use Rattle.std.proofs.Common.{◌≡◌, ℕ, suc, ◌+◌, ◌<◌, ◌||◌, Bool, true, false, cond, List, [], ◌∷◌, ◌++◌, flat_map, map, length, refl, ◌∙◌, ap, arith}
 use Rattle.wd_value.specs.Keys.{key_columns}
 use Rattle.wd_plan.specs.Expressions.{Expression}
 use Rattle.wd_plan.specs.Fits.{width}
-use Rattle.wd_plan.specs.Plans.{GroupCall, GroupRule, PlanTree, Scan, Join, Filter, Map, Group, Window, WindowRule, Distinct, Limit, has}
+use Rattle.wd_plan.specs.Plans.{GroupCall, GroupRule, LimitRule, PlanTree, Scan, Join, Filter, Map, Group, Window, WindowRule, Distinct, Limit, has}
 use Rattle.wd_plan.specs.declared.window.Call.{Call}
 use Rattle.wd_step_facts.specs.Steps.{used}
-use Rattle.wd_simpler.specs.Simpler.{Read, after, and_also, condition_reads, group_reads, narrowed, next, plain_limit, read_call, read_calls, read_group_call, read_group_calls, read_output, read_outputs, read_window, window_reads}
+use Rattle.wd_simpler.specs.Simpler.{Read, after, and_also, condition_reads, count_of, group_reads, is_empty, is_unmet, kept_reads, least_of, narrowed, next, read_condition, read_limit, takes_none, read_call, read_calls, read_group_call, read_group_calls, read_output, read_outputs, read_window, window_reads}
+
+kept_same : (none : Bool) (read other : Read) (c : ℕ) → read c ≡ other c → kept_reads none read c ≡ kept_reads none other c
+kept_same true read other c h = refl
+kept_same false read other c h = h
 
 module _ (read other : Read) where
   and_same : (n : ℕ) (columns : List ℕ) → ((c : ℕ) → c < n → read c ≡ other c) → (c : ℕ) → c < n → and_also read columns c ≡ and_also other columns c
@@ -32,18 +36,25 @@ narrow_same (Join condition left right) read other h =
     λ i. Join condition
     (narrow_same left (and_also read columns) (and_also other columns) (λ c k. both c (omega arith)) i)
     (narrow_same right (after (width left) (and_also read columns)) (after (width left) (and_also other columns)) (λ c k. both (width left + c) (omega arith)) i)
-narrow_same (Filter condition input) read other h = ap (Filter condition) (narrow_same input (and_also read (used condition)) (and_also other (used condition)) (and_same read other (width input) (used condition) h))
+narrow_same (Filter condition input) read other h =
+    let unmet = is_unmet (least_of input) condition in
+    let own = read_condition unmet condition in
+    let kept = λ (c : ℕ) (k : c < width input). kept_same unmet read other c (h c k) in
+    ap (Filter own) (narrow_same input (and_also (kept_reads unmet read) (used own)) (and_also (kept_reads unmet other) (used own)) (and_same (kept_reads unmet read) (kept_reads unmet other) (width input) (used own) kept))
 narrow_same (Map outputs input) read other h = ap (λ own. Map own (narrowed input (has (flat_map used own)))) (outputs_same read other outputs h)
 narrow_same (Group rule input) read other h =
     let calls = group_calls_same (after rule.columns read) (after rule.columns other) rule.calls (λ c k. h (rule.columns + c) (omega arith)) in
     λ i. let own : GroupRule = record { columns = rule.columns; sets = rule.sets; calls = calls i } in Group own (narrowed input (has (group_reads own)))
 narrow_same (Window w input) read other h =
-    let own = read_window (after (width input) other) w in
+    let own = read_window (is_empty input) (after (width input) other) w in
     let calls = calls_same (after (width input) read) (after (width input) other) w.calls (λ c k. h (width input + c) (omega arith)) in
-    (λ i. let own : WindowRule = record { classes = w.classes; calls = calls i } in Window own (narrowed input (and_also read (window_reads own))))
+    (λ i. let own : WindowRule = record { classes = w.classes; calls = cond (is_empty input) (map count_of w.calls) (calls i) } in Window own (narrowed input (and_also read (window_reads own))))
     ∙ ap (Window own) (narrow_same input (and_also read (window_reads own)) (and_also other (window_reads own)) (and_same read other (width input) (window_reads own) (λ c k. h c (omega arith))))
 narrow_same (Distinct input) read other h = refl
-narrow_same (Limit limit input) read other h = ap (Limit (plain_limit limit)) (narrow_same input (and_also read (key_columns limit.keys)) (and_also other (key_columns limit.keys)) (and_same read other (width input) (key_columns limit.keys) h))
+narrow_same (Limit limit input) read other h =
+    let none = takes_none limit.count in
+    let kept = λ (c : ℕ) (k : c < width input). kept_same none read other c (h c k) in
+    ap (Limit (read_limit (is_empty input) limit)) (narrow_same input (and_also (kept_reads none read) (key_columns limit.keys)) (and_also (kept_reads none other) (key_columns limit.keys)) (and_same (kept_reads none read) (kept_reads none other) (width input) (key_columns limit.keys) kept))
 
 -- ---- one output, and one call more
 
@@ -62,3 +73,25 @@ group_calls_push read (first ∷ calls) call = ap (λ l. read_group_call (read 0
 -- by what is read alike of every column
 pub narrow_alike : (plan : PlanTree) (read other : Read) → ((c : ℕ) → read c ≡ other c) → narrowed plan read ≡ narrowed plan other
 narrow_alike plan read other h = λ i. narrowed plan (λ c. h c i)
+
+-- ---- the parts of a narrowed step
+
+pub filter_made : (input below : PlanTree) (condition own : Expression) (unmet : Bool) (read more : Read) → unmet ≡ is_unmet (least_of input) condition → own ≡ read_condition unmet condition
+    → ((c : ℕ) → more c ≡ and_also (kept_reads unmet read) (used own) c) → below ≡ narrowed input more → Filter own below ≡ narrowed (Filter condition input) read
+filter_made input below condition own unmet read more e f g h =
+    ap (Filter own) (h ∙ narrow_alike input more (and_also (kept_reads unmet read) (used own)) g)
+    ∙ ap (λ o. Filter o (narrowed input (and_also (kept_reads unmet read) (used o)))) f
+    ∙ ap (λ u. Filter (read_condition u condition) (narrowed input (and_also (kept_reads u read) (used (read_condition u condition))))) e
+
+pub window_made : (input below : PlanTree) (w own : WindowRule) (none : Bool) (columns : ℕ) (read more : Read) → none ≡ is_empty input → columns ≡ width input → own ≡ read_window none (after columns read) w
+    → ((c : ℕ) → more c ≡ and_also read (window_reads own) c) → below ≡ narrowed input more → Window own below ≡ narrowed (Window w input) read
+window_made input below w own none columns read more e f is g h =
+    ap (Window own) (h ∙ narrow_alike input more (and_also read (window_reads own)) g)
+    ∙ ap (λ o. Window o (narrowed input (and_also read (window_reads o)))) (is ∙ (λ i. read_window (e i) (after (f i) read) w))
+
+pub limit_made : (input below : PlanTree) (limit own : LimitRule) (none takes : Bool) (read more : Read) → none ≡ is_empty input → takes ≡ takes_none limit.count → own ≡ read_limit none limit
+    → ((c : ℕ) → more c ≡ and_also (kept_reads takes read) (key_columns limit.keys) c) → below ≡ narrowed input more → Limit own below ≡ narrowed (Limit limit input) read
+limit_made input below limit own none takes read more e f is g h =
+    ap (Limit own) (h ∙ narrow_alike input more (and_also (kept_reads takes read) (key_columns limit.keys)) g)
+    ∙ (λ i. Limit (is i) (narrowed input (and_also (kept_reads (f i) read) (key_columns limit.keys))))
+    ∙ ap (λ n. Limit (read_limit n limit) (narrowed input (and_also (kept_reads (takes_none limit.count) read) (key_columns limit.keys)))) e

@@ -20,7 +20,7 @@ use Rattle.wd_simpler.proofs.Alike.{AreAlikeOn, AreSameOn, all_weaken, also_read
 use Rattle.wd_simpler.proofs.Masks.{mask, mask_append, mask_long, mask_more, mask_read}
 use Rattle.wd_simpler.proofs.Results.{all_before, before, over, over_all, over_before}
 use Rattle.wd_simpler.proofs.Values.{AreRead, filter_map, keys_read, map_of_map, rows_read}
-use Rattle.wd_simpler.specs.Simpler.{Read, after, and_also, condition_reads, next, plain_limit, read_output, read_outputs}
+use Rattle.wd_simpler.specs.Simpler.{Read, after, and_also, condition_reads, next, plain_limit, read_limit, read_output, read_outputs}
 
 -- ---- expressions
 
@@ -197,6 +197,10 @@ plain_keys limit = by limit.count refl
     by None e = rw e refl
     by (Some zero) e = rw e refl
     by (Some (suc n)) e = rw e refl
+
+pub read_keys : (none : Bool) (limit : LimitRule) → (read_limit none limit).keys ≡ limit.keys
+read_keys true limit = refl
+read_keys false limit = plain_keys limit
 
 cut_alike : (read : Read) (limit : LimitRule) (ordering : List ℕ) (rows others : List Row) → AreSameOn (and_also read (key_columns limit.keys)) rows others → AreAlikeOn read (Ok (cut limit (rows_at rows ordering))) (Ok (cut limit (rows_at others ordering)))
 cut_alike read limit ordering =

@@ -117,7 +117,7 @@ over_rows : (read : Read) (f : ℕ → Result Row Fault) (ps : List ℕ) → ove
 over_rows read f ps = over_all (mask read) (map f ps) ∙ ap all_ok (map_of_map f (over (mask read)) (λ p. over (mask read) (f p)) (λ p. refl) ps)
 
 module _ (read : Read) (n : ℕ) (w : WindowRule) (orderings : List (List ℕ)) where
-  row_swapped : (rows : List Row) (r : ℕ) → length (row_at rows r) ≡ n → over (mask read) (extended w rows orderings r) ≡ over (mask read) (extended (read_window (after n read) w) rows orderings r)
+  row_swapped : (rows : List Row) (r : ℕ) → length (row_at rows r) ≡ n → over (mask read) (extended w rows orderings r) ≡ over (mask read) (extended (read_window false (after n read) w) rows orderings r)
   row_swapped rows r long =
       let row = row_at rows r in
       let calls : over (mask (after (length row) read)) (all_ok (map (call_at w rows orderings r) w.calls)) ≡ over (mask (after (length row) read)) (all_ok (map (call_at w rows orderings r) (read_calls (after n read) w.calls))) =
@@ -126,11 +126,11 @@ module _ (read : Read) (n : ℕ) (w : WindowRule) (orderings : List (List ℕ)) 
       ∙ ap (over (λ values. mask read row ++ values)) calls
       ∙ sym (after_row read row (all_ok (map (call_at w rows orderings r) (read_calls (after n read) w.calls))))
 
-  window_swapped : (rows : List Row) → HasWidth n rows → AreAlikeOn read (window_outcome w rows orderings) (window_outcome (read_window (after n read) w) rows orderings)
+  window_swapped : (rows : List Row) → HasWidth n rows → AreAlikeOn read (window_outcome w rows orderings) (window_outcome (read_window false (after n read) w) rows orderings)
   window_swapped rows wide =
       over_rows read (extended w rows orderings) (positions (length rows))
-      ∙ ap all_ok (map_same (λ p. p < length rows) (λ p. over (mask read) (extended w rows orderings p)) (λ p. over (mask read) (extended (read_window (after n read) w) rows orderings p)) (λ p h. row_swapped rows p (wide_at n rows p wide h)) (positions (length rows)) (below_all 0 (length rows) (length rows) (omega arith)))
-      ∙ sym (over_rows read (extended (read_window (after n read) w) rows orderings) (positions (length rows)))
+      ∙ ap all_ok (map_same (λ p. p < length rows) (λ p. over (mask read) (extended w rows orderings p)) (λ p. over (mask read) (extended (read_window false (after n read) w) rows orderings p)) (λ p h. row_swapped rows p (wide_at n rows p wide h)) (positions (length rows)) (below_all 0 (length rows) (length rows) (omega arith)))
+      ∙ sym (over_rows read (extended (read_window false (after n read) w) rows orderings) (positions (length rows)))
 
 -- ---- what a Window reads
 
@@ -184,9 +184,9 @@ module _ (read : Read) (w : WindowRule) where
         ∙ (λ i. all_ok (map (λ p. row_same rows p i) (positions (length-map rows m i))))
         ∙ sym (over_rows read (extended w rows orderings) (positions (length rows)))
 
-pub window_alike : (read : Read) (n : ℕ) (w : WindowRule) (orderings : List (List ℕ)) (rows others : List Row) → HasWidth n rows → AreSameOn (and_also read (window_reads (read_window (after n read) w))) rows others → AreAlikeOn read (window_outcome w rows orderings) (window_outcome (read_window (after n read) w) others orderings)
+pub window_alike : (read : Read) (n : ℕ) (w : WindowRule) (orderings : List (List ℕ)) (rows others : List Row) → HasWidth n rows → AreSameOn (and_also read (window_reads (read_window false (after n read) w))) rows others → AreAlikeOn read (window_outcome w rows orderings) (window_outcome (read_window false (after n read) w) others orderings)
 window_alike read n w orderings rows others wide e =
-    let own = read_window (after n read) w in
+    let own = read_window false (after n read) w in
     window_swapped read n w orderings rows wide
     ∙ sym (window_read read own orderings rows)
     ∙ ap (λ x. over (map (mask read)) (window_outcome own x orderings)) e
@@ -200,8 +200,8 @@ orderings_alike read w orderings rows others e o = record {
 }
 
 -- the classes stay, whatever calls are read
-pub orderings_read : (read : Read) (w : WindowRule) (rows : List Row) (orderings : List (List ℕ)) → AreOrderings w rows orderings → AreOrderings (read_window read w) rows orderings
-orderings_read read w rows orderings o = record { number = o.number; each = o.each }
+pub orderings_read : (none : Bool) (read : Read) (w : WindowRule) (rows : List Row) (orderings : List (List ℕ)) → AreOrderings w rows orderings → AreOrderings (read_window none read w) rows orderings
+orderings_read none read w rows orderings o = record { number = o.number; each = o.each }
 
-pub orderings_back : (read : Read) (w : WindowRule) (rows : List Row) (orderings : List (List ℕ)) → AreOrderings (read_window read w) rows orderings → AreOrderings w rows orderings
-orderings_back read w rows orderings o = record { number = o.number; each = o.each }
+pub orderings_back : (none : Bool) (read : Read) (w : WindowRule) (rows : List Row) (orderings : List (List ℕ)) → AreOrderings (read_window none read w) rows orderings → AreOrderings w rows orderings
+orderings_back none read w rows orderings o = record { number = o.number; each = o.each }

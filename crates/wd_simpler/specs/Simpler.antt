@@ -1,11 +1,15 @@
 -- A plan without what nothing reads: outputs of its Maps are NULL, and calls of its Windows and Groups COUNT(*), where no step
--- above reads them and they can't fault. And a Limit that keeps no row keeps none with ties either. Its nodes, their columns and
--- their orderings stay.
-use Rattle.std.specs.Prelude.{ℕ, zero, suc, ◌+◌, Bool, true, false, not, ◌||◌, List, [], ◌∷◌, ◌++◌, flat_map, if◌then◌else◌, Option, None, Some, option_to_list}
-use Rattle.wd_value.specs.declared.value.Value.TheVariants.{Null}
+-- above reads them and they can't fault. A condition that no row meets is FALSE; what stands below it is not read, and of an input
+-- without rows any call is COUNT(*), and a Limit takes all. Its nodes, their columns and their orderings stay.
+use Rattle.std.specs.Prelude.{ℕ, zero, suc, ◌+◌, ◌-◌, ℤ, pos, int_le, nat_lt, length, map, slice_get, option_and_then, ◌&&◌, Bool, true, false, not, ◌||◌, List, [], ◌∷◌, ◌++◌, flat_map, if◌then◌else◌, Option, None, Some, option_to_list}
+use Rattle.wd_value.specs.declared.value.Value.{Value}
+use Rattle.wd_value.specs.declared.value.Value.TheVariants.{Null, Int, Text, Bool as TruthValue}
+use Rattle.std.specs.Ordering.{int_cmp}
 use Rattle.wd_value.specs.Bags.{positions}
 use Rattle.wd_value.specs.Keys.{key_columns}
-use Rattle.wd_plan.specs.declared.expression.ValueKind.TheVariants.{Number}
+use Rattle.wd_plan.specs.declared.expression.ComparisonOp.{ComparisonOp}
+use Rattle.wd_plan.specs.declared.expression.ComparisonOp.TheVariants.{Equal, NotEqual, Less, LessOrEqual, Greater, GreaterOrEqual}
+use Rattle.wd_plan.specs.declared.expression.ValueKind.TheVariants.{Number, Truth}
 use Rattle.wd_plan.specs.declared.function.Aggregate.{Aggregate as AggregateFunction}
 use Rattle.wd_plan.specs.declared.function.Aggregate.TheVariants.{CountRows, Count, Sum, Min, Max}
 use Rattle.wd_plan.specs.declared.function.FrameFunction.{FrameFunction}
@@ -17,12 +21,13 @@ use Rattle.wd_plan.specs.declared.window.Call.{Call}
 use Rattle.wd_plan.specs.declared.window.Exclusion.TheVariants.{NoOthers}
 use Rattle.wd_plan.specs.declared.window.Frame.{Frame}
 use Rattle.wd_plan.specs.declared.window.FrameMode.TheVariants.{Range}
-use Rattle.wd_plan.specs.Expressions.{Expression, Column, Literal, Negate, Arithmetic, Compare, Not, And, Or, IsNull, IsNotNull, Case}
+use Rattle.wd_plan.specs.Expressions.{Expression, Column, Literal, Negate, Arithmetic, Compare, Not, And, Or, IsNull, IsNotNull, Case, holds, is_true}
 use Rattle.wd_plan.specs.Fits.{width}
 use Rattle.wd_plan.specs.Functions.{argument_of, argument_of_aggregate}
 use Rattle.wd_plan.specs.Plans.{GroupCall, OfRows, Grouping, GroupRule, WindowRule, LimitRule, PlanTree, Scan, Join, Filter, Map, Group, Window, Distinct, Limit, has}
 use Rattle.wd_plan.specs.Sorting.{class_columns}
-use Rattle.wd_step_facts.specs.Steps.{used}
+use Rattle.wd_scalar.specs.Arithmetic.{has_arithmetic}
+use Rattle.wd_step_facts.specs.Steps.{Side, Plain, Fixed, Other, side_of, used}
 
 -- which columns of a node the steps above it read, by their numbers
 abbrev pub Read : Type 0
@@ -42,6 +47,14 @@ next read c = read (suc c)
 -- those of the columns after the first so many
 abbrev pub after : ℕ → Read → Read
 after n read c = read (n + c)
+
+-- no column
+abbrev pub nothing : Read
+nothing c = false
+
+-- what is read of rows of which a step keeps some, or none
+abbrev pub kept_reads : Bool → Read → Read
+kept_reads is_none read = if is_none then nothing else read
 
 -- ---- outputs of a Map
 
@@ -102,9 +115,9 @@ abbrev pub read_calls : Read → List Call → List Call
 read_calls read [] = []
 read_calls read (call ∷ calls) = read_call (read 0) call ∷ read_calls (next read) calls
 
--- a Window with such calls, of which these columns are read
-abbrev pub read_window : Read → WindowRule → WindowRule
-read_window read w = record { classes = w.classes; calls = read_calls read w.calls }
+-- a Window with such calls, of which these columns are read; over an input without rows all its calls are COUNT(*)
+abbrev pub read_window : Bool → Read → WindowRule → WindowRule
+read_window has_none read w = record { classes = w.classes; calls = if has_none then map count_of w.calls else read_calls read w.calls }
 
 -- the columns that a Window reads: those of its classes, and its calls' arguments
 abbrev pub window_reads : WindowRule → List ℕ
@@ -139,16 +152,152 @@ group_reads rule = positions rule.columns ++ flat_map (λ call. option_to_list (
 
 -- ---- Limits
 
--- a Limit; one of no rows goes by no offset, and takes all that tie
+-- whether a limit takes no row
+abbrev pub takes_none : Option ℕ → Bool
+takes_none None = false
+takes_none (Some zero) = true
+takes_none (Some (suc n)) = false
+
+-- a Limit; one of no rows goes by no offset, and where it has sort keys takes all that tie
 abbrev pub plain_limit : LimitRule → LimitRule
 plain_limit limit = by_count limit.count
   where
     by_count : Option ℕ → LimitRule
     by_count None = limit
-    by_count (Some zero) = record { keys = limit.keys; offset = 0; count = Some 0; ties = true }
+    by_count (Some zero) = record { keys = limit.keys; offset = 0; count = Some 0; ties = nat_lt 0 (length limit.keys) }
     by_count (Some (suc n)) = limit
 
+-- a Limit that takes all rows
+abbrev pub whole_limit : LimitRule → LimitRule
+whole_limit limit = record { keys = limit.keys; offset = 0; count = None; ties = false }
+
+-- over an input without rows a Limit takes all
+abbrev pub read_limit : Bool → LimitRule → LimitRule
+read_limit has_none limit = if has_none then whole_limit limit else plain_limit limit
+
+-- ---- the least numbers of columns
+
+-- the column that an output shows
+abbrev pub column_shown : Expression → Option ℕ
+column_shown (Column c) = Some c
+column_shown (Literal v kind) = None
+column_shown (Negate a) = None
+column_shown (Arithmetic o a b) = None
+column_shown (Compare o a b) = None
+column_shown (Not a) = None
+column_shown (And a b) = None
+column_shown (Or a b) = None
+column_shown (IsNull a) = None
+column_shown (IsNotNull a) = None
+column_shown (Case k a b c) = None
+
+-- the least number that a function gives, where it counts: ranks and buckets from 1, COUNT from 0
+abbrev pub least_of_function : Function → Option ℤ
+least_of_function (Ranked r) = Some (pos 1)
+least_of_function (Shifted s) = None
+least_of_function (OfFrame f) = of_frame f
+  where
+    of_frame : FrameFunction → Option ℤ
+    of_frame (ValueAt row c) = None
+    of_frame (Aggregate CountRows) = Some (pos 0)
+    of_frame (Aggregate (Count c)) = Some (pos 0)
+    of_frame (Aggregate (Sum c)) = None
+    of_frame (Aggregate (Min c)) = None
+    of_frame (Aggregate (Max c)) = None
+
+-- of a plan's column, where it shows such a call; its values are whole numbers from that one on
+abbrev pub least_of : PlanTree → ℕ → Option ℤ
+least_of (Scan table columns) c = None
+least_of (Join condition left right) c = None
+least_of (Filter condition input) c = least_of input c
+least_of (Map outputs input) c = option_and_then (least_of input) (option_and_then column_shown (slice_get outputs c))
+least_of (Group rule input) c = None
+least_of (Window w input) c = if nat_lt c (width input) then least_of input c else option_and_then (λ (call : Call). least_of_function call.function) (slice_get w.calls (c - width input))
+least_of (Distinct input) c = least_of input c
+least_of (Limit limit input) c = None
+
+-- ---- conditions that no row meets
+
+-- no number from the least one on compares so with this one
+abbrev pub never : ComparisonOp → ℤ → ℤ → Bool
+never Equal low n = not (int_le low n)
+never NotEqual low n = false
+never Less low n = int_le n low
+never LessOrEqual low n = not (int_le low n)
+never Greater low n = false
+never GreaterOrEqual low n = false
+
+-- a comparison with its sides in each other's place
+abbrev pub turned : ComparisonOp → ComparisonOp
+turned Equal = Equal
+turned NotEqual = NotEqual
+turned Less = Greater
+turned LessOrEqual = GreaterOrEqual
+turned Greater = Less
+turned GreaterOrEqual = LessOrEqual
+
+-- no value of a column with this least number compares so with a literal
+abbrev pub never_at : ComparisonOp → Option ℤ → Value → Bool
+never_at op None v = false
+never_at op (Some low) (Int n) = never op low n
+never_at op (Some low) Null = false
+never_at op (Some low) (Text t) = false
+never_at op (Some low) (TruthValue b) = false
+
+-- two numbers don't compare so
+abbrev pub never_fixed : ComparisonOp → Value → Value → Bool
+never_fixed op (Int m) (Int n) = not (holds op (int_cmp m n))
+never_fixed op (Int m) Null = false
+never_fixed op (Int m) (Text t) = false
+never_fixed op (Int m) (TruthValue b) = false
+never_fixed op Null w = false
+never_fixed op (Text t) w = false
+never_fixed op (TruthValue b) w = false
+
+-- a comparison of a column with a literal, or of two literals, that is never true
+abbrev pub never_compares : (ℕ → Option ℤ) → ComparisonOp → Side → Side → Bool
+never_compares least op (Plain c) (Fixed v) = never_at op (least c) v
+never_compares least op (Plain c) (Plain d) = false
+never_compares least op (Plain c) Other = false
+never_compares least op (Fixed v) (Plain c) = never_at (turned op) (least c) v
+never_compares least op (Fixed v) (Fixed w) = never_fixed op v w
+never_compares least op (Fixed v) Other = false
+never_compares least op Other b = false
+
+-- a condition that is true of no row: a literal, such a comparison, an AND of one, and an OR of two
+abbrev pub is_never : (ℕ → Option ℤ) → Expression → Bool
+is_never least (Column c) = false
+is_never least (Literal v kind) = not (is_true v)
+is_never least (Negate a) = false
+is_never least (Arithmetic o a b) = false
+is_never least (Compare op a b) = never_compares least op (side_of a) (side_of b)
+is_never least (Not a) = false
+is_never least (And a b) = is_never least b || is_never least a
+is_never least (Or a b) = is_never least b && is_never least a
+is_never least (IsNull a) = false
+is_never least (IsNotNull a) = false
+is_never least (Case k a b c) = false
+
+-- no row meets a condition, and none has a fault there
+abbrev pub is_unmet : (ℕ → Option ℤ) → Expression → Bool
+is_unmet least condition = not (has_arithmetic condition) && is_never least condition
+
+-- a condition, and FALSE in its place where no row meets it
+abbrev pub read_condition : Bool → Expression → Expression
+read_condition unmet condition = if unmet then Literal (TruthValue false) Truth else condition
+
 -- ---- plans
+
+-- a plan without rows: a condition that no row meets, a Limit of none, and the steps above them, up to a Group
+abbrev pub is_empty : PlanTree → Bool
+is_empty (Scan table columns) = false
+is_empty (Join condition left right) = is_empty right || is_empty left
+is_empty (Filter condition input) = is_unmet (least_of input) condition || is_empty input
+is_empty (Map outputs input) = is_empty input
+is_empty (Group rule input) = false
+is_empty (Window w input) = is_empty input
+is_empty (Distinct input) = is_empty input
+is_empty (Limit limit input) = takes_none limit.count || is_empty input
 
 -- the columns that a condition reads
 abbrev pub condition_reads : Option Expression → List ℕ
@@ -159,12 +308,15 @@ condition_reads (Some condition) = used condition
 abbrev pub narrowed : PlanTree → Read → PlanTree
 narrowed (Scan table columns) read = Scan table columns
 narrowed (Join condition left right) read = let more = and_also read (condition_reads condition) in Join condition (narrowed left more) (narrowed right (after (width left) more))
-narrowed (Filter condition input) read = Filter condition (narrowed input (and_also read (used condition)))
+narrowed (Filter condition input) read =
+    let unmet = is_unmet (least_of input) condition in
+    let own = read_condition unmet condition in
+    Filter own (narrowed input (and_also (kept_reads unmet read) (used own)))
 narrowed (Map outputs input) read = let own = read_outputs read outputs in Map own (narrowed input (has (flat_map used own)))
 narrowed (Group rule input) read = let own = read_group (after rule.columns read) rule in Group own (narrowed input (has (group_reads own)))
-narrowed (Window w input) read = let own = read_window (after (width input) read) w in Window own (narrowed input (and_also read (window_reads own)))
+narrowed (Window w input) read = let own = read_window (is_empty input) (after (width input) read) w in Window own (narrowed input (and_also read (window_reads own)))
 narrowed (Distinct input) read = Distinct (narrowed input every)
-narrowed (Limit limit input) read = Limit (plain_limit limit) (narrowed input (and_also read (key_columns limit.keys)))
+narrowed (Limit limit input) read = Limit (read_limit (is_empty input) limit) (narrowed input (and_also (kept_reads (takes_none limit.count) read) (key_columns limit.keys)))
 
 -- the plan without what nothing reads
 abbrev pub simpler : PlanTree → PlanTree

@@ -9,5 +9,6 @@
 mod columns;
 pub mod laws;
 mod plan;
+mod unmet;
 
 pub use plan::simpler;

@@ -13,6 +13,7 @@ ghost use Rattle.wd_value.specs.Keys.{key_columns};
 use crate::columns::{
     add_all_used, add_arguments, add_classes, add_first, add_group_arguments, add_keys, add_used,
 };
+use crate::unmet::{is_empty, is_unmet, read_condition, takes_none};
 use std::alloc::Global;
 use wd_facts::Member;
 use wd_plan::{
@@ -23,8 +24,8 @@ use wd_schema::Schema;
 use wd_sets::Set;
 use wd_value::{OutOfMemory, Value};
 
-/// The plan with NULL for outputs, and COUNT(*) for window calls, that no step above reads and that can't fault; of a Limit of no rows
-/// with ties.
+/// The plan with NULL for outputs, and COUNT(*) for calls, that no step above reads and that can't fault; with FALSE for conditions that
+/// no row meets, and with Limits that go by no order where there are no rows.
 ///
 /// For both plans the same choices are valid, and under each of them they have the same outcome ([`crate::laws::simpler_is_alike`]).
 /// The plan has to fit the schema, which is not read otherwise.
@@ -63,7 +64,9 @@ fn narrowed(
             })
         }
         Plan::Filter { input, condition } => {
-            let more = with_used(read, &condition)?;
+            let unmet = is_unmet(&input, &condition);
+            let condition = read_condition(unmet, condition);
+            let more = with_used(kept_reads(alloc, unmet, read), &condition)?;
             let input = narrowed(alloc, schema, Box::into_inner(input), more)?;
             Ok(Plan::Filter {
                 input: Box::new(alloc, input)?,
@@ -89,7 +92,8 @@ fn narrowed(
             })
         }
         Plan::Window { input, window } => {
-            let window = read_window(alloc, &read, input.width(), window)?;
+            let none = is_empty(&input);
+            let window = read_window(alloc, none, &read, input.width(), window)?;
             let more = with_window(read, &window)?;
             let input = narrowed(alloc, schema, Box::into_inner(input), more)?;
             Ok(Plan::Window {
@@ -104,11 +108,12 @@ fn narrowed(
             })
         }
         Plan::Limit { input, limit } => {
-            let more = with_keys(read, &limit)?;
+            let none = is_empty(&input);
+            let more = with_keys(kept_reads(alloc, takes_none(&limit), read), &limit)?;
             let input = narrowed(alloc, schema, Box::into_inner(input), more)?;
             Ok(Plan::Limit {
                 input: Box::new(alloc, input)?,
-                limit: plain_limit(limit),
+                limit: read_limit(none, limit),
             })
         }
     }
@@ -123,6 +128,17 @@ fn is_read(read: &Option<Set>, column: u16) -> bool
     match read {
         None => true,
         Some(set) => set.contains(Member::Column(column)),
+    }
+}
+
+/// What is read of rows of which a step keeps some, or none.
+fn kept_reads(alloc: Global, is_none: bool, read: Option<Set>) -> Option<Set>
+    ensures { (c : ℕ) → read_of result c ≡ spec.kept_reads is_none (read_of read) c }
+{
+    if is_none {
+        Some(Set::new(alloc))
+    } else {
+        read
     }
 }
 
@@ -322,19 +338,35 @@ fn is_total(aggregate: Aggregate) -> bool
     !matches!(aggregate, Aggregate::Sum(_))
 }
 
-/// The Window, with COUNT(*) for calls that are not read and can't fault, over an input of so many columns.
+/// The Window, with COUNT(*) for calls that are not read and can't fault, over an input of so many columns; for all calls, where that
+/// has no rows.
 fn read_window(
     alloc: Global,
+    has_none: bool,
     read: &Option<Set>,
     columns: u32,
     window: Window,
 ) -> Result<Window, OutOfMemory>
     requires { columns + length window.calls.items ≤ 1024 }
-    ensures { IfOk result (λ w. window_of w ≡ spec.read_window (spec.after columns (read_of read.now)) (window_of window)) }
+    ensures { IfOk result (λ w. window_of w ≡ spec.read_window has_none (spec.after columns (read_of read.now)) (window_of window)) }
 {
     let Window { classes, calls } = window;
-    let calls = read_calls(alloc, read, columns, calls)?;
+    let calls = if has_none {
+        counts_of(alloc, calls)?
+    } else {
+        read_calls(alloc, read, columns, calls)?
+    };
     Ok(Window { classes, calls })
+}
+
+fn counts_of(alloc: Global, calls: Vec<Call>) -> Result<Vec<Call>, OutOfMemory>
+    ensures { IfOk result (λ v. v.items ≡ map spec.count_of calls.items) }
+{
+    let mut counts = Vec::with_capacity(alloc, calls.len())?;
+    for call in calls {
+        counts.push(count_of(call))?;
+    }
+    Ok(counts)
 }
 
 fn read_calls(
@@ -361,16 +393,23 @@ fn read_call(is_read: bool, call: Call) -> Call
     if is_read || !never_faults(&call.function) {
         call
     } else {
-        Call {
-            class: call.class,
-            function: Function::OfFrame(FrameFunction::Aggregate(Aggregate::CountRows)),
-            frame: Frame {
-                mode: FrameMode::Range,
-                start: Bound::UnboundedPreceding,
-                end: Bound::UnboundedFollowing,
-                exclusion: Exclusion::NoOthers,
-            },
-        }
+        count_of(call)
+    }
+}
+
+/// COUNT(*) of the whole partition in the place of a call.
+fn count_of(call: Call) -> Call
+    ensures { result ≡ spec.count_of call }
+{
+    Call {
+        class: call.class,
+        function: Function::OfFrame(FrameFunction::Aggregate(Aggregate::CountRows)),
+        frame: Frame {
+            mode: FrameMode::Range,
+            start: Bound::UnboundedPreceding,
+            end: Bound::UnboundedFollowing,
+            exclusion: Exclusion::NoOthers,
+        },
     }
 }
 
@@ -384,17 +423,36 @@ fn never_faults(function: &Function) -> bool
     }
 }
 
-/// The Limit; one of no rows goes by no offset, and takes all that tie.
+/// The Limit; over an input without rows it takes all.
+fn read_limit(has_none: bool, limit: Limit) -> Limit
+    ensures { limit_of result ≡ spec.read_limit has_none (limit_of limit) }
+{
+    if has_none {
+        Limit {
+            keys: limit.keys,
+            offset: 0,
+            count: None,
+            ties: false,
+        }
+    } else {
+        plain_limit(limit)
+    }
+}
+
+/// The Limit; one of no rows goes by no offset, and where it has sort keys takes all that tie.
 fn plain_limit(limit: Limit) -> Limit
     ensures { limit_of result ≡ spec.plain_limit (limit_of limit) }
 {
     match limit.count {
-        Some(0) => Limit {
-            keys: limit.keys,
-            offset: 0,
-            count: Some(0),
-            ties: true,
-        },
+        Some(0) => {
+            let ties = !limit.keys.is_empty();
+            Limit {
+                keys: limit.keys,
+                offset: 0,
+                count: Some(0),
+                ties,
+            }
+        }
         _ => limit,
     }
 }

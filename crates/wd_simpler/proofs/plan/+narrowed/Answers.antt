@@ -1,28 +1,36 @@
-use Rattle.std.proofs.Common.{◌≡◌, ℕ, ◌+◌, ◌<◌, map, flat_map, option_map, true, ap, sym, subst, ◌∙◌, arith}
+use Rattle.std.proofs.Common.{◌≡◌, ℕ, ◌+◌, ◌<◌, ◌||◌, map, flat_map, option_map, true, ap, sym, subst, ◌∙◌, arith}
 use Rattle.std.proofs.lemmas.Bool.{and_parts}
 use Rattle.wd_plan.proofs.Ranges.{narrow}
 use Rattle.wd_plan.specs.Expressions.{expression_of}
 use Rattle.wd_plan.specs.Fits.{fits, width}
-use Rattle.wd_plan.specs.Plans.{Filter, Group, GroupRule, Join, Limit, Map, PlanTree, Window, WindowRule, grouping_of, has, limit_of, plan_of, window_of}
+use Rattle.wd_plan.specs.Plans.{Group, GroupRule, Join, LimitRule, Map, PlanTree, WindowRule, grouping_of, has, limit_of, plan_of, window_of}
 use Rattle.wd_schema.specs.Schemas.{schema_of}
-use Rattle.wd_simpler.proofs.Same.{narrow_alike, narrow_same}
+use Rattle.wd_simpler.proofs.Same.{filter_made, limit_made, narrow_alike, narrow_same, window_made}
 use Rattle.wd_simpler.specs.Sets.{read_of}
-use Rattle.wd_simpler.specs.Simpler.{after, and_also, condition_reads, group_reads, narrowed, read_window, window_reads}
+use Rattle.wd_simpler.specs.Simpler.{after, and_also, condition_reads, group_reads, is_empty, is_unmet, least_of, narrowed}
 use Rattle.wd_step_facts.specs.Steps.{used}
 use Rattle.wd_value.specs.Keys.{key_columns}
 use Rattle.wd_simpler.proofs.plan.+narrowed.Goals as goal
 
 pub returns-in_ok-new-in-Filter : goal.returns-in_ok-new-in-Filter
 returns-in_ok-new-in-Filter t c =
-    let e = narrow_alike (plan_of c.in-Filter.input.value) (read_of c.in_ok-more-in-Filter.more) (and_also (read_of c.args.read) (used (expression_of c.in-Filter.condition))) c.in_ok-more-in-Filter.ensures in
-    rw c.in-Filter.is (ap (Filter (expression_of c.in-Filter.condition)) (ap plan_of c.in_ok-new-in-Filter.ensures.ok ∙ c.in_ok-input-in-Filter.ensures ∙ ap (λ p. narrowed (plan_of p) (read_of c.in_ok-more-in-Filter.more)) c.into_inner-in-Filter.ensures ∙ e))
+    let input : PlanTree = plan_of c.in-Filter.input.value in
+    let condition = expression_of c.in-Filter.condition in
+    let unmet : c.is_unmet-unmet.result ≡ is_unmet (least_of input) condition = c.is_unmet-unmet.ensures ∙ ap (λ p. is_unmet (least_of (plan_of p)) condition) c.deref-in-Filter.ensures in
+    let below : plan_of c.in_ok-new-in-Filter.field-0.value ≡ narrowed input (read_of c.in_ok-more-in-Filter.more) =
+    ap plan_of c.in_ok-new-in-Filter.ensures.ok ∙ c.in_ok-input-in-Filter.ensures ∙ ap (λ p. narrowed (plan_of p) (read_of c.in_ok-more-in-Filter.more)) c.into_inner-in-Filter.ensures in
+    rw c.in-Filter.is (filter_made input (plan_of c.in_ok-new-in-Filter.field-0.value) condition (expression_of c.read_condition-condition.result) c.is_unmet-unmet.result (read_of c.args.read) (read_of c.in_ok-more-in-Filter.more) unmet c.read_condition-condition.ensures
+    (λ d. c.in_ok-more-in-Filter.ensures d ∙ ap (λ b. b || has (used (expression_of c.read_condition-condition.result)) d) (c.kept_reads.ensures d)) below)
 
 pub returns-in_ok-new-in-Limit : goal.returns-in_ok-new-in-Limit
 returns-in_ok-new-in-Limit t c =
-    let e = narrow_alike (plan_of c.in-Limit.input.value) (read_of c.in_ok-more-in-Limit.more) (and_also (read_of c.args.read) (key_columns (limit_of c.in-Limit.limit).keys)) c.in_ok-more-in-Limit.ensures in
-    let below : plan_of c.in_ok-new-in-Limit.field-0.value ≡ narrowed (plan_of c.in-Limit.input.value) (and_also (read_of c.args.read) (key_columns (limit_of c.in-Limit.limit).keys)) =
-    ap plan_of c.in_ok-new-in-Limit.ensures.ok ∙ c.in_ok-input-in-Limit.ensures ∙ ap (λ p. narrowed (plan_of p) (read_of c.in_ok-more-in-Limit.more)) c.into_inner-in-Limit.ensures ∙ e in
-    rw c.in-Limit.is (λ i. Limit (c.plain_limit.ensures i) (below i))
+    let input : PlanTree = plan_of c.in-Limit.input.value in
+    let limit : LimitRule = limit_of c.in-Limit.limit in
+    let none : c.is_empty-none-in-Limit.result ≡ is_empty input = c.is_empty-none-in-Limit.ensures ∙ ap (λ p. is_empty (plan_of p)) c.deref-in-Limit.ensures in
+    let below : plan_of c.in_ok-new-in-Limit.field-0.value ≡ narrowed input (read_of c.in_ok-more-in-Limit.more) =
+    ap plan_of c.in_ok-new-in-Limit.ensures.ok ∙ c.in_ok-input-in-Limit.ensures ∙ ap (λ p. narrowed (plan_of p) (read_of c.in_ok-more-in-Limit.more)) c.into_inner-in-Limit.ensures in
+    rw c.in-Limit.is (limit_made input (plan_of c.in_ok-new-in-Limit.field-0.value) limit (limit_of c.read_limit.result) c.is_empty-none-in-Limit.result c.takes_none.result (read_of c.args.read) (read_of c.in_ok-more-in-Limit.more) none c.takes_none.ensures c.read_limit.ensures
+    (λ d. c.in_ok-more-in-Limit.ensures d ∙ ap (λ b. b || has (key_columns limit.keys) d) (c.kept_reads-in-Limit.ensures d)) below)
 
 pub returns-in_ok-new-in-Map : goal.returns-in_ok-new-in-Map
 returns-in_ok-new-in-Map t c =
@@ -45,17 +53,15 @@ returns-in_ok-new-in-Group t c =
 pub returns-in_ok-new-in-Window : goal.returns-in_ok-new-in-Window
 returns-in_ok-new-in-Window t c =
     let input : PlanTree = plan_of c.in-Window.input.value in
-    let read = read_of c.args.read in
     let own : WindowRule = window_of c.in_ok-window-in-Window.window in
     let fit = subst (λ p. fits (schema_of c.args.schema.now) (plan_of p) ≡ true) c.in-Window.is c.requires in
     let small = narrow (schema_of c.args.schema.now) input (and_parts _ _ fit).0 in
-    let there : width (plan_of c.deref-in-Window.result.now) ≡ width input = ap (λ p. width (plan_of p)) c.deref-in-Window.ensures in
+    let there : width (plan_of c.deref-in-Window-2.result.now) ≡ width input = ap (λ p. width (plan_of p)) c.deref-in-Window-2.ensures in
     let columns : c.width-in-Window.result ≡ width input = omega (arith, c.width-in-Window.ensures, there, small) in
-    let e = narrow_alike input (read_of c.in_ok-more-in-Window.more) (and_also read (window_reads own)) c.in_ok-more-in-Window.ensures in
-    let below : plan_of c.in_ok-new-in-Window.field-0.value ≡ narrowed input (and_also read (window_reads own)) =
-    ap plan_of c.in_ok-new-in-Window.ensures.ok ∙ c.in_ok-input-in-Window.ensures ∙ ap (λ p. narrowed (plan_of p) (read_of c.in_ok-more-in-Window.more)) c.into_inner-in-Window.ensures ∙ e in
-    let is : own ≡ read_window (after (width input) read) (window_of c.in-Window.window) = c.in_ok-window-in-Window.ensures ∙ ap (λ n. read_window (after n read) (window_of c.in-Window.window)) columns in
-    rw c.in-Window.is (ap (Window own) below ∙ ap (λ w. Window w (narrowed input (and_also read (window_reads w)))) is)
+    let none : c.is_empty-none.result ≡ is_empty input = c.is_empty-none.ensures ∙ ap (λ p. is_empty (plan_of p)) c.deref-in-Window.ensures in
+    let below : plan_of c.in_ok-new-in-Window.field-0.value ≡ narrowed input (read_of c.in_ok-more-in-Window.more) =
+    ap plan_of c.in_ok-new-in-Window.ensures.ok ∙ c.in_ok-input-in-Window.ensures ∙ ap (λ p. narrowed (plan_of p) (read_of c.in_ok-more-in-Window.more)) c.into_inner-in-Window.ensures in
+    rw c.in-Window.is (window_made input (plan_of c.in_ok-new-in-Window.field-0.value) (window_of c.in-Window.window) own c.is_empty-none.result c.width-in-Window.result (read_of c.args.read) (read_of c.in_ok-more-in-Window.more) none columns c.in_ok-window-in-Window.ensures c.in_ok-more-in-Window.ensures below)
 
 pub returns-in_ok-new-in-Join-2 : goal.returns-in_ok-new-in-Join-2
 returns-in_ok-new-in-Join-2 t c =

@@ -1,0 +1,289 @@
+-- Conditions that no row meets.
+use Rattle.std.proofs.Common.{◌≡◌, ℕ, zero, suc, ◌+◌, ◌-◌, ◌<◌, ℤ, pos, Bool, true, false, cond, not, ◌&&◌, ◌||◌, ◌⊎◌, inl, inr, List, [], ◌∷◌, ◌++◌, map, filter, length, nat_lt, refl, sym, ◌∙◌, ap, subst, arith, is_eq, is_lt, is_gt, int_cmp, Option, Some, None, option_and_then, slice_get, Result, Ok, Err}
+use Rattle.std.specs.List.{AllByRecursion, list_any}
+use Rattle.std.specs.Prelude.{int_le}
+use Rattle.std.proofs.lemmas.Bool.{and_parts, false≢true, or_from, or_parts}
+use Rattle.std.proofs.lemmas.Int.{ints}
+use Rattle.std.proofs.lemmas.List.{get_or-append_right, get_or_append_left}
+use Rattle.std.proofs.lemmas.Option.{get_or_from_slice_get, slice_get_within}
+use Rattle.wd_schema.specs.Meets.{Meets}
+use Rattle.wd_schema.specs.Tables.{TableRule}
+use Rattle.wd_value.specs.Bags.{positions}
+use Rattle.wd_value.specs.declared.value.Fault.{Fault}
+use Rattle.wd_value.specs.declared.value.Fault.TheVariants.{DivisionByZero, OutOfRange}
+use Rattle.wd_value.specs.declared.value.Value.{Value}
+use Rattle.wd_value.specs.declared.value.Value.TheVariants.{Null, Int, Text, Bool as Truth}
+use Rattle.wd_value.specs.Rows.{Instance, Row, column_of, row_at}
+use Rattle.wd_laws.proofs.AllValues.{all_ok_each}
+use Rattle.wd_laws.proofs.Parts.{below_all}
+use Rattle.wd_laws.proofs.Widths.{all_distinct, all_filtered, has_widths}
+use Rattle.wd_plan.specs.Choices.{AreLawful, AtRows}
+use Rattle.wd_plan.specs.Expressions.{Expression, Column, Literal, Negate, Arithmetic, Compare, Not, And, Or, IsNull, IsNotNull, Case, and_result, and_value, comparison, holds, is_true, or_result, or_value, value_of}
+use Rattle.wd_plan.specs.Facts.{HasWidth}
+use Rattle.wd_plan.specs.Faults.{all_ok, and_then, has_fault, least_fault, unless, values_among}
+use Rattle.wd_plan.specs.Fits.{fits, width}
+use Rattle.wd_plan.specs.Outcomes.{RowsOrFault, filter_outcome, passes}
+use Rattle.wd_plan.specs.declared.expression.ComparisonOp.{ComparisonOp}
+use Rattle.wd_plan.specs.declared.expression.ComparisonOp.TheVariants.{Equal, NotEqual, Less, LessOrEqual, Greater, GreaterOrEqual}
+use Rattle.wd_step_facts.specs.Steps.{Side, Plain, Fixed, Other, side_of}
+use Rattle.wd_scalar.proofs.Faultless.{HasValue, never_faults}
+use Rattle.wd_scalar.specs.Arithmetic.{has_arithmetic}
+use Rattle.wd_simpler.specs.Simpler.{is_never, is_unmet, never, never_at, never_compares, never_fixed, turned}
+
+-- ---- values of columns with a least number
+
+-- a number from the least one on, or NULL
+abbrev pub is_from : Option ℤ → Value → Bool
+is_from None v = true
+is_from (Some low) Null = true
+is_from (Some low) (Int n) = int_le low n
+is_from (Some low) (Text t) = false
+is_from (Some low) (Truth b) = false
+
+-- each value of a row is, in its column
+abbrev pub IsFrom : (ℕ → Option ℤ) → Row → Type 0
+IsFrom least row = (c : ℕ) → is_from (least c) (column_of row c) ≡ true
+
+-- ---- comparisons
+
+untrue_not : (b : Bool) → not b ≡ true → b ≡ false
+untrue_not true h = absurd (false≢true h)
+untrue_not false h = refl
+
+equal_never : (low m n : ℤ) → int_le low m ≡ true → int_le low n ≡ false → is_eq (int_cmp m n) ≡ false
+equal_never low m n h k = grind (arith, ints)
+
+equal_turned : (low m n : ℤ) → int_le low m ≡ true → int_le low n ≡ false → is_eq (int_cmp n m) ≡ false
+equal_turned low m n h k = grind (arith, ints)
+
+less_never : (low m n : ℤ) → int_le low m ≡ true → int_le n low ≡ true → is_lt (int_cmp m n) ≡ false
+less_never low m n h k = grind (arith, ints)
+
+less_turned : (low m n : ℤ) → int_le low m ≡ true → int_le n low ≡ true → is_gt (int_cmp n m) ≡ false
+less_turned low m n h k = grind (arith, ints)
+
+less_or_equal_never : (low m n : ℤ) → int_le low m ≡ true → int_le low n ≡ false → not (is_gt (int_cmp m n)) ≡ false
+less_or_equal_never low m n h k = grind (arith, ints)
+
+less_or_equal_turned : (low m n : ℤ) → int_le low m ≡ true → int_le low n ≡ false → not (is_lt (int_cmp n m)) ≡ false
+less_or_equal_turned low m n h k = grind (arith, ints)
+
+truth_of : (b : Bool) → b ≡ false → is_true (Truth b) ≡ false
+truth_of b h = ap (λ x. is_true (Truth x)) h
+
+no_order : (op : ComparisonOp) (low m n : ℤ) → int_le low m ≡ true → never op low n ≡ true → is_true (comparison op (Int m) (Int n)) ≡ false
+no_order Equal low m n h k = truth_of _ (equal_never low m n h (untrue_not (int_le low n) k))
+no_order NotEqual low m n h k = absurd (false≢true k)
+no_order Less low m n h k = truth_of _ (less_never low m n h k)
+no_order LessOrEqual low m n h k = truth_of _ (less_or_equal_never low m n h (untrue_not (int_le low n) k))
+no_order Greater low m n h k = absurd (false≢true k)
+no_order GreaterOrEqual low m n h k = absurd (false≢true k)
+
+no_order_turned : (op : ComparisonOp) (low m n : ℤ) → int_le low m ≡ true → never (turned op) low n ≡ true → is_true (comparison op (Int n) (Int m)) ≡ false
+no_order_turned Equal low m n h k = truth_of _ (equal_turned low m n h (untrue_not (int_le low n) k))
+no_order_turned NotEqual low m n h k = absurd (false≢true k)
+no_order_turned Less low m n h k = absurd (false≢true k)
+no_order_turned LessOrEqual low m n h k = absurd (false≢true k)
+no_order_turned Greater low m n h k = truth_of _ (less_turned low m n h k)
+no_order_turned GreaterOrEqual low m n h k = truth_of _ (less_or_equal_turned low m n h (untrue_not (int_le low n) k))
+
+-- a value of the column, and a literal
+not_true : (op : ComparisonOp) (least : Option ℤ) (x v : Value) → is_from least x ≡ true → never_at op least v ≡ true → is_true (comparison op x v) ≡ false
+not_true op None x v h k = absurd (false≢true k)
+not_true op (Some low) Null v h k = refl
+not_true op (Some low) (Int m) (Int n) h k = no_order op low m n h k
+not_true op (Some low) (Int m) Null h k = absurd (false≢true k)
+not_true op (Some low) (Int m) (Text t) h k = absurd (false≢true k)
+not_true op (Some low) (Int m) (Truth b) h k = absurd (false≢true k)
+not_true op (Some low) (Text t) v h k = absurd (false≢true h)
+not_true op (Some low) (Truth b) v h k = absurd (false≢true h)
+
+not_true_turned : (op : ComparisonOp) (least : Option ℤ) (x v : Value) → is_from least x ≡ true → never_at (turned op) least v ≡ true → is_true (comparison op v x) ≡ false
+not_true_turned op None x v h k = absurd (false≢true k)
+not_true_turned op (Some low) Null Null h k = refl
+not_true_turned op (Some low) Null (Int n) h k = refl
+not_true_turned op (Some low) Null (Text t) h k = refl
+not_true_turned op (Some low) Null (Truth b) h k = refl
+not_true_turned op (Some low) (Int m) (Int n) h k = no_order_turned op low m n h k
+not_true_turned op (Some low) (Int m) Null h k = absurd (false≢true k)
+not_true_turned op (Some low) (Int m) (Text t) h k = absurd (false≢true k)
+not_true_turned op (Some low) (Int m) (Truth b) h k = absurd (false≢true k)
+not_true_turned op (Some low) (Text t) v h k = absurd (false≢true h)
+not_true_turned op (Some low) (Truth b) v h k = absurd (false≢true h)
+
+-- two literals
+fixed_not_true : (op : ComparisonOp) (v w : Value) → never_fixed op v w ≡ true → is_true (comparison op v w) ≡ false
+fixed_not_true op (Int m) (Int n) h = truth_of _ (untrue_not (holds op (int_cmp m n)) h)
+fixed_not_true op (Int m) Null h = absurd (false≢true h)
+fixed_not_true op (Int m) (Text t) h = absurd (false≢true h)
+fixed_not_true op (Int m) (Truth b) h = absurd (false≢true h)
+fixed_not_true op Null w h = absurd (false≢true h)
+fixed_not_true op (Text t) w h = absurd (false≢true h)
+fixed_not_true op (Truth b) w h = absurd (false≢true h)
+
+-- the value that a side shows
+abbrev shown_at : Side → Row → Result Value Fault → Type 0
+shown_at (Plain c) row r = r ≡ Ok (column_of row c)
+shown_at (Fixed v) row r = r ≡ Ok v
+shown_at Other row r = Unit {0}
+
+side_shown : (e : Expression) (row : Row) → shown_at (side_of e) row (value_of e row)
+side_shown (Column c) row = refl
+side_shown (Literal v kind) row = refl
+side_shown (Negate a) row = tt
+side_shown (Arithmetic o a b) row = tt
+side_shown (Compare o a b) row = tt
+side_shown (Not a) row = tt
+side_shown (And a b) row = tt
+side_shown (Or a b) row = tt
+side_shown (IsNull a) row = tt
+side_shown (IsNotNull a) row = tt
+side_shown (Case k a b c) row = tt
+
+abbrev compare_results : ComparisonOp → Result Value Fault → Result Value Fault → Result Value Fault
+compare_results op r s = and_then r (λ v. and_then s (λ w. Ok (comparison op v w)))
+
+module _ (least : ℕ → Option ℤ) (row : Row) (from : IsFrom least row) where
+  sides_fail : (op : ComparisonOp) (s t : Side) (r q : Result Value Fault) → shown_at s row r → shown_at t row q → never_compares least op s t ≡ true → passes (compare_results op r q) ≡ false
+  sides_fail op (Plain c) (Plain d) r q h k e = absurd (false≢true e)
+  sides_fail op (Plain c) (Fixed v) r q h k e = (λ i. passes (compare_results op (h i) (k i))) ∙ not_true op (least c) (column_of row c) v (from c) e
+  sides_fail op (Plain c) Other r q h k e = absurd (false≢true e)
+  sides_fail op (Fixed v) (Plain c) r q h k e = (λ i. passes (compare_results op (h i) (k i))) ∙ not_true_turned op (least c) (column_of row c) v (from c) e
+  sides_fail op (Fixed v) (Fixed w) r q h k e = (λ i. passes (compare_results op (h i) (k i))) ∙ fixed_not_true op v w e
+  sides_fail op (Fixed v) Other r q h k e = absurd (false≢true e)
+  sides_fail op Other t r q h k e = absurd (false≢true e)
+
+-- ---- AND and OR
+
+no_and_left : (v w : Value) → is_true v ≡ false → is_true (and_value v w) ≡ false
+no_and_left (Truth true) w h = absurd (false≢true (sym h))
+no_and_left (Truth false) w h = refl
+no_and_left Null Null h = refl
+no_and_left Null (Int n) h = refl
+no_and_left Null (Text t) h = refl
+no_and_left Null (Truth true) h = refl
+no_and_left Null (Truth false) h = refl
+no_and_left (Int m) Null h = refl
+no_and_left (Int m) (Int n) h = refl
+no_and_left (Int m) (Text t) h = refl
+no_and_left (Int m) (Truth true) h = refl
+no_and_left (Int m) (Truth false) h = refl
+no_and_left (Text s) Null h = refl
+no_and_left (Text s) (Int n) h = refl
+no_and_left (Text s) (Text t) h = refl
+no_and_left (Text s) (Truth true) h = refl
+no_and_left (Text s) (Truth false) h = refl
+
+no_and_right : (v w : Value) → is_true w ≡ false → is_true (and_value v w) ≡ false
+no_and_right (Truth true) (Truth b) h = h
+no_and_right (Truth true) Null h = refl
+no_and_right (Truth true) (Int n) h = refl
+no_and_right (Truth true) (Text t) h = refl
+no_and_right (Truth false) w h = refl
+no_and_right Null w h = no_and_left Null w refl
+no_and_right (Int m) w h = no_and_left (Int m) w refl
+no_and_right (Text s) w h = no_and_left (Text s) w refl
+
+no_or : (v w : Value) → is_true v ≡ false → is_true w ≡ false → is_true (or_value v w) ≡ false
+no_or (Truth true) w h k = absurd (false≢true (sym h))
+no_or (Truth false) (Truth b) h k = k
+no_or (Truth false) Null h k = refl
+no_or (Truth false) (Int n) h k = refl
+no_or (Truth false) (Text t) h k = refl
+no_or Null (Truth true) h k = absurd (false≢true (sym k))
+no_or Null (Truth false) h k = refl
+no_or Null Null h k = refl
+no_or Null (Int n) h k = refl
+no_or Null (Text t) h k = refl
+no_or (Int m) (Truth true) h k = absurd (false≢true (sym k))
+no_or (Int m) (Truth false) h k = refl
+no_or (Int m) Null h k = refl
+no_or (Int m) (Int n) h k = refl
+no_or (Int m) (Text t) h k = refl
+no_or (Text s) (Truth true) h k = absurd (false≢true (sym k))
+no_or (Text s) (Truth false) h k = refl
+no_or (Text s) Null h k = refl
+no_or (Text s) (Int n) h k = refl
+no_or (Text s) (Text t) h k = refl
+
+-- where the left side is no FALSE, the right one is looked at
+and_looked : (v w : Value) → and_result v (Ok w) ≡ Ok (and_value v w)
+and_looked (Truth true) w = refl
+and_looked (Truth false) w = refl
+and_looked Null w = refl
+and_looked (Int n) w = refl
+and_looked (Text t) w = refl
+
+or_looked : (v w : Value) → or_result v (Ok w) ≡ Ok (or_value v w)
+or_looked (Truth true) w = refl
+or_looked (Truth false) w = refl
+or_looked Null w = refl
+or_looked (Int n) w = refl
+or_looked (Text t) w = refl
+
+-- ---- conditions that no row meets
+
+-- a value that is not true
+pub record IsUntrue (r : Result Value Fault) : Type 0 where
+  pub value : Value
+  pub is : r ≡ Ok value
+  pub untrue : is_true value ≡ false
+
+and_untrue : (r s : Result Value Fault) → HasValue r → HasValue s → (x y : Bool) → (x ≡ true → IsUntrue s) → (y ≡ true → IsUntrue r) → (x || y) ≡ true → IsUntrue (and_then r (λ v. and_result v s))
+and_untrue r s v w true y right left h =
+    let u = right refl in
+    record { value = and_value v.0 u.value; is = (λ i. and_then (v.1 i) (λ x. and_result x (u.is i))) ∙ and_looked v.0 u.value; untrue = no_and_right v.0 u.value u.untrue }
+and_untrue r s v w false y right left h =
+    let u = left h in
+    record { value = and_value u.value w.0; is = (λ i. and_then (u.is i) (λ x. and_result x (w.1 i))) ∙ and_looked u.value w.0; untrue = no_and_left u.value w.0 u.untrue }
+
+or_untrue : (r s : Result Value Fault) → IsUntrue r → IsUntrue s → IsUntrue (and_then r (λ v. or_result v s))
+or_untrue r s u w = record { value = or_value u.value w.value; is = (λ i. and_then (u.is i) (λ x. or_result x (w.is i))) ∙ or_looked u.value w.value; untrue = no_or u.value w.value u.untrue w.untrue }
+
+module _ (least : ℕ → Option ℤ) (row : Row) (from : IsFrom least row) where
+  untrue : (e : Expression) → has_arithmetic e ≡ false → is_never least e ≡ true → IsUntrue (value_of e row)
+  untrue (Column c) h k = absurd (false≢true k)
+  untrue (Literal v kind) h k = record { value = v; is = refl; untrue = untrue_not (is_true v) k }
+  untrue (Negate a) h k = absurd (false≢true k)
+  untrue (Arithmetic o a b) h k = absurd (false≢true k)
+  untrue (Compare o a b) h k =
+      let v = never_faults (Compare o a b) row h in
+      record { value = v.0; is = v.1; untrue = ap passes (sym v.1) ∙ sides_fail least row from o (side_of a) (side_of b) (value_of a row) (value_of b row) (side_shown a row) (side_shown b row) k }
+  untrue (Not a) h k = absurd (false≢true k)
+  untrue (And a b) h k =
+      let parts = or_parts (has_arithmetic a) (has_arithmetic b) h in
+      and_untrue (value_of a row) (value_of b row) (never_faults a row parts.0) (never_faults b row parts.1) (is_never least b) (is_never least a) (untrue b parts.1) (untrue a parts.0) k
+  untrue (Or a b) h k =
+      let parts = or_parts (has_arithmetic a) (has_arithmetic b) h in
+      let nevers = and_parts (is_never least b) (is_never least a) k in
+      or_untrue (value_of a row) (value_of b row) (untrue a parts.0 nevers.1) (untrue b parts.1 nevers.0)
+  untrue (IsNull a) h k = absurd (false≢true k)
+  untrue (IsNotNull a) h k = absurd (false≢true k)
+  untrue (Case o a b c) h k = absurd (false≢true k)
+
+-- a condition that no row meets keeps none, and has no fault
+module _ (condition : Expression) where
+  abbrev pub IsUnmetAt : Row → Type 0
+  IsUnmetAt row = IsUntrue (value_of condition row)
+
+  no_fault : (fault : Fault) (v : Value) → has_fault fault (Ok v) ≡ false
+  no_fault DivisionByZero v = refl
+  no_fault OutOfRange v = refl
+
+  no_faults : (fault : Fault) (rows : List Row) → AllByRecursion IsUnmetAt rows → list_any (has_fault fault) (map (value_of condition) rows) ≡ false
+  no_faults fault [] a = refl
+  no_faults fault (row ∷ rows) a = or_from _ _ (ap (has_fault fault) a.0.is ∙ no_fault fault a.0.value) (no_faults fault rows a.1)
+
+  none_pass : (rows : List Row) → AllByRecursion IsUnmetAt rows → filter (λ row. passes (value_of condition row)) rows ≡ []
+  none_pass [] a = refl
+  none_pass (row ∷ rows) a = ap (λ b. cond b (row ∷ filter (λ row. passes (value_of condition row)) rows) (filter (λ row. passes (value_of condition row)) rows)) (ap passes a.0.is ∙ a.0.untrue) ∙ none_pass rows a.1
+
+  pub keeps_none : (rows : List Row) → AllByRecursion IsUnmetAt rows → filter_outcome condition rows ≡ Ok []
+  keeps_none rows a =
+      (λ i. unless (cond (no_faults DivisionByZero rows a i) (Some DivisionByZero) (cond (no_faults OutOfRange rows a i) (Some OutOfRange) None)) (none_pass rows a i))
+
+pub all_unmet : (least : ℕ → Option ℤ) (condition : Expression) → is_unmet least condition ≡ true → (rows : List Row) → AllByRecursion (IsFrom least) rows → AllByRecursion (IsUnmetAt condition) rows
+all_unmet least condition h [] a = tt
+all_unmet least condition h (row ∷ rows) a =
+    let parts = and_parts (not (has_arithmetic condition)) (is_never least condition) h in
+    (untrue least row a.0 condition (untrue_not (has_arithmetic condition) parts.0) parts.1, all_unmet least condition h rows a.1)
