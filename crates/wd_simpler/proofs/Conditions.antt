@@ -1,28 +1,17 @@
 -- Conditions that no row meets.
-use Rattle.std.proofs.Common.{◌≡◌, ℕ, zero, suc, ◌+◌, ◌-◌, ◌<◌, ℤ, pos, Bool, true, false, cond, not, ◌&&◌, ◌||◌, ◌⊎◌, inl, inr, List, [], ◌∷◌, ◌++◌, map, filter, length, nat_lt, refl, sym, ◌∙◌, ap, subst, arith, is_eq, is_lt, is_gt, int_cmp, Option, Some, None, option_and_then, slice_get, Result, Ok, Err}
+use Rattle.std.proofs.Common.{◌≡◌, ℕ, ℤ, Bool, true, false, cond, not, ◌||◌, List, [], ◌∷◌, map, filter, refl, sym, ◌∙◌, ap, arith, is_eq, is_lt, is_gt, int_cmp, Option, Some, None, Result, Ok}
 use Rattle.std.specs.List.{AllByRecursion, list_any}
 use Rattle.std.specs.Prelude.{int_le}
 use Rattle.std.proofs.lemmas.Bool.{and_parts, false≢true, or_from, or_parts}
 use Rattle.std.proofs.lemmas.Int.{ints}
-use Rattle.std.proofs.lemmas.List.{get_or-append_right, get_or_append_left}
-use Rattle.std.proofs.lemmas.Option.{get_or_from_slice_get, slice_get_within}
-use Rattle.wd_schema.specs.Meets.{Meets}
-use Rattle.wd_schema.specs.Tables.{TableRule}
-use Rattle.wd_value.specs.Bags.{positions}
 use Rattle.wd_value.specs.declared.value.Fault.{Fault}
 use Rattle.wd_value.specs.declared.value.Fault.TheVariants.{DivisionByZero, OutOfRange}
 use Rattle.wd_value.specs.declared.value.Value.{Value}
 use Rattle.wd_value.specs.declared.value.Value.TheVariants.{Null, Int, Text, Bool as Truth}
-use Rattle.wd_value.specs.Rows.{Instance, Row, column_of, row_at}
-use Rattle.wd_laws.proofs.AllValues.{all_ok_each}
-use Rattle.wd_laws.proofs.Parts.{below_all}
-use Rattle.wd_laws.proofs.Widths.{all_distinct, all_filtered, has_widths}
-use Rattle.wd_plan.specs.Choices.{AreLawful, AtRows}
+use Rattle.wd_value.specs.Rows.{Row, column_of}
 use Rattle.wd_plan.specs.Expressions.{Expression, Column, Literal, Negate, Arithmetic, Compare, Not, And, Or, IsNull, IsNotNull, Case, and_result, and_value, comparison, holds, is_true, or_result, or_value, value_of}
-use Rattle.wd_plan.specs.Facts.{HasWidth}
-use Rattle.wd_plan.specs.Faults.{all_ok, and_then, has_fault, least_fault, unless, values_among}
-use Rattle.wd_plan.specs.Fits.{fits, width}
-use Rattle.wd_plan.specs.Outcomes.{RowsOrFault, filter_outcome, passes}
+use Rattle.wd_plan.specs.Faults.{and_then, has_fault, unless}
+use Rattle.wd_plan.specs.Outcomes.{filter_outcome, passes}
 use Rattle.wd_plan.specs.declared.expression.ComparisonOp.{ComparisonOp}
 use Rattle.wd_plan.specs.declared.expression.ComparisonOp.TheVariants.{Equal, NotEqual, Less, LessOrEqual, Greater, GreaterOrEqual}
 use Rattle.wd_step_facts.specs.Steps.{Side, Plain, Fixed, Other, side_of}

@@ -1,7 +1,6 @@
 -- Steps that keep no row, and steps over no rows.
-use Rattle.std.proofs.Common.{◌≡◌, ℕ, Bool, true, false, List, [], ◌∷◌, map, refl, sym, ◌∙◌, ap, subst, ℤ, Option, Ok, Err}
+use Rattle.std.proofs.Common.{◌≡◌, ℕ, Bool, true, false, List, [], ◌∷◌, map, refl, sym, ◌∙◌, ap, ℤ, Option, Ok, Err}
 use Rattle.std.specs.List.{AllByRecursion}
-use Rattle.std.proofs.lemmas.Bool.{false≢true}
 use Rattle.wd_value.specs.declared.value.Value.TheVariants.{Bool as TruthValue}
 use Rattle.wd_value.specs.Rows.{Row, rows_at}
 use Rattle.wd_plan.specs.declared.expression.ValueKind.TheVariants.{Truth}

@@ -16,7 +16,7 @@ use Rattle.wd_value.specs.declared.value.Value.TheVariants.{Null, Int}
 use Rattle.wd_value.specs.Rows.{Instance, Row, column_of, row_at, table_at}
 use Rattle.wd_laws.proofs.AllValues.{AllOk, all_ok_each}
 use Rattle.wd_laws.proofs.Widths.{all_distinct, all_filtered, has_widths}
-use Rattle.wd_plan.specs.Calls.{bucket_from, call_value, ranking_value, value_at}
+use Rattle.wd_plan.specs.Calls.{bucket_from, call_value, ranking_value}
 use Rattle.wd_plan.specs.Choices.{AreLawful, AtRows}
 use Rattle.wd_plan.specs.Expressions.{Expression, Column, Literal, Negate, Arithmetic, Compare, Not, And, Or, IsNull, IsNotNull, Case, value_of}
 use Rattle.wd_plan.specs.Facts.{HasWidth}

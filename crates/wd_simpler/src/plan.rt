@@ -135,11 +135,7 @@ fn is_read(read: &Option<Set>, column: u16) -> bool
 fn kept_reads(alloc: Global, is_none: bool, read: Option<Set>) -> Option<Set>
     ensures { (c : ℕ) → read_of result c ≡ spec.kept_reads is_none (read_of read) c }
 {
-    if is_none {
-        Some(Set::new(alloc))
-    } else {
-        read
-    }
+    if is_none { Some(Set::new(alloc)) } else { read }
 }
 
 /// What is read below a Filter.

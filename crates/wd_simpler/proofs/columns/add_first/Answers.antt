@@ -1,4 +1,3 @@
-use Rattle.std.proofs.Common.{ℕ, List, []}
 use Rattle.wd_simpler.proofs.Sets.{also_none, also_position}
 use Rattle.wd_simpler.proofs.columns.add_first.Goals as goal
 

@@ -1,4 +1,4 @@
-use Rattle.std.proofs.Common.{◌||◌, List, ℕ, map, flat_map, option_to_list, ap, subst, ◌∙◌}
+use Rattle.std.proofs.Common.{◌||◌, map, flat_map, option_to_list, ap, subst, ◌∙◌}
 use Rattle.wd_plan.specs.Plans.{group_call_of, grouping_of, has}
 use Rattle.wd_step_facts.specs.declared.facts.Member.TheVariants.{Column}
 use Rattle.wd_value.specs.Bags.{positions}
