@@ -22,6 +22,7 @@ import stat
 import subprocess
 import sys
 import tempfile
+import threading
 import time
 
 TOP = os.path.dirname(os.path.dirname(os.path.abspath(__file__)))
@@ -503,6 +504,15 @@ def the_ties():
                     check(f"mended by {mended}", status == 0, (status, out))
 
 
+def the_simpler():
+    """Queries that have one answer because what ties decide is not shown."""
+    for text, wanted in lines_of("simpler.txt"):
+        with tempfile.TemporaryDirectory() as folder:
+            put(folder, {"schema.sql": SCHEMA, "q.sql": text})
+            out, _, status = run("q.sql", cwd=folder)
+            check(f"{wanted}: {text}", status == (0 if wanted == "deterministic" else 1), (status, out))
+
+
 def the_excuses():
     """Comments above a query."""
     for text, wanted in lines_of("remarks.txt"):
@@ -621,6 +631,18 @@ def the_outputs():
             out, err, status = run("--html", page, "q.sql", cwd=folder)
             names = {name for name in os.listdir(folder)} - {"link.html"}
             check(f"a page that can't be written: {page}", status == 3 and "the page can't be written" in err and names == before and held(f"{folder}/.page.html.wdreport-new") == "mine", (status, err, names))
+        os.mkfifo(f"{folder}/pipe")
+        reader = threading.Thread(target=lambda: read.append(held(f"{folder}/pipe")), daemon=True)
+        read = []
+        reader.start()
+        out, err, status = run("--html", "pipe", "q.sql", cwd=folder)
+        reader.join(60)
+        check("a page to a pipe", status == 0 and read and read[0].startswith("<!doctype html>") and stat.S_ISFIFO(os.stat(f"{folder}/pipe").st_mode), (status, err))
+        os.remove(f"{folder}/pipe")
+        os.mkdir(f"{folder}/page")
+        out, err, status = run("--html", "page", "q.sql", cwd=folder)
+        check("a folder is no page", status == 3 and "the page can't be written" in err and os.listdir(f"{folder}/page") == [], (status, err))
+        os.rmdir(f"{folder}/page")
         out, err, status = run("--html", "new.html", "q.sql", cwd=folder)
         check("a new page leaves no other file", status == 0 and set(os.listdir(folder)) == before | {"link.html", "new.html"}, (status, err, os.listdir(folder)))
 
@@ -682,8 +704,8 @@ def the_locks():
     locked("that of another query", {"q.sql": f"{TIED};\n{FIRST}", "q.sql.cert": f"{first}null\n"}, ["q.sql"], 1, ["q.sql:1:1: lost", "1 deterministic, 1 depend"], ["q.sql:2:1", "stale"])
     locked("null", {"q.sql": TIED, "q.sql.cert": "null\n"}, ["q.sql"], 1, ["q.sql:1:11: depends", "0 deterministic, 1 depend"], ["lost", "stale"])
     locked("null of a query with one answer", {"q.sql": ONE, "q.sql.cert": " null"}, ["q.sql"], 0, ["1 deterministic"], ["lost", "stale"])
-    locked("another number of lines", {"q.sql": f"{ONE};\n{ONE}", "q.sql.cert": one}, ["q.sql"], 3, ["q.sql.cert: the lock has 1 lines, and the file 2 queries", "2 deterministic"], ["lost", "stale"])
-    locked("too many lines", {"q.sql": ONE, "q.sql.cert": one + one}, ["q.sql"], 3, ["q.sql.cert: the lock has 2 lines, and the file 1 queries"])
+    locked("another number of lines", {"q.sql": f"{ONE};\n{ONE}", "q.sql.cert": one}, ["q.sql"], 3, ["q.sql.cert: the lock does not fit the file (lines: 1, queries: 2): wdreport lock writes it anew", "2 deterministic"], ["lost", "stale"])
+    locked("too many lines", {"q.sql": ONE, "q.sql.cert": one + one}, ["q.sql"], 3, ["q.sql.cert: the lock does not fit the file (lines: 2, queries: 1)"])
     locked("a line that is no JSON", {"q.sql": f"{ONE};{ONE}", "q.sql.cert": f"{one}<<<<<<< HEAD\n"}, ["q.sql"], 3, ["q.sql.cert: line 2 of the lock is neither a certificate nor null", "2 deterministic"])
     locked("a line of another form", {"q.sql": ONE, "q.sql.cert": "{}\n"}, ["q.sql"], 3, ["line 1 of the lock is neither"])
     locked("a line of a later version", {"q.sql": ONE, "q.sql.cert": one.replace('"version":1', '"version":3')}, ["q.sql"], 3, ["line 1 of the lock is neither"])
@@ -718,6 +740,10 @@ def the_locks():
 HOSTILE = "SELECT g AS \"</pre><script>alert(1)</script>\", '<b>&\"\u202e' AS \"it's\", ROW_NUMBER() OVER (ORDER BY v) AS n FROM t"
 
 
+# Of 26 rows and more, in which each row of the answer has the first row's id.
+ALL_DIFFER = "SELECT f FROM (SELECT FIRST_VALUE(id) OVER (ORDER BY v ROWS BETWEEN UNBOUNDED PRECEDING AND UNBOUNDED FOLLOWING) AS f, COUNT(*) OVER () AS n FROM t) AS s WHERE n >= 26"
+
+
 def the_page():
     """The page: one file, in which what comes from an input stands escaped."""
     with tempfile.TemporaryDirectory() as folder:
@@ -737,6 +763,10 @@ def the_page():
         run("--html", "page.html", "b.sql", cwd=folder)
         again = held(f"{folder}/page.html")
         check("page: written anew", "1 query: 1 deterministic" in again and "alert" not in again, again[-500:])
+        put(folder, {"e.sql": ALL_DIFFER})
+        run("--html", "page.html", "e.sql", cwd=folder)
+        again = held(f"{folder}/page.html")
+        check("page: long answers that share no row", "1 query: 0 deterministic, 1 depend" in again and "Another answer" in again and "and the rows that both" not in again, again[-500:])
         out, err, status = run("--html", "none/page.html", "b.sql", cwd=folder)
         check("page: no such folder", status == 3 and "the page can't be written" in err, (status, out, err))
 
@@ -762,6 +792,7 @@ the_schema()
 the_remedies()
 the_places()
 the_ties()
+the_simpler()
 the_excuses()
 the_baselines()
 the_outputs()

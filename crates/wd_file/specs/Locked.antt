@@ -23,6 +23,11 @@ abbrev pub IsEntryOf : List ℕ → List ℕ → Entry → Type 0
 IsEntryOf schema query (Certified certificate) = IsVerdict schema query (Deterministic certificate)
 IsEntryOf schema query Open = ((examined : Examined) × IsExamined schema query examined × IsOpen examined.analysis) ⊎ ((error : DecideError) × IsSome (decide_number error) × HasCause schema query error)
 
+-- what a lock has of an analysis
+abbrev pub entry_of : Analysis → Entry
+entry_of (analysis.Certified certificate) = Certified certificate
+entry_of (analysis.Open reasons marks) = Open
+
 -- an entry for each statement of a text
 abbrev pub AreEntriesOf : List ℕ → List ℕ → List Span → List Entry → Type 0
 AreEntriesOf schema text [] [] = Unit {0}

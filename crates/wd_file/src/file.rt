@@ -195,7 +195,7 @@ impl<W: Watch> Findings<'_, W> {
             return Ok(Some(locked));
         }
         let line = format!(in task.alloc;
-            "the lock has {lines} lines, and the file {statements} queries: wdreport lock writes it anew"
+            "the lock does not fit the file (lines: {lines}, queries: {statements}): wdreport lock writes it anew"
         )?;
         self.report.add_line(task.alloc, "lock", Level::Error, locked.path, line.as_str())?;
         Ok(None)

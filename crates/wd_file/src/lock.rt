@@ -1,12 +1,13 @@
 //! The lock of a file.
 
-ghost use Rattle.std.specs.Prelude.{◌≤◌, length, IfOk};
+ghost use Rattle.std.specs.Prelude.{◌≡◌, ◌≤◌, length, IfOk};
 ghost use Rattle.wd_source.specs.Statements.{StandInOrder};
 ghost use Rattle.wd_file.specs.Locked.{AreEntriesOf, IsEntryOf, IsLockOf};
+ghost use Rattle.wd_file.specs.Locked as spec;
 
 use std::alloc::Global;
 use wd_analyse::Analysis;
-use wd_decide::examine;
+use wd_decide::{Examined, examine};
 use wd_lex::Span;
 use wd_lock::{Entry, Lock};
 use wd_output::Watch;
@@ -54,13 +55,21 @@ fn entry_for(alloc: Global, schema: &[u8], query: &[u8]) -> Result<Entry, OutOfM
     ensures { IfOk result (IsEntryOf schema.now query.now) }
 {
     match examine(alloc, schema, query) {
-        Ok(examined) => match examined.analysis {
-            Analysis::Certified(certificate) => Ok(Entry::Certified(certificate)),
-            Analysis::Open(_, _) => Ok(Entry::Open),
-        },
+        Ok(examined) => Ok(entry_of(examined)),
         Err(error) => match error.number() {
             Some(_) => Ok(Entry::Open),
             None => Err(OutOfMemory),
         },
+    }
+}
+
+/// What a lock has of a query that is examined.
+fn entry_of(examined: Examined) -> Entry
+    ensures { result ≡ spec.entry_of examined.analysis }
+{
+    let Examined { analysis, .. } = examined;
+    match analysis {
+        Analysis::Certified(certificate) => Entry::Certified(certificate),
+        Analysis::Open(_, _) => Entry::Open,
     }
 }

@@ -54,11 +54,11 @@ pub(crate) fn show(
 }
 
 /// Adds a statement whose certificate in the lock is accepted.
-fn show_kept(
+fn show_kept<'s>(
     page: &mut Report,
     query: Query<'_, '_, '_>,
-    finding: &Finding,
-    certificate: &Certificate,
+    finding: &'s Finding,
+    certificate: &'s Certificate,
 ) -> Result<(), OutOfMemory> {
     let shown = Shown {
         kind: Kind::Deterministic,

@@ -17,7 +17,8 @@ use Rattle.wd_judged.specs.declared.judged.Judgement.TheVariants.{Found, Refused
 abbrev pub statement_of : List ℕ → Span → List ℕ
 statement_of text span = slice_range text span.start span.end
 
--- a finding is one of the two texts and counts as its verdict and the further search say; a refusal has its cause in them and is not read
+-- a finding is one of the two texts and counts as its verdict, its simpler plan and the further search say; a refusal has its cause in them and is
+-- not read
 abbrev pub IsJudgement : List ℕ → List ℕ → Kind → Judgement → Type 0
 IsJudgement schema query kind (Found finding) = IsFinding schema query finding × (kind ≡ kind_of finding.verdict finding.certain finding.further)
 IsJudgement schema query kind (Refused error) = HasCause schema query error × (kind ≡ NotRead)

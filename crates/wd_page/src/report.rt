@@ -8,7 +8,7 @@ ghost use Rattle.wd_markup.specs.Pages.{IsPage};
 
 use crate::query::{Judged, Query, Refusal};
 use crate::section::{add_judged, add_number, add_place, add_refused};
-use crate::words::{kind_class, kind_word};
+use crate::words::{counted_word, kind_class, kind_word};
 use std::alloc::Global;
 use std::marker::Model;
 use wd_lines::{Counts, Kind, Standing};
@@ -186,7 +186,7 @@ impl Report {
 
 /// Adds what a colour of the bar means.
 fn add_share(alloc: Global, page: &mut Page, kind: Kind, count: u64) -> Result<(), OutOfMemory> {
-    let word = kind_word(kind);
+    let word = counted_word(kind, count);
     let words = format!(in alloc; "{count} {word}")?;
     Ok(page.element(Tag::Item, kind_class(kind), words.as_bytes())?)
 }

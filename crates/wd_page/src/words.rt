@@ -23,6 +23,15 @@ pub(crate) fn kind_word(kind: Kind) -> &'static str {
     }
 }
 
+/// The word of a verdict after how many queries have it.
+pub(crate) fn counted_word(kind: Kind, count: u64) -> &'static str {
+    if matches!(kind, Kind::Depends) && count != 1 {
+        "depend"
+    } else {
+        kind_word(kind)
+    }
+}
+
 /// What a verdict says.
 pub(crate) fn kind_sentence(kind: Kind) -> &'static str {
     match kind {

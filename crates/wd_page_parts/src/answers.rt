@@ -112,7 +112,7 @@ fn add_rows(
             add_row(alloc, page, row, standing, others)?;
         }
     }
-    if rows.len() > MOST_SHOWN {
+    if rows.len() > MOST_SHOWN && alone.len() < rows.len() {
         add_remark(page, "and the rows that both answers have")?;
     }
     Ok(())

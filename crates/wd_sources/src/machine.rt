@@ -46,12 +46,18 @@ impl<R: Files + Input + AllocGlobal + Clone + Drop> Sources for MachineSources<'
         }
     }
 
-    // The bytes are written to a file beside it, which then takes its name. A link to a file stays, and the file is replaced.
+    // The bytes are written to a file beside it, which then takes its name. A link to a file stays, and the file is replaced. What is
+    // no file, as a folder or a device, is left alone.
     fn replace(&mut self, alloc: Global, path: &str, bytes: &[u8]) -> Result<(), SourceError> {
         let path = canonical(self.rt, path)?;
         let new = beside(alloc, path.as_str())?;
         let permissions = match fs::metadata(self.rt, path.as_str()) {
-            Ok(metadata) => metadata.permissions(),
+            Ok(metadata) => {
+                if !metadata.is_file() {
+                    return Err(SourceError::Failed);
+                }
+                metadata.permissions()
+            }
             Err(error) => return Err(reason_of(error)),
         };
         done(put(
@@ -63,8 +69,12 @@ impl<R: Files + Input + AllocGlobal + Clone + Drop> Sources for MachineSources<'
         ))
     }
 
-    // One that is not there is made in the same way. A link that leads nowhere is left alone.
+    // One that is not there is made in the same way. A link that leads nowhere is left alone. A terminal, a pipe or a device gets the
+    // bytes as they are.
     fn write(&mut self, alloc: Global, path: &str, bytes: &[u8]) -> Result<(), SourceError> {
+        if is_stream(self.rt, path) {
+            return done(pour(self.rt, path, bytes));
+        }
         match self.replace(alloc, path, bytes) {
             Err(SourceError::Missing) => {
                 if fs::symlink_metadata(self.rt, path).is_ok() {
@@ -100,6 +110,20 @@ fn canonical<R: Files + AllocGlobal>(rt: &R, path: &str) -> Result<PathBuf, Sour
         Ok(path) => Ok(path),
         Err(error) => Err(reason_of(error)),
     }
+}
+
+/// Whether a path is that of something which is neither a file nor a folder: a terminal, a pipe or a device.
+fn is_stream<R: Files + AllocGlobal>(rt: &R, path: &str) -> bool {
+    match fs::metadata(rt, path) {
+        Ok(metadata) => !metadata.is_file() && !metadata.is_dir(),
+        Err(_) => false,
+    }
+}
+
+/// Writes bytes to a stream.
+fn pour<R: Files>(rt: &R, path: &str, bytes: &[u8]) -> io::Result<()> {
+    let mut stream = OpenOptions::new().write(true).open(rt, path)?;
+    stream.write_all(bytes)
 }
 
 /// That something is done, or why not.
