@@ -137,7 +137,7 @@ fn review_file<S: Sources, W: Watch>(
         return Ok(());
     };
     let file = File { path, text: &text };
-    let Some(reviewed) = review_text(run, file, number, review, report, watch)? else {
+    let Some(reviewed) = review_text(run, file, number, &mut review.tally, report, watch)? else {
         return Ok(());
     };
     if !reviewed.is_lock_read {
@@ -154,7 +154,7 @@ fn review_text<S: Sources, W: Watch>(
     run: &mut Run<'_, S>,
     query: File<'_>,
     schema: usize,
-    review: &mut Review,
+    tally: &mut Tally,
     report: &mut Report,
     watch: &mut W,
 ) -> Result<Option<Reviewed>, OutOfMemory> {
@@ -176,7 +176,7 @@ fn review_text<S: Sources, W: Watch>(
     };
     let mut findings = Findings {
         report,
-        tally: &mut review.tally,
+        tally,
         watch,
     };
     Ok(Some(review_statements(task, &mut findings)?))
