@@ -3,8 +3,8 @@
 
     python3 tests/small_memory.py PROGRAM [--jobs N] [--steps N]
 
-Each command is run over a small input and over a large one. The limit rises from the least at which the program starts (without words
-it then prints its usage) to the least at which the run has its answer: page by page for the first pages and the last ones, and between
+Each command is run over a small input and over a large one. The limit rises from the least at which the program starts each time
+(without words it then prints its usage; where the system puts its stack, and so how much it takes, differs from start to start) to the least at which the run has its answer: page by page for the first pages and the last ones, and between
 them by equal steps. A signal, another status or another text is a failure. The last line is 'N passed, M failed'.
 """
 
@@ -18,6 +18,8 @@ import tempfile
 PAGE = os.sysconf("SC_PAGE_SIZE")
 # No run needs more, in pages.
 MOST = (4 << 30) // PAGE
+# So many starts in a row count as each time.
+STARTS = 64
 # So many limits are tried page by page at either end.
 EACH_PAGE = 32
 OUT_OF_MEMORY = (5, b"", b"out of memory\n")
@@ -68,6 +70,13 @@ class Run:
             low, high = (low, middle) if self.under(middle) == wanted else (middle + 1, high)
         return low
 
+    def least_each_time(self, wanted, low):
+        """The least limit from this one on at which the run gives this each time."""
+        limit = self.least(wanted, low)
+        while any(self.under(limit) != wanted for _ in range(STARTS)):
+            limit += 1
+        return limit
+
 
 def limits(first, last, steps):
     """The limits to try, in pages: all near the two ends, and equal steps between."""
@@ -111,7 +120,7 @@ def main():
     passed, failed = 0, 0
     with tempfile.TemporaryDirectory() as folder, concurrent.futures.ThreadPoolExecutor(arguments.jobs) as pool:
         usage = Run(program, folder, [])
-        first = usage.least(usage.under(MOST), 1)
+        first = usage.least_each_time(usage.under(MOST), 1)
         for size, files in (("small", SMALL), ("large", large())):
             for name, run in commands(program, f"{folder}/{size}", files):
                 tried, wrong = judge(pool, run, first, arguments.steps)
