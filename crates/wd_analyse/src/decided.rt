@@ -114,7 +114,7 @@ fn decide(closed: &Closed, number: u64, columns: u16, exchange: Option<u16>, cal
     }
 }
 
-/// The same of a call, by the classes of its node, whose traces have the numbers from one on.
+/// The first rule that justifies a call, by the classes of its node, whose traces have the numbers from one on.
 fn decide_of(
     classes: &[Closed],
     first: u64,

@@ -64,7 +64,7 @@ fn fire_one(
     Ok(())
 }
 
-/// The same, and notes the fact where that reaches what was not reached yet.
+/// Reaches a fact's right side where its counter is at 0, and notes the fact where that reaches what was not reached yet.
 fn use_one(
     list: &[Given],
     counters: &[usize],

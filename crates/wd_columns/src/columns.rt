@@ -71,7 +71,7 @@ impl Columns {
         self.value_at(position, column as usize, null)
     }
 
-    /// The same, with a column of any number.
+    /// The value in a column of any number of the row at a position, and `null` past the last row or column.
     pub fn value_at<'a>(&'a self, position: u64, column: usize, null: &'a Value) -> &'a Value
         requires { null.now ≡ value.Null }
         ensures { result.now ≡ column_of (row_at self.now position) column }

@@ -75,7 +75,7 @@ impl<'a> RowSource<'a> {
         self.value_at(position, column as usize, null)
     }
 
-    /// The same, with a column of any number.
+    /// The value in a column of any number of the row at a position, and `null` past the last row or column.
     pub fn value_at<'b>(&'b self, position: u64, column: usize, null: &'b Value) -> &'b Value
         requires { null.now ≡ value.Null }
         ensures { result.now ≡ column_of (table.row_at self.now position) column }

@@ -1,4 +1,7 @@
 //! Where the program's files come from.
+//!
+//! `Files` tells what it handed over as an `Option`, as std's `Read` tells its bytes: an implementation that doesn't keep it, as the
+//! one over the machine's files, promises nothing.
 
 ghost use Rattle.std.specs.Prelude.{◌≡◌, ◌↔◌, ◌+◌, ◌-◌, ◌^◌, ◌<◌, ◌≤◌, ℕ, List, [], ◌∷◌, length, Option, None, IfErr, IfOk, IfSome, MatchResult};
 ghost use Rattle.wd_command.specs.Files.{File, HandsOver, IsOwnShortage, failed_reads};

@@ -33,7 +33,7 @@ impl<'a> MemoryFiles<'a> {
         }
     }
 
-    /// The same files, where the reads fail once so many were made.
+    /// These files, whose reads fail once so many were made.
     pub fn failing_after(mut self, reads: u64) -> MemoryFiles<'a>
         ensures files { files_of result ≡ files_of self.entry }
         ensures failures { failures_of result ≡ failures_of self.entry }

@@ -44,7 +44,7 @@ impl Answer {
         rows_in(&self.kept)
     }
 
-    /// The same, with the rows as a list. Values are moved.
+    /// The rows as a list, or the fault. Values are moved.
     pub fn into_outcome(self, alloc: Global) -> Result<Outcome, OutOfMemory>
         ensures { IfOk result (λ o. outcome_of o ≡ self) }
     {

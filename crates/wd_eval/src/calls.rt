@@ -35,7 +35,8 @@ pub(crate) fn with_calls(
     }
 }
 
-/// The same of rows that are kept column by column, as their extension is.
+/// The rows, which are kept column by column, with a column for each call, or the least fault of the calls, under the orderings
+/// that make these partitions of the classes.
 pub(crate) fn with_calls_by_column(
     alloc: Global,
     window: &Window,

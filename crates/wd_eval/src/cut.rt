@@ -48,7 +48,7 @@ pub(crate) fn limited(
     }
 }
 
-/// The same under the choice's ordering with this number, which is judged.
+/// What the limit keeps of its input under the choice's ordering with this number, which is judged.
 fn chosen_limit(
     alloc: Global,
     instance: &[Vec<Row>],
@@ -127,7 +127,7 @@ fn cut_made(
     Ok(moved)
 }
 
-/// The same under the sorted ordering, which is used as it is.
+/// What the limit keeps of its input under the sorted ordering, which is used as it is.
 fn sorted_limit(
     alloc: Global,
     instance: &[Vec<Row>],

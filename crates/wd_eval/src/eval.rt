@@ -40,8 +40,8 @@ pub fn eval_with(
     eval_within(alloc, plan, schema, instance, choice, MOST_ROWS)
 }
 
-/// The same where a step may have at most so many rows, which are no more than the 10,000,000 of
-/// [`eval_with`].
+/// The outcome of a plan as [`eval_with`] gives it, where a step may have at most `most` rows in place of 10,000,000, which are no
+/// more than these.
 pub fn eval_within(
     alloc: Global,
     plan: &Plan,

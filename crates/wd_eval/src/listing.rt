@@ -99,7 +99,7 @@ pub(crate) fn sorted_listing(
     sorted_listing_of(alloc, &window.classes[number], asked, rows, flipped)
 }
 
-/// The same of a class, with the keys where they are asked for.
+/// The stable sort of the rows' positions by a class, and the partitions that it makes, with the keys where they are asked for.
 fn sorted_listing_of(
     alloc: Global,
     class: &Class,

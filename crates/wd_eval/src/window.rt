@@ -103,7 +103,7 @@ fn is_empty_at(choice: &[Vec<u64>], number: usize) -> bool
     }
 }
 
-/// The same under the sorted orderings, which are used as they are.
+/// The outcome of a Window under the sorted orderings, which are used as they are.
 fn sorted_window(
     alloc: Global,
     instance: &[Vec<Row>],
@@ -126,7 +126,7 @@ fn sorted_window(
     }
 }
 
-/// The same of rows that are kept column by column, and stay so.
+/// A Window under the sorted orderings over rows that are kept column by column, and stay so.
 fn sorted_by_column(
     alloc: Global,
     window: &Window,
@@ -151,7 +151,7 @@ fn sorted_by_column(
     }
 }
 
-/// The same of an outcome.
+/// A Window under the sorted orderings over an outcome.
 fn sorted_rows(
     alloc: Global,
     window: &Window,

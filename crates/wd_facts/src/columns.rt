@@ -64,7 +64,7 @@ pub(crate) fn is_not_null_column(columns: &[Column], column: u16) -> bool
     }
 }
 
-/// The same of the table with this number.
+/// Whether a column of the table with this number is NOT NULL.
 fn is_not_null_in(schema: &Schema, table: u16, column: u16) -> bool
     ensures { result ≡ spec.is_not_null_column (spec.table_rule (schema_of schema.now) table).columns column }
 {

@@ -129,7 +129,8 @@ fn kept_pairs(
     }
 }
 
-/// The same. Where no pair can fault, no more of them are looked at than needed.
+/// The first rows for which the condition is true, by all pairs. Where no pair can fault, no more of them are looked at than
+/// needed.
 fn pairs_where(
     alloc: Global,
     condition: &Expr,
@@ -152,8 +153,8 @@ fn pairs_where(
     Ok(kept)
 }
 
-/// The same, by the pairs that agree on the columns alone. Takes time as a sort of either side, and
-/// time that goes with the number of such pairs.
+/// The first rows for which the condition is true, by the pairs that agree on the columns alone. Takes the time of a sort of either
+/// side, and is linear in the number of such pairs.
 fn matching_where(
     alloc: Global,
     condition: &Expr,

@@ -82,7 +82,7 @@ fn fetched(alloc: Global, tokens: &[Token], span: Span) -> Result<Option<Change>
     Ok(None)
 }
 
-/// The same, where LIMIT is the token of this number.
+/// FETCH FIRST with ties in the place of LIMIT, which is the token of this number.
 fn fetched_at(
     alloc: Global,
     tokens: &[Token],

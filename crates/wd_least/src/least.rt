@@ -134,7 +134,7 @@ fn judged(alloc: Global, schema: &[u8], mended: Mended) -> Result<Option<Mended>
     }
 }
 
-/// The same of a text that has a plan.
+/// A changed text that has a plan, where nothing is open in it.
 fn analysed(
     alloc: Global,
     planned: PlannedQuery,

@@ -47,7 +47,7 @@ pub(crate) fn refusal_words(number: u32) -> (&'static str, &'static str) {
     }
 }
 
-/// The same of queries without a plan, and of schemas.
+/// The sentence and the remedy of a refusal of a query without a plan, or of a schema.
 fn meaning_words(number: u32) -> (&'static str, &'static str) {
     match number {
         401 => (

@@ -47,8 +47,8 @@ pub(crate) fn side_from(
     }
 }
 
-/// The same, where of pairs that are not made yet only those are wanted that the condition above can
-/// be true for.
+/// What is produced as a side of a join, or the fault, where of pairs that are not made yet only those are wanted for which the
+/// condition above can be true.
 pub(crate) fn narrowed_side(
     alloc: Global,
     instance: &[Vec<Row>],

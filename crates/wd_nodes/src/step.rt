@@ -106,7 +106,7 @@ fn joined_where(
     }
 }
 
-/// The same of two sides, by positions where the condition consists of equalities.
+/// The pairs of two sides for which the condition is true, by positions where the condition consists of equalities.
 fn joined_sides(
     alloc: Global,
     instance: &[Vec<Row>],
@@ -133,7 +133,7 @@ fn joined_sides(
     }
 }
 
-/// The same as rows.
+/// The pairs for which the condition is true, as rows.
 fn joined_lists(
     alloc: Global,
     instance: &[Vec<Row>],
@@ -224,8 +224,8 @@ pub fn mapped(
     }
 }
 
-/// The same of rows that are kept column by column, which stay so where the outputs are columns, none
-/// of them twice.
+/// The values of the outputs over rows that are kept column by column, which stay so where the outputs are columns, none of them
+/// twice.
 fn mapped_columns(
     alloc: Global,
     outputs: &[Expr],
@@ -246,7 +246,7 @@ fn mapped_columns(
     }
 }
 
-/// The same of pairs that are not made yet: where the outputs are columns, only these are made.
+/// The values of the outputs over pairs that are not made yet: where the outputs are columns, only these are made.
 fn mapped_pairs(
     alloc: Global,
     instance: &[Vec<Row>],
@@ -364,7 +364,7 @@ pub fn grouped(
     }
 }
 
-/// The same of a list of rows.
+/// The rows of a Group's sets over a list of rows.
 fn grouped_rows(
     alloc: Global,
     instance: &[Vec<Row>],

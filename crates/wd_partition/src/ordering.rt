@@ -139,8 +139,7 @@ pub fn sorted_arrangement(
     Ok(arrangement)
 }
 
-/// The same by numbers in the place of rows, which are found once for both; none where the rows have
-/// none.
+/// The sorted ordering by numbers in the place of rows, which are found once for both; none where the rows have none.
 fn coded_arrangement(
     alloc: Global,
     rows: &RowSource,

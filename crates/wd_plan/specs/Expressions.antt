@@ -1,4 +1,5 @@
--- Expressions as pure data, and their values over a row (SQL, value expression, search condition, case expression).
+-- Expressions as pure data, and their values over a row (SQL, value expression, search condition, case expression). A column past a
+-- row's last is NULL; no plan that fits has one.
 use Rattle.std.specs.Prelude.{ℕ, zero, ◌-◌, ◌^◌, ℤ, pos, negsuc, ◌+ℤ◌, ◌-ℤ◌, ◌*ℤ◌, neg_ℤ, int_le, int_div, int_rem, Bool, true, false, not, ◌&&◌, Result, Ok, Err, if◌then◌else◌}
 use Rattle.std.specs.Ordering.{is_lt, is_gt, is_eq}
 use Rattle.std.specs.declared.cmp.Ordering.{Ordering}

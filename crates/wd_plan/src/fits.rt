@@ -1,4 +1,8 @@
 //! Whether a plan fits a schema.
+//!
+//! A Group fits only where each grouping column stands in some set. A query never names one that doesn't, and for a plan by hand the
+//! facts of one set would be false: a column that is NULL everywhere would be determined by what determined it below. A set may name
+//! a column twice, and a list may have a set twice: its rows then come twice, and GROUPING does not tell them apart.
 
 ghost use Rattle.std.specs.Prelude.{◌≡◌, ◌-◌, ◌^◌, min, map, nat_lt, option_and_then, option_map, slice_get};
 ghost use Rattle.std.specs.List.{list_all, list_any};

@@ -49,7 +49,7 @@ const DEFAULT_FRAME: Frame = Frame {
 };
 
 impl Window {
-    /// The same window; the lists are shared.
+    /// This window, whose lists are shared.
     pub fn share(&self) -> Result<Window, OutOfMemory>
         ensures { IfOk result (λ w. window_of w ≡ window_of self.now) }
     {

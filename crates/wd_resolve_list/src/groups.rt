@@ -155,7 +155,7 @@ pub(crate) fn add_having(
     }
 }
 
-/// The same calls, which are shared.
+/// These calls, which are shared.
 pub(crate) fn shared(
     alloc: Global,
     calls: &[Rc<GroupCall>],

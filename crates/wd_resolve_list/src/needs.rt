@@ -1,4 +1,6 @@
 //! What the expressions of a select list need of the rows below them, and where their leaves stand there.
+//!
+//! `Needs` is passed by value and given back, so that a refusal drops it.
 
 ghost use Rattle.std.specs.Prelude.{◌≡◌, ◌+◌, ◌≤◌, false, [], ◌∷◌, map, length, nat_lt, option_map, IfOk};
 ghost use Rattle.wd_resolve_operand.specs.Formulas.{leaves};
@@ -117,7 +119,7 @@ impl Needs {
         shown > MOST_COLUMNS || self.is_window_wide() || is_group_wide(&below.grouped, &self.groups)
     }
 
-    /// The same, also with what HAVING needs.
+    /// Whether some node has more than 1,024 columns, also with what HAVING needs.
     pub fn is_wide_with_having(
         &self,
         alloc: Global,

@@ -49,7 +49,7 @@ pub trait ColumnMap {
         ensures { Gives (λ n. n) result (meaning self.now (read leaf.now)) };
 }
 
-/// The same expression over what becomes of its leaves.
+/// An expression over what becomes of its leaves.
 #[tactic(auto, using(crate::proofs::Mapped::mapped_over_leaves))]
 pub fn over_leaves<M: LeafMap>(
     alloc: Global,

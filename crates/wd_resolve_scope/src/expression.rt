@@ -35,7 +35,7 @@ use wd_syntax::{Arm, Link, Literal, Name, NamedWindow, Over, Sign, SortKey};
 use wd_value::Text;
 
 impl Context<'_> {
-    /// The same scope and windows, at another place.
+    /// This scope and its windows, at another place.
     fn moved_to(&self, place: Place) -> Context<'_>
         ensures { context_of result ≡ spec.moved_to place (context_of self.now) }
     {

@@ -31,7 +31,7 @@ pub fn certificates_come_out()
     ensures { CertificatesComeOut }
 {}
 
-/// The same of grouped queries, and which facts their groups give.
+/// By what some certificates of grouped queries are refused, that others are valid, and which facts their groups give.
 pub fn groups_are_certified()
     ensures { GroupsAreCertified }
 {}

@@ -30,8 +30,7 @@ pub fn value_of(
     value_over(alloc, expression, &RowView::of_row(row))
 }
 
-/// The same over the values of two rows, the first one's before the second one's, which stay where
-/// they are.
+/// The value of an expression over two rows concatenated, or its fault: the rows stay where they are.
 pub fn value_of_pair(
     alloc: Global,
     expression: &Expr,
@@ -43,7 +42,7 @@ pub fn value_of_pair(
     value_over(alloc, expression, &RowView::of_pair(first, second))
 }
 
-/// The same over a view of a row.
+/// The value of an expression over a view of a row, or its fault.
 fn value_over(
     alloc: Global,
     expression: &Expr,

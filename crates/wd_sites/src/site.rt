@@ -1,4 +1,8 @@
 //! The sites of a plan's window calls and limits.
+//!
+//! The syntax tree has no places. Selects in the order in which they end are those of the plan in postorder, and the calls that the
+//! Map above a Window shows, from left to right, are the words OVER of its select. Where the numbers differ, as for tokens of another
+//! query, there is no site.
 
 ghost use Rattle.std.specs.Prelude.{IfOk, IfSome, IsTrue, All};
 ghost use Rattle.wd_sites.specs.Sites.{IsCallSite, IsKeyPlace, IsSite, IsSiteAt, IsSiteOf, IsTerminalAt};

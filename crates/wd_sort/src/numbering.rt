@@ -29,7 +29,7 @@ pub fn value_codes(
     known_codes(alloc, rows, column, positions, &null, known)
 }
 
-/// The same from the values that are known before any row is met.
+/// The ranks that are known before any row is met.
 fn known_codes<'a>(
     alloc: Global,
     rows: &'a RowSource<'_>,

@@ -58,7 +58,7 @@ pub fn sorted_in(
     }
 }
 
-/// The same by comparisons of rows.
+/// The given positions sorted as `sorted_from` does, by comparisons of rows.
 pub fn sorted_by_rows(
     alloc: Global,
     rows: &RowSource,

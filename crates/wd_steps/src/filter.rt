@@ -34,7 +34,8 @@ pub fn filter_rows(
     Ok(rows_or_fault(rows, fault))
 }
 
-/// The same of rows that stay where they are: copies of those for which the condition is true.
+/// Copies of the rows for which the condition is true, in their order, or the least fault among all rows. The rows stay where they
+/// are.
 pub fn copy_filtered(alloc: Global, condition: &Expr, rows: &[Row]) -> Result<Outcome, OutOfMemory>
     ensures { IfOk result (λ o. outcome_of o ≡ spec.filter_outcome (expression_of condition.now) (rows_of rows.now)) }
 {

@@ -22,7 +22,7 @@ pub fn map_rows(alloc: Global, outputs: &[Expr], rows: &[Row]) -> Result<Outcome
     map_rows_with_room(alloc, outputs, rows, 0)
 }
 
-/// The same, where each row has memory for so many values more.
+/// A row of the expressions' values for each row, with memory for so many values more, or the least fault among all of them.
 pub fn map_rows_with_room(
     alloc: Global,
     outputs: &[Expr],

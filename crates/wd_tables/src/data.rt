@@ -39,7 +39,7 @@ pub fn load(alloc: Global, table: &Table, text: &[u8]) -> Result<Vec<Row>, DataE
     Ok(rows)
 }
 
-/// The same rows, kept column by column.
+/// The rows of a table that [`load`] reads, kept column by column.
 pub fn load_columns(alloc: Global, table: &Table, text: &[u8]) -> Result<Columns, DataError>
     ensures holds { IfOk result (λ v. HoldsRows (table_of table.now) text.now v) }
     ensures meets { IfOk result (λ v. MeetsTable (table_of table.now) v) }

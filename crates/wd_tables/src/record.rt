@@ -18,8 +18,8 @@ pub fn next_record(reader: &mut Reader<&[u8]>, fields: &mut StringRecord) -> Res
     }
 }
 
-/// The same for the record with a number, which is not read where it is the one that is known not to
-/// be well-formed.
+/// Reads the record with a number in place of the one before, and says whether there was one; the one that is known not to be
+/// well-formed is not read.
 pub fn next_unless(
     reader: &mut Reader<&[u8]>,
     fields: &mut StringRecord,

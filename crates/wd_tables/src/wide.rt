@@ -1,5 +1,6 @@
 //! Records that have more fields than the table has columns, found before they are read: a reader
-//! keeps the end of each field of a record, in eight bytes, before it says how many there are.
+//! keeps the end of each field of a record, in eight bytes, before it says how many there are. As a header such a record is 701
+//! where its fields are UTF-8 and else 705; as a later record it is 705 when its turn comes, as reading would refuse it.
 
 ghost use Rattle.std.specs.Prelude.{◌≡◌, ◌↔◌, ◌<◌, true, length, IfOk, IfSome, IsUtf8};
 ghost use Rattle.csv.specs.Reading.{strip_bom};

@@ -1,4 +1,5 @@
--- Rows and lists of rows, and how contracts see those of the code.
+-- Rows and lists of rows, and how contracts see those of the code. A position past the last row stands for the row without columns;
+-- no plan that fits has one.
 use Rattle.std.specs.Prelude.{ℕ, Bool, List, [], map, slice_index_or}
 use Rattle.std.specs.declared.alloc.Global.{Global}
 use Rattle.std.specs.declared.vec.Vec.{Vec}
