@@ -9,7 +9,11 @@ mod rows;
 mod shape;
 mod tied;
 
+pub use marks::is_marked;
+pub use origins::{
+    TableColumn, add_calls, group_origins, origin_in, output_origins, table_origins,
+};
 pub use outline::{Outline, outline_of};
-pub use rows::candidate;
+pub use rows::{candidate, fixed_at, fixed_columns, keyed_columns};
 pub use shape::{Shape, Style, shapes};
 pub use tied::{TiedColumns, tied_columns};

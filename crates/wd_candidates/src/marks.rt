@@ -25,7 +25,7 @@ pub(crate) fn unmarked(alloc: Global, columns: usize) -> Result<Vec<bool>, OutOf
 }
 
 /// Whether a column is marked.
-pub(crate) fn is_marked(marks: &[bool], column: usize) -> bool
+pub fn is_marked(marks: &[bool], column: usize) -> bool
     ensures { result ≡ is_marked marks.now column }
 {
     match marks.get(column) {

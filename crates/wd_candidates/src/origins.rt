@@ -12,13 +12,13 @@ use wd_value::OutOfMemory;
 
 /// A column of a table, both by number.
 #[derive(Clone, Copy)]
-pub(crate) struct TableColumn {
+pub struct TableColumn {
     pub table: u16,
     pub column: u16,
 }
 
 /// The origin of a column of a node, by those of all its columns.
-pub(crate) fn origin_in(origins: &[Option<TableColumn>], column: u16) -> Option<TableColumn>
+pub fn origin_in(origins: &[Option<TableColumn>], column: u16) -> Option<TableColumn>
     ensures { result ≡ spec.origin_in origins.now column }
 {
     match origins.get(usize::from(column)) {
@@ -29,7 +29,7 @@ pub(crate) fn origin_in(origins: &[Option<TableColumn>], column: u16) -> Option<
 
 /// The origins of the columns of a Scan.
 #[tactic(auto, using(crate::proofs::Copies::table_origins_more))]
-pub(crate) fn table_origins(
+pub fn table_origins(
     alloc: Global,
     table: u16,
     columns: u16,
@@ -54,7 +54,7 @@ fn output_origin(origins: &[Option<TableColumn>], output: &Expr) -> Option<Table
 }
 
 /// The origins of the columns of a Map, by those of its input's columns.
-pub(crate) fn output_origins(
+pub fn output_origins(
     alloc: Global,
     origins: &[Option<TableColumn>],
     outputs: &[Expr],
@@ -69,7 +69,7 @@ pub(crate) fn output_origins(
 }
 
 /// Appends that the columns of calls have no origin.
-pub(crate) fn add_calls(
+pub fn add_calls(
     calls: &[Call],
     origins: &mut Vec<Option<TableColumn>>,
 ) -> Result<(), OutOfMemory>
@@ -82,7 +82,7 @@ pub(crate) fn add_calls(
 }
 
 /// The origins of the columns of a Group, by those of its input's columns: a call has none.
-pub(crate) fn group_origins(
+pub fn group_origins(
     alloc: Global,
     origins: &[Option<TableColumn>],
     group: &Group,

@@ -60,7 +60,7 @@ fn rows_of_table(
 }
 
 /// What the columns of the table with this number are fixed to.
-fn fixed_columns(outline: &Outline, table: usize) -> &[Option<Value>]
+pub fn fixed_columns(outline: &Outline, table: usize) -> &[Option<Value>]
     ensures { result.now ≡ slice_index_or (map (λ columns. columns.items) outline.now.fixed.items) table [] }
 {
     match outline.fixed.get(table) {
@@ -99,7 +99,7 @@ fn candidate_rows(
 }
 
 /// Which columns of a table stand in a key.
-fn keyed_columns(alloc: Global, table: &Table) -> Result<Vec<bool>, OutOfMemory>
+pub fn keyed_columns(alloc: Global, table: &Table) -> Result<Vec<bool>, OutOfMemory>
     ensures { IfOk result (λ v. (c : ℕ) → c < length table.now.columns.items → is_marked v.items c ≡ spec.is_keyed (map key_of table.now.keys.items) c) }
 {
     let mut keyed = unmarked(alloc, table.columns.len())?;
@@ -141,7 +141,7 @@ fn candidate_row(
 }
 
 /// What the column with this number is fixed to, where it is.
-fn fixed_at(fixed: &[Option<Value>], column: usize) -> Option<&Value>
+pub fn fixed_at(fixed: &[Option<Value>], column: usize) -> Option<&Value>
     ensures { option_map (λ v. v.now) result ≡ slice_index_or fixed.now column None }
 {
     match fixed.get(column) {

@@ -1,4 +1,4 @@
--- A witness that names the scanned tables of a candidate is over that candidate.
+-- A witness that names the scanned tables of an instance with few rows is over that instance, and a candidate is one.
 use Rattle.std.proofs.Common.{◌≡◌, ℕ, zero, suc, ◌+◌, ◌<◌, ◌≤◌, Bool, true, false, All, Any, List, [], ◌∷◌, map, length, get_or, find, Option, Some, None, refl, sym, ◌∙◌, ap, subst, arith, ltb}
 use Rattle.std.proofs.lemmas.Bool.{false≢true, ltb-true, ltb-false}
 use Rattle.std.proofs.lemmas.List.{length-map}
@@ -22,7 +22,7 @@ use Rattle.wd_candidates.specs.Outlines.{IsOutline, scanned_in}
 use Rattle.wd_candidates.specs.Tied.{NodeColumns, is_tied}
 use Rattle.wd_candidates.specs.declared.outline.Outline.{Outline}
 use Rattle.wd_candidates.specs.declared.shape.Shape.{Shape}
-use Rattle.wd_seek.specs.Witnesses.{HasScannedRows, IsNameOf, IsScannedTable, NamesDiffer}
+use Rattle.wd_seek.specs.Witnesses.{HasFewRows, HasScannedRows, IsNameOf, IsScannedTable, NamesDiffer}
 use Rattle.wd_seek.proofs.Building.{found_in, other_name, rule_at}
 use Rattle.wd_seek.proofs.Meeting.{row_fits, row_length, table_met}
 
@@ -93,18 +93,30 @@ module _ (tables : List TableRule) (plan : PlanTree) (o : NodeColumns) (shape : 
   few_of true t small = let n = length-map (positions shape.rows) (candidate_row (table_rule tables t) (fixed_value (table_rule tables t).columns plan t) (is_tied o t) shape.style) in let m = length-range_with_len 0 shape.rows in omega (arith, n, m, small)
   few_of false t small = omega arith
 
-  few : shape.rows ≤ 64 → (t : ℕ) → t < length tables → length (table_at (candidate tables plan o shape) t) ≤ 64
-  few small t within = subst (λ rows. length rows ≤ 64) (sym (rows_are t within)) (few_of (is_scanned plan t) t small)
-
   none_of : (t : ℕ) → is_scanned plan t ≡ false → rows_of_table t ≡ []
   none_of t e = rw e refl
 
-module _ (tables : List TableRule) (plan : PlanTree) (outline : Outline) (o : NodeColumns) (shape : Shape) (named : List TableRows)
-    (differ : NamesDiffer tables) (is_outline : IsOutline tables plan outline) (small : shape.rows ≤ 64)
-    (meets : Meets tables (candidate tables plan o shape)) (h : HasScannedRows tables outline (candidate tables plan o shape) named) where
-  abbrev instance : Instance
-  instance = candidate tables plan o shape
+  pub few_rows : shape.rows ≤ 64 → HasFewRows tables plan (candidate tables plan o shape)
+  few_rows small = record {
+    few = λ t within. subst (λ rows. length rows ≤ 64) (sym (rows_are t within)) (few_of (is_scanned plan t) t small);
+    none = λ t within e. rows_are t within ∙ none_of t e;
+  }
 
+-- ---- an instance with few rows
+
+each_table : (f : ℕ → List Row) (instance : Instance) (a : ℕ) → ((k : ℕ) → k < length instance → f (a + k) ≡ table_at instance k) → map f (range_with_len a (length instance)) ≡ instance
+each_table f [] a h = refl
+each_table f (rows ∷ instance) a h =
+    let head : f a ≡ rows = ap f (omega arith) ∙ h 0 (omega arith) in
+    let tail = each_table f instance (a + 1) (λ k l. ap f (omega arith) ∙ h (suc k) (omega arith)) in
+    λ i. head i ∷ tail i
+
+all_tables_of : (instance : Instance) (n : ℕ) → length instance ≡ n → map (table_at instance) (range_with_len 0 n) ≡ instance
+all_tables_of instance n e = ap (λ m. map (table_at instance) (range_with_len 0 m)) (sym e) ∙ each_table (table_at instance) instance 0 (λ k l. ap (table_at instance) (omega arith))
+
+module _ (tables : List TableRule) (plan : PlanTree) (outline : Outline) (instance : Instance) (named : List TableRows)
+    (differ : NamesDiffer tables) (is_outline : IsOutline tables plan outline) (small : HasFewRows tables plan instance)
+    (meets : Meets tables instance) (h : HasScannedRows tables outline instance named) where
   abbrev IsHere : TableRows → Type 0
   IsHere = IsScannedTable tables outline instance
 
@@ -112,7 +124,7 @@ module _ (tables : List TableRule) (plan : PlanTree) (outline : Outline) (o : No
   table_is t s = record {
     table = table_rule tables s.table;
     known = subst (λ n. table_named n tables ≡ Some (table_rule tables s.table)) s.name.is (first_named tables s.table differ s.name.within);
-    few = subst (λ rows. length rows ≤ 64) (sym s.rows) (few tables plan o shape small s.table s.name.within);
+    few = subst (λ rows. length rows ≤ 64) (sym s.rows) (small.few s.table s.name.within);
     values = subst (All (λ row. length row ≡ length (table_rule tables s.table).columns)) (sym s.rows)
         (All-weaker (λ row. fits_columns (table_rule tables s.table).columns row ≡ true) (λ row. length row ≡ length (table_rule tables s.table).columns) (row_length (table_rule tables s.table).columns)
         (table_at instance s.table) (table_met tables instance meets s.table s.name.within).values);
@@ -150,9 +162,9 @@ module _ (tables : List TableRule) (plan : PlanTree) (outline : Outline) (o : No
       let place = same_place tables differ s.table t s.name.within within (s.name.is ∙ sym same) in
       absurd (false≢true (sym other ∙ sym (is_outline.scanned t within) ∙ subst (λ n. scanned_in outline n ≡ true) place s.name.scanned))
 
-  rows_named_are : (t : ℕ) → t < length tables → (b : Bool) → is_scanned plan t ≡ b → rows_named (table_rule tables t).name named ≡ rows_of_table tables plan o shape t
-  rows_named_are t within true e = ap rows_in (h.found t within (is_outline.scanned t within ∙ e)) ∙ rows_are tables plan o shape t within
-  rows_named_are t within false e = not_found t within e (found_in (table_rule tables t).name named) refl ∙ sym (none_of tables plan o shape t e)
+  rows_named_are : (t : ℕ) → t < length tables → (b : Bool) → is_scanned plan t ≡ b → rows_named (table_rule tables t).name named ≡ table_at instance t
+  rows_named_are t within true e = ap rows_in (h.found t within (is_outline.scanned t within ∙ e))
+  rows_named_are t within false e = not_found t within e (found_in (table_rule tables t).name named) refl ∙ sym (small.none t within e)
 
   pub is_over : map (λ (table : TableRule). rows_named table.name named) tables ≡ instance
-  is_over = map_over (rows_of_table tables plan o shape) (λ table. rows_named table.name named) tables 0 (λ k l. rows_named_are k l (is_scanned plan k) refl ∙ ap (rows_of_table tables plan o shape) (omega arith))
+  is_over = map_over (table_at instance) (λ table. rows_named table.name named) tables 0 (λ k l. rows_named_are k l (is_scanned plan k) refl ∙ ap (table_at instance) (omega arith)) ∙ all_tables_of instance (length tables) meets.lists

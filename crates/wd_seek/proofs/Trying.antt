@@ -1,4 +1,4 @@
--- What is found over the candidate of one shape.
+-- What is found over one instance, and over one after another.
 use Rattle.std.proofs.Common.{◌≡◌, ℕ, ◌+◌, ◌<◌, ◌≤◌, Bool, true, false, List, [], ◌∷◌, ◌++◌, filter, flat_map, length, get_or, take, drop, Option, Some, None, refl, sym, subst, ap, ◌∙◌}
 use Rattle.std.proofs.lemmas.Grind.{flat_map-append}
 use Rattle.std.proofs.lemmas.List.{append-nil, take_all, take_more, take-append-drop}
@@ -8,16 +8,14 @@ use Rattle.wd_schema.specs.Meets.{Meets}
 use Rattle.wd_schema.specs.Tables.{TableRule}
 use Rattle.wd_plan.specs.Plans.{PlanTree}
 use Rattle.wd_witness_text.specs.declared.witness.Witness.{Witness}
-use Rattle.wd_candidates.specs.Candidates.{candidate}
 use Rattle.wd_candidates.specs.Outlines.{IsOutline}
-use Rattle.wd_candidates.specs.Tied.{NodeColumns}
 use Rattle.wd_candidates.specs.declared.outline.Outline.{Outline}
-use Rattle.wd_candidates.specs.declared.shape.Shape.{Shape}
 use Rattle.wd_seek.specs.Evaluations.{most_evaluations}
 use Rattle.wd_seek.specs.Search.{FindsNothing}
 use Rattle.wd_seek.proofs.Searching.{nothing_then, nothing_to_try, two_before, two_then}
 use Rattle.wd_seek.specs.Sought.{IsSought, is_meeting}
 use Rattle.wd_seek.specs.Tried.{IsTried}
+use Rattle.wd_seek.specs.Witnesses.{HasFewRows}
 use Rattle.wd_seek.proofs.Meeting.{meets_from_test, test_from_meets}
 use Rattle.wd_seek.proofs.Over.{all_fit, all_tables, has_name, is_name, is_over}
 
@@ -28,21 +26,21 @@ not_met tables plan instance start other = by (is_meeting tables instance) refl
     by true e = absurd (other (meets_from_test tables instance e))
     by false e = rw e (nothing_to_try plan start)
 
-pub met : (tables : List TableRule) (plan : PlanTree) (outline : Outline) (o : NodeColumns) (shape : Shape) (start end : ℕ) (found : Option Witness) → IsOutline tables plan outline → shape.rows ≤ 64
-    → Meets tables (candidate tables plan o shape) → IsTried tables plan outline (candidate tables plan o shape) start found end
-    → IsSought tables plan (filter (is_meeting tables) (candidate tables plan o shape ∷ [])) start found end
-met tables plan outline o shape start end None is_outline small meets h = rw (test_from_meets tables (candidate tables plan o shape) meets) h
-met tables plan outline o shape start end (Some w) is_outline small meets h =
-    rw (test_from_meets tables (candidate tables plan o shape) meets) (record {
-      instance = candidate tables plan o shape;
+pub met : (tables : List TableRule) (plan : PlanTree) (outline : Outline) (instance : Instance) (start end : ℕ) (found : Option Witness) → IsOutline tables plan outline → HasFewRows tables plan instance
+    → Meets tables instance → IsTried tables plan outline instance start found end
+    → IsSought tables plan (filter (is_meeting tables) (instance ∷ [])) start found end
+met tables plan outline instance start end None is_outline small meets h = rw (test_from_meets tables instance meets) h
+met tables plan outline instance start end (Some w) is_outline small meets h =
+    rw (test_from_meets tables instance meets) (record {
+      instance = instance;
       meets = meets;
       two = h.two;
       over = record {
-        of_tables = all_tables tables plan outline o shape _ h.differ is_outline small meets h.rows;
-        named = λ name. (is_name tables plan outline o shape _ h.differ is_outline small meets h.rows name, has_name tables plan outline o shape _ h.differ is_outline small meets h.rows name);
-        is = is_over tables plan outline o shape _ h.differ is_outline small meets h.rows;
+        of_tables = all_tables tables plan outline instance _ h.differ is_outline small meets h.rows;
+        named = λ name. (is_name tables plan outline instance _ h.differ is_outline small meets h.rows name, has_name tables plan outline instance _ h.differ is_outline small meets h.rows name);
+        is = is_over tables plan outline instance _ h.differ is_outline small meets h.rows;
       };
-      fits = all_fit tables plan outline o shape _ h.differ is_outline small meets h.rows;
+      fits = all_fit tables plan outline instance _ h.differ is_outline small meets h.rows;
     })
 
 -- ---- one candidate after another

@@ -1,5 +1,5 @@
 -- A witness over an instance of a schema, in which the tables are named that a plan scans.
-use Rattle.std.specs.Prelude.{◌≡◌, ◌≢◌, ◌↔◌, ℕ, ◌<◌, All, AllPairs, Any, List, length, find, Some, true}
+use Rattle.std.specs.Prelude.{◌≡◌, ◌≢◌, ◌↔◌, ℕ, ◌<◌, ◌≤◌, All, AllPairs, Any, List, [], length, find, Some, true, false}
 use Rattle.std.specs.Str.{bytes_eq}
 use Rattle.wd_value.specs.Rows.{Instance, table_at}
 use Rattle.wd_schema.specs.Tables.{TableRule}
@@ -22,6 +22,11 @@ pub record IsOver (tables : List TableRule) (plan : PlanTree) (instance : Instan
   pub of_tables : IsOf tables w
   pub named : (name : List ℕ) → Any (λ t. t.name ≡ name) w.tables ↔ IsNameOf tables plan name
   pub is : instance_under tables w ≡ instance
+
+-- no table of the instance has more rows than one of a witness may have, and one that the plan does not scan has none
+pub record HasFewRows (tables : List TableRule) (plan : PlanTree) (instance : Instance) : Type 0 where
+  pub few : (table : ℕ) → table < length tables → length (table_at instance table) ≤ 64
+  pub none : (table : ℕ) → table < length tables → is_scanned plan table ≡ false → table_at instance table ≡ []
 
 -- the names of tables differ
 abbrev pub NamesDiffer : List TableRule → Type 0

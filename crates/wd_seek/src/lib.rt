@@ -10,3 +10,4 @@ mod tried;
 mod witness;
 
 pub use search::seek;
+pub use tried::try_candidate;

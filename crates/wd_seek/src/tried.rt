@@ -11,6 +11,7 @@ ghost use Rattle.wd_schema.specs.Meets.{Meets};
 ghost use Rattle.wd_schema.specs.Schemas.{schema_of};
 ghost use Rattle.wd_seek.specs.Sought.{IsSought, is_meeting};
 ghost use Rattle.wd_seek.specs.Tried.{IsTried};
+ghost use Rattle.wd_seek.specs.Witnesses.{HasFewRows};
 ghost use Rattle.wd_value.specs.Rows.{instance_of};
 
 use crate::probed::{MOST_EVALUATIONS, probe};
@@ -48,7 +49,7 @@ pub(crate) fn try_shapes(
     Ok((None, total))
 }
 
-/// Tries the candidate of a shape, if it meets the schema and an evaluation is left.
+/// Tries the candidate of a shape, if an evaluation is left.
 fn try_shape(
     alloc: Global,
     schema: &Schema,
@@ -69,6 +70,25 @@ fn try_shape(
         return Ok((None, spent));
     }
     let instance = candidate(alloc, schema, outline, tied, shape)?;
+    try_candidate(alloc, schema, plan, outline, instance, spent)
+}
+
+/// Tries an instance of a plan's tables, if it meets the schema: the witness over it where two outcomes do not agree, and the number
+/// of evaluations, that of the ones before included.
+pub fn try_candidate(
+    alloc: Global,
+    schema: &Schema,
+    plan: &Plan,
+    outline: &Outline,
+    instance: Instance,
+    spent: u32,
+) -> Result<(Option<Witness>, u32), OutOfMemory>
+    requires fitting { fits (schema_of schema.now) (plan_of plan.now) ≡ true }
+    requires outline { IsOutline (schema_of schema.now) (plan_of plan.now) outline.now }
+    requires few { spent ≤ most_evaluations }
+    ensures few { IfOk result (λ r. r.1 ≤ most_evaluations) }
+    ensures sought { IfOk result (λ r. HasFewRows (schema_of schema.now) (plan_of plan.now) (instance_of instance.items) → IsSought (schema_of schema.now) (plan_of plan.now) (filter (is_meeting (schema_of schema.now)) (instance_of instance.items ∷ [])) spent r.0 r.1) }
+{
     match meets(schema, &instance) {
         Ok(()) => try_instance(alloc, schema, plan, outline, instance, spent),
         Err(_) => Ok((None, spent)),
