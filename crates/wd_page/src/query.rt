@@ -35,6 +35,8 @@ pub struct Judged<'a> {
     pub certificate: Option<&'a Certificate>,
     /// The rows over which it has two answers, by the names of the tables, where they are known.
     pub tables: Option<&'a BTreeMap<String, Vec<Row>>>,
+    /// By which columns of which tables rows tie at the first place that is open, by their numbers.
+    pub ties: &'a [Vec<bool>],
     /// These answers.
     pub answers: Option<(&'a Outcome, &'a Outcome)>,
 }

@@ -179,8 +179,11 @@ fn add_heading(page: &mut Page, heading: &str) -> Result<(), OutOfMemory> {
 /// Adds the rows over which a query has two answers, and these.
 fn add_evidence(alloc: Global, page: &mut Page, judged: Judged<'_>) -> Result<(), OutOfMemory> {
     if let Some(tables) = judged.tables {
-        add_heading(page, "Rows that the schema allows")?;
-        add_tables(alloc, page, judged.schema, tables)?;
+        add_heading(
+            page,
+            "Rows that the schema allows, which tie by the marked columns",
+        )?;
+        add_tables(alloc, page, judged.schema, tables, judged.ties)?;
     }
     if let Some((first, second)) = judged.answers {
         add_heading(page, "Two answers over them, as the database likes")?;

@@ -6,20 +6,22 @@ use crate::words::value_text;
 use std::alloc::Global;
 use std::collections::BTreeMap;
 use wd_markup::{Class, Page, Tag};
-use wd_schema::{Column, Schema};
+use wd_schema::{Column, Schema, Table};
 use wd_value::{OutOfMemory, Row, Value};
 
-/// Adds tables of a schema with these rows, side by side.
+/// Adds tables of a schema with these rows, side by side. The names of columns are marked for which `ties` says so, by the numbers of
+/// the tables and the columns.
 pub fn add_tables(
     alloc: Global,
     page: &mut Page,
     schema: &Schema,
     tables: &BTreeMap<String, Vec<Row>>,
+    ties: &[Vec<bool>],
 ) -> Result<(), OutOfMemory>
     ensures appended { OnOk result (take (length page.old) page.new ≡ page.old) }
     ensures kept { OnErr result (page.new ≡ page.old) }
 {
-    let part = tables_part(alloc, schema, tables)?;
+    let part = tables_part(alloc, schema, tables, ties)?;
     Ok(page.append(&part)?)
 }
 
@@ -28,28 +30,37 @@ fn tables_part(
     alloc: Global,
     schema: &Schema,
     tables: &BTreeMap<String, Vec<Row>>,
+    ties: &[Vec<bool>],
 ) -> Result<Page, OutOfMemory> {
     let mut page = Page::new(alloc);
     page.open(Tag::Division, Class::Side)?;
-    for (name, rows) in tables {
-        add_table(alloc, &mut page, schema, name.as_str(), rows)?;
+    for (number, (name, table)) in schema.tables.iter().enumerate() {
+        if let Some(rows) = tables.get(name.as_str()) {
+            add_table(alloc, &mut page, table, tied_columns(ties, number), rows)?;
+        }
     }
     page.close(Tag::Division)?;
     Ok(page)
+}
+
+/// Which columns of the table with this number rows tie by.
+fn tied_columns(ties: &[Vec<bool>], number: usize) -> &[bool] {
+    match ties.get(number) {
+        Some(columns) => columns,
+        None => &[],
+    }
 }
 
 /// Adds a table with its name.
 fn add_table(
     alloc: Global,
     page: &mut Page,
-    schema: &Schema,
-    name: &str,
+    table: &Table,
+    tied: &[bool],
     rows: &[Row],
 ) -> Result<(), OutOfMemory> {
-    begin_table(page, name)?;
-    if let Some(table) = schema.table(name) {
-        add_columns(page, &table.columns)?;
-    }
+    begin_table(page, table.name.as_str())?;
+    add_columns(page, &table.columns, tied)?;
     for row in rows {
         add_row(alloc, page, row)?;
     }
@@ -71,11 +82,17 @@ pub(crate) fn end_table(page: &mut Page) -> Result<(), OutOfMemory> {
     Ok(page.close(Tag::Figure)?)
 }
 
-/// Adds the names of a table's columns.
-fn add_columns(page: &mut Page, columns: &[Column]) -> Result<(), OutOfMemory> {
+/// Adds the names of a table's columns, marked where rows tie by them.
+fn add_columns(page: &mut Page, columns: &[Column], tied: &[bool]) -> Result<(), OutOfMemory> {
     page.open(Tag::Row, Class::Plain)?;
-    for column in columns {
-        page.element(Tag::HeadCell, Class::Plain, column.name.as_bytes())?;
+    for (number, column) in columns.iter().enumerate() {
+        if matches!(tied.get(number), Some(true)) {
+            page.open(Tag::HeadCell, Class::Plain)?;
+            page.element(Tag::Mark, Class::Plain, column.name.as_bytes())?;
+            page.close(Tag::HeadCell)?;
+        } else {
+            page.element(Tag::HeadCell, Class::Plain, column.name.as_bytes())?;
+        }
     }
     Ok(page.close(Tag::Row)?)
 }
