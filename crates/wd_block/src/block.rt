@@ -6,7 +6,6 @@ use crate::alike::add_alike;
 use crate::words::{kind_of, lack_words, place_words};
 use std::alloc::Global;
 use std::fmt::Write;
-use wd_candidates::TiedColumns;
 use wd_finding::{Finding, OpenPlace};
 use wd_help::Help;
 use wd_lex::Span;
@@ -126,22 +125,14 @@ fn add_evidence(alloc: Global, out: &mut String, finding: &Finding) -> Result<()
         )?;
     }
     if let Some(witness) = finding.witness() {
-        let ties = tied_columns(&finding.ties);
-        add_tables(out, &finding.planned.schema, &witness.tables, ties)?;
+        let schema = &finding.planned.schema;
+        add_tables(out, schema, &witness.tables, &finding.ties)?;
     }
     if let Some(answers) = &finding.answers {
         let names = &finding.planned.resolved.names;
         add_answers(alloc, out, names, &answers.first, &answers.second)?;
     }
     Ok(())
-}
-
-/// By which columns of which tables rows tie, by their numbers.
-pub fn tied_columns(ties: &Option<TiedColumns>) -> &[Vec<bool>] {
-    match ties {
-        Some(ties) => &ties.tables,
-        None => &[],
-    }
 }
 
 /// Adds the help for a place: its ORDER BY with the keys, and with what else the query has one answer then.

@@ -5,5 +5,5 @@ mod alike;
 mod block;
 mod words;
 
-pub use block::{Statement, add_open, tied_columns};
+pub use block::{Statement, add_open};
 pub use words::{kind_of, lack_words, place_words};

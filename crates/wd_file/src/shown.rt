@@ -3,7 +3,7 @@
 use crate::file::Task;
 use crate::hold::{Hold, Settled};
 use std::alloc::Global;
-use wd_block::{lack_words, place_words, tied_columns};
+use wd_block::{lack_words, place_words};
 use wd_certificate::Certificate;
 use wd_decide::{DecideError, Verdict};
 use wd_finding::{Finding, OpenPlace, RefusedText};
@@ -117,7 +117,7 @@ fn show_finding(
             Some(witness) => Some(&witness.tables),
             None => None,
         },
-        ties: tied_columns(&finding.ties),
+        ties: &finding.ties,
         answers: match &finding.answers {
             Some(answers) => Some((&answers.first, &answers.second)),
             None => None,

@@ -1,5 +1,5 @@
 -- What a finding says.
-use Rattle.std.specs.Prelude.{◌≡◌, ℕ, List, [], ◌∷◌, map, Option, Some, None, IfSome, option_map, ⊤}
+use Rattle.std.specs.Prelude.{◌≡◌, ℕ, List, [], map, Option, Some, None, IfSome, option_map, ⊤}
 use Rattle.wd_schema.specs.Schemas.{schema_of}
 use Rattle.wd_schema.specs.Tables.{TableRule}
 use Rattle.wd_plan.specs.Outcomes.{outcome_of}
@@ -13,9 +13,8 @@ use Rattle.wd_certain.specs.declared.certain.Certain.{Certain}
 use Rattle.wd_eval.specs.Judged.{IsOutcome}
 use Rattle.wd_query.specs.Readings.{IsRead}
 use Rattle.wd_seek.specs.Sought.{reasons_of}
-use Rattle.wd_candidates.specs.Outlines.{AreTiedBy}
-use Rattle.wd_candidates.specs.Tied.{ordered_by}
-use Rattle.wd_candidates.specs.declared.tied.TiedColumns.{TiedColumns}
+use Rattle.wd_candidates.specs.declared.origins.TableColumn.{TableColumn}
+use Rattle.wd_ties.specs.Ties.{AreTies}
 use Rattle.wd_decide.specs.Verdicts.{IsVerdict}
 use Rattle.wd_decide.specs.declared.verdict.Verdict.{Verdict}
 use Rattle.wd_decide.specs.declared.verdict.Verdict.TheVariants.{Deterministic, Depends, Unknown}
@@ -43,13 +42,13 @@ abbrev pub AreAnswers : List TableRule → PlanTree → Option Witness → Optio
 AreAnswers tables plan None answers = answers ≡ None
 AreAnswers tables plan (Some witness) answers = IfSome answers (AreUnder tables plan (witness_of witness))
 
+-- the columns of tables that are marked: those by which rows tie that its choices put into other places, and none without a witness
+abbrev pub AreMarked : PlanTree → Option Witness → List TableColumn → Type 0
+AreMarked plan None ties = ties ≡ []
+AreMarked plan (Some witness) ties = AreTies plan (witness_of witness).first (witness_of witness).second ties
+
 abbrev pub reason_of : OpenPlace → Reason
 reason_of place = place.reason
-
--- the columns of tables by which rows are ordered at the first place, and none without a place
-abbrev pub AreTies : List TableRule → PlanTree → List OpenPlace → Option TiedColumns → Type 0
-AreTies tables plan [] ties = ties ≡ None
-AreTies tables plan (place ∷ places) ties = AreTiedBy tables (ordered_by plan place.reason.node place.reason.call) ties
 
 abbrev pub IsUnknown : Verdict → Type 0
 IsUnknown (Deterministic certificate) = ⊥
@@ -63,8 +62,7 @@ open_in (Some certain) analysis = []
 
 -- The plan reads the two texts, the verdict is one of `decide` on them; where that is UNKNOWN, there may be a certificate of a simpler plan,
 -- and then the query has one answer; what is open is what the analysis of the plan leaves open; what a further search found is true, and
--- the answers are those of the witness;
--- rows that are alike in the columns of `ties` tie at the first place that is open.
+-- the answers and the marked columns are those of the witness.
 pub record IsFinding (schema query : List ℕ) (finding : Finding) : Type 0 where
   pub read : IsRead schema query finding.planned
   pub verdict : IsVerdict schema query finding.verdict
@@ -76,4 +74,4 @@ pub record IsFinding (schema query : List ℕ) (finding : Finding) : Type 0 wher
   pub reasons : map reason_of finding.places.items ≡ open_in finding.certain analysis
   pub further : IfSome finding.further (IsFound schema query)
   pub answers : AreAnswers (schema_of finding.planned.schema) (plan_of finding.planned.resolved.plan) (witness_shown finding.verdict finding.further) finding.answers
-  pub ties : AreTies (schema_of finding.planned.schema) (plan_of finding.planned.resolved.plan) finding.places.items finding.ties
+  pub ties : AreMarked (plan_of finding.planned.resolved.plan) (witness_shown finding.verdict finding.further) finding.ties.items

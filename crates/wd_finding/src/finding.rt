@@ -4,7 +4,7 @@ ghost use Rattle.std.specs.Prelude.{◌≡◌, true, map, option_map, IfOk, IfEr
 ghost use Rattle.wd_accept.specs.Acceptance.{HaveOneAnswer};
 ghost use Rattle.wd_certain.specs.Certain.{IsCertain};
 ghost use Rattle.wd_decide.specs.Verdicts.{HasCause};
-ghost use Rattle.wd_finding.specs.Findings.{AreAnswers, AreTies, IsFinding, IsUnknown, open_in, reason_of, witness_shown};
+ghost use Rattle.wd_finding.specs.Findings.{AreAnswers, AreMarked, IsFinding, IsUnknown, open_in, reason_of, witness_shown};
 ghost use Rattle.wd_further.specs.Finds.{IsFound};
 ghost use Rattle.wd_plan.specs.Fits.{fits};
 ghost use Rattle.wd_plan.specs.Plans.{plan_of};
@@ -14,11 +14,11 @@ use crate::answers::{Answers, answers_under};
 use crate::place::{OpenPlace, places};
 use std::alloc::Global;
 use wd_analyse::{Analysis, Reason};
-use wd_candidates::{TiedColumns, tied_columns};
 use wd_certain::{Certain, certify_simpler};
 use wd_decide::{DecideError, Examined, Verdict, decide, examine};
 use wd_further::{Found, seek_further};
 use wd_query::PlannedQuery;
+use wd_ties::{TableColumn, tied_columns};
 use wd_value::OutOfMemory;
 use wd_witness_text::Witness;
 
@@ -36,9 +36,9 @@ pub struct Finding {
     pub further: Option<Found>,
     /// The two answers that the witness shows.
     pub answers: Option<Answers>,
-    /// The columns of tables by which rows are ordered at the first place that is open, so that rows which are alike in these tie
-    /// there.
-    pub ties: Option<TiedColumns>,
+    /// The columns of tables by which rows tie that the witness's choices put into other places: rows that tie there have the same
+    /// values in them.
+    pub ties: Vec<TableColumn>,
 }
 
 impl Finding {
@@ -126,13 +126,13 @@ fn with_evidence(
     ensures reasons { IfOk result (λ f. map reason_of f.places.items ≡ open_in certain examined.analysis) }
     ensures further { IfOk result (λ f. f.further ≡ further) }
     ensures answers { IfOk result (λ f. AreAnswers (schema_of examined.planned.schema) (plan_of examined.planned.resolved.plan) (witness_shown verdict further) f.answers) }
-    ensures ties { IfOk result (λ f. AreTies (schema_of examined.planned.schema) (plan_of examined.planned.resolved.plan) f.places.items f.ties) }
+    ensures ties { IfOk result (λ f. AreMarked (plan_of examined.planned.resolved.plan) (witness_shown verdict further) f.ties.items) }
 {
     let Examined { planned, analysis } = examined;
     let open = reasons_in(&certain, &analysis);
     let places = places(alloc, query, &planned.resolved.plan, open)?;
     let answers = answers_of(alloc, &planned, witness_of_all(&verdict, &further))?;
-    let ties = ties_at_first(alloc, &planned, &places)?;
+    let ties = ties_of(alloc, &planned, witness_of_all(&verdict, &further))?;
     Ok(Finding {
         planned,
         verdict,
@@ -142,27 +142,6 @@ fn with_evidence(
         answers,
         ties,
     })
-}
-
-/// The columns by which rows are ordered at the first of these places.
-fn ties_at_first(
-    alloc: Global,
-    planned: &PlannedQuery,
-    places: &[OpenPlace],
-) -> Result<Option<TiedColumns>, OutOfMemory>
-    requires { fits (schema_of planned.now.schema) (plan_of planned.now.resolved.plan) ≡ true }
-    ensures { IfOk result (AreTies (schema_of planned.now.schema) (plan_of planned.now.resolved.plan) places.now) }
-{
-    match places.first() {
-        Some(OpenPlace { reason, .. }) => tied_columns(
-            alloc,
-            &planned.schema,
-            &planned.resolved.plan,
-            reason.node,
-            reason.call,
-        ),
-        None => Ok(None),
-    }
 }
 
 /// Why an analysis leaves calls and limits open, where no simpler plan is certified.
@@ -187,5 +166,24 @@ fn answers_of(
     match witness {
         Some(witness) => answers_under(alloc, planned, witness),
         None => Ok(None),
+    }
+}
+
+/// The columns of tables by which rows tie in a witness.
+fn ties_of(
+    alloc: Global,
+    planned: &PlannedQuery,
+    witness: Option<&Witness>,
+) -> Result<Vec<TableColumn>, OutOfMemory>
+    ensures { IfOk result (λ v. AreMarked (plan_of planned.now.resolved.plan) (option_map (λ w. w.now) witness.entry) v.items) }
+{
+    match witness {
+        Some(witness) => tied_columns(
+            alloc,
+            &planned.resolved.plan,
+            &witness.first,
+            &witness.second,
+        ),
+        None => Ok(Vec::new(alloc)),
     }
 }

@@ -5,16 +5,17 @@ ghost use Rattle.std.specs.Prelude.{◌≡◌, length, take, string_bytes, OnErr
 use crate::values::{add_plain, add_value};
 use std::alloc::Global;
 use std::collections::BTreeMap;
-use wd_schema::{Column, Schema};
+use wd_schema::{Schema, Table};
+use wd_ties::{TableColumn, is_among};
 use wd_value::{OutOfMemory, Row, Value};
 
 /// Adds a line for each row of tables of a schema: the table's name, and each value after its column's name, which has a mark where
-/// `ties` has one for the column, by the numbers of the tables and the columns; then a line says what the mark means.
+/// the column is among `ties`; then a line says what the mark means.
 pub fn add_tables(
     out: &mut String,
     schema: &Schema,
     tables: &BTreeMap<String, Vec<Row>>,
-    ties: &[Vec<bool>],
+    ties: &[TableColumn],
 ) -> Result<(), OutOfMemory>
     ensures appended { OnOk result (take (length (string_bytes out.old)) (string_bytes out.new) ≡ string_bytes out.old) }
     ensures kept { OnErr result (string_bytes out.new ≡ string_bytes out.old) }
@@ -28,70 +29,49 @@ fn tables_lines(
     alloc: Global,
     schema: &Schema,
     tables: &BTreeMap<String, Vec<Row>>,
-    ties: &[Vec<bool>],
+    ties: &[TableColumn],
 ) -> Result<String, OutOfMemory> {
     let mut lines = String::new(alloc);
-    let mut is_marked = false;
     for (number, (name, table)) in schema.tables.iter().enumerate() {
         if let Some(rows) = tables.get(name.as_str()) {
-            let tied = tied_columns(ties, number);
-            add_rows(&mut lines, name.as_str(), &table.columns, tied, rows)?;
-            is_marked = is_marked || (!rows.is_empty() && tied.contains(&true));
+            for row in rows {
+                add_row(&mut lines, table, number, ties, row)?;
+            }
         }
     }
-    if is_marked {
+    if !ties.is_empty() {
         lines.push_str("      = *: rows tie by these columns\n")?;
     }
     Ok(lines)
 }
 
-/// Which columns of the table with this number rows tie by.
-fn tied_columns(ties: &[Vec<bool>], number: usize) -> &[bool] {
-    match ties.get(number) {
-        Some(columns) => columns,
-        None => &[],
-    }
-}
-
-/// Adds a line for each row of a table.
-fn add_rows(
-    out: &mut String,
-    name: &str,
-    columns: &[Column],
-    tied: &[bool],
-    rows: &[Row],
-) -> Result<(), OutOfMemory> {
-    for row in rows {
-        out.push_str("      = ")?;
-        add_plain(out, name)?;
-        out.push_str(": ")?;
-        add_row(out, columns, tied, row)?;
-        out.push('\n')?;
-    }
-    Ok(())
-}
-
-/// Adds the values of a row, each after its column's name, which has a mark where rows tie by it.
+/// Adds a line of a row of the table with this number: each value after its column's name, which has a mark where rows tie by it.
 fn add_row(
     out: &mut String,
-    columns: &[Column],
-    tied: &[bool],
+    table: &Table,
+    number: usize,
+    ties: &[TableColumn],
     row: &[Value],
 ) -> Result<(), OutOfMemory> {
-    let mut columns = columns.iter();
-    for (number, value) in row.iter().enumerate() {
-        if number > 0 {
+    out.push_str("      = ")?;
+    add_plain(out, table.name.as_str())?;
+    out.push_str(": ")?;
+    let mut columns = table.columns.iter();
+    for (place, value) in row.iter().enumerate() {
+        if place > 0 {
             out.push_str(", ")?;
         }
         if let Some(column) = columns.next() {
-            add_plain(out, column.name.as_str())?;
-            out.push_str(if matches!(tied.get(number), Some(true)) {
-                "* "
+            let mark = if is_among(ties, number, place) {
+                "*"
             } else {
-                " "
-            })?;
+                ""
+            };
+            add_plain(out, column.name.as_str())?;
+            out.push_str(mark)?;
+            out.push(' ')?;
         }
         add_value(out, value)?;
     }
-    Ok(())
+    Ok(out.push('\n')?)
 }
