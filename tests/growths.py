@@ -67,19 +67,16 @@ def judge(crate, of_table, shown):
     found = list(calls(folder))
     contracts = {name: contract for name, _, _, contract in found}
     mutable = [(name, trait) for name, trait, signature, _ in found if re.search(r"&(?:'\w+ )?mut\b", signature)]
-    rows = {row for of, row in of_table if of == crate}
+    rows, used = {row for of, row in of_table if of == crate}, set()
     for name, trait in mutable:
         clauses = clauses_of(contracts[name]) or clauses_of(contracts.get(trait, ""))
-        has_row = name in rows or trait in rows
-        rows -= {name} if clauses else {name, trait}
-        if clauses and name in of_table:
-            wrong.append(f"{name} has a clause and a row")
-        if not clauses and not has_row:
+        if not clauses and not rows & {name, trait}:
             wrong.append(f"{name} takes a mutable reference and has neither a clause nor a row")
+        used |= set() if clauses else {name, trait}
         shown.append(f"{crate} {name}: {' '.join(sorted(clauses)) or 'the reason in its row'}")
     shared = [name for name, _, signature, _ in found if re.search(r"\bGlobal\b", signature) and name not in dict(mutable)]
     shown += [f"{crate} {name}: takes values and shared references alone" for name in shared]
-    return wrong + [f"{row} has a row, and is no call without a clause that takes a mutable reference" for row in sorted(rows)]
+    return wrong + [f"{row} has a row, and is no call without a clause that takes a mutable reference" for row in sorted(rows - used)]
 
 
 def main():
