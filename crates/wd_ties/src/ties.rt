@@ -6,7 +6,7 @@ ghost use Rattle.wd_plan.specs.Plans.{plan_of};
 ghost use Rattle.wd_ties.specs.Ordered.{node_columns};
 ghost use Rattle.wd_ties.specs.Ties.{AreTies, IsFirstDifference, copied};
 ghost use Rattle.wd_ties.specs.Ties as spec;
-ghost use Rattle.wd_value.specs.Keys.{key_columns};
+ghost use Rattle.wd_value.specs.declared.order.SortColumn.{SortColumn};
 ghost use Rattle.wd_witness_text.specs.Witnesses.{positions_of};
 
 use crate::orderings::{Ordered, add_orderings};
@@ -57,7 +57,7 @@ fn is_same(one: &[u64], other: &[u64]) -> bool
 
 /// The table columns that the columns copy by which an ordering goes.
 fn copied_columns(alloc: Global, ordered: Ordered<'_>) -> Result<Vec<TableColumn>, OutOfMemory>
-    ensures { IfOk result (λ v. v.items ≡ copied (node_columns ordered)) }
+    ensures { IfOk result (λ v. v.items ≡ copied (node_columns ordered.entry)) }
 {
     let mut found = Vec::new(alloc);
     add_copied(ordered.node, ordered.partition, &mut found)?;
@@ -81,7 +81,7 @@ fn add_copied_keys(
     keys: &[SortColumn],
     found: &mut Vec<TableColumn>,
 ) -> Result<(), OutOfMemory>
-    ensures { IfOk result (λ _. found.new.items ≡ found.old.items ++ flat_map (λ k. option_to_list (origin (plan_of node.now) k)) (key_columns keys.now)) }
+    ensures { IfOk result (λ _. found.new.items ≡ found.old.items ++ flat_map (λ (key : SortColumn). option_to_list (origin (plan_of node.now) key.column)) keys.now) }
 {
     for key in keys {
         add_origin(node, key.column, found)?;
