@@ -4,11 +4,11 @@
     python3 tests/growths.py [--list]
 
 Of each public call of a library that the program stands on and that takes an allocator or a mutable reference, one of these holds.
-It takes a mutable reference: then it has a row in the table "After a refusal", and where the row names a clause, the call's contract
-(or its trait's) has a clause of that name which speaks of a refusal. Or all that it takes is handed over by value or by a shared
-reference, and its crate has no cell: then the type system keeps it. A call of neither kind is a failure, and so is a row without a
-call. Public is what a crate's lib.rt hands on by 'pub use' or 'pub mod'. With --list each call is shown with its clause or reason.
-The last line is 'N passed, M failed'.
+It takes a mutable reference, and its contract (or its trait's) has a clause `kept`, `handed` or `failure` that says what a refusal
+leaves; or it has none and a row in the table "After a refusal" with the reason. Or all that it takes is handed over by value or by a
+shared reference, and its crate has no cell: then the type system keeps it. A call of no kind is a failure, and so is a row without
+such a call. Public is what a crate's lib.rt hands on by 'pub use' or 'pub mod'. With --list each call is shown with its clause or
+reason. The last line is 'N passed, M failed'.
 """
 
 import glob
@@ -18,7 +18,8 @@ import sys
 
 from conditions import FUNCTION, OWNER, TOP, handed_on, head_of, text_of
 
-HEADING = "| Crate | Calls | Clause | What a refusal leaves |\n"
+HEADING = "| Crate | Calls | What a refusal leaves |\n"
+NAMES = {"kept", "handed", "failure"}
 CELLS = re.compile(r"\b(?:Cell|RefCell|UnsafeCell|OnceCell|Mutex|RwLock|Atomic\w+)\b")
 REFUSED = re.compile(r"\bensures (\w+) \{[^}]*\b(?:OnErr|IfErr|MatchResult|Fails|IsHeld)\b")
 
@@ -47,20 +48,16 @@ def calls(folder):
 
 
 def told():
-    """For each crate and call of the table the clause that it names, or None where the row gives a reason alone."""
+    """The calls of the table, each with its crate."""
     table = text_of(f"{TOP}/docs/PROVED.md").split(HEADING, 1)[1].split("\n\n", 1)[0]
     rows = [line.strip("| ").split(" | ") for line in table.split("\n")[1:]]
-    found = {}
-    for crate, names, clause, _ in rows:
-        named = re.search(r"`(\w+)`", clause)
-        found.update({(crate, name): named and named[1] for name in re.findall(r"`([\w:]+)`", names)})
-    return found
+    return {(crate, name) for crate, names, _ in rows for name in re.findall(r"`([\w:]+)`", names)}
 
 
 def clauses_of(contract):
     """The names of the clauses that say what a refusal leaves."""
     parts = re.split(r"\n\s*(?=ensures\b)", "\n" + contract)
-    return {it[1] for part in parts for it in [REFUSED.match(" ".join(part.split()))] if it}
+    return NAMES & {it[1] for part in parts for it in [REFUSED.match(" ".join(part.split()))] if it}
 
 
 def judge(crate, of_table, shown):
@@ -70,20 +67,16 @@ def judge(crate, of_table, shown):
     found = list(calls(folder))
     contracts = {name: contract for name, _, _, contract in found}
     mutable = [(name, trait) for name, trait, signature, _ in found if re.search(r"&(?:'\w+ )?mut\b", signature)]
+    rows, used = {row for of, row in of_table if of == crate}, set()
     for name, trait in mutable:
-        row = name if (crate, name) in of_table else trait
-        if (crate, row) not in of_table:
-            wrong.append(f"{name} takes a mutable reference and has no row")
-        else:
-            shown.append(f"{crate} {name}: {of_table[crate, row] or 'the reason in its row'}")
+        clauses = clauses_of(contracts[name]) or clauses_of(contracts.get(trait, ""))
+        if not clauses and not rows & {name, trait}:
+            wrong.append(f"{name} takes a mutable reference and has neither a clause nor a row")
+        used |= set() if clauses else {name, trait}
+        shown.append(f"{crate} {name}: {' '.join(sorted(clauses)) or 'the reason in its row'}")
     shared = [name for name, _, signature, _ in found if re.search(r"\bGlobal\b", signature) and name not in dict(mutable)]
     shown += [f"{crate} {name}: takes values and shared references alone" for name in shared]
-    for row, clause in ((name, clause) for (of, name), clause in of_table.items() if of == crate):
-        if not any(row in it for it in mutable):
-            wrong.append(f"{row} has a row, and takes no mutable reference")
-        elif clause and clause not in clauses_of(contracts.get(row, "")):
-            wrong.append(f"{row} has no clause {clause} that speaks of a refusal")
-    return wrong
+    return wrong + [f"{row} has a row, and is no call without a clause that takes a mutable reference" for row in sorted(rows - used)]
 
 
 def main():

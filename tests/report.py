@@ -86,7 +86,7 @@ def the_folders():
         check(f"{place} caret", caret and caret[0].index("^") - 8 == int(place.rsplit(":", 1)[1]) - 1, caret)
         # The rows of the witness stand in the first block of a query, here the first of its file.
         if said == "depends" and place == min((p for p in found if p.split(":")[0] == place.split(":")[0]), key=lambda p: [int(n) for n in p.split(":")[1:]]):
-            check(f"{place} tables", any(re.match(r" +=( \w+): \w+ ", line) for line in lines), lines)
+            check(f"{place} tables", any(re.match(r" +=( \w+): \w+\*? ", line) for line in lines), lines)
             answers = [line.split("answer: ")[1].split("   or   ") for line in lines if "answer: " in line]
             check(f"{place} answers", answers and all(len(a) == 2 and a[0] != a[1] for a in answers), lines)
     count = COUNT.search(out)
@@ -504,6 +504,21 @@ def the_ties():
                     check(f"mended by {mended}", status == 0, (status, out))
 
 
+def the_marks():
+    """The columns by which rows tie, marked in the rows of a witness."""
+    for text, wanted in lines_of("marks.txt"):
+        with tempfile.TemporaryDirectory() as folder:
+            put(folder, {"schema.sql": SCHEMA, "q.sql": text})
+            out, _, status = run("--html", "page.html", "q.sql", cwd=folder)
+            columns = [] if wanted == "none" else wanted.split()
+            rows = [line for line in out.splitlines() if line.startswith("      = t: ")]
+            told = [re.findall(r"(\w+)\* ", line) for line in rows]
+            check(f"marks of {text}", status == 1 and rows and all(it == columns for it in told), (status, out))
+            check(f"the mark is told of {text}", ("      = *: rows tie by these columns" in out.splitlines()) == bool(columns), out)
+            heads = re.findall(r"<th><mark>(\w+)</mark></th>", held(f"{folder}/page.html"))
+            check(f"marks on the page of {text}", heads == columns, heads)
+
+
 def the_simpler():
     """Queries that have one answer because what ties decide is not shown."""
     for text, wanted in lines_of("simpler.txt"):
@@ -792,6 +807,7 @@ the_schema()
 the_remedies()
 the_places()
 the_ties()
+the_marks()
 the_simpler()
 the_excuses()
 the_baselines()

@@ -125,7 +125,8 @@ fn add_evidence(alloc: Global, out: &mut String, finding: &Finding) -> Result<()
         )?;
     }
     if let Some(witness) = finding.witness() {
-        add_tables(out, &finding.planned.schema, &witness.tables)?;
+        let schema = &finding.planned.schema;
+        add_tables(out, schema, &witness.tables, &finding.ties)?;
     }
     if let Some(answers) = &finding.answers {
         let names = &finding.planned.resolved.names;

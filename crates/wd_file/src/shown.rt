@@ -68,6 +68,7 @@ fn show_kept<'s>(
         names: &finding.planned.resolved.names,
         certificate: Some(certificate),
         tables: None,
+        ties: &[],
         answers: None,
     };
     page.add_judged(query, shown, &[], None)
@@ -116,6 +117,7 @@ fn show_finding(
             Some(witness) => Some(&witness.tables),
             None => None,
         },
+        ties: &finding.ties,
         answers: match &finding.answers {
             Some(answers) => Some((&answers.first, &answers.second)),
             None => None,

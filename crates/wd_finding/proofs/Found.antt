@@ -19,7 +19,7 @@ use Rattle.wd_decide.specs.declared.verdict.Verdict.{Verdict}
 use Rattle.wd_further.specs.Finds.{IsFound}
 use Rattle.wd_further.specs.declared.judge.Found.{Found}
 use Rattle.wd_finding.specs.declared.finding.Finding.{Finding}
-use Rattle.wd_finding.specs.Findings.{AreAnswers, IsFinding, IsUnknown, open_in, reason_of, witness_shown}
+use Rattle.wd_finding.specs.Findings.{AreAnswers, AreMarked, IsFinding, IsUnknown, open_in, reason_of, witness_shown}
 
 -- what a simpler plan shows of a query with this verdict
 pub record Shown (schema query : List ℕ) (verdict : Verdict) (o : Option Certain) : Type 0 where
@@ -32,8 +32,9 @@ pub finding_is : (schema query : List ℕ) (verdict : Verdict) (certain : Option
     → finding.verdict ≡ verdict → finding.certain ≡ certain → finding.further ≡ further → finding.planned ≡ examined.planned
     → map reason_of finding.places.items ≡ open_in certain examined.analysis
     → AreAnswers (schema_of examined.planned.schema) (plan_of examined.planned.resolved.plan) (witness_shown verdict further) finding.answers
+    → AreMarked (plan_of examined.planned.resolved.plan) (witness_shown verdict further) finding.ties.items
     → IsFinding schema query finding
-finding_is schema query verdict certain further examined finding v is shown found same told sought planned reasons answers = record {
+finding_is schema query verdict certain further examined finding v is shown found same told sought planned reasons answers ties = record {
   read = subst (λ (p : PlannedQuery). IsRead schema query p) (sym planned) is.read;
   verdict = subst (λ (w : Verdict). IsVerdict schema query w) (sym same) v;
   unknown = here.unknown;
@@ -47,6 +48,10 @@ finding_is schema query verdict certain further examined finding v is shown foun
       subst (λ (p : PlannedQuery). AreAnswers (schema_of p.schema) (plan_of p.resolved.plan) (witness_shown finding.verdict finding.further) finding.answers) (sym planned)
       (subst (λ (o : Option Found). AreAnswers (schema_of examined.planned.schema) (plan_of examined.planned.resolved.plan) (witness_shown finding.verdict o) finding.answers) (sym sought)
       (subst (λ (w : Verdict). AreAnswers (schema_of examined.planned.schema) (plan_of examined.planned.resolved.plan) (witness_shown w further) finding.answers) (sym same) answers));
+  ties =
+      subst (λ (p : PlannedQuery). AreMarked (plan_of p.resolved.plan) (witness_shown finding.verdict finding.further) finding.ties.items) (sym planned)
+      (subst (λ (o : Option Found). AreMarked (plan_of examined.planned.resolved.plan) (witness_shown finding.verdict o) finding.ties.items) (sym sought)
+      (subst (λ (w : Verdict). AreMarked (plan_of examined.planned.resolved.plan) (witness_shown w further) finding.ties.items) (sym same) ties));
 }
   where
     here : Shown schema query finding.verdict finding.certain

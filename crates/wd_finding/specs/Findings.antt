@@ -13,6 +13,8 @@ use Rattle.wd_certain.specs.declared.certain.Certain.{Certain}
 use Rattle.wd_eval.specs.Judged.{IsOutcome}
 use Rattle.wd_query.specs.Readings.{IsRead}
 use Rattle.wd_seek.specs.Sought.{reasons_of}
+use Rattle.wd_candidates.specs.declared.origins.TableColumn.{TableColumn}
+use Rattle.wd_ties.specs.Ties.{AreTies}
 use Rattle.wd_decide.specs.Verdicts.{IsVerdict}
 use Rattle.wd_decide.specs.declared.verdict.Verdict.{Verdict}
 use Rattle.wd_decide.specs.declared.verdict.Verdict.TheVariants.{Deterministic, Depends, Unknown}
@@ -40,6 +42,11 @@ abbrev pub AreAnswers : List TableRule → PlanTree → Option Witness → Optio
 AreAnswers tables plan None answers = answers ≡ None
 AreAnswers tables plan (Some witness) answers = IfSome answers (AreUnder tables plan (witness_of witness))
 
+-- the columns of tables that are marked: those by which rows tie that its choices put into other places, and none without a witness
+abbrev pub AreMarked : PlanTree → Option Witness → List TableColumn → Type 0
+AreMarked plan None ties = ties ≡ []
+AreMarked plan (Some witness) ties = AreTies plan (witness_of witness).first (witness_of witness).second ties
+
 abbrev pub reason_of : OpenPlace → Reason
 reason_of place = place.reason
 
@@ -55,7 +62,7 @@ open_in (Some certain) analysis = []
 
 -- The plan reads the two texts, the verdict is one of `decide` on them; where that is UNKNOWN, there may be a certificate of a simpler plan,
 -- and then the query has one answer; what is open is what the analysis of the plan leaves open; what a further search found is true, and
--- the answers are those of the witness.
+-- the answers and the marked columns are those of the witness.
 pub record IsFinding (schema query : List ℕ) (finding : Finding) : Type 0 where
   pub read : IsRead schema query finding.planned
   pub verdict : IsVerdict schema query finding.verdict
@@ -67,3 +74,4 @@ pub record IsFinding (schema query : List ℕ) (finding : Finding) : Type 0 wher
   pub reasons : map reason_of finding.places.items ≡ open_in finding.certain analysis
   pub further : IfSome finding.further (IsFound schema query)
   pub answers : AreAnswers (schema_of finding.planned.schema) (plan_of finding.planned.resolved.plan) (witness_shown finding.verdict finding.further) finding.answers
+  pub ties : AreMarked (plan_of finding.planned.resolved.plan) (witness_shown finding.verdict finding.further) finding.ties.items

@@ -4,7 +4,7 @@ ghost use Rattle.std.specs.Prelude.{◌≡◌, true, map, option_map, IfOk, IfEr
 ghost use Rattle.wd_accept.specs.Acceptance.{HaveOneAnswer};
 ghost use Rattle.wd_certain.specs.Certain.{IsCertain};
 ghost use Rattle.wd_decide.specs.Verdicts.{HasCause};
-ghost use Rattle.wd_finding.specs.Findings.{AreAnswers, IsFinding, IsUnknown, open_in, reason_of, witness_shown};
+ghost use Rattle.wd_finding.specs.Findings.{AreAnswers, AreMarked, IsFinding, IsUnknown, open_in, reason_of, witness_shown};
 ghost use Rattle.wd_further.specs.Finds.{IsFound};
 ghost use Rattle.wd_plan.specs.Fits.{fits};
 ghost use Rattle.wd_plan.specs.Plans.{plan_of};
@@ -18,6 +18,7 @@ use wd_certain::{Certain, certify_simpler};
 use wd_decide::{DecideError, Examined, Verdict, decide, examine};
 use wd_further::{Found, seek_further};
 use wd_query::PlannedQuery;
+use wd_ties::{TableColumn, tied_columns};
 use wd_value::OutOfMemory;
 use wd_witness_text::Witness;
 
@@ -35,6 +36,9 @@ pub struct Finding {
     pub further: Option<Found>,
     /// The two answers that the witness shows.
     pub answers: Option<Answers>,
+    /// The columns of tables by which rows tie that the witness's choices put into other places: rows that tie there have the same
+    /// values in them.
+    pub ties: Vec<TableColumn>,
 }
 
 impl Finding {
@@ -122,11 +126,13 @@ fn with_evidence(
     ensures reasons { IfOk result (λ f. map reason_of f.places.items ≡ open_in certain examined.analysis) }
     ensures further { IfOk result (λ f. f.further ≡ further) }
     ensures answers { IfOk result (λ f. AreAnswers (schema_of examined.planned.schema) (plan_of examined.planned.resolved.plan) (witness_shown verdict further) f.answers) }
+    ensures ties { IfOk result (λ f. AreMarked (plan_of examined.planned.resolved.plan) (witness_shown verdict further) f.ties.items) }
 {
     let Examined { planned, analysis } = examined;
     let open = reasons_in(&certain, &analysis);
     let places = places(alloc, query, &planned.resolved.plan, open)?;
     let answers = answers_of(alloc, &planned, witness_of_all(&verdict, &further))?;
+    let ties = ties_of(alloc, &planned, witness_of_all(&verdict, &further))?;
     Ok(Finding {
         planned,
         verdict,
@@ -134,6 +140,7 @@ fn with_evidence(
         places,
         further,
         answers,
+        ties,
     })
 }
 
@@ -159,5 +166,24 @@ fn answers_of(
     match witness {
         Some(witness) => answers_under(alloc, planned, witness),
         None => Ok(None),
+    }
+}
+
+/// The columns of tables by which rows tie in a witness.
+fn ties_of(
+    alloc: Global,
+    planned: &PlannedQuery,
+    witness: Option<&Witness>,
+) -> Result<Vec<TableColumn>, OutOfMemory>
+    ensures { IfOk result (λ v. AreMarked (plan_of planned.now.resolved.plan) (option_map (λ w. w.now) witness.entry) v.items) }
+{
+    match witness {
+        Some(witness) => tied_columns(
+            alloc,
+            &planned.resolved.plan,
+            &witness.first,
+            &witness.second,
+        ),
+        None => Ok(Vec::new(alloc)),
     }
 }

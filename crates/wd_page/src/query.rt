@@ -6,6 +6,7 @@ use wd_lex::Span;
 use wd_lines::{Kind, Standing};
 use wd_plan::{Outcome, Plan};
 use wd_schema::Schema;
+use wd_ties::TableColumn;
 use wd_value::{Row, Text};
 
 /// A statement of a file.
@@ -35,6 +36,8 @@ pub struct Judged<'a> {
     pub certificate: Option<&'a Certificate>,
     /// The rows over which it has two answers, by the names of the tables, where they are known.
     pub tables: Option<&'a BTreeMap<String, Vec<Row>>>,
+    /// The columns of these tables by which rows tie that the two choices put into other places.
+    pub ties: &'a [TableColumn],
     /// These answers.
     pub answers: Option<(&'a Outcome, &'a Outcome)>,
 }

@@ -10,6 +10,7 @@ use wd_page_parts::{
     Grounds, Place, add_answers, add_change, add_excerpt, add_marked, add_plan, add_replay,
     add_tables,
 };
+use wd_ties::TableColumn;
 use wd_value::OutOfMemory;
 
 /// Adds the section of a query that is read.
@@ -176,11 +177,20 @@ fn add_heading(page: &mut Page, heading: &str) -> Result<(), OutOfMemory> {
     Ok(page.element(Tag::PartHeading, Class::Plain, heading.as_bytes())?)
 }
 
+/// The heading of rows in which these columns are marked.
+fn rows_heading(ties: &[TableColumn]) -> &'static str {
+    if ties.is_empty() {
+        "Rows that the schema allows"
+    } else {
+        "Rows that the schema allows, which tie by the marked columns"
+    }
+}
+
 /// Adds the rows over which a query has two answers, and these.
 fn add_evidence(alloc: Global, page: &mut Page, judged: Judged<'_>) -> Result<(), OutOfMemory> {
     if let Some(tables) = judged.tables {
-        add_heading(page, "Rows that the schema allows")?;
-        add_tables(alloc, page, judged.schema, tables)?;
+        add_heading(page, rows_heading(judged.ties))?;
+        add_tables(alloc, page, judged.schema, tables, judged.ties)?;
     }
     if let Some((first, second)) = judged.answers {
         add_heading(page, "Two answers over them, as the database likes")?;

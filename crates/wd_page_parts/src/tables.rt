@@ -7,19 +7,21 @@ use std::alloc::Global;
 use std::collections::BTreeMap;
 use wd_markup::{Class, Page, Tag};
 use wd_schema::{Column, Schema};
+use wd_ties::{TableColumn, is_among};
 use wd_value::{OutOfMemory, Row, Value};
 
-/// Adds tables of a schema with these rows, side by side.
+/// Adds tables of a schema with these rows, side by side. The names of the columns among `ties` are marked.
 pub fn add_tables(
     alloc: Global,
     page: &mut Page,
     schema: &Schema,
     tables: &BTreeMap<String, Vec<Row>>,
+    ties: &[TableColumn],
 ) -> Result<(), OutOfMemory>
     ensures appended { OnOk result (take (length page.old) page.new ≡ page.old) }
     ensures kept { OnErr result (page.new ≡ page.old) }
 {
-    let part = tables_part(alloc, schema, tables)?;
+    let part = tables_part(alloc, schema, tables, ties)?;
     Ok(page.append(&part)?)
 }
 
@@ -28,32 +30,20 @@ fn tables_part(
     alloc: Global,
     schema: &Schema,
     tables: &BTreeMap<String, Vec<Row>>,
+    ties: &[TableColumn],
 ) -> Result<Page, OutOfMemory> {
     let mut page = Page::new(alloc);
     page.open(Tag::Division, Class::Side)?;
-    for (name, rows) in tables {
-        add_table(alloc, &mut page, schema, name.as_str(), rows)?;
+    for (number, (name, table)) in schema.tables.iter().enumerate() {
+        if let Some(rows) = tables.get(name.as_str()) {
+            begin_table(&mut page, table.name.as_str())?;
+            add_columns(&mut page, &table.columns, number, ties)?;
+            add_rows(alloc, &mut page, rows)?;
+            end_table(&mut page)?;
+        }
     }
     page.close(Tag::Division)?;
     Ok(page)
-}
-
-/// Adds a table with its name.
-fn add_table(
-    alloc: Global,
-    page: &mut Page,
-    schema: &Schema,
-    name: &str,
-    rows: &[Row],
-) -> Result<(), OutOfMemory> {
-    begin_table(page, name)?;
-    if let Some(table) = schema.table(name) {
-        add_columns(page, &table.columns)?;
-    }
-    for row in rows {
-        add_row(alloc, page, row)?;
-    }
-    end_table(page)
 }
 
 /// Begins a figure with a table, below this caption.
@@ -71,13 +61,33 @@ pub(crate) fn end_table(page: &mut Page) -> Result<(), OutOfMemory> {
     Ok(page.close(Tag::Figure)?)
 }
 
-/// Adds the names of a table's columns.
-fn add_columns(page: &mut Page, columns: &[Column]) -> Result<(), OutOfMemory> {
+/// Adds the names of the columns of the table with this number, marked where rows tie by them.
+fn add_columns(
+    page: &mut Page,
+    columns: &[Column],
+    number: usize,
+    ties: &[TableColumn],
+) -> Result<(), OutOfMemory> {
     page.open(Tag::Row, Class::Plain)?;
-    for column in columns {
-        page.element(Tag::HeadCell, Class::Plain, column.name.as_bytes())?;
+    for (place, column) in columns.iter().enumerate() {
+        let name = column.name.as_bytes();
+        if is_among(ties, number, place) {
+            page.open(Tag::HeadCell, Class::Plain)?;
+            page.element(Tag::Mark, Class::Plain, name)?;
+            page.close(Tag::HeadCell)?;
+        } else {
+            page.element(Tag::HeadCell, Class::Plain, name)?;
+        }
     }
     Ok(page.close(Tag::Row)?)
+}
+
+/// Adds rows.
+fn add_rows(alloc: Global, page: &mut Page, rows: &[Row]) -> Result<(), OutOfMemory> {
+    for row in rows {
+        add_row(alloc, page, row)?;
+    }
+    Ok(())
 }
 
 /// Adds a row.

@@ -1,0 +1,3 @@
+pub mod Orderings
+pub mod Ordered
+pub mod Ties
