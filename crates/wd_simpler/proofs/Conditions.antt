@@ -1,5 +1,5 @@
 -- Conditions that no row meets.
-use Rattle.std.proofs.Common.{◌≡◌, ℕ, ℤ, Bool, true, false, cond, not, ◌||◌, List, [], ◌∷◌, map, filter, refl, sym, ◌∙◌, ap, arith, is_eq, is_lt, is_gt, int_cmp, Option, Some, None, Result, Ok}
+use Rattle.std.proofs.Common.{◌≡◌, ℕ, ℤ, Bool, true, false, cond, not, ◌&&◌, ◌||◌, List, [], ◌∷◌, map, filter, refl, sym, ◌∙◌, ap, arith, is_eq, is_lt, is_gt, int_cmp, Option, Some, None, Result, Ok}
 use Rattle.std.specs.List.{AllByRecursion, list_any}
 use Rattle.std.specs.Prelude.{int_le}
 use Rattle.std.proofs.lemmas.Bool.{and_parts, false≢true, or_from, or_parts}
@@ -17,14 +17,14 @@ use Rattle.wd_plan.specs.declared.expression.ComparisonOp.TheVariants.{Equal, No
 use Rattle.wd_step_facts.specs.Steps.{Side, Plain, Fixed, Other, side_of}
 use Rattle.wd_scalar.proofs.Faultless.{HasValue, never_faults}
 use Rattle.wd_scalar.specs.Arithmetic.{has_arithmetic}
-use Rattle.wd_simpler.specs.Simpler.{is_never, is_unmet, never, never_at, never_compares, never_fixed, turned}
+use Rattle.wd_simpler.specs.Simpler.{is_false, is_false_value, is_never, is_unmet, never, never_at, never_compares, never_fixed, turned}
 
 -- ---- values of columns with a least number
 
--- a number from the least one on, or NULL
+-- a number from the least one on
 abbrev pub is_from : Option ℤ → Value → Bool
 is_from None v = true
-is_from (Some low) Null = true
+is_from (Some low) Null = false
 is_from (Some low) (Int n) = int_le low n
 is_from (Some low) (Text t) = false
 is_from (Some low) (Truth b) = false
@@ -57,10 +57,10 @@ less_or_equal_never low m n h k = grind (arith, ints)
 less_or_equal_turned : (low m n : ℤ) → int_le low m ≡ true → int_le low n ≡ false → not (is_lt (int_cmp n m)) ≡ false
 less_or_equal_turned low m n h k = grind (arith, ints)
 
-truth_of : (b : Bool) → b ≡ false → is_true (Truth b) ≡ false
-truth_of b h = ap (λ x. is_true (Truth x)) h
+truth_of : (b : Bool) → b ≡ false → Truth b ≡ Truth false
+truth_of b h = ap (λ x. Truth x) h
 
-no_order : (op : ComparisonOp) (low m n : ℤ) → int_le low m ≡ true → never op low n ≡ true → is_true (comparison op (Int m) (Int n)) ≡ false
+no_order : (op : ComparisonOp) (low m n : ℤ) → int_le low m ≡ true → never op low n ≡ true → comparison op (Int m) (Int n) ≡ Truth false
 no_order Equal low m n h k = truth_of _ (equal_never low m n h (untrue_not (int_le low n) k))
 no_order NotEqual low m n h k = absurd (false≢true k)
 no_order Less low m n h k = truth_of _ (less_never low m n h k)
@@ -68,7 +68,7 @@ no_order LessOrEqual low m n h k = truth_of _ (less_or_equal_never low m n h (un
 no_order Greater low m n h k = absurd (false≢true k)
 no_order GreaterOrEqual low m n h k = absurd (false≢true k)
 
-no_order_turned : (op : ComparisonOp) (low m n : ℤ) → int_le low m ≡ true → never (turned op) low n ≡ true → is_true (comparison op (Int n) (Int m)) ≡ false
+no_order_turned : (op : ComparisonOp) (low m n : ℤ) → int_le low m ≡ true → never (turned op) low n ≡ true → comparison op (Int n) (Int m) ≡ Truth false
 no_order_turned Equal low m n h k = truth_of _ (equal_turned low m n h (untrue_not (int_le low n) k))
 no_order_turned NotEqual low m n h k = absurd (false≢true k)
 no_order_turned Less low m n h k = absurd (false≢true k)
@@ -77,38 +77,35 @@ no_order_turned Greater low m n h k = truth_of _ (less_turned low m n h k)
 no_order_turned GreaterOrEqual low m n h k = truth_of _ (less_or_equal_turned low m n h (untrue_not (int_le low n) k))
 
 -- a value of the column, and a literal
-not_true : (op : ComparisonOp) (least : Option ℤ) (x v : Value) → is_from least x ≡ true → never_at op least v ≡ true → is_true (comparison op x v) ≡ false
-not_true op None x v h k = absurd (false≢true k)
-not_true op (Some low) Null v h k = refl
-not_true op (Some low) (Int m) (Int n) h k = no_order op low m n h k
-not_true op (Some low) (Int m) Null h k = absurd (false≢true k)
-not_true op (Some low) (Int m) (Text t) h k = absurd (false≢true k)
-not_true op (Some low) (Int m) (Truth b) h k = absurd (false≢true k)
-not_true op (Some low) (Text t) v h k = absurd (false≢true h)
-not_true op (Some low) (Truth b) v h k = absurd (false≢true h)
+column_false : (op : ComparisonOp) (least : Option ℤ) (x v : Value) → is_from least x ≡ true → never_at op least v ≡ true → comparison op x v ≡ Truth false
+column_false op None x v h k = absurd (false≢true k)
+column_false op (Some low) Null v h k = absurd (false≢true h)
+column_false op (Some low) (Int m) (Int n) h k = no_order op low m n h k
+column_false op (Some low) (Int m) Null h k = absurd (false≢true k)
+column_false op (Some low) (Int m) (Text t) h k = absurd (false≢true k)
+column_false op (Some low) (Int m) (Truth b) h k = absurd (false≢true k)
+column_false op (Some low) (Text t) v h k = absurd (false≢true h)
+column_false op (Some low) (Truth b) v h k = absurd (false≢true h)
 
-not_true_turned : (op : ComparisonOp) (least : Option ℤ) (x v : Value) → is_from least x ≡ true → never_at (turned op) least v ≡ true → is_true (comparison op v x) ≡ false
-not_true_turned op None x v h k = absurd (false≢true k)
-not_true_turned op (Some low) Null Null h k = refl
-not_true_turned op (Some low) Null (Int n) h k = refl
-not_true_turned op (Some low) Null (Text t) h k = refl
-not_true_turned op (Some low) Null (Truth b) h k = refl
-not_true_turned op (Some low) (Int m) (Int n) h k = no_order_turned op low m n h k
-not_true_turned op (Some low) (Int m) Null h k = absurd (false≢true k)
-not_true_turned op (Some low) (Int m) (Text t) h k = absurd (false≢true k)
-not_true_turned op (Some low) (Int m) (Truth b) h k = absurd (false≢true k)
-not_true_turned op (Some low) (Text t) v h k = absurd (false≢true h)
-not_true_turned op (Some low) (Truth b) v h k = absurd (false≢true h)
+column_false_turned : (op : ComparisonOp) (least : Option ℤ) (x v : Value) → is_from least x ≡ true → never_at (turned op) least v ≡ true → comparison op v x ≡ Truth false
+column_false_turned op None x v h k = absurd (false≢true k)
+column_false_turned op (Some low) Null v h k = absurd (false≢true h)
+column_false_turned op (Some low) (Int m) (Int n) h k = no_order_turned op low m n h k
+column_false_turned op (Some low) (Int m) Null h k = absurd (false≢true k)
+column_false_turned op (Some low) (Int m) (Text t) h k = absurd (false≢true k)
+column_false_turned op (Some low) (Int m) (Truth b) h k = absurd (false≢true k)
+column_false_turned op (Some low) (Text t) v h k = absurd (false≢true h)
+column_false_turned op (Some low) (Truth b) v h k = absurd (false≢true h)
 
 -- two literals
-fixed_not_true : (op : ComparisonOp) (v w : Value) → never_fixed op v w ≡ true → is_true (comparison op v w) ≡ false
-fixed_not_true op (Int m) (Int n) h = truth_of _ (untrue_not (holds op (int_cmp m n)) h)
-fixed_not_true op (Int m) Null h = absurd (false≢true h)
-fixed_not_true op (Int m) (Text t) h = absurd (false≢true h)
-fixed_not_true op (Int m) (Truth b) h = absurd (false≢true h)
-fixed_not_true op Null w h = absurd (false≢true h)
-fixed_not_true op (Text t) w h = absurd (false≢true h)
-fixed_not_true op (Truth b) w h = absurd (false≢true h)
+fixed_false : (op : ComparisonOp) (v w : Value) → never_fixed op v w ≡ true → comparison op v w ≡ Truth false
+fixed_false op (Int m) (Int n) h = truth_of _ (untrue_not (holds op (int_cmp m n)) h)
+fixed_false op (Int m) Null h = absurd (false≢true h)
+fixed_false op (Int m) (Text t) h = absurd (false≢true h)
+fixed_false op (Int m) (Truth b) h = absurd (false≢true h)
+fixed_false op Null w h = absurd (false≢true h)
+fixed_false op (Text t) w h = absurd (false≢true h)
+fixed_false op (Truth b) w h = absurd (false≢true h)
 
 -- the value that a side shows
 abbrev shown_at : Side → Row → Result Value Fault → Type 0
@@ -133,14 +130,17 @@ abbrev compare_results : ComparisonOp → Result Value Fault → Result Value Fa
 compare_results op r s = and_then r (λ v. and_then s (λ w. Ok (comparison op v w)))
 
 module _ (least : ℕ → Option ℤ) (row : Row) (from : IsFrom least row) where
-  sides_fail : (op : ComparisonOp) (s t : Side) (r q : Result Value Fault) → shown_at s row r → shown_at t row q → never_compares least op s t ≡ true → passes (compare_results op r q) ≡ false
-  sides_fail op (Plain c) (Plain d) r q h k e = absurd (false≢true e)
-  sides_fail op (Plain c) (Fixed v) r q h k e = (λ i. passes (compare_results op (h i) (k i))) ∙ not_true op (least c) (column_of row c) v (from c) e
-  sides_fail op (Plain c) Other r q h k e = absurd (false≢true e)
-  sides_fail op (Fixed v) (Plain c) r q h k e = (λ i. passes (compare_results op (h i) (k i))) ∙ not_true_turned op (least c) (column_of row c) v (from c) e
-  sides_fail op (Fixed v) (Fixed w) r q h k e = (λ i. passes (compare_results op (h i) (k i))) ∙ fixed_not_true op v w e
-  sides_fail op (Fixed v) Other r q h k e = absurd (false≢true e)
-  sides_fail op Other t r q h k e = absurd (false≢true e)
+  sides_false : (op : ComparisonOp) (s t : Side) (r q : Result Value Fault) → shown_at s row r → shown_at t row q → never_compares least op s t ≡ true → compare_results op r q ≡ Ok (Truth false)
+  sides_false op (Plain c) (Plain d) r q h k e = absurd (false≢true e)
+  sides_false op (Plain c) (Fixed v) r q h k e = (λ i. compare_results op (h i) (k i)) ∙ ap (λ x. Ok x) (column_false op (least c) (column_of row c) v (from c) e)
+  sides_false op (Plain c) Other r q h k e = absurd (false≢true e)
+  sides_false op (Fixed v) (Plain c) r q h k e = (λ i. compare_results op (h i) (k i)) ∙ ap (λ x. Ok x) (column_false_turned op (least c) (column_of row c) v (from c) e)
+  sides_false op (Fixed v) (Fixed w) r q h k e = (λ i. compare_results op (h i) (k i)) ∙ ap (λ x. Ok x) (fixed_false op v w e)
+  sides_false op (Fixed v) Other r q h k e = absurd (false≢true e)
+  sides_false op Other t r q h k e = absurd (false≢true e)
+
+  compared_false : (op : ComparisonOp) (a b : Expression) → never_compares least op (side_of a) (side_of b) ≡ true → value_of (Compare op a b) row ≡ Ok (Truth false)
+  compared_false op a b e = sides_false op (side_of a) (side_of b) (value_of a row) (value_of b row) (side_shown a row) (side_shown b row) e
 
 -- ---- AND and OR
 
@@ -235,9 +235,7 @@ module _ (least : ℕ → Option ℤ) (row : Row) (from : IsFrom least row) wher
   untrue (Literal v kind) h k = record { value = v; is = refl; untrue = untrue_not (is_true v) k }
   untrue (Negate a) h k = absurd (false≢true k)
   untrue (Arithmetic o a b) h k = absurd (false≢true k)
-  untrue (Compare o a b) h k =
-      let v = never_faults (Compare o a b) row h in
-      record { value = v.0; is = v.1; untrue = ap passes (sym v.1) ∙ sides_fail least row from o (side_of a) (side_of b) (value_of a row) (value_of b row) (side_shown a row) (side_shown b row) k }
+  untrue (Compare o a b) h k = record { value = Truth false; is = compared_false least row from o a b k; untrue = refl }
   untrue (Not a) h k = absurd (false≢true k)
   untrue (And a b) h k =
       let parts = or_parts (has_arithmetic a) (has_arithmetic b) h in
@@ -249,6 +247,50 @@ module _ (least : ℕ → Option ℤ) (row : Row) (from : IsFrom least row) wher
   untrue (IsNull a) h k = absurd (false≢true k)
   untrue (IsNotNull a) h k = absurd (false≢true k)
   untrue (Case o a b c) h k = absurd (false≢true k)
+
+-- a FALSE side of an AND that is looked at
+false_right : (v : Value) → and_value v (Truth false) ≡ Truth false
+false_right (Truth true) = refl
+false_right (Truth false) = refl
+false_right Null = refl
+false_right (Int n) = refl
+false_right (Text t) = refl
+
+and_false : (r s : Result Value Fault) (x y z : Bool) → (x ≡ true → r ≡ Ok (Truth false)) → (y ≡ false → HasValue r) → (z ≡ true → s ≡ Ok (Truth false)) → (x || (not y && z)) ≡ true → and_then r (λ v. and_result v s) ≡ Ok (Truth false)
+and_false r s true y z left has right h = ap (λ q. and_then q (λ v. and_result v s)) (left refl)
+and_false r s false true z left has right h = absurd (false≢true h)
+and_false r s false false z left has right h =
+    let v = has refl in
+    (λ i. and_then (v.1 i) (λ x. and_result x (right h i))) ∙ and_looked v.0 (Truth false) ∙ ap (λ x. Ok x) (false_right v.0)
+
+false_value : (v : Value) → is_false_value v ≡ true → v ≡ Truth false
+false_value (Truth b) h = ap (λ x. Truth x) (untrue_not b h)
+false_value Null h = absurd (false≢true h)
+false_value (Int n) h = absurd (false≢true h)
+false_value (Text t) h = absurd (false≢true h)
+
+module _ (least : ℕ → Option ℤ) (row : Row) (from : IsFrom least row) where
+  falls : (e : Expression) → is_false least e ≡ true → value_of e row ≡ Ok (Truth false)
+  falls (Column c) k = absurd (false≢true k)
+  falls (Literal v kind) k = ap (λ x. Ok x) (false_value v k)
+  falls (Negate a) k = absurd (false≢true k)
+  falls (Arithmetic o a b) k = absurd (false≢true k)
+  falls (Compare o a b) k = compared_false least row from o a b k
+  falls (Not a) k = absurd (false≢true k)
+  falls (And a b) k = and_false (value_of a row) (value_of b row) (is_false least a) (has_arithmetic a) (is_false least b) (falls a) (never_faults a row) (falls b) k
+  falls (Or a b) k = absurd (false≢true k)
+  falls (IsNull a) k = absurd (false≢true k)
+  falls (IsNotNull a) k = absurd (false≢true k)
+  falls (Case o a b c) k = absurd (false≢true k)
+
+  unmet : (e : Expression) → is_unmet least e ≡ true → IsUntrue (value_of e row)
+  unmet e = by (not (has_arithmetic e) && is_never least e) refl
+    where
+      by : (b : Bool) → (not (has_arithmetic e) && is_never least e) ≡ b → (b || is_false least e) ≡ true → IsUntrue (value_of e row)
+      by true h k =
+          let parts = and_parts (not (has_arithmetic e)) (is_never least e) h in
+          untrue least row from e (untrue_not (has_arithmetic e) parts.0) parts.1
+      by false h k = record { value = Truth false; is = falls e k; untrue = refl }
 
 -- a condition that no row meets keeps none, and has no fault
 module _ (condition : Expression) where
@@ -273,6 +315,4 @@ module _ (condition : Expression) where
 
 pub all_unmet : (least : ℕ → Option ℤ) (condition : Expression) → is_unmet least condition ≡ true → (rows : List Row) → AllByRecursion (IsFrom least) rows → AllByRecursion (IsUnmetAt condition) rows
 all_unmet least condition h [] a = tt
-all_unmet least condition h (row ∷ rows) a =
-    let parts = and_parts (not (has_arithmetic condition)) (is_never least condition) h in
-    (untrue least row a.0 condition (untrue_not (has_arithmetic condition) parts.0) parts.1, all_unmet least condition h rows a.1)
+all_unmet least condition h (row ∷ rows) a = (unmet least row a.0 condition h, all_unmet least condition h rows a.1)

@@ -14,7 +14,8 @@ use Rattle.wd_plan.specs.Fits.{fits}
 use Rattle.wd_plan.specs.Outcomes.{RowsOrFault, cut, distinct, filter_outcome, first_rows, join_outcome, map_outcome, ordering_at, outcome, pairs, window_outcome}
 use Rattle.wd_plan.specs.Plans.{ClassRule, LimitRule, PlanTree, Scan, Join, Filter, Map, Group, Window, Distinct, Limit, ordering_count}
 use Rattle.wd_plan.specs.Sorting.{IsOrdering, limit_class}
-use Rattle.wd_simpler.proofs.Least.{AllRows, all_from, at_any}
+use Rattle.wd_simpler.proofs.Least.{all_from}
+use Rattle.wd_simpler.proofs.Rows.{AllRows, at_any}
 use Rattle.wd_simpler.proofs.Conditions.{IsFrom, all_unmet, keeps_none}
 use Rattle.wd_simpler.specs.Simpler.{is_empty, is_unmet, least_of, takes_none}
 

@@ -17,7 +17,8 @@ use Rattle.wd_simpler.proofs.Masks.{mask, mask_read}
 use Rattle.wd_simpler.proofs.Results.{before, over, over_all}
 use Rattle.wd_simpler.proofs.Steps.{masked_before, shown_of}
 use Rattle.wd_simpler.proofs.Values.{AreRead, aggregate_read, filter_map, map_of_map}
-use Rattle.wd_simpler.proofs.Windows.{after_row, map_same}
+use Rattle.wd_simpler.proofs.Rows.{map_same}
+use Rattle.wd_simpler.proofs.Windows.{after_row}
 use Rattle.wd_simpler.specs.Simpler.{Read, after, group_argument, group_reads, next, read_group, read_group_call, read_group_calls}
 
 -- ---- groups by what is read of the rows

@@ -1,28 +1,25 @@
 -- The least numbers of a plan's columns.
-use Rattle.std.proofs.Common.{◌≡◌, ℕ, zero, suc, ◌+◌, ◌-◌, ◌*◌, ◌/◌, ◌%◌, ◌<◌, ◌≤◌, min, ℤ, pos, Bool, true, false, cond, List, [], ◌∷◌, ◌++◌, map, length, take, drop, nat_lt, refl, sym, ◌∙◌, ap, subst, arith, Option, Some, None, option_and_then, slice_get, get_or, Result, Ok, Err, zero-add}
+use Rattle.std.proofs.Common.{◌≡◌, ℕ, zero, suc, ◌+◌, ◌-◌, ◌*◌, ◌/◌, ◌%◌, ◌<◌, ◌≤◌, min, ℤ, pos, Bool, true, false, cond, List, [], ◌++◌, map, length, take, drop, nat_lt, refl, sym, subst, arith, Option, Some, None, option_and_then, slice_get, Result, Ok}
 use Rattle.std.specs.List.{AllByRecursion}
 use Rattle.std.specs.Prelude.{int_le}
 use Rattle.std.proofs.lemmas.Bool.{and_parts, ltb-false, ltb-true}
 use Rattle.std.proofs.lemmas.Int.{ints}
 use Rattle.std.proofs.lemmas.List.{get_or-append_right, get_or_append_left}
-use Rattle.std.proofs.lemmas.List.FromFn.{get_or-range_with_len, length-range_with_len}
-use Rattle.std.proofs.lemmas.Option.{get_or_from_slice_get, slice_get_within}
 use Rattle.wd_schema.specs.Meets.{Meets}
 use Rattle.wd_schema.specs.Tables.{TableRule}
-use Rattle.wd_value.specs.Bags.{positions}
 use Rattle.wd_value.specs.declared.value.Fault.{Fault}
 use Rattle.wd_value.specs.declared.value.Value.{Value}
 use Rattle.wd_value.specs.declared.value.Value.TheVariants.{Null, Int}
 use Rattle.wd_value.specs.Rows.{Instance, Row, column_of, row_at, table_at}
-use Rattle.wd_laws.proofs.AllValues.{AllOk, all_ok_each}
+use Rattle.wd_laws.proofs.AllValues.{all_ok_each}
 use Rattle.wd_laws.proofs.Widths.{all_distinct, all_filtered, has_widths}
 use Rattle.wd_plan.specs.Calls.{bucket_from, call_value, ranking_value}
-use Rattle.wd_plan.specs.Choices.{AreLawful, AtRows}
+use Rattle.wd_plan.specs.Choices.{AreLawful}
 use Rattle.wd_plan.specs.Expressions.{Expression, Column, Literal, Negate, Arithmetic, Compare, Not, And, Or, IsNull, IsNotNull, Case, value_of}
 use Rattle.wd_plan.specs.Facts.{HasWidth}
-use Rattle.wd_plan.specs.Faults.{all_ok, and_then}
+use Rattle.wd_plan.specs.Faults.{all_ok}
 use Rattle.wd_plan.specs.Fits.{fits, width}
-use Rattle.wd_plan.specs.Outcomes.{RowsOrFault, call_at, class_at, distinct, extended, filter_outcome, map_outcome, ordering_at, outcome, window_outcome}
+use Rattle.wd_plan.specs.Outcomes.{call_at, class_at, distinct, extended, filter_outcome, map_outcome, ordering_at, outcome, window_outcome}
 use Rattle.wd_plan.specs.Partitions.{members, partition_of, place_in}
 use Rattle.wd_plan.specs.Plans.{ClassRule, PlanTree, Scan, Join, Filter, Map, Group, Window, WindowRule, Distinct, Limit, ordering_count}
 use Rattle.wd_plan.specs.declared.function.Aggregate.TheVariants.{CountRows, Count, Sum, Min, Max}
@@ -34,7 +31,9 @@ use Rattle.wd_plan.specs.declared.function.Ranking.TheVariants.{RowNumber, Rank,
 use Rattle.wd_plan.specs.declared.window.Call.{Call}
 use Rattle.wd_plan.specs.declared.window.Frame.{Frame}
 use Rattle.wd_simpler.proofs.Conditions.{IsFrom, is_from}
-use Rattle.wd_simpler.specs.Simpler.{column_shown, least_of, least_of_function}
+use Rattle.wd_simpler.proofs.Rows.{AllRows, all_made, at_any, at_each, is_extended, item_value, of_any, then_all, window_rows}
+use Rattle.wd_simpler.specs.Keyed.{column_shown}
+use Rattle.wd_simpler.specs.Simpler.{least_of, least_of_function}
 
 -- ---- calls
 
@@ -71,43 +70,6 @@ call_from class frame (OfFrame (Aggregate (Sum c))) partition i v e = refl
 call_from class frame (OfFrame (Aggregate (Min c))) partition i v e = refl
 call_from class frame (OfFrame (Aggregate (Max c))) partition i v e = refl
 
--- ---- rows
-
--- what holds of each row, where there are rows
-abbrev pub AllRows : (Row → Type 0) → RowsOrFault → Type 0
-AllRows P r = AtRows r (AllByRecursion P) (Unit {0})
-
-of_any : (P : Row → Type 0) → ((row : Row) → P row) → (rows : List Row) → AllByRecursion P rows
-of_any P h [] = tt
-of_any P h (row ∷ rows) = (h row, of_any P h rows)
-
-pub at_any : (P : Row → Type 0) → ((row : Row) → P row) → (r : RowsOrFault) → AllRows P r
-at_any P h (Ok rows) = of_any P h rows
-at_any P h (Err fault) = tt
-
-then_all : (P Q : List Row → Type 0) (R : Row → Type 0) (r : RowsOrFault) (f : List Row → RowsOrFault) → ((rows : List Row) → P rows → Q rows → AllRows R (f rows)) → AtRows r P (Unit {0}) → AtRows r Q (Unit {0}) → AllRows R (and_then r f)
-then_all P Q R (Ok rows) f h p q = h rows p q
-then_all P Q R (Err fault) f h p q = tt
-
-at_each : (P : Row → Type 0) (rows : List Row) (p : ℕ) → AllByRecursion P rows → p < length rows → P (row_at rows p)
-at_each P [] p a h = absurd (omega arith)
-at_each P (row ∷ rows) zero a h = a.0
-at_each P (row ∷ rows) (suc p) a h = at_each P rows p a.1 (omega arith)
-
-from_each : (P : Row → Type 0) (rows : List Row) → ((p : ℕ) → p < length rows → P (row_at rows p)) → AllByRecursion P rows
-from_each P [] h = tt
-from_each P (row ∷ rows) h = (h 0 (omega arith), from_each P rows (λ p k. h (suc p) (omega arith)))
-
--- rows that are made one by one
-all_made : {X : Type 0} (d : X) (P : Row → Type 0) (f : X → Result Row Fault) (xs : List X) → ((p : ℕ) (row : Row) → p < length xs → f (get_or xs p d) ≡ Ok row → P row) → AllRows P (all_ok (map f xs))
-all_made d P f xs h = by (all_ok (map f xs)) refl
-  where
-    by : (r : RowsOrFault) → all_ok (map f xs) ≡ r → AllRows P r
-    by (Err fault) e = tt
-    by (Ok rows) e =
-        let all = all_ok_each f xs rows e in
-        from_each P rows (λ p k. h p (row_at rows p) (omega (arith, all.long)) (all.each p d [] (omega (arith, all.long))))
-
 -- ---- steps
 
 shown_from : (least : ℕ → Option ℤ) (e : Expression) (row : Row) → IsFrom least row → (v : Value) → value_of e row ≡ Ok v → is_from (option_and_then least (column_shown e)) v ≡ true
@@ -123,10 +85,6 @@ shown_from least (IsNull a) row from v h = refl
 shown_from least (IsNotNull a) row from v h = refl
 shown_from least (Case k a b c) row from v h = refl
 
--- the value of an item that has one
-item_value : {A : Type 0} (f : A → Result Value Fault) (items : List A) (row : Row) → AllOk f items row → (c : ℕ) (a : A) → slice_get items c ≡ Some a → f a ≡ Ok (column_of row c)
-item_value f items row all c a h = ap f (sym (get_or_from_slice_get items c a a h)) ∙ all.each c a Null (slice_get_within items c a h)
-
 map_from : (least : ℕ → Option ℤ) (outputs : List Expression) (rows : List Row) → AllByRecursion (IsFrom least) rows → AllRows (IsFrom (λ c. option_and_then least (option_and_then column_shown (slice_get outputs c)))) (map_outcome outputs rows)
 map_from least outputs rows a =
     all_made [] (IsFrom (λ c. option_and_then least (option_and_then column_shown (slice_get outputs c)))) (λ row. all_ok (map (λ output. value_of output row) outputs)) rows
@@ -138,16 +96,6 @@ map_from least outputs rows a =
         by : (o : Option Expression) → slice_get outputs c ≡ o → is_from (option_and_then least (option_and_then column_shown o)) (column_of row c) ≡ true
         by None h = refl
         by (Some x) h = shown_from least x input from (column_of row c) (item_value (λ output. value_of output input) outputs row (all_ok_each (λ output. value_of output input) outputs row e) c x h)
-
--- a row that is extended
-record IsExtended (row : Row) (values : Result Row Fault) (extended : Row) : Type 0 where
-  added : Row
-  are : values ≡ Ok added
-  is : extended ≡ row ++ added
-
-is_extended : (row : Row) (values : Result Row Fault) (extended : Row) → and_then values (λ vs. Ok (row ++ vs)) ≡ Ok extended → IsExtended row values extended
-is_extended row (Ok values) extended e = record { added = values; are = refl; is = let same : row ++ values ≡ extended = cc in sym same }
-is_extended row (Err fault) extended e = absurd cc
 
 module _ (least : ℕ → Option ℤ) (n : ℕ) (w : WindowRule) (rows : List Row) (orderings : List (List ℕ)) where
   abbrev least_extended : ℕ → Option ℤ
@@ -179,11 +127,7 @@ module _ (least : ℕ → Option ℤ) (n : ℕ) (w : WindowRule) (rows : List Ro
 
   window_from : HasWidth n rows → AllByRecursion (IsFrom least) rows → AllRows (IsFrom least_extended) (window_outcome w rows orderings)
   window_from wide a =
-      all_made 0 (IsFrom least_extended) (extended w rows orderings) (positions (length rows))
-      (λ p row k e.
-      let within : p < length rows = omega (arith, length-range_with_len 0 (length rows)) in
-      let at : get_or (positions (length rows)) p 0 ≡ p = get_or-range_with_len 0 (length rows) p 0 within ∙ zero-add p in
-      extended_from p row (at_each (λ (r : Row). length r ≡ n) rows p wide within) (at_each (IsFrom least) rows p a within) (ap (extended w rows orderings) (sym at) ∙ e))
+      window_rows (IsFrom least_extended) w rows orderings (λ p row k e. extended_from p row (at_each (λ (r : Row). length r ≡ n) rows p wide k) (at_each (IsFrom least) rows p a k) e)
 
 -- ---- plans
 

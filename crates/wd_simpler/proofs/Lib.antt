@@ -1,3 +1,4 @@
+pub mod Rows
 pub mod Masks
 pub mod Results
 pub mod Values
@@ -7,6 +8,8 @@ pub mod Windows
 pub mod Groups
 pub mod Conditions
 pub mod Least
+pub mod GivenBack
+pub mod SortKeys
 pub mod Empty
 pub mod Kept
 pub mod Plans

@@ -17,7 +17,10 @@ use Rattle.wd_plan.specs.Plans.{PlanTree, Scan, Join, Filter, Map, Group, Window
 use Rattle.wd_plan.specs.Sorting.{IsOrdering, limit_class}
 use Rattle.wd_simpler.proofs.Alike.{AreAlikeOn, AreSameOn, alike_every, always, at_alike, every_step, step_alike}
 use Rattle.wd_simpler.proofs.Empty.{AreNone, HasNone, no_rows}
+use Rattle.wd_simpler.proofs.GivenBack.{GivesBack, all_give}
 use Rattle.wd_simpler.proofs.Groups.{group_alike}
+use Rattle.wd_simpler.proofs.SortKeys.{classes_stay, cut_keyed, ordering_keyed, ordering_unkeyed, orderings_keyed, orderings_unkeyed, window_keyed}
+use Rattle.wd_simpler.specs.Keyed.{keyed_limit, keyed_window}
 use Rattle.wd_simpler.proofs.Kept.{AreNoneIn, condition_alike, limit_kept, none_in, window_kept}
 use Rattle.wd_simpler.proofs.Least.{all_from}
 use Rattle.wd_simpler.proofs.Masks.{mask}
@@ -38,7 +41,7 @@ count_stays (Join condition left right) read =
 count_stays (Filter condition input) read = count_stays input _
 count_stays (Map outputs input) read = count_stays input _
 count_stays (Group rule input) read = count_stays input _
-count_stays (Window w input) read = ap (λ n. n + length w.classes) (count_stays input _)
+count_stays (Window w input) read = λ i. count_stays input (and_also read (window_reads (read_window (is_empty input) (after (width input) read) (keyed_window input w)))) i + classes_stay input w i
 count_stays (Distinct input) read = count_stays input _
 count_stays (Limit limit input) read = ap (λ n. n + 1) (count_stays input _)
 
@@ -56,6 +59,16 @@ back_alike read a b e = sym e
 both_known : (P : List Row → Type 0) (none : Bool) (r : RowsOrFault) → AtRows r P (Unit {0}) → (none ≡ true → HasNone r) → AtRows r (λ rows. P rows × (none ≡ true → AreNone rows)) (Unit {0})
 both_known P none (Ok rows) p h = (p, h)
 both_known P none (Err fault) p h = tt
+
+-- what is so of the rows, by a fact of them
+at_known : (G P P' : List Row → Type 0) (Q : Type 0) → ((rows : List Row) → G rows → P rows → P' rows) → (r : RowsOrFault) → AtRows r G (Unit {0}) → AtRows r P Q → AtRows r P' Q
+at_known G P P' Q h (Ok rows) g p = h rows g p
+at_known G P P' Q h (Err fault) g p = p
+
+-- two steps that give the same of rows of which a fact is known
+same_then : (read : Read) (G : List Row → Type 0) (f g : List Row → RowsOrFault) → ((rows : List Row) → G rows → f rows ≡ g rows) → (r : RowsOrFault) → AtRows r G (Unit {0}) → AreAlikeOn read (and_then r f) (and_then r g)
+same_then read G f g h (Ok rows) known = ap (over (map (mask read))) (h rows known)
+same_then read G f g h (Err fault) known = refl
 
 module _ (tables : List TableRule) (instance : Instance) (meets : Meets tables instance) where
   -- a step that has no orderings
@@ -112,21 +125,37 @@ module _ (tables : List TableRule) (instance : Instance) (meets : Meets tables i
   narrows (Window w input) read choice fit =
       let columns = width input in
       let none = is_empty input in
-      let own = read_window none (after columns read) w in
+      let keyed = keyed_window input w in
+      let own = read_window none (after columns read) keyed in
       let more = and_also read (window_reads own) in
       let below = narrows input more choice (and_parts _ _ fit).0 in
       let other = narrowed input more in
       let count : ordering_count other ≡ ordering_count input = count_stays input more in
-      let orderings = λ (n : ℕ). take (length w.classes) (drop n choice) in
-      let here = orderings (ordering_count input) in
-      let Served = λ (n : ℕ). AtRows (outcome other instance choice) (λ rows. AreOrderings own rows (orderings n)) (AllByRecursion (λ o. o ≡ []) (orderings n)) in
+      let long : length keyed.classes ≡ length w.classes = classes_stay input w in
+      let orderings = λ (k n : ℕ). take k (drop n choice) in
+      let here = orderings (length w.classes) (ordering_count input) in
+      let Served = λ (k n : ℕ). AtRows (outcome other instance choice) (λ rows. AreOrderings own rows (orderings k n)) (AllByRecursion (λ o. o ≡ []) (orderings k n)) in
+      let none_served = AllByRecursion (λ (o : List ℕ). o ≡ []) here in
+      let gives = λ (a : AreLawful input instance choice). all_give tables instance meets input choice (and_parts _ _ fit).0 a in
       record {
-        lawful = λ a. (below.lawful a.0, subst Served (sym count) (at_alike (λ rows. AreOrderings w rows here) (λ rows. AreOrderings own rows here) (AllByRecursion (λ o. o ≡ []) here) more (λ rows others e o. orderings_alike read own here rows others e (orderings_read none (after columns read) w rows here o)) (outcome input instance choice) (outcome other instance choice) (below.alike a.0) a.1));
-        back = λ a. (below.back a.0, at_alike (λ rows. AreOrderings own rows here) (λ rows. AreOrderings w rows here) (AllByRecursion (λ o. o ≡ []) here) more (λ rows others e o. orderings_back none (after columns read) w others here (orderings_alike read own here rows others e o)) (outcome other instance choice) (outcome input instance choice) (sym (below.alike (below.back a.0))) (subst Served count a.1));
+        lawful = λ a. (
+          below.lawful a.0,
+          subst (λ k. Served k (ordering_count other)) (sym long) (subst (Served (length w.classes)) (sym count)
+              (at_alike (λ rows. AreOrderings keyed rows here) (λ rows. AreOrderings own rows here) none_served more (λ rows others e o. orderings_alike read own here rows others e (orderings_read none (after columns read) keyed rows here o)) (outcome input instance choice) (outcome other instance choice) (below.alike a.0)
+              (at_known (AllByRecursion (GivesBack input)) (λ rows. AreOrderings w rows here) (λ rows. AreOrderings keyed rows here) none_served (λ rows g o. orderings_keyed input w rows g here o) (outcome input instance choice) (gives a.0) a.1))),
+        );
+        back = λ a.
+            let lawful = below.back a.0 in (
+              lawful,
+              at_known (AllByRecursion (GivesBack input)) (λ rows. AreOrderings keyed rows here) (λ rows. AreOrderings w rows here) none_served (λ rows g o. orderings_unkeyed input w rows g here o) (outcome input instance choice) (gives lawful)
+                  (at_alike (λ rows. AreOrderings own rows here) (λ rows. AreOrderings keyed rows here) none_served more (λ rows others e o. orderings_back none (after columns read) keyed others here (orderings_alike read own here rows others e o)) (outcome other instance choice) (outcome input instance choice) (sym (below.alike lawful))
+                  (subst (Served (length w.classes)) count (subst (λ k. Served k (ordering_count other)) long a.1))),
+            );
         alike = λ a.
-            step_alike (λ rows. HasWidth columns rows × (none ≡ true → AreNone rows)) more read (λ rows. window_outcome w rows here) (λ rows. window_outcome own rows here) (λ rows others known e. window_kept none read columns w here rows others known.0 known.1 e) (outcome input instance choice) (outcome other instance choice)
+            same_then read (AllByRecursion (GivesBack input)) (λ rows. window_outcome w rows here) (λ rows. window_outcome keyed rows here) (λ rows g. window_keyed input w rows g here) (outcome input instance choice) (gives a.0)
+            ∙ step_alike (λ rows. HasWidth columns rows × (none ≡ true → AreNone rows)) more read (λ rows. window_outcome keyed rows here) (λ rows. window_outcome own rows here) (λ rows others known e. window_kept none read columns keyed here rows others known.0 known.1 e) (outcome input instance choice) (outcome other instance choice)
             (both_known (HasWidth columns) none (outcome input instance choice) (has_widths tables input instance choice (and_parts _ _ fit).0 meets a.0) (no_rows tables instance meets input choice (and_parts _ _ fit).0 a.0)) (below.alike a.0)
-            ∙ ap (λ n. over (map (mask read)) (and_then (outcome other instance choice) (λ rows. window_outcome own rows (orderings n)))) (sym count);
+            ∙ (λ i. over (map (mask read)) (and_then (outcome other instance choice) (λ rows. window_outcome own rows (orderings (sym long i) (sym count i)))));
       }
   narrows (Distinct input) read choice fit =
       let below = narrows input every choice fit in
@@ -137,24 +166,33 @@ module _ (tables : List TableRule) (instance : Instance) (meets : Meets tables i
       }
   narrows (Limit limit input) read choice fit =
       let none = is_empty input in
-      let own = read_limit none limit in
+      let keyed = keyed_limit input limit in
+      let own = read_limit none keyed in
       let kept = kept_reads (takes_none limit.count) read in
-      let more = and_also kept (key_columns limit.keys) in
+      let more = and_also kept (key_columns keyed.keys) in
       let below = narrows input more choice (and_parts _ _ fit).0 in
       let other = narrowed input more in
       let count : ordering_count other ≡ ordering_count input = count_stays input more in
       let here = ordering_at choice (ordering_count input) in
       let Lawful = λ (keys : List SortColumn) (rows : List Row) (ordering : List ℕ). IsOrdering (record { partition = []; order = keys }) rows ordering in
       let Served = λ (keys : List SortColumn) (n : ℕ). AtRows (outcome other instance choice) (λ rows. Lawful keys rows (ordering_at choice n)) (ordering_at choice n ≡ []) in
-      let keys : own.keys ≡ limit.keys = read_keys none limit in
-      let lawful_too : (rows others : List Row) → AreSameOn more rows others → Lawful limit.keys rows here → Lawful limit.keys others here =
-      λ rows others e o. ordering_alike more (limit_class limit) tt (limit_reads kept limit) rows others e here o in
+      let keys : own.keys ≡ keyed.keys = read_keys none keyed in
+      let lawful_too : (rows others : List Row) → AreSameOn more rows others → Lawful keyed.keys rows here → Lawful keyed.keys others here =
+      λ rows others e o. ordering_alike more (limit_class keyed) tt (limit_reads kept keyed) rows others e here o in
+      let gives = λ (a : AreLawful input instance choice). all_give tables instance meets input choice (and_parts _ _ fit).0 a in
+      let to_keyed = λ (a : AreLawful (Limit limit input) instance choice). at_known (AllByRecursion (GivesBack input)) (λ rows. Lawful limit.keys rows here) (λ rows. Lawful keyed.keys rows here) (here ≡ []) (λ rows g o. ordering_keyed input rows g [] limit.keys here o) (outcome input instance choice) (gives a.0) a.1 in
       record {
-        lawful = λ a. (below.lawful a.0, subst (λ k. Served k (ordering_count other)) (sym keys) (subst (Served limit.keys) (sym count) (at_alike (λ rows. Lawful limit.keys rows here) (λ rows. Lawful limit.keys rows here) (here ≡ []) more lawful_too (outcome input instance choice) (outcome other instance choice) (below.alike a.0) a.1)));
-        back = λ a. (below.back a.0, at_alike (λ rows. Lawful limit.keys rows here) (λ rows. Lawful limit.keys rows here) (here ≡ []) more lawful_too (outcome other instance choice) (outcome input instance choice) (sym (below.alike (below.back a.0))) (subst (Served limit.keys) count (subst (λ k. Served k (ordering_count other)) keys a.1)));
+        lawful = λ a. (below.lawful a.0, subst (λ k. Served k (ordering_count other)) (sym keys) (subst (Served keyed.keys) (sym count) (at_alike (λ rows. Lawful keyed.keys rows here) (λ rows. Lawful keyed.keys rows here) (here ≡ []) more lawful_too (outcome input instance choice) (outcome other instance choice) (below.alike a.0) (to_keyed a))));
+        back = λ a.
+            let lawful = below.back a.0 in (
+              lawful,
+              at_known (AllByRecursion (GivesBack input)) (λ rows. Lawful keyed.keys rows here) (λ rows. Lawful limit.keys rows here) (here ≡ []) (λ rows g o. ordering_unkeyed input rows g [] limit.keys here o) (outcome input instance choice) (gives lawful)
+                  (at_alike (λ rows. Lawful keyed.keys rows here) (λ rows. Lawful keyed.keys rows here) (here ≡ []) more lawful_too (outcome other instance choice) (outcome input instance choice) (sym (below.alike lawful)) (subst (Served keyed.keys) count (subst (λ k. Served k (ordering_count other)) keys a.1))),
+            );
         alike = λ a.
-            step_alike (λ rows. none ≡ true → AreNoneIn here rows) more read (λ rows. Ok (cut limit (rows_at rows here))) (λ rows. Ok (cut own (rows_at rows here))) (λ rows others known e. limit_kept none (takes_none limit.count) read limit refl here rows others known e) (outcome input instance choice) (outcome other instance choice)
-            (none_in (limit_class limit) here none (outcome input instance choice) (no_rows tables instance meets input choice (and_parts _ _ fit).0 a.0) a.1) (below.alike a.0)
+            same_then read (AllByRecursion (GivesBack input)) (λ rows. Ok (cut limit (rows_at rows here))) (λ rows. Ok (cut keyed (rows_at rows here))) (λ rows g. ap (λ x. Ok x) (cut_keyed input rows g limit here)) (outcome input instance choice) (gives a.0)
+            ∙ step_alike (λ rows. none ≡ true → AreNoneIn here rows) more read (λ rows. Ok (cut keyed (rows_at rows here))) (λ rows. Ok (cut own (rows_at rows here))) (λ rows others known e. limit_kept none (takes_none limit.count) read keyed refl here rows others known e) (outcome input instance choice) (outcome other instance choice)
+            (none_in (limit_class keyed) here none (outcome input instance choice) (no_rows tables instance meets input choice (and_parts _ _ fit).0 a.0) (to_keyed a)) (below.alike a.0)
             ∙ ap (λ n. over (map (mask read)) (and_then (outcome other instance choice) (λ rows. Ok (cut own (rows_at rows (ordering_at choice n)))))) (sym count);
       }
 

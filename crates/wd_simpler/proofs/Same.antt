@@ -6,6 +6,8 @@ use Rattle.wd_plan.specs.Fits.{width}
 use Rattle.wd_plan.specs.Plans.{GroupCall, GroupRule, LimitRule, PlanTree, Scan, Join, Filter, Map, Group, Window, WindowRule, Distinct, Limit, has}
 use Rattle.wd_plan.specs.declared.window.Call.{Call}
 use Rattle.wd_step_facts.specs.Steps.{used}
+use Rattle.wd_simpler.proofs.SortKeys.{calls_stay}
+use Rattle.wd_simpler.specs.Keyed.{keyed_limit, keyed_window}
 use Rattle.wd_simpler.specs.Simpler.{Read, after, and_also, condition_reads, count_of, group_reads, is_empty, is_unmet, kept_reads, least_of, narrowed, next, read_condition, read_limit, takes_none, read_call, read_calls, read_group_call, read_group_calls, read_output, read_outputs, read_window, window_reads}
 
 kept_same : (none : Bool) (read other : Read) (c : ℕ) → read c ≡ other c → kept_reads none read c ≡ kept_reads none other c
@@ -46,15 +48,18 @@ narrow_same (Group rule input) read other h =
     let calls = group_calls_same (after rule.columns read) (after rule.columns other) rule.calls (λ c k. h (rule.columns + c) (omega arith)) in
     λ i. let own : GroupRule = record { columns = rule.columns; sets = rule.sets; calls = calls i } in Group own (narrowed input (has (group_reads own)))
 narrow_same (Window w input) read other h =
-    let own = read_window (is_empty input) (after (width input) other) w in
-    let calls = calls_same (after (width input) read) (after (width input) other) w.calls (λ c k. h (width input + c) (omega arith)) in
-    (λ i. let own : WindowRule = record { classes = w.classes; calls = cond (is_empty input) (map count_of w.calls) (calls i) } in Window own (narrowed input (and_also read (window_reads own))))
+    let keyed = keyed_window input w in
+    let own = read_window (is_empty input) (after (width input) other) keyed in
+    let long = ap length (calls_stay input w) in
+    let calls = calls_same (after (width input) read) (after (width input) other) keyed.calls (λ c k. h (width input + c) (omega (arith, k, long))) in
+    (λ i. let own : WindowRule = record { classes = keyed.classes; calls = cond (is_empty input) (map count_of keyed.calls) (calls i) } in Window own (narrowed input (and_also read (window_reads own))))
     ∙ ap (Window own) (narrow_same input (and_also read (window_reads own)) (and_also other (window_reads own)) (and_same read other (width input) (window_reads own) (λ c k. h c (omega arith))))
 narrow_same (Distinct input) read other h = refl
 narrow_same (Limit limit input) read other h =
     let none = takes_none limit.count in
     let kept = λ (c : ℕ) (k : c < width input). kept_same none read other c (h c k) in
-    ap (Limit (read_limit (is_empty input) limit)) (narrow_same input (and_also (kept_reads none read) (key_columns limit.keys)) (and_also (kept_reads none other) (key_columns limit.keys)) (and_same (kept_reads none read) (kept_reads none other) (width input) (key_columns limit.keys) kept))
+    let own = keyed_limit input limit in
+    ap (Limit (read_limit (is_empty input) own)) (narrow_same input (and_also (kept_reads none read) (key_columns own.keys)) (and_also (kept_reads none other) (key_columns own.keys)) (and_same (kept_reads none read) (kept_reads none other) (width input) (key_columns own.keys) kept))
 
 -- ---- one output, and one call more
 
@@ -83,15 +88,15 @@ filter_made input below condition own unmet read more e f g h =
     ∙ ap (λ o. Filter o (narrowed input (and_also (kept_reads unmet read) (used o)))) f
     ∙ ap (λ u. Filter (read_condition u condition) (narrowed input (and_also (kept_reads u read) (used (read_condition u condition))))) e
 
-pub window_made : (input below : PlanTree) (w own : WindowRule) (none : Bool) (columns : ℕ) (read more : Read) → none ≡ is_empty input → columns ≡ width input → own ≡ read_window none (after columns read) w
+pub window_made : (input below : PlanTree) (w keyed own : WindowRule) (none : Bool) (columns : ℕ) (read more : Read) → none ≡ is_empty input → keyed ≡ keyed_window input w → columns ≡ width input → own ≡ read_window none (after columns read) keyed
     → ((c : ℕ) → more c ≡ and_also read (window_reads own) c) → below ≡ narrowed input more → Window own below ≡ narrowed (Window w input) read
-window_made input below w own none columns read more e f is g h =
+window_made input below w keyed own none columns read more e k f is g h =
     ap (Window own) (h ∙ narrow_alike input more (and_also read (window_reads own)) g)
-    ∙ ap (λ o. Window o (narrowed input (and_also read (window_reads o)))) (is ∙ (λ i. read_window (e i) (after (f i) read) w))
+    ∙ ap (λ o. Window o (narrowed input (and_also read (window_reads o)))) (is ∙ (λ i. read_window (e i) (after (f i) read) (k i)))
 
-pub limit_made : (input below : PlanTree) (limit own : LimitRule) (none takes : Bool) (read more : Read) → none ≡ is_empty input → takes ≡ takes_none limit.count → own ≡ read_limit none limit
-    → ((c : ℕ) → more c ≡ and_also (kept_reads takes read) (key_columns limit.keys) c) → below ≡ narrowed input more → Limit own below ≡ narrowed (Limit limit input) read
-limit_made input below limit own none takes read more e f is g h =
-    ap (Limit own) (h ∙ narrow_alike input more (and_also (kept_reads takes read) (key_columns limit.keys)) g)
-    ∙ (λ i. Limit (is i) (narrowed input (and_also (kept_reads (f i) read) (key_columns limit.keys))))
-    ∙ ap (λ n. Limit (read_limit n limit) (narrowed input (and_also (kept_reads (takes_none limit.count) read) (key_columns limit.keys)))) e
+pub limit_made : (input below : PlanTree) (limit keyed own : LimitRule) (none takes : Bool) (read more : Read) → none ≡ is_empty input → keyed ≡ keyed_limit input limit → takes ≡ takes_none keyed.count → own ≡ read_limit none keyed
+    → ((c : ℕ) → more c ≡ and_also (kept_reads takes read) (key_columns keyed.keys) c) → below ≡ narrowed input more → Limit own below ≡ narrowed (Limit limit input) read
+limit_made input below limit keyed own none takes read more e k f is g h =
+    ap (Limit own) (h ∙ narrow_alike input more (and_also (kept_reads takes read) (key_columns keyed.keys)) g)
+    ∙ (λ i. Limit (is i) (narrowed input (and_also (kept_reads (f i) read) (key_columns keyed.keys))))
+    ∙ (λ i. Limit (read_limit (e i) (k i)) (narrowed input (and_also (kept_reads (takes_none (k i).count) read) (key_columns (k i).keys))))

@@ -27,6 +27,7 @@ use Rattle.wd_plan.specs.declared.window.Frame.{Frame}
 use Rattle.wd_simpler.proofs.Alike.{AreAlikeOn, AreSameOn, all_weaken, also_read, has_also, has_each, has_left, has_right}
 use Rattle.wd_simpler.proofs.Masks.{mask, mask_append, mask_long, mask_more}
 use Rattle.wd_simpler.proofs.Results.{before, over, over_all}
+use Rattle.wd_simpler.proofs.Rows.{map_same}
 use Rattle.wd_simpler.proofs.Steps.{masked_before, shown_of}
 use Rattle.wd_simpler.proofs.Values.{AreRead, keys_read, map_of_map, partition_read, row_read, rows_read, value_read}
 use Rattle.wd_simpler.specs.Simpler.{Read, after, and_also, count_of, never_faults, next, read_call, read_calls, read_window, window_reads}
@@ -102,10 +103,6 @@ module _ (w : WindowRule) (rows : List Row) (orderings : List (List ℕ)) (r : �
 pub after_row : (read : Read) (row : Row) (s : Result Row Fault) → over (mask read) (and_then s (λ values. Ok (row ++ values))) ≡ over (λ values. mask read row ++ values) (over (mask (after (length row) read)) s)
 after_row read row (Ok values) = ap (λ x. Ok x) (mask_append read row values)
 after_row read row (Err fault) = refl
-
-pub map_same : {X Y : Type 0} (P : X → Type 0) (f g : X → Y) → ((x : X) → P x → f x ≡ g x) → (xs : List X) → AllByRecursion P xs → map f xs ≡ map g xs
-map_same P f g h [] a = refl
-map_same P f g h (x ∷ xs) a = λ i. h x a.0 i ∷ map_same P f g h xs a.1 i
 
 wide_at : (n : ℕ) (rows : List Row) (r : ℕ) → HasWidth n rows → r < length rows → length (row_at rows r) ≡ n
 wide_at n [] r wide h = absurd (omega arith)

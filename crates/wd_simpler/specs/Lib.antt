@@ -1,3 +1,4 @@
+pub mod Keyed
 pub mod Simpler
 pub mod Laws
 pub mod Sets

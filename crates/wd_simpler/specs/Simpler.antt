@@ -1,6 +1,7 @@
 -- A plan without what nothing reads: outputs of its Maps are NULL, and calls of its Windows and Groups COUNT(*), where no step
 -- above reads them and they can't fault. A condition that no row meets is FALSE; what stands below it is not read, and of an input
--- without rows any call is COUNT(*), and a Limit takes all. Its nodes, their columns and their orderings stay.
+-- without rows any call is COUNT(*), and a Limit takes all. Sort keys that are computed from a column are followed by that column.
+-- Its nodes, their columns and their orderings stay.
 use Rattle.std.specs.Prelude.{ℕ, zero, suc, ◌+◌, ◌-◌, ℤ, pos, int_le, nat_lt, length, map, slice_get, option_and_then, ◌&&◌, Bool, true, false, not, ◌||◌, List, [], ◌∷◌, ◌++◌, flat_map, if◌then◌else◌, Option, None, Some, option_to_list}
 use Rattle.wd_value.specs.declared.value.Value.{Value}
 use Rattle.wd_value.specs.declared.value.Value.TheVariants.{Null, Int, Text, Bool as TruthValue}
@@ -27,6 +28,7 @@ use Rattle.wd_plan.specs.Functions.{argument_of, argument_of_aggregate}
 use Rattle.wd_plan.specs.Plans.{GroupCall, OfRows, Grouping, GroupRule, WindowRule, LimitRule, PlanTree, Scan, Join, Filter, Map, Group, Window, Distinct, Limit, has}
 use Rattle.wd_plan.specs.Sorting.{class_columns}
 use Rattle.wd_scalar.specs.Arithmetic.{has_arithmetic}
+use Rattle.wd_simpler.specs.Keyed.{column_shown, keyed_limit, keyed_window}
 use Rattle.wd_step_facts.specs.Steps.{Side, Plain, Fixed, Other, side_of, used}
 
 -- which columns of a node the steps above it read, by their numbers
@@ -177,20 +179,6 @@ read_limit has_none limit = if has_none then whole_limit limit else plain_limit 
 
 -- ---- the least numbers of columns
 
--- the column that an output shows
-abbrev pub column_shown : Expression → Option ℕ
-column_shown (Column c) = Some c
-column_shown (Literal v kind) = None
-column_shown (Negate a) = None
-column_shown (Arithmetic o a b) = None
-column_shown (Compare o a b) = None
-column_shown (Not a) = None
-column_shown (And a b) = None
-column_shown (Or a b) = None
-column_shown (IsNull a) = None
-column_shown (IsNotNull a) = None
-column_shown (Case k a b c) = None
-
 -- the least number that a function gives, where it counts: ranks and buckets from 1, COUNT from 0
 abbrev pub least_of_function : Function → Option ℤ
 least_of_function (Ranked r) = Some (pos 1)
@@ -278,9 +266,31 @@ is_never least (IsNull a) = false
 is_never least (IsNotNull a) = false
 is_never least (Case k a b c) = false
 
+-- the truth value FALSE
+abbrev pub is_false_value : Value → Bool
+is_false_value (TruthValue b) = not b
+is_false_value Null = false
+is_false_value (Int n) = false
+is_false_value (Text t) = false
+
+-- a condition that is FALSE of each row, without a fault: the literal, such a comparison, and an AND of one, where its left side has no
+-- fault or is FALSE, so that the right one is not looked at
+abbrev pub is_false : (ℕ → Option ℤ) → Expression → Bool
+is_false least (Column c) = false
+is_false least (Literal v kind) = is_false_value v
+is_false least (Negate a) = false
+is_false least (Arithmetic o a b) = false
+is_false least (Compare op a b) = never_compares least op (side_of a) (side_of b)
+is_false least (Not a) = false
+is_false least (And a b) = is_false least a || (not (has_arithmetic a) && is_false least b)
+is_false least (Or a b) = false
+is_false least (IsNull a) = false
+is_false least (IsNotNull a) = false
+is_false least (Case k a b c) = false
+
 -- no row meets a condition, and none has a fault there
 abbrev pub is_unmet : (ℕ → Option ℤ) → Expression → Bool
-is_unmet least condition = not (has_arithmetic condition) && is_never least condition
+is_unmet least condition = (not (has_arithmetic condition) && is_never least condition) || is_false least condition
 
 -- a condition, and FALSE in its place where no row meets it
 abbrev pub read_condition : Bool → Expression → Expression
@@ -314,9 +324,9 @@ narrowed (Filter condition input) read =
     Filter own (narrowed input (and_also (kept_reads unmet read) (used own)))
 narrowed (Map outputs input) read = let own = read_outputs read outputs in Map own (narrowed input (has (flat_map used own)))
 narrowed (Group rule input) read = let own = read_group (after rule.columns read) rule in Group own (narrowed input (has (group_reads own)))
-narrowed (Window w input) read = let own = read_window (is_empty input) (after (width input) read) w in Window own (narrowed input (and_also read (window_reads own)))
+narrowed (Window w input) read = let own = read_window (is_empty input) (after (width input) read) (keyed_window input w) in Window own (narrowed input (and_also read (window_reads own)))
 narrowed (Distinct input) read = Distinct (narrowed input every)
-narrowed (Limit limit input) read = Limit (read_limit (is_empty input) limit) (narrowed input (and_also (kept_reads (takes_none limit.count) read) (key_columns limit.keys)))
+narrowed (Limit limit input) read = let own = keyed_limit input limit in Limit (read_limit (is_empty input) own) (narrowed input (and_also (kept_reads (takes_none limit.count) read) (key_columns own.keys)))
 
 -- the plan without what nothing reads
 abbrev pub simpler : PlanTree → PlanTree

@@ -13,6 +13,7 @@ ghost use Rattle.wd_value.specs.Keys.{key_columns};
 use crate::columns::{
     add_all_used, add_arguments, add_classes, add_first, add_group_arguments, add_keys, add_used,
 };
+use crate::keyed::{keyed_limit, keyed_window};
 use crate::unmet::{is_empty, is_unmet, read_condition, takes_none};
 use std::alloc::Global;
 use wd_facts::Member;
@@ -25,7 +26,7 @@ use wd_sets::Set;
 use wd_value::{OutOfMemory, Value};
 
 /// The plan with NULL for outputs, and COUNT(*) for calls, that no step above reads and that can't fault; with FALSE for conditions that
-/// no row meets, and with Limits that go by no order where there are no rows.
+/// no row meets, with Limits that go by no order where there are no rows, and with the column after each sort key that is computed from it.
 ///
 /// For both plans the same choices are valid, and under each of them they have the same outcome ([`crate::laws::simpler_is_alike`]).
 /// The plan has to fit the schema, which is not read otherwise.
@@ -93,6 +94,7 @@ fn narrowed(
         }
         Plan::Window { input, window } => {
             let none = is_empty(&input);
+            let window = keyed_window(alloc, schema, &input, window)?;
             let window = read_window(alloc, none, &read, input.width(), window)?;
             let more = with_window(read, &window)?;
             let input = narrowed(alloc, schema, Box::into_inner(input), more)?;
@@ -109,6 +111,7 @@ fn narrowed(
         }
         Plan::Limit { input, limit } => {
             let none = is_empty(&input);
+            let limit = keyed_limit(alloc, schema, &input, limit)?;
             let more = with_keys(kept_reads(alloc, takes_none(&limit), read), &limit)?;
             let input = narrowed(alloc, schema, Box::into_inner(input), more)?;
             Ok(Plan::Limit {

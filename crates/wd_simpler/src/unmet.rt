@@ -1,10 +1,12 @@
 //! Conditions that no row meets, and plans without rows.
 
-ghost use Rattle.std.specs.Prelude.{◌≡◌, map, not, option_and_then, slice_get};
+ghost use Rattle.std.specs.Prelude.{◌≡◌, ◌&&◌, ◌||◌, map, not, option_and_then, slice_get};
 ghost use Rattle.std.specs.Ordering.{int_cmp};
 ghost use Rattle.wd_plan.specs.Expressions.{expression_of, holds};
 ghost use Rattle.wd_plan.specs.Plans.{limit_of, plan_of};
 ghost use Rattle.wd_plan.specs.declared.window.Call.{Call as ACall};
+ghost use Rattle.wd_scalar.specs.Arithmetic.{has_arithmetic as arithmetic};
+ghost use Rattle.wd_simpler.specs.Keyed.{column_shown as column_shown_in};
 ghost use Rattle.wd_simpler.specs.Simpler as spec;
 ghost use Rattle.wd_step_facts.specs.Steps.{side_of};
 
@@ -43,7 +45,7 @@ pub(crate) fn takes_none(limit: &Limit) -> bool
 pub(crate) fn is_unmet(input: &Plan, condition: &Expr) -> bool
     ensures { result ≡ spec.is_unmet (spec.least_of (plan_of input.now)) (expression_of condition.now) }
 {
-    !has_arithmetic(condition) && is_never(input, condition)
+    (!has_arithmetic(condition) && is_never(input, condition)) || is_false(input, condition, false)
 }
 
 /// The condition, and FALSE in its place where no row meets it.
@@ -55,6 +57,31 @@ pub(crate) fn read_condition(unmet: bool, condition: Expr) -> Expr
     } else {
         condition
     }
+}
+
+/// Whether a condition is FALSE of each row of a plan, without a fault; or no more than without a fault, where it is the left side of an
+/// AND whose right side is FALSE.
+fn is_false(input: &Plan, condition: &Expr, right_is: bool) -> bool
+    ensures { result ≡ (spec.is_false (spec.least_of (plan_of input.now)) (expression_of condition.now) || (right_is && not (arithmetic (expression_of condition.now)))) }
+{
+    match condition {
+        Expr::Literal(value, _) => is_false_value(value) || right_is,
+        Expr::Compare(op, a, b) => {
+            never_compares(input, *op, a, b) || (right_is && !has_arithmetic(condition))
+        }
+        Expr::And(a, b) => {
+            let right_is = is_false(input, b, right_is);
+            is_false(input, a, right_is)
+        }
+        _ => right_is && !has_arithmetic(condition),
+    }
+}
+
+/// Whether a value is FALSE.
+fn is_false_value(value: &Value) -> bool
+    ensures { result ≡ spec.is_false_value value.now }
+{
+    matches!(value, Value::Bool(false))
 }
 
 /// Whether a condition is true of no row of a plan.
@@ -185,14 +212,15 @@ fn least_of(plan: &Plan, column: u16) -> Option<i64>
 
 /// The column that an output shows, where it shows one.
 fn copied(outputs: &[Expr], column: u16) -> Option<u16>
-    ensures { result ≡ option_and_then spec.column_shown (slice_get (map expression_of outputs.now) column) }
+    ensures { result ≡ option_and_then column_shown_in (slice_get (map expression_of outputs.now) column) }
 {
     let output = outputs.get(usize::from(column))?;
     column_shown(output)
 }
 
-fn column_shown(output: &Expr) -> Option<u16>
-    ensures { result ≡ spec.column_shown (expression_of output.now) }
+/// The column that an output shows.
+pub(crate) fn column_shown(output: &Expr) -> Option<u16>
+    ensures { result ≡ column_shown_in (expression_of output.now) }
 {
     match output {
         Expr::Column(column) => Some(*column),

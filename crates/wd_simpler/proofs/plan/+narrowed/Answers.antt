@@ -6,6 +6,7 @@ use Rattle.wd_plan.specs.Fits.{fits, width}
 use Rattle.wd_plan.specs.Plans.{Group, GroupRule, Join, LimitRule, Map, PlanTree, WindowRule, grouping_of, has, limit_of, plan_of, window_of}
 use Rattle.wd_schema.specs.Schemas.{schema_of}
 use Rattle.wd_simpler.proofs.Same.{filter_made, limit_made, narrow_alike, narrow_same, window_made}
+use Rattle.wd_simpler.specs.Keyed.{keyed_limit, keyed_window}
 use Rattle.wd_simpler.specs.Sets.{read_of}
 use Rattle.wd_simpler.specs.Simpler.{after, and_also, condition_reads, group_reads, is_empty, is_unmet, least_of, narrowed}
 use Rattle.wd_step_facts.specs.Steps.{used}
@@ -26,11 +27,13 @@ pub returns-in_ok-new-in-Limit : goal.returns-in_ok-new-in-Limit
 returns-in_ok-new-in-Limit t c =
     let input : PlanTree = plan_of c.in-Limit.input.value in
     let limit : LimitRule = limit_of c.in-Limit.limit in
+    let keyed : LimitRule = limit_of c.in_ok-limit-in-Limit.limit in
     let none : c.is_empty-none-in-Limit.result ≡ is_empty input = c.is_empty-none-in-Limit.ensures ∙ ap (λ p. is_empty (plan_of p)) c.deref-in-Limit.ensures in
+    let made : keyed ≡ keyed_limit input limit = c.in_ok-limit-in-Limit.ensures ∙ ap (λ p. keyed_limit (plan_of p) limit) c.deref-in-Limit-2.ensures in
     let below : plan_of c.in_ok-new-in-Limit.field-0.value ≡ narrowed input (read_of c.in_ok-more-in-Limit.more) =
     ap plan_of c.in_ok-new-in-Limit.ensures.ok ∙ c.in_ok-input-in-Limit.ensures ∙ ap (λ p. narrowed (plan_of p) (read_of c.in_ok-more-in-Limit.more)) c.into_inner-in-Limit.ensures in
-    rw c.in-Limit.is (limit_made input (plan_of c.in_ok-new-in-Limit.field-0.value) limit (limit_of c.read_limit.result) c.is_empty-none-in-Limit.result c.takes_none.result (read_of c.args.read) (read_of c.in_ok-more-in-Limit.more) none c.takes_none.ensures c.read_limit.ensures
-    (λ d. c.in_ok-more-in-Limit.ensures d ∙ ap (λ b. b || has (key_columns limit.keys) d) (c.kept_reads-in-Limit.ensures d)) below)
+    rw c.in-Limit.is (limit_made input (plan_of c.in_ok-new-in-Limit.field-0.value) limit keyed (limit_of c.read_limit.result) c.is_empty-none-in-Limit.result c.takes_none.result (read_of c.args.read) (read_of c.in_ok-more-in-Limit.more) none made c.takes_none.ensures c.read_limit.ensures
+    (λ d. c.in_ok-more-in-Limit.ensures d ∙ ap (λ b. b || has (key_columns keyed.keys) d) (c.kept_reads-in-Limit.ensures d)) below)
 
 pub returns-in_ok-new-in-Map : goal.returns-in_ok-new-in-Map
 returns-in_ok-new-in-Map t c =
@@ -53,15 +56,18 @@ returns-in_ok-new-in-Group t c =
 pub returns-in_ok-new-in-Window : goal.returns-in_ok-new-in-Window
 returns-in_ok-new-in-Window t c =
     let input : PlanTree = plan_of c.in-Window.input.value in
-    let own : WindowRule = window_of c.in_ok-window-in-Window.window in
+    let window : WindowRule = window_of c.in-Window.window in
+    let keyed : WindowRule = window_of c.in_ok-window-in-Window.window in
+    let own : WindowRule = window_of c.in_ok-window-in-Window-2.window in
     let fit = subst (λ p. fits (schema_of c.args.schema.now) (plan_of p) ≡ true) c.in-Window.is c.requires in
     let small = narrow (schema_of c.args.schema.now) input (and_parts _ _ fit).0 in
-    let there : width (plan_of c.deref-in-Window-2.result.now) ≡ width input = ap (λ p. width (plan_of p)) c.deref-in-Window-2.ensures in
+    let there : width (plan_of c.deref-in-Window-3.result.now) ≡ width input = ap (λ p. width (plan_of p)) c.deref-in-Window-3.ensures in
     let columns : c.width-in-Window.result ≡ width input = omega (arith, c.width-in-Window.ensures, there, small) in
     let none : c.is_empty-none.result ≡ is_empty input = c.is_empty-none.ensures ∙ ap (λ p. is_empty (plan_of p)) c.deref-in-Window.ensures in
+    let made : keyed ≡ keyed_window input window = c.in_ok-window-in-Window.ensures.keyed ∙ ap (λ p. keyed_window (plan_of p) window) c.deref-in-Window-2.ensures in
     let below : plan_of c.in_ok-new-in-Window.field-0.value ≡ narrowed input (read_of c.in_ok-more-in-Window.more) =
     ap plan_of c.in_ok-new-in-Window.ensures.ok ∙ c.in_ok-input-in-Window.ensures ∙ ap (λ p. narrowed (plan_of p) (read_of c.in_ok-more-in-Window.more)) c.into_inner-in-Window.ensures in
-    rw c.in-Window.is (window_made input (plan_of c.in_ok-new-in-Window.field-0.value) (window_of c.in-Window.window) own c.is_empty-none.result c.width-in-Window.result (read_of c.args.read) (read_of c.in_ok-more-in-Window.more) none columns c.in_ok-window-in-Window.ensures c.in_ok-more-in-Window.ensures below)
+    rw c.in-Window.is (window_made input (plan_of c.in_ok-new-in-Window.field-0.value) window keyed own c.is_empty-none.result c.width-in-Window.result (read_of c.args.read) (read_of c.in_ok-more-in-Window.more) none made columns c.in_ok-window-in-Window-2.ensures c.in_ok-more-in-Window.ensures below)
 
 pub returns-in_ok-new-in-Join-2 : goal.returns-in_ok-new-in-Join-2
 returns-in_ok-new-in-Join-2 t c =

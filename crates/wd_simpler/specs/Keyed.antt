@@ -1,0 +1,128 @@
+-- Sort keys that are computed from a column, as `c + 1`, `10 - c` or `- c`. Rows that tie there tie in that column too, so that it may
+-- stand after them as a sort key of its own: the same orderings are lawful, and the same rows are peers.
+use Rattle.std.specs.Prelude.{ℕ, suc, nat_lt, map, flat_map, option_map, option_and_then, option_to_list, slice_get, Bool, true, false, ◌||◌, List, [], ◌∷◌, ◌++◌, Option, Some, None, if◌then◌else◌}
+use Rattle.std.specs.List.{list_any}
+use Rattle.wd_value.specs.declared.order.SortColumn.{SortColumn}
+use Rattle.wd_value.specs.declared.value.Value.{Value}
+use Rattle.wd_value.specs.declared.value.Value.TheVariants.{Null, Int, Text, Bool as TruthValue}
+use Rattle.wd_value.specs.Keys.{ascending}
+use Rattle.wd_plan.specs.declared.expression.ArithmeticOp.{ArithmeticOp}
+use Rattle.wd_plan.specs.declared.expression.ArithmeticOp.TheVariants.{Add, Subtract, Multiply, Divide, Remainder}
+use Rattle.wd_plan.specs.declared.window.Call.{Call}
+use Rattle.wd_plan.specs.declared.window.Frame.{Frame}
+use Rattle.wd_plan.specs.declared.window.FrameMode.{FrameMode}
+use Rattle.wd_plan.specs.declared.window.FrameMode.TheVariants as mode
+use Rattle.wd_plan.specs.Expressions.{Expression, Column, Literal, Negate, Arithmetic, Compare, Not, And, Or, IsNull, IsNotNull, Case}
+use Rattle.wd_plan.specs.Fits.{has_offset, width}
+use Rattle.wd_plan.specs.Plans.{ClassRule, WindowRule, LimitRule, PlanTree, Scan, Join, Filter, Map, Group, Window, Distinct, Limit, has}
+
+-- ---- columns that others give back
+
+-- a literal that is a whole number
+abbrev pub is_whole : Value → Bool
+is_whole (Int n) = true
+is_whole Null = false
+is_whole (Text t) = false
+is_whole (TruthValue b) = false
+
+abbrev pub is_number : Expression → Bool
+is_number (Column c) = false
+is_number (Literal v kind) = is_whole v
+is_number (Negate a) = false
+is_number (Arithmetic o a b) = false
+is_number (Compare o a b) = false
+is_number (Not a) = false
+is_number (And a b) = false
+is_number (Or a b) = false
+is_number (IsNull a) = false
+is_number (IsNotNull a) = false
+is_number (Case k a b c) = false
+
+-- sums and differences: a product may be zero
+abbrev pub is_shift : ArithmeticOp → Bool
+is_shift Add = true
+is_shift Subtract = true
+is_shift Multiply = false
+is_shift Divide = false
+is_shift Remainder = false
+
+-- the column from which an expression differs by a sign and by whole numbers that are added or subtracted
+abbrev pub shifted : Expression → Option ℕ
+shifted (Column c) = Some c
+shifted (Literal v kind) = None
+shifted (Negate a) = shifted a
+shifted (Arithmetic o a b) = if is_shift o then (if is_number b then shifted a else (if is_number a then shifted b else None)) else None
+shifted (Compare o a b) = None
+shifted (Not a) = None
+shifted (And a b) = None
+shifted (Or a b) = None
+shifted (IsNull a) = None
+shifted (IsNotNull a) = None
+shifted (Case k a b c) = None
+
+-- the column that an output shows
+abbrev pub column_shown : Expression → Option ℕ
+column_shown (Column c) = Some c
+column_shown (Literal v kind) = None
+column_shown (Negate a) = None
+column_shown (Arithmetic o a b) = None
+column_shown (Compare o a b) = None
+column_shown (Not a) = None
+column_shown (And a b) = None
+column_shown (Or a b) = None
+column_shown (IsNull a) = None
+column_shown (IsNotNull a) = None
+column_shown (Case k a b c) = None
+
+-- the first output that shows this column
+abbrev pub place_of : ℕ → List Expression → Option ℕ
+place_of c [] = None
+place_of c (e ∷ outputs) = if has (option_to_list (column_shown e)) c then Some 0 else option_map suc (place_of c outputs)
+
+-- the column of a Map's input that an output gives back: one that it is computed from, or that the column that it shows gives back
+abbrev pub origin : (ℕ → Option ℕ) → Expression → Option ℕ
+origin below e = of_column (column_shown e)
+  where
+    of_column : Option ℕ → Option ℕ
+    of_column (Some c) = below c
+    of_column None = shifted e
+
+-- the column of a plan that another one of its columns gives back: one from which that one is computed so
+abbrev pub given_back : PlanTree → ℕ → Option ℕ
+given_back (Scan table columns) c = None
+given_back (Join condition left right) c = None
+given_back (Filter condition input) c = given_back input c
+given_back (Map outputs input) c = option_and_then (λ (d : ℕ). place_of d outputs) (option_and_then (origin (given_back input)) (slice_get outputs c))
+given_back (Group rule input) c = None
+given_back (Window w input) c = if nat_lt c (width input) then given_back input c else None
+given_back (Distinct input) c = given_back input c
+given_back (Limit limit input) c = None
+
+-- ---- sort keys
+
+-- the columns that sort keys give back, as sort keys
+abbrev pub added_keys : PlanTree → List SortColumn → List SortColumn
+added_keys input keys = flat_map (λ (item : SortColumn). option_to_list (option_map ascending (given_back input item.column))) keys
+
+-- sort keys, and after them the columns that they give back
+abbrev pub keyed : PlanTree → List SortColumn → List SortColumn
+keyed input keys = keys ++ added_keys input keys
+
+-- a frame that goes by the distance of keys, for which there must be one
+abbrev pub goes_by_distance : Frame → Bool
+goes_by_distance frame = by_mode frame.mode
+  where
+    by_mode : FrameMode → Bool
+    by_mode mode.Rows = false
+    by_mode mode.Range = has_offset frame.start || has_offset frame.end
+    by_mode mode.Groups = false
+
+abbrev pub keyed_class : PlanTree → ClassRule → ClassRule
+keyed_class input class = record { partition = class.partition; order = keyed input class.order }
+
+-- a Window by such sort keys, where no frame goes by the distance of keys
+abbrev pub keyed_window : PlanTree → WindowRule → WindowRule
+keyed_window input w = if list_any (λ (call : Call). goes_by_distance call.frame) w.calls then w else record { classes = map (keyed_class input) w.classes; calls = w.calls }
+
+abbrev pub keyed_limit : PlanTree → LimitRule → LimitRule
+keyed_limit input limit = record { keys = keyed input limit.keys; offset = limit.offset; count = limit.count; ties = limit.ties }
