@@ -1,151 +1,106 @@
-//! The tries, one after another.
+//! The candidates, one after another.
 
-ghost use Rattle.std.specs.Prelude.{◌≡◌, true};
+ghost use Rattle.std.specs.Prelude.{◌≡◌, ◌≤◌, ◌+◌, ◌*◌, ◌/◌, true, filter, length, map, IfOk, IfSome};
+ghost use Rattle.wd_candidates.specs.Outlines.{IsOutline};
+ghost use Rattle.wd_further.specs.Finds.{IsSoughtIn, tries as tries_of};
 ghost use Rattle.wd_plan.specs.Fits.{fits};
 ghost use Rattle.wd_plan.specs.Plans.{plan_of};
+ghost use Rattle.wd_refute.specs.Laws.{IsShown};
 ghost use Rattle.wd_schema.specs.Schemas.{schema_of};
+ghost use Rattle.wd_seek.specs.Evaluations.{most_evaluations};
+ghost use Rattle.wd_seek.specs.Sought.{IsSought, is_meeting};
+ghost use Rattle.wd_value.specs.Bags.{positions};
+ghost use Rattle.wd_varied.specs.Sizes.{sizes as sizes_of};
+ghost use Rattle.wd_varied.specs.Suggested.{IsSuggested};
+ghost use Rattle.wd_varied.specs.Varied.{varied as varied_of};
+ghost use Rattle.wd_witness_text.specs.Witnesses.{witness_of};
 
-use crate::pools::Pools;
-use crate::sizes::sizes;
-use crate::varied::varied;
 use std::alloc::Global;
-use std::collections::BTreeMap;
 use wd_candidates::{Outline, outline_of};
-use wd_eval::{EvalError, TiedOutcome, eval_tied};
-use wd_plan::{Choice, Plan};
-use wd_refute::SortedOutcome;
-use wd_schema::{Schema, meets};
-use wd_value::{Instance, OutOfMemory};
+use wd_plan::Plan;
+use wd_schema::Schema;
+use wd_seek::try_candidate;
+use wd_value::OutOfMemory;
+use wd_varied::{Suggested, sizes, suggested_by, varied};
 use wd_witness_text::Witness;
 
-/// The most tries with tables of one size.
-const MOST_TRIES: u32 = 400;
+/// The most evaluations of a search.
+const MOST_EVALUATIONS: u64 = 2000;
 
-/// The most evaluations, which the sizes share.
-const MOST_EVALUATIONS: u32 = 2000;
-
-/// Two choices whose outcomes differ.
-#[derive(Drop)]
-struct Pair {
-    first: Choice,
-    second: Choice,
-}
-
-/// Two answers of a plan over tables that meet the schema, where a try shows them. This is not proved: who reports the witness has it
-/// judged.
+/// A witness over the first candidate that shows two answers of a plan.
 pub(crate) fn search(
     alloc: Global,
     schema: &Schema,
     plan: &Plan,
 ) -> Result<Option<Witness>, OutOfMemory>
-    requires { fits (schema_of schema.now) (plan_of plan.now) ≡ true }
+    requires fitting { fits (schema_of schema.now) (plan_of plan.now) ≡ true }
+    ensures sought { IfOk result (λ o. IsSoughtIn o (schema_of schema.now) (plan_of plan.now)) }
+    ensures shown { IfOk result (λ o. IfSome o (λ w. IsShown (schema_of schema.now) (plan_of plan.now) (witness_of w))) }
 {
-    let pools = Pools::of(alloc, plan)?;
     let outline = outline_of(alloc, schema, plan)?;
+    let suggested = suggested_by(alloc, plan)?;
     let sizes = sizes(alloc, plan)?;
-    let count = u32::try_from(sizes.len()).unwrap_or(MOST_EVALUATIONS);
-    let share = MOST_EVALUATIONS / count.max(1);
+    let tries = tries(plan, sizes.len());
+    let mut spent = 0;
     for rows in &sizes {
-        let found = search_size(alloc, schema, plan, &outline, &pools, *rows, share)?;
-        if found.is_some() {
-            return Ok(found);
+        let (found, made) = search_size(
+            alloc, schema, plan, &outline, &suggested, *rows, tries, spent,
+        )?;
+        if let Some(witness) = found {
+            return Ok(Some(witness));
         }
+        spent = made;
     }
     Ok(None)
 }
 
-/// The same with tables of so many rows, in about so many evaluations.
+/// How many tries there are of each of so many sizes.
+#[tactic(auto, using(crate::proofs::Tries::capped))]
+fn tries(plan: &Plan, sizes: usize) -> u32
+    requires is { sizes ≡ length (sizes_of (plan_of plan.now)) }
+    requires some { 1 ≤ sizes }
+    requires few { sizes ≤ 63 }
+    ensures { result ≡ tries_of (plan_of plan.now) }
+{
+    share(plan.orderings(), sizes as u32)
+}
+
+/// How many times so many orderings, each flipped, and one evaluation more suffice for each of so many sizes.
+fn share(orderings: u32, sizes: u32) -> u32
+    requires some { 1 ≤ sizes }
+    requires few { sizes ≤ 63 }
+    ensures { result ≡ most_evaluations / ((orderings + 1) * sizes) }
+{
+    (MOST_EVALUATIONS / ((u64::from(orderings) + 1) * u64::from(sizes))) as u32
+}
+
+/// The tries with tables of one size; the number of evaluations, that of the ones before included.
 fn search_size(
     alloc: Global,
     schema: &Schema,
     plan: &Plan,
     outline: &Outline,
-    pools: &Pools,
+    suggested: &Suggested,
     rows: u32,
-    share: u32,
-) -> Result<Option<Witness>, OutOfMemory>
-    requires { fits (schema_of schema.now) (plan_of plan.now) ≡ true }
+    tries: u32,
+    spent: u32,
+) -> Result<(Option<Witness>, u32), OutOfMemory>
+    requires fitting { fits (schema_of schema.now) (plan_of plan.now) ≡ true }
+    requires outline { IsOutline (schema_of schema.now) (plan_of plan.now) outline.now }
+    requires suggested { IsSuggested (plan_of plan.now) suggested.now }
+    requires small { rows ≤ 64 }
+    requires few { spent ≤ most_evaluations }
+    ensures few { IfOk result (λ r. r.1 ≤ most_evaluations) }
+    ensures sought { IfOk result (λ r. IsSought (schema_of schema.now) (plan_of plan.now) (filter (is_meeting (schema_of schema.now)) (map (varied_of (schema_of schema.now) (plan_of plan.now) rows) (positions tries))) spent r.0 r.1) }
 {
-    let mut left = share;
-    for number in 0..MOST_TRIES {
-        let instance = varied(alloc, schema, outline, pools, rows, number)?;
-        if meets(schema, &instance).is_ok() {
-            let (pair, made) = differing(alloc, schema, plan, &instance)?;
-            if let Some(pair) = pair {
-                let witness = witness_over(alloc, schema, instance, pair)?;
-                return Ok(Some(witness));
-            }
-            left = left.saturating_sub(made);
+    let mut total = spent;
+    for number in 0..tries {
+        let instance = varied(alloc, schema, outline, suggested, rows, number)?;
+        let (found, made) = try_candidate(alloc, schema, plan, outline, instance, total)?;
+        if let Some(witness) = found {
+            return Ok((Some(witness), made));
         }
-        if left == 0 {
-            return Ok(None);
-        }
+        total = made;
     }
-    Ok(None)
-}
-
-/// Two choices over an instance whose outcomes differ, and the number of evaluations.
-fn differing(
-    alloc: Global,
-    schema: &Schema,
-    plan: &Plan,
-    instance: &Instance,
-) -> Result<(Option<Pair>, u32), OutOfMemory>
-    requires { fits (schema_of schema.now) (plan_of plan.now) ≡ true }
-{
-    let Some((first, outcome)) = evaluated(alloc, schema, plan, instance, None)? else {
-        return Ok((None, 1));
-    };
-    let orderings = plan.orderings().min(MOST_EVALUATIONS);
-    for flipped in 0..orderings {
-        match evaluated(alloc, schema, plan, instance, Some(flipped))? {
-            None => return Ok((None, flipped + 1)),
-            Some((second, other)) => if !outcome.agrees(&other) {
-                return Ok((Some(Pair { first, second }), flipped + 1));
-            },
-        }
-    }
-    Ok((None, orderings.saturating_add(1)))
-}
-
-/// The choice that flips this ordering, and the outcome under it; None where a step is too large.
-fn evaluated(
-    alloc: Global,
-    schema: &Schema,
-    plan: &Plan,
-    instance: &Instance,
-    flipped: Option<u32>,
-) -> Result<Option<(Choice, SortedOutcome)>, OutOfMemory>
-    requires { fits (schema_of schema.now) (plan_of plan.now) ≡ true }
-{
-    match eval_tied(alloc, plan, schema, instance, flipped) {
-        Ok(TiedOutcome { choice, outcome }) => {
-            let outcome = SortedOutcome::new(alloc, outcome)?;
-            Ok(Some((choice, outcome)))
-        }
-        Err(EvalError::OutOfMemory) => Err(OutOfMemory),
-        Err(_) => Ok(None),
-    }
-}
-
-/// The witness with the rows of the tables that have some, by the tables' names.
-fn witness_over(
-    alloc: Global,
-    schema: &Schema,
-    instance: Instance,
-    pair: Pair,
-) -> Result<Witness, OutOfMemory> {
-    let mut tables = BTreeMap::new(alloc);
-    for (table, rows) in schema.tables.values().zip(instance) {
-        if !rows.is_empty() {
-            let name = String::from_str(alloc, table.name.as_str())?;
-            drop(tables.insert(name, rows)?);
-        }
-    }
-    let Pair { first, second } = pair;
-    Ok(Witness {
-        tables,
-        first,
-        second,
-    })
+    Ok((None, total))
 }

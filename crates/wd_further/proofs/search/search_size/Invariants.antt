@@ -1,0 +1,13 @@
+use Rattle.std.proofs.Common.{◌≤◌, ◌∷◌, [], take}
+use Rattle.wd_plan.specs.Plans.{plan_of}
+use Rattle.wd_schema.specs.Schemas.{schema_of}
+use Rattle.wd_value.specs.Bags.{positions}
+use Rattle.wd_varied.specs.Varied.{varied}
+use Rattle.wd_seek.specs.Evaluations.{most_evaluations}
+use Rattle.wd_seek.specs.Search.{FindsNothing}
+use Rattle.wd_seek.proofs.Trying.{tried_by}
+use Rattle.wd_further.proofs.search.search_size.Given as goal
+
+abbrev pub invariant-loop-number : goal.invariant-loop-number
+invariant-loop-number l = (l.total ≤ most_evaluations)
+    × FindsNothing (plan_of l.plan) (tried_by (schema_of l.schema) (plan_of l.plan) (λ n. varied (schema_of l.schema) (plan_of l.plan) l.rows n ∷ []) (take l.number (positions l.tries))) l.spent l.total

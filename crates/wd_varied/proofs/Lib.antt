@@ -1,0 +1,4 @@
+mod Comparing
+mod Places
+mod Powers
+mod Ranges
