@@ -11,7 +11,7 @@ mod tied;
 
 pub use marks::is_marked;
 pub use origins::{
-    TableColumn, add_calls, group_origins, origin_in, output_origins, table_origins,
+    TableColumn, group_origins, origin_in, output_origins, table_origins, window_origins,
 };
 pub use outline::{Outline, outline_of};
 pub use rows::{candidate, fixed_at, fixed_columns, keyed_columns};

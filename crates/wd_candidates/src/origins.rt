@@ -68,8 +68,20 @@ pub fn output_origins(
     Ok(list)
 }
 
+/// The origins of the columns of a Window, by those of its input's columns, which are moved: a call has none.
+pub fn window_origins(
+    origins: Vec<Option<TableColumn>>,
+    calls: &[Call],
+) -> Result<Vec<Option<TableColumn>>, OutOfMemory>
+    ensures { IfOk result (λ v. v.items ≡ origins.items ++ map (λ call. None) calls.now) }
+{
+    let mut all = origins;
+    add_calls(calls, &mut all)?;
+    Ok(all)
+}
+
 /// Appends that the columns of calls have no origin.
-pub fn add_calls(
+pub(crate) fn add_calls(
     calls: &[Call],
     origins: &mut Vec<Option<TableColumn>>,
 ) -> Result<(), OutOfMemory>

@@ -9,7 +9,7 @@ ghost use Rattle.wd_varied.specs.Literals as spec;
 
 use std::alloc::Global;
 use wd_candidates::{
-    TableColumn, add_calls, group_origins, origin_in, output_origins, table_origins,
+    TableColumn, group_origins, origin_in, output_origins, table_origins, window_origins,
 };
 use wd_plan::{Expr, Plan};
 use wd_value::{OutOfMemory, Value};
@@ -59,9 +59,8 @@ pub(crate) fn add_compared(
             group_origins(alloc, &origins, group)
         }
         Plan::Window { input, window } => {
-            let mut origins = add_compared(alloc, input, list)?;
-            add_calls(&window.calls, &mut origins)?;
-            Ok(origins)
+            let origins = add_compared(alloc, input, list)?;
+            window_origins(origins, &window.calls)
         }
         Plan::Distinct { input } => add_compared(alloc, input, list),
         Plan::Limit { input, .. } => add_compared(alloc, input, list),
