@@ -1,5 +1,5 @@
 -- What a further search answers.
-use Rattle.std.specs.Prelude.{◌⊎◌, ℕ, ◌*◌, ◌/◌, List, filter, length, Option, Some, None, IsSome}
+use Rattle.std.specs.Prelude.{◌⊎◌, ℕ, List, filter, Option, Some, None, IsSome}
 use Rattle.wd_value.specs.Rows.{Instance}
 use Rattle.wd_schema.specs.Tables.{TableRule}
 use Rattle.wd_plan.specs.Plans.{PlanTree}
@@ -11,10 +11,8 @@ use Rattle.wd_refute.specs.Refutation.{IsRefuted}
 use Rattle.wd_witness_text.specs.Json.{Spells}
 use Rattle.wd_witness_text.specs.Witnesses.{witness_of}
 use Rattle.wd_witness_text.specs.declared.witness.Witness.{Witness}
-use Rattle.wd_varied.specs.Sizes.{sizes}
-use Rattle.wd_varied.specs.Varied.{candidates}
-use Rattle.wd_seek.specs.Evaluations.{evaluations, most_evaluations}
 use Rattle.wd_seek.specs.Sought.{IsSought, is_meeting}
+use Rattle.wd_further.specs.Rounds.{candidates}
 
 -- a witness and its text, which is that of a true witness of the plan that reads the texts of the schema and the query
 pub record IsFound (schema query : List ℕ) (found : Found) : Type 0 where
@@ -23,13 +21,9 @@ pub record IsFound (schema query : List ℕ) (found : Found) : Type 0 where
 
 -- ---- the search
 
--- how many tries there are of each size: as many as the most evaluations suffice for
-abbrev pub tries : PlanTree → ℕ
-tries plan = most_evaluations / (evaluations plan * length (sizes plan))
-
 -- the candidates in order, those that meet the schema
 abbrev pub to_try : List TableRule → PlanTree → List Instance
-to_try tables plan = filter (is_meeting tables) (candidates (tries plan) tables plan)
+to_try tables plan = filter (is_meeting tables) (candidates tables plan)
 
 -- a witness over the first of them that shows two answers, or none where none does
 abbrev pub IsSoughtIn : Option Witness → List TableRule → PlanTree → Type 0

@@ -1,15 +1,16 @@
 //! The candidates, one after another.
 
-ghost use Rattle.std.specs.Prelude.{◌≡◌, ◌≤◌, ◌+◌, ◌*◌, ◌/◌, true, filter, length, map, IfOk, IfSome};
+ghost use Rattle.std.specs.Prelude.{◌≡◌, ◌≤◌, ◌+◌, ◌*◌, ◌/◌, ◌^◌, ◌∷◌, [], ℕ, true, filter, length, min, All, IfOk, IfSome};
 ghost use Rattle.wd_candidates.specs.Outlines.{IsOutline};
-ghost use Rattle.wd_further.specs.Finds.{IsSoughtIn, tries as tries_of};
+ghost use Rattle.wd_further.specs.Finds.{IsSoughtIn};
+ghost use Rattle.wd_further.specs.Rounds.{most_rounds, most_rows};
+ghost use Rattle.wd_further.specs.Rounds as spec;
 ghost use Rattle.wd_plan.specs.Fits.{fits};
 ghost use Rattle.wd_plan.specs.Plans.{plan_of};
 ghost use Rattle.wd_refute.specs.Laws.{IsShown};
 ghost use Rattle.wd_schema.specs.Schemas.{schema_of};
 ghost use Rattle.wd_seek.specs.Evaluations.{most_evaluations};
 ghost use Rattle.wd_seek.specs.Sought.{IsSought, is_meeting};
-ghost use Rattle.wd_value.specs.Bags.{positions};
 ghost use Rattle.wd_varied.specs.Sizes.{sizes as sizes_of};
 ghost use Rattle.wd_varied.specs.Suggested.{IsSuggested};
 ghost use Rattle.wd_varied.specs.Varied.{varied as varied_of};
@@ -21,11 +22,17 @@ use wd_plan::Plan;
 use wd_schema::Schema;
 use wd_seek::try_candidate;
 use wd_value::OutOfMemory;
-use wd_varied::{Suggested, sizes, suggested_by, varied};
+use wd_varied::{Suggested, paired, sizes, suggested_by, varied};
 use wd_witness_text::Witness;
 
+/// The most rounds, in each of which each size is tried once.
+const MOST_ROUNDS: u32 = 1000;
+
 /// The most evaluations of a search.
-const MOST_EVALUATIONS: u64 = 2000;
+const MOST_EVALUATIONS: u32 = 2000;
+
+/// The most rows that they go over.
+const MOST_ROWS: u128 = 2_000_000;
 
 /// A witness over the first candidate that shows two answers of a plan.
 pub(crate) fn search(
@@ -40,11 +47,33 @@ pub(crate) fn search(
     let outline = outline_of(alloc, schema, plan)?;
     let suggested = suggested_by(alloc, plan)?;
     let sizes = sizes(alloc, plan)?;
-    let tries = tries(plan, sizes.len());
+    search_rounds(
+        alloc, schema, plan, &outline, &suggested, &sizes, MOST_ROUNDS,
+    )
+}
+
+/// So many rounds, one after another.
+fn search_rounds(
+    alloc: Global,
+    schema: &Schema,
+    plan: &Plan,
+    outline: &Outline,
+    suggested: &Suggested,
+    sizes: &[u32],
+    rounds: u32,
+) -> Result<Option<Witness>, OutOfMemory>
+    requires fitting { fits (schema_of schema.now) (plan_of plan.now) ≡ true }
+    requires outline { IsOutline (schema_of schema.now) (plan_of plan.now) outline.now }
+    requires suggested { IsSuggested (plan_of plan.now) suggested.now }
+    requires sizes { sizes.now ≡ sizes_of (plan_of plan.now) }
+    requires large { All (λ rows. 2 ≤ rows) sizes.now }
+    requires small { All (λ rows. rows ≤ 64) sizes.now }
+    ensures { IfOk result (λ o. (end : ℕ) × IsSought (schema_of schema.now) (plan_of plan.now) (filter (is_meeting (schema_of schema.now)) (spec.of_rounds (schema_of schema.now) (plan_of plan.now) rounds)) 0 o end) }
+{
     let mut spent = 0;
-    for rows in &sizes {
-        let (found, made) = search_size(
-            alloc, schema, plan, &outline, &suggested, *rows, tries, spent,
+    for number in 0..rounds {
+        let (found, made) = search_round(
+            alloc, schema, plan, outline, suggested, sizes, number, spent,
         )?;
         if let Some(witness) = found {
             return Ok(Some(witness));
@@ -54,27 +83,42 @@ pub(crate) fn search(
     Ok(None)
 }
 
-/// How many tries there are of each of so many sizes.
-#[tactic(auto, using(crate::proofs::Tries::capped))]
-fn tries(plan: &Plan, sizes: usize) -> u32
-    requires is { sizes ≡ length (sizes_of (plan_of plan.now)) }
-    requires some { 1 ≤ sizes }
-    requires few { sizes ≤ 63 }
-    ensures { result ≡ tries_of (plan_of plan.now) }
+/// The round with a number: a try of each size; the number of evaluations, that of the rounds before included.
+fn search_round(
+    alloc: Global,
+    schema: &Schema,
+    plan: &Plan,
+    outline: &Outline,
+    suggested: &Suggested,
+    sizes: &[u32],
+    number: u32,
+    spent: u32,
+) -> Result<(Option<Witness>, u32), OutOfMemory>
+    requires fitting { fits (schema_of schema.now) (plan_of plan.now) ≡ true }
+    requires outline { IsOutline (schema_of schema.now) (plan_of plan.now) outline.now }
+    requires suggested { IsSuggested (plan_of plan.now) suggested.now }
+    requires sizes { sizes.now ≡ sizes_of (plan_of plan.now) }
+    requires large { All (λ rows. 2 ≤ rows) sizes.now }
+    requires small { All (λ rows. rows ≤ 64) sizes.now }
+    requires few { spent ≤ most_evaluations }
+    ensures few { IfOk result (λ r. r.1 ≤ most_evaluations) }
+    ensures sought { IfOk result (λ r. IsSought (schema_of schema.now) (plan_of plan.now) (filter (is_meeting (schema_of schema.now)) (spec.of_round (schema_of schema.now) (plan_of plan.now) number)) spent r.0 r.1) }
 {
-    share(plan.orderings(), sizes as u32)
+    let mut total = spent;
+    for rows in sizes {
+        let tries = tries(plan, *rows, sizes.len());
+        let (found, made) = search_size(
+            alloc, schema, plan, outline, suggested, *rows, tries, number, total,
+        )?;
+        if let Some(witness) = found {
+            return Ok((Some(witness), made));
+        }
+        total = made;
+    }
+    Ok((None, total))
 }
 
-/// How many times so many orderings, each flipped, and one evaluation more suffice for each of so many sizes.
-fn share(orderings: u32, sizes: u32) -> u32
-    requires some { 1 ≤ sizes }
-    requires few { sizes ≤ 63 }
-    ensures { result ≡ most_evaluations / ((orderings + 1) * sizes) }
-{
-    (MOST_EVALUATIONS / ((u64::from(orderings) + 1) * u64::from(sizes))) as u32
-}
-
-/// The tries with tables of one size; the number of evaluations, that of the ones before included.
+/// The try of a size in a round, if there are so many tries of it; the number of evaluations, that of the ones before included.
 fn search_size(
     alloc: Global,
     schema: &Schema,
@@ -83,6 +127,36 @@ fn search_size(
     suggested: &Suggested,
     rows: u32,
     tries: u32,
+    number: u32,
+    spent: u32,
+) -> Result<(Option<Witness>, u32), OutOfMemory>
+    requires fitting { fits (schema_of schema.now) (plan_of plan.now) ≡ true }
+    requires outline { IsOutline (schema_of schema.now) (plan_of plan.now) outline.now }
+    requires suggested { IsSuggested (plan_of plan.now) suggested.now }
+    requires small { rows ≤ 64 }
+    requires tries { tries ≡ spec.tries (plan_of plan.now) rows }
+    requires few { spent ≤ most_evaluations }
+    ensures few { IfOk result (λ r. r.1 ≤ most_evaluations) }
+    ensures sought { IfOk result (λ r. IsSought (schema_of schema.now) (plan_of plan.now) (filter (is_meeting (schema_of schema.now)) (spec.of_size (schema_of schema.now) (plan_of plan.now) number rows)) spent r.0 r.1) }
+{
+    if number < tries {
+        try_varied(
+            alloc, schema, plan, outline, suggested, rows, number, spent,
+        )
+    } else {
+        Ok((None, spent))
+    }
+}
+
+/// A try, while there are evaluations left.
+fn try_varied(
+    alloc: Global,
+    schema: &Schema,
+    plan: &Plan,
+    outline: &Outline,
+    suggested: &Suggested,
+    rows: u32,
+    number: u32,
     spent: u32,
 ) -> Result<(Option<Witness>, u32), OutOfMemory>
     requires fitting { fits (schema_of schema.now) (plan_of plan.now) ≡ true }
@@ -91,16 +165,36 @@ fn search_size(
     requires small { rows ≤ 64 }
     requires few { spent ≤ most_evaluations }
     ensures few { IfOk result (λ r. r.1 ≤ most_evaluations) }
-    ensures sought { IfOk result (λ r. IsSought (schema_of schema.now) (plan_of plan.now) (filter (is_meeting (schema_of schema.now)) (map (varied_of (schema_of schema.now) (plan_of plan.now) rows) (positions tries))) spent r.0 r.1) }
+    ensures sought { IfOk result (λ r. IsSought (schema_of schema.now) (plan_of plan.now) (filter (is_meeting (schema_of schema.now)) (varied_of (schema_of schema.now) (plan_of plan.now) rows number ∷ [])) spent r.0 r.1) }
 {
-    let mut total = spent;
-    for number in 0..tries {
-        let instance = varied(alloc, schema, outline, suggested, rows, number)?;
-        let (found, made) = try_candidate(alloc, schema, plan, outline, instance, total)?;
-        if let Some(witness) = found {
-            return Ok((Some(witness), made));
-        }
-        total = made;
+    if spent == MOST_EVALUATIONS {
+        return Ok((None, spent));
     }
-    Ok((None, total))
+    let instance = varied(alloc, schema, outline, suggested, rows, number)?;
+    try_candidate(alloc, schema, plan, outline, instance, spent)
+}
+
+/// How many tries there are of a size, of so many sizes.
+fn tries(plan: &Plan, rows: u32, sizes: usize) -> u32
+    requires large { 2 ≤ rows }
+    requires small { rows ≤ 64 }
+    requires is { sizes ≡ length (sizes_of (plan_of plan.now)) }
+    requires sizes { 1 ≤ sizes }
+    requires few { sizes ≤ 63 }
+    ensures { result ≡ spec.tries (plan_of plan.now) rows }
+{
+    share(paired(plan, rows), plan.orderings(), sizes as u32)
+}
+
+/// How many tries suffice for the share of one of so many sizes, if the tables pair to so many rows: each try is evaluated once, and
+/// once more for each of so many orderings.
+fn share(paired: u64, orderings: u32, sizes: u32) -> u32
+    requires some { 1 ≤ paired }
+    requires small { paired ≤ 2 ^ 24 }
+    requires sizes { 1 ≤ sizes }
+    requires few { sizes ≤ 63 }
+    ensures { result ≡ min most_rounds (most_rows / ((paired * (orderings + 1)) * sizes)) }
+{
+    let cost = u128::from(paired) * (u128::from(orderings) + 1) * u128::from(sizes);
+    (MOST_ROWS / cost).min(u128::from(MOST_ROUNDS)) as u32
 }

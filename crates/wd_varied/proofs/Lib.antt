@@ -1,4 +1,4 @@
 mod Comparing
 mod Places
-mod Powers
+mod Products
 mod Ranges

@@ -1,6 +1,6 @@
 -- Lists by the places of their elements, and what the findings of a plan give.
-use Rattle.std.proofs.Common.{◌≡◌, ℕ, zero, suc, ◌+◌, ◌<◌, ◌≤◌, Bool, cond, List, [], ◌∷◌, ◌++◌, length, drop, get_or, map, refl, sym, ◌∙◌, ap, arith, Option}
-use Rattle.std.specs.List.{range_with_len}
+use Rattle.std.proofs.Common.{◌≡◌, ℕ, zero, suc, ◌+◌, ◌<◌, ◌≤◌, ◌||◌, Bool, cond, List, [], ◌∷◌, ◌++◌, length, drop, get_or, map, refl, sym, ◌∙◌, ap, arith, Option}
+use Rattle.std.specs.List.{list_any, range_with_len}
 use Rattle.std.proofs.lemmas.List.{append-nil, append_assoc, drop_more, drop_all}
 use Rattle.wd_value.specs.declared.value.Value.{Value}
 use Rattle.wd_value.specs.Bags.{positions}
@@ -42,6 +42,11 @@ place_long : {X Y : Type 0} (f : ℕ → X → Y) (c : ℕ) (xs : List X) → le
 place_long f c [] = refl
 place_long f c (x ∷ xs) = ap suc (place_long f (c + 1) xs)
 
+-- a test of the images of some elements
+pub any_of : {X Y : Type 0} (p : Y → Bool) (f : X → Y) (xs : List X) → list_any (λ x. p (f x)) xs ≡ list_any p (map f xs)
+any_of p f [] = refl
+any_of p f (x ∷ xs) = ap (λ b. p (f x) || b) (any_of p f xs)
+
 -- ---- the findings say what a plan's candidate holds
 
 map_same : {X Y : Type 0} (f g : X → Y) → ((x : X) → f x ≡ g x) → (xs : List X) → map f xs ≡ map g xs
@@ -61,11 +66,11 @@ rows_same scanned also fixed other fs rows s f =
     λ j. cond (s j) (same j) []
 
 pub varied_found : (tables : List TableRule) (outline : Outline) (suggested : Suggested) (rows number : ℕ) (instance : Instance)
-    → instance ≡ map (λ t. rows_in (scanned_in outline t) (fixed_in outline t) (fillings suggested.compared.items suggested.all.items (table_rule tables t) t number) rows) (positions (length tables)) → IsVaried tables outline suggested rows number instance
+    → instance ≡ map (λ t. rows_in (scanned_in outline t) (fixed_in outline t) (fillings suggested.compared.items suggested.all.items (table_rule tables t) t rows number) rows) (positions (length tables)) → IsVaried tables outline suggested rows number instance
 varied_found tables outline suggested rows number instance is plan of_plan of_literals =
     is
     ∙ range_same _ _ 0 (length tables) (λ t h.
-    let fs = fillings suggested.compared.items suggested.all.items (table_rule tables t) t number in
+    let fs = fillings suggested.compared.items suggested.all.items (table_rule tables t) t rows number in
     let long : length fs ≡ length (table_rule tables t).columns = place_long _ 0 (table_rule tables t).columns in
     rows_same (scanned_in outline t) (is_scanned plan t) (fixed_in outline t) (fixed_value (table_rule tables t).columns plan t) fs rows (of_plan.scanned t (omega arith)) (λ c k. of_plan.fixed t c (omega arith) (omega (arith, k, long))))
     ∙ (λ i. varied_by (of_literals.compared i) (of_literals.all i) tables plan rows number)

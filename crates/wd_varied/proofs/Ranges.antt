@@ -38,6 +38,17 @@ small_of p a (suc n) most h = by (p a) refl (small_of p (a + 1) n most (omega (a
     by true e rest = rw e (All-cons (λ k. k ≤ most) a (filter p (range_with_len (a + 1) n)) (omega (arith, h)) rest)
     by false e rest = rw e rest
 
+large_of : (p : ℕ → Bool) (a n least : ℕ) → least ≤ a → All (λ k. least ≤ k) (filter p (range_with_len a n))
+large_of p a zero least h = All-nil (λ k. least ≤ k)
+large_of p a (suc n) least h = by (p a) refl (large_of p (a + 1) n least (omega (arith, h)))
+  where
+    by : (b : Bool) → p a ≡ b → All (λ k. least ≤ k) (filter p (range_with_len (a + 1) n)) → All (λ k. least ≤ k) (filter p (range_with_len a (suc n)))
+    by true e rest = rw e (All-cons (λ k. least ≤ k) a (filter p (range_with_len (a + 1) n)) h rest)
+    by false e rest = rw e rest
+
+pub large_sizes : (plan : PlanTree) → All (λ k. 2 ≤ k) (sizes plan)
+large_sizes plan = large_of (is_size plan) 2 63 2 (omega arith)
+
 pub few_sizes : (plan : PlanTree) → length (sizes plan) ≤ 63
 few_sizes plan = few_of (is_size plan) 2 63
 

@@ -1,5 +1,5 @@
 -- How many rows the tables of a candidate have.
-use Rattle.std.specs.Prelude.{ℕ, ◌+◌, ◌^◌, ◌&&◌, ◌||◌, Bool, false, List, filter, nat_eq, nat_le, pos, negsuc, Option, Some, None}
+use Rattle.std.specs.Prelude.{ℕ, ◌+◌, ◌*◌, ◌&&◌, ◌||◌, Bool, false, List, filter, nat_eq, nat_le, pos, negsuc, Option, Some, None}
 use Rattle.std.specs.List.{list_any, range_with_len}
 use Rattle.wd_value.specs.declared.value.Value.{Value}
 use Rattle.wd_value.specs.declared.value.Value.TheVariants.{Null, Int, Text, Bool as Truth}
@@ -36,20 +36,20 @@ is_past_limit rows (Window w input) = is_past_limit rows input
 is_past_limit rows (Distinct input) = is_past_limit rows input
 is_past_limit rows (Limit limit input) = is_past_limit rows input || is_past (reach limit) rows
 
--- how many tables a plan reads, one that is read twice counted twice
-abbrev pub scans : PlanTree → ℕ
-scans (Scan table columns) = 1
-scans (Join condition left right) = scans left + scans right
-scans (Filter condition input) = scans input
-scans (Map outputs input) = scans input
-scans (Group g input) = scans input
-scans (Window w input) = scans input
-scans (Distinct input) = scans input
-scans (Limit limit input) = scans input
+-- how many rows the tables of a plan pair to, of so many rows each; one that is read twice counts twice
+abbrev pub paired : ℕ → PlanTree → ℕ
+paired rows (Scan table columns) = rows
+paired rows (Join condition left right) = paired rows left * paired rows right
+paired rows (Filter condition input) = paired rows input
+paired rows (Map outputs input) = paired rows input
+paired rows (Group g input) = paired rows input
+paired rows (Window w input) = paired rows input
+paired rows (Distinct input) = paired rows input
+paired rows (Limit limit input) = paired rows input
 
 -- 2; and 3, 4, and those one or two more than a literal or than a Limit reaches, if the tables pair to no more than 16,384 rows
 abbrev pub is_size : PlanTree → ℕ → Bool
-is_size plan rows = nat_eq rows 2 || ((nat_le rows 4 || (list_any (is_past_literal rows) (literals plan) || is_past_limit rows plan)) && nat_le (rows ^ scans plan) 16384)
+is_size plan rows = nat_eq rows 2 || ((nat_le rows 4 || (list_any (is_past_literal rows) (literals plan) || is_past_limit rows plan)) && nat_le (paired rows plan) 16384)
 
 -- of 2 to 64 rows
 abbrev pub sizes : PlanTree → List ℕ

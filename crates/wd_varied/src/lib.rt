@@ -11,6 +11,6 @@ mod suggested;
 mod tables;
 
 pub use compared::Compared;
-pub use size::sizes;
+pub use size::{paired, sizes};
 pub use suggested::{Suggested, suggested_by};
 pub use tables::varied;

@@ -1,12 +1,14 @@
 //! How the rows of a column stand to one another.
 
 ghost use Rattle.std.specs.Prelude.{◌≡◌, IfOk};
+ghost use Rattle.std.specs.List.{list_any};
+ghost use Rattle.wd_schema.specs.Tables.{key_of};
 ghost use Rattle.wd_varied.specs.Patterns.{filling_of};
 ghost use Rattle.wd_varied.specs.Patterns as spec;
 ghost use Rattle.wd_varied.specs.Values as values;
 
 use std::alloc::Global;
-use wd_schema::Column;
+use wd_schema::{Column, Key};
 use wd_value::{ColumnType, OutOfMemory, Text, Value};
 
 /// How the rows of a column stand to one another.
@@ -20,6 +22,10 @@ pub(crate) enum Pattern {
     Apart,
     /// A value of its own in each row, but the last two share one.
     LastTwoAlike,
+    /// One value in all rows but the last, which has another.
+    LastApart,
+    /// One value in all rows but the first, which has another.
+    FirstApart,
     /// NULL in all rows.
     Null,
 }
@@ -32,31 +38,64 @@ pub(crate) struct Filling {
     pub pool: Vec<Value>,
 }
 
-/// What is drawn for a column of a table in the try with a number: less than 1,009, and as if by chance.
-pub(crate) fn drawn(number: u32, table: usize, column: usize) -> u64
-    ensures { result ≡ spec.drawn number table column }
+/// Whether a key of a table is to tell rows apart by a column, in the try with a number.
+pub(crate) fn is_telling(keys: &[Key], column: usize, number: u32) -> bool
+    ensures { result ≡ list_any (λ key. spec.tells number column (key_of key)) keys.now }
 {
-    let place = column as u128 + 16 * (table as u128);
-    let seed = ((u128::from(number) + 37 * place + 11) % 1009) as u64;
-    seed * seed * seed % 1009
+    for key in keys {
+        if tells(key, column, number) {
+            return true;
+        }
+    }
+    false
 }
 
-/// How a column is filled, by what is drawn for it. A column of a key mostly differs from row to row.
-pub(crate) fn pattern_of(drawn: u64, column: &Column, keyed: bool) -> Pattern
-    ensures { result ≡ spec.pattern_by keyed column.now drawn }
+/// Whether a key is to tell rows apart by a column: by each of its columns in turn, as the number says.
+fn tells(key: &Key, column: usize, number: u32) -> bool
+    ensures { result ≡ spec.tells number column (key_of key.now) }
+{
+    if key.columns.is_empty() {
+        return false;
+    }
+    match key.columns.get(number as usize % key.columns.len()) {
+        Some(own) => usize::from(*own) == column,
+        None => false,
+    }
+}
+
+/// What is drawn for a column of a table of so many rows in the try with a number, as if by chance.
+pub(crate) fn drawn(rows: u32, number: u32, table: usize, column: usize) -> u64
+    ensures { result ≡ spec.drawn rows number table column }
+{
+    let place = column as u128 + 64 * (table as u128);
+    let seed = ((u128::from(number) + 1000 * place + 100_003 * u128::from(rows)) % 999_983) as u64;
+    seed * seed * seed % 999_983
+}
+
+/// How a column is filled, by what is drawn for it, and by whether a key is to tell rows apart by it.
+pub(crate) fn pattern_of(drawn: u64, column: &Column, telling: bool) -> Pattern
+    ensures { result ≡ spec.pattern_by telling column.now drawn }
 {
     let from = drawn / 16;
     let side = drawn % 16;
-    if keyed && side < 12 {
-        Pattern::Apart
+    if telling {
+        if side < 14 {
+            Pattern::Apart
+        } else {
+            Pattern::InTurn(from)
+        }
     } else if side < 6 {
         Pattern::Same(from)
-    } else if side < 10 {
+    } else if side < 9 {
         Pattern::InTurn(from)
-    } else if side < 12 {
+    } else if side < 11 {
         Pattern::Apart
-    } else if side < 14 {
+    } else if side < 13 {
         Pattern::LastTwoAlike
+    } else if side < 14 {
+        Pattern::LastApart
+    } else if side < 15 {
+        Pattern::FirstApart
     } else if column.not_null {
         Pattern::InTurn(from)
     } else {
@@ -80,6 +119,12 @@ pub(crate) fn filled(
         }
         Pattern::Apart => apart(alloc, filling.kind, row),
         Pattern::LastTwoAlike => apart(alloc, filling.kind, row.min(rows.saturating_sub(2))),
+        Pattern::LastApart => apart(
+            alloc,
+            filling.kind,
+            row.saturating_sub(rows.saturating_sub(2)),
+        ),
+        Pattern::FirstApart => apart(alloc, filling.kind, row.min(1)),
         Pattern::Null => Ok(Value::Null),
     }
 }

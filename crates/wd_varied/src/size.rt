@@ -1,6 +1,6 @@
 //! How many rows the tables have.
 
-ghost use Rattle.std.specs.Prelude.{◌≡◌, ◌+◌, ◌^◌, ◌<◌, ◌≤◌, ◌-◌, ◌||◌, ◌++◌, ◌∷◌, [], All, filter, length, min, nat_le, IfOk};
+ghost use Rattle.std.specs.Prelude.{◌≡◌, ◌+◌, ◌^◌, ◌<◌, ◌≤◌, ◌||◌, ◌++◌, ◌∷◌, [], All, filter, length, min, nat_le, IfOk};
 ghost use Rattle.std.specs.List.{list_any};
 ghost use Rattle.wd_plan.specs.Plans.{limit_of, plan_of};
 ghost use Rattle.wd_varied.specs.Literals.{literals as literals_of_plan};
@@ -14,20 +14,23 @@ use wd_value::{OutOfMemory, Value};
 /// The most rows that all tables together may pair to.
 const MOST_PAIRED: u64 = 16_384;
 
+/// So many rows are counted, and no more.
+const MOST_COUNTED: u64 = 16_777_216;
+
 /// The numbers of rows to try, the least first: of 2 to 64 those up to 4, and one and two more than a literal, or than the count of a
 /// Limit with its offset; none but 2 with which the tables of a plan pair to more than 16,384 rows.
 pub fn sizes(alloc: Global, plan: &Plan) -> Result<Vec<u32>, OutOfMemory>
     ensures are { IfOk result (λ v. v.items ≡ spec.sizes (plan_of plan.now)) }
     ensures some { IfOk result (λ v. 1 ≤ length v.items) }
     ensures few { IfOk result (λ v. length v.items ≤ 63) }
+    ensures large { IfOk result (λ v. All (λ rows. 2 ≤ rows) v.items) }
     ensures small { IfOk result (λ v. All (λ rows. rows ≤ 64) v.items) }
 {
     let mut literals = Vec::new(alloc);
     add_literals(alloc, plan, &mut literals)?;
-    let scans = scans(plan);
     let mut sizes = Vec::new(alloc);
     for rows in 2..65u32 {
-        add_size(plan, &literals, scans, rows, &mut sizes)?;
+        add_size(plan, &literals, rows, &mut sizes)?;
     }
     Ok(sizes)
 }
@@ -36,31 +39,28 @@ pub fn sizes(alloc: Global, plan: &Plan) -> Result<Vec<u32>, OutOfMemory>
 fn add_size(
     plan: &Plan,
     literals: &[Value],
-    scans: u32,
     rows: u32,
     sizes: &mut Vec<u32>,
 ) -> Result<(), OutOfMemory>
     requires literals { literals.now ≡ literals_of_plan (plan_of plan.now) }
-    requires scans { scans ≡ min (spec.scans (plan_of plan.now)) (2 ^ 32 - 1) }
     requires some { 2 ≤ rows }
     requires small { rows ≤ 64 }
     ensures { IfOk result (λ _. sizes.new.items ≡ sizes.old.items ++ filter (spec.is_size (plan_of plan.now)) (rows ∷ [])) }
 {
-    if is_size(plan, literals, scans, rows) {
+    if is_size(plan, literals, rows) {
         sizes.push(rows)?;
     }
     Ok(())
 }
 
 /// Whether a number of rows is tried.
-fn is_size(plan: &Plan, literals: &[Value], scans: u32, rows: u32) -> bool
+fn is_size(plan: &Plan, literals: &[Value], rows: u32) -> bool
     requires literals { literals.now ≡ literals_of_plan (plan_of plan.now) }
-    requires scans { scans ≡ min (spec.scans (plan_of plan.now)) (2 ^ 32 - 1) }
     requires some { 2 ≤ rows }
     requires small { rows ≤ 64 }
     ensures { result ≡ spec.is_size (plan_of plan.now) rows }
 {
-    rows == 2 || is_suggested(plan, literals, rows) && pairs_are_few(plan, scans, rows)
+    rows == 2 || is_suggested(plan, literals, rows) && pairs_are_few(plan, rows)
 }
 
 /// Whether a number of rows is suggested, by a literal or a Limit or by being small.
@@ -71,14 +71,13 @@ fn is_suggested(plan: &Plan, literals: &[Value], rows: u32) -> bool
 }
 
 /// Whether the tables of a plan, of so many rows each, pair to no more than 16,384 rows.
-#[tactic(auto, using(crate::proofs::Powers::capped))]
-fn pairs_are_few(plan: &Plan, scans: u32, rows: u32) -> bool
-    requires scans { scans ≡ min (spec.scans (plan_of plan.now)) (2 ^ 32 - 1) }
-    requires some { 2 ≤ rows }
+#[tactic(auto, using(crate::proofs::Products::few))]
+fn pairs_are_few(plan: &Plan, rows: u32) -> bool
+    requires some { 1 ≤ rows }
     requires small { rows ≤ 64 }
-    ensures { result ≡ nat_le (rows ^ spec.scans (plan_of plan.now)) 16384 }
+    ensures { result ≡ nat_le (spec.paired rows (plan_of plan.now)) 16384 }
 {
-    pair_to_few(rows, scans)
+    paired(plan, rows) <= MOST_PAIRED
 }
 
 /// Whether it is one or two more than some number.
@@ -141,34 +140,23 @@ fn reach(limit: &Limit) -> u128
     u128::from(limit.offset) + u128::from(limit.count.unwrap_or(0))
 }
 
-/// How many tables a plan reads, one that is read twice counted twice; `u32::MAX` where there are more.
-fn scans(plan: &Plan) -> u32
-    ensures { result ≡ min (spec.scans (plan_of plan.now)) (2 ^ 32 - 1) }
+/// How many rows the tables of a plan pair to, of so many rows each; one that is read twice counts twice. 2^24 where there are more.
+#[tactic(auto, using(crate::proofs::Products::capped))]
+pub fn paired(plan: &Plan, rows: u32) -> u64
+    requires some { 1 ≤ rows }
+    requires small { rows ≤ 64 }
+    ensures is { result ≡ min (spec.paired rows (plan_of plan.now)) (2 ^ 24) }
 {
     match plan {
-        Plan::Scan { .. } => 1,
-        Plan::Join { left, right, .. } => scans(left).saturating_add(scans(right)),
-        Plan::Filter { input, .. } => scans(input),
-        Plan::Map { input, .. } => scans(input),
-        Plan::Group { input, .. } => scans(input),
-        Plan::Window { input, .. } => scans(input),
-        Plan::Distinct { input } => scans(input),
-        Plan::Limit { input, .. } => scans(input),
-    }
-}
-
-/// Whether so many tables of so many rows pair to no more than 16,384 rows.
-fn pair_to_few(rows: u32, scans: u32) -> bool
-    requires some { 2 ≤ rows }
-    requires small { rows ≤ 64 }
-    ensures { result ≡ nat_le (rows ^ scans) 16384 }
-{
-    let mut paired = 1u64;
-    for _ in 0..scans {
-        paired *= u64::from(rows);
-        if paired > MOST_PAIRED {
-            return false;
+        Plan::Scan { .. } => u64::from(rows),
+        Plan::Join { left, right, .. } => {
+            (paired(left, rows) * paired(right, rows)).min(MOST_COUNTED)
         }
+        Plan::Filter { input, .. } => paired(input, rows),
+        Plan::Map { input, .. } => paired(input, rows),
+        Plan::Group { input, .. } => paired(input, rows),
+        Plan::Window { input, .. } => paired(input, rows),
+        Plan::Distinct { input } => paired(input, rows),
+        Plan::Limit { input, .. } => paired(input, rows),
     }
-    true
 }

@@ -1,7 +1,7 @@
 //! Tables that vary with a number.
 
 ghost use Rattle.std.specs.Prelude.{◌≡◌, ◌<◌, length, map, None, option_map, slice_index_or, IfOk};
-ghost use Rattle.wd_candidates.specs.Candidates.{cell as cell_of, is_keyed};
+ghost use Rattle.wd_candidates.specs.Candidates.{cell as cell_of};
 ghost use Rattle.wd_candidates.specs.Outlines.{fixed_in, scanned_in};
 ghost use Rattle.wd_facts.specs.Given.{table_rule};
 ghost use Rattle.wd_schema.specs.Schemas.{schema_of};
@@ -12,10 +12,10 @@ ghost use Rattle.wd_varied.specs.Patterns.{filled as filled_by, filling_of};
 ghost use Rattle.wd_varied.specs.Varied.{IsVaried};
 ghost use Rattle.wd_varied.specs.Varied as spec;
 
-use crate::patterns::{Filling, drawn, filled, pattern_of};
+use crate::patterns::{Filling, drawn, filled, is_telling, pattern_of};
 use crate::suggested::Suggested;
 use std::alloc::Global;
-use wd_candidates::{Outline, fixed_at, fixed_columns, is_marked, keyed_columns};
+use wd_candidates::{Outline, fixed_at, fixed_columns, is_marked};
 use wd_schema::{Column, Schema, Table};
 use wd_value::{Instance, OutOfMemory, Row, Value};
 
@@ -50,11 +50,11 @@ fn rows_of_table(
     number: u32,
 ) -> Result<Vec<Row>, OutOfMemory>
     requires { at < length schema.now.tables.entries }
-    ensures { IfOk result (λ v. rows_of v.items ≡ spec.rows_in (scanned_in outline.now at) (fixed_in outline.now at) (spec.fillings suggested.now.compared.items suggested.now.all.items (table_rule (schema_of schema.now) at) at number) rows) }
+    ensures { IfOk result (λ v. rows_of v.items ≡ spec.rows_in (scanned_in outline.now at) (fixed_in outline.now at) (spec.fillings suggested.now.compared.items suggested.now.all.items (table_rule (schema_of schema.now) at) at rows number) rows) }
 {
     match schema.tables.get_index(at) {
         Some((_, table)) if is_marked(&outline.scanned, at) => {
-            let fillings = fillings(alloc, table, at, suggested, number)?;
+            let fillings = fillings(alloc, table, at, suggested, rows, number)?;
             filled_rows(alloc, fixed_columns(outline, at), &fillings, rows)
         }
         _ => Ok(Vec::new(alloc)),
@@ -67,15 +67,16 @@ fn fillings(
     table: &Table,
     at: usize,
     suggested: &Suggested,
+    rows: u32,
     number: u32,
 ) -> Result<Vec<Filling>, OutOfMemory>
-    ensures { IfOk result (λ v. map filling_of v.items ≡ spec.fillings suggested.now.compared.items suggested.now.all.items (table_of table.now) at number) }
+    ensures { IfOk result (λ v. map filling_of v.items ≡ spec.fillings suggested.now.compared.items suggested.now.all.items (table_of table.now) at rows number) }
 {
-    let keyed = keyed_columns(alloc, table)?;
     let mut fillings = Vec::with_capacity(alloc, table.columns.len())?;
     for c in 0..table.columns.len() {
-        let is_keyed = is_marked(&keyed, c);
-        let filling = filling(alloc, suggested, at, c, &table.columns[c], is_keyed, number)?;
+        let telling = is_telling(&table.keys, c, number);
+        let drawn = drawn(rows, number, at, c);
+        let filling = filling(alloc, suggested, at, c, &table.columns[c], telling, drawn)?;
         fillings.push(filling)?;
     }
     Ok(fillings)
@@ -88,12 +89,12 @@ fn filling(
     table: usize,
     at: usize,
     column: &Column,
-    keyed: bool,
-    number: u32,
+    telling: bool,
+    drawn: u64,
 ) -> Result<Filling, OutOfMemory>
-    ensures { IfOk result (λ f. filling_of f ≡ spec.filling suggested.now.compared.items suggested.now.all.items table number keyed at column.now) }
+    ensures { IfOk result (λ f. filling_of f ≡ spec.filling_by suggested.now.compared.items suggested.now.all.items table telling at column.now drawn) }
 {
-    let pattern = pattern_of(drawn(number, table, at), column, keyed);
+    let pattern = pattern_of(drawn, column, telling);
     let pool = suggested.pool(alloc, table, at, column.kind)?;
     Ok(Filling {
         pattern,
