@@ -13,7 +13,7 @@ abbrev pub most_rounds : ℕ
 most_rounds = 1000
 
 abbrev pub most_rows : ℕ
-most_rows = 2000000
+most_rows = 1000000
 
 -- the rows that the evaluations of one try go over: those to which the tables pair, in each evaluation
 abbrev pub cost : PlanTree → ℕ → ℕ

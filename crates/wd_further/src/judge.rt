@@ -25,8 +25,9 @@ pub struct Found {
 /// where no candidate shows two; that says nothing of the query.
 ///
 /// For queries that `decide` leaves open, since its own search comes before. The candidates are tables of 2, 3 and 4 rows, and of one
-/// and two more rows than a count, an offset or another number in the query, at most 64; of each size, the least first, so many
-/// that 2,000 evaluations suffice for all. One that does not meet the schema is passed over.
+/// and two more rows than a count with its offset or than another number in the query, at most 64; in each round one of each size,
+/// the least first. One that does not meet the schema is passed over. The search ends after 1,000 rounds or 2,000 evaluations; these
+/// go over no more than 1,000,000 rows, if as many are counted as the tables pair to.
 pub fn seek_further(
     alloc: Global,
     schema: &[u8],

@@ -32,7 +32,7 @@ const MOST_ROUNDS: u32 = 1000;
 const MOST_EVALUATIONS: u32 = 2000;
 
 /// The most rows that they go over.
-const MOST_ROWS: u128 = 2_000_000;
+const MOST_ROWS: u128 = 1_000_000;
 
 /// A witness over the first candidate that shows two answers of a plan.
 pub(crate) fn search(
@@ -196,5 +196,5 @@ fn share(paired: u64, orderings: u32, sizes: u32) -> u32
     ensures { result ≡ min most_rounds (most_rows / ((paired * (orderings + 1)) * sizes)) }
 {
     let cost = u128::from(paired) * (u128::from(orderings) + 1) * u128::from(sizes);
-    (MOST_ROWS / cost).min(u128::from(MOST_ROUNDS)) as u32
+    u128::from(MOST_ROUNDS).min(MOST_ROWS / cost) as u32
 }

@@ -145,7 +145,7 @@ fn reach(limit: &Limit) -> u128
 pub fn paired(plan: &Plan, rows: u32) -> u64
     requires some { 1 ≤ rows }
     requires small { rows ≤ 64 }
-    ensures is { result ≡ min (spec.paired rows (plan_of plan.now)) (2 ^ 24) }
+    ensures { result ≡ min (spec.paired rows (plan_of plan.now)) (2 ^ 24) }
 {
     match plan {
         Plan::Scan { .. } => u64::from(rows),
