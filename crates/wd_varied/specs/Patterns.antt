@@ -38,14 +38,14 @@ drawn rows number table c = seed rows number table c * seed rows number table c 
 abbrev pub telling_pattern : ℕ → Pattern
 telling_pattern d = if nat_lt (d % 16) 14 then pattern.Apart else pattern.InTurn (d / 16)
 
--- the pattern of a column by what is drawn: of 16 others 6 hold one value, 3 the pool's values in turn, and 2 differ in each row; in 2
+-- the pattern of a column by what is drawn: of 16 others 6 hold one value, 4 the pool's values in turn, and 2 differ in each row; in 1
 -- the last two rows are alike, in 1 all but the last and in 1 all but the first; and 1 holds NULL if it may
 abbrev pub pattern_by : Bool → Column → ℕ → Pattern
 pattern_by telling column d =
     if telling then telling_pattern d
     else if nat_lt (d % 16) 6 then pattern.Same (d / 16)
-    else if nat_lt (d % 16) 9 then pattern.InTurn (d / 16)
-    else if nat_lt (d % 16) 11 then pattern.Apart
+    else if nat_lt (d % 16) 10 then pattern.InTurn (d / 16)
+    else if nat_lt (d % 16) 12 then pattern.Apart
     else if nat_lt (d % 16) 13 then pattern.LastTwoAlike
     else if nat_lt (d % 16) 14 then pattern.LastApart
     else if nat_lt (d % 16) 15 then pattern.FirstApart

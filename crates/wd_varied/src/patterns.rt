@@ -86,9 +86,9 @@ pub(crate) fn pattern_of(drawn: u64, column: &Column, telling: bool) -> Pattern
         }
     } else if side < 6 {
         Pattern::Same(from)
-    } else if side < 9 {
+    } else if side < 10 {
         Pattern::InTurn(from)
-    } else if side < 11 {
+    } else if side < 12 {
         Pattern::Apart
     } else if side < 13 {
         Pattern::LastTwoAlike
