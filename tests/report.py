@@ -528,6 +528,16 @@ def the_simpler():
             check(f"{wanted}: {text}", status == (0 if wanted == "deterministic" else 1), (status, out))
 
 
+def the_further():
+    """Queries of which two answers are found over more rows, or with values that the query names; and some that have but one."""
+    schema = held(f"{TOP}/tests/report/bank/schema.sql")
+    for text, wanted in lines_of("further.txt"):
+        with tempfile.TemporaryDirectory() as folder:
+            put(folder, {"schema.sql": schema, "q.sql": text})
+            out, _, status = run("q.sql", cwd=folder)
+            check(f"{wanted}: {text}", (", 1 depend" in out) == (wanted == "depends"), (status, out))
+
+
 def the_excuses():
     """Comments above a query."""
     for text, wanted in lines_of("remarks.txt"):
@@ -809,6 +819,7 @@ the_places()
 the_ties()
 the_marks()
 the_simpler()
+the_further()
 the_excuses()
 the_baselines()
 the_outputs()

@@ -1,0 +1,3 @@
+mod Trying
+mod Tries
+mod Reading

@@ -1,12 +1,15 @@
-//! What the search finds, once it is judged.
+//! From the texts of a schema and a query to a witness and its text.
 
-ghost use Rattle.std.specs.Prelude.{IfOk, IfSome};
-ghost use Rattle.wd_further.specs.Finds.{IsFound};
+ghost use Rattle.std.specs.Prelude.{◌≡◌, true, IfOk, IfSome};
+ghost use Rattle.wd_further.specs.Finds.{IsFound, IsSoughtFurther};
+ghost use Rattle.wd_plan.specs.Fits.{fits};
+ghost use Rattle.wd_plan.specs.Plans.{plan_of};
+ghost use Rattle.wd_query.specs.Readings.{IsRead};
+ghost use Rattle.wd_schema.specs.Schemas.{schema_of};
 
 use crate::search::search;
 use std::alloc::Global;
-use wd_query::read_texts;
-use wd_refute::refute;
+use wd_query::{PlannedQuery, read_texts};
 use wd_value::OutOfMemory;
 use wd_witness_text::Witness;
 
@@ -18,38 +21,47 @@ pub struct Found {
 }
 
 /// A true witness of the query of a text over the schema of a text: two answers that the query has over tables that meet the schema,
-/// under lawful orderings. None where the search ends without one, or where a text is refused; that says nothing of the query.
+/// under lawful orderings. It is over the first candidate of the search that shows two answers. None where a text is refused, or
+/// where no candidate shows two; that says nothing of the query.
 ///
-/// For queries that `decide` leaves open, since its own search comes before: tables of 2, 3 and 4 rows, and of some more rows than a
-/// count, an offset or another number in the query, at most 64. It ends after 2,000 evaluations.
+/// For queries that `decide` leaves open, since its own search comes before. The candidates are tables of 2, 3 and 4 rows, and of one
+/// and two more rows than a count with its offset or than another number in the query, at most 64; in each round one of each size,
+/// the least first. One that does not meet the schema is passed over. The search ends after 1,000 rounds or 2,000 evaluations; these
+/// go over no more than 1,000,000 rows, if as many are counted as the tables pair to.
 pub fn seek_further(
     alloc: Global,
     schema: &[u8],
     query: &[u8],
 ) -> Result<Option<Found>, OutOfMemory>
-    ensures { IfOk result (λ o. IfSome o (IsFound schema.now query.now)) }
+    ensures found { IfOk result (λ o. IfSome o (IsFound schema.now query.now)) }
+    ensures sought { IfOk result (IsSoughtFurther schema.now query.now) }
 {
-    let Ok(planned) = read_texts(alloc, schema, query) else {
-        return Ok(None);
-    };
-    match search(alloc, &planned.schema, &planned.resolved.plan)? {
-        None => Ok(None),
-        Some(witness) => judged(alloc, schema, query, witness),
+    match read_texts(alloc, schema, query) {
+        Ok(planned) => found_in(alloc, schema, query, &planned),
+        Err(error) => match error.number() {
+            Some(_) => Ok(None),
+            None => Err(OutOfMemory),
+        },
     }
 }
 
-/// The witness with its text, where `refute` accepts that.
-fn judged(
+/// What the search finds for a plan, with its text.
+fn found_in(
     alloc: Global,
     schema: &[u8],
     query: &[u8],
-    witness: Witness,
+    planned: &PlannedQuery,
 ) -> Result<Option<Found>, OutOfMemory>
-    ensures { IfOk result (λ o. IfSome o (IsFound schema.now query.now)) }
+    requires read { IsRead schema.now query.now planned.now }
+    requires fits { fits (schema_of planned.now.schema) (plan_of planned.now.resolved.plan) ≡ true }
+    ensures found { IfOk result (λ o. IfSome o (IsFound schema.now query.now)) }
+    ensures sought { IfOk result (IsSoughtFurther schema.now query.now) }
 {
-    let text = witness.to_json(alloc)?;
-    match refute(alloc, schema, query, &text) {
-        Ok(_) => Ok(Some(Found { witness, text })),
-        Err(_) => Ok(None),
+    match search(alloc, &planned.schema, &planned.resolved.plan)? {
+        None => Ok(None),
+        Some(witness) => {
+            let text = witness.to_json(alloc)?;
+            Ok(Some(Found { witness, text }))
+        }
     }
 }

@@ -1,151 +1,200 @@
-//! The tries, one after another.
+//! The candidates, one after another.
 
-ghost use Rattle.std.specs.Prelude.{◌≡◌, true};
+ghost use Rattle.std.specs.Prelude.{◌≡◌, ◌≤◌, ◌+◌, ◌*◌, ◌/◌, ◌^◌, ◌∷◌, [], ℕ, true, filter, length, min, All, IfOk, IfSome};
+ghost use Rattle.wd_candidates.specs.Outlines.{IsOutline};
+ghost use Rattle.wd_further.specs.Finds.{IsSoughtIn};
+ghost use Rattle.wd_further.specs.Rounds.{most_rounds, most_rows};
+ghost use Rattle.wd_further.specs.Rounds as spec;
 ghost use Rattle.wd_plan.specs.Fits.{fits};
 ghost use Rattle.wd_plan.specs.Plans.{plan_of};
+ghost use Rattle.wd_refute.specs.Laws.{IsShown};
 ghost use Rattle.wd_schema.specs.Schemas.{schema_of};
+ghost use Rattle.wd_seek.specs.Evaluations.{most_evaluations};
+ghost use Rattle.wd_seek.specs.Sought.{IsSought, is_meeting};
+ghost use Rattle.wd_varied.specs.Sizes.{sizes as sizes_of};
+ghost use Rattle.wd_varied.specs.Suggested.{IsSuggested};
+ghost use Rattle.wd_varied.specs.Varied.{varied as varied_of};
+ghost use Rattle.wd_witness_text.specs.Witnesses.{witness_of};
 
-use crate::pools::Pools;
-use crate::sizes::sizes;
-use crate::varied::varied;
 use std::alloc::Global;
-use std::collections::BTreeMap;
 use wd_candidates::{Outline, outline_of};
-use wd_eval::{EvalError, TiedOutcome, eval_tied};
-use wd_plan::{Choice, Plan};
-use wd_refute::SortedOutcome;
-use wd_schema::{Schema, meets};
-use wd_value::{Instance, OutOfMemory};
+use wd_plan::Plan;
+use wd_schema::Schema;
+use wd_seek::try_candidate;
+use wd_value::OutOfMemory;
+use wd_varied::{Suggested, paired, sizes, suggested_by, varied};
 use wd_witness_text::Witness;
 
-/// The most tries with tables of one size.
-const MOST_TRIES: u32 = 400;
+/// The most rounds, in each of which each size is tried once.
+const MOST_ROUNDS: u32 = 1000;
 
-/// The most evaluations, which the sizes share.
+/// The most evaluations of a search.
 const MOST_EVALUATIONS: u32 = 2000;
 
-/// Two choices whose outcomes differ.
-#[derive(Drop)]
-struct Pair {
-    first: Choice,
-    second: Choice,
-}
+/// The most rows that they go over.
+const MOST_ROWS: u128 = 1_000_000;
 
-/// Two answers of a plan over tables that meet the schema, where a try shows them. This is not proved: who reports the witness has it
-/// judged.
+/// A witness over the first candidate that shows two answers of a plan.
 pub(crate) fn search(
     alloc: Global,
     schema: &Schema,
     plan: &Plan,
 ) -> Result<Option<Witness>, OutOfMemory>
-    requires { fits (schema_of schema.now) (plan_of plan.now) ≡ true }
+    requires fitting { fits (schema_of schema.now) (plan_of plan.now) ≡ true }
+    ensures sought { IfOk result (λ o. IsSoughtIn o (schema_of schema.now) (plan_of plan.now)) }
+    ensures shown { IfOk result (λ o. IfSome o (λ w. IsShown (schema_of schema.now) (plan_of plan.now) (witness_of w))) }
 {
-    let pools = Pools::of(alloc, plan)?;
     let outline = outline_of(alloc, schema, plan)?;
+    let suggested = suggested_by(alloc, plan)?;
     let sizes = sizes(alloc, plan)?;
-    let count = u32::try_from(sizes.len()).unwrap_or(MOST_EVALUATIONS);
-    let share = MOST_EVALUATIONS / count.max(1);
-    for rows in &sizes {
-        let found = search_size(alloc, schema, plan, &outline, &pools, *rows, share)?;
-        if found.is_some() {
-            return Ok(found);
+    search_rounds(
+        alloc, schema, plan, &outline, &suggested, &sizes, MOST_ROUNDS,
+    )
+}
+
+/// So many rounds, one after another.
+fn search_rounds(
+    alloc: Global,
+    schema: &Schema,
+    plan: &Plan,
+    outline: &Outline,
+    suggested: &Suggested,
+    sizes: &[u32],
+    rounds: u32,
+) -> Result<Option<Witness>, OutOfMemory>
+    requires fitting { fits (schema_of schema.now) (plan_of plan.now) ≡ true }
+    requires outline { IsOutline (schema_of schema.now) (plan_of plan.now) outline.now }
+    requires suggested { IsSuggested (plan_of plan.now) suggested.now }
+    requires sizes { sizes.now ≡ sizes_of (plan_of plan.now) }
+    requires large { All (λ rows. 2 ≤ rows) sizes.now }
+    requires small { All (λ rows. rows ≤ 64) sizes.now }
+    ensures { IfOk result (λ o. (end : ℕ) × IsSought (schema_of schema.now) (plan_of plan.now) (filter (is_meeting (schema_of schema.now)) (spec.of_rounds (schema_of schema.now) (plan_of plan.now) rounds)) 0 o end) }
+{
+    let mut spent = 0;
+    for number in 0..rounds {
+        let (found, made) = search_round(
+            alloc, schema, plan, outline, suggested, sizes, number, spent,
+        )?;
+        if let Some(witness) = found {
+            return Ok(Some(witness));
         }
+        spent = made;
     }
     Ok(None)
 }
 
-/// The same with tables of so many rows, in about so many evaluations.
+/// The round with a number: a try of each size; the number of evaluations, that of the rounds before included.
+fn search_round(
+    alloc: Global,
+    schema: &Schema,
+    plan: &Plan,
+    outline: &Outline,
+    suggested: &Suggested,
+    sizes: &[u32],
+    number: u32,
+    spent: u32,
+) -> Result<(Option<Witness>, u32), OutOfMemory>
+    requires fitting { fits (schema_of schema.now) (plan_of plan.now) ≡ true }
+    requires outline { IsOutline (schema_of schema.now) (plan_of plan.now) outline.now }
+    requires suggested { IsSuggested (plan_of plan.now) suggested.now }
+    requires sizes { sizes.now ≡ sizes_of (plan_of plan.now) }
+    requires large { All (λ rows. 2 ≤ rows) sizes.now }
+    requires small { All (λ rows. rows ≤ 64) sizes.now }
+    requires few { spent ≤ most_evaluations }
+    ensures few { IfOk result (λ r. r.1 ≤ most_evaluations) }
+    ensures sought { IfOk result (λ r. IsSought (schema_of schema.now) (plan_of plan.now) (filter (is_meeting (schema_of schema.now)) (spec.of_round (schema_of schema.now) (plan_of plan.now) number)) spent r.0 r.1) }
+{
+    let mut total = spent;
+    for rows in sizes {
+        let tries = tries(plan, *rows, sizes.len());
+        let (found, made) = search_size(
+            alloc, schema, plan, outline, suggested, *rows, tries, number, total,
+        )?;
+        if let Some(witness) = found {
+            return Ok((Some(witness), made));
+        }
+        total = made;
+    }
+    Ok((None, total))
+}
+
+/// The try of a size in a round, if there are so many tries of it; the number of evaluations, that of the ones before included.
 fn search_size(
     alloc: Global,
     schema: &Schema,
     plan: &Plan,
     outline: &Outline,
-    pools: &Pools,
+    suggested: &Suggested,
     rows: u32,
-    share: u32,
-) -> Result<Option<Witness>, OutOfMemory>
-    requires { fits (schema_of schema.now) (plan_of plan.now) ≡ true }
+    tries: u32,
+    number: u32,
+    spent: u32,
+) -> Result<(Option<Witness>, u32), OutOfMemory>
+    requires fitting { fits (schema_of schema.now) (plan_of plan.now) ≡ true }
+    requires outline { IsOutline (schema_of schema.now) (plan_of plan.now) outline.now }
+    requires suggested { IsSuggested (plan_of plan.now) suggested.now }
+    requires small { rows ≤ 64 }
+    requires tries { tries ≡ spec.tries (plan_of plan.now) rows }
+    requires few { spent ≤ most_evaluations }
+    ensures few { IfOk result (λ r. r.1 ≤ most_evaluations) }
+    ensures sought { IfOk result (λ r. IsSought (schema_of schema.now) (plan_of plan.now) (filter (is_meeting (schema_of schema.now)) (spec.of_size (schema_of schema.now) (plan_of plan.now) number rows)) spent r.0 r.1) }
 {
-    let mut left = share;
-    for number in 0..MOST_TRIES {
-        let instance = varied(alloc, schema, outline, pools, rows, number)?;
-        if meets(schema, &instance).is_ok() {
-            let (pair, made) = differing(alloc, schema, plan, &instance)?;
-            if let Some(pair) = pair {
-                let witness = witness_over(alloc, schema, instance, pair)?;
-                return Ok(Some(witness));
-            }
-            left = left.saturating_sub(made);
-        }
-        if left == 0 {
-            return Ok(None);
-        }
+    if number < tries {
+        try_varied(
+            alloc, schema, plan, outline, suggested, rows, number, spent,
+        )
+    } else {
+        Ok((None, spent))
     }
-    Ok(None)
 }
 
-/// Two choices over an instance whose outcomes differ, and the number of evaluations.
-fn differing(
+/// A try, while there are evaluations left.
+fn try_varied(
     alloc: Global,
     schema: &Schema,
     plan: &Plan,
-    instance: &Instance,
-) -> Result<(Option<Pair>, u32), OutOfMemory>
-    requires { fits (schema_of schema.now) (plan_of plan.now) ≡ true }
+    outline: &Outline,
+    suggested: &Suggested,
+    rows: u32,
+    number: u32,
+    spent: u32,
+) -> Result<(Option<Witness>, u32), OutOfMemory>
+    requires fitting { fits (schema_of schema.now) (plan_of plan.now) ≡ true }
+    requires outline { IsOutline (schema_of schema.now) (plan_of plan.now) outline.now }
+    requires suggested { IsSuggested (plan_of plan.now) suggested.now }
+    requires small { rows ≤ 64 }
+    requires few { spent ≤ most_evaluations }
+    ensures few { IfOk result (λ r. r.1 ≤ most_evaluations) }
+    ensures sought { IfOk result (λ r. IsSought (schema_of schema.now) (plan_of plan.now) (filter (is_meeting (schema_of schema.now)) (varied_of (schema_of schema.now) (plan_of plan.now) rows number ∷ [])) spent r.0 r.1) }
 {
-    let Some((first, outcome)) = evaluated(alloc, schema, plan, instance, None)? else {
-        return Ok((None, 1));
-    };
-    let orderings = plan.orderings().min(MOST_EVALUATIONS);
-    for flipped in 0..orderings {
-        match evaluated(alloc, schema, plan, instance, Some(flipped))? {
-            None => return Ok((None, flipped + 1)),
-            Some((second, other)) => if !outcome.agrees(&other) {
-                return Ok((Some(Pair { first, second }), flipped + 1));
-            },
-        }
+    if spent == MOST_EVALUATIONS {
+        return Ok((None, spent));
     }
-    Ok((None, orderings.saturating_add(1)))
+    let instance = varied(alloc, schema, outline, suggested, rows, number)?;
+    try_candidate(alloc, schema, plan, outline, instance, spent)
 }
 
-/// The choice that flips this ordering, and the outcome under it; None where a step is too large.
-fn evaluated(
-    alloc: Global,
-    schema: &Schema,
-    plan: &Plan,
-    instance: &Instance,
-    flipped: Option<u32>,
-) -> Result<Option<(Choice, SortedOutcome)>, OutOfMemory>
-    requires { fits (schema_of schema.now) (plan_of plan.now) ≡ true }
+/// How many tries there are of a size, of so many sizes.
+fn tries(plan: &Plan, rows: u32, sizes: usize) -> u32
+    requires large { 2 ≤ rows }
+    requires small { rows ≤ 64 }
+    requires is { sizes ≡ length (sizes_of (plan_of plan.now)) }
+    requires sizes { 1 ≤ sizes }
+    requires few { sizes ≤ 63 }
+    ensures { result ≡ spec.tries (plan_of plan.now) rows }
 {
-    match eval_tied(alloc, plan, schema, instance, flipped) {
-        Ok(TiedOutcome { choice, outcome }) => {
-            let outcome = SortedOutcome::new(alloc, outcome)?;
-            Ok(Some((choice, outcome)))
-        }
-        Err(EvalError::OutOfMemory) => Err(OutOfMemory),
-        Err(_) => Ok(None),
-    }
+    share(paired(plan, rows), plan.orderings(), sizes as u32)
 }
 
-/// The witness with the rows of the tables that have some, by the tables' names.
-fn witness_over(
-    alloc: Global,
-    schema: &Schema,
-    instance: Instance,
-    pair: Pair,
-) -> Result<Witness, OutOfMemory> {
-    let mut tables = BTreeMap::new(alloc);
-    for (table, rows) in schema.tables.values().zip(instance) {
-        if !rows.is_empty() {
-            let name = String::from_str(alloc, table.name.as_str())?;
-            drop(tables.insert(name, rows)?);
-        }
-    }
-    let Pair { first, second } = pair;
-    Ok(Witness {
-        tables,
-        first,
-        second,
-    })
+/// How many tries suffice for the share of one of so many sizes, if the tables pair to so many rows: each try is evaluated once, and
+/// once more for each of so many orderings.
+fn share(paired: u64, orderings: u32, sizes: u32) -> u32
+    requires some { 1 ≤ paired }
+    requires small { paired ≤ 2 ^ 24 }
+    requires sizes { 1 ≤ sizes }
+    requires few { sizes ≤ 63 }
+    ensures { result ≡ min most_rounds (most_rows / ((paired * (orderings + 1)) * sizes)) }
+{
+    let cost = u128::from(paired) * (u128::from(orderings) + 1) * u128::from(sizes);
+    u128::from(MOST_ROUNDS).min(MOST_ROWS / cost) as u32
 }

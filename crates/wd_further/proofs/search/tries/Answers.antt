@@ -1,0 +1,19 @@
+use Rattle.std.proofs.Common.{◌≡◌, ◌≤◌, ◌+◌, ◌*◌, ◌/◌, ◌∙◌, ap, arith, length, min, subst, sym}
+use Rattle.wd_plan.specs.Plans.{ordering_count, plan_of}
+use Rattle.wd_varied.specs.Sizes.{paired, sizes}
+use Rattle.wd_varied.proofs.Products.{some_pairs}
+use Rattle.wd_further.proofs.Tries.{capped}
+use Rattle.wd_further.proofs.search.tries.Goals as goal
+
+pub returns : goal.returns
+returns c =
+    let plan = plan_of c.args.plan.now in
+    let some = some_pairs c.args.rows plan (omega (arith, c.requires.large)) in
+    c.share.ensures
+    ∙ (λ j. min 1000 (1000000 / ((c.paired.ensures j * (c.orderings.ensures j + 1)) * c.requires.is j)))
+    ∙ capped (paired c.args.rows plan) (ordering_count plan) (length (sizes plan)) some (subst (λ n. 1 ≤ n) c.requires.is c.requires.sizes)
+
+pub share-requires-clause-some : goal.share-requires-clause-some
+share-requires-clause-some c =
+    let some = some_pairs c.args.rows (plan_of c.args.plan.now) (omega (arith, c.requires.large)) in
+    subst (λ n. 1 ≤ n) (sym c.paired.ensures) (omega (arith, some))

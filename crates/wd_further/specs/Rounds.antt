@@ -1,0 +1,39 @@
+-- The candidates of the further search, round after round.
+use Rattle.std.specs.Prelude.{ℕ, ◌*◌, ◌/◌, List, [], ◌∷◌, flat_map, length, min, nat_lt, if◌then◌else◌}
+use Rattle.wd_value.specs.Bags.{positions}
+use Rattle.wd_value.specs.Rows.{Instance}
+use Rattle.wd_schema.specs.Tables.{TableRule}
+use Rattle.wd_plan.specs.Plans.{PlanTree}
+use Rattle.wd_seek.specs.Evaluations.{evaluations}
+use Rattle.wd_varied.specs.Sizes.{paired, sizes}
+use Rattle.wd_varied.specs.Varied.{varied}
+
+-- the most rounds, and the most rows that all evaluations of a search go over
+abbrev pub most_rounds : ℕ
+most_rounds = 1000
+
+abbrev pub most_rows : ℕ
+most_rows = 1000000
+
+-- the rows that the evaluations of one try go over: those to which the tables pair, in each evaluation
+abbrev pub cost : PlanTree → ℕ → ℕ
+cost plan rows = paired rows plan * evaluations plan
+
+-- how many tries there are of a size: as many as its share of the most rows suffices for
+abbrev pub tries : PlanTree → ℕ → ℕ
+tries plan rows = min most_rounds (most_rows / (cost plan rows * length (sizes plan)))
+
+-- in the round with a number there is one try of each size, as long as there are more of it
+abbrev pub of_size : List TableRule → PlanTree → ℕ → ℕ → List Instance
+of_size tables plan number rows = if nat_lt number (tries plan rows) then varied tables plan rows number ∷ [] else []
+
+abbrev pub of_round : List TableRule → PlanTree → ℕ → List Instance
+of_round tables plan number = flat_map (of_size tables plan number) (sizes plan)
+
+-- so many rounds, one after another
+abbrev pub of_rounds : List TableRule → PlanTree → ℕ → List Instance
+of_rounds tables plan rounds = flat_map (of_round tables plan) (positions rounds)
+
+-- all rounds
+abbrev pub candidates : List TableRule → PlanTree → List Instance
+candidates tables plan = of_rounds tables plan most_rounds

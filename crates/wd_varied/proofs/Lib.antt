@@ -1,0 +1,4 @@
+mod Comparing
+mod Places
+mod Products
+mod Ranges

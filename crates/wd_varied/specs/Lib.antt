@@ -1,0 +1,6 @@
+pub mod Literals
+pub mod Values
+pub mod Suggested
+pub mod Patterns
+pub mod Sizes
+pub mod Varied

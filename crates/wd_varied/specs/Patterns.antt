@@ -1,0 +1,84 @@
+-- How the rows of a column stand to one another, by what is drawn for it.
+use Rattle.std.specs.Prelude.{ℕ, ◌+◌, ◌-◌, ◌*◌, ◌/◌, ◌%◌, Bool, false, List, length, min, nat_eq, nat_lt, slice_get, slice_index_or, if◌then◌else◌, Option, Some, None}
+use Rattle.std.specs.List.{list_any}
+use Rattle.wd_value.specs.declared.value.Value.{Value}
+use Rattle.wd_value.specs.declared.value.Value.TheVariants.{Null, Text}
+use Rattle.wd_value.specs.declared.value.ColumnType.{ColumnType}
+use Rattle.wd_schema.specs.declared.table.Column.{Column}
+use Rattle.wd_schema.specs.Tables.{KeyRule}
+use Rattle.wd_varied.specs.Values.{apart}
+use Rattle.wd_varied.specs.declared.patterns.Pattern.{Pattern}
+use Rattle.wd_varied.specs.declared.patterns.Pattern.TheVariants as pattern
+use Rattle.wd_varied.specs.declared.patterns.Filling.{Filling}
+
+-- ---- keys
+
+abbrev pub is_at : ℕ → Option ℕ → Bool
+is_at c None = false
+is_at c (Some k) = nat_eq k c
+
+-- whether a key is to tell rows apart by a column, in the try with a number: by each of its columns in turn
+abbrev pub tells : ℕ → ℕ → KeyRule → Bool
+tells number c key = is_at c (slice_get key.columns (number % length key.columns))
+
+-- whether some key is
+abbrev pub is_telling : ℕ → ℕ → List KeyRule → Bool
+is_telling number c keys = list_any (tells number c) keys
+
+-- ---- patterns
+
+-- what is drawn for a column of a table of so many rows in the try with a number, as if by chance: a cube modulo a prime
+abbrev pub seed : ℕ → ℕ → ℕ → ℕ → ℕ
+seed rows number table c = (number + 1000 * (c + 64 * table) + 100003 * rows) % 999983
+
+abbrev pub drawn : ℕ → ℕ → ℕ → ℕ → ℕ
+drawn rows number table c = seed rows number table c * seed rows number table c * seed rows number table c % 999983
+
+-- of 16 columns by which a key is to tell rows apart 14 differ in each row, and 2 hold the pool's values in turn
+abbrev pub telling_pattern : ℕ → Pattern
+telling_pattern d = if nat_lt (d % 16) 14 then pattern.Apart else pattern.InTurn (d / 16)
+
+-- the pattern of a column by what is drawn: of 16 others 6 hold one value, 4 the pool's values in turn, and 2 differ in each row; in 1
+-- the last two rows are alike, in 1 all but the last and in 1 all but the first; and 1 holds NULL if it may
+abbrev pub pattern_by : Bool → Column → ℕ → Pattern
+pattern_by telling column d =
+    if telling then telling_pattern d
+    else if nat_lt (d % 16) 6 then pattern.Same (d / 16)
+    else if nat_lt (d % 16) 10 then pattern.InTurn (d / 16)
+    else if nat_lt (d % 16) 12 then pattern.Apart
+    else if nat_lt (d % 16) 13 then pattern.LastTwoAlike
+    else if nat_lt (d % 16) 14 then pattern.LastApart
+    else if nat_lt (d % 16) 15 then pattern.FirstApart
+    else if column.not_null then pattern.InTurn (d / 16)
+    else pattern.Null
+
+-- ---- fillings
+
+-- a pattern, and the type and the pool of the column
+pub record FillingRule : Type 0 where
+  pub pattern : Pattern
+  pub kind : ColumnType
+  pub pool : List Value
+
+abbrev pub filling_of : Filling → FillingRule
+filling_of f = record { pattern = f.pattern; kind = f.kind; pool = f.pool.items }
+
+-- the value of a pool with a number, counted round
+abbrev pub value_at : List Value → ℕ → Value
+value_at pool i = slice_index_or pool (i % length pool) Null
+
+abbrev pub text : List ℕ → Value
+text bytes = Text bytes
+
+-- what a pattern gives a row, of so many rows
+abbrev pub by_pattern : Pattern → ColumnType → List Value → ℕ → ℕ → Value
+by_pattern (pattern.Same from) kind pool rows row = value_at pool from
+by_pattern (pattern.InTurn from) kind pool rows row = value_at pool (from + row)
+by_pattern pattern.Apart kind pool rows row = apart kind row
+by_pattern pattern.LastTwoAlike kind pool rows row = apart kind (min row (rows - 2))
+by_pattern pattern.LastApart kind pool rows row = apart kind (row - (rows - 2))
+by_pattern pattern.FirstApart kind pool rows row = apart kind (min row 1)
+by_pattern pattern.Null kind pool rows row = Null
+
+abbrev pub filled : FillingRule → ℕ → ℕ → Value
+filled f rows row = by_pattern f.pattern f.kind f.pool rows row

@@ -1,0 +1,16 @@
+//! The candidates of a further search for a witness: tables of two rows and more, whose columns hold the same value in all rows,
+//! differ from row to row or tie in part, with values that the query's own literals suggest.
+#![tactic(auto)]
+
+mod compared;
+mod literals;
+mod near;
+mod patterns;
+mod size;
+mod suggested;
+mod tables;
+
+pub use compared::Compared;
+pub use size::{paired, sizes};
+pub use suggested::{Suggested, suggested_by};
+pub use tables::varied;

@@ -1,0 +1,181 @@
+//! How the rows of a column stand to one another.
+
+ghost use Rattle.std.specs.Prelude.{◌≡◌, IfOk};
+ghost use Rattle.std.specs.List.{list_any};
+ghost use Rattle.wd_schema.specs.Tables.{key_of};
+ghost use Rattle.wd_varied.specs.Patterns.{filling_of};
+ghost use Rattle.wd_varied.specs.Patterns as spec;
+ghost use Rattle.wd_varied.specs.Values as values;
+
+use std::alloc::Global;
+use wd_schema::{Column, Key};
+use wd_value::{ColumnType, OutOfMemory, Text, Value};
+
+/// How the rows of a column stand to one another.
+#[derive(Clone, Copy)]
+pub(crate) enum Pattern {
+    /// One value of the pool in all rows.
+    Same(u64),
+    /// The values of the pool in turn, from this one on.
+    InTurn(u64),
+    /// A value of its own in each row.
+    Apart,
+    /// A value of its own in each row, but the last two share one.
+    LastTwoAlike,
+    /// One value in all rows but the last, which has another.
+    LastApart,
+    /// One value in all rows but the first, which has another.
+    FirstApart,
+    /// NULL in all rows.
+    Null,
+}
+
+/// How a column is filled: by a pattern, with the values of its type and of its pool.
+#[derive(Drop)]
+pub(crate) struct Filling {
+    pub pattern: Pattern,
+    pub kind: ColumnType,
+    pub pool: Vec<Value>,
+}
+
+/// Whether a key of a table is to tell rows apart by a column, in the try with a number.
+pub(crate) fn is_telling(keys: &[Key], column: usize, number: u32) -> bool
+    ensures { result ≡ list_any (λ key. spec.tells number column (key_of key)) keys.now }
+{
+    for key in keys {
+        if tells(key, column, number) {
+            return true;
+        }
+    }
+    false
+}
+
+/// Whether a key is to tell rows apart by a column: by each of its columns in turn, as the number says.
+fn tells(key: &Key, column: usize, number: u32) -> bool
+    ensures { result ≡ spec.tells number column (key_of key.now) }
+{
+    if key.columns.is_empty() {
+        return false;
+    }
+    match key.columns.get(number as usize % key.columns.len()) {
+        Some(own) => usize::from(*own) == column,
+        None => false,
+    }
+}
+
+/// What is drawn for a column of a table of so many rows in the try with a number, as if by chance.
+pub(crate) fn drawn(rows: u32, number: u32, table: usize, column: usize) -> u64
+    ensures { result ≡ spec.drawn rows number table column }
+{
+    let place = column as u128 + 64 * (table as u128);
+    let seed = ((u128::from(number) + 1000 * place + 100_003 * u128::from(rows)) % 999_983) as u64;
+    seed * seed * seed % 999_983
+}
+
+/// How a column is filled, by what is drawn for it, and by whether a key is to tell rows apart by it.
+pub(crate) fn pattern_of(drawn: u64, column: &Column, telling: bool) -> Pattern
+    ensures { result ≡ spec.pattern_by telling column.now drawn }
+{
+    let from = drawn / 16;
+    let side = drawn % 16;
+    if telling {
+        if side < 14 {
+            Pattern::Apart
+        } else {
+            Pattern::InTurn(from)
+        }
+    } else if side < 6 {
+        Pattern::Same(from)
+    } else if side < 10 {
+        Pattern::InTurn(from)
+    } else if side < 12 {
+        Pattern::Apart
+    } else if side < 13 {
+        Pattern::LastTwoAlike
+    } else if side < 14 {
+        Pattern::LastApart
+    } else if side < 15 {
+        Pattern::FirstApart
+    } else if column.not_null {
+        Pattern::InTurn(from)
+    } else {
+        Pattern::Null
+    }
+}
+
+/// What a filling gives a row with a number, of so many rows.
+pub(crate) fn filled(
+    alloc: Global,
+    filling: &Filling,
+    rows: u32,
+    row: u32,
+) -> Result<Value, OutOfMemory>
+    ensures { IfOk result (λ v. v ≡ spec.filled (filling_of filling.now) rows row) }
+{
+    match filling.pattern {
+        Pattern::Same(from) => value_at(alloc, &filling.pool, u128::from(from)),
+        Pattern::InTurn(from) => {
+            value_at(alloc, &filling.pool, u128::from(from) + u128::from(row))
+        }
+        Pattern::Apart => apart(alloc, filling.kind, row),
+        Pattern::LastTwoAlike => apart(alloc, filling.kind, row.min(rows.saturating_sub(2))),
+        Pattern::LastApart => apart(
+            alloc,
+            filling.kind,
+            row.saturating_sub(rows.saturating_sub(2)),
+        ),
+        Pattern::FirstApart => apart(alloc, filling.kind, row.min(1)),
+        Pattern::Null => Ok(Value::Null),
+    }
+}
+
+/// The value of a pool with this number, counted round; NULL of none.
+fn value_at(alloc: Global, pool: &[Value], number: u128) -> Result<Value, OutOfMemory>
+    ensures { IfOk result (λ v. v ≡ spec.value_at pool.now number) }
+{
+    if pool.is_empty() {
+        return Ok(Value::Null);
+    }
+    pool[(number % pool.len() as u128) as usize].copy(alloc)
+}
+
+/// The value of a type with this number, of which no two are the same but for truth values.
+fn apart(alloc: Global, kind: ColumnType, number: u32) -> Result<Value, OutOfMemory>
+    ensures { IfOk result (λ v. v ≡ values.apart kind number) }
+{
+    match kind {
+        ColumnType::SmallInt | ColumnType::Integer | ColumnType::BigInt => {
+            Ok(Value::Int(i64::from(number) + 1))
+        }
+        ColumnType::Text => word(alloc, number),
+        ColumnType::Boolean => Ok(Value::Bool(number % 2 == 1)),
+    }
+}
+
+/// The text with this number: of one letter, then of two.
+fn word(alloc: Global, number: u32) -> Result<Value, OutOfMemory>
+    ensures { IfOk result (λ v. v ≡ spec.text (values.word number)) }
+{
+    if number < 8 {
+        return Ok(Value::Text(Text::from_str(alloc, letter(number))?));
+    }
+    let mut word = String::from_str(alloc, letter(number / 8 - 1))?;
+    word.push_str(letter(number))?;
+    Ok(Value::Text(Text::new(alloc, word)?))
+}
+
+/// Eight letters in turn.
+fn letter(number: u32) -> &'static str
+    ensures { result.now ≡ values.letter number }
+{
+    match number % 8 {
+        0 => "a",
+        1 => "b",
+        2 => "c",
+        3 => "d",
+        4 => "e",
+        5 => "f",
+        6 => "g",
+        _ => "h",
+    }
+}

@@ -1,0 +1,154 @@
+//! Tables that vary with a number.
+
+ghost use Rattle.std.specs.Prelude.{◌≡◌, ◌<◌, length, map, None, option_map, slice_index_or, IfOk};
+ghost use Rattle.wd_candidates.specs.Candidates.{cell as cell_of};
+ghost use Rattle.wd_candidates.specs.Outlines.{fixed_in, scanned_in};
+ghost use Rattle.wd_facts.specs.Given.{table_rule};
+ghost use Rattle.wd_schema.specs.Schemas.{schema_of};
+ghost use Rattle.wd_schema.specs.Tables.{table_of};
+ghost use Rattle.wd_value.specs.Bags.{positions};
+ghost use Rattle.wd_value.specs.Rows.{instance_of, rows_of};
+ghost use Rattle.wd_varied.specs.Patterns.{filled as filled_by, filling_of};
+ghost use Rattle.wd_varied.specs.Varied.{IsVaried};
+ghost use Rattle.wd_varied.specs.Varied as spec;
+
+use crate::patterns::{Filling, drawn, filled, is_telling, pattern_of};
+use crate::suggested::Suggested;
+use std::alloc::Global;
+use wd_candidates::{Outline, fixed_at, fixed_columns, is_marked};
+use wd_schema::{Column, Schema, Table};
+use wd_value::{Instance, OutOfMemory, Row, Value};
+
+/// The instance in which each table that the plan scans has so many rows, its columns filled as the number says, and the others have
+/// none. It need not meet the schema.
+pub fn varied(
+    alloc: Global,
+    schema: &Schema,
+    outline: &Outline,
+    suggested: &Suggested,
+    rows: u32,
+    number: u32,
+) -> Result<Instance, OutOfMemory>
+    ensures { IfOk result (λ instance. IsVaried (schema_of schema.now) outline.now suggested.now rows number (instance_of instance.items)) }
+{
+    let mut instance = Vec::with_capacity(alloc, schema.tables.len())?;
+    for table in 0..schema.tables.len() {
+        let made = rows_of_table(alloc, schema, table, outline, suggested, rows, number)?;
+        instance.push(made)?;
+    }
+    Ok(instance)
+}
+
+/// The rows of the table with this number.
+fn rows_of_table(
+    alloc: Global,
+    schema: &Schema,
+    at: usize,
+    outline: &Outline,
+    suggested: &Suggested,
+    rows: u32,
+    number: u32,
+) -> Result<Vec<Row>, OutOfMemory>
+    requires { at < length schema.now.tables.entries }
+    ensures { IfOk result (λ v. rows_of v.items ≡ spec.rows_in (scanned_in outline.now at) (fixed_in outline.now at) (spec.fillings suggested.now.compared.items suggested.now.all.items (table_rule (schema_of schema.now) at) at rows number) rows) }
+{
+    match schema.tables.get_index(at) {
+        Some((_, table)) if is_marked(&outline.scanned, at) => {
+            let fillings = fillings(alloc, table, at, suggested, rows, number)?;
+            filled_rows(alloc, fixed_columns(outline, at), &fillings, rows)
+        }
+        _ => Ok(Vec::new(alloc)),
+    }
+}
+
+/// How the columns of a table are filled.
+fn fillings(
+    alloc: Global,
+    table: &Table,
+    at: usize,
+    suggested: &Suggested,
+    rows: u32,
+    number: u32,
+) -> Result<Vec<Filling>, OutOfMemory>
+    ensures { IfOk result (λ v. map filling_of v.items ≡ spec.fillings suggested.now.compared.items suggested.now.all.items (table_of table.now) at rows number) }
+{
+    let mut fillings = Vec::with_capacity(alloc, table.columns.len())?;
+    for c in 0..table.columns.len() {
+        let telling = is_telling(&table.keys, c, number);
+        let drawn = drawn(rows, number, at, c);
+        let filling = filling(alloc, suggested, at, c, &table.columns[c], telling, drawn)?;
+        fillings.push(filling)?;
+    }
+    Ok(fillings)
+}
+
+/// How a column is filled.
+fn filling(
+    alloc: Global,
+    suggested: &Suggested,
+    table: usize,
+    at: usize,
+    column: &Column,
+    telling: bool,
+    drawn: u64,
+) -> Result<Filling, OutOfMemory>
+    ensures { IfOk result (λ f. filling_of f ≡ spec.filling_by suggested.now.compared.items suggested.now.all.items table telling at column.now drawn) }
+{
+    let pattern = pattern_of(drawn, column, telling);
+    let pool = suggested.pool(alloc, table, at, column.kind)?;
+    Ok(Filling {
+        pattern,
+        kind: column.kind,
+        pool,
+    })
+}
+
+/// So many rows, filled.
+fn filled_rows(
+    alloc: Global,
+    fixed: &[Option<Value>],
+    fillings: &[Filling],
+    rows: u32,
+) -> Result<Vec<Row>, OutOfMemory>
+    ensures { IfOk result (λ v. rows_of v.items ≡ map (spec.filled_row (λ c. slice_index_or fixed.now c None) (map filling_of fillings.now) rows) (positions rows)) }
+{
+    let mut made = Vec::new(alloc);
+    for row in 0..rows {
+        made.push(filled_row(alloc, fixed, fillings, rows, row)?)?;
+    }
+    Ok(made)
+}
+
+/// The row with a number, of so many.
+fn filled_row(
+    alloc: Global,
+    fixed: &[Option<Value>],
+    fillings: &[Filling],
+    rows: u32,
+    row: u32,
+) -> Result<Row, OutOfMemory>
+    ensures { IfOk result (λ v. v.items ≡ spec.filled_row (λ c. slice_index_or fixed.now c None) (map filling_of fillings.now) rows row) }
+{
+    let mut made = Vec::with_capacity(alloc, fillings.len())?;
+    for c in 0..fillings.len() {
+        let value = cell(alloc, fixed_at(fixed, c), &fillings[c], rows, row)?;
+        made.push(value)?;
+    }
+    Ok(made)
+}
+
+/// What a column holds in a row: what it is fixed to, or else what its filling gives.
+fn cell(
+    alloc: Global,
+    fixed: Option<&Value>,
+    filling: &Filling,
+    rows: u32,
+    row: u32,
+) -> Result<Value, OutOfMemory>
+    ensures { IfOk result (λ v. v ≡ cell_of (option_map (λ f. f.now) fixed.entry) (filled_by (filling_of filling.now) rows row)) }
+{
+    match fixed {
+        Some(value) => value.copy(alloc),
+        None => filled(alloc, filling, rows, row),
+    }
+}
