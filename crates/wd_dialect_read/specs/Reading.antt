@@ -1,6 +1,7 @@
--- How the tokens of a schema are read, as PostgreSQL's tools write it. A statement that declares no table and no key of one
--- is passed over up to its semicolon, and so is what else a declaration says: all tokens outside brackets up to the next
--- comma, or the bracket that closes the declaration.
+-- How the tokens of a schema are read, as PostgreSQL's tools write it. Tables are read, and what is added to them. What else a
+-- declaration says is passed over: all tokens up to the next comma outside brackets, or to what ends the declaration. So is a
+-- statement, and a change of a table, that begins with words after which all that is read still holds; no other is read.
+use Rattle.std.specs.Str.{bytes_eq}
 use Rattle.std.specs.Prelude.{ℕ, ◌||◌, ◌&&◌, ◌==◌, if◌then◌else◌, codes, List, [], ◌∷◌, ◌++◌, length, Bool, true, false, Option, Some, None, is_some, Result, Ok, Err}
 use Rattle.wd_lex.specs.declared.token.Terminal.TheVariants as m
 use Rattle.wd_lex.specs.declared.token.TokenKind.{TokenKind}
@@ -18,8 +19,9 @@ use Rattle.wd_dialect_read.specs.declared.kind.Modifier.TheVariants.{Nothing, On
 use Rattle.wd_dialect_read.specs.declared.said.Mark.{Mark}
 use Rattle.wd_dialect_read.specs.declared.said.Note.{Note}
 use Rattle.wd_dialect_read.specs.declared.said.Note.TheVariants as note
-use Rattle.wd_dialect_read.specs.Said.{ColumnSaid, KeySaid, ItemSaid, Column, Key, Passed, StatementSaid, Table, Added, Other}
+use Rattle.wd_dialect_read.specs.Said.{ColumnSaid, KeySaid, ItemSaid, Column, Key, Passed, StatementSaid, Table, Changed, Other}
 use Rattle.wd_dialect_read.specs.Tokens.{begins_rule, depth_after, ends_item, is_among, is_text, kind_named, mark_of, note_in, table_notes, table_words, type_words, with_array, with_modifier}
+use Rattle.wd_dialect_read.specs.Kept.{alter_words, change_words, column_words, create_words, drop_words, set_words, statement_words}
 
 -- ---- single words
 
@@ -39,6 +41,11 @@ identifier_at kinds = name_at kinds >>= λ name. if length name.0.text == 0 then
 unfoldable pub past_words : List (List ℕ) → Kinds → Kinds
 past_words words [] = []
 past_words words (y ∷ kinds) = if is_among words y then past_words words kinds else y ∷ kinds
+
+-- a word of a list stands first
+unfoldable pub begins_among : List (List ℕ) → Kinds → Bool
+begins_among words [] = false
+begins_among words (y ∷ kinds) = is_among words y
 
 -- the tokens after a statement's semicolon
 unfoldable pub past_statement : Kinds → Kinds
@@ -88,7 +95,7 @@ with_marks marks read = (marks ++ read.0, read.1)
 abbrev pub marks_at : ℕ → TokenKind → List Mark
 marks_at depth y = if depth == 0 then mark_of y ∷ [] else []
 
--- what the tokens outside brackets say, up to a comma or a closing bracket; so many brackets are open
+-- what the tokens outside brackets say, up to a comma, a closing bracket or a semicolon; so many brackets are open
 unfoldable pub tail_from : ℕ → Kinds → List Mark × Kinds
 tail_from depth [] = ([], [])
 tail_from depth (y ∷ kinds) = if depth == 0 && ends_item y then ([], y ∷ kinds) else with_marks (marks_at depth y) (tail_from (depth_after depth y) kinds)
@@ -124,27 +131,32 @@ words_at kinds =
 unfoldable pub names_at : Parser (List (List ℕ))
 names_at kinds = expect m.LeftBracket kinds >>= λ inside. list_at m.Comma identifier_at inside >>= λ names. expect m.RightBracket names.1 >>= λ rest. Ok (names.0, rest)
 
--- words ( name {, name} )
+-- words ( name {, name} ) ..
 unfoldable pub key_at : Parser KeySaid
-key_at kinds = words_at kinds >>= λ words. names_at words.1 >>= λ names. Ok (record { words = words.0; columns = names.0 }, names.1)
+key_at kinds =
+    words_at kinds >>= λ words. names_at words.1 >>= λ names. Ok (record { words = words.0; columns = names.0; marks = (tail_from 0 names.1).0 }, (tail_from 0 names.1).1)
 
 unfoldable pub begins_key : Kinds → Bool
 begins_key kinds = is_some (eat m.Primary kinds) || is_some (eat m.Unique kinds)
 
 -- ---- what stands between two commas
 
+-- EXCLUDE [USING ..] ( .. ), before which no column of that name stands
+unfoldable pub exclude_note : Kinds → Option Note
+exclude_note kinds = if is_some (eat m.Using kinds) || is_some (eat m.LeftBracket kinds) then Some note.Exclude else None
+
 -- what is passed over, by its first word
 unfoldable pub note_at : Kinds → Option Note
-note_at (t.Word word ∷ kinds) = note_in table_notes word
+note_at (t.Word word ∷ kinds) = if bytes_eq word (codes "exclude") then exclude_note kinds else note_in table_notes word
 note_at _ = None
 
 abbrev pub pass : Kinds → Option Note → Reads ItemSaid
 pass kinds (Some found) = Ok (Passed found, (tail_from 0 kinds).1)
 pass kinds None = Err (Unexpected (length kinds))
 
--- a key, and what is passed over after it; or a rule that is passed over
+-- a key, or a rule that is passed over
 unfoldable pub rule_at : Parser ItemSaid
-rule_at kinds = if begins_key kinds then (key_at kinds >>= λ key. Ok (Key key.0, (tail_from 0 key.1).1)) else pass kinds (note_at kinds)
+rule_at kinds = if begins_key kinds then (key_at kinds >>= λ key. Ok (Key key.0, key.1)) else pass kinds (note_at kinds)
 
 -- [CONSTRAINT name] rule | column
 unfoldable pub item_at : Parser ItemSaid
@@ -152,41 +164,84 @@ item_at kinds =
     choose (eat m.Constraint kinds) (λ constraint. identifier_at constraint >>= λ name. rule_at name.1)
     (if begins_key kinds || is_some (note_at kinds) then rule_at kinds else (column_at kinds >>= λ column. Ok (Column column.0, column.1)))
 
--- ---- statements
+-- ---- changes of a table
 
-unfoldable pub passed_at : Parser StatementSaid
-passed_at kinds = Ok (Other note.Statement, past_statement kinds)
+abbrev pub refused : {A : Type 0} → Parser A
+refused kinds = Err (Unexpected (length kinds))
+
+-- a change that is passed over where it begins with one of these words
+unfoldable pub kept_change : List (List ℕ) → Parser ItemSaid
+kept_change words kinds = if begins_among words kinds then pass kinds (Some note.Statement) else refused kinds
+
+-- what is set of a table or a column: neither its schema nor its type
+unfoldable pub set_at : Parser ItemSaid
+set_at kinds = if begins_among set_words kinds then refused kinds else pass kinds (Some note.Statement)
 
 -- [IF NOT EXISTS]
 unfoldable pub past_not_exists : Parser Bool
 past_not_exists kinds =
     choose (eat_text (codes "if") kinds) (λ word. expect m.Not word >>= λ not. expect_text (codes "exists") not >>= λ rest. Ok (true, rest)) (Ok (false, kinds))
 
+-- [COLUMN]
+unfoldable pub past_column : Kinds → Kinds
+past_column kinds = choose (eat_text (codes "column") kinds) (λ rest. rest) kinds
+
+-- [COLUMN] [IF NOT EXISTS] item
+unfoldable pub added_at : Parser ItemSaid
+added_at kinds = past_not_exists (past_column kinds) >>= λ exists. item_at exists.1
+
+-- [COLUMN] name SET .. | DROP .. | ..
+unfoldable pub altered_at : Parser ItemSaid
+altered_at kinds =
+    identifier_at (past_column kinds) >>= λ name. choose (eat_text (codes "set") name.1) set_at
+    (choose (eat_text (codes "drop") name.1) (λ drop. kept_change drop_words drop) (kept_change column_words name.1))
+
+-- ADD .. | ALTER .. | SET .. | ..
+unfoldable pub change_at : Parser ItemSaid
+change_at kinds =
+    choose (eat_text (codes "add") kinds) added_at
+    (choose (eat_text (codes "alter") kinds) altered_at (choose (eat_text (codes "set") kinds) set_at (kept_change change_words kinds)))
+
+-- ---- statements
+
+-- the end of a statement
+unfoldable pub end_at : Kinds → Result Kinds Fault
+end_at [] = Ok []
+end_at (y ∷ kinds) = expect m.Semicolon (y ∷ kinds)
+
+unfoldable pub passed_at : Parser StatementSaid
+passed_at kinds = Ok (Other note.Statement, past_statement kinds)
+
+-- a statement that is passed over where it goes on with one of these words
+unfoldable pub kept_statement : List (List ℕ) → Parser StatementSaid
+kept_statement words kinds = if begins_among words kinds then passed_at kinds else refused kinds
+
 -- ( item {, item} )
 unfoldable pub items_at : Parser (List ItemSaid)
-items_at kinds = list_at m.Comma item_at kinds >>= λ items. expect m.RightBracket items.1 >>= λ rest. Ok (items.0, rest)
+items_at kinds = expect m.LeftBracket kinds >>= λ inside. list_at m.Comma item_at inside >>= λ items. expect m.RightBracket items.1 >>= λ rest. Ok (items.0, rest)
+
+-- what follows the brackets of a table: not INHERITS, by which its rows are those of another table too
+unfoldable pub table_end : Kinds → Result Kinds Fault
+table_end kinds = if is_some (eat_text (codes "inherits") kinds) then Err (Unexpected (length kinds)) else Ok (past_statement kinds)
 
 -- [IF NOT EXISTS] name ( item {, item} ) ..
 unfoldable pub table_at : Parser StatementSaid
 table_at kinds =
-    past_not_exists kinds >>= λ exists. qualified_at exists.1 >>= λ name. choose (eat m.LeftBracket name.1)
-    (λ inside. items_at inside >>= λ items. Ok (Table name.0 items.0, past_statement items.1))
-    (passed_at name.1)
+    past_not_exists kinds >>= λ exists. qualified_at exists.1 >>= λ name. items_at name.1 >>= λ items. table_end items.1 >>= λ rest. Ok (Table name.0 items.0, rest)
 
--- words TABLE ..
+-- [OR REPLACE]
+unfoldable pub past_replace : Kinds → Result Kinds Fault
+past_replace kinds = choose (eat m.Or kinds) (λ rest. expect_text (codes "replace") rest) (Ok kinds)
+
+-- [UNIQUE]
+unfoldable pub past_unique : Kinds → Kinds
+past_unique kinds = choose (eat m.Unique kinds) (λ rest. rest) kinds
+
+-- [OR REPLACE] words (TABLE .. | [UNIQUE] ..)
 unfoldable pub create_at : Parser StatementSaid
-create_at kinds = choose (eat m.Table (past_words table_words kinds)) table_at (passed_at kinds)
-
--- a key of the table of that name
-unfoldable pub added_at : List ℕ → Parser StatementSaid
-added_at name kinds = if begins_key kinds then (key_at kinds >>= λ key. Ok (Added name key.0, past_statement key.1)) else passed_at kinds
-
--- ADD [CONSTRAINT name] key ..
-unfoldable pub change_at : List ℕ → Parser StatementSaid
-change_at name kinds =
-    choose (eat_text (codes "add") kinds)
-    (λ add. choose (eat m.Constraint add) (λ constraint. identifier_at constraint >>= λ other. added_at name other.1) (added_at name add))
-    (passed_at kinds)
+create_at kinds =
+    past_replace kinds >>= λ words. choose (eat m.Table (past_words table_words words)) table_at
+    (kept_statement create_words (past_unique (past_words table_words words)))
 
 -- [IF EXISTS]
 unfoldable pub past_exists : Parser Bool
@@ -196,13 +251,22 @@ past_exists kinds = choose (eat_text (codes "if") kinds) (λ word. expect_text (
 unfoldable pub past_only : Kinds → Kinds
 past_only kinds = choose (eat_word k.Only kinds) (λ rest. rest) kinds
 
--- TABLE [IF EXISTS] [ONLY] name ..
+-- [IF EXISTS] [ONLY] name change {, change}
+unfoldable pub changed_at : Parser StatementSaid
+changed_at kinds =
+    past_exists kinds >>= λ exists. qualified_at (past_only exists.1) >>= λ name. list_at m.Comma change_at name.1 >>= λ changes. end_at changes.1
+    >>= λ rest. Ok (Changed name.0 changes.0, rest)
+
+-- TABLE .. | ..
 unfoldable pub alter_at : Parser StatementSaid
-alter_at kinds =
-    choose (eat m.Table kinds) (λ table. past_exists table >>= λ exists. qualified_at (past_only exists.1) >>= λ name. change_at name.0 name.1) (passed_at kinds)
+alter_at kinds = choose (eat m.Table kinds) changed_at (kept_statement alter_words kinds)
+
+-- SELECT .. | ; | ..
+unfoldable pub other_at : Parser StatementSaid
+other_at kinds = if is_some (eat m.Select kinds) || is_some (eat m.Semicolon kinds) then passed_at kinds else kept_statement statement_words kinds
 
 unfoldable pub statement_at : Parser StatementSaid
-statement_at kinds = choose (eat m.Create kinds) create_at (choose (eat_text (codes "alter") kinds) alter_at (passed_at kinds))
+statement_at kinds = choose (eat m.Create kinds) create_at (choose (eat_text (codes "alter") kinds) alter_at (other_at kinds))
 
 -- a statement begins where a token is left
 unfoldable pub statement_if : Chance StatementSaid

@@ -18,10 +18,11 @@ pub record ColumnSaid : Type 0 where
   pub kind : ColumnKind
   pub marks : List Mark
 
--- a key: its words, and the names of its columns
+-- a key: its words, the names of its columns, and what stands after them
 pub record KeySaid : Type 0 where
   pub words : KeyWords
   pub columns : List (List ℕ)
+  pub marks : List Mark
 
 pub data ItemSaid : Type 0 where
   Column : ColumnSaid → ItemSaid
@@ -30,7 +31,7 @@ pub data ItemSaid : Type 0 where
 
 pub data StatementSaid : Type 0 where
   Table : List ℕ → List ItemSaid → StatementSaid
-  Added : List ℕ → KeySaid → StatementSaid
+  Changed : List ℕ → List ItemSaid → StatementSaid
   Other : Note → StatementSaid
 
 -- the bytes of a name
@@ -41,7 +42,7 @@ abbrev pub column_said : SaidColumn → ColumnSaid
 column_said c = record { name = identifier_text c.name; kind = c.kind; marks = c.marks.items }
 
 abbrev pub key_said : SaidKey → KeySaid
-key_said k = record { words = k.words; columns = map identifier_text k.columns.items }
+key_said k = record { words = k.words; columns = map identifier_text k.columns.items; marks = k.marks.items }
 
 abbrev pub item_said : Item → ItemSaid
 item_said (i.Column c) = Column (column_said c)
@@ -50,5 +51,5 @@ item_said (i.Passed note) = Passed note
 
 abbrev pub statement_said : Statement → StatementSaid
 statement_said (s.Table t) = Table (identifier_text t.name) (map item_said t.items.items)
-statement_said (s.Key name k) = Added (identifier_text name) (key_said k)
+statement_said (s.Changed t) = Changed (identifier_text t.name) (map item_said t.items.items)
 statement_said (s.Passed note) = Other note

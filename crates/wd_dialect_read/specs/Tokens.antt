@@ -112,10 +112,11 @@ abbrev pub is_among : List (List ℕ) → TokenKind → Bool
 is_among words (t.Word text) = has_word words text
 is_among words _ = false
 
--- a comma or a closing bracket ends what stands between two commas
+-- a comma, a closing bracket or a semicolon ends what stands between two commas
 abbrev pub ends_item : TokenKind → Bool
 ends_item (t.Terminal m.Comma) = true
 ends_item (t.Terminal m.RightBracket) = true
+ends_item (t.Terminal m.Semicolon) = true
 ends_item _ = false
 
 -- how many brackets are open after a token; CASE and END are a pair of brackets
@@ -136,11 +137,13 @@ column_notes =
     ∷ (codes "collate", note.Collate)
     ∷ (codes "storage", note.Storage)
     ∷ (codes "compression", note.Storage)
+    ∷ (codes "deferrable", note.Deferrable)
+    ∷ (codes "deferred", note.Deferrable)
     ∷ []
 
--- the words that begin what is passed over between two commas
+-- the words that begin what is passed over between two commas; EXCLUDE may be a name too
 abbrev pub table_notes : List (List ℕ × Note)
-table_notes = (codes "check", note.Check) ∷ (codes "foreign", note.References) ∷ (codes "exclude", note.Exclude) ∷ (codes "like", note.Like) ∷ []
+table_notes = (codes "check", note.Check) ∷ (codes "foreign", note.References) ∷ (codes "like", note.Like) ∷ []
 
 abbrev pub note_in : List (List ℕ × Note) → List ℕ → Option Note
 note_in [] word = None

@@ -4,7 +4,7 @@ ghost use Rattle.std.specs.Prelude.{◌≡◌, ◌<◌, length, map, IfOk};
 ghost use Rattle.wd_lex.specs.Lexed.{kinds_of};
 ghost use Rattle.wd_read_cursor.specs.Given.{Gives};
 ghost use Rattle.wd_dialect_read.specs.Said.{identifier_text, item_said, key_said};
-ghost use Rattle.wd_dialect_read.specs.Reading.{begins_key, items_at, key_at, names_at, note_at, nulls_at, rule_at, words_at};
+ghost use Rattle.wd_dialect_read.specs.Reading.{begins_key, exclude_note, item_at, items_at, key_at, names_at, note_at, nulls_at, rule_at, words_at};
 
 use crate::column::read_column;
 use crate::said::{Item, Note, SaidKey};
@@ -18,11 +18,10 @@ use wd_read_cursor::{
 };
 use wd_read_statements::{KeyWords, Nulls};
 
-// The words that begin what is passed over between two commas.
-const TABLE_NOTES: [(&[u8], Note); 4] = [
+// The words that begin what is passed over between two commas. EXCLUDE may be a name too.
+const TABLE_NOTES: [(&[u8], Note); 3] = [
     (b"check", Note::Check),
     (b"foreign", Note::References),
-    (b"exclude", Note::Exclude),
     (b"like", Note::Like),
 ];
 
@@ -93,22 +92,40 @@ fn read_names(alloc: Global, tokens: &[Token]) -> Result<(Vec<Identifier>, &[Tok
     Ok((names, rest))
 }
 
-/// A key.
+/// A key, and what stands after it.
 #[tactic(auto, unfolding(crate::specs::Reading::key_at))]
-pub fn read_key(alloc: Global, tokens: &[Token]) -> Result<(SaidKey, &[Token]), Refusal>
+fn read_key(alloc: Global, tokens: &[Token]) -> Result<(SaidKey, &[Token]), Refusal>
     ensures { Gives (λ x. (key_said x.0, kinds_of x.1.now)) result (key_at (kinds_of tokens.now)) }
 {
     let (words, rest) = read_words(tokens)?;
     let (columns, rest) = read_names(alloc, rest)?;
-    Ok((SaidKey { words, columns }, rest))
+    let (marks, rest) = read_marks(alloc, rest)?;
+    let key = SaidKey {
+        words,
+        columns,
+        marks,
+    };
+    Ok((key, rest))
 }
 
 /// Whether the first token begins a key.
 #[tactic(auto, unfolding(crate::specs::Reading::begins_key))]
-pub fn begins_key(tokens: &[Token]) -> bool
+fn begins_key(tokens: &[Token]) -> bool
     ensures { result ≡ begins_key (kinds_of tokens.now) }
 {
     eat(tokens, Terminal::Primary).is_some() || eat(tokens, Terminal::Unique).is_some()
+}
+
+/// That EXCLUDE is passed over, where its brackets stand after it. Else it is the name of a column.
+#[tactic(auto, unfolding(crate::specs::Reading::exclude_note))]
+fn exclude_note(tokens: &[Token]) -> Option<Note>
+    ensures { result ≡ exclude_note (kinds_of tokens.now) }
+{
+    if eat(tokens, Terminal::Using).is_some() || eat(tokens, Terminal::LeftBracket).is_some() {
+        Some(Note::Exclude)
+    } else {
+        None
+    }
 }
 
 /// What is passed over, where the first word says so.
@@ -122,20 +139,25 @@ fn note_at(tokens: &[Token]) -> Option<Note>
                 kind: TokenKind::Word(word),
                 ..
             },
-            ..
-        ] => note_in(&TABLE_NOTES, word.as_bytes()),
+            rest @ ..,
+        ] => {
+            if word.as_str() == "exclude" {
+                exclude_note(rest)
+            } else {
+                note_in(&TABLE_NOTES, word.as_bytes())
+            }
+        }
         _ => None,
     }
 }
 
-/// A rule of a table: a key, and what is passed over after it, or what is passed over.
+/// A rule of a table: a key, or what is passed over.
 #[tactic(auto, unfolding(crate::specs::Reading::rule_at))]
 fn read_rule(alloc: Global, tokens: &[Token]) -> Result<(Item, &[Token]), Refusal>
     ensures { Gives (λ x. (item_said x.0, kinds_of x.1.now)) result (rule_at (kinds_of tokens.now)) }
 {
     if begins_key(tokens) {
         let (key, rest) = read_key(alloc, tokens)?;
-        let (_, rest) = read_marks(alloc, rest)?;
         return Ok((Item::Key(key), rest));
     }
     let Some(note) = note_at(tokens) else {
@@ -143,6 +165,24 @@ fn read_rule(alloc: Global, tokens: &[Token]) -> Result<(Item, &[Token]), Refusa
     };
     let (_, rest) = read_marks(alloc, tokens)?;
     Ok((Item::Passed(note), rest))
+}
+
+/// What stands between two commas.
+#[tactic(auto, unfolding(crate::specs::Reading::item_at))]
+pub fn read_item(alloc: Global, tokens: &[Token]) -> Result<(Item, &[Token]), Refusal>
+    ensures { Gives (λ x. (item_said x.0, kinds_of x.1.now)) result (item_at (kinds_of tokens.now)) }
+{
+    if let Some(rest) = eat(tokens, Terminal::Constraint) {
+        let (_, rest) = read_identifier(alloc, rest)?;
+        let (rule, rest) = read_rule(alloc, rest)?;
+        return Ok((rule, rest));
+    }
+    if begins_key(tokens) || note_at(tokens).is_some() {
+        let (rule, rest) = read_rule(alloc, tokens)?;
+        return Ok((rule, rest));
+    }
+    let (column, rest) = read_column(alloc, tokens)?;
+    Ok((Item::Column(column), rest))
 }
 
 /// Reads what stands between two commas.
@@ -160,28 +200,19 @@ impl Reader for Items {
 
     ghost item = { λ items. item_at };
 
-    #[tactic(auto, unfolding(crate::specs::Reading::item_at))]
     fn read<'t>(&self, alloc: Global, tokens: &'t [Token]) -> Result<(Item, &'t [Token]), Refusal> {
-        if let Some(rest) = eat(tokens, Terminal::Constraint) {
-            let (_, rest) = read_identifier(alloc, rest)?;
-            let (rule, rest) = read_rule(alloc, rest)?;
-            return Ok((rule, rest));
-        }
-        if begins_key(tokens) || note_at(tokens).is_some() {
-            let (rule, rest) = read_rule(alloc, tokens)?;
-            return Ok((rule, rest));
-        }
-        let (column, rest) = read_column(alloc, tokens)?;
-        Ok((Item::Column(column), rest))
+        let (item, rest) = read_item(alloc, tokens)?;
+        Ok((item, rest))
     }
 }
 
-/// What stands in the brackets of a table, and the bracket that closes them.
+/// What stands in the brackets of a table.
 #[tactic(auto, unfolding(crate::specs::Reading::items_at))]
 pub fn read_items(alloc: Global, tokens: &[Token]) -> Result<(Vec<Item>, &[Token]), Refusal>
     ensures { Gives (λ x. (map item_said x.0.items, kinds_of x.1.now)) result (items_at (kinds_of tokens.now)) }
 {
-    let (items, rest) = list_at(alloc, &Items, Terminal::Comma, tokens)?;
+    let rest = expect(tokens, Terminal::LeftBracket)?;
+    let (items, rest) = list_at(alloc, &Items, Terminal::Comma, rest)?;
     let rest = expect(rest, Terminal::RightBracket)?;
     Ok((items, rest))
 }

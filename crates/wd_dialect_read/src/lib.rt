@@ -1,8 +1,10 @@
 //! Reads the statements of a schema as PostgreSQL's tools write them.
 #![tactic(auto)]
 
+mod change;
 mod column;
 mod item;
+mod kept;
 mod kind;
 mod said;
 mod statement;

@@ -25,7 +25,9 @@ pub enum Note {
     Like,
     /// `STORAGE` and `COMPRESSION` of a column.
     Storage,
-    /// A statement that declares no table and no key.
+    /// `DEFERRABLE` of a column or a key: a key holds where a transaction has ended, and not before.
+    Deferrable,
+    /// A statement that declares no table, or a change that adds nothing to one.
     Statement,
 }
 
@@ -54,11 +56,12 @@ pub struct SaidColumn {
     pub marks: Vec<Mark>,
 }
 
-/// A key, by its words and its columns, of which there is at least one.
+/// A key: its words, its columns, of which there is at least one, and what stands after them.
 #[derive(Drop)]
 pub struct SaidKey {
     pub words: KeyWords,
     pub columns: Vec<Identifier>,
+    pub marks: Vec<Mark>,
     ghost some: { 0 < length columns.items },
 }
 
@@ -70,17 +73,20 @@ pub enum Item {
     Passed(Note),
 }
 
-/// A table's declaration.
+/// A table's declaration, or what is added to a table of that name.
 #[derive(Drop)]
 pub struct SaidTable {
     pub name: Identifier,
     pub items: Vec<Item>,
 }
 
-/// A statement: a table's declaration, a key that is added to a table of that name, or another.
+/// A statement.
 #[derive(Drop)]
 pub enum Statement {
+    /// A table's declaration.
     Table(SaidTable),
-    Key(Identifier, SaidKey),
+    /// Changes of a table.
+    Changed(SaidTable),
+    /// One that is passed over.
     Passed(Note),
 }

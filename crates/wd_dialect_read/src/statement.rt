@@ -1,19 +1,20 @@
 //! Statements.
 
-ghost use Rattle.std.specs.Prelude.{◌≡◌, map, Ok};
+ghost use Rattle.std.specs.Prelude.{◌≡◌, map, Ok, if◌then◌else◌};
 ghost use Rattle.wd_lex.specs.Lexed.{kinds_of};
 ghost use Rattle.wd_read_cursor.specs.Given.{Gives};
 ghost use Rattle.wd_dialect_read.specs.Said.{statement_said};
-ghost use Rattle.wd_dialect_read.specs.Reading.{added_at, alter_at, change_at, create_at, past_exists, past_not_exists, past_only, past_statement, passed_at, statement_at, statements_at, table_at};
+ghost use Rattle.wd_dialect_read.specs.Reading.{alter_at, changed_at, create_at, end_at, other_at, past_exists, past_only, past_replace, past_statement, past_unique, passed_at, refused, statement_at, statements_at, table_at, table_end};
 
+use crate::change::{Changes, past_not_exists};
 use crate::column::read_qualified;
-use crate::item::{begins_key, read_items, read_key};
+use crate::item::read_items;
+use crate::kept::{begins_altered, begins_created, begins_statement};
 use crate::said::{Note, SaidTable, Statement};
-use crate::words::{eat_text, expect_text, past_table_words, read_identifier};
+use crate::words::{eat_text, expect_text, past_table_words};
 use std::alloc::Global;
-use wd_declaration::Identifier;
 use wd_lex::{Terminal, Token};
-use wd_read_cursor::{KeyWord, Refusal, eat, eat_word, expect};
+use wd_read_cursor::{KeyWord, Refusal, eat, eat_word, expect, list_at, unexpected};
 
 /// The tokens after a statement's semicolon.
 #[tactic(auto, unfolding(crate::specs::Reading::past_statement, wd_read_cursor::specs::Cursor::eat))]
@@ -38,83 +39,75 @@ fn pass(tokens: &[Token]) -> (Statement, &[Token])
     (Statement::Passed(Note::Statement), past_statement(tokens))
 }
 
-/// `[IF NOT EXISTS]`
-#[tactic(auto, unfolding(crate::specs::Reading::past_not_exists))]
-fn past_not_exists(tokens: &[Token]) -> Result<(bool, &[Token]), Refusal>
-    ensures { Gives (λ x. (x.0, kinds_of x.1.now)) result (past_not_exists (kinds_of tokens.now)) }
+/// A statement that is passed over, where all that is read holds after it. Else its first token is refused.
+fn read_kept(is_kept: bool, tokens: &[Token]) -> Result<(Statement, &[Token]), Refusal>
+    ensures { Gives (λ x. (statement_said x.0, kinds_of x.1.now)) result (if is_kept then passed_at (kinds_of tokens.now) else refused (kinds_of tokens.now)) }
 {
-    let Some(rest) = eat_text(tokens, "if") else {
-        return Ok((false, tokens));
-    };
-    let rest = expect(rest, Terminal::Not)?;
-    Ok((true, expect_text(rest, "exists")?))
+    if !is_kept {
+        return Err(unexpected(tokens));
+    }
+    Ok(pass(tokens))
 }
 
-/// A table, after CREATE TABLE. One that has no brackets after its name is passed over.
+/// The tokens after a table's declaration, from what follows its brackets on.
+#[tactic(auto, unfolding(crate::specs::Reading::table_end))]
+fn past_table(tokens: &[Token]) -> Result<&[Token], Refusal>
+    ensures { Gives (λ r. kinds_of r.now) result (table_end (kinds_of tokens.now)) }
+{
+    if eat_text(tokens, "inherits").is_some() {
+        return Err(unexpected(tokens));
+    }
+    Ok(past_statement(tokens))
+}
+
+/// A table, after CREATE TABLE.
 #[tactic(auto, unfolding(crate::specs::Reading::table_at))]
 fn read_table(alloc: Global, tokens: &[Token]) -> Result<(Statement, &[Token]), Refusal>
     ensures { Gives (λ x. (statement_said x.0, kinds_of x.1.now)) result (table_at (kinds_of tokens.now)) }
 {
     let (_, rest) = past_not_exists(tokens)?;
     let (name, rest) = read_qualified(alloc, rest)?;
-    let Some(inside) = eat(rest, Terminal::LeftBracket) else {
-        return Ok(pass(rest));
-    };
-    let (items, rest) = read_items(alloc, inside)?;
-    let table = SaidTable { name, items };
-    Ok((Statement::Table(table), past_statement(rest)))
+    let (items, rest) = read_items(alloc, rest)?;
+    let rest = past_table(rest)?;
+    Ok((Statement::Table(SaidTable { name, items }), rest))
+}
+
+/// `[OR REPLACE]`
+#[tactic(auto, unfolding(crate::specs::Reading::past_replace))]
+fn past_replace(tokens: &[Token]) -> Result<&[Token], Refusal>
+    ensures { Gives (λ r. kinds_of r.now) result (past_replace (kinds_of tokens.now)) }
+{
+    match eat(tokens, Terminal::Or) {
+        Some(rest) => Ok(expect_text(rest, "replace")?),
+        None => Ok(tokens),
+    }
+}
+
+/// `[UNIQUE]`
+#[tactic(auto, unfolding(crate::specs::Reading::past_unique))]
+fn past_unique(tokens: &[Token]) -> &[Token]
+    ensures { kinds_of result.now ≡ past_unique (kinds_of tokens.now) }
+{
+    match eat(tokens, Terminal::Unique) {
+        Some(rest) => rest,
+        None => tokens,
+    }
 }
 
 /// A statement, after CREATE.
-#[tactic(auto, unfolding(crate::specs::Reading::create_at))]
+#[tactic(auto, unfolding(crate::specs::Reading::create_at, crate::specs::Reading::kept_statement))]
 fn read_create(alloc: Global, tokens: &[Token]) -> Result<(Statement, &[Token]), Refusal>
     ensures { Gives (λ x. (statement_said x.0, kinds_of x.1.now)) result (create_at (kinds_of tokens.now)) }
 {
-    match eat(past_table_words(tokens), Terminal::Table) {
+    let rest = past_table_words(past_replace(tokens)?);
+    match eat(rest, Terminal::Table) {
         Some(rest) => {
             let (statement, rest) = read_table(alloc, rest)?;
             Ok((statement, rest))
         }
-        None => Ok(pass(tokens)),
-    }
-}
-
-/// A key that is added to a table; other changes are passed over.
-#[tactic(auto, unfolding(crate::specs::Reading::added_at))]
-fn read_added(
-    alloc: Global,
-    name: Identifier,
-    tokens: &[Token],
-) -> Result<(Statement, &[Token]), Refusal>
-    ensures { Gives (λ x. (statement_said x.0, kinds_of x.1.now)) result (added_at name.text (kinds_of tokens.now)) }
-{
-    if !begins_key(tokens) {
-        return Ok(pass(tokens));
-    }
-    let (key, rest) = read_key(alloc, tokens)?;
-    Ok((Statement::Key(name, key), past_statement(rest)))
-}
-
-/// A change of a table, after its name.
-#[tactic(auto, unfolding(crate::specs::Reading::change_at))]
-fn read_change(
-    alloc: Global,
-    name: Identifier,
-    tokens: &[Token],
-) -> Result<(Statement, &[Token]), Refusal>
-    ensures { Gives (λ x. (statement_said x.0, kinds_of x.1.now)) result (change_at name.text (kinds_of tokens.now)) }
-{
-    let Some(added) = eat_text(tokens, "add") else {
-        return Ok(pass(tokens));
-    };
-    match eat(added, Terminal::Constraint) {
-        Some(rest) => {
-            let (_, rest) = read_identifier(alloc, rest)?;
-            let (statement, rest) = read_added(alloc, name, rest)?;
-            Ok((statement, rest))
-        }
         None => {
-            let (statement, rest) = read_added(alloc, name, added)?;
+            let rest = past_unique(rest);
+            let (statement, rest) = read_kept(begins_created(rest), rest)?;
             Ok((statement, rest))
         }
     }
@@ -142,17 +135,55 @@ fn past_only(tokens: &[Token]) -> &[Token]
     }
 }
 
+/// The end of a statement: its semicolon, or that of the text.
+#[tactic(auto, unfolding(crate::specs::Reading::end_at))]
+fn past_end(tokens: &[Token]) -> Result<&[Token], Refusal>
+    ensures { Gives (λ r. kinds_of r.now) result (end_at (kinds_of tokens.now)) }
+{
+    match tokens {
+        [] => Ok(tokens),
+        [..] => Ok(expect(tokens, Terminal::Semicolon)?),
+    }
+}
+
+/// Changes of a table, after ALTER TABLE.
+#[tactic(auto, unfolding(crate::specs::Reading::changed_at))]
+fn read_changed(alloc: Global, tokens: &[Token]) -> Result<(Statement, &[Token]), Refusal>
+    ensures { Gives (λ x. (statement_said x.0, kinds_of x.1.now)) result (changed_at (kinds_of tokens.now)) }
+{
+    let (_, rest) = past_exists(tokens)?;
+    let (name, rest) = read_qualified(alloc, past_only(rest))?;
+    let (items, rest) = list_at(alloc, &Changes, Terminal::Comma, rest)?;
+    let rest = past_end(rest)?;
+    Ok((Statement::Changed(SaidTable { name, items }), rest))
+}
+
 /// A statement, after ALTER.
-#[tactic(auto, unfolding(crate::specs::Reading::alter_at))]
+#[tactic(auto, unfolding(crate::specs::Reading::alter_at, crate::specs::Reading::kept_statement))]
 fn read_alter(alloc: Global, tokens: &[Token]) -> Result<(Statement, &[Token]), Refusal>
     ensures { Gives (λ x. (statement_said x.0, kinds_of x.1.now)) result (alter_at (kinds_of tokens.now)) }
 {
-    let Some(rest) = eat(tokens, Terminal::Table) else {
+    match eat(tokens, Terminal::Table) {
+        Some(rest) => {
+            let (statement, rest) = read_changed(alloc, rest)?;
+            Ok((statement, rest))
+        }
+        None => {
+            let (statement, rest) = read_kept(begins_altered(tokens), tokens)?;
+            Ok((statement, rest))
+        }
+    }
+}
+
+/// A statement that is neither CREATE nor ALTER.
+#[tactic(auto, unfolding(crate::specs::Reading::other_at, crate::specs::Reading::kept_statement))]
+fn read_other(tokens: &[Token]) -> Result<(Statement, &[Token]), Refusal>
+    ensures { Gives (λ x. (statement_said x.0, kinds_of x.1.now)) result (other_at (kinds_of tokens.now)) }
+{
+    if eat(tokens, Terminal::Select).is_some() || eat(tokens, Terminal::Semicolon).is_some() {
         return Ok(pass(tokens));
-    };
-    let (_, rest) = past_exists(rest)?;
-    let (name, rest) = read_qualified(alloc, past_only(rest))?;
-    let (statement, rest) = read_change(alloc, name, rest)?;
+    }
+    let (statement, rest) = read_kept(begins_statement(tokens), tokens)?;
     Ok((statement, rest))
 }
 
@@ -169,7 +200,8 @@ fn read_statement(alloc: Global, tokens: &[Token]) -> Result<(Statement, &[Token
         let (statement, rest) = read_alter(alloc, rest)?;
         return Ok((statement, rest));
     }
-    Ok(pass(tokens))
+    let (statement, rest) = read_other(tokens)?;
+    Ok((statement, rest))
 }
 
 /// The statements of a schema. The refusal says at which token they can't be read.

@@ -12,7 +12,7 @@ use wd_lex::{Terminal, Token, TokenKind};
 use wd_read_cursor::{Refusal, unexpected};
 
 // The words that begin what is passed over after a column's type.
-const COLUMN_NOTES: [(&[u8], Note); 7] = [
+const COLUMN_NOTES: [(&[u8], Note); 9] = [
     (b"default", Note::Default),
     (b"check", Note::Check),
     (b"references", Note::References),
@@ -20,6 +20,8 @@ const COLUMN_NOTES: [(&[u8], Note); 7] = [
     (b"collate", Note::Collate),
     (b"storage", Note::Storage),
     (b"compression", Note::Storage),
+    (b"deferrable", Note::Deferrable),
+    (b"deferred", Note::Deferrable),
 ];
 
 /// What a table of words has for a word.
@@ -70,7 +72,7 @@ fn ends_item(kind: &TokenKind) -> bool
 {
     matches!(
         kind,
-        TokenKind::Terminal(Terminal::Comma | Terminal::RightBracket)
+        TokenKind::Terminal(Terminal::Comma | Terminal::RightBracket | Terminal::Semicolon)
     )
 }
 
@@ -111,7 +113,7 @@ fn add_mark(marks: &mut Vec<Mark>, depth: usize, kind: &TokenKind) -> Result<(),
     Ok(())
 }
 
-/// What the tokens outside brackets say, up to a comma or a closing bracket, and the tokens from there on.
+/// What the tokens outside brackets say, up to what ends them, and the tokens from there on.
 #[tactic(auto, unfolding(crate::specs::Reading::tail_from))]
 pub fn read_marks(alloc: Global, tokens: &[Token]) -> Result<(Vec<Mark>, &[Token]), Refusal>
     ensures { MayRead (λ x. (x.0.items, kinds_of x.1.now)) result (tail_from 0 (kinds_of tokens.now)) }
@@ -141,7 +143,7 @@ fn begins_tail(tokens: &[Token]) -> bool
     }
 }
 
-/// The rules of a column, up to the comma or bracket that ends it.
+/// The rules of a column, up to what ends it.
 #[tactic(auto, unfolding(crate::specs::Reading::tail_at))]
 pub fn read_tail(alloc: Global, tokens: &[Token]) -> Result<(Vec<Mark>, &[Token]), Refusal>
     ensures { Gives (λ x. (x.0.items, kinds_of x.1.now)) result (tail_at (kinds_of tokens.now)) }

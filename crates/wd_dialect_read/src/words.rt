@@ -4,7 +4,7 @@ ghost use Rattle.std.specs.Prelude.{◌≡◌, map};
 ghost use Rattle.wd_lex.specs.Lexed.{kinds_of};
 ghost use Rattle.wd_read_cursor.specs.Given.{Finds, Gives};
 ghost use Rattle.wd_dialect_read.specs.Tokens.{has_word, is_among, table_words, type_words};
-ghost use Rattle.wd_dialect_read.specs.Reading.{eat_text, expect_text, identifier_at, past_words};
+ghost use Rattle.wd_dialect_read.specs.Reading.{begins_among, eat_text, expect_text, identifier_at, past_words};
 
 use std::alloc::Global;
 use wd_declaration::Identifier;
@@ -69,6 +69,17 @@ fn has_word(mut words: &[&[u8]], text: &[u8]) -> bool
         words = rest;
     }
     false
+}
+
+/// Whether a word of a list stands first.
+#[tactic(auto, unfolding(crate::specs::Reading::begins_among))]
+pub fn begins_among(tokens: &[Token], words: &[&[u8]]) -> bool
+    ensures { result ≡ begins_among (map (λ word. word.now) words.now) (kinds_of tokens.now) }
+{
+    match tokens {
+        [first, ..] => is_among(words, &first.kind),
+        [] => false,
+    }
 }
 
 /// Whether a word is one of a list.

@@ -1,5 +1,5 @@
 -- The tables that the statements of a schema declare, in the profile's grammar of schemas.
-use Rattle.std.specs.Prelude.{ℕ, ◌&&◌, ◌||◌, Bool, true, false, List, [], ◌∷◌, ◌++◌, map, Option, Some, None, if◌then◌else◌}
+use Rattle.std.specs.Prelude.{ℕ, ◌&&◌, ◌||◌, not, Bool, true, false, List, [], ◌∷◌, ◌++◌, map, Option, Some, None, if◌then◌else◌}
 use Rattle.std.specs.List.{flat_map}
 use Rattle.std.specs.Str.{bytes_eq}
 use Rattle.wd_value.specs.declared.value.ColumnType.{ColumnType}
@@ -15,6 +15,7 @@ use Rattle.wd_dialect_read.specs.declared.kind.ColumnKind.{ColumnKind}
 use Rattle.wd_dialect_read.specs.declared.kind.ColumnKind.TheVariants as kind
 use Rattle.wd_dialect_read.specs.declared.said.Mark.{Mark}
 use Rattle.wd_dialect_read.specs.declared.said.Mark.TheVariants as mark
+use Rattle.wd_dialect_read.specs.declared.said.Note.TheVariants as note
 use Rattle.wd_dialect_read.specs.Said.{ColumnSaid, KeySaid, ItemSaid, StatementSaid}
 use Rattle.wd_dialect_read.specs.Said as said
 
@@ -47,6 +48,15 @@ abbrev pub says_not_null : List Mark → Bool
 says_not_null [] = false
 says_not_null (m ∷ marks) = (is_not m && begins_null marks) || says_not_null marks
 
+abbrev pub is_deferrable : Mark → Bool
+is_deferrable (mark.Passed note.Deferrable) = true
+is_deferrable _ = false
+
+-- DEFERRABLE stands among what is said outside brackets, without NOT before it; or NOT stands before all of that
+abbrev pub says_deferrable : Bool → List Mark → Bool
+says_deferrable after_not [] = false
+says_deferrable after_not (m ∷ marks) = (is_deferrable m && not after_not) || says_deferrable (is_not m) marks
+
 -- what is said of NULLs after UNIQUE
 abbrev pub nulls_said : List Mark → Nulls
 nulls_said (mark.Nulls ∷ mark.Not ∷ mark.Distinct ∷ marks) = NotDistinct
@@ -75,18 +85,22 @@ abbrev pub keys_of : List ℕ → List Mark → List ElementTree
 keys_of name [] = []
 keys_of name (m ∷ marks) = key_before name (key_said m marks) (keys_of name marks)
 
+-- A key that is DEFERRABLE holds where a transaction has ended, and not before: it is none.
+abbrev pub lasting : List Mark → List ElementTree → List ElementTree
+lasting marks keys = if says_deferrable false marks then [] else keys
+
 abbrev pub column_of : ColumnSaid → ElementTree
 column_of c = Column (record { name = name_of c.name; kind = record { text = type_word (type_of c.kind); quoted = false }; rules = rules_of (says_not_null c.marks) })
 
 -- what stands between two commas: a column and its keys, a key, or nothing
 abbrev pub elements_of : ItemSaid → List ElementTree
-elements_of (said.Column c) = column_of c ∷ keys_of c.name c.marks
-elements_of (said.Key k) = key_of k.words k.columns ∷ []
+elements_of (said.Column c) = column_of c ∷ lasting c.marks (keys_of c.name c.marks)
+elements_of (said.Key k) = lasting k.marks (key_of k.words k.columns ∷ [])
 elements_of (said.Passed note) = []
 
--- the keys that statements add to the table of that name
+-- the columns and keys that statements add to the table of that name
 abbrev pub added_by : List ℕ → StatementSaid → List ElementTree
-added_by name (said.Added table k) = if bytes_eq table name then key_of k.words k.columns ∷ [] else []
+added_by name (said.Changed table items) = if bytes_eq table name then flat_map elements_of items else []
 added_by name (said.Table table items) = []
 added_by name (said.Other note) = []
 
@@ -95,10 +109,10 @@ abbrev pub table_of : List ℕ → List ElementTree → List TableTree
 table_of name [] = []
 table_of name (element ∷ elements) = record { name = name_of name; elements = element ∷ elements } ∷ []
 
--- the table that a statement declares, with the keys that others add to it
+-- the table that a statement declares, with what others add to it
 abbrev pub tables_by : List StatementSaid → StatementSaid → List TableTree
 tables_by all (said.Table name items) = table_of name (flat_map elements_of items ++ flat_map (added_by name) all)
-tables_by all (said.Added name k) = []
+tables_by all (said.Changed name items) = []
 tables_by all (said.Other note) = []
 
 abbrev pub tables_of : List StatementSaid → List TableTree

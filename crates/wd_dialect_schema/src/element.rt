@@ -5,9 +5,9 @@ ghost use Rattle.std.specs.List.{flat_map};
 ghost use Rattle.wd_read_statements.specs.Written.{ElementTree};
 ghost use Rattle.wd_declaration.specs.Spelled.{element_of};
 ghost use Rattle.wd_dialect_read.specs.Said.{column_said, identifier_text, item_said};
-ghost use Rattle.wd_dialect_schema.specs.Meaning.{column_of, elements_of, key_before, key_of, keys_of};
+ghost use Rattle.wd_dialect_schema.specs.Meaning.{column_of, elements_of, key_before, key_of, keys_of, lasting};
 
-use crate::marks::{key_said, says_not_null, type_of};
+use crate::marks::{key_said, says_deferrable, says_not_null, type_of};
 use std::alloc::{AllocError, Global};
 use wd_declaration::{DeclaredColumn, DeclaredElement, DeclaredKey, Identifier};
 use wd_dialect_read::{Item, SaidColumn, SaidKey};
@@ -25,7 +25,7 @@ fn copied_names(alloc: Global, names: &[Identifier]) -> Result<Vec<Identifier>, 
 }
 
 /// A key of a table.
-pub fn declared_key(alloc: Global, key: &SaidKey) -> Result<DeclaredElement, AllocError>
+fn declared_key(alloc: Global, key: &SaidKey) -> Result<DeclaredElement, AllocError>
     ensures { IfOk result (λ element. element_of element ≡ key_of key.now.words (map identifier_text key.now.columns.items)) }
 {
     let columns = copied_names(alloc, &key.columns)?;
@@ -75,6 +75,34 @@ fn add_key(
     Ok(())
 }
 
+/// Adds the keys of a column, where they hold at each time.
+fn add_lasting_keys(
+    alloc: Global,
+    elements: &mut Vec<DeclaredElement>,
+    column: &SaidColumn,
+) -> Result<(), AllocError>
+    ensures { OnOk result (map element_of elements.new.items ≡ map element_of elements.old.items ++ lasting column.now.marks.items (keys_of (identifier_text column.now.name) column.now.marks.items)) }
+{
+    if says_deferrable(&column.marks) {
+        return Ok(());
+    }
+    add_keys(alloc, elements, column)
+}
+
+/// Adds a key of a table, where it holds at each time.
+fn add_lasting_key(
+    alloc: Global,
+    elements: &mut Vec<DeclaredElement>,
+    key: &SaidKey,
+) -> Result<(), AllocError>
+    ensures { OnOk result (map element_of elements.new.items ≡ map element_of elements.old.items ++ lasting key.now.marks.items (key_of key.now.words (map identifier_text key.now.columns.items) ∷ [])) }
+{
+    if !says_deferrable(&key.marks) {
+        elements.push(declared_key(alloc, key)?)?;
+    }
+    Ok(())
+}
+
 /// Adds the keys of a column.
 fn add_keys(
     alloc: Global,
@@ -102,23 +130,23 @@ fn add_item(
     match item {
         Item::Column(column) => {
             elements.push(declared_column(column)?)?;
-            add_keys(alloc, elements, column)
+            add_lasting_keys(alloc, elements, column)
         }
-        Item::Key(key) => {
-            elements.push(declared_key(alloc, key)?)?;
-            Ok(())
-        }
+        Item::Key(key) => add_lasting_key(alloc, elements, key),
         Item::Passed(_) => Ok(()),
     }
 }
 
-/// The columns and keys of a table's declaration.
-pub fn declared_elements(alloc: Global, items: &[Item]) -> Result<Vec<DeclaredElement>, AllocError>
-    ensures { IfOk result (λ elements. map element_of elements.items ≡ flat_map elements_of (map item_said items.now)) }
+/// Adds the columns and keys of items.
+pub fn add_items(
+    alloc: Global,
+    elements: &mut Vec<DeclaredElement>,
+    items: &[Item],
+) -> Result<(), AllocError>
+    ensures { OnOk result (map element_of elements.new.items ≡ map element_of elements.old.items ++ flat_map elements_of (map item_said items.now)) }
 {
-    let mut elements = Vec::new(alloc);
     for item in items {
-        add_item(alloc, &mut elements, item)?;
+        add_item(alloc, elements, item)?;
     }
-    Ok(elements)
+    Ok(())
 }

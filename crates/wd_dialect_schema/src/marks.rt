@@ -1,9 +1,9 @@
 //! What is said of a column after its type.
 
-ghost use Rattle.std.specs.Prelude.{◌≡◌};
-ghost use Rattle.wd_dialect_schema.specs.Meaning.{begins_null, is_not, key_said, nulls_said, says_not_null, type_of};
+ghost use Rattle.std.specs.Prelude.{◌≡◌, false};
+ghost use Rattle.wd_dialect_schema.specs.Meaning.{begins_null, is_deferrable, is_not, key_said, nulls_said, says_deferrable, says_not_null, type_of};
 
-use wd_dialect_read::{ColumnKind, Mark};
+use wd_dialect_read::{ColumnKind, Mark, Note};
 use wd_read_statements::{KeyWords, Nulls};
 use wd_value::ColumnType;
 
@@ -54,6 +54,32 @@ pub fn says_not_null(marks: &[Mark]) -> bool
         if is_not(*mark) && begins_null(after) {
             return true;
         }
+        rest = after;
+    }
+    false
+}
+
+/// Whether a mark is DEFERRABLE.
+fn is_deferrable(mark: Mark) -> bool
+    ensures { result ≡ is_deferrable mark }
+{
+    match mark {
+        Mark::Passed(Note::Deferrable) => true,
+        _ => false,
+    }
+}
+
+/// Whether DEFERRABLE stands among the marks, without NOT before it.
+pub fn says_deferrable(marks: &[Mark]) -> bool
+    ensures { result ≡ says_deferrable false marks.now }
+{
+    let mut after_not = false;
+    let mut rest = marks;
+    while let [mark, after @ ..] = rest {
+        if is_deferrable(*mark) && !after_not {
+            return true;
+        }
+        after_not = is_not(*mark);
         rest = after;
     }
     false

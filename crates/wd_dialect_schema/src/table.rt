@@ -7,12 +7,12 @@ ghost use Rattle.wd_declaration.specs.Spelled.{element_of};
 ghost use Rattle.wd_dialect_read.specs.Said.{identifier_text, item_said, statement_said};
 ghost use Rattle.wd_dialect_schema.specs.Meaning.{added_by, elements_of, table_of, tables_by, tables_of};
 
-use crate::element::{declared_elements, declared_key};
+use crate::element::add_items;
 use std::alloc::{AllocError, Global};
 use wd_declaration::{Declaration, DeclaredElement, Identifier};
 use wd_dialect_read::{Item, Statement};
 
-/// Adds the key that a statement adds to the table of that name.
+/// Adds what a statement adds to the table of that name.
 fn add_added(
     alloc: Global,
     elements: &mut Vec<DeclaredElement>,
@@ -21,15 +21,15 @@ fn add_added(
 ) -> Result<(), AllocError>
     ensures { OnOk result (map element_of elements.new.items ≡ map element_of elements.old.items ++ added_by (identifier_text name.now) (statement_said statement.now)) }
 {
-    if let Statement::Key(table, key) = statement {
-        if table.text.as_str() == name.text.as_str() {
-            elements.push(declared_key(alloc, key)?)?;
+    match statement {
+        Statement::Changed(table) if table.name.text.as_str() == name.text.as_str() => {
+            add_items(alloc, elements, &table.items)
         }
+        _ => Ok(()),
     }
-    Ok(())
 }
 
-/// The columns and keys of the table of that name, with the keys that statements add.
+/// The columns and keys of the table of that name, with those that statements add.
 fn table_elements(
     alloc: Global,
     statements: &[Statement],
@@ -38,7 +38,8 @@ fn table_elements(
 ) -> Result<Vec<DeclaredElement>, AllocError>
     ensures { IfOk result (λ elements. map element_of elements.items ≡ flat_map elements_of (map item_said items.now) ++ flat_map (added_by (identifier_text name.now)) (map statement_said statements.now)) }
 {
-    let mut elements = declared_elements(alloc, items)?;
+    let mut elements = Vec::new(alloc);
+    add_items(alloc, &mut elements, items)?;
     for statement in statements {
         add_added(alloc, &mut elements, name, statement)?;
     }
