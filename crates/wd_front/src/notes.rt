@@ -15,14 +15,30 @@ const RULES: [(Note, &str); 8] = [
     (Note::Statement, "other statements"),
 ];
 
-const ORDER: &str =
-    "note: texts are taken to be in the order of their bytes, whatever COLLATE says";
+/// What is taken for granted of columns of some types.
+#[derive(Clone, Copy)]
+enum Granted {
+    /// That values are the same where they are equal.
+    Same,
+    /// What numbers count.
+    Units,
+}
 
-const SAME: &str =
-    "note: values that are equal and may look different, as of json, interval, real and numeric without a scale, are taken to be the same";
-
-const UNITS: &str =
-    "note: dates count days, timestamps microseconds, and numeric(p, s) units of its last place";
+impl Granted {
+    /// Whether it is taken for granted of columns of a kind.
+    fn concerns(self, kind: ColumnKind) -> bool {
+        match self {
+            Granted::Same => matches!(
+                kind,
+                ColumnKind::Loose | ColumnKind::Float | ColumnKind::Decimal(None)
+            ),
+            Granted::Units => matches!(
+                kind,
+                ColumnKind::Date | ColumnKind::Timestamp | ColumnKind::Decimal(Some(_))
+            ),
+        }
+    }
+}
 
 /// What is told of a schema with these statements, a line each: what is passed over, each kind once, and what is taken for granted.
 pub fn notes(alloc: Global, statements: &[Statement]) -> Result<Vec<String>, AllocError> {
@@ -31,13 +47,18 @@ pub fn notes(alloc: Global, statements: &[Statement]) -> Result<Vec<String>, All
         lines.push(line)?;
     }
     if passes(statements, Note::Collate) {
-        lines.push(String::from_str(alloc, ORDER)?)?;
+        let line = "note: texts are taken to be in the order of their bytes, whatever COLLATE says";
+        lines.push(String::from_str(alloc, line)?)?;
     }
-    if has_column(statements, is_loose) {
-        lines.push(String::from_str(alloc, SAME)?)?;
+    if has_column(statements, Granted::Same) {
+        let line =
+            "note: values that are equal and may look different, as of json, interval, real and numeric without a scale, are taken to be the same";
+        lines.push(String::from_str(alloc, line)?)?;
     }
-    if has_column(statements, has_unit) {
-        lines.push(String::from_str(alloc, UNITS)?)?;
+    if has_column(statements, Granted::Units) {
+        let line =
+            "note: dates count days, timestamps microseconds, and numeric(p, s) units of its last place";
+        lines.push(String::from_str(alloc, line)?)?;
     }
     Ok(lines)
 }
@@ -87,29 +108,13 @@ fn is_passed(item: &Item, note: Note) -> bool {
     }
 }
 
-/// Whether statements declare a column whose type is of that kind.
-fn has_column(statements: &[Statement], is_of: fn(ColumnKind) -> bool) -> bool {
+/// Whether statements declare a column of which something is taken for granted.
+fn has_column(statements: &[Statement], granted: Granted) -> bool {
     statements.iter().any(|statement| match table_in(statement) {
         Some(table) => table.items.iter().any(|item| match item {
-            Item::Column(column) => is_of(column.kind),
+            Item::Column(column) => granted.concerns(column.kind),
             _ => false,
         }),
         None => false,
     })
-}
-
-/// Whether values of a kind that are equal may look different.
-fn is_loose(kind: ColumnKind) -> bool {
-    matches!(
-        kind,
-        ColumnKind::Loose | ColumnKind::Float | ColumnKind::Decimal(None)
-    )
-}
-
-/// Whether values of a kind are counted in units that their type does not name.
-fn has_unit(kind: ColumnKind) -> bool {
-    matches!(
-        kind,
-        ColumnKind::Date | ColumnKind::Timestamp | ColumnKind::Decimal(Some(_))
-    )
 }

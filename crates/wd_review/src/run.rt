@@ -76,7 +76,10 @@ impl Schemas {
         }
         let text = sources.read(alloc, path, MOST_BYTES)?;
         let number = self.kept.len();
-        self.kept.push(SchemaFile::new(alloc, path, text)?)?;
+        match SchemaFile::new(alloc, path, text) {
+            Ok(kept) => self.kept.push(kept)?,
+            Err(OutOfMemory) => return Err(SourceError::OutOfMemory),
+        }
         self.numbers.insert(String::from_str(alloc, path)?, number)?;
         Ok(number)
     }
