@@ -113,6 +113,38 @@ impl Report {
         )
     }
 
+    /// Adds that the text of a schema, as PostgreSQL's tools write it, is refused at these bytes.
+    pub fn add_schema(
+        &mut self,
+        alloc: Global,
+        path: &str,
+        text: &[u8],
+        span: Span,
+    ) -> Result<(), OutOfMemory>
+        ensures kept { IfErr result (λ _. self.new.bytes.items ≡ self.old.bytes.items) }
+    {
+        let mut block = String::new(alloc);
+        add_place(&mut block, path, text, span)?;
+        block.push_str(
+            "not read: here stands nothing that is read of a schema, or something that changes what it declares\n",
+        )?;
+        add_excerpt(&mut block, text, span)?;
+        block.push_str(
+            "      help: write the tables as they are in the end, as pg_dump -s does\n\n",
+        )?;
+        self.add(
+            alloc,
+            Told {
+                word: kind_word(Kind::NotRead),
+                level: Level::Error,
+                path,
+                position: position_at(text, (span.start as usize).min(text.len())),
+                block: block.as_str(),
+                mended: None,
+            },
+        )
+    }
+
     /// Adds that a statement of a query's file lost the certificate that a lock has for it.
     pub fn add_lost(
         &mut self,

@@ -14,7 +14,7 @@ use wd_lock::Lock;
 use wd_output::{Look, Report, Screen, Terminals, Watch};
 use wd_sources::{STANDARD_INPUT, SourceError, Sources};
 use wd_value::OutOfMemory;
-use wd_words::{Colour, Format, LockRequest};
+use wd_words::{Colour, FilesRequest, Format};
 
 /// The most bytes of a lock that are read.
 const MOST_OF_A_LOCK: u64 = 64 << 20;
@@ -80,7 +80,7 @@ struct Count {
 /// Writes the locks of all files.
 pub(crate) fn lock_all<'w, S: Sources, C: Clock, O: Write, E: Write>(
     alloc: Global,
-    request: &LockRequest<'w>,
+    request: &FilesRequest<'w>,
     terminals: Terminals,
     clock: &C,
     sources: &mut S,
@@ -152,7 +152,7 @@ fn lock_file<S: Sources, W: Watch>(
     let Some(schema) = run.schemas.file(number) else {
         return Ok(());
     };
-    let lock = lock_statements(run.alloc, schema.text, &text, watch)?;
+    let lock = lock_statements(run.alloc, &schema.text, &text, watch)?;
     count.queries = count.queries.saturating_add(lock.entries.len() as u64);
     count.certified = count.certified.saturating_add(lock.certified());
     write_lock(run, path, lock_path.as_str(), &lock, report)

@@ -3,6 +3,7 @@
 use crate::lock::{lock_all, lock_beside};
 use crate::mended::write_mended;
 use crate::outputs::{check_outputs, knowledge, write_baseline, write_page};
+use crate::respelled::show_respelled;
 use crate::run::{Run, Step, WRONG, steps};
 use crate::stop::Stop;
 use clap::Error;
@@ -42,6 +43,9 @@ pub fn review_words<S: Sources, C: Clock, O: Write, E: Write>(
             review_all(alloc, &request, terminals, clock, sources, out, err)
         }
         Ok(Asked::Lock(request)) => lock_all(alloc, &request, terminals, clock, sources, out, err),
+        Ok(Asked::Respelled(request)) => {
+            show_respelled(alloc, &request, terminals, clock, sources, out, err)
+        }
         Err(error) => return show(&error, out, err),
     };
     match ended {
@@ -149,7 +153,8 @@ fn review_file<S: Sources, W: Watch>(
     Ok(())
 }
 
-/// Tells what is found of a file, over the schema with this number among those that were read.
+/// Tells what is found of a file, over the schema with this number among those that were read. Of a schema that is refused as
+/// PostgreSQL's tools write it that is told once, and not for each query.
 fn review_text<S: Sources, W: Watch>(
     run: &mut Run<'_, S>,
     query: File<'_>,
@@ -162,9 +167,10 @@ fn review_text<S: Sources, W: Watch>(
     let Some(schema) = run.schemas.file(schema) else {
         return Ok(None);
     };
+    let mut untold = Report::new(run.alloc, report.format);
     let task = Task {
         alloc: run.alloc,
-        schema,
+        schema: schema.file(),
         query,
         locked: match &beside {
             Some(beside) => Some(Locked {
@@ -175,7 +181,11 @@ fn review_text<S: Sources, W: Watch>(
         },
     };
     let mut findings = Findings {
-        report,
+        report: if schema.is_refused {
+            &mut untold
+        } else {
+            report
+        },
         tally,
         watch,
     };

@@ -1,8 +1,8 @@
 //! What a run works with: its files, and the schemas that were read.
 
+use crate::schema::SchemaFile;
 use std::alloc::Global;
 use std::collections::HashMap;
-use wd_judged::File;
 use wd_output::Report;
 use wd_sources::{MOST_BYTES, SourceError, Sources, files_at, schemas_for};
 use wd_value::OutOfMemory;
@@ -37,17 +37,10 @@ pub(crate) fn steps<S: Sources>(
     Ok(steps)
 }
 
-/// A schema that was read.
-#[derive(Drop)]
-struct Kept {
-    path: String,
-    text: Vec<u8>,
-}
-
 /// The schemas that were read.
 #[derive(Drop)]
 pub(crate) struct Schemas {
-    kept: Vec<Kept>,
+    kept: Vec<SchemaFile>,
     /// Their numbers by their paths.
     numbers: HashMap<String, usize>,
 }
@@ -62,12 +55,13 @@ impl Schemas {
     }
 
     /// The schema with a number.
-    pub(crate) fn file(&self, number: usize) -> Option<File<'_>> {
-        let kept = self.kept.get(number)?;
-        Some(File {
-            path: kept.path.as_str(),
-            text: &kept.text,
-        })
+    pub(crate) fn file(&self, number: usize) -> Option<&SchemaFile> {
+        self.kept.get(number)
+    }
+
+    /// Whether one of them is refused as PostgreSQL's tools write it.
+    pub(crate) fn has_refused(&self) -> bool {
+        self.kept.iter().any(|kept| kept.is_refused)
     }
 
     /// The number of the schema of a path; it is read where it was not yet.
@@ -82,10 +76,10 @@ impl Schemas {
         }
         let text = sources.read(alloc, path, MOST_BYTES)?;
         let number = self.kept.len();
-        self.kept.push(Kept {
-            path: String::from_str(alloc, path)?,
-            text,
-        })?;
+        match SchemaFile::new(alloc, path, text) {
+            Ok(kept) => self.kept.push(kept)?,
+            Err(OutOfMemory) => return Err(SourceError::OutOfMemory),
+        }
         self.numbers.insert(String::from_str(alloc, path)?, number)?;
         Ok(number)
     }
@@ -154,7 +148,12 @@ impl<'r, S: Sources> Run<'r, S> {
         report: &mut Report,
     ) -> Result<Option<usize>, OutOfMemory> {
         match self.nearest(query) {
-            Ok(Some(number)) => Ok(Some(number)),
+            Ok(Some(number)) => {
+                if let Some(kept) = self.schemas.kept.get_mut(number) {
+                    kept.tell(self.alloc, report)?;
+                }
+                Ok(Some(number))
+            }
             Ok(None) => {
                 self.is_wrong = true;
                 report.add_remark(

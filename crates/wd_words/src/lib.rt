@@ -8,5 +8,5 @@ mod request;
 mod words;
 
 pub use catalog::SCHEMA_OF_DATABASE;
-pub use request::{Asked, Colour, Format, LockRequest, Request};
+pub use request::{Asked, Colour, FilesRequest, Format, Request};
 pub use words::read_words;

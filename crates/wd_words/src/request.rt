@@ -57,14 +57,16 @@ pub enum Asked<'a> {
     /// The SQL that prints a database's schema.
     Catalog,
     /// A lock of the certificates of queries.
-    Lock(LockRequest<'a>),
+    Lock(FilesRequest<'a>),
+    /// The text over which queries are judged, of each schema.
+    Respelled(FilesRequest<'a>),
     /// A report on queries.
     Report(Request<'a>),
 }
 
-/// A lock that is asked for.
+/// Files of which something is asked for.
 #[derive(Drop)]
-pub struct LockRequest<'a> {
+pub struct FilesRequest<'a> {
     /// The path of the schema, where one is given.
     pub schema: Option<&'a str>,
     /// The paths of queries and of folders.

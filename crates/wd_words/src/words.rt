@@ -1,6 +1,6 @@
 //! Reading the words of the command line.
 
-use crate::request::{Asked, Colour, Format, LockRequest, Request};
+use crate::request::{Asked, Colour, FilesRequest, Format, Request};
 use clap::{Arg, ArgAction, ArgMatches, Command, Error};
 use std::alloc::{AllocError, Global};
 
@@ -12,12 +12,20 @@ pub fn read_words<'a>(alloc: Global, words: &'a [&'a str]) -> Result<Asked<'a>, 
         return Ok(Asked::Catalog);
     }
     if let Some(lock) = matches.subcommand_matches("lock") {
-        return Ok(Asked::Lock(LockRequest {
-            schema: lock.get_str("schema"),
-            paths: paths_in(alloc, lock)?,
-        }));
+        return Ok(Asked::Lock(files_in(alloc, lock)?));
+    }
+    if matches.get_flag("show-respelled") {
+        return Ok(Asked::Respelled(files_in(alloc, &matches)?));
     }
     Ok(Asked::Report(request_in(alloc, &matches)?))
+}
+
+/// The schema and the paths among the words.
+fn files_in<'a>(alloc: Global, matches: &ArgMatches<'a>) -> Result<FilesRequest<'a>, AllocError> {
+    Ok(FilesRequest {
+        schema: matches.get_str("schema"),
+        paths: paths_in(alloc, matches)?,
+    })
 }
 
 /// The paths among the words.
@@ -123,14 +131,18 @@ fn with_flags<'a>(alloc: Global, command: Command<'a>) -> Result<Command<'a>, Al
         .long("baseline-write")
         .action(ArgAction::SetTrue)
         .help("Writes the baseline: all that is found now is known");
-    command.arg(fix)?.arg(allow)?.arg(write)
+    let respelled = Arg::new(alloc, "show-respelled")
+        .long("show-respelled")
+        .action(ArgAction::SetTrue)
+        .help("Prints, in place of a report, each schema's tables as queries are judged over them");
+    command.arg(fix)?.arg(allow)?.arg(write)?.arg(respelled)
 }
 
 fn schema_word<'a>(alloc: Global) -> Arg<'a> {
     Arg::new(alloc, "schema")
         .long("schema")
         .value_name("FILE")
-        .help("A file of CREATE TABLE statements, for all queries")
+        .help("A file of CREATE TABLE statements, as pg_dump -s writes them too, for all queries")
 }
 
 fn format_word<'a>(alloc: Global) -> Arg<'a> {

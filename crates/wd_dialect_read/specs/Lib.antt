@@ -1,0 +1,4 @@
+pub mod Tokens
+pub mod Kept
+pub mod Said
+pub mod Reading

@@ -1,0 +1,3 @@
+pub mod NameFacts
+pub mod CauseFacts
+pub mod LawFacts

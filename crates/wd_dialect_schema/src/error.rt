@@ -1,0 +1,35 @@
+//! Why a text of PostgreSQL is not read as a schema.
+
+ghost use Rattle.std.specs.Prelude.{◌≡◌};
+ghost use Rattle.wd_dialect_schema.specs.declared.error.DialectError.TheVariants.{OutOfMemory};
+
+use std::alloc::{AllocError, AllocFailed};
+use wd_lex::LexError;
+
+/// Why a text of PostgreSQL is not read as a schema.
+#[derive(Clone, Copy, Debug)]
+pub enum DialectError {
+    /// The masked text has no tokens.
+    Tokens(LexError),
+    /// No statement goes on with the token of that number.
+    Unexpected { place: u64 },
+    /// The text of the declared tables would be longer than the profile's texts are.
+    TooLong,
+    OutOfMemory,
+}
+
+impl From<AllocError> for DialectError {
+    ghost from_gives = { λ _ e. e ≡ OutOfMemory };
+
+    fn from(_error: AllocError) -> DialectError {
+        DialectError::OutOfMemory
+    }
+}
+
+impl<T: Drop> From<AllocFailed<T>> for DialectError {
+    ghost from_gives = { λ _ e. e ≡ OutOfMemory };
+
+    fn from(_error: AllocFailed<T>) -> DialectError {
+        DialectError::OutOfMemory
+    }
+}

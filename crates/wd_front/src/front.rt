@@ -1,0 +1,116 @@
+//! What the text of a schema file is read as.
+
+ghost use Rattle.std.specs.Prelude.{map, IfOk};
+ghost use Rattle.std.specs.String.{string_bytes};
+ghost use Rattle.wd_schema.specs.Texts.{HasCause};
+ghost use Rattle.wd_dialect_read.specs.Said.{statement_said};
+ghost use Rattle.wd_front.specs.Fronts.{IsFront, IsSpelledBy};
+
+use crate::place::{dialect_place, profile_place};
+use std::alloc::Global;
+use wd_dialect_schema::{DialectError, DialectSchema, read_dialect};
+use wd_lex::Span;
+use wd_schema::{SchemaError, read_schema};
+use wd_value::OutOfMemory;
+
+/// What the text of a schema file is read as.
+#[derive(Drop)]
+pub enum Front {
+    /// The profile reads it.
+    Own,
+    /// The profile refuses it, and reads the text of the tables that it declares as PostgreSQL's tools write it.
+    Respelled(DialectSchema),
+    /// Neither reads it.
+    Unread(Refused),
+}
+
+/// Which refusal is told of a text that is not read.
+#[derive(Clone, Copy)]
+pub enum Refused {
+    /// That of the profile.
+    Profile,
+    /// No schema of PostgreSQL goes on with these bytes.
+    At(Span),
+    /// The tables that it declares as PostgreSQL's tools write it are refused by this number.
+    Tables(u32),
+    /// The profile's text of these tables would be too long.
+    TooLong,
+}
+
+/// What the text of a schema file is read as.
+///
+/// NULL on a column that takes none is refused by the profile, however the text is read. Else, where neither the profile nor
+/// PostgreSQL's way of writing reads it, the refusal is told that stands further on in the text; the profile's where both stand at
+/// one place, and where the tables are refused by the same number.
+pub fn front(alloc: Global, text: &[u8]) -> Result<Front, OutOfMemory>
+    ensures { IfOk result (IsFront text.now) }
+{
+    match read_schema(alloc, text) {
+        Ok(_) => Ok(Front::Own),
+        Err(SchemaError::OutOfMemory) => Err(OutOfMemory),
+        Err(SchemaError::NullForbidden) => Ok(Front::Unread(Refused::Profile)),
+        Err(error) => respelled(alloc, text, error),
+    }
+}
+
+/// What a text is read as that the profile refuses so.
+fn respelled(alloc: Global, text: &[u8], error: SchemaError) -> Result<Front, OutOfMemory>
+    requires { HasCause text.now error }
+    ensures { IfOk result (IsFront text.now) }
+{
+    match read_dialect(alloc, text) {
+        Ok(schema) => where_read(alloc, text, schema, error),
+        Err(DialectError::OutOfMemory) => Err(OutOfMemory),
+        Err(refusal) => {
+            let refused = told(alloc, text, error, refusal)?;
+            Ok(Front::Unread(refused))
+        }
+    }
+}
+
+/// What a text is read as that the profile refuses so, and that is a schema of PostgreSQL: its tables, where the profile reads the
+/// text that spells them.
+fn where_read(
+    alloc: Global,
+    text: &[u8],
+    schema: DialectSchema,
+    error: SchemaError,
+) -> Result<Front, OutOfMemory>
+    requires unread { HasCause text.now error }
+    requires spelled { IsSpelledBy text.now (map statement_said schema.statements.items) (string_bytes schema.text) }
+    ensures { IfOk result (IsFront text.now) }
+{
+    match read_schema(alloc, schema.text.as_bytes()) {
+        Ok(_) => Ok(Front::Respelled(schema)),
+        Err(SchemaError::OutOfMemory) => Err(OutOfMemory),
+        Err(other) => Ok(Front::Unread(told_of_tables(error, other))),
+    }
+}
+
+/// Which refusal is told where the profile refuses a text so, and the text of its tables so.
+fn told_of_tables(error: SchemaError, other: SchemaError) -> Refused {
+    match other.number() {
+        Some(number) if error.number() != Some(number) => Refused::Tables(number),
+        _ => Refused::Profile,
+    }
+}
+
+/// Which refusal is told where both refuse a text: the one that stands further on.
+fn told(
+    alloc: Global,
+    text: &[u8],
+    error: SchemaError,
+    refusal: DialectError,
+) -> Result<Refused, OutOfMemory> {
+    if matches!(refusal, DialectError::TooLong) {
+        return Ok(Refused::TooLong);
+    }
+    let own = profile_place(alloc, text, error)?;
+    let Some(place) = dialect_place(alloc, text, refusal)? else {
+        return Ok(Refused::Profile);
+    };
+    match own {
+        Some(own) if place.start <= own.start => Ok(Refused::Profile),
+        _ => Ok(Refused::At(place)),
+    }
+}

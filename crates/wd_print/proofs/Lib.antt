@@ -1,0 +1,3 @@
+pub mod TerminalFacts
+pub mod DoubledFacts
+pub mod PrintedFacts

@@ -1,0 +1,65 @@
+//! Prints a token at the end of a text.
+
+ghost use Rattle.std.specs.Prelude.{◌≡◌, ◌<◌, ◌++◌, OnOk};
+ghost use Rattle.std.specs.String.{string_bytes};
+ghost use Rattle.wd_lex.specs.declared.token.TokenKind.{TokenKind};
+ghost use Rattle.wd_lex.specs.Pieces.{doubled};
+ghost use Rattle.wd_print.specs.Printed.{printed_token};
+
+use crate::terminals::{gap, letters};
+use std::alloc::AllocError;
+use wd_lex::Terminal;
+
+/// Prints a reserved word or a symbol.
+pub fn push_terminal(text: &mut String, terminal: Terminal) -> Result<(), AllocError>
+    ensures { OnOk result (string_bytes text.new ≡ string_bytes text.old ++ printed_token (TokenKind.Terminal terminal)) }
+{
+    text.push_str(letters(terminal))?;
+    text.push(gap(terminal))?;
+    Ok(())
+}
+
+/// Prints a word that is not reserved.
+pub fn push_word(text: &mut String, word: &str) -> Result<(), AllocError>
+    ensures { OnOk result (string_bytes text.new ≡ string_bytes text.old ++ printed_token (TokenKind.Word word.now)) }
+{
+    text.push_str(word)?;
+    text.push(' ')?;
+    Ok(())
+}
+
+/// Adds what quotes hold, with each quote in it doubled.
+fn push_doubled(text: &mut String, quote: char, inside: &str) -> Result<(), AllocError>
+    requires { quote < 128 }
+    ensures { OnOk result (string_bytes text.new ≡ string_bytes text.old ++ doubled quote inside.now) }
+{
+    let mut rest = inside;
+    while let Some((before, after)) = rest.split_once(quote) {
+        text.push_str(before)?;
+        text.push(quote)?;
+        text.push(quote)?;
+        rest = after;
+    }
+    text.push_str(rest)?;
+    Ok(())
+}
+
+/// Prints a name in quotes.
+pub fn push_name(text: &mut String, name: &str) -> Result<(), AllocError>
+    ensures { OnOk result (string_bytes text.new ≡ string_bytes text.old ++ printed_token (TokenKind.Quoted name.now)) }
+{
+    text.push('"')?;
+    push_doubled(text, '"', name)?;
+    text.push_str("\" ")?;
+    Ok(())
+}
+
+/// Prints a text in single quotes.
+pub fn push_literal(text: &mut String, literal: &str) -> Result<(), AllocError>
+    ensures { OnOk result (string_bytes text.new ≡ string_bytes text.old ++ printed_token (TokenKind.Literal literal.now)) }
+{
+    text.push('\'')?;
+    push_doubled(text, '\'', literal)?;
+    text.push_str("' ")?;
+    Ok(())
+}

@@ -1,0 +1,104 @@
+//! A schema that was read, and what is told of it.
+
+use std::alloc::Global;
+use std::mem;
+use wd_formats::Level;
+use wd_front::{Front, Refused, front, notes};
+use wd_judged::File;
+use wd_lex::Span;
+use wd_lines::refusal_words_at;
+use wd_output::Report;
+use wd_value::OutOfMemory;
+
+/// What is still to be told of a schema.
+#[derive(Drop)]
+enum Untold {
+    Nothing,
+    /// What is passed over, and what is taken for granted.
+    Notes(Vec<String>),
+    /// It is refused at these bytes.
+    Refused(Span),
+    /// Its tables are refused, with these words.
+    Tables(String),
+}
+
+/// A schema that was read.
+#[derive(Drop)]
+pub(crate) struct SchemaFile {
+    path: String,
+    /// The text over which queries are judged: that of the file, or the one that spells its tables.
+    pub(crate) text: Vec<u8>,
+    /// Whether it is refused as PostgreSQL's tools write it. Then the text is that of the file, which the profile refuses too.
+    pub(crate) is_refused: bool,
+    untold: Untold,
+}
+
+impl SchemaFile {
+    /// The schema of a text.
+    pub(crate) fn new(alloc: Global, path: &str, text: Vec<u8>) -> Result<SchemaFile, OutOfMemory> {
+        let path = String::from_str(alloc, path)?;
+        match front(alloc, &text)? {
+            Front::Own | Front::Unread(Refused::Profile) => Ok(SchemaFile {
+                path,
+                text,
+                is_refused: false,
+                untold: Untold::Nothing,
+            }),
+            Front::Respelled(schema) => Ok(SchemaFile {
+                path,
+                text: Vec::from_slice(alloc, schema.text.as_bytes())?,
+                is_refused: false,
+                untold: Untold::Notes(notes(alloc, &schema.statements)?),
+            }),
+            Front::Unread(refused) => Ok(SchemaFile {
+                path,
+                text,
+                is_refused: true,
+                untold: untold_of(alloc, refused)?,
+            }),
+        }
+    }
+
+    /// Its path, and the text over which queries are judged.
+    pub(crate) fn file(&self) -> File<'_> {
+        File {
+            path: self.path.as_str(),
+            text: &self.text,
+        }
+    }
+
+    /// Tells of it what was not told yet.
+    pub(crate) fn tell(&mut self, alloc: Global, report: &mut Report) -> Result<(), OutOfMemory> {
+        let path = self.path.as_str();
+        match mem::replace(&mut self.untold, Untold::Nothing) {
+            Untold::Nothing => Ok(()),
+            Untold::Notes(lines) => {
+                for line in &lines {
+                    report.add_line(alloc, "note", Level::Warning, path, line.as_str())?;
+                }
+                Ok(())
+            }
+            Untold::Refused(span) => report.add_schema(alloc, path, &self.text, span),
+            Untold::Tables(words) => report.add_remark(alloc, path, words.as_str()),
+        }
+    }
+}
+
+/// What is to be told of a refusal.
+fn untold_of(alloc: Global, refused: Refused) -> Result<Untold, OutOfMemory> {
+    match refused {
+        Refused::Profile => Ok(Untold::Nothing),
+        Refused::At(span) => Ok(Untold::Refused(span)),
+        Refused::Tables(number) => {
+            let (sentence, _) = refusal_words_at(number, &[], None);
+            let words = format!(in alloc;
+                "not read: in the tables that it declares {sentence} [{number}]"
+            )?;
+            Ok(Untold::Tables(words))
+        }
+        Refused::TooLong => {
+            let words = "not read: the tables that it declares take more than 65,536 bytes";
+            Ok(Untold::Tables(String::from_str(alloc, words)?))
+        }
+    }
+}
