@@ -27,6 +27,7 @@ REFUSED = re.compile(r"\bensures (\w+) \{[^}]*\b(?:OnErr|IfErr|MatchResult|Fails
 def calls(folder):
     """The public calls of a crate: the name, the words of its signature, and those of its contract."""
     names, modules = handed_on(folder)
+    inner = set(re.findall(r"^(?:pub(?:\(crate\))? )?trait (\w+)", "\n".join(text_of(it) for it in glob.glob(f"{folder}/src/*.rt")), re.M)) - names
     for path in sorted(glob.glob(f"{folder}/src/*.rt")):
         is_open = os.path.basename(path).removesuffix(".rt") in modules
         lines, owner = text_of(path).split("\n"), None
@@ -37,7 +38,7 @@ def calls(folder):
                 continue
             is_method = bool(function["indent"])
             holder = owner["type"] if is_method else function["name"]
-            of_trait = is_method and (owner["kind"] == "trait" or owner["of"])
+            of_trait = is_method and (owner["kind"] == "trait" or owner["of"]) and owner["of"] not in inner
             if not (function["public"] or of_trait) or not (is_open or holder in names):
                 continue
             head = "\n".join(head_of(lines, at, function["indent"]))

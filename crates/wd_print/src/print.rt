@@ -1,6 +1,6 @@
-//! Prints a token at the end of a text.
+//! Prints a token at the end of a text. A token is printed apart and then appended, so that a refusal leaves the text as it was.
 
-ghost use Rattle.std.specs.Prelude.{◌≡◌, ◌<◌, ◌++◌, OnOk};
+ghost use Rattle.std.specs.Prelude.{◌≡◌, ◌<◌, ◌++◌, OnErr, OnOk};
 ghost use Rattle.std.specs.String.{string_bytes};
 ghost use Rattle.wd_lex.specs.declared.token.TokenKind.{TokenKind};
 ghost use Rattle.wd_lex.specs.Pieces.{doubled};
@@ -12,6 +12,16 @@ use wd_lex::Terminal;
 
 /// Prints a reserved word or a symbol.
 pub fn push_terminal(text: &mut String, terminal: Terminal) -> Result<(), AllocError>
+    ensures printed { OnOk result (string_bytes text.new ≡ string_bytes text.old ++ printed_token (TokenKind.Terminal terminal)) }
+    ensures kept { OnErr result (string_bytes text.new ≡ string_bytes text.old) }
+{
+    let mut token = String::new(*text.allocator());
+    add_terminal(&mut token, terminal)?;
+    text.push_str(token.as_str())
+}
+
+/// Adds it to the text of a token.
+fn add_terminal(text: &mut String, terminal: Terminal) -> Result<(), AllocError>
     ensures { OnOk result (string_bytes text.new ≡ string_bytes text.old ++ printed_token (TokenKind.Terminal terminal)) }
 {
     text.push_str(letters(terminal))?;
@@ -21,10 +31,60 @@ pub fn push_terminal(text: &mut String, terminal: Terminal) -> Result<(), AllocE
 
 /// Prints a word that is not reserved.
 pub fn push_word(text: &mut String, word: &str) -> Result<(), AllocError>
+    ensures printed { OnOk result (string_bytes text.new ≡ string_bytes text.old ++ printed_token (TokenKind.Word word.now)) }
+    ensures kept { OnErr result (string_bytes text.new ≡ string_bytes text.old) }
+{
+    let mut token = String::new(*text.allocator());
+    add_word(&mut token, word)?;
+    text.push_str(token.as_str())
+}
+
+/// Adds it to the text of a token.
+fn add_word(text: &mut String, word: &str) -> Result<(), AllocError>
     ensures { OnOk result (string_bytes text.new ≡ string_bytes text.old ++ printed_token (TokenKind.Word word.now)) }
 {
     text.push_str(word)?;
     text.push(' ')?;
+    Ok(())
+}
+
+/// Prints a name in quotes.
+pub fn push_name(text: &mut String, name: &str) -> Result<(), AllocError>
+    ensures printed { OnOk result (string_bytes text.new ≡ string_bytes text.old ++ printed_token (TokenKind.Quoted name.now)) }
+    ensures kept { OnErr result (string_bytes text.new ≡ string_bytes text.old) }
+{
+    let mut token = String::new(*text.allocator());
+    add_name(&mut token, name)?;
+    text.push_str(token.as_str())
+}
+
+/// Adds it to the text of a token.
+fn add_name(text: &mut String, name: &str) -> Result<(), AllocError>
+    ensures { OnOk result (string_bytes text.new ≡ string_bytes text.old ++ printed_token (TokenKind.Quoted name.now)) }
+{
+    text.push('"')?;
+    push_doubled(text, '"', name)?;
+    text.push_str("\" ")?;
+    Ok(())
+}
+
+/// Prints a text in single quotes.
+pub fn push_literal(text: &mut String, literal: &str) -> Result<(), AllocError>
+    ensures printed { OnOk result (string_bytes text.new ≡ string_bytes text.old ++ printed_token (TokenKind.Literal literal.now)) }
+    ensures kept { OnErr result (string_bytes text.new ≡ string_bytes text.old) }
+{
+    let mut token = String::new(*text.allocator());
+    add_literal(&mut token, literal)?;
+    text.push_str(token.as_str())
+}
+
+/// Adds it to the text of a token.
+fn add_literal(text: &mut String, literal: &str) -> Result<(), AllocError>
+    ensures { OnOk result (string_bytes text.new ≡ string_bytes text.old ++ printed_token (TokenKind.Literal literal.now)) }
+{
+    text.push('\'')?;
+    push_doubled(text, '\'', literal)?;
+    text.push_str("' ")?;
     Ok(())
 }
 
@@ -41,25 +101,5 @@ fn push_doubled(text: &mut String, quote: char, inside: &str) -> Result<(), Allo
         rest = after;
     }
     text.push_str(rest)?;
-    Ok(())
-}
-
-/// Prints a name in quotes.
-pub fn push_name(text: &mut String, name: &str) -> Result<(), AllocError>
-    ensures { OnOk result (string_bytes text.new ≡ string_bytes text.old ++ printed_token (TokenKind.Quoted name.now)) }
-{
-    text.push('"')?;
-    push_doubled(text, '"', name)?;
-    text.push_str("\" ")?;
-    Ok(())
-}
-
-/// Prints a text in single quotes.
-pub fn push_literal(text: &mut String, literal: &str) -> Result<(), AllocError>
-    ensures { OnOk result (string_bytes text.new ≡ string_bytes text.old ++ printed_token (TokenKind.Literal literal.now)) }
-{
-    text.push('\'')?;
-    push_doubled(text, '\'', literal)?;
-    text.push_str("' ")?;
     Ok(())
 }

@@ -2,7 +2,7 @@ use Rattle.std.proofs.Common.{◌++◌, [], ◌∷◌, is_ok, ap, ap₂, ◌∙�
 use Rattle.std.proofs.ResultArms.{chosen}
 use Rattle.wd_lex.specs.Pieces.{spelling}
 use Rattle.wd_print.specs.Printed.{gap_after, terminal_piece}
-use Rattle.wd_print.proofs.print.push_terminal.Goals as goal
+use Rattle.wd_print.proofs.print.add_terminal.Goals as goal
 
 pub returns : goal.returns
 returns c =
