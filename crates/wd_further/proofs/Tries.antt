@@ -2,6 +2,23 @@
 use Rattle.std.proofs.Common.{◌≡◌, ℕ, ◌+◌, ◌*◌, ◌/◌, ◌-◌, ◌^◌, ◌<◌, ◌≤◌, leb, min, Bool, true, false, refl, sym, ◌∙◌, ap, arith}
 use Rattle.std.proofs.Math.Nat.{div-eq_of_lt, le-mul_of_pos_right, min-eq_left, min-eq_right, mul_comm}
 use Rattle.std.proofs.lemmas.Bool.{leb-false, leb-true}
+use Rattle.wd_plan.specs.Plans.{PlanTree, Scan, Join, Filter, Map, Group, Window, Distinct, Limit}
+use Rattle.wd_varied.specs.Sizes.{paired}
+
+-- tables with rows pair to some
+pub some_pairs : (rows : ℕ) (plan : PlanTree) → 1 ≤ rows → 1 ≤ paired rows plan
+some_pairs rows (Scan table columns) h = h
+some_pairs rows (Join condition left right) h =
+    let a = some_pairs rows left h in
+    let b = some_pairs rows right h in
+    let more : paired rows left ≤ paired rows left * paired rows right = le-mul_of_pos_right (paired rows left) b in
+    omega (arith, a, more)
+some_pairs rows (Filter condition input) h = some_pairs rows input h
+some_pairs rows (Map outputs input) h = some_pairs rows input h
+some_pairs rows (Group g input) h = some_pairs rows input h
+some_pairs rows (Window w input) h = some_pairs rows input h
+some_pairs rows (Distinct input) h = some_pairs rows input h
+some_pairs rows (Limit limit input) h = some_pairs rows input h
 
 -- a product is no less than its factors
 not_less : (a b s : ℕ) → 1 ≤ b → 1 ≤ s → a ≤ (a * b) * s

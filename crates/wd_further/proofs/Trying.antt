@@ -1,5 +1,5 @@
 -- The tries of a round, and the rounds, one after another.
-use Rattle.std.proofs.Common.{◌≡◌, ℕ, ◌<◌, ◌≤◌, Bool, true, false, List, [], ◌∷◌, flat_map, length, get_or, take, sym, subst, ◌∙◌, refl, arith, IfSome, Option, None, Some, tt}
+use Rattle.std.proofs.Common.{◌≡◌, ℕ, ◌<◌, ◌≤◌, Bool, true, false, List, [], ◌∷◌, flat_map, length, get_or, take, sym, subst, ◌∙◌, refl, arith, IfSome, Option, None, Some}
 use Rattle.std.proofs.lemmas.List.{length-map}
 use Rattle.std.proofs.lemmas.Bool.{le-ltb, lt-ltb}
 use Rattle.std.proofs.lemmas.List.FromFn.{get_or-map-range_with_len, get_or-range_with_len, length-range_with_len}
@@ -44,14 +44,14 @@ module _ (tables : List TableRule) (plan : PlanTree) (number rows : ℕ) where
 module _ (tables : List TableRule) (plan : PlanTree) (rows number : ℕ) (small : rows ≤ 64) where
   abbrev rows_of_table : ℕ → List Row
   rows_of_table t = rows_in (is_scanned plan t) (fixed_value (table_rule tables t).columns plan t)
-      (fillings (flat_map around (take most_literals (compared plan))) (all_near (take most_literals (literals plan))) (table_rule tables t) t number) rows
+      (fillings (flat_map around (take most_literals (compared plan))) (all_near (take most_literals (literals plan))) (table_rule tables t) t rows number) rows
 
   rows_are : (t : ℕ) → t < length tables → table_at (varied tables plan rows number) t ≡ rows_of_table t
   rows_are t within = get_or-map-range_with_len rows_of_table 0 (length tables) t t [] within (omega arith)
 
   few_of : (b : Bool) (t : ℕ) → length (rows_in b (fixed_value (table_rule tables t).columns plan t) (fillings (flat_map around (take most_literals (compared plan))) (all_near (take most_literals (literals plan))) (table_rule tables t) t rows number) rows) ≤ 64
   few_of true t =
-      let f = filled_row (fixed_value (table_rule tables t).columns plan t) (fillings (flat_map around (take most_literals (compared plan))) (all_near (take most_literals (literals plan))) (table_rule tables t) t number) rows in
+      let f = filled_row (fixed_value (table_rule tables t).columns plan t) (fillings (flat_map around (take most_literals (compared plan))) (all_near (take most_literals (literals plan))) (table_rule tables t) t rows number) rows in
       let n = length-map (positions rows) f in
       let m = length-range_with_len 0 rows in
       omega (arith, n, m, small)

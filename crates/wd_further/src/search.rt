@@ -48,7 +48,13 @@ pub(crate) fn search(
     let suggested = suggested_by(alloc, plan)?;
     let sizes = sizes(alloc, plan)?;
     search_rounds(
-        alloc, schema, plan, &outline, &suggested, &sizes, MOST_ROUNDS,
+        alloc,
+        schema,
+        plan,
+        &outline,
+        &suggested,
+        &sizes,
+        MOST_ROUNDS,
     )
 }
 
@@ -140,9 +146,7 @@ fn search_size(
     ensures sought { IfOk result (λ r. IsSought (schema_of schema.now) (plan_of plan.now) (filter (is_meeting (schema_of schema.now)) (spec.of_size (schema_of schema.now) (plan_of plan.now) number rows)) spent r.0 r.1) }
 {
     if number < tries {
-        try_varied(
-            alloc, schema, plan, outline, suggested, rows, number, spent,
-        )
+        try_varied(alloc, schema, plan, outline, suggested, rows, number, spent)
     } else {
         Ok((None, spent))
     }

@@ -1,8 +1,7 @@
 use Rattle.std.proofs.Common.{◌≡◌, ◌≤◌, ◌+◌, ◌*◌, ◌/◌, ◌∙◌, ap, arith, length, min, subst, sym}
 use Rattle.wd_plan.specs.Plans.{ordering_count, plan_of}
 use Rattle.wd_varied.specs.Sizes.{paired, sizes}
-use Rattle.wd_varied.proofs.Products.{some_pairs}
-use Rattle.wd_further.proofs.Tries.{capped}
+use Rattle.wd_further.proofs.Tries.{capped, some_pairs}
 use Rattle.wd_further.proofs.search.tries.Goals as goal
 
 pub returns : goal.returns
