@@ -10,6 +10,7 @@ pub mod Conditions
 pub mod Least
 pub mod GivenBack
 pub mod SortKeys
+pub mod OwnPlaces
 pub mod Empty
 pub mod Kept
 pub mod Plans

@@ -58,7 +58,7 @@ then_tie Less b h = refl
 then_tie Equal b h = h refl
 then_tie Greater b h = refl
 
-bool_same : (a b : Bool) → (a ≡ true → b ≡ true) → (b ≡ true → a ≡ true) → a ≡ b
+pub bool_same : (a b : Bool) → (a ≡ true → b ≡ true) → (b ≡ true → a ≡ true) → a ≡ b
 bool_same true b h k = sym (h refl)
 bool_same false true h k = k refl
 bool_same false false h k = refl
@@ -82,7 +82,7 @@ any_map : {X Y : Type 0} (f : X → Y) (t : Y → Bool) (xs : List X) → list_a
 any_map f t [] = refl
 any_map f t (x ∷ xs) = ap (λ b. t (f x) || b) (any_map f t xs)
 
-filter_same : {X : Type 0} (P : X → Type 0) (t u : X → Bool) → ((x : X) → P x → t x ≡ u x) → (xs : List X) → AllByRecursion P xs → filter t xs ≡ filter u xs
+pub filter_same : {X : Type 0} (P : X → Type 0) (t u : X → Bool) → ((x : X) → P x → t x ≡ u x) → (xs : List X) → AllByRecursion P xs → filter t xs ≡ filter u xs
 filter_same P t u h [] a = refl
 filter_same P t u h (x ∷ xs) a = λ i. cond (h x a.0 i) (x ∷ filter_same P t u h xs a.1 i) (filter_same P t u h xs a.1 i)
 

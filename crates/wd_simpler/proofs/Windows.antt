@@ -27,10 +27,11 @@ use Rattle.wd_plan.specs.declared.window.Frame.{Frame}
 use Rattle.wd_simpler.proofs.Alike.{AreAlikeOn, AreSameOn, all_weaken, also_read, has_also, has_each, has_left, has_right}
 use Rattle.wd_simpler.proofs.Masks.{mask, mask_append, mask_long, mask_more}
 use Rattle.wd_simpler.proofs.Results.{before, over, over_all}
+use Rattle.wd_simpler.proofs.OwnPlaces.{value_by_peers}
 use Rattle.wd_simpler.proofs.Rows.{map_same}
 use Rattle.wd_simpler.proofs.Steps.{masked_before, shown_of}
 use Rattle.wd_simpler.proofs.Values.{AreRead, keys_read, map_of_map, partition_read, row_read, rows_read, value_read}
-use Rattle.wd_simpler.specs.Simpler.{Read, after, and_also, count_of, never_faults, next, read_call, read_calls, read_window, window_reads}
+use Rattle.wd_simpler.specs.Simpler.{Read, after, and_also, count_of, never_faults, next, peer_call, read_call, read_calls, read_window, window_reads}
 
 -- ---- lawful orderings
 
@@ -85,9 +86,9 @@ ok_at class frame (OfFrame (Aggregate (Min c))) rows ordering r h = (_, refl)
 ok_at class frame (OfFrame (Aggregate (Max c))) rows ordering r h = (_, refl)
 
 module _ (w : WindowRule) (rows : List Row) (orderings : List (List ℕ)) (r : ℕ) where
-  call_swapped : (is_read quiet : Bool) (call : Call) → never_faults call.function ≡ quiet → over (shown_of is_read) (call_at w rows orderings r call) ≡ over (shown_of is_read) (call_at w rows orderings r (cond (is_read || not quiet) call (count_of call)))
-  call_swapped true quiet call e = refl
-  call_swapped false false call e = refl
+  call_swapped : (is_read quiet : Bool) (call : Call) → never_faults call.function ≡ quiet → over (shown_of is_read) (call_at w rows orderings r call) ≡ over (shown_of is_read) (call_at w rows orderings r (cond (is_read || not quiet) (peer_call call) (count_of call)))
+  call_swapped true quiet call e = ap (over (shown_of true)) (value_by_peers (class_at w call.class) call.frame call.function rows (ordering_at orderings call.class) r)
+  call_swapped false false call e = ap (over (shown_of false)) (value_by_peers (class_at w call.class) call.frame call.function rows (ordering_at orderings call.class) r)
   call_swapped false true call e = ap (over (shown_of false)) (ok_at (class_at w call.class) call.frame call.function rows (ordering_at orderings call.class) r e).1
 
   calls_swapped : (read : Read) (calls : List Call) → over (mask read) (all_ok (map (call_at w rows orderings r) calls)) ≡ over (mask read) (all_ok (map (call_at w rows orderings r) (read_calls read calls)))

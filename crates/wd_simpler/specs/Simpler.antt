@@ -1,6 +1,7 @@
 -- A plan without what nothing reads: outputs of its Maps are NULL, and calls of its Windows and Groups COUNT(*), where no step
 -- above reads them and they can't fault. A condition that no row meets is FALSE; what stands below it is not read, and of an input
--- without rows any call is COUNT(*), and a Limit takes all. Sort keys that are computed from a column are followed by that column.
+-- without rows any call is COUNT(*), and a Limit takes all. A frame of the row's own place goes by
+-- peers, and sort keys that are computed from a column are followed by that column.
 -- Its nodes, their columns and their orderings stay.
 use Rattle.std.specs.Prelude.{ℕ, zero, suc, ◌+◌, ◌-◌, ℤ, pos, int_le, nat_lt, length, map, slice_get, option_and_then, ◌&&◌, Bool, true, false, not, ◌||◌, List, [], ◌∷◌, ◌++◌, flat_map, if◌then◌else◌, Option, None, Some, option_to_list}
 use Rattle.wd_value.specs.declared.value.Value.{Value}
@@ -28,6 +29,7 @@ use Rattle.wd_plan.specs.Functions.{argument_of, argument_of_aggregate}
 use Rattle.wd_plan.specs.Plans.{GroupCall, OfRows, Grouping, GroupRule, WindowRule, LimitRule, PlanTree, Scan, Join, Filter, Map, Group, Window, Distinct, Limit, has}
 use Rattle.wd_plan.specs.Sorting.{class_columns}
 use Rattle.wd_scalar.specs.Arithmetic.{has_arithmetic}
+use Rattle.wd_simpler.specs.OwnPlace.{peer_frame}
 use Rattle.wd_simpler.specs.Keyed.{column_shown, keyed_limit, keyed_window}
 use Rattle.wd_step_facts.specs.Steps.{Side, Plain, Fixed, Other, side_of, used}
 
@@ -109,9 +111,13 @@ whole_partition = record { mode = Range; start = UnboundedPreceding; end = Unbou
 abbrev pub count_of : Call → Call
 count_of call = record { class = call.class; function = OfFrame (Aggregate CountRows); frame = whole_partition }
 
--- a call, and COUNT(*) of its partition in its place where it is not read and can't fault
+-- a call with its frame by peers
+abbrev pub peer_call : Call → Call
+peer_call call = record { class = call.class; function = call.function; frame = peer_frame call.frame }
+
+-- a call by peers, and COUNT(*) of its partition in its place where it is not read and can't fault
 abbrev pub read_call : Bool → Call → Call
-read_call is_read call = if is_read || not (never_faults call.function) then call else count_of call
+read_call is_read call = if is_read || not (never_faults call.function) then peer_call call else count_of call
 
 abbrev pub read_calls : Read → List Call → List Call
 read_calls read [] = []

@@ -5,6 +5,7 @@ ghost use Rattle.wd_plan.specs.Expressions.{expression_of};
 ghost use Rattle.wd_plan.specs.Fits.{fits, width};
 ghost use Rattle.wd_plan.specs.Plans.{group_call_of, grouping_of, has, limit_of, plan_of, window_of};
 ghost use Rattle.wd_schema.specs.Schemas.{schema_of};
+ghost use Rattle.wd_simpler.specs.OwnPlace as peers;
 ghost use Rattle.wd_simpler.specs.Sets.{HasAlso, read_of};
 ghost use Rattle.wd_simpler.specs.Simpler as spec;
 ghost use Rattle.wd_step_facts.specs.Steps.{used};
@@ -390,9 +391,45 @@ fn read_call(is_read: bool, call: Call) -> Call
     ensures { result ≡ spec.read_call is_read call }
 {
     if is_read || !never_faults(&call.function) {
-        call
+        peer_call(call)
     } else {
         count_of(call)
+    }
+}
+
+/// The call with its frame by peers.
+fn peer_call(call: Call) -> Call
+    ensures { result ≡ spec.peer_call call }
+{
+    Call {
+        class: call.class,
+        function: call.function,
+        frame: peer_frame(call.frame),
+    }
+}
+
+/// The frame, and one of peers in the place of one of the row's own place.
+fn peer_frame(frame: Frame) -> Frame
+    ensures { result ≡ peers.peer_frame frame }
+{
+    match (frame.mode, frame.start, frame.end) {
+        (FrameMode::Rows, Bound::CurrentRow, Bound::CurrentRow) => Frame {
+            mode: FrameMode::Range,
+            start: Bound::CurrentRow,
+            end: Bound::CurrentRow,
+            exclusion: peer_exclusion(frame.exclusion),
+        },
+        _ => frame,
+    }
+}
+
+/// What is left out of the row's peers: the others where the row stays, all where it is left out.
+fn peer_exclusion(exclusion: Exclusion) -> Exclusion
+    ensures { result ≡ peers.peer_exclusion exclusion }
+{
+    match exclusion {
+        Exclusion::NoOthers | Exclusion::Ties => Exclusion::Ties,
+        Exclusion::CurrentRow | Exclusion::Group => Exclusion::Group,
     }
 }
 
