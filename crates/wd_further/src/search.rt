@@ -72,6 +72,7 @@ fn search_rounds(
     requires outline { IsOutline (schema_of schema.now) (plan_of plan.now) outline.now }
     requires suggested { IsSuggested (plan_of plan.now) suggested.now }
     requires sizes { sizes.now ≡ sizes_of (plan_of plan.now) }
+    requires count { length sizes.now ≤ 63 }
     requires large { All (λ rows. 2 ≤ rows) sizes.now }
     requires small { All (λ rows. rows ≤ 64) sizes.now }
     ensures { IfOk result (λ o. (end : ℕ) × IsSought (schema_of schema.now) (plan_of plan.now) (filter (is_meeting (schema_of schema.now)) (spec.of_rounds (schema_of schema.now) (plan_of plan.now) rounds)) 0 o end) }
@@ -104,6 +105,7 @@ fn search_round(
     requires outline { IsOutline (schema_of schema.now) (plan_of plan.now) outline.now }
     requires suggested { IsSuggested (plan_of plan.now) suggested.now }
     requires sizes { sizes.now ≡ sizes_of (plan_of plan.now) }
+    requires count { length sizes.now ≤ 63 }
     requires large { All (λ rows. 2 ≤ rows) sizes.now }
     requires small { All (λ rows. rows ≤ 64) sizes.now }
     requires few { spent ≤ most_evaluations }

@@ -7,6 +7,9 @@ use Rattle.wd_seek.proofs.Trying.{found_in_one_more, nothing_in_all, nothing_in_
 use Rattle.wd_further.specs.Rounds.{of_size}
 use Rattle.wd_further.proofs.search.search_round.Goals as goal
 
+pub search_size-requires-clause-small : goal.search_size-requires-clause-small
+search_size-requires-clause-small c = c.requires.small c.loop-rows.rows-index 0 c.loop-rows-test.true
+
 pub loop-rows-preserved : goal.loop-rows-preserved
 loop-rows-preserved c =
     let tables = schema_of c.args.schema.now in
