@@ -1,4 +1,4 @@
-use Rattle.std.proofs.Common.{◌<◌, ◌≤◌, filter, get_or, length, subst, Some}
+use Rattle.std.proofs.Common.{◌<◌, ◌≤◌, filter, get_or, length, subst}
 use Rattle.wd_plan.specs.Plans.{plan_of}
 use Rattle.wd_schema.specs.Schemas.{schema_of}
 use Rattle.wd_varied.specs.Sizes.{sizes}

@@ -1,4 +1,4 @@
-use Rattle.std.proofs.Common.{◌<◌, ◌≤◌, filter, get_or, length, subst, sym, Some}
+use Rattle.std.proofs.Common.{◌<◌, ◌≤◌, filter, get_or, length, subst, sym}
 use Rattle.std.proofs.lemmas.List.FromFn.{length-range_with_len}
 use Rattle.wd_plan.specs.Plans.{plan_of}
 use Rattle.wd_schema.specs.Schemas.{schema_of}

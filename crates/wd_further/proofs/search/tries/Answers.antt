@@ -1,4 +1,4 @@
-use Rattle.std.proofs.Common.{◌≡◌, ◌≤◌, ◌+◌, ◌*◌, ◌/◌, ◌∙◌, ap, arith, length, min, subst, sym}
+use Rattle.std.proofs.Common.{◌≤◌, ◌+◌, ◌*◌, ◌/◌, ◌∙◌, arith, length, min, subst, sym}
 use Rattle.wd_plan.specs.Plans.{ordering_count, plan_of}
 use Rattle.wd_varied.specs.Sizes.{paired, sizes}
 use Rattle.wd_further.proofs.Tries.{capped, some_pairs}
