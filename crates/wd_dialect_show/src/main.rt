@@ -2,7 +2,7 @@
 #![tactic(auto)]
 
 use std::io;
-use wd_front::{Front, Refused, front, notes};
+use wd_front::{Front, Refused, front_of, note_lines};
 use wd_source::position_at;
 
 fn main(rt: HostRuntime) -> io::Result<()> {
@@ -18,11 +18,11 @@ fn main(rt: HostRuntime) -> io::Result<()> {
 
 /// Prints what one text is read as.
 fn show(rt: &HostRuntime, text: &str) -> io::Result<()> {
-    match front(rt.alloc(), text.as_bytes()) {
+    match front_of(rt.alloc(), text.as_bytes()) {
         Ok(Front::Own) => rt.println("as it is"),
         Ok(Front::Respelled(schema)) => {
             rt.println(schema.text.as_str())?;
-            match notes(rt.alloc(), &schema.statements) {
+            match note_lines(rt.alloc(), &schema.statements) {
                 Ok(lines) => {
                     for line in &lines {
                         rt.println(line.as_str())?;

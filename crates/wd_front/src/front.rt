@@ -42,7 +42,7 @@ pub enum Refused {
 /// NULL on a column that takes none is refused by the profile, however the text is read. Else, where neither the profile nor
 /// PostgreSQL's way of writing reads it, the refusal is told that stands further on in the text; the profile's where both stand at
 /// one place, and where the tables are refused by the same number.
-pub fn front(alloc: Global, text: &[u8]) -> Result<Front, OutOfMemory>
+pub fn front_of(alloc: Global, text: &[u8]) -> Result<Front, OutOfMemory>
     ensures { IfOk result (IsFront text.now) }
 {
     match read_schema(alloc, text) {
@@ -83,8 +83,18 @@ fn where_read(
     match read_schema(alloc, schema.text.as_bytes()) {
         Ok(_) => Ok(Front::Respelled(schema)),
         Err(SchemaError::OutOfMemory) => Err(OutOfMemory),
-        Err(other) => Ok(Front::Unread(told_of_tables(error, other))),
+        Err(other) => Ok(unread(text, schema, error, other)),
     }
+}
+
+/// What a text is read as that the profile refuses so, where it refuses the text of its tables so.
+fn unread(text: &[u8], schema: DialectSchema, error: SchemaError, other: SchemaError) -> Front
+    requires unread { HasCause text.now error }
+    requires spelled { IsSpelledBy text.now (map statement_said schema.statements.items) (string_bytes schema.text) }
+    requires lost { HasCause (string_bytes schema.text) other }
+    ensures { IsFront text.now result }
+{
+    Front::Unread(told_of_tables(error, other))
 }
 
 /// Which refusal is told where the profile refuses a text so, and the text of its tables so.

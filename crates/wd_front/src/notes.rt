@@ -41,7 +41,7 @@ impl Granted {
 }
 
 /// What is told of a schema with these statements, a line each: what is passed over, each kind once, and what is taken for granted.
-pub fn notes(alloc: Global, statements: &[Statement]) -> Result<Vec<String>, AllocError> {
+pub fn note_lines(alloc: Global, statements: &[Statement]) -> Result<Vec<String>, AllocError> {
     let mut lines = Vec::new(alloc);
     if let Some(line) = passed_line(alloc, statements)? {
         lines.push(line)?;

@@ -1,6 +1,7 @@
 //! The texts over which queries are judged.
 
 use crate::run::{Run, Step, WRONG, steps};
+use crate::schema::Reading;
 use crate::stop::Stop;
 use std::alloc::Global;
 use std::io::Write;
@@ -12,7 +13,7 @@ use wd_sources::Sources;
 use wd_value::OutOfMemory;
 use wd_words::{Colour, FilesRequest, Format};
 
-/// The status where a schema is refused.
+/// The status where a schema is not read.
 const NOT_READ: u8 = 2;
 
 /// Prints the text of each schema over which queries of these files are judged. What is told of them goes to standard error.
@@ -34,7 +35,7 @@ pub(crate) fn show_respelled<'w, S: Sources, C: Clock, O: Write, E: Write>(
     let mut screen = Screen::new(look, terminals, steps.len() as u64, clock, out, err);
     let mut shown = Shown {
         count: 0,
-        text: String::new(alloc),
+        text: Vec::new(alloc),
     };
     for step in &steps {
         screen.begin_file();
@@ -45,11 +46,11 @@ pub(crate) fn show_respelled<'w, S: Sources, C: Clock, O: Write, E: Write>(
         }
         screen.tell(alloc, &report)?;
     }
-    screen.finish(shown.text.as_bytes())?;
+    screen.finish(&shown.text)?;
     if run.is_wrong {
         return Ok(WRONG);
     }
-    Ok(if run.schemas.has_refused() {
+    Ok(if run.schemas.has_unread() {
         NOT_READ
     } else {
         0
@@ -61,7 +62,7 @@ pub(crate) fn show_respelled<'w, S: Sources, C: Clock, O: Write, E: Write>(
 struct Shown {
     /// How many of those that were read.
     count: usize,
-    text: String,
+    text: Vec<u8>,
 }
 
 impl Shown {
@@ -79,21 +80,31 @@ impl Shown {
             return Ok(());
         }
         self.count = number.saturating_add(1);
-        match run.schemas.file(number) {
-            Some(schema) if !schema.is_refused => self.add_text(schema.file()),
-            _ => Ok(()),
+        let Some(schema) = run.schemas.file(number) else {
+            return Ok(());
+        };
+        match schema.reading {
+            Reading::Read => self.add_text(run.alloc, schema.file()),
+            Reading::Unread => {
+                let path = schema.file().path;
+                report.add_remark(
+                    run.alloc,
+                    path,
+                    "not read: judge a query over it to see where",
+                )
+            }
+            Reading::Refused => Ok(()),
         }
     }
 
     /// Adds a schema, with its path above it.
-    fn add_text(&mut self, schema: File<'_>) -> Result<(), OutOfMemory> {
-        let Ok(text) = str::from_utf8(schema.text) else {
-            return Ok(());
-        };
-        self.text.push_str("-- ")?;
-        add_plain(&mut self.text, schema.path)?;
-        self.text.push('\n')?;
-        self.text.push_str(text.trim_end())?;
-        Ok(self.text.push('\n')?)
+    fn add_text(&mut self, alloc: Global, schema: File<'_>) -> Result<(), OutOfMemory> {
+        let mut path = String::new(alloc);
+        add_plain(&mut path, schema.path)?;
+        self.text.extend_from_slice(b"-- ")?;
+        self.text.extend_from_slice(path.as_bytes())?;
+        self.text.push(b'\n')?;
+        self.text.extend_from_slice(schema.text.trim_ascii_end())?;
+        Ok(self.text.push(b'\n')?)
     }
 }

@@ -5,6 +5,7 @@ use crate::mended::write_mended;
 use crate::outputs::{check_outputs, knowledge, write_baseline, write_page};
 use crate::respelled::show_respelled;
 use crate::run::{Run, Step, WRONG, steps};
+use crate::schema::Reading;
 use crate::stop::Stop;
 use clap::Error;
 use std::alloc::Global;
@@ -181,7 +182,7 @@ fn review_text<S: Sources, W: Watch>(
         },
     };
     let mut findings = Findings {
-        report: if schema.is_refused {
+        report: if schema.reading == Reading::Refused {
             &mut untold
         } else {
             report

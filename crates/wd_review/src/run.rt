@@ -1,6 +1,6 @@
 //! What a run works with: its files, and the schemas that were read.
 
-use crate::schema::SchemaFile;
+use crate::schema::{Reading, SchemaFile};
 use std::alloc::Global;
 use std::collections::HashMap;
 use wd_output::Report;
@@ -59,9 +59,9 @@ impl Schemas {
         self.kept.get(number)
     }
 
-    /// Whether one of them is refused as PostgreSQL's tools write it.
-    pub(crate) fn has_refused(&self) -> bool {
-        self.kept.iter().any(|kept| kept.is_refused)
+    /// Whether one of them is not read.
+    pub(crate) fn has_unread(&self) -> bool {
+        self.kept.iter().any(|kept| kept.reading != Reading::Read)
     }
 
     /// The number of the schema of a path; it is read where it was not yet.

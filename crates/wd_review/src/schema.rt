@@ -3,7 +3,7 @@
 use std::alloc::Global;
 use std::mem;
 use wd_formats::Level;
-use wd_front::{Front, Refused, front, notes};
+use wd_front::{Front, Refused, front_of, note_lines};
 use wd_judged::File;
 use wd_lex::Span;
 use wd_lines::refusal_words_at;
@@ -22,14 +22,23 @@ enum Untold {
     Tables(String),
 }
 
+/// Whether a schema is read. Where it is not, its text is that of the file.
+#[derive(Clone, Copy, PartialEq, Eq)]
+pub(crate) enum Reading {
+    Read,
+    /// The profile refuses it, which is told of each query.
+    Unread,
+    /// It is refused as PostgreSQL's tools write it, which is told once.
+    Refused,
+}
+
 /// A schema that was read.
 #[derive(Drop)]
 pub(crate) struct SchemaFile {
     path: String,
     /// The text over which queries are judged: that of the file, or the one that spells its tables.
     pub(crate) text: Vec<u8>,
-    /// Whether it is refused as PostgreSQL's tools write it. Then the text is that of the file, which the profile refuses too.
-    pub(crate) is_refused: bool,
+    pub(crate) reading: Reading,
     untold: Untold,
 }
 
@@ -37,23 +46,29 @@ impl SchemaFile {
     /// The schema of a text.
     pub(crate) fn new(alloc: Global, path: &str, text: Vec<u8>) -> Result<SchemaFile, OutOfMemory> {
         let path = String::from_str(alloc, path)?;
-        match front(alloc, &text)? {
-            Front::Own | Front::Unread(Refused::Profile) => Ok(SchemaFile {
+        match front_of(alloc, &text)? {
+            Front::Own => Ok(SchemaFile {
                 path,
                 text,
-                is_refused: false,
+                reading: Reading::Read,
+                untold: Untold::Nothing,
+            }),
+            Front::Unread(Refused::Profile) => Ok(SchemaFile {
+                path,
+                text,
+                reading: Reading::Unread,
                 untold: Untold::Nothing,
             }),
             Front::Respelled(schema) => Ok(SchemaFile {
                 path,
                 text: Vec::from_slice(alloc, schema.text.as_bytes())?,
-                is_refused: false,
-                untold: Untold::Notes(notes(alloc, &schema.statements)?),
+                reading: Reading::Read,
+                untold: Untold::Notes(note_lines(alloc, &schema.statements)?),
             }),
             Front::Unread(refused) => Ok(SchemaFile {
                 path,
                 text,
-                is_refused: true,
+                reading: Reading::Refused,
                 untold: untold_of(alloc, refused)?,
             }),
         }
