@@ -19,6 +19,9 @@ use wd_words::{Colour, FilesRequest, Format};
 /// The most bytes of a lock that are read.
 const MOST_OF_A_LOCK: u64 = 64 << 20;
 
+/// What is told of a file whose lock is not written.
+const NOT_LOCKED: &'static str = "not locked";
+
 /// A lock that stands beside a file, and its path.
 #[derive(Drop)]
 pub(crate) struct Beside {
@@ -136,12 +139,13 @@ fn lock_file<S: Sources, W: Watch>(
     watch: &mut W,
 ) -> Result<(), OutOfMemory> {
     if path == STANDARD_INPUT {
-        return tell_not_locked(run, path, "standard input has no place beside it", report);
+        let reason = "standard input has no place beside it";
+        return run.tell_not_done(NOT_LOCKED, path, reason, report);
     }
     let lock_path = lock_path(run.alloc, path)?;
     if let Some(what) = used.what(lock_path.as_str(), run.sources)? {
         let words = format!(in run.alloc; "its lock would be written over {what}")?;
-        return tell_not_locked(run, path, words.as_str(), report);
+        return run.tell_not_done(NOT_LOCKED, path, words.as_str(), report);
     }
     let Some(text) = run.read(path, report)? else {
         return Ok(());
@@ -189,16 +193,4 @@ fn write_lock<S: Sources>(
             report.add_line(alloc, "lock", Level::Error, path, words)
         }
     }
-}
-
-/// Tells why a file is not locked.
-fn tell_not_locked<S: Sources>(
-    run: &mut Run<'_, S>,
-    path: &str,
-    reason: &str,
-    report: &mut Report,
-) -> Result<(), OutOfMemory> {
-    run.is_wrong = true;
-    let line = format!(in run.alloc; "not locked: {reason}")?;
-    report.add_line(run.alloc, "not locked", Level::Error, path, line.as_str())
 }

@@ -9,6 +9,9 @@ use wd_output::Report;
 use wd_sources::{MOST_BYTES, STANDARD_INPUT, SourceError, Sources};
 use wd_value::OutOfMemory;
 
+/// What is told of a file that is not written with its keys.
+const NOT_FIXED: &'static str = "not fixed";
+
 /// Writes a file with its mended statements, where there are some, and tells so. What standard input becomes is added to a text.
 pub(crate) fn write_mended<S: Sources>(
     run: &mut Run<'_, S>,
@@ -25,7 +28,8 @@ pub(crate) fn write_mended<S: Sources>(
     } = reviewed;
     let alloc = run.alloc;
     if file.text.len() as u64 >= MOST_BYTES {
-        return tell_not_fixed(run, file.path, "it has more than 65,536 bytes", report);
+        let reason = "it has more than 65,536 bytes";
+        return run.tell_not_done(NOT_FIXED, file.path, reason, report);
     }
     if file.path == STANDARD_INPUT {
         match text {
@@ -34,7 +38,7 @@ pub(crate) fn write_mended<S: Sources>(
         }
     } else if let Some(text) = text {
         if let Some(remark) = replaced(alloc, file, &text, run.sources)? {
-            return tell_not_fixed(run, file.path, remark, report);
+            return run.tell_not_done(NOT_FIXED, file.path, remark, report);
         }
     }
     if mended == 0 {
@@ -71,16 +75,4 @@ pub(crate) fn unwritten(error: SourceError) -> Result<&'static str, OutOfMemory>
         SourceError::Taken => Ok("a file .NAME.wdreport-new stands beside it: take it away"),
         SourceError::OutOfMemory => Err(OutOfMemory),
     }
-}
-
-/// Tells why a file is not fixed.
-fn tell_not_fixed<S: Sources>(
-    run: &mut Run<'_, S>,
-    path: &str,
-    reason: &str,
-    report: &mut Report,
-) -> Result<(), OutOfMemory> {
-    run.is_wrong = true;
-    let line = format!(in run.alloc; "not fixed: {reason}")?;
-    report.add_line(run.alloc, "not fixed", Level::Error, path, line.as_str())
 }

@@ -3,6 +3,7 @@
 use crate::schema::{Reading, SchemaFile};
 use std::alloc::Global;
 use std::collections::HashMap;
+use wd_formats::Level;
 use wd_output::Report;
 use wd_sources::{MOST_BYTES, SourceError, Sources, files_at, schemas_for};
 use wd_value::OutOfMemory;
@@ -122,6 +123,19 @@ impl<'r, S: Sources> Run<'r, S> {
                 Ok(None)
             }
         }
+    }
+
+    /// Tells what is not done to a file, and why.
+    pub(crate) fn tell_not_done(
+        &mut self,
+        what: &'static str,
+        path: &str,
+        reason: &str,
+        report: &mut Report,
+    ) -> Result<(), OutOfMemory> {
+        self.is_wrong = true;
+        let line = format!(in self.alloc; "{what}: {reason}")?;
+        report.add_line(self.alloc, what, Level::Error, path, line.as_str())
     }
 
     /// Tells that a path can't be read.

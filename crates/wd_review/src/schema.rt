@@ -106,9 +106,7 @@ fn untold_of(alloc: Global, refused: Refused) -> Result<Untold, OutOfMemory> {
         Refused::At(span) => Ok(Untold::Refused(span)),
         Refused::Tables(number) => {
             let (sentence, _) = refusal_words_at(number, &[], None);
-            let words = format!(in alloc;
-                "not read: in the tables that it declares {sentence} [{number}]"
-            )?;
+            let words = format!(in alloc; "not read: {sentence} [{number}]")?;
             Ok(Untold::Tables(words))
         }
         Refused::TooLong => {
