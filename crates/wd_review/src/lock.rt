@@ -20,7 +20,7 @@ use wd_words::{Colour, FilesRequest, Format};
 const MOST_OF_A_LOCK: u64 = 64 << 20;
 
 /// What is told of a file whose lock is not written.
-const NOT_LOCKED: &'static str = "not locked";
+const NOT_LOCKED: &str = "not locked";
 
 /// A lock that stands beside a file, and its path.
 #[derive(Drop)]

@@ -10,7 +10,7 @@ use wd_sources::{MOST_BYTES, STANDARD_INPUT, SourceError, Sources};
 use wd_value::OutOfMemory;
 
 /// What is told of a file that is not written with its keys.
-const NOT_FIXED: &'static str = "not fixed";
+const NOT_FIXED: &str = "not fixed";
 
 /// Writes a file with its mended statements, where there are some, and tells so. What standard input becomes is added to a text.
 pub(crate) fn write_mended<S: Sources>(
