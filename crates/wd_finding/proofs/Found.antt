@@ -2,8 +2,7 @@
 use Rattle.std.proofs.Common.{◌≡◌, ℕ, List, map, subst, sym, Option}
 use Rattle.std.specs.Prelude.{IfSome}
 use Rattle.wd_schema.specs.Schemas.{schema_of}
-use Rattle.wd_schema.specs.Tables.{TableRule}
-use Rattle.wd_plan.specs.Outcomes.{RowsOrFault, outcome_of}
+use Rattle.wd_plan.specs.Outcomes.{RowsOrFault}
 use Rattle.wd_plan.specs.Plans.{PlanTree, plan_of}
 use Rattle.wd_value.specs.Rows.{Instance}
 use Rattle.wd_analyse.specs.Analysis.{IsAnswer}
