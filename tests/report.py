@@ -803,14 +803,14 @@ def the_written():
 def the_written_judged():
     """Queries over a schema as PostgreSQL's tools write it."""
     shop = held(f"{TOP}/tests/report/written/shop.sql")
-    tied = "SELECT order_id, ROW_NUMBER() OVER (PARTITION BY customer_id ORDER BY order_date DESC) AS n FROM orders"
+    tied = "SELECT order_id, status, ROW_NUMBER() OVER (PARTITION BY customer_id ORDER BY order_date DESC) AS n FROM orders"
     mended = tied.replace("DESC)", "DESC, order_id)")
     passed = NOTES["passed"].format("DEFAULT, CHECK, REFERENCES, GENERATED, other statements")
     with tempfile.TemporaryDirectory() as folder:
         put(folder, {"schema.sql": shop, "a.sql": tied, "b.sql": mended, "c.sql": "SELECT email FROM customers ORDER BY email LIMIT 1"})
         every = ["a.sql", "b.sql", "c.sql"]
         out, err, status = run(*every, cwd=folder)
-        check("written: judged", (status, err) == (1, "") and "a.sql:1:18: depends" in out and "help: ORDER BY order_date DESC, order_id " in out and "3 queries: 2 deterministic, 1 depend" in out, (status, out, err))
+        check("written: judged", (status, err) == (1, "") and "a.sql:1:26: depends" in out and "help: ORDER BY order_date DESC, order_id " in out and "3 queries: 2 deterministic, 1 depend" in out, (status, out, err))
         check("written: notes once", out.count(": note: ") == 2 and out.startswith(f"{passed}\n\n{NOTES['units']}\n\n"), out)
         out, err, status = run("--format", "json", *every, cwd=folder)
         lines = [json.loads(line) for line in out.splitlines()]
