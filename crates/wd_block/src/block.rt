@@ -1,6 +1,8 @@
 //! Blocks of what is open in a query.
 
-ghost use Rattle.std.specs.Prelude.{◌≡◌, ◌<◌, ◌≤◌, length, take, string_bytes, OnErr, OnOk};
+ghost use Rattle.std.specs.Prelude.{◌≡◌, ◌<◌, ◌≤◌, ◌+◌, ◌-◌, ◌^◌, ◌++◌, ℕ, List, length, min, slice_get, take, string_bytes, IfOk, IfSome, OnErr, OnOk};
+ghost use Rattle.wd_block.specs.Heads.{BeginsBlock, HasSite, IsHead};
+ghost use Rattle.wd_block.specs.Kinds as kinds;
 
 use crate::alike::add_alike;
 use crate::words::{kind_of, lack_words, place_words};
@@ -39,6 +41,9 @@ pub fn add_open(
 ) -> Result<(), OutOfMemory>
     ensures appended { OnOk result (take (length (string_bytes out.old)) (string_bytes out.new) ≡ string_bytes out.old) }
     ensures none { length finding.now.places.items ≤ number → string_bytes out.new ≡ string_bytes out.old }
+
+    // It begins with the place, and with what the verdict on the query says of it.
+    ensures head { OnOk result (IfSome (slice_get finding.now.places.items number) (λ place. (block : List ℕ) × BeginsBlock statement.entry.path.now statement.entry.text.now statement.entry.start (kinds.kind_of finding.now.verdict finding.now.certain finding.now.further) place block × (string_bytes out.new ≡ string_bytes out.old ++ block))) }
     ensures kept { OnErr result (string_bytes out.new ≡ string_bytes out.old) }
 {
     if number < finding.places.len() {
@@ -59,57 +64,92 @@ fn open_block(
     alike: Option<&Help>,
 ) -> Result<String, OutOfMemory>
     requires { number < length finding.now.places.items }
+    ensures { IfOk result (λ block. IfSome (slice_get finding.now.places.items number) (λ place. BeginsBlock statement.entry.path.now statement.entry.text.now statement.entry.start (kinds.kind_of finding.now.verdict finding.now.certain finding.now.further) place (string_bytes block))) }
 {
     let place = finding.places[number];
-    let mut block = String::new(alloc);
-    add_head(&mut block, statement, kind_of(finding), place)?;
-    if number == 0 {
-        add_evidence(alloc, &mut block, finding)?;
-    }
-    if let Some(help) = help {
-        add_help(&mut block, statement, place, help)?;
-        if number == 0 {
-            add_other_helps(&mut block, statement, &finding.places, help)?;
-        }
-    }
-    if let Some(alike) = alike {
-        add_alike(alloc, &mut block, statement, place, alike)?;
-    }
-    block.push('\n')?;
+    let mut block = head_line(alloc, statement, kind_of(finding), place)?;
+    let details = details(alloc, statement, finding, number, help, alike)?;
+    block.push_str(details.as_str())?;
     Ok(block)
 }
 
-/// Adds where a place stands and what is said of it.
-fn add_head(
-    out: &mut String,
+/// The line that says where a place stands, and what is open there in a query of this kind.
+fn head_line(
+    alloc: Global,
     statement: Statement<'_>,
     kind: Kind,
     place: OpenPlace,
-) -> Result<(), OutOfMemory> {
-    let words = place_words(kind, place.reason);
-    match place.site {
+) -> Result<String, OutOfMemory>
+    ensures { IfOk result (λ line. IsHead statement.entry.path.now statement.entry.text.now statement.entry.start kind place (string_bytes line)) }
+{
+    let mut line = site_words(alloc, statement, place.site)?;
+    line.push_str(place_words(kind, place.reason))?;
+    line.push('\n')?;
+    Ok(line)
+}
+
+/// Where a place stands.
+fn site_words(
+    alloc: Global,
+    statement: Statement<'_>,
+    site: Option<Site>,
+) -> Result<String, OutOfMemory>
+    ensures { IfOk result (λ words. HasSite statement.entry.path.now statement.entry.text.now statement.entry.start site (string_bytes words)) }
+{
+    let mut words = String::new(alloc);
+    match site {
         Some(site) => {
             let span = moved(site.span, statement.start);
-            add_place(out, statement.path, statement.text, span)?;
-            out.push_str(words)?;
-            out.push('\n')?;
-            add_excerpt(out, statement.text, span)?;
+            add_place(&mut words, statement.path, statement.text, span)?;
         }
         None => {
-            add_plain(out, statement.path)?;
-            out.push_str(": ")?;
-            out.push_str(words)?;
-            out.push('\n')?;
+            add_plain(&mut words, statement.path)?;
+            words.push_str(": ")?;
         }
     }
-    if let Kind::MayTie = kind {
-        add_remark_line(out, lack_words(place.reason.lack))?;
+    Ok(words)
+}
+
+/// What stands below the first line of a block: the line of the query, what is lacking, the rows of the witness and the helps.
+fn details(
+    alloc: Global,
+    statement: Statement<'_>,
+    finding: &Finding,
+    number: usize,
+    help: Option<&Help>,
+    alike: Option<&Help>,
+) -> Result<String, OutOfMemory>
+    requires { number < length finding.now.places.items }
+{
+    let place = finding.places[number];
+    let mut lines = String::new(alloc);
+    if let Some(site) = place.site {
+        let span = moved(site.span, statement.start);
+        add_excerpt(&mut lines, statement.text, span)?;
     }
-    Ok(())
+    if let Kind::MayTie = kind_of(finding) {
+        add_remark_line(&mut lines, lack_words(place.reason.lack))?;
+    }
+    if number == 0 {
+        add_evidence(alloc, &mut lines, finding)?;
+    }
+    if let Some(help) = help {
+        add_help(&mut lines, statement, place, help)?;
+        if number == 0 {
+            add_other_helps(&mut lines, statement, &finding.places, help)?;
+        }
+    }
+    if let Some(alike) = alike {
+        add_alike(alloc, &mut lines, statement, place, alike)?;
+    }
+    lines.push('\n')?;
+    Ok(lines)
 }
 
 /// Bytes of a statement as bytes of its file.
-fn moved(span: Span, start: u64) -> Span {
+fn moved(span: Span, start: u64) -> Span
+    ensures { result.start ≡ min (span.start + start) (2 ^ 64 - 1) }
+{
     Span {
         start: span.start.saturating_add(start),
         end: span.end.saturating_add(start),

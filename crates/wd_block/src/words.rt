@@ -1,6 +1,7 @@
 //! What is said of a place that is open.
 
 ghost use Rattle.std.specs.Prelude.{◌≡◌};
+ghost use Rattle.wd_block.specs.Heads as heads;
 ghost use Rattle.wd_block.specs.Kinds as spec;
 
 use wd_analyse::{Lack, Reason};
@@ -22,16 +23,32 @@ pub fn kind_of(finding: &Finding) -> Kind
 }
 
 /// What is said of a place that is open in a query of this kind.
-pub fn place_words(kind: Kind, reason: Reason) -> &'static str {
-    match (kind, reason.call) {
-        (Kind::Depends, Some(_)) => {
-            "depends: rows that tie may stand in any order here, and the answer goes by it"
-        }
-        (Kind::Depends, None) => {
-            "depends: rows that tie are cut in any order here, and the answer goes by it"
-        }
-        (_, Some(_)) => "may tie: rows that tie may stand in any order here; no example found",
-        (_, None) => "may tie: rows that tie are cut in any order here; no example found",
+pub fn place_words(kind: Kind, reason: Reason) -> &'static str
+    ensures { result.now ≡ heads.place_words kind reason.call }
+{
+    match kind {
+        Kind::Depends => depends_words(reason.call),
+        Kind::Deterministic | Kind::MayTie | Kind::NotRead => may_tie_words(reason.call),
+    }
+}
+
+/// What is said of a call, or of a limit (no call), by which the answer goes.
+fn depends_words(call: Option<u32>) -> &'static str
+    ensures { result.now ≡ heads.depends_words call }
+{
+    match call {
+        Some(_) => "depends: rows that tie may stand in any order here, and the answer goes by it",
+        None => "depends: rows that tie are cut in any order here, and the answer goes by it",
+    }
+}
+
+/// What is said of a call, or of a limit (no call), of which no two answers are known.
+fn may_tie_words(call: Option<u32>) -> &'static str
+    ensures { result.now ≡ heads.may_tie_words call }
+{
+    match call {
+        Some(_) => "may tie: rows that tie may stand in any order here; no example found",
+        None => "may tie: rows that tie are cut in any order here; no example found",
     }
 }
 
