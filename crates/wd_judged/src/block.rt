@@ -1,6 +1,9 @@
 //! What a person reads of a place.
 
-ghost use Rattle.std.specs.Prelude.{◌≡◌, length, min, IfOk};
+ghost use Rattle.std.specs.Prelude.{◌≡◌, length, min, slice_get, string_bytes, IfOk, IfSome};
+ghost use Rattle.wd_block.specs.Heads.{BeginsBlock};
+ghost use Rattle.wd_block.specs.Kinds.{kind_of};
+ghost use Rattle.wd_judged.specs.Heads.{HaveHeads};
 ghost use Rattle.wd_source.specs.Places.{IsPosition};
 
 use crate::judged::File;
@@ -37,7 +40,8 @@ pub(crate) fn open_blocks(
     help: Option<&Help>,
     alike: Option<&Help>,
 ) -> Result<Vec<Block>, OutOfMemory>
-    ensures { IfOk result (λ blocks. length blocks.items ≡ length finding.now.places.items) }
+    ensures told { IfOk result (λ blocks. length blocks.items ≡ length finding.now.places.items) }
+    ensures heads { IfOk result (λ blocks. HaveHeads statement.entry.path.now statement.entry.text.now statement.entry.start (kind_of finding.now.verdict finding.now.certain finding.now.further) finding.now.places.items blocks.items) }
 {
     let mut blocks = Vec::new(alloc);
     for number in 0..finding.places.len() {
@@ -54,7 +58,9 @@ fn open_block(
     number: usize,
     help: Option<&Help>,
     alike: Option<&Help>,
-) -> Result<Block, OutOfMemory> {
+) -> Result<Block, OutOfMemory>
+    ensures { IfOk result (λ block. IfSome (slice_get finding.now.places.items number) (λ place. BeginsBlock statement.entry.path.now statement.entry.text.now statement.entry.start (kind_of finding.now.verdict finding.now.certain finding.now.further) place (string_bytes block.text))) }
+{
     let mut text = String::new(alloc);
     add_open(alloc, &mut text, statement, finding, number, help, alike)?;
     let span = match finding.places.get(number) {
@@ -113,7 +119,8 @@ fn block_at(
     first: u64,
     text: String,
 ) -> Result<Block, OutOfMemory>
-    ensures { IfOk result (λ block. IsPosition source.now (min first (length source.now)) block.position) }
+    ensures position { IfOk result (λ block. IsPosition source.now (min first (length source.now)) block.position) }
+    ensures text { IfOk result (λ block. string_bytes block.text ≡ string_bytes text) }
 {
     let words = words_at(alloc, source, span)?;
     Ok(Block {

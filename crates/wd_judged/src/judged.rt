@@ -4,6 +4,7 @@ ghost use Rattle.std.specs.Prelude.{◌≡◌, ◌≤◌, length, option_map, If
 ghost use Rattle.wd_decide.specs.Verdicts.{HasCause};
 ghost use Rattle.wd_finding.specs.Findings.{IsFinding};
 ghost use Rattle.wd_help.specs.Helps.{IsHelp};
+ghost use Rattle.wd_judged.specs.Heads.{BeginBlocks};
 ghost use Rattle.wd_judged.specs.Judgements.{IsJudged, IsJudgedAs, fix_of};
 
 use crate::block::{Block, open_blocks, refusal_block};
@@ -75,7 +76,8 @@ pub fn judge_statement(
 ) -> Result<Judged, OutOfMemory>
     requires ordered { span.start ≤ span.end }
     requires within { span.end ≤ length file.text.now }
-    ensures { IfOk result (IsJudged schema.entry.text.now file.entry.text.now span) }
+    ensures judged { IfOk result (IsJudged schema.entry.text.now file.entry.text.now span) }
+    ensures heads { IfOk result (BeginBlocks file.entry.path.now file.entry.text.now) }
 {
     let query = &file.text[span.start as usize..span.end as usize];
     match judge(alloc, schema.text, query) {
@@ -86,7 +88,11 @@ pub fn judge_statement(
 }
 
 /// The statement of a file that stands there.
-fn statement_at<'a>(file: File<'a>, span: Span) -> Statement<'a> {
+fn statement_at<'a>(file: File<'a>, span: Span) -> Statement<'a>
+    ensures path { result.path.now ≡ file.entry.path.now }
+    ensures text { result.text.now ≡ file.entry.text.now }
+    ensures start { result.start ≡ span.start }
+{
     Statement {
         path: file.path,
         text: file.text,
@@ -105,7 +111,8 @@ fn of_finding(
     finding: Finding,
 ) -> Result<Judged, OutOfMemory>
     requires { IsFinding schema.now query.now finding }
-    ensures { IfOk result (IsJudgedAs schema.now query.now span) }
+    ensures judged { IfOk result (IsJudgedAs schema.now query.now span) }
+    ensures heads { IfOk result (BeginBlocks file.entry.path.now file.entry.text.now) }
 {
     let help = help_where_open(alloc, schema, query, &finding)?;
     let alike = alike_where_open(alloc, schema, query, kind_of(&finding))?;
@@ -175,7 +182,8 @@ fn of_refusal(
     error: DecideError,
 ) -> Result<Judged, OutOfMemory>
     requires { HasCause schema.text.now query.now error }
-    ensures { IfOk result (IsJudgedAs schema.entry.text.now query.now span) }
+    ensures judged { IfOk result (IsJudgedAs schema.entry.text.now query.now span) }
+    ensures heads { IfOk result (BeginBlocks file.entry.path.now file.entry.text.now) }
 {
     let mut blocks = Vec::new(alloc);
     let block = refusal_block(alloc, schema, query, statement_at(file, span), &error)?;
