@@ -95,6 +95,8 @@ def the_folders():
 
 
 SCHEMA = "CREATE TABLE t (id BIGINT PRIMARY KEY, g TEXT NOT NULL, v BIGINT);\n"
+# A table whose columns hold fewer numbers.
+SMALL = "CREATE TABLE u (k BIGINT PRIMARY KEY, s SMALLINT NOT NULL, i INTEGER);\n"
 ONE = "SELECT id FROM t"
 TIED = "SELECT g, ROW_NUMBER() OVER (ORDER BY v) AS n FROM t"
 MENDED = "SELECT g, ROW_NUMBER() OVER (ORDER BY v, id) AS n FROM t"
@@ -524,7 +526,7 @@ def the_simpler():
     """Queries that have one answer because what ties decide is not shown."""
     for text, wanted in lines_of("simpler.txt"):
         with tempfile.TemporaryDirectory() as folder:
-            put(folder, {"schema.sql": SCHEMA, "q.sql": text})
+            put(folder, {"schema.sql": SCHEMA + SMALL, "q.sql": text})
             out, _, status = run("q.sql", cwd=folder)
             check(f"{wanted}: {text}", status == (0 if wanted == "deterministic" else 1), (status, out))
 

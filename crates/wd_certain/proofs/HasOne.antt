@@ -27,9 +27,9 @@ simpler_has_one agreeing commutes is_alike tables plan fit one instance other c1
     let own = renamed.0 in
     let valid = commutes.valid plan instance other c2 own same v2 renamed.1 in
     let as_they_are : SameTables instance instance = λ table. agreeing.itself (Ok (table_at instance table)) in
-    let agree : Agree (outcome (simpler plan) instance c1) (outcome (simpler plan) instance own) = one instance instance c1 own meets as_they_are ((alike.valid c1).0 v1) ((alike.valid own).0 valid) in
+    let agree : Agree (outcome (simpler tables plan) instance c1) (outcome (simpler tables plan) instance own) = one instance instance c1 own meets as_they_are ((alike.valid c1).0 v1) ((alike.valid own).0 valid) in
     let first : Agree (outcome plan instance c1) (outcome plan instance own) =
-    subst (λ o. Agree o (outcome plan instance own)) (sym (alike.same c1 v1)) (subst (Agree (outcome (simpler plan) instance c1)) (sym (alike.same own valid)) agree) in
+    subst (λ o. Agree o (outcome plan instance own)) (sym (alike.same c1 v1)) (subst (Agree (outcome (simpler tables plan) instance c1)) (sym (alike.same own valid)) agree) in
     agreeing.on (outcome plan instance c1) (outcome plan instance own) (outcome plan other c2) first (commutes.same plan instance other c2 own same v2 renamed.1)
 
 pub certain_has_one : HasOneMeaning → HasOnePlan → PlansFit → ValidHasOne → SimplerHasOne → CertainHasOne

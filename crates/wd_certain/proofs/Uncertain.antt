@@ -19,7 +19,7 @@ use Rattle.wd_certain.specs.Laws.{CertainHasOne}
 use Rattle.wd_certain.specs.declared.certain.Certain.{Certain}
 
 -- the analysis of the simpler plan leaves something open
-pub open_still : (tables : List TableRule) (plan own : PlanTree) (reasons : Vec Reason Global) (marks : Vec Mark Global) → own ≡ simpler plan → IsAnswer tables own (Open reasons marks) → IsOpenStill tables plan
+pub open_still : (tables : List TableRule) (plan own : PlanTree) (reasons : Vec Reason Global) (marks : Vec Mark Global) → own ≡ simpler tables plan → IsAnswer tables own (Open reasons marks) → IsOpenStill tables plan
 open_still tables plan own reasons marks same is = inr (Open reasons marks, subst (λ p. IsAnswer tables p (Open reasons marks)) same is, is.sound)
 
 pub certain : {E : Type 0} (schema query : List ℕ) (planned : PlannedQuery) → IsRead schema query planned → (r : Result (Option Certain) E)

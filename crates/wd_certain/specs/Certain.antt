@@ -16,7 +16,7 @@ use Rattle.wd_certain.specs.declared.certain.Certain.{Certain}
 
 -- the simpler plan of a plan, with a certificate that is valid for it
 pub record IsCertainOf (certain : Certain) (tables : List TableRule) (plan : PlanTree) : Type 0 where
-  pub simpler : plan_of certain.plan ≡ simpler plan
+  pub simpler : plan_of certain.plan ≡ simpler tables plan
   pub fits : fits tables (plan_of certain.plan) ≡ true
   pub valid : IsValidCertificate tables (plan_of certain.plan) (certificate_of certain.certificate)
 
@@ -26,7 +26,7 @@ IsCertain schema query certain = ForReading schema query (IsCertainOf certain)
 
 -- the analysis of the simpler plan leaves something open, or that plan does not fit the schema
 abbrev pub IsOpenStill : List TableRule → PlanTree → Type 0
-IsOpenStill tables plan = (fits tables (simpler plan) ≡ false) ⊎ ((analysis : Analysis) × IsAnswer tables (simpler plan) analysis × IsOpen analysis)
+IsOpenStill tables plan = (fits tables (simpler tables plan) ≡ false) ⊎ ((analysis : Analysis) × IsAnswer tables (simpler tables plan) analysis × IsOpen analysis)
   where
     IsOpen : Analysis → Type 0
     IsOpen (Open reasons marks) = reasons.items ≢ []

@@ -11,7 +11,7 @@ use Rattle.wd_certain.specs.declared.certain.Certain.{Certain}
 
 -- a plan whose simpler plan has one answer has one answer
 abbrev pub SimplerHasOne : Type 0
-SimplerHasOne = (tables : List TableRule) (plan : PlanTree) → fits tables plan ≡ true → HasOneAnswer tables (simpler plan) → HasOneAnswer tables plan
+SimplerHasOne = (tables : List TableRule) (plan : PlanTree) → fits tables plan ≡ true → HasOneAnswer tables (simpler tables plan) → HasOneAnswer tables plan
 
 -- texts of which the simpler plan has a valid certificate have one answer
 abbrev pub CertainHasOne : Type 0

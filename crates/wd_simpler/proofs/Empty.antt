@@ -14,10 +14,11 @@ use Rattle.wd_plan.specs.Fits.{fits}
 use Rattle.wd_plan.specs.Outcomes.{RowsOrFault, cut, distinct, filter_outcome, first_rows, join_outcome, map_outcome, ordering_at, outcome, pairs, window_outcome}
 use Rattle.wd_plan.specs.Plans.{ClassRule, LimitRule, PlanTree, Scan, Join, Filter, Map, Group, Window, Distinct, Limit, ordering_count}
 use Rattle.wd_plan.specs.Sorting.{IsOrdering, limit_class}
-use Rattle.wd_simpler.proofs.Least.{all_from}
+use Rattle.wd_simpler.proofs.Known.{all_among}
 use Rattle.wd_simpler.proofs.Rows.{AllRows, at_any}
-use Rattle.wd_simpler.proofs.Conditions.{IsFrom, all_unmet, keeps_none}
-use Rattle.wd_simpler.specs.Simpler.{is_empty, is_unmet, least_of, takes_none}
+use Rattle.wd_simpler.proofs.Conditions.{IsAmong, all_unmet, keeps_none}
+use Rattle.wd_simpler.specs.Simpler.{is_empty, is_unmet, takes_none}
+use Rattle.wd_simpler.specs.Numbers.{numbers_of}
 
 abbrev pub AreNone : List Row → Type 0
 AreNone rows = AllByRecursion (λ (row : Row). ⊥) rows
@@ -101,23 +102,23 @@ ordering_of_none class rows ordering a lawful = positions_none ordering (subst (
 -- ---- plans
 
 module _ (tables : List TableRule) (instance : Instance) (meets : Meets tables instance) where
-  pub no_rows : (plan : PlanTree) (choice : List (List ℕ)) → fits tables plan ≡ true → AreLawful plan instance choice → is_empty plan ≡ true → HasNone (outcome plan instance choice)
+  pub no_rows : (plan : PlanTree) (choice : List (List ℕ)) → fits tables plan ≡ true → AreLawful plan instance choice → is_empty tables plan ≡ true → HasNone (outcome plan instance choice)
   no_rows (Scan table columns) choice fit a h = absurd (false≢true h)
   no_rows (Join condition left right) choice fit a h =
       let sides = and_parts (fits tables left) (fits tables right) (and_parts _ _ fit).0 in
       let rest = drop (ordering_count left) choice in
       join_none condition (outcome left instance choice) (outcome right instance rest)
-      (either (is_empty right) (is_empty left) (HasNone (outcome right instance rest)) (HasNone (outcome left instance choice)) (no_rows right rest sides.1 a.1) (no_rows left choice sides.0 a.0) h)
+      (either (is_empty tables right) (is_empty tables left) (HasNone (outcome right instance rest)) (HasNone (outcome left instance choice)) (no_rows right rest sides.1 a.1) (no_rows left choice sides.0 a.0) h)
     where
       either : (x y : Bool) (A B : Type 0) → (x ≡ true → A) → (y ≡ true → B) → (x || y) ≡ true → A ⊎ B
       either true y A B f g h = inl (f refl)
       either false y A B f g h = inr (g h)
   no_rows (Filter condition input) choice fit a h =
       let own = (and_parts _ _ fit).0 in
-      by (is_unmet (least_of input) condition) refl (no_rows input choice own a) h
+      by (is_unmet (numbers_of tables input) condition) refl (no_rows input choice own a) h
     where
-      by : (b : Bool) → is_unmet (least_of input) condition ≡ b → (is_empty input ≡ true → HasNone (outcome input instance choice)) → (b || is_empty input) ≡ true → HasNone (and_then (outcome input instance choice) (filter_outcome condition))
-      by true e below h = step_drops (IsFrom (least_of input)) (filter_outcome condition) (λ rows from. keeps_none condition rows (all_unmet (least_of input) condition e rows from)) (outcome input instance choice) (all_from tables instance meets input choice (and_parts _ _ fit).0 a)
+      by : (b : Bool) → is_unmet (numbers_of tables input) condition ≡ b → (is_empty tables input ≡ true → HasNone (outcome input instance choice)) → (b || is_empty tables input) ≡ true → HasNone (and_then (outcome input instance choice) (filter_outcome condition))
+      by true e below h = step_drops (IsAmong (numbers_of tables input)) (filter_outcome condition) (λ rows from. keeps_none condition rows (all_unmet (numbers_of tables input) condition e rows from)) (outcome input instance choice) (all_among tables instance meets input choice (and_parts _ _ fit).0 a)
       by false e below h = step_none (filter_outcome condition) tt (outcome input instance choice) (below h)
   no_rows (Map outputs input) choice fit a h = step_none (map_outcome outputs) tt (outcome input instance choice) (no_rows input choice (and_parts _ _ fit).0 a h)
   no_rows (Group rule input) choice fit a h = absurd (false≢true h)
@@ -126,6 +127,6 @@ module _ (tables : List TableRule) (instance : Instance) (meets : Meets tables i
   no_rows (Limit limit input) choice fit a h =
       by (takes_none limit.count) refl (no_rows input choice (and_parts _ _ fit).0 a.0) h
     where
-      by : (b : Bool) → takes_none limit.count ≡ b → (is_empty input ≡ true → HasNone (outcome input instance choice)) → (b || is_empty input) ≡ true → HasNone (and_then (outcome input instance choice) (λ rows. Ok (cut limit (rows_at rows (ordering_at choice (ordering_count input))))))
+      by : (b : Bool) → takes_none limit.count ≡ b → (is_empty tables input ≡ true → HasNone (outcome input instance choice)) → (b || is_empty tables input) ≡ true → HasNone (and_then (outcome input instance choice) (λ rows. Ok (cut limit (rows_at rows (ordering_at choice (ordering_count input))))))
       by true e below h = step_drops (λ row. Unit {0}) (λ rows. Ok (cut limit (rows_at rows (ordering_at choice (ordering_count input))))) (λ rows u. ap (λ x. Ok x) (cut_none limit (rows_at rows (ordering_at choice (ordering_count input))) e)) (outcome input instance choice) (at_any (λ row. Unit {0}) (λ row. tt) (outcome input instance choice))
       by false e below h = limited_none limit (ordering_at choice (ordering_count input)) (outcome input instance choice) (below h) a.1

@@ -1,5 +1,5 @@
 -- Steps that keep no row, and steps over no rows.
-use Rattle.std.proofs.Common.{◌≡◌, ℕ, Bool, true, false, List, [], ◌∷◌, map, refl, sym, ◌∙◌, ap, ℤ, Option, Ok, Err}
+use Rattle.std.proofs.Common.{◌≡◌, ℕ, Bool, true, false, List, [], ◌∷◌, map, refl, sym, ◌∙◌, ap, Option, Ok, Err}
 use Rattle.std.specs.List.{AllByRecursion}
 use Rattle.wd_value.specs.declared.value.Value.TheVariants.{Bool as TruthValue}
 use Rattle.wd_value.specs.Rows.{Row, rows_at}
@@ -17,9 +17,10 @@ use Rattle.wd_simpler.proofs.Empty.{AreNone, HasNone, cut_none, cut_of_none, non
 use Rattle.wd_simpler.proofs.Masks.{mask}
 use Rattle.wd_simpler.proofs.Results.{over}
 use Rattle.wd_simpler.proofs.Steps.{filter_alike, limit_alike, plain_cut}
-use Rattle.wd_simpler.proofs.Conditions.{IsFrom, IsUnmetAt, all_unmet, keeps_none}
+use Rattle.wd_simpler.proofs.Conditions.{IsAmong, IsUnmetAt, all_unmet, keeps_none}
 use Rattle.wd_simpler.proofs.Windows.{window_alike}
 use Rattle.wd_simpler.specs.Simpler.{Read, after, and_also, is_unmet, kept_reads, plain_limit, read_condition, read_limit, read_window, takes_none, whole_limit, window_reads}
+use Rattle.wd_simpler.specs.declared.numbers.Numbers.{Numbers}
 
 -- two steps that both give no row
 both_none : (read : Read) (a b : RowsOrFault) → a ≡ Ok [] → b ≡ Ok [] → AreAlikeOn read a b
@@ -39,11 +40,11 @@ never_true : (rows : List Row) → AllByRecursion (IsUnmetAt (Literal (TruthValu
 never_true [] = tt
 never_true (row ∷ rows) = (record { value = TruthValue false; is = refl; untrue = refl }, never_true rows)
 
-pub condition_alike : (read : Read) (least : ℕ → Option ℤ) (condition : Expression) (unmet : Bool) → is_unmet least condition ≡ unmet → (rows others : List Row) → AllByRecursion (IsFrom least) rows
+pub condition_alike : (read : Read) (numbers : ℕ → Option Numbers) (condition : Expression) (unmet : Bool) → is_unmet numbers condition ≡ unmet → (rows others : List Row) → AllByRecursion (IsAmong numbers) rows
     → AreSameOn (and_also (kept_reads unmet read) (used (read_condition unmet condition))) rows others → AreAlikeOn read (filter_outcome condition rows) (filter_outcome (read_condition unmet condition) others)
-condition_alike read least condition true h rows others from e =
-    both_none read (filter_outcome condition rows) (filter_outcome (Literal (TruthValue false) Truth) others) (keeps_none condition rows (all_unmet least condition h rows from)) (keeps_none (Literal (TruthValue false) Truth) others (never_true others))
-condition_alike read least condition false h rows others from e = filter_alike read condition rows others e
+condition_alike read numbers condition true h rows others from e =
+    both_none read (filter_outcome condition rows) (filter_outcome (Literal (TruthValue false) Truth) others) (keeps_none condition rows (all_unmet numbers condition h rows from)) (keeps_none (Literal (TruthValue false) Truth) others (never_true others))
+condition_alike read numbers condition false h rows others from e = filter_alike read condition rows others e
 
 -- ---- Windows
 

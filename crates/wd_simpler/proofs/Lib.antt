@@ -1,5 +1,6 @@
 pub mod Rows
 pub mod Masks
+pub mod Known
 pub mod Results
 pub mod Values
 pub mod Alike
@@ -7,7 +8,6 @@ pub mod Steps
 pub mod Windows
 pub mod Groups
 pub mod Conditions
-pub mod Least
 pub mod GivenBack
 pub mod SortKeys
 pub mod OwnPlaces

@@ -22,28 +22,29 @@ use Rattle.wd_simpler.proofs.Groups.{group_alike}
 use Rattle.wd_simpler.proofs.SortKeys.{classes_stay, cut_keyed, ordering_keyed, ordering_unkeyed, orderings_keyed, orderings_unkeyed, window_keyed}
 use Rattle.wd_simpler.specs.Keyed.{keyed_limit, keyed_window}
 use Rattle.wd_simpler.proofs.Kept.{AreNoneIn, condition_alike, limit_kept, none_in, window_kept}
-use Rattle.wd_simpler.proofs.Least.{all_from}
+use Rattle.wd_simpler.proofs.Known.{all_among}
 use Rattle.wd_simpler.proofs.Masks.{mask}
 use Rattle.wd_simpler.proofs.Results.{over}
 use Rattle.wd_simpler.proofs.Steps.{join_alike, limit_reads, map_alike, pairs_alike, read_keys}
 use Rattle.wd_simpler.proofs.Windows.{ordering_alike, orderings_alike, orderings_back, orderings_read}
-use Rattle.wd_simpler.proofs.Conditions.{IsFrom}
+use Rattle.wd_simpler.proofs.Conditions.{IsAmong}
 use Rattle.wd_simpler.specs.Laws.{SimplerIsAlike}
 use Rattle.wd_step_facts.specs.Steps.{used}
-use Rattle.wd_simpler.specs.Simpler.{Read, after, and_also, condition_reads, every, is_empty, is_unmet, kept_reads, least_of, narrowed, read_condition, read_group, read_limit, read_outputs, read_window, takes_none, window_reads}
+use Rattle.wd_simpler.specs.Simpler.{Read, after, and_also, condition_reads, every, is_empty, is_unmet, kept_reads, narrowed, read_condition, read_group, read_limit, read_outputs, read_window, takes_none, window_reads}
+use Rattle.wd_simpler.specs.Numbers.{numbers_of}
 
 -- the orderings stay
-count_stays : (plan : PlanTree) (read : Read) → ordering_count (narrowed plan read) ≡ ordering_count plan
-count_stays (Scan table columns) read = refl
-count_stays (Join condition left right) read =
+count_stays : (tables : List TableRule) (plan : PlanTree) (read : Read) → ordering_count (narrowed tables plan read) ≡ ordering_count plan
+count_stays tables (Scan table columns) read = refl
+count_stays tables (Join condition left right) read =
     let more = and_also read (condition_reads condition) in
-    λ i. count_stays left more i + count_stays right (after (width left) more) i
-count_stays (Filter condition input) read = count_stays input _
-count_stays (Map outputs input) read = count_stays input _
-count_stays (Group rule input) read = count_stays input _
-count_stays (Window w input) read = λ i. count_stays input (and_also read (window_reads (read_window (is_empty input) (after (width input) read) (keyed_window input w)))) i + classes_stay input w i
-count_stays (Distinct input) read = count_stays input _
-count_stays (Limit limit input) read = ap (λ n. n + 1) (count_stays input _)
+    λ i. count_stays tables left more i + count_stays tables right (after (width left) more) i
+count_stays tables (Filter condition input) read = count_stays tables input _
+count_stays tables (Map outputs input) read = count_stays tables input _
+count_stays tables (Group rule input) read = count_stays tables input _
+count_stays tables (Window w input) read = λ i. count_stays tables input (and_also read (window_reads (read_window (is_empty tables input) (after (width input) read) (keyed_window input w)))) i + classes_stay input w i
+count_stays tables (Distinct input) read = count_stays tables input _
+count_stays tables (Limit limit input) read = ap (λ n. n + 1) (count_stays tables input _)
 
 -- a plan and another one under a choice
 record Narrows (plan other : PlanTree) (read : Read) (instance : Instance) (choice : List (List ℕ)) : Type 0 where
@@ -75,7 +76,7 @@ module _ (tables : List TableRule) (instance : Instance) (meets : Meets tables i
   over_step : (input other : PlanTree) (more : Read) (choice : List (List ℕ)) (below : Narrows input other more instance choice) (read : Read) (f g : List Row → RowsOrFault) → ((rows others : List Row) → AreSameOn more rows others → AreAlikeOn read (f rows) (g others)) → AreLawful input instance choice → AreAlikeOn read (and_then (outcome input instance choice) f) (and_then (outcome other instance choice) g)
   over_step input other more choice below read f g h lawful = step_alike (λ rows. Unit {0}) more read f g (λ rows others q e. h rows others e) (outcome input instance choice) (outcome other instance choice) (always (outcome input instance choice)) (below.alike lawful)
 
-  narrows : (plan : PlanTree) (read : Read) (choice : List (List ℕ)) → fits tables plan ≡ true → Narrows plan (narrowed plan read) read instance choice
+  narrows : (plan : PlanTree) (read : Read) (choice : List (List ℕ)) → fits tables plan ≡ true → Narrows plan (narrowed tables plan read) read instance choice
   narrows (Scan table columns) read choice fit = record { lawful = λ a. a; back = λ a. a; alike = λ a. refl }
   narrows (Join condition left right) read choice fit =
       let fit_sides = and_parts (fits tables left) (fits tables right) (and_parts _ _ fit).0 in
@@ -84,28 +85,28 @@ module _ (tables : List TableRule) (instance : Instance) (meets : Meets tables i
       let rest = drop (ordering_count left) choice in
       let l = narrows left more choice fit_sides.0 in
       let r = narrows right (after columns more) rest fit_sides.1 in
-      let other = narrowed right (after columns more) in
-      let count : ordering_count (narrowed left more) ≡ ordering_count left = count_stays left more in
+      let other = narrowed tables right (after columns more) in
+      let count : ordering_count (narrowed tables left more) ≡ ordering_count left = count_stays tables left more in
       record {
         lawful = λ a. (l.lawful a.0, subst (λ n. AreLawful other instance (drop n choice)) (sym count) (r.lawful a.1));
         back = λ a. (l.back a.0, r.back (subst (λ n. AreLawful other instance (drop n choice)) count a.1));
         alike = λ a.
             step_alike (HasWidth columns) more read (λ ls. and_then (outcome right instance rest) (λ rs. join_outcome condition (pairs ls rs))) (λ ls. and_then (outcome other instance rest) (λ rs. join_outcome condition (pairs ls rs)))
             (λ ls others wide e. step_alike (λ rows. Unit {0}) (after columns more) read (λ rs. join_outcome condition (pairs ls rs)) (λ rs. join_outcome condition (pairs others rs)) (λ rs rows q f. join_alike read condition (pairs ls rs) (pairs others rows) (pairs_alike columns more ls others rs rows wide e f)) (outcome right instance rest) (outcome other instance rest) (always (outcome right instance rest)) (r.alike a.1))
-            (outcome left instance choice) (outcome (narrowed left more) instance choice) (has_widths tables left instance choice fit_sides.0 meets a.0) (l.alike a.0)
-            ∙ ap (λ n. over (map (mask read)) (and_then (outcome (narrowed left more) instance choice) (λ ls. and_then (outcome other instance (drop n choice)) (λ rs. join_outcome condition (pairs ls rs))))) (sym count);
+            (outcome left instance choice) (outcome (narrowed tables left more) instance choice) (has_widths tables left instance choice fit_sides.0 meets a.0) (l.alike a.0)
+            ∙ ap (λ n. over (map (mask read)) (and_then (outcome (narrowed tables left more) instance choice) (λ ls. and_then (outcome other instance (drop n choice)) (λ rs. join_outcome condition (pairs ls rs))))) (sym count);
       }
   narrows (Filter condition input) read choice fit =
-      let unmet = is_unmet (least_of input) condition in
+      let unmet = is_unmet (numbers_of tables input) condition in
       let own = read_condition unmet condition in
       let more = and_also (kept_reads unmet read) (used own) in
       let below = narrows input more choice (and_parts _ _ fit).0 in
       record {
         lawful = below.lawful;
         back = below.back;
-        alike = λ a. step_alike (AllByRecursion (IsFrom (least_of input))) more read (filter_outcome condition) (filter_outcome own)
-            (λ rows others from e. condition_alike read (least_of input) condition unmet refl rows others from e) (outcome input instance choice) (outcome (narrowed input more) instance choice)
-            (all_from tables instance meets input choice (and_parts _ _ fit).0 a) (below.alike a);
+        alike = λ a. step_alike (AllByRecursion (IsAmong (numbers_of tables input))) more read (filter_outcome condition) (filter_outcome own)
+            (λ rows others from e. condition_alike read (numbers_of tables input) condition unmet refl rows others from e) (outcome input instance choice) (outcome (narrowed tables input more) instance choice)
+            (all_among tables instance meets input choice (and_parts _ _ fit).0 a) (below.alike a);
       }
   narrows (Map outputs input) read choice fit =
       let below = narrows input _ choice (and_parts _ _ fit).0 in
@@ -124,13 +125,13 @@ module _ (tables : List TableRule) (instance : Instance) (meets : Meets tables i
       }
   narrows (Window w input) read choice fit =
       let columns = width input in
-      let none = is_empty input in
+      let none = is_empty tables input in
       let keyed = keyed_window input w in
       let own = read_window none (after columns read) keyed in
       let more = and_also read (window_reads own) in
       let below = narrows input more choice (and_parts _ _ fit).0 in
-      let other = narrowed input more in
-      let count : ordering_count other ≡ ordering_count input = count_stays input more in
+      let other = narrowed tables input more in
+      let count : ordering_count other ≡ ordering_count input = count_stays tables input more in
       let long : length keyed.classes ≡ length w.classes = classes_stay input w in
       let orderings = λ (k n : ℕ). take k (drop n choice) in
       let here = orderings (length w.classes) (ordering_count input) in
@@ -165,14 +166,14 @@ module _ (tables : List TableRule) (instance : Instance) (meets : Meets tables i
         alike = λ a. every_step read (λ rows. Ok (distinct rows)) _ _ (below.alike a);
       }
   narrows (Limit limit input) read choice fit =
-      let none = is_empty input in
+      let none = is_empty tables input in
       let keyed = keyed_limit input limit in
       let own = read_limit none keyed in
       let kept = kept_reads (takes_none limit.count) read in
       let more = and_also kept (key_columns keyed.keys) in
       let below = narrows input more choice (and_parts _ _ fit).0 in
-      let other = narrowed input more in
-      let count : ordering_count other ≡ ordering_count input = count_stays input more in
+      let other = narrowed tables input more in
+      let count : ordering_count other ≡ ordering_count input = count_stays tables input more in
       let here = ordering_at choice (ordering_count input) in
       let Lawful = λ (keys : List SortColumn) (rows : List Row) (ordering : List ℕ). IsOrdering (record { partition = []; order = keys }) rows ordering in
       let Served = λ (keys : List SortColumn) (n : ℕ). AtRows (outcome other instance choice) (λ rows. Lawful keys rows (ordering_at choice n)) (ordering_at choice n ≡ []) in
@@ -198,7 +199,7 @@ module _ (tables : List TableRule) (instance : Instance) (meets : Meets tables i
 
 pub simpler_is_alike : SimplerIsAlike
 simpler_is_alike tables plan instance fit meets =
-    let count = count_stays plan every in
+    let count = count_stays tables plan every in
     record {
       valid = λ choice. let n = narrows tables instance meets plan every choice fit in (
         (λ v. record { number = v.number ∙ sym count; lawful = n.lawful v.lawful }),

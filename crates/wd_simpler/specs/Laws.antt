@@ -16,4 +16,4 @@ pub record AreAlike (plan other : PlanTree) (instance : Instance) : Type 0 where
 
 -- over each instance of a schema a plan and the simpler one are alike
 abbrev pub SimplerIsAlike : Type 0
-SimplerIsAlike = (tables : List TableRule) (plan : PlanTree) (instance : Instance) → fits tables plan ≡ true → Meets tables instance → AreAlike plan (simpler plan) instance
+SimplerIsAlike = (tables : List TableRule) (plan : PlanTree) (instance : Instance) → fits tables plan ≡ true → Meets tables instance → AreAlike plan (simpler tables plan) instance

@@ -1,4 +1,5 @@
 pub mod Keyed
+pub mod Numbers
 pub mod OwnPlace
 pub mod Simpler
 pub mod Laws

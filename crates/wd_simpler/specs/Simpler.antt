@@ -3,7 +3,8 @@
 -- without rows any call is COUNT(*), and a Limit takes all. A frame of the row's own place goes by
 -- peers, and sort keys that are computed from a column are followed by that column.
 -- Its nodes, their columns and their orderings stay.
-use Rattle.std.specs.Prelude.{ℕ, zero, suc, ◌+◌, ◌-◌, ℤ, pos, int_le, nat_lt, length, map, slice_get, option_and_then, ◌&&◌, Bool, true, false, not, ◌||◌, List, [], ◌∷◌, ◌++◌, flat_map, if◌then◌else◌, Option, None, Some, option_to_list}
+use Rattle.std.specs.Prelude.{ℕ, zero, suc, ◌+◌, ℤ, int_le, nat_lt, length, map, ◌&&◌, Bool, true, false, not, ◌||◌, List, [], ◌∷◌, ◌++◌, flat_map, if◌then◌else◌, Option, None, Some, option_to_list}
+use Rattle.wd_schema.specs.Tables.{TableRule}
 use Rattle.wd_value.specs.declared.value.Value.{Value}
 use Rattle.wd_value.specs.declared.value.Value.TheVariants.{Null, Int, Text, Bool as TruthValue}
 use Rattle.std.specs.Ordering.{int_cmp}
@@ -30,7 +31,9 @@ use Rattle.wd_plan.specs.Plans.{GroupCall, OfRows, Grouping, GroupRule, WindowRu
 use Rattle.wd_plan.specs.Sorting.{class_columns}
 use Rattle.wd_scalar.specs.Arithmetic.{has_arithmetic}
 use Rattle.wd_simpler.specs.OwnPlace.{peer_frame}
-use Rattle.wd_simpler.specs.Keyed.{column_shown, keyed_limit, keyed_window}
+use Rattle.wd_simpler.specs.Keyed.{keyed_limit, keyed_window}
+use Rattle.wd_simpler.specs.Numbers.{numbers_of}
+use Rattle.wd_simpler.specs.declared.numbers.Numbers.{Numbers}
 use Rattle.wd_step_facts.specs.Steps.{Side, Plain, Fixed, Other, side_of, used}
 
 -- which columns of a node the steps above it read, by their numbers
@@ -183,43 +186,25 @@ whole_limit limit = record { keys = limit.keys; offset = 0; count = None; ties =
 abbrev pub read_limit : Bool → LimitRule → LimitRule
 read_limit has_none limit = if has_none then whole_limit limit else plain_limit limit
 
--- ---- the least numbers of columns
-
--- the least number that a function gives, where it counts: ranks and buckets from 1, COUNT from 0
-abbrev pub least_of_function : Function → Option ℤ
-least_of_function (Ranked r) = Some (pos 1)
-least_of_function (Shifted s) = None
-least_of_function (OfFrame f) = of_frame f
-  where
-    of_frame : FrameFunction → Option ℤ
-    of_frame (ValueAt row c) = None
-    of_frame (Aggregate CountRows) = Some (pos 0)
-    of_frame (Aggregate (Count c)) = Some (pos 0)
-    of_frame (Aggregate (Sum c)) = None
-    of_frame (Aggregate (Min c)) = None
-    of_frame (Aggregate (Max c)) = None
-
--- of a plan's column, where it shows such a call; its values are whole numbers from that one on
-abbrev pub least_of : PlanTree → ℕ → Option ℤ
-least_of (Scan table columns) c = None
-least_of (Join condition left right) c = None
-least_of (Filter condition input) c = least_of input c
-least_of (Map outputs input) c = option_and_then (least_of input) (option_and_then column_shown (slice_get outputs c))
-least_of (Group rule input) c = None
-least_of (Window w input) c = if nat_lt c (width input) then least_of input c else option_and_then (λ (call : Call). least_of_function call.function) (slice_get w.calls (c - width input))
-least_of (Distinct input) c = least_of input c
-least_of (Limit limit input) c = None
-
 -- ---- conditions that no row meets
 
--- no number from the least one on compares so with this one
-abbrev pub never : ComparisonOp → ℤ → ℤ → Bool
-never Equal low n = not (int_le low n)
-never NotEqual low n = false
-never Less low n = int_le n low
-never LessOrEqual low n = not (int_le low n)
-never Greater low n = false
-never GreaterOrEqual low n = false
+-- each number up to the greatest one, where there is one, is at most this one, or less
+abbrev pub all_up_to : Option ℤ → ℤ → Bool
+all_up_to None n = false
+all_up_to (Some greatest) n = int_le greatest n
+
+abbrev pub all_below : Option ℤ → ℤ → Bool
+all_below None n = false
+all_below (Some greatest) n = not (int_le n greatest)
+
+-- none of the numbers compares so with this one
+abbrev pub never : ComparisonOp → Numbers → ℤ → Bool
+never Equal numbers n = all_below numbers.greatest n || not (int_le numbers.least n)
+never NotEqual numbers n = false
+never Less numbers n = int_le n numbers.least
+never LessOrEqual numbers n = not (int_le numbers.least n)
+never Greater numbers n = all_up_to numbers.greatest n
+never GreaterOrEqual numbers n = all_below numbers.greatest n
 
 -- a comparison with its sides in each other's place
 abbrev pub turned : ComparisonOp → ComparisonOp
@@ -230,13 +215,13 @@ turned LessOrEqual = GreaterOrEqual
 turned Greater = Less
 turned GreaterOrEqual = LessOrEqual
 
--- no value of a column with this least number compares so with a literal
-abbrev pub never_at : ComparisonOp → Option ℤ → Value → Bool
+-- no value of a column with these numbers compares so with a literal
+abbrev pub never_at : ComparisonOp → Option Numbers → Value → Bool
 never_at op None v = false
-never_at op (Some low) (Int n) = never op low n
-never_at op (Some low) Null = false
-never_at op (Some low) (Text t) = false
-never_at op (Some low) (TruthValue b) = false
+never_at op (Some numbers) (Int n) = never op numbers n
+never_at op (Some numbers) Null = false
+never_at op (Some numbers) (Text t) = false
+never_at op (Some numbers) (TruthValue b) = false
 
 -- two numbers don't compare so
 abbrev pub never_fixed : ComparisonOp → Value → Value → Bool
@@ -249,28 +234,34 @@ never_fixed op (Text t) w = false
 never_fixed op (TruthValue b) w = false
 
 -- a comparison of a column with a literal, or of two literals, that is never true
-abbrev pub never_compares : (ℕ → Option ℤ) → ComparisonOp → Side → Side → Bool
-never_compares least op (Plain c) (Fixed v) = never_at op (least c) v
-never_compares least op (Plain c) (Plain d) = false
-never_compares least op (Plain c) Other = false
-never_compares least op (Fixed v) (Plain c) = never_at (turned op) (least c) v
-never_compares least op (Fixed v) (Fixed w) = never_fixed op v w
-never_compares least op (Fixed v) Other = false
-never_compares least op Other b = false
+abbrev pub never_compares : (ℕ → Option Numbers) → ComparisonOp → Side → Side → Bool
+never_compares numbers op (Plain c) (Fixed v) = never_at op (numbers c) v
+never_compares numbers op (Plain c) (Plain d) = false
+never_compares numbers op (Plain c) Other = false
+never_compares numbers op (Fixed v) (Plain c) = never_at (turned op) (numbers c) v
+never_compares numbers op (Fixed v) (Fixed w) = never_fixed op v w
+never_compares numbers op (Fixed v) Other = false
+never_compares numbers op Other b = false
 
--- a condition that is true of no row: a literal, such a comparison, an AND of one, and an OR of two
-abbrev pub is_never : (ℕ → Option ℤ) → Expression → Bool
-is_never least (Column c) = false
-is_never least (Literal v kind) = not (is_true v)
-is_never least (Negate a) = false
-is_never least (Arithmetic o a b) = false
-is_never least (Compare op a b) = never_compares least op (side_of a) (side_of b)
-is_never least (Not a) = false
-is_never least (And a b) = is_never least b || is_never least a
-is_never least (Or a b) = is_never least b && is_never least a
-is_never least (IsNull a) = false
-is_never least (IsNotNull a) = false
-is_never least (Case k a b c) = false
+-- numbers, and where NULL is not allowed only those among which it does not stand
+abbrev pub allowing : Bool → Option Numbers → Option Numbers
+allowing true numbers = numbers
+allowing false None = None
+allowing false (Some numbers) = if numbers.nullable then None else Some numbers
+
+-- a condition that is true of no row: a literal, such a comparison (that of a NULL is not true), an AND of one, and an OR of two
+abbrev pub is_never : (ℕ → Option Numbers) → Expression → Bool
+is_never numbers (Column c) = false
+is_never numbers (Literal v kind) = not (is_true v)
+is_never numbers (Negate a) = false
+is_never numbers (Arithmetic o a b) = false
+is_never numbers (Compare op a b) = never_compares numbers op (side_of a) (side_of b)
+is_never numbers (Not a) = false
+is_never numbers (And a b) = is_never numbers b || is_never numbers a
+is_never numbers (Or a b) = is_never numbers b && is_never numbers a
+is_never numbers (IsNull a) = false
+is_never numbers (IsNotNull a) = false
+is_never numbers (Case k a b c) = false
 
 -- the truth value FALSE
 abbrev pub is_false_value : Value → Bool
@@ -279,24 +270,24 @@ is_false_value Null = false
 is_false_value (Int n) = false
 is_false_value (Text t) = false
 
--- a condition that is FALSE of each row, without a fault: the literal, such a comparison, and an AND of one, where its left side has no
--- fault or is FALSE, so that the right one is not looked at
-abbrev pub is_false : (ℕ → Option ℤ) → Expression → Bool
-is_false least (Column c) = false
-is_false least (Literal v kind) = is_false_value v
-is_false least (Negate a) = false
-is_false least (Arithmetic o a b) = false
-is_false least (Compare op a b) = never_compares least op (side_of a) (side_of b)
-is_false least (Not a) = false
-is_false least (And a b) = is_false least a || (not (has_arithmetic a) && is_false least b)
-is_false least (Or a b) = false
-is_false least (IsNull a) = false
-is_false least (IsNotNull a) = false
-is_false least (Case k a b c) = false
+-- a condition that is FALSE of each row, without a fault: the literal, such a comparison of a column without NULL, and an AND of one,
+-- where its left side has no fault or is FALSE, so that the right one is not looked at
+abbrev pub is_false : (ℕ → Option Numbers) → Expression → Bool
+is_false numbers (Column c) = false
+is_false numbers (Literal v kind) = is_false_value v
+is_false numbers (Negate a) = false
+is_false numbers (Arithmetic o a b) = false
+is_false numbers (Compare op a b) = never_compares (λ c. allowing false (numbers c)) op (side_of a) (side_of b)
+is_false numbers (Not a) = false
+is_false numbers (And a b) = is_false numbers a || (not (has_arithmetic a) && is_false numbers b)
+is_false numbers (Or a b) = false
+is_false numbers (IsNull a) = false
+is_false numbers (IsNotNull a) = false
+is_false numbers (Case k a b c) = false
 
 -- no row meets a condition, and none has a fault there
-abbrev pub is_unmet : (ℕ → Option ℤ) → Expression → Bool
-is_unmet least condition = (not (has_arithmetic condition) && is_never least condition) || is_false least condition
+abbrev pub is_unmet : (ℕ → Option Numbers) → Expression → Bool
+is_unmet numbers condition = (not (has_arithmetic condition) && is_never numbers condition) || is_false numbers condition
 
 -- a condition, and FALSE in its place where no row meets it
 abbrev pub read_condition : Bool → Expression → Expression
@@ -305,15 +296,15 @@ read_condition unmet condition = if unmet then Literal (TruthValue false) Truth 
 -- ---- plans
 
 -- a plan without rows: a condition that no row meets, a Limit of none, and the steps above them, up to a Group
-abbrev pub is_empty : PlanTree → Bool
-is_empty (Scan table columns) = false
-is_empty (Join condition left right) = is_empty right || is_empty left
-is_empty (Filter condition input) = is_unmet (least_of input) condition || is_empty input
-is_empty (Map outputs input) = is_empty input
-is_empty (Group rule input) = false
-is_empty (Window w input) = is_empty input
-is_empty (Distinct input) = is_empty input
-is_empty (Limit limit input) = takes_none limit.count || is_empty input
+abbrev pub is_empty : List TableRule → PlanTree → Bool
+is_empty tables (Scan table columns) = false
+is_empty tables (Join condition left right) = is_empty tables right || is_empty tables left
+is_empty tables (Filter condition input) = is_unmet (numbers_of tables input) condition || is_empty tables input
+is_empty tables (Map outputs input) = is_empty tables input
+is_empty tables (Group rule input) = false
+is_empty tables (Window w input) = is_empty tables input
+is_empty tables (Distinct input) = is_empty tables input
+is_empty tables (Limit limit input) = takes_none limit.count || is_empty tables input
 
 -- the columns that a condition reads
 abbrev pub condition_reads : Option Expression → List ℕ
@@ -321,19 +312,19 @@ condition_reads None = []
 condition_reads (Some condition) = used condition
 
 -- a plan of whose columns these are read
-abbrev pub narrowed : PlanTree → Read → PlanTree
-narrowed (Scan table columns) read = Scan table columns
-narrowed (Join condition left right) read = let more = and_also read (condition_reads condition) in Join condition (narrowed left more) (narrowed right (after (width left) more))
-narrowed (Filter condition input) read =
-    let unmet = is_unmet (least_of input) condition in
+abbrev pub narrowed : List TableRule → PlanTree → Read → PlanTree
+narrowed tables (Scan table columns) read = Scan table columns
+narrowed tables (Join condition left right) read = let more = and_also read (condition_reads condition) in Join condition (narrowed tables left more) (narrowed tables right (after (width left) more))
+narrowed tables (Filter condition input) read =
+    let unmet = is_unmet (numbers_of tables input) condition in
     let own = read_condition unmet condition in
-    Filter own (narrowed input (and_also (kept_reads unmet read) (used own)))
-narrowed (Map outputs input) read = let own = read_outputs read outputs in Map own (narrowed input (has (flat_map used own)))
-narrowed (Group rule input) read = let own = read_group (after rule.columns read) rule in Group own (narrowed input (has (group_reads own)))
-narrowed (Window w input) read = let own = read_window (is_empty input) (after (width input) read) (keyed_window input w) in Window own (narrowed input (and_also read (window_reads own)))
-narrowed (Distinct input) read = Distinct (narrowed input every)
-narrowed (Limit limit input) read = let own = keyed_limit input limit in Limit (read_limit (is_empty input) own) (narrowed input (and_also (kept_reads (takes_none limit.count) read) (key_columns own.keys)))
+    Filter own (narrowed tables input (and_also (kept_reads unmet read) (used own)))
+narrowed tables (Map outputs input) read = let own = read_outputs read outputs in Map own (narrowed tables input (has (flat_map used own)))
+narrowed tables (Group rule input) read = let own = read_group (after rule.columns read) rule in Group own (narrowed tables input (has (group_reads own)))
+narrowed tables (Window w input) read = let own = read_window (is_empty tables input) (after (width input) read) (keyed_window input w) in Window own (narrowed tables input (and_also read (window_reads own)))
+narrowed tables (Distinct input) read = Distinct (narrowed tables input every)
+narrowed tables (Limit limit input) read = let own = keyed_limit input limit in Limit (read_limit (is_empty tables input) own) (narrowed tables input (and_also (kept_reads (takes_none limit.count) read) (key_columns own.keys)))
 
 -- the plan without what nothing reads
-abbrev pub simpler : PlanTree → PlanTree
-simpler plan = narrowed plan every
+abbrev pub simpler : List TableRule → PlanTree → PlanTree
+simpler tables plan = narrowed tables plan every

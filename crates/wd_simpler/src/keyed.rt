@@ -10,7 +10,7 @@ ghost use Rattle.wd_schema.specs.Schemas.{schema_of};
 ghost use Rattle.wd_simpler.specs.Keyed as spec;
 ghost use Rattle.wd_value.specs.Keys.{ascending as ascending_key};
 
-use crate::unmet::column_shown;
+use crate::numbers::column_shown;
 use std::alloc::Global;
 use wd_plan::{ArithmeticOp, Call, Class, Expr, Frame, FrameMode, Limit, Plan, Window};
 use wd_schema::Schema;

@@ -30,10 +30,10 @@ use wd_value::{OutOfMemory, Value};
 /// no row meets, with Limits that go by no order where there are no rows, and with the column after each sort key that is computed from it.
 ///
 /// For both plans the same choices are valid, and under each of them they have the same outcome ([`crate::laws::simpler_is_alike`]).
-/// The plan has to fit the schema, which is not read otherwise.
+/// The plan has to fit the schema.
 pub fn simpler(alloc: Global, schema: &Schema, plan: Plan) -> Result<Plan, OutOfMemory>
     requires { fits (schema_of schema.now) (plan_of plan) ≡ true }
-    ensures { IfOk result (λ p. plan_of p ≡ spec.simpler (plan_of plan)) }
+    ensures { IfOk result (λ p. plan_of p ≡ spec.simpler (schema_of schema.now) (plan_of plan)) }
 {
     narrowed(alloc, schema, plan, None)
 }
@@ -46,7 +46,7 @@ fn narrowed(
     read: Option<Set>,
 ) -> Result<Plan, OutOfMemory>
     requires { fits (schema_of schema.now) (plan_of plan) ≡ true }
-    ensures { IfOk result (λ p. plan_of p ≡ spec.narrowed (plan_of plan) (read_of read)) }
+    ensures { IfOk result (λ p. plan_of p ≡ spec.narrowed (schema_of schema.now) (plan_of plan) (read_of read)) }
 {
     match plan {
         Plan::Scan { table, columns } => Ok(Plan::Scan { table, columns }),
@@ -66,7 +66,7 @@ fn narrowed(
             })
         }
         Plan::Filter { input, condition } => {
-            let unmet = is_unmet(&input, &condition);
+            let unmet = is_unmet(schema, &input, &condition);
             let condition = read_condition(unmet, condition);
             let more = with_used(kept_reads(alloc, unmet, read), &condition)?;
             let input = narrowed(alloc, schema, Box::into_inner(input), more)?;
@@ -94,7 +94,7 @@ fn narrowed(
             })
         }
         Plan::Window { input, window } => {
-            let none = is_empty(&input);
+            let none = is_empty(schema, &input);
             let window = keyed_window(alloc, schema, &input, window)?;
             let window = read_window(alloc, none, &read, input.width(), window)?;
             let more = with_window(read, &window)?;
@@ -111,7 +111,7 @@ fn narrowed(
             })
         }
         Plan::Limit { input, limit } => {
-            let none = is_empty(&input);
+            let none = is_empty(schema, &input);
             let limit = keyed_limit(alloc, schema, &input, limit)?;
             let more = with_keys(kept_reads(alloc, takes_none(&limit), read), &limit)?;
             let input = narrowed(alloc, schema, Box::into_inner(input), more)?;

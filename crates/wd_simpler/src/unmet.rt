@@ -1,34 +1,35 @@
 //! Conditions that no row meets, and plans without rows.
 
-ghost use Rattle.std.specs.Prelude.{◌≡◌, ◌&&◌, ◌||◌, map, not, option_and_then, slice_get};
+ghost use Rattle.std.specs.Prelude.{◌≡◌, ◌&&◌, ◌||◌, not};
 ghost use Rattle.std.specs.Ordering.{int_cmp};
 ghost use Rattle.wd_plan.specs.Expressions.{expression_of, holds};
 ghost use Rattle.wd_plan.specs.Plans.{limit_of, plan_of};
-ghost use Rattle.wd_plan.specs.declared.window.Call.{Call as ACall};
 ghost use Rattle.wd_scalar.specs.Arithmetic.{has_arithmetic as arithmetic};
-ghost use Rattle.wd_simpler.specs.Keyed.{column_shown as column_shown_in};
+ghost use Rattle.wd_schema.specs.Schemas.{schema_of};
+ghost use Rattle.wd_simpler.specs.Numbers.{numbers_of as numbers_in};
 ghost use Rattle.wd_simpler.specs.Simpler as spec;
 ghost use Rattle.wd_step_facts.specs.Steps.{side_of};
 
-use wd_plan::{
-    Aggregate, Call, ComparisonOp, Expr, FrameFunction, Function, Limit, Plan, ValueKind,
-};
+use crate::numbers::{Numbers, numbers_of};
+use wd_plan::{ComparisonOp, Expr, Limit, Plan, ValueKind};
 use wd_scalar::{has_arithmetic, is_true};
+use wd_schema::Schema;
 use wd_value::Value;
 
-/// Whether a plan has no row, whatever stands in the tables.
-pub(crate) fn is_empty(plan: &Plan) -> bool
-    ensures { result ≡ spec.is_empty (plan_of plan.now) }
+/// Whether a plan has no row, whatever stands in the tables of the schema.
+pub(crate) fn is_empty(schema: &Schema, plan: &Plan) -> bool
+    ensures { result ≡ spec.is_empty (schema_of schema.now) (plan_of plan.now) }
 {
     match plan {
         Plan::Scan { .. } => false,
-        Plan::Join { left, right, .. } => is_empty(right) || is_empty(left),
-        Plan::Filter { input, condition } => is_unmet(input, condition) || is_empty(input),
-        Plan::Map { input, .. } => is_empty(input),
+        Plan::Join { left, right, .. } => is_empty(schema, right) || is_empty(schema, left),
+        Plan::Filter { input, condition } => is_unmet(schema, input, condition)
+            || is_empty(schema, input),
+        Plan::Map { input, .. } => is_empty(schema, input),
         Plan::Group { .. } => false,
-        Plan::Window { input, .. } => is_empty(input),
-        Plan::Distinct { input } => is_empty(input),
-        Plan::Limit { input, limit } => takes_none(limit) || is_empty(input),
+        Plan::Window { input, .. } => is_empty(schema, input),
+        Plan::Distinct { input } => is_empty(schema, input),
+        Plan::Limit { input, limit } => takes_none(limit) || is_empty(schema, input),
     }
 }
 
@@ -42,10 +43,11 @@ pub(crate) fn takes_none(limit: &Limit) -> bool
 // ---- conditions
 
 /// Whether no row of a plan meets a condition, and none has a fault there.
-pub(crate) fn is_unmet(input: &Plan, condition: &Expr) -> bool
-    ensures { result ≡ spec.is_unmet (spec.least_of (plan_of input.now)) (expression_of condition.now) }
+pub(crate) fn is_unmet(schema: &Schema, input: &Plan, condition: &Expr) -> bool
+    ensures { result ≡ spec.is_unmet (numbers_in (schema_of schema.now) (plan_of input.now)) (expression_of condition.now) }
 {
-    (!has_arithmetic(condition) && is_never(input, condition)) || is_false(input, condition, false)
+    (!has_arithmetic(condition) && is_never(schema, input, condition))
+        || is_false(schema, input, condition, false)
 }
 
 /// The condition, and FALSE in its place where no row meets it.
@@ -61,17 +63,18 @@ pub(crate) fn read_condition(unmet: bool, condition: Expr) -> Expr
 
 /// Whether a condition is FALSE of each row of a plan, without a fault; or no more than without a fault, where it is the left side of an
 /// AND whose right side is FALSE.
-fn is_false(input: &Plan, condition: &Expr, right_is: bool) -> bool
-    ensures { result ≡ (spec.is_false (spec.least_of (plan_of input.now)) (expression_of condition.now) || (right_is && not (arithmetic (expression_of condition.now)))) }
+fn is_false(schema: &Schema, input: &Plan, condition: &Expr, right_is: bool) -> bool
+    ensures { result ≡ (spec.is_false (numbers_in (schema_of schema.now) (plan_of input.now)) (expression_of condition.now) || (right_is && not (arithmetic (expression_of condition.now)))) }
 {
     match condition {
         Expr::Literal(value, _) => is_false_value(value) || right_is,
         Expr::Compare(op, a, b) => {
-            never_compares(input, *op, a, b) || (right_is && !has_arithmetic(condition))
+            never_compares(schema, input, false, *op, a, b)
+                || (right_is && !has_arithmetic(condition))
         }
         Expr::And(a, b) => {
-            let right_is = is_false(input, b, right_is);
-            is_false(input, a, right_is)
+            let right_is = is_false(schema, input, b, right_is);
+            is_false(schema, input, a, right_is)
         }
         _ => right_is && !has_arithmetic(condition),
     }
@@ -85,29 +88,44 @@ fn is_false_value(value: &Value) -> bool
 }
 
 /// Whether a condition is true of no row of a plan.
-fn is_never(input: &Plan, condition: &Expr) -> bool
-    ensures { result ≡ spec.is_never (spec.least_of (plan_of input.now)) (expression_of condition.now) }
+fn is_never(schema: &Schema, input: &Plan, condition: &Expr) -> bool
+    ensures { result ≡ spec.is_never (numbers_in (schema_of schema.now) (plan_of input.now)) (expression_of condition.now) }
 {
     match condition {
         Expr::Literal(value, _) => !is_true(value),
-        Expr::Compare(op, a, b) => never_compares(input, *op, a, b),
-        Expr::And(a, b) => is_never(input, b) || is_never(input, a),
-        Expr::Or(a, b) => is_never(input, b) && is_never(input, a),
+        Expr::Compare(op, a, b) => never_compares(schema, input, true, *op, a, b),
+        Expr::And(a, b) => is_never(schema, input, b) || is_never(schema, input, a),
+        Expr::Or(a, b) => is_never(schema, input, b) && is_never(schema, input, a),
         _ => false,
     }
 }
 
-/// Whether a comparison of a column with a literal, or of two literals, is never true.
-fn never_compares(input: &Plan, op: ComparisonOp, a: &Expr, b: &Expr) -> bool
-    ensures { result ≡ spec.never_compares (spec.least_of (plan_of input.now)) op (side_of (expression_of a.now)) (side_of (expression_of b.now)) }
+/// Whether a comparison of a column with a literal, or of two literals, is never true; where NULL is not allowed, it is never NULL either.
+fn never_compares(
+    schema: &Schema,
+    input: &Plan,
+    null_allowed: bool,
+    op: ComparisonOp,
+    a: &Expr,
+    b: &Expr,
+) -> bool
+    ensures { result ≡ spec.never_compares (λ c. spec.allowing null_allowed (numbers_in (schema_of schema.now) (plan_of input.now) c)) op (side_of (expression_of a.now)) (side_of (expression_of b.now)) }
 {
     match a {
         Expr::Column(column) => match b {
-            Expr::Literal(value, _) => never_at(op, least_of(input, *column), value),
+            Expr::Literal(value, _) => {
+                never_at(op, allowed(schema, input, null_allowed, *column), value)
+            }
             _ => false,
         },
         Expr::Literal(value, _) => match b {
-            Expr::Column(column) => never_at(turned(op), least_of(input, *column), value),
+            Expr::Column(column) => {
+                never_at(
+                    turned(op),
+                    allowed(schema, input, null_allowed, *column),
+                    value,
+                )
+            }
             Expr::Literal(other, _) => never_fixed(op, value, other),
             _ => false,
         },
@@ -115,30 +133,62 @@ fn never_compares(input: &Plan, op: ComparisonOp, a: &Expr, b: &Expr) -> bool
     }
 }
 
-/// Whether no value of a column with this least number compares so with a literal.
-fn never_at(op: ComparisonOp, least: Option<i64>, literal: &Value) -> bool
-    ensures { result ≡ spec.never_at op least literal.now }
+/// The numbers of a plan's column, where NULL is allowed or does not stand there.
+fn allowed(schema: &Schema, input: &Plan, null_allowed: bool, column: u16) -> Option<Numbers>
+    ensures { result ≡ spec.allowing null_allowed (numbers_in (schema_of schema.now) (plan_of input.now) column) }
 {
-    match least {
+    let numbers = numbers_of(schema, input, column)?;
+    if null_allowed || !numbers.nullable {
+        Some(numbers)
+    } else {
+        None
+    }
+}
+
+/// Whether no value of a column with these numbers compares so with a literal.
+fn never_at(op: ComparisonOp, numbers: Option<Numbers>, literal: &Value) -> bool
+    ensures { result ≡ spec.never_at op numbers literal.now }
+{
+    match numbers {
         None => false,
-        Some(low) => match literal {
-            Value::Int(number) => never(op, low, *number),
+        Some(numbers) => match literal {
+            Value::Int(number) => never(op, numbers, *number),
             _ => false,
         },
     }
 }
 
-/// Whether no number from the least one on compares so with this one.
-fn never(op: ComparisonOp, low: i64, number: i64) -> bool
-    ensures { result ≡ spec.never op low number }
+/// Whether none of the numbers compares so with this one.
+fn never(op: ComparisonOp, numbers: Numbers, number: i64) -> bool
+    ensures { result ≡ spec.never op numbers number }
 {
     match op {
-        ComparisonOp::Equal => number < low,
+        ComparisonOp::Equal => all_below(numbers.greatest, number) || number < numbers.least,
         ComparisonOp::NotEqual => false,
-        ComparisonOp::Less => number <= low,
-        ComparisonOp::LessOrEqual => number < low,
-        ComparisonOp::Greater => false,
-        ComparisonOp::GreaterOrEqual => false,
+        ComparisonOp::Less => number <= numbers.least,
+        ComparisonOp::LessOrEqual => number < numbers.least,
+        ComparisonOp::Greater => all_up_to(numbers.greatest, number),
+        ComparisonOp::GreaterOrEqual => all_below(numbers.greatest, number),
+    }
+}
+
+/// Whether there is a greatest number, and it is at most this one.
+fn all_up_to(greatest: Option<i64>, number: i64) -> bool
+    ensures { result ≡ spec.all_up_to greatest number }
+{
+    match greatest {
+        Some(greatest) => greatest <= number,
+        None => false,
+    }
+}
+
+/// Whether there is a greatest number, and it is less than this one.
+fn all_below(greatest: Option<i64>, number: i64) -> bool
+    ensures { result ≡ spec.all_below greatest number }
+{
+    match greatest {
+        Some(greatest) => greatest < number,
+        None => false,
     }
 }
 
@@ -179,78 +229,5 @@ fn turned(op: ComparisonOp) -> ComparisonOp
         ComparisonOp::LessOrEqual => ComparisonOp::GreaterOrEqual,
         ComparisonOp::Greater => ComparisonOp::Less,
         ComparisonOp::GreaterOrEqual => ComparisonOp::LessOrEqual,
-    }
-}
-
-// ---- the least numbers of columns
-
-/// The least number of a plan's column, where it shows a call that counts.
-fn least_of(plan: &Plan, column: u16) -> Option<i64>
-    ensures { result ≡ spec.least_of (plan_of plan.now) column }
-{
-    match plan {
-        Plan::Scan { .. } => None,
-        Plan::Join { .. } => None,
-        Plan::Filter { input, .. } => least_of(input, column),
-        Plan::Map { input, outputs } => match copied(outputs, column) {
-            Some(below) => least_of(input, below),
-            None => None,
-        },
-        Plan::Group { .. } => None,
-        Plan::Window { input, window } => {
-            let width = input.width();
-            if u32::from(column) < width {
-                least_of(input, column)
-            } else {
-                least_of_call(&window.calls, (u32::from(column) - width) as u16)
-            }
-        }
-        Plan::Distinct { input } => least_of(input, column),
-        Plan::Limit { .. } => None,
-    }
-}
-
-/// The column that an output shows, where it shows one.
-fn copied(outputs: &[Expr], column: u16) -> Option<u16>
-    ensures { result ≡ option_and_then column_shown_in (slice_get (map expression_of outputs.now) column) }
-{
-    let output = outputs.get(usize::from(column))?;
-    column_shown(output)
-}
-
-/// The column that an output shows.
-pub(crate) fn column_shown(output: &Expr) -> Option<u16>
-    ensures { result ≡ column_shown_in (expression_of output.now) }
-{
-    match output {
-        Expr::Column(column) => Some(*column),
-        _ => None,
-    }
-}
-
-fn least_of_call(calls: &[Call], number: u16) -> Option<i64>
-    ensures { result ≡ option_and_then (λ (call : ACall). spec.least_of_function call.function) (slice_get calls.now number) }
-{
-    let call = calls.get(usize::from(number))?;
-    least_of_function(&call.function)
-}
-
-/// The least number that a function gives, where it counts: ranks and buckets from 1, COUNT from 0.
-fn least_of_function(function: &Function) -> Option<i64>
-    ensures { result ≡ spec.least_of_function function.now }
-{
-    match function {
-        Function::Ranking(_) => Some(1),
-        Function::Shift(_) => None,
-        Function::OfFrame(function) => least_of_frame(*function),
-    }
-}
-
-fn least_of_frame(function: FrameFunction) -> Option<i64>
-    ensures { result ≡ spec.least_of_function (Function.OfFrame function) }
-{
-    match function {
-        FrameFunction::Aggregate(Aggregate::CountRows | Aggregate::Count(_)) => Some(0),
-        _ => None,
     }
 }
