@@ -5,21 +5,6 @@ use Rattle.std.proofs.lemmas.Bool.{leb-false, leb-true}
 use Rattle.wd_plan.specs.Plans.{PlanTree, Scan, Join, Filter, Map, Group, Window, Distinct, Limit}
 use Rattle.wd_varied.specs.Sizes.{paired}
 
--- tables with rows pair to some
-pub some_pairs : (rows : ℕ) (plan : PlanTree) → 1 ≤ rows → 1 ≤ paired rows plan
-some_pairs rows (Scan table columns) h = h
-some_pairs rows (Join condition left right) h =
-    let a = some_pairs rows left h in
-    let b = some_pairs rows right h in
-    let more : paired rows left ≤ paired rows left * paired rows right = le-mul_of_pos_right (paired rows left) b in
-    omega (arith, a, more)
-some_pairs rows (Filter condition input) h = some_pairs rows input h
-some_pairs rows (Map outputs input) h = some_pairs rows input h
-some_pairs rows (Group g input) h = some_pairs rows input h
-some_pairs rows (Window w input) h = some_pairs rows input h
-some_pairs rows (Distinct input) h = some_pairs rows input h
-some_pairs rows (Limit limit input) h = some_pairs rows input h
-
 -- a product is no less than its factors
 not_less : (a b s : ℕ) → 1 ≤ b → 1 ≤ s → a ≤ (a * b) * s
 not_less a b s h g =
@@ -56,5 +41,5 @@ capped_orderings p o s some also = by (leb o (2 ^ 32 - 1)) refl
         ∙ sym (none_left_also p (o + 1) s (omega (arith, above)) some also)
 
 pub capped : (p o s : ℕ) → 1 ≤ p → 1 ≤ s
-    → min 1000 (1000000 / ((min p (2 ^ 24) * (min o (2 ^ 32 - 1) + 1)) * s)) ≡ min 1000 (1000000 / ((p * (o + 1)) * s))
-capped p o s some also = ap (min 1000) (capped_rows p (min o (2 ^ 32 - 1) + 1) s (omega arith) also ∙ capped_orderings p o s some also)
+    → min (2000 / s) (1000000 / ((min p (2 ^ 24) * (min o (2 ^ 32 - 1) + 1)) * s)) ≡ min (2000 / s) (1000000 / ((p * (o + 1)) * s))
+capped p o s some also = ap (min (2000 / s)) (capped_rows p (min o (2 ^ 32 - 1) + 1) s (omega arith) also ∙ capped_orderings p o s some also)

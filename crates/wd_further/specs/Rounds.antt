@@ -8,9 +8,12 @@ use Rattle.wd_seek.specs.Evaluations.{evaluations}
 use Rattle.wd_varied.specs.Sizes.{paired, sizes}
 use Rattle.wd_varied.specs.Varied.{varied}
 
--- the most rounds, and the most rows that all evaluations of a search go over
+-- the most rounds, the most tries, and the most rows that all evaluations of a search go over
 abbrev pub most_rounds : ℕ
 most_rounds = 1000
+
+abbrev pub most_tries : ℕ
+most_tries = 2000
 
 abbrev pub most_rows : ℕ
 most_rows = 1000000
@@ -19,9 +22,9 @@ most_rows = 1000000
 abbrev pub cost : PlanTree → ℕ → ℕ
 cost plan rows = paired rows plan * evaluations plan
 
--- how many tries there are of a size: as many as its share of the most rows suffices for
+-- how many tries there are of a size: its share of the most, as far as its share of the most rows suffices for them
 abbrev pub tries : PlanTree → ℕ → ℕ
-tries plan rows = min most_rounds (most_rows / (cost plan rows * length (sizes plan)))
+tries plan rows = min (most_tries / length (sizes plan)) (most_rows / (cost plan rows * length (sizes plan)))
 
 -- in the round with a number there is one try of each size, as long as there are more of it
 abbrev pub of_size : List TableRule → PlanTree → ℕ → ℕ → List Instance

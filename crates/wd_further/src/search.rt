@@ -3,7 +3,7 @@
 ghost use Rattle.std.specs.Prelude.{◌≡◌, ◌≤◌, ◌+◌, ◌*◌, ◌/◌, ◌^◌, ◌∷◌, [], ℕ, true, filter, length, min, All, IfOk, IfSome};
 ghost use Rattle.wd_candidates.specs.Outlines.{IsOutline};
 ghost use Rattle.wd_further.specs.Finds.{IsSoughtIn};
-ghost use Rattle.wd_further.specs.Rounds.{most_rounds, most_rows};
+ghost use Rattle.wd_further.specs.Rounds.{most_rows, most_tries};
 ghost use Rattle.wd_further.specs.Rounds as spec;
 ghost use Rattle.wd_plan.specs.Fits.{fits};
 ghost use Rattle.wd_plan.specs.Plans.{plan_of};
@@ -27,6 +27,9 @@ use wd_witness_text::Witness;
 
 /// The most rounds, in each of which each size is tried once.
 const MOST_ROUNDS: u32 = 1000;
+
+/// The most tries of a search.
+const MOST_TRIES: u32 = 2000;
 
 /// The most evaluations of a search.
 const MOST_EVALUATIONS: u32 = 2000;
@@ -192,15 +195,15 @@ fn tries(plan: &Plan, rows: u32, sizes: usize) -> u32
     share(paired(plan, rows), plan.orderings(), sizes as u32)
 }
 
-/// How many tries suffice for the share of one of so many sizes, if the tables pair to so many rows: each try is evaluated once, and
-/// once more for each of so many orderings.
+/// How many tries are the share of one of so many sizes, if the tables pair to so many rows: each try is evaluated once, and once more
+/// for each of so many orderings.
 fn share(paired: u64, orderings: u32, sizes: u32) -> u32
     requires some { 1 ≤ paired }
     requires small { paired ≤ 2 ^ 24 }
     requires sizes { 1 ≤ sizes }
     requires few { sizes ≤ 63 }
-    ensures { result ≡ min most_rounds (most_rows / ((paired * (orderings + 1)) * sizes)) }
+    ensures { result ≡ min (most_tries / sizes) (most_rows / ((paired * (orderings + 1)) * sizes)) }
 {
     let cost = u128::from(paired) * (u128::from(orderings) + 1) * u128::from(sizes);
-    u128::from(MOST_ROUNDS).min(MOST_ROWS / cost) as u32
+    u128::from(MOST_TRIES / sizes).min(MOST_ROWS / cost) as u32
 }

@@ -91,7 +91,7 @@ all_cut P limit rows a = by limit.count
     by None = all_behind P limit.offset rows a
     by (Some n) = all_first P limit.keys limit.ties n (drop limit.offset rows) (all_behind P limit.offset rows a)
 
-all_limited : (P : Row → Type 0) (limit : LimitRule) (ordering : List ℕ) (r : RowsOrFault) → AllRows P r → AtRows r (λ rows. IsOrdering (limit_class limit) rows ordering) (ordering ≡ []) → AllRows P (and_then r (λ rows. Ok (cut limit (rows_at rows ordering))))
+pub all_limited : (P : Row → Type 0) (limit : LimitRule) (ordering : List ℕ) (r : RowsOrFault) → AllRows P r → AtRows r (λ rows. IsOrdering (limit_class limit) rows ordering) (ordering ≡ []) → AllRows P (and_then r (λ rows. Ok (cut limit (rows_at rows ordering))))
 all_limited P limit ordering (Ok rows) a lawful = all_cut P limit (rows_at rows ordering) (Perm-all P (Perm-ordered rows ordering lawful.once) a)
 all_limited P limit ordering (Err fault) a lawful = tt
 
@@ -118,7 +118,7 @@ among_all : (P : Row → Type 0) (rs : List (Result Row Fault)) → AllByRecursi
 among_all P [] a = tt
 among_all P (r ∷ rs) a = among_step P r rs a.0 (among_all P rs a.1)
 
-all_results : (P : Row → Type 0) (rs : List (Result Row Fault)) → AllByRecursion (Each P) rs → AllRows P (all_ok rs)
+pub all_results : (P : Row → Type 0) (rs : List (Result Row Fault)) → AllByRecursion (Each P) rs → AllRows P (all_ok rs)
 all_results P rs a = all_unless P (least_fault rs) (values_among rs) (among_all P rs a)
 
 all_behind_all : {X : Type 0} (P : X → Type 0) (xs ys : List X) → AllByRecursion P xs → AllByRecursion P ys → AllByRecursion P (xs ++ ys)
@@ -235,7 +235,7 @@ all_pairs : (P Q R : Row → Type 0) → ((l r : Row) → P l → Q r → R (l +
 all_pairs P Q R f [] right a b = tt
 all_pairs P Q R f (l ∷ left) right a b = row_pairs P Q R f l right (pairs left right) a.0 b (all_pairs P Q R f left right a.1 b)
 
-join_good : (P Q R : Row → Type 0) → ((l r : Row) → P l → Q r → R (l ++ r)) → (condition : Option Expression) (left right : RowsOrFault) → AllRows P left → AllRows Q right → AllRows R (and_then left (λ ls. and_then right (λ rs. join_outcome condition (pairs ls rs))))
+pub join_good : (P Q R : Row → Type 0) → ((l r : Row) → P l → Q r → R (l ++ r)) → (condition : Option Expression) (left right : RowsOrFault) → AllRows P left → AllRows Q right → AllRows R (and_then left (λ ls. and_then right (λ rs. join_outcome condition (pairs ls rs))))
 join_good P Q R f condition (Ok left) (Ok right) a b = all_joined R condition (pairs left right) (all_pairs P Q R f left right a b)
 join_good P Q R f condition (Ok left) (Err fault) a b = tt
 join_good P Q R f condition (Err fault) right a b = tt

@@ -15,7 +15,8 @@ use Rattle.wd_plan.specs.Outcomes.{RowsOrFault, cut, distinct, filter_outcome, f
 use Rattle.wd_plan.specs.Plans.{ClassRule, LimitRule, PlanTree, Scan, Join, Filter, Map, Group, Window, Distinct, Limit, ordering_count}
 use Rattle.wd_plan.specs.Sorting.{IsOrdering, limit_class}
 use Rattle.wd_simpler.proofs.Known.{all_among}
-use Rattle.wd_simpler.proofs.Rows.{AllRows, at_any}
+use Rattle.wd_laws.proofs.Widths.{AllRows}
+use Rattle.wd_simpler.proofs.Rows.{at_any}
 use Rattle.wd_simpler.proofs.Conditions.{IsAmong, all_unmet, keeps_none}
 use Rattle.wd_simpler.specs.Simpler.{is_empty, is_unmet, takes_none}
 use Rattle.wd_simpler.specs.Numbers.{numbers_of}

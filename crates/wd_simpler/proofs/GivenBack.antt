@@ -15,7 +15,7 @@ use Rattle.wd_value.specs.declared.value.Value.TheVariants.{Null, Int, Text, Boo
 use Rattle.wd_value.specs.Rows.{Instance, Row, column_of, row_at}
 use Rattle.wd_laws.proofs.AllValues.{AllOk, all_ok_each}
 use Rattle.wd_laws.proofs.ValueKinds.{Each, IsOf, value_is}
-use Rattle.wd_laws.proofs.Widths.{all_distinct, all_filtered, has_kinds, has_widths}
+use Rattle.wd_laws.proofs.Widths.{AllRows, all_distinct, all_filtered, has_kinds, has_widths}
 use Rattle.wd_laws.specs.Laws.{IsOfKinds}
 use Rattle.wd_plan.specs.Choices.{AreLawful}
 use Rattle.wd_plan.specs.declared.expression.ArithmeticOp.{ArithmeticOp}
@@ -28,7 +28,7 @@ use Rattle.wd_plan.specs.Faults.{all_ok, and_then}
 use Rattle.wd_plan.specs.Fits.{Kinds, fits, is_kind, is_narrow, is_typed, kind_of, kinds_of, width}
 use Rattle.wd_plan.specs.Outcomes.{call_at, distinct, filter_outcome, map_outcome, outcome, window_outcome}
 use Rattle.wd_plan.specs.Plans.{PlanTree, Scan, Join, Filter, Map, Group, Window, WindowRule, Distinct, Limit, has, ordering_count}
-use Rattle.wd_simpler.proofs.Rows.{AllRows, all_made, at_any, at_each, is_extended, item_value, then_all, window_rows}
+use Rattle.wd_simpler.proofs.Rows.{all_made, at_any, at_each, is_extended, item_value, then_all, window_rows}
 use Rattle.wd_simpler.specs.Keyed.{column_shown, given_back, is_number, is_shift, is_whole, origin, place_of, shifted}
 
 -- ---- expressions

@@ -18,7 +18,7 @@ use Rattle.wd_value.specs.Rows.{Instance, Row, column_of, row_at, table_at}
 use Rattle.wd_laws.proofs.AllValues.{all_ok_each}
 use Rattle.wd_laws.proofs.Grouping.{shown_at}
 use Rattle.wd_laws.proofs.ValueKinds.{Each, all_map}
-use Rattle.wd_laws.proofs.Widths.{all_distinct, all_filtered, has_widths}
+use Rattle.wd_laws.proofs.Widths.{AllRows, all_distinct, all_filtered, all_limited, all_results, has_widths, join_good}
 use Rattle.wd_plan.proofs.Ranges.{has_the_table}
 use Rattle.wd_plan.specs.Calls.{aggregate_value, bucket_from, call_value, ranking_value}
 use Rattle.wd_plan.specs.Frames.{frame_of}
@@ -40,7 +40,7 @@ use Rattle.wd_plan.specs.declared.function.Ranking.TheVariants.{RowNumber, Rank,
 use Rattle.wd_plan.specs.declared.window.Call.{Call}
 use Rattle.wd_plan.specs.declared.window.Frame.{Frame}
 use Rattle.wd_simpler.proofs.Conditions.{IsAmong, is_among}
-use Rattle.wd_simpler.proofs.Rows.{AllRows, all_append, all_limited, all_made, all_results, at_each, both_rows, from_each, is_extended, item_value, join_rows, then_all, window_rows}
+use Rattle.wd_simpler.proofs.Rows.{all_append, all_made, at_each, both_rows, from_each, is_extended, item_value, then_all, window_rows}
 use Rattle.wd_simpler.specs.Keyed.{column_shown}
 use Rattle.wd_simpler.specs.Numbers.{from_on, numbers_of, numbers_of_aggregate, numbers_of_call, numbers_of_column, numbers_of_function, numbers_of_group_call, numbers_of_table, numbers_of_type, with_null}
 use Rattle.wd_simpler.specs.declared.numbers.Numbers.{Numbers}
@@ -275,7 +275,7 @@ module _ (tables : List TableRule) (instance : Instance) (meets : Meets tables i
       let sides = and_parts (fits tables left) (fits tables right) (and_parts _ _ fit).0 in
       let rest = drop (ordering_count left) choice in
       let P = λ (row : Row). (length row ≡ width left) × IsAmong (numbers_of tables left) row in
-      join_rows P (IsAmong (numbers_of tables right)) (IsAmong (numbers_of tables (Join condition left right)))
+      join_good P (IsAmong (numbers_of tables right)) (IsAmong (numbers_of tables (Join condition left right)))
       (λ l r own other. beside_among (width left) (numbers_of tables left) (numbers_of tables right) l r own.0 own.1 other) condition (outcome left instance choice) (outcome right instance rest)
       (both_rows (λ (row : Row). length row ≡ width left) (IsAmong (numbers_of tables left)) (outcome left instance choice) (has_widths tables left instance choice sides.0 meets a.0) (all_among left choice sides.0 a.0))
       (all_among right rest sides.1 a.1)

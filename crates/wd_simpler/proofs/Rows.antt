@@ -2,9 +2,7 @@
 use Rattle.std.proofs.Common.{◌≡◌, ℕ, zero, suc, ◌<◌, Bool, true, false, cond, List, [], ◌∷◌, ◌++◌, map, length, take_while, drop, refl, sym, ◌∙◌, ap, subst, arith, Option, Some, None, slice_get, get_or, Result, Ok, Err, zero-add}
 use Rattle.std.specs.List.{AllByRecursion}
 use Rattle.std.proofs.lemmas.List.FromFn.{get_or-range_with_len, length-range_with_len}
-use Rattle.std.proofs.lemmas.List.Sums.{take_while-cons}
 use Rattle.std.proofs.lemmas.Option.{get_or_from_slice_get, slice_get_within}
-use Rattle.wd_value.proofs.Perms.{Perm-all}
 use Rattle.wd_value.specs.Bags.{positions}
 use Rattle.wd_value.specs.declared.order.SortColumn.{SortColumn}
 use Rattle.wd_value.specs.declared.value.Fault.{Fault}
@@ -12,19 +10,14 @@ use Rattle.wd_value.specs.declared.value.Value.{Value}
 use Rattle.wd_value.specs.declared.value.Value.TheVariants.{Null}
 use Rattle.wd_value.specs.Rows.{Row, column_of, row_at, rows_at}
 use Rattle.wd_laws.proofs.AllValues.{AllOk, all_ok_each}
-use Rattle.wd_laws.proofs.Parts.{Perm-ordered}
 use Rattle.wd_laws.proofs.ValueKinds.{Each}
-use Rattle.wd_laws.proofs.Widths.{all_filtered}
+use Rattle.wd_laws.proofs.Widths.{AllRows}
 use Rattle.wd_plan.specs.Choices.{AtRows}
 use Rattle.wd_plan.specs.Expressions.{Expression}
 use Rattle.wd_plan.specs.Faults.{all_ok, and_then, least_fault, unless, values_among}
 use Rattle.wd_plan.specs.Outcomes.{RowsOrFault, cut, extended, first_rows, join_outcome, pairs, peers, window_outcome}
 use Rattle.wd_plan.specs.Plans.{LimitRule, WindowRule}
 use Rattle.wd_plan.specs.Sorting.{IsOrdering, limit_class}
-
--- what holds of each row, where there are rows
-abbrev pub AllRows : (Row → Type 0) → RowsOrFault → Type 0
-AllRows P r = AtRows r (AllByRecursion P) (Unit {0})
 
 pub of_any : (P : Row → Type 0) → ((row : Row) → P row) → (rows : List Row) → AllByRecursion P rows
 of_any P h [] = tt
@@ -88,72 +81,6 @@ both_rows P Q (Ok rows) p q = both rows p q
     both [] p q = tt
     both (row ∷ rows) p q = ((p.0, q.0), both rows p.1 q.1)
 both_rows P Q (Err fault) p q = tt
-
--- ---- rows among results
-
-all_unless : (P : Row → Type 0) (o : Option Fault) (rows : List Row) → AllByRecursion P rows → AllRows P (unless o rows)
-all_unless P None rows a = a
-all_unless P (Some fault) rows a = tt
-
-among_all : (P : Row → Type 0) (rs : List (Result Row Fault)) → AllByRecursion (Each P) rs → AllByRecursion P (values_among rs)
-among_all P [] a = tt
-among_all P (Ok row ∷ rs) a = (a.0, among_all P rs a.1)
-among_all P (Err fault ∷ rs) a = among_all P rs a.1
-
-pub all_results : (P : Row → Type 0) (rs : List (Result Row Fault)) → AllByRecursion (Each P) rs → AllRows P (all_ok rs)
-all_results P rs a = all_unless P (least_fault rs) (values_among rs) (among_all P rs a)
-
--- ---- the rows of a Join
-
-row_pairs : (P Q R : Row → Type 0) → ((l r : Row) → P l → Q r → R (l ++ r)) → (l : Row) (right rest : List Row) → P l → AllByRecursion Q right → AllByRecursion R rest → AllByRecursion R (map (λ r. l ++ r) right ++ rest)
-row_pairs P Q R f l [] rest p b a = a
-row_pairs P Q R f l (r ∷ right) rest p b a = (f l r p b.0, row_pairs P Q R f l right rest p b.1 a)
-
-all_pairs : (P Q R : Row → Type 0) → ((l r : Row) → P l → Q r → R (l ++ r)) → (left right : List Row) → AllByRecursion P left → AllByRecursion Q right → AllByRecursion R (pairs left right)
-all_pairs P Q R f [] right a b = tt
-all_pairs P Q R f (l ∷ left) right a b = row_pairs P Q R f l right (pairs left right) a.0 b (all_pairs P Q R f left right a.1 b)
-
-all_joined : (P : Row → Type 0) (condition : Option Expression) (rows : List Row) → AllByRecursion P rows → AllRows P (join_outcome condition rows)
-all_joined P None rows a = a
-all_joined P (Some condition) rows a = all_filtered P condition rows a
-
-pub join_rows : (P Q R : Row → Type 0) → ((l r : Row) → P l → Q r → R (l ++ r)) → (condition : Option Expression) (left right : RowsOrFault) → AllRows P left → AllRows Q right → AllRows R (and_then left (λ ls. and_then right (λ rs. join_outcome condition (pairs ls rs))))
-join_rows P Q R f condition (Ok left) (Ok right) a b = all_joined R condition (pairs left right) (all_pairs P Q R f left right a b)
-join_rows P Q R f condition (Ok left) (Err fault) a b = tt
-join_rows P Q R f condition (Err fault) right a b = tt
-
--- ---- the rows of a Limit
-
-all_after : (P : Row → Type 0) (n : ℕ) (rows : List Row) → AllByRecursion P rows → AllByRecursion P (drop n rows)
-all_after P zero rows a = a
-all_after P (suc n) [] a = tt
-all_after P (suc n) (r ∷ rows) a = all_after P n rows a.1
-
-all_while : (P : Row → Type 0) (t : Row → Bool) (rows : List Row) → AllByRecursion P rows → AllByRecursion P (take_while t rows)
-all_while P t [] a = tt
-all_while P t (r ∷ rows) a = subst (AllByRecursion P) (sym (take_while-cons t r rows)) (by (t r) (all_while P t rows a.1))
-  where
-    by : (b : Bool) → AllByRecursion P (take_while t rows) → AllByRecursion P (cond b (r ∷ take_while t rows) [])
-    by true rest = (a.0, rest)
-    by false rest = tt
-
-all_first : (P : Row → Type 0) (keys : List SortColumn) (ties : Bool) (n : ℕ) (rows : List Row) → AllByRecursion P rows → AllByRecursion P (first_rows keys ties n rows)
-all_first P keys ties zero rows a = tt
-all_first P keys ties (suc n) [] a = tt
-all_first P keys true (suc zero) (r ∷ rows) a = (a.0, all_while P (peers keys r) rows a.1)
-all_first P keys false (suc zero) (r ∷ rows) a = (a.0, tt)
-all_first P keys ties (suc (suc n)) (r ∷ rows) a = (a.0, all_first P keys ties (suc n) rows a.1)
-
-all_cut : (P : Row → Type 0) (limit : LimitRule) (rows : List Row) → AllByRecursion P rows → AllByRecursion P (cut limit rows)
-all_cut P limit rows a = by limit.count
-  where
-    by : (count : Option ℕ) → AllByRecursion P (cut (record limit { count = count }) rows)
-    by None = all_after P limit.offset rows a
-    by (Some n) = all_first P limit.keys limit.ties n (drop limit.offset rows) (all_after P limit.offset rows a)
-
-pub all_limited : (P : Row → Type 0) (limit : LimitRule) (ordering : List ℕ) (r : RowsOrFault) → AllRows P r → AtRows r (λ rows. IsOrdering (limit_class limit) rows ordering) (ordering ≡ []) → AllRows P (and_then r (λ rows. Ok (cut limit (rows_at rows ordering))))
-all_limited P limit ordering (Ok rows) a lawful = all_cut P limit (rows_at rows ordering) (Perm-all P (Perm-ordered rows ordering lawful.once) a)
-all_limited P limit ordering (Err fault) a lawful = tt
 
 -- ---- lists
 

@@ -1,4 +1,4 @@
 mod Comparing
 mod Places
-mod Products
+pub mod Products
 mod Ranges

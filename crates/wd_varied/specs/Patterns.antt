@@ -6,7 +6,7 @@ use Rattle.wd_value.specs.declared.value.Value.TheVariants.{Null, Text}
 use Rattle.wd_value.specs.declared.value.ColumnType.{ColumnType}
 use Rattle.wd_schema.specs.declared.table.Column.{Column}
 use Rattle.wd_schema.specs.Tables.{KeyRule}
-use Rattle.wd_varied.specs.Values.{apart}
+use Rattle.wd_varied.specs.Values.{apart, apart_from}
 use Rattle.wd_varied.specs.declared.patterns.Pattern.{Pattern}
 use Rattle.wd_varied.specs.declared.patterns.Pattern.TheVariants as pattern
 use Rattle.wd_varied.specs.declared.patterns.Filling.{Filling}
@@ -34,9 +34,9 @@ seed rows number table c = (number + 1000 * (c + 64 * table) + 100003 * rows) % 
 abbrev pub drawn : ℕ → ℕ → ℕ → ℕ → ℕ
 drawn rows number table c = seed rows number table c * seed rows number table c * seed rows number table c % 999983
 
--- of 16 columns by which a key is to tell rows apart 14 differ in each row, and 2 hold the pool's values in turn
+-- a column by which a key is to tell rows apart differs in each row: half of them from a value of the pool on
 abbrev pub telling_pattern : ℕ → Pattern
-telling_pattern d = if nat_lt (d % 16) 14 then pattern.Apart else pattern.InTurn (d / 16)
+telling_pattern d = if nat_lt (d % 16) 8 then pattern.Apart else pattern.ApartFrom (d / 16)
 
 -- the pattern of a column by what is drawn: of 16 others 6 hold one value, 4 the pool's values in turn, and 2 differ in each row; in 1
 -- the last two rows are alike, in 1 all but the last and in 1 all but the first; and 1 holds NULL if it may
@@ -75,6 +75,7 @@ abbrev pub by_pattern : Pattern → ColumnType → List Value → ℕ → ℕ �
 by_pattern (pattern.Same from) kind pool rows row = value_at pool from
 by_pattern (pattern.InTurn from) kind pool rows row = value_at pool (from + row)
 by_pattern pattern.Apart kind pool rows row = apart kind row
+by_pattern (pattern.ApartFrom from) kind pool rows row = apart_from (value_at pool from) kind row
 by_pattern pattern.LastTwoAlike kind pool rows row = apart kind (min row (rows - 2))
 by_pattern pattern.LastApart kind pool rows row = apart kind (row - (rows - 2))
 by_pattern pattern.FirstApart kind pool rows row = apart kind (min row 1)

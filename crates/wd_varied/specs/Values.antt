@@ -47,3 +47,11 @@ apart type.Integer i = Int (pos (i + 1))
 apart type.BigInt i = Int (pos (i + 1))
 apart type.Text i = Text (word i)
 apart type.Boolean i = Truth (nat_eq (i % 2) 1)
+
+-- the values of a type from a value on: a whole number and those after it, as far as 64 bits hold them; a text, and then the text with
+-- a word behind it; else the values of the type
+abbrev pub apart_from : Value → ColumnType → ℕ → Value
+apart_from Null kind i = apart kind i
+apart_from (Int n) kind i = if fits_64 (n +ℤ pos i) then Int (n +ℤ pos i) else apart kind i
+apart_from (Text bytes) kind i = if nat_eq i 0 then Text bytes else Text (bytes ++ word (i - 1))
+apart_from (Truth b) kind i = apart kind i

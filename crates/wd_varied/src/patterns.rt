@@ -1,7 +1,8 @@
 //! How the rows of a column stand to one another.
 
-ghost use Rattle.std.specs.Prelude.{◌≡◌, IfOk};
+ghost use Rattle.std.specs.Prelude.{◌≡◌, ◌++◌, IfOk};
 ghost use Rattle.std.specs.List.{list_any};
+ghost use Rattle.std.specs.String.{string_bytes};
 ghost use Rattle.wd_schema.specs.Tables.{key_of};
 ghost use Rattle.wd_varied.specs.Patterns.{filling_of};
 ghost use Rattle.wd_varied.specs.Patterns as spec;
@@ -20,6 +21,8 @@ pub(crate) enum Pattern {
     InTurn(u64),
     /// A value of its own in each row.
     Apart,
+    /// A value of its own in each row, from this one of the pool on.
+    ApartFrom(u64),
     /// A value of its own in each row, but the last two share one.
     LastTwoAlike,
     /// One value in all rows but the last, which has another.
@@ -79,10 +82,10 @@ pub(crate) fn pattern_of(drawn: u64, column: &Column, telling: bool) -> Pattern
     let from = drawn / 16;
     let side = drawn % 16;
     if telling {
-        if side < 14 {
+        if side < 8 {
             Pattern::Apart
         } else {
-            Pattern::InTurn(from)
+            Pattern::ApartFrom(from)
         }
     } else if side < 6 {
         Pattern::Same(from)
@@ -118,6 +121,10 @@ pub(crate) fn filled(
             value_at(alloc, &filling.pool, u128::from(from) + u128::from(row))
         }
         Pattern::Apart => apart(alloc, filling.kind, row),
+        Pattern::ApartFrom(from) => {
+            let first = value_at(alloc, &filling.pool, u128::from(from))?;
+            apart_from(alloc, first, filling.kind, row)
+        }
         Pattern::LastTwoAlike => apart(alloc, filling.kind, row.min(rows.saturating_sub(2))),
         Pattern::LastApart => apart(
             alloc,
@@ -152,16 +159,54 @@ fn apart(alloc: Global, kind: ColumnType, number: u32) -> Result<Value, OutOfMem
     }
 }
 
-/// The text with this number: of one letter, then of two.
+/// The value with this number of those that begin with a value: a whole number and the next ones, or a text and longer ones, of which
+/// no two are the same.
+fn apart_from(
+    alloc: Global,
+    first: Value,
+    kind: ColumnType,
+    number: u32,
+) -> Result<Value, OutOfMemory>
+    ensures { IfOk result (λ v. v ≡ values.apart_from first kind number) }
+{
+    match first {
+        Value::Int(first) => match i64::try_from(i128::from(first) + i128::from(number)) {
+            Ok(value) => Ok(Value::Int(value)),
+            Err(_) => apart(alloc, kind, number),
+        },
+        Value::Text(text) if number == 0 => Ok(Value::Text(text)),
+        Value::Text(text) => with_word(alloc, &text, number - 1),
+        Value::Null | Value::Bool(_) => apart(alloc, kind, number),
+    }
+}
+
+/// A text with the word of this number behind it.
+fn with_word(alloc: Global, text: &Text, number: u32) -> Result<Value, OutOfMemory>
+    ensures { IfOk result (λ v. v ≡ spec.text (text.now ++ values.word number)) }
+{
+    let mut longer = String::from_str(alloc, text.as_str())?;
+    push_word(number, &mut longer)?;
+    Ok(Value::Text(Text::new(alloc, longer)?))
+}
+
+/// The word with this number.
 fn word(alloc: Global, number: u32) -> Result<Value, OutOfMemory>
     ensures { IfOk result (λ v. v ≡ spec.text (values.word number)) }
 {
-    if number < 8 {
-        return Ok(Value::Text(Text::from_str(alloc, letter(number))?));
-    }
-    let mut word = String::from_str(alloc, letter(number / 8 - 1))?;
-    word.push_str(letter(number))?;
+    let mut word = String::new(alloc);
+    push_word(number, &mut word)?;
     Ok(Value::Text(Text::new(alloc, word)?))
+}
+
+/// Appends the word with this number: of one letter, then of two.
+fn push_word(number: u32, text: &mut String) -> Result<(), OutOfMemory>
+    ensures { IfOk result (λ _. string_bytes text.new ≡ string_bytes text.old ++ values.word number) }
+{
+    if number >= 8 {
+        text.push_str(letter(number / 8 - 1))?;
+    }
+    text.push_str(letter(number))?;
+    Ok(())
 }
 
 /// Eight letters in turn.

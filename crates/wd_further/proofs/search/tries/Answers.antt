@@ -1,7 +1,8 @@
 use Rattle.std.proofs.Common.{◌≤◌, ◌+◌, ◌*◌, ◌/◌, ◌∙◌, arith, length, min, subst, sym}
 use Rattle.wd_plan.specs.Plans.{ordering_count, plan_of}
 use Rattle.wd_varied.specs.Sizes.{paired, sizes}
-use Rattle.wd_further.proofs.Tries.{capped, some_pairs}
+use Rattle.wd_varied.proofs.Products.{some_pairs}
+use Rattle.wd_further.proofs.Tries.{capped}
 use Rattle.wd_further.proofs.search.tries.Goals as goal
 
 pub returns : goal.returns
@@ -9,7 +10,7 @@ returns c =
     let plan = plan_of c.args.plan.now in
     let some = some_pairs c.args.rows plan (omega (arith, c.requires.large)) in
     c.share.ensures
-    ∙ (λ j. min 1000 (1000000 / ((c.paired.ensures j * (c.orderings.ensures j + 1)) * c.requires.is j)))
+    ∙ (λ j. min (2000 / c.requires.is j) (1000000 / ((c.paired.ensures j * (c.orderings.ensures j + 1)) * c.requires.is j)))
     ∙ capped (paired c.args.rows plan) (ordering_count plan) (length (sizes plan)) some (subst (λ n. 1 ≤ n) c.requires.is c.requires.sizes)
 
 pub share-requires-clause-some : goal.share-requires-clause-some
