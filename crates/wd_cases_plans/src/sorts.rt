@@ -5,7 +5,7 @@ use std::alloc::{AllocError, Global};
 use wd_cases::Failure;
 use wd_cases_notation::{Line, State, Word};
 use wd_columns::RowSource;
-use wd_partition::{Member, Partitions, is_ordering, partitions, sorted_ordering};
+use wd_partition::{Member, Partitions, Turn, is_ordering, partitions, sorted_ordering};
 use wd_plan::Class;
 use wd_sort::{compare_rows_at, is_sorted, sorted_from, sorted_positions, value_numbers};
 use wd_value::{Row, SortColumn};
@@ -91,7 +91,8 @@ pub fn class_answer(
     }
 }
 
-/// `sorted_ordering CLASS` or `sorted_ordering(flipped) CLASS`
+/// `sorted_ordering CLASS`, or with a turn: `sorted_ordering(reversed) CLASS`, `sorted_ordering(rotated) CLASS`
+/// or `sorted_ordering(exchanged) CLASS`
 fn push_ordering(
     alloc: Global,
     rows: &[Row],
@@ -99,9 +100,14 @@ fn push_ordering(
     arguments: &str,
     out: &mut String,
 ) -> Result<(), Failure> {
-    let flipped = arguments == "flipped";
+    let turn = match arguments {
+        "reversed" => Turn::Reversed,
+        "rotated" => Turn::Rotated,
+        "exchanged" => Turn::Exchanged,
+        _ => Turn::AsGiven,
+    };
     let source = RowSource::of_rows(rows);
-    let ordering = sorted_ordering(alloc, &source, &class.partition, &class.order, flipped)?;
+    let ordering = sorted_ordering(alloc, &source, &class.partition, &class.order, turn)?;
     push_numbers(out, &ordering)
 }
 

@@ -15,17 +15,19 @@ use Rattle.wd_eval.specs.Nodes.{IsCut, cut_over}
 use Rattle.wd_eval.specs.Windows.{HasOrdering, IsWindowServed}
 use Rattle.wd_eval.specs.Listings.{AreListings, IsListingIn}
 use Rattle.wd_eval.specs.declared.listing.Listing.{Listing}
-use Rattle.wd_eval.specs.Tied.{IsSortedOver, is_flipped}
+use Rattle.wd_eval.specs.Tied.{IsSortedOver, turn_of}
 use Rattle.wd_eval.specs.Ties.{ArePut, AreSortedOver, IsPutEmpty, IsTiedLimit, IsTiedWindow}
+use Rattle.wd_partition.specs.declared.turn.Turn.{Turn}
+use Rattle.wd_eval.specs.declared.turned.Turned.{Turned}
 use Rattle.wd_eval.proofs.Serving.{all_from_each, listings_more}
 
-pub lawful_over : (class : ClassRule) (flipped : Bool) (input : RowsOrFault) (ordering : List ℕ) → IsSortedOver class flipped input ordering → AtRows input (λ rows. IsOrdering class rows ordering) (ordering ≡ [])
-lawful_over class flipped (Ok rows) ordering s = IsOrdering-from_given class rows flipped ordering s
-lawful_over class flipped (Err fault) ordering s = s
+pub lawful_over : (class : ClassRule) (turn : Turn) (input : RowsOrFault) (ordering : List ℕ) → IsSortedOver class turn input ordering → AtRows input (λ rows. IsOrdering class rows ordering) (ordering ≡ [])
+lawful_over class turn (Ok rows) ordering s = IsOrdering-from_given class rows turn ordering s
+lawful_over class turn (Err fault) ordering s = s
 
 -- ---- a Limit
 
-module _ (limit : LimitRule) (input : RowsOrFault) (flipped : Option ℕ) (old new : List (List ℕ)) (own : List ℕ) (number : ℕ) (turned : Bool) (at : number ≡ length old) (grown : new ≡ old ++ own ∷ []) (sorted : IsSortedOver (limit_class limit) turned input own) where
+module _ (limit : LimitRule) (input : RowsOrFault) (turned : Option Turned) (old new : List (List ℕ)) (own : List ℕ) (number : ℕ) (turn : Turn) (at : number ≡ length old) (grown : new ≡ old ++ own ∷ []) (sorted : IsSortedOver (limit_class limit) turn input own) where
   own_is : ordering_at new number ≡ own
   own_is = (λ i. ordering_at (grown i) (at i)) ∙ get_or-append_seam old own [] []
 
@@ -34,50 +36,50 @@ module _ (limit : LimitRule) (input : RowsOrFault) (flipped : Option ℕ) (old n
       let long = ap length grown ∙ length-append old (own ∷ []) in
       record {
         present = omega arith;
-        lawful = subst (λ (o : List ℕ). AtRows input (λ rows. IsOrdering (limit_class limit) rows o) (o ≡ [])) (sym own_is) (lawful_over (limit_class limit) turned input own sorted);
+        lawful = subst (λ (o : List ℕ). AtRows input (λ rows. IsOrdering (limit_class limit) rows o) (o ≡ [])) (sym own_is) (lawful_over (limit_class limit) turn input own sorted);
       }
 
-  pub limit_tied_from : (o : Outcome) → turned ≡ is_flipped flipped number → outcome_of o ≡ cut_over limit own input → IsTiedLimit limit input flipped old new o
+  pub limit_tied_from : (o : Outcome) → turn ≡ turn_of turned number → outcome_of o ≡ cut_over limit own input → IsTiedLimit limit input turned old new o
   limit_tied_from o e is = record {
     own = own;
     grown = grown;
-    sorted = subst (λ (t : Bool). IsSortedOver (limit_class limit) t input own) (e ∙ ap (is_flipped flipped) at) sorted;
+    sorted = subst (λ (t : Turn). IsSortedOver (limit_class limit) t input own) (e ∙ ap (turn_of turned) at) sorted;
     is = subst (λ (n : ℕ). IsCut limit input new n o) at (record { served = limit_put; is = is ∙ ap (λ ordering. cut_over limit ordering input) (sym own_is) });
   }
 
 -- ---- a Window
 
-lawful_all : (w : WindowRule) (input : RowsOrFault) (flipped : Option ℕ) (first : ℕ) (own : List (List ℕ)) → AreSortedOver w input flipped first (length w.classes) own → AtRows input (λ rows. AreOrderings w rows own) (AllByRecursion (λ o. o ≡ []) own)
-lawful_all w (Ok rows) flipped first own s = record {
+lawful_all : (w : WindowRule) (input : RowsOrFault) (turned : Option Turned) (first : ℕ) (own : List (List ℕ)) → AreSortedOver w input turned first (length w.classes) own → AtRows input (λ rows. AreOrderings w rows own) (AllByRecursion (λ o. o ≡ []) own)
+lawful_all w (Ok rows) turned first own s = record {
   number = s.long;
-  each = λ k h. IsOrdering-from_given (class_at w k) rows (is_flipped flipped (first + k)) (ordering_at own k) (s.each k h);
+  each = λ k h. IsOrdering-from_given (class_at w k) rows (turn_of turned (first + k)) (ordering_at own k) (s.each k h);
 }
-lawful_all w (Err fault) flipped first own s = all_from_each own (λ k h. (let long = s.long in s.each k (omega arith)))
+lawful_all w (Err fault) turned first own s = all_from_each own (λ k h. (let long = s.long in s.each k (omega arith)))
 
-pub window_put : (w : WindowRule) (input : RowsOrFault) (flipped : Option ℕ) (old new : List (List ℕ)) → ArePut w input flipped (length w.classes) old new → IsWindowServed w input new (length old)
-window_put w input flipped old new p =
+pub window_put : (w : WindowRule) (input : RowsOrFault) (turned : Option Turned) (old new : List (List ℕ)) → ArePut w input turned (length w.classes) old new → IsWindowServed w input new (length old)
+window_put w input turned old new p =
     let own = p.own in
     let size = p.sorted.long in
     let long = ap length p.grown ∙ length-append old own in
     let taken : take (length w.classes) (drop (length old) new) ≡ own = ap (λ ch. take (length w.classes) (drop (length old) ch)) p.grown ∙ ap (take (length w.classes)) (drop-append_seam old own) ∙ take_all (length w.classes) own (omega arith) in
     record {
       present = omega arith;
-      lawful = subst (λ (os : List (List ℕ)). AtRows input (λ rows. AreOrderings w rows os) (AllByRecursion (λ o. o ≡ []) os)) (sym taken) (lawful_all w input flipped (length old) own p.sorted);
+      lawful = subst (λ (os : List (List ℕ)). AtRows input (λ rows. AreOrderings w rows os) (AllByRecursion (λ o. o ≡ []) os)) (sym taken) (lawful_all w input turned (length old) own p.sorted);
     }
 
 -- ---- a Window over a fault
 
-pub empty_put : (w : WindowRule) (fault : Fault) (flipped : Option ℕ) (count : ℕ) (old new : List (List ℕ)) → count ≡ length w.classes → IsPutEmpty count old new → ArePut w (Err fault) flipped (length w.classes) old new
-empty_put w fault flipped count old new e p = record {
+pub empty_put : (w : WindowRule) (fault : Fault) (turned : Option Turned) (count : ℕ) (old new : List (List ℕ)) → count ≡ length w.classes → IsPutEmpty count old new → ArePut w (Err fault) turned (length w.classes) old new
+empty_put w fault turned count old new e p = record {
   own = p.own;
   grown = p.grown;
   sorted = record { long = p.long ∙ e; each = λ k h. p.empty k (omega arith) };
 }
 
-pub fault_tied : (w : WindowRule) (fault : Fault) (flipped : Option ℕ) (count : ℕ) (old new : List (List ℕ)) → count ≡ length w.classes → IsPutEmpty count old new → IsTiedWindow w (Err fault) flipped old new (Err fault)
-fault_tied w fault flipped count old new e p =
-    let put = empty_put w fault flipped count old new e p in
-    record { put = put; extended = record { served = window_put w (Err fault) flipped old new put; is = refl } }
+pub fault_tied : (w : WindowRule) (fault : Fault) (turned : Option Turned) (count : ℕ) (old new : List (List ℕ)) → count ≡ length w.classes → IsPutEmpty count old new → IsTiedWindow w (Err fault) turned old new (Err fault)
+fault_tied w fault turned count old new e p =
+    let put = empty_put w fault turned count old new e p in
+    record { put = put; extended = record { served = window_put w (Err fault) turned old new put; is = refl } }
 
 pub none_empty : (old : List (List ℕ)) → IsPutEmpty 0 old old
 none_empty old = record { own = []; grown = sym (append-nil old); long = refl; empty = λ k h. absurd (omega arith) }
@@ -99,33 +101,33 @@ one_empty count old mid new p e =
 
 -- ---- one class after another
 
-pub none_put : (w : WindowRule) (input : RowsOrFault) (flipped : Option ℕ) (old : List (List ℕ)) → ArePut w input flipped 0 old old
-none_put w input flipped old = record {
+pub none_put : (w : WindowRule) (input : RowsOrFault) (turned : Option Turned) (old : List (List ℕ)) → ArePut w input turned 0 old old
+none_put w input turned old = record {
   own = [];
   grown = sym (append-nil old);
   sorted = record { long = refl; each = λ k h. absurd (omega arith) };
 }
 
-pub one_put : (w : WindowRule) (input : RowsOrFault) (flipped : Option ℕ) (n number : ℕ) (old mid new : List (List ℕ)) (turned : Bool) (ordering : List ℕ)
-    → ArePut w input flipped n old mid → number ≡ length mid → turned ≡ is_flipped flipped number → IsSortedOver (class_at w n) turned input ordering → new ≡ mid ++ ordering ∷ [] → ArePut w input flipped (n + 1) old new
-one_put w input flipped n number old mid new turned ordering p at turn sorted e =
+pub one_put : (w : WindowRule) (input : RowsOrFault) (turned : Option Turned) (n number : ℕ) (old mid new : List (List ℕ)) (turn : Turn) (ordering : List ℕ)
+    → ArePut w input turned n old mid → number ≡ length mid → turn ≡ turn_of turned number → IsSortedOver (class_at w n) turn input ordering → new ≡ mid ++ ordering ∷ [] → ArePut w input turned (n + 1) old new
+one_put w input turned n number old mid new turn ordering p at taken sorted e =
     let own = p.own in
     let size = p.sorted.long in
     let all = own ++ ordering ∷ [] in
     let long = length-append own (ordering ∷ []) in
     let here_number : number ≡ length old + n = at ∙ ap length p.grown ∙ length-append old own ∙ ap (λ k. length old + k) size in
     let last : ordering_at all n ≡ ordering = ap (ordering_at all) (sym size) ∙ get_or-append_seam own ordering [] [] in
-    let earlier : (k : ℕ) → k < n → IsSortedOver (class_at w k) (is_flipped flipped (length old + k)) input (ordering_at all k) =
-    λ k h. subst (IsSortedOver (class_at w k) (is_flipped flipped (length old + k)) input) (sym (get_or_append_left own (ordering ∷ []) [] k (omega arith))) (p.sorted.each k h) in
-    let here : IsSortedOver (class_at w n) (is_flipped flipped (length old + n)) input (ordering_at all n) =
-    subst (IsSortedOver (class_at w n) (is_flipped flipped (length old + n)) input) (sym last)
-    (subst (λ (t : Bool). IsSortedOver (class_at w n) t input ordering) (turn ∙ ap (is_flipped flipped) here_number) sorted) in
+    let earlier : (k : ℕ) → k < n → IsSortedOver (class_at w k) (turn_of turned (length old + k)) input (ordering_at all k) =
+    λ k h. subst (IsSortedOver (class_at w k) (turn_of turned (length old + k)) input) (sym (get_or_append_left own (ordering ∷ []) [] k (omega arith))) (p.sorted.each k h) in
+    let here : IsSortedOver (class_at w n) (turn_of turned (length old + n)) input (ordering_at all n) =
+    subst (IsSortedOver (class_at w n) (turn_of turned (length old + n)) input) (sym last)
+    (subst (λ (t : Turn). IsSortedOver (class_at w n) t input ordering) (taken ∙ ap (turn_of turned) here_number) sorted) in
     record {
       own = all;
       grown = e ∙ ap (λ ch. ch ++ ordering ∷ []) p.grown ∙ append_assoc old own (ordering ∷ []);
       sorted = record {
         long = long ∙ ap (λ k. k + 1) size;
-        each = λ k h. below_more (λ i. IsSortedOver (class_at w i) (is_flipped flipped (length old + i)) input (ordering_at all i)) n earlier here k h;
+        each = λ k h. below_more (λ i. IsSortedOver (class_at w i) (turn_of turned (length old + i)) input (ordering_at all i)) n earlier here k h;
       };
     }
 

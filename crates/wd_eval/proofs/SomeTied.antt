@@ -9,36 +9,38 @@ use Rattle.wd_plan.specs.Sorting.{limit_class}
 use Rattle.wd_plan.proofs.ChoiceLaws.{outcome-append}
 use Rattle.wd_partition.specs.Columns.{given_positions, sort_columns}
 use Rattle.wd_eval.specs.Laws.{HasOneTiedOutcome, HasTiedChoice}
-use Rattle.wd_eval.specs.Tied.{AreTied, IsSortedOver, IsTiedRefused, is_flipped}
+use Rattle.wd_eval.specs.Tied.{AreTied, IsSortedOver, IsTurnedRefused, turn_of}
 use Rattle.wd_eval.specs.Ties.{IsUntied}
 use Rattle.wd_eval.specs.declared.error.EvalError.{EvalError}
 use Rattle.wd_eval.specs.declared.error.EvalError.TheVariants.{NotValid, TooManyRows, OutOfMemory}
+use Rattle.wd_partition.specs.declared.turn.Turn.{Turn}
+use Rattle.wd_eval.specs.declared.turned.Turned.{Turned}
 use Rattle.wd_eval.proofs.SomeSort.{some_stable_sort}
 use Rattle.wd_eval.proofs.Tying.{one_outcome, tied_append}
 
-some_sorted : (class : ClassRule) (flipped : Bool) (input : RowsOrFault) → (ordering : List ℕ) × IsSortedOver class flipped input ordering
-some_sorted class flipped (Ok rows) = some_stable_sort (sort_columns class) rows (given_positions flipped (length rows))
-some_sorted class flipped (Err fault) = ([], refl)
+some_sorted : (class : ClassRule) (turn : Turn) (input : RowsOrFault) → (ordering : List ℕ) × IsSortedOver class turn input ordering
+some_sorted class turn (Ok rows) = some_stable_sort (sort_columns class) rows (given_positions turn (length rows))
+some_sorted class turn (Err fault) = ([], refl)
 
 -- the class with this number
 abbrev numbered : List ClassRule → ℕ → ClassRule
 numbered classes n = get_or classes n (record { partition = []; order = [] })
 
 -- one for each class of a Window
-some_own : (classes : List ClassRule) (turned : ℕ → Bool) (input : RowsOrFault) → (own : List (List ℕ)) × (length own ≡ length classes) × ((k : ℕ) → k < length classes → IsSortedOver (numbered classes k) (turned k) input (ordering_at own k))
-some_own [] turned input = ([], refl, λ k h. absurd (omega arith))
-some_own (class ∷ classes) turned input =
-    let one = some_sorted class (turned 0) input in
-    let others = some_own classes (λ k. turned (suc k)) input in
+some_own : (classes : List ClassRule) (turn : ℕ → Turn) (input : RowsOrFault) → (own : List (List ℕ)) × (length own ≡ length classes) × ((k : ℕ) → k < length classes → IsSortedOver (numbered classes k) (turn k) input (ordering_at own k))
+some_own [] turn input = ([], refl, λ k h. absurd (omega arith))
+some_own (class ∷ classes) turn input =
+    let one = some_sorted class (turn 0) input in
+    let others = some_own classes (λ k. turn (suc k)) input in
     (one.0 ∷ others.0, ap suc others.1, at_place one.0 others.0 one.1 others.2)
   where
-    at_place : (first : List ℕ) (own : List (List ℕ)) → IsSortedOver class (turned 0) input first → ((k : ℕ) → k < length classes → IsSortedOver (numbered classes k) (turned (suc k)) input (ordering_at own k))
-        → (k : ℕ) → k < length (class ∷ classes) → IsSortedOver (numbered (class ∷ classes) k) (turned k) input (ordering_at (first ∷ own) k)
+    at_place : (first : List ℕ) (own : List (List ℕ)) → IsSortedOver class (turn 0) input first → ((k : ℕ) → k < length classes → IsSortedOver (numbered classes k) (turn (suc k)) input (ordering_at own k))
+        → (k : ℕ) → k < length (class ∷ classes) → IsSortedOver (numbered (class ∷ classes) k) (turn k) input (ordering_at (first ∷ own) k)
     at_place first own s each zero h = s
     at_place first own s each (suc k) h = each k (omega arith)
 
-module _ (instance : Instance) (flipped : Option ℕ) where
-  some_tied : (plan : PlanTree) (first : ℕ) → (choice : List (List ℕ)) × (length choice ≡ ordering_count plan) × AreTied plan instance flipped first choice
+module _ (instance : Instance) (turned : Option Turned) where
+  some_tied : (plan : PlanTree) (first : ℕ) → (choice : List (List ℕ)) × (length choice ≡ ordering_count plan) × AreTied plan instance turned first choice
   some_tied (Scan table columns) first = ([], refl, tt)
   some_tied (Join condition left right) first =
       let n = ordering_count left in
@@ -49,7 +51,7 @@ module _ (instance : Instance) (flipped : Option ℕ) where
       let behind : drop n (l.0 ++ r.0) ≡ r.0 = subst (λ k. drop k (l.0 ++ r.0) ≡ r.0) long (drop-append_seam l.0 r.0) in (
         l.0 ++ r.0,
         length-append l.0 r.0 ∙ omega arith,
-        (tied_append instance flipped left first l.0 r.0 (omega arith) l.2, subst (AreTied right instance flipped (first + n)) (sym behind) r.2),
+        (tied_append instance turned left first l.0 r.0 (omega arith) l.2, subst (AreTied right instance turned (first + n)) (sym behind) r.2),
       )
   some_tied (Filter condition input) first = some_tied input first
   some_tied (Map outputs input) first = some_tied input first
@@ -58,17 +60,17 @@ module _ (instance : Instance) (flipped : Option ℕ) where
       let n = ordering_count input in
       let b = some_tied input first in
       let long : length b.0 ≡ n = b.1 in
-      let turned = λ (k : ℕ). is_flipped flipped (first + n + k) in
-      let own = some_own w.classes turned (outcome input instance b.0) in
+      let turn = λ (k : ℕ). turn_of turned (first + n + k) in
+      let own = some_own w.classes turn (outcome input instance b.0) in
       let size : length own.0 ≡ length w.classes = own.1 in
       let below : outcome input instance (b.0 ++ own.0) ≡ outcome input instance b.0 = outcome-append input instance b.0 own.0 (omega arith) in
       let at : (k : ℕ) → ordering_at (b.0 ++ own.0) (n + k) ≡ ordering_at own.0 k = λ k. ap (λ m. ordering_at (b.0 ++ own.0) (m + k)) (sym long) ∙ get_or-append-add b.0 own.0 k [] in (
         b.0 ++ own.0,
         length-append b.0 own.0 ∙ omega arith,
         (
-          tied_append instance flipped input first b.0 own.0 (omega arith) b.2,
-          λ k h. subst (IsSortedOver (class_at w k) (turned k) (outcome input instance (b.0 ++ own.0))) (sym (at k))
-              (subst (λ (r : RowsOrFault). IsSortedOver (class_at w k) (turned k) r (ordering_at own.0 k)) (sym below) (own.2 k h)),
+          tied_append instance turned input first b.0 own.0 (omega arith) b.2,
+          λ k h. subst (IsSortedOver (class_at w k) (turn k) (outcome input instance (b.0 ++ own.0))) (sym (at k))
+              (subst (λ (r : RowsOrFault). IsSortedOver (class_at w k) (turn k) r (ordering_at own.0 k)) (sym below) (own.2 k h)),
         ),
       )
   some_tied (Distinct input) first = some_tied input first
@@ -76,34 +78,34 @@ module _ (instance : Instance) (flipped : Option ℕ) where
       let n = ordering_count input in
       let b = some_tied input first in
       let long : length b.0 ≡ n = b.1 in
-      let turned = is_flipped flipped (first + n) in
-      let one = some_sorted (limit_class limit) turned (outcome input instance b.0) in
+      let turn = turn_of turned (first + n) in
+      let one = some_sorted (limit_class limit) turn (outcome input instance b.0) in
       let all = b.0 ++ one.0 ∷ [] in
       let below : outcome input instance all ≡ outcome input instance b.0 = outcome-append input instance b.0 (one.0 ∷ []) (omega arith) in
       let at : ordering_at all n ≡ one.0 = ap (ordering_at all) (sym long) ∙ get_or-append_seam b.0 one.0 [] [] in (
         all,
         length-append b.0 (one.0 ∷ []) ∙ ap (λ k. k + 1) long,
         (
-          tied_append instance flipped input first b.0 (one.0 ∷ []) (omega arith) b.2,
-          subst (IsSortedOver (limit_class limit) turned (outcome input instance all)) (sym at)
-              (subst (λ (r : RowsOrFault). IsSortedOver (limit_class limit) turned r one.0) (sym below) one.1),
+          tied_append instance turned input first b.0 (one.0 ∷ []) (omega arith) b.2,
+          subst (IsSortedOver (limit_class limit) turn (outcome input instance all)) (sym at)
+              (subst (λ (r : RowsOrFault). IsSortedOver (limit_class limit) turn r one.0) (sym below) one.1),
         ),
       )
 
 pub has_tied_choice : HasTiedChoice
-has_tied_choice plan instance flipped = let t = some_tied instance flipped plan 0 in (t.0, record { number = t.1; tied = t.2 })
+has_tied_choice plan instance turned = let t = some_tied instance turned plan 0 in (t.0, record { number = t.1; tied = t.2 })
 
 pub has_one_tied_outcome : HasOneTiedOutcome
-has_one_tied_outcome plan instance flipped a b s t =
+has_one_tied_outcome plan instance turned a b s t =
     let long : ordering_count plan ≤ length a = (let n = s.number in omega arith) in
     let longer : ordering_count plan ≤ length b = (let n = t.number in omega arith) in
-    one_outcome instance flipped plan 0 a b long longer s.tied t.tied
+    one_outcome instance turned plan 0 a b long longer s.tied t.tied
 
 -- why there is no outcome under that choice
-pub refused_from : (plan : PlanTree) (instance : Instance) (flipped : Option ℕ) (e : EvalError) → IsUntied plan instance flipped 0 e → IsTiedRefused plan instance flipped e
-refused_from plan instance flipped (NotValid place) h = h
-refused_from plan instance flipped TooManyRows h =
-    let t = has_tied_choice plan instance flipped in
+pub refused_from : (plan : PlanTree) (instance : Instance) (turned : Option Turned) (e : EvalError) → IsUntied plan instance turned 0 e → IsTurnedRefused plan instance turned e
+refused_from plan instance turned (NotValid place) h = h
+refused_from plan instance turned TooManyRows h =
+    let t = has_tied_choice plan instance turned in
     let long : ordering_count plan ≤ length t.0 = (let n = t.1.number in omega arith) in
     record { choice = t.0; tied = t.1; large = h t.0 long t.1.tied }
-refused_from plan instance flipped OutOfMemory h = tt
+refused_from plan instance turned OutOfMemory h = tt

@@ -20,21 +20,23 @@ use Rattle.wd_nodes.specs.Produced.{produced_of, IsLarge, IsSmall, group_over, j
 use Rattle.wd_eval.specs.Nodes.{IsEvaluated, cut_over}
 use Rattle.wd_eval.specs.Windows.{window_over}
 use Rattle.wd_eval.specs.Steps.{has_large_step, is_large}
-use Rattle.wd_eval.specs.Tied.{AreTied, IsSortedOver, IsValidTiedChoice, is_flipped}
+use Rattle.wd_eval.specs.Tied.{AreTied, IsSortedOver, IsValidTurnedChoice, turn_of}
 use Rattle.wd_eval.specs.Ties.{IsTied, IsTiedLimit, IsTiedWindow, IsUntied, IsOutOfMemory}
 use Rattle.wd_eval.specs.declared.error.EvalError.{EvalError}
 use Rattle.wd_eval.specs.declared.error.EvalError.TheVariants.{NotValid, TooManyRows, OutOfMemory}
 use Rattle.wd_nodes.specs.declared.produced.Produced.{Produced}
 use Rattle.wd_nodes.specs.declared.produced.Produced.TheVariants.{Made}
 use Rattle.wd_eval.specs.declared.node.Evaluated.{Evaluated}
+use Rattle.wd_partition.specs.declared.turn.Turn.{Turn}
+use Rattle.wd_eval.specs.declared.turned.Turned.{Turned}
 use Rattle.wd_eval.proofs.Nodes.{or_left, or_right, scan_done, filter_done, map_done, group_done, distinct_done, window_done, limit_done, join_done}
 use Rattle.wd_eval.proofs.Stable.{one_stable_sort}
 
 -- ---- the sorted ordering is the only one
 
-one_sorted : (class : ClassRule) (flipped : Bool) (input : RowsOrFault) (a b : List ℕ) → IsSortedOver class flipped input a → IsSortedOver class flipped input b → a ≡ b
-one_sorted class flipped (Ok rows) a b s t = one_stable_sort (sort_columns class) rows (given_positions flipped (length rows)) a b s t
-one_sorted class flipped (Err fault) a b s t = s ∙ sym t
+one_sorted : (class : ClassRule) (turn : Turn) (input : RowsOrFault) (a b : List ℕ) → IsSortedOver class turn input a → IsSortedOver class turn input b → a ≡ b
+one_sorted class turn (Ok rows) a b s t = one_stable_sort (sort_columns class) rows (given_positions turn (length rows)) a b s t
+one_sorted class turn (Err fault) a b s t = s ∙ sym t
 
 -- the orderings of a Window in a choice
 own_at : (choice : List (List ℕ)) (c m k : ℕ) → k < m → ordering_at (take m (drop c choice)) k ≡ ordering_at choice (c + k)
@@ -43,8 +45,8 @@ own_at choice c m k h = get_or-take m (drop c choice) k [] h ∙ get_or-drop c c
 length_own : (choice : List (List ℕ)) (c m : ℕ) → c + m ≤ length choice → length (take m (drop c choice)) ≡ m
 length_own choice c m h = let a = length-take m (drop c choice) in let b = length-drop c choice in omega arith
 
-module _ (instance : Instance) (flipped : Option ℕ) where
-  pub one_outcome : (plan : PlanTree) (first : ℕ) (a b : List (List ℕ)) → ordering_count plan ≤ length a → ordering_count plan ≤ length b → AreTied plan instance flipped first a → AreTied plan instance flipped first b → outcome plan instance a ≡ outcome plan instance b
+module _ (instance : Instance) (turned : Option Turned) where
+  pub one_outcome : (plan : PlanTree) (first : ℕ) (a b : List (List ℕ)) → ordering_count plan ≤ length a → ordering_count plan ≤ length b → AreTied plan instance turned first a → AreTied plan instance turned first b → outcome plan instance a ≡ outcome plan instance b
   one_outcome (Scan table columns) first a b h g s t = refl
   one_outcome (Join condition left right) first a b h g s t =
       let n = ordering_count left in
@@ -63,8 +65,8 @@ module _ (instance : Instance) (flipped : Option ℕ) where
       let long_a = length_own a n m h in
       let long_b = length_own b n m g in
       let same_at : (k : ℕ) → k < m → ordering_at a (n + k) ≡ ordering_at b (n + k) =
-      λ k l. one_sorted (class_at w k) (is_flipped flipped (first + n + k)) (outcome input instance b) (ordering_at a (n + k)) (ordering_at b (n + k))
-      (subst (λ (r : RowsOrFault). IsSortedOver (class_at w k) (is_flipped flipped (first + n + k)) r (ordering_at a (n + k))) below (s.1 k l)) (t.1 k l) in
+      λ k l. one_sorted (class_at w k) (turn_of turned (first + n + k)) (outcome input instance b) (ordering_at a (n + k)) (ordering_at b (n + k))
+      (subst (λ (r : RowsOrFault). IsSortedOver (class_at w k) (turn_of turned (first + n + k)) r (ordering_at a (n + k))) below (s.1 k l)) (t.1 k l) in
       let own : take m (drop n a) ≡ take m (drop n b) =
       ext_get_or [] (take m (drop n a)) (take m (drop n b)) (long_a ∙ sym long_b) (λ k l. (let small : k < m = omega arith in own_at a n m k small ∙ same_at k small ∙ sym (own_at b n m k small))) in
       λ i. window_over w (own i) (below i)
@@ -72,19 +74,19 @@ module _ (instance : Instance) (flipped : Option ℕ) where
   one_outcome (Limit limit input) first a b h g s t =
       let n = ordering_count input in
       let below = one_outcome input first a b (omega arith) (omega arith) s.0 t.0 in
-      let own = one_sorted (limit_class limit) (is_flipped flipped (first + n)) (outcome input instance b) (ordering_at a n) (ordering_at b n)
-      (subst (λ (r : RowsOrFault). IsSortedOver (limit_class limit) (is_flipped flipped (first + n)) r (ordering_at a n)) below s.1) t.1 in
+      let own = one_sorted (limit_class limit) (turn_of turned (first + n)) (outcome input instance b) (ordering_at a n) (ordering_at b n)
+      (subst (λ (r : RowsOrFault). IsSortedOver (limit_class limit) (turn_of turned (first + n)) r (ordering_at a n)) below s.1) t.1 in
       λ i. cut_over limit (own i) (below i)
 
   -- ---- a choice may be made longer
 
-  pub tied_append : (plan : PlanTree) (first : ℕ) (choice more : List (List ℕ)) → ordering_count plan ≤ length choice → AreTied plan instance flipped first choice → AreTied plan instance flipped first (choice ++ more)
+  pub tied_append : (plan : PlanTree) (first : ℕ) (choice more : List (List ℕ)) → ordering_count plan ≤ length choice → AreTied plan instance turned first choice → AreTied plan instance turned first (choice ++ more)
   tied_append (Scan table columns) first choice more h s = tt
   tied_append (Join condition left right) first choice more h s =
       let n = ordering_count left in
       let long = length-drop n choice in (
         tied_append left first choice more (omega arith) s.0,
-        subst (AreTied right instance flipped (first + n)) (sym (drop-append-le n choice more (omega arith))) (tied_append right (first + n) (drop n choice) more (omega arith) s.1),
+        subst (AreTied right instance turned (first + n)) (sym (drop-append-le n choice more (omega arith))) (tied_append right (first + n) (drop n choice) more (omega arith) s.1),
       )
   tied_append (Filter condition input) first choice more h s = tied_append input first choice more h s
   tied_append (Map outputs input) first choice more h s = tied_append input first choice more h s
@@ -95,8 +97,8 @@ module _ (instance : Instance) (flipped : Option ℕ) where
         tied_append input first choice more (omega arith) s.0,
         λ k l. (
             let at : ordering_at (choice ++ more) (n + k) ≡ ordering_at choice (n + k) = get_or_append_left choice more [] (n + k) (omega arith) in
-            subst (IsSortedOver (class_at w k) (is_flipped flipped (first + n + k)) (outcome input instance (choice ++ more))) (sym at)
-            (subst (λ (r : RowsOrFault). IsSortedOver (class_at w k) (is_flipped flipped (first + n + k)) r (ordering_at choice (n + k))) (sym below) (s.1 k l))),
+            subst (IsSortedOver (class_at w k) (turn_of turned (first + n + k)) (outcome input instance (choice ++ more))) (sym at)
+            (subst (λ (r : RowsOrFault). IsSortedOver (class_at w k) (turn_of turned (first + n + k)) r (ordering_at choice (n + k))) (sym below) (s.1 k l))),
       )
   tied_append (Distinct input) first choice more h s = tied_append input first choice more h s
   tied_append (Limit limit input) first choice more h s =
@@ -104,8 +106,8 @@ module _ (instance : Instance) (flipped : Option ℕ) where
       let below = outcome-append input instance choice more (omega arith) in
       let at : ordering_at (choice ++ more) n ≡ ordering_at choice n = get_or_append_left choice more [] n (omega arith) in (
         tied_append input first choice more (omega arith) s.0,
-        subst (IsSortedOver (limit_class limit) (is_flipped flipped (first + n)) (outcome input instance (choice ++ more))) (sym at)
-            (subst (λ (r : RowsOrFault). IsSortedOver (limit_class limit) (is_flipped flipped (first + n)) r (ordering_at choice n)) (sym below) s.1),
+        subst (IsSortedOver (limit_class limit) (turn_of turned (first + n)) (outcome input instance (choice ++ more))) (sym at)
+            (subst (λ (r : RowsOrFault). IsSortedOver (limit_class limit) (turn_of turned (first + n)) r (ordering_at choice n)) (sym below) s.1),
       )
 
 -- orderings after a plan's own change no step's size
@@ -143,16 +145,16 @@ evaluated_append plan tables instance choice more first e h b =
 
 -- ---- nodes
 
-pub memory_untied : (plan : PlanTree) (instance : Instance) (flipped : Option ℕ) (first : ℕ) (e : EvalError) → IsOutOfMemory e → IsUntied plan instance flipped first e
-memory_untied plan instance flipped first (NotValid p) h = h
-memory_untied plan instance flipped first TooManyRows h = absurd h
-memory_untied plan instance flipped first OutOfMemory h = tt
+pub memory_untied : (plan : PlanTree) (instance : Instance) (turned : Option Turned) (first : ℕ) (e : EvalError) → IsOutOfMemory e → IsUntied plan instance turned first e
+memory_untied plan instance turned first (NotValid p) h = h
+memory_untied plan instance turned first TooManyRows h = absurd h
+memory_untied plan instance turned first OutOfMemory h = tt
 
-module _ (tables instance : Instance) (flipped : Option ℕ) (old : List (List ℕ)) where
+module _ (tables instance : Instance) (turned : Option Turned) (old : List (List ℕ)) where
   grown_long : (mid own : List (List ℕ)) → mid ≡ old ++ own → length old ≤ length mid
   grown_long mid own e = let long = ap length e ∙ length-append old own in omega arith
 
-  pub scan_tied : (table columns : ℕ) (o : Produced) → IsSmall most_rows (Ok (table_at instance table)) (produced_of tables o) → IsTied (Scan table columns) tables instance flipped old old o
+  pub scan_tied : (table columns : ℕ) (o : Produced) → IsSmall most_rows (Ok (table_at instance table)) (produced_of tables o) → IsTied (Scan table columns) tables instance turned old old o
   scan_tied table columns o s = record {
     own = [];
     grown = sym (append-nil old);
@@ -160,8 +162,8 @@ module _ (tables instance : Instance) (flipped : Option ℕ) (old : List (List �
     tied = tt;
   }
 
-  module _ (input : PlanTree) (new : List (List ℕ)) (below : Produced) (b : IsTied input tables instance flipped old new below) (o : Produced) where
-    pub filter_tied : (condition : Expression) → produced_of tables o ≡ and_then (produced_of tables below) (filter_outcome condition) → IsTied (Filter condition input) tables instance flipped old new o
+  module _ (input : PlanTree) (new : List (List ℕ)) (below : Produced) (b : IsTied input tables instance turned old new below) (o : Produced) where
+    pub filter_tied : (condition : Expression) → produced_of tables o ≡ and_then (produced_of tables below) (filter_outcome condition) → IsTied (Filter condition input) tables instance turned old new o
     filter_tied condition is = record {
       own = b.own;
       grown = b.grown;
@@ -169,7 +171,7 @@ module _ (tables instance : Instance) (flipped : Option ℕ) (old : List (List �
       tied = b.tied;
     }
 
-    pub map_tied : (outputs : List Expression) → produced_of tables o ≡ and_then (produced_of tables below) (map_outcome outputs) → IsTied (Map outputs input) tables instance flipped old new o
+    pub map_tied : (outputs : List Expression) → produced_of tables o ≡ and_then (produced_of tables below) (map_outcome outputs) → IsTied (Map outputs input) tables instance turned old new o
     map_tied outputs is = record {
       own = b.own;
       grown = b.grown;
@@ -177,7 +179,7 @@ module _ (tables instance : Instance) (flipped : Option ℕ) (old : List (List �
       tied = b.tied;
     }
 
-    pub distinct_tied : produced_of tables o ≡ and_then (produced_of tables below) (λ rows. Ok (distinct rows)) → IsTied (Distinct input) tables instance flipped old new o
+    pub distinct_tied : produced_of tables o ≡ and_then (produced_of tables below) (λ rows. Ok (distinct rows)) → IsTied (Distinct input) tables instance turned old new o
     distinct_tied is = record {
       own = b.own;
       grown = b.grown;
@@ -185,28 +187,28 @@ module _ (tables instance : Instance) (flipped : Option ℕ) (old : List (List �
       tied = b.tied;
     }
 
-  pub filter_untied : (condition : Expression) (input : PlanTree) (e : EvalError) → IsUntied input instance flipped (length old) e → IsUntied (Filter condition input) instance flipped (length old) e
+  pub filter_untied : (condition : Expression) (input : PlanTree) (e : EvalError) → IsUntied input instance turned (length old) e → IsUntied (Filter condition input) instance turned (length old) e
   filter_untied condition input (NotValid p) h = h
   filter_untied condition input TooManyRows h = λ choice long s. or_left (has_large_step input instance choice) (is_large (Filter condition input) instance choice) (h choice long s)
   filter_untied condition input OutOfMemory h = tt
 
-  pub map_untied : (outputs : List Expression) (input : PlanTree) (e : EvalError) → IsUntied input instance flipped (length old) e → IsUntied (Map outputs input) instance flipped (length old) e
+  pub map_untied : (outputs : List Expression) (input : PlanTree) (e : EvalError) → IsUntied input instance turned (length old) e → IsUntied (Map outputs input) instance turned (length old) e
   map_untied outputs input (NotValid p) h = h
   map_untied outputs input TooManyRows h = λ choice long s. or_left (has_large_step input instance choice) (is_large (Map outputs input) instance choice) (h choice long s)
   map_untied outputs input OutOfMemory h = tt
 
-  pub distinct_untied : (input : PlanTree) (e : EvalError) → IsUntied input instance flipped (length old) e → IsUntied (Distinct input) instance flipped (length old) e
+  pub distinct_untied : (input : PlanTree) (e : EvalError) → IsUntied input instance turned (length old) e → IsUntied (Distinct input) instance turned (length old) e
   distinct_untied input (NotValid p) h = h
   distinct_untied input TooManyRows h = λ choice long s. or_left (has_large_step input instance choice) (is_large (Distinct input) instance choice) (h choice long s)
   distinct_untied input OutOfMemory h = tt
 
-  pub group_untied_below : (rule : GroupRule) (input : PlanTree) (e : EvalError) → IsUntied input instance flipped (length old) e → IsUntied (Group rule input) instance flipped (length old) e
+  pub group_untied_below : (rule : GroupRule) (input : PlanTree) (e : EvalError) → IsUntied input instance turned (length old) e → IsUntied (Group rule input) instance turned (length old) e
   group_untied_below rule input (NotValid p) h = h
   group_untied_below rule input TooManyRows h = λ choice long s. or_left (has_large_step input instance choice) (is_large (Group rule input) instance choice) (h choice long s)
   group_untied_below rule input OutOfMemory h = tt
 
-  module _ (rule : GroupRule) (input : PlanTree) (new : List (List ℕ)) (below : Produced) (b : IsTied input tables instance flipped old new below) where
-    pub group_tied : (o : Outcome) → IsSmall most_rows (group_over rule (produced_of tables below)) (outcome_of o) → IsTied (Group rule input) tables instance flipped old new (Made o)
+  module _ (rule : GroupRule) (input : PlanTree) (new : List (List ℕ)) (below : Produced) (b : IsTied input tables instance turned old new below) where
+    pub group_tied : (o : Outcome) → IsSmall most_rows (group_over rule (produced_of tables below)) (outcome_of o) → IsTied (Group rule input) tables instance turned old new (Made o)
     group_tied o s = record {
       own = b.own;
       grown = b.grown;
@@ -214,28 +216,28 @@ module _ (tables instance : Instance) (flipped : Option ℕ) (old : List (List �
       tied = b.tied;
     }
 
-    large_group : has_more_rows most_rows (group_over rule (produced_of tables below)) ≡ true → (choice : List (List ℕ)) → ordering_count input ≤ length choice → AreTied input instance flipped (length old) choice → is_large (Group rule input) instance choice ≡ true
+    large_group : has_more_rows most_rows (group_over rule (produced_of tables below)) ≡ true → (choice : List (List ℕ)) → ordering_count input ≤ length choice → AreTied input instance turned (length old) choice → is_large (Group rule input) instance choice ≡ true
     large_group h choice long s =
-        let same : outcome input instance choice ≡ outcome input instance (drop (length old) new) = one_outcome instance flipped input (length old) choice (drop (length old) new) long b.evaluated.served.present s b.tied in
+        let same : outcome input instance choice ≡ outcome input instance (drop (length old) new) = one_outcome instance turned input (length old) choice (drop (length old) new) long b.evaluated.served.present s b.tied in
         ap (λ r. has_more_rows most_rows (group_over rule r)) (same ∙ sym b.evaluated.is) ∙ h
 
-    pub group_untied : (e : StepError) → IsLarge most_rows (group_over rule (produced_of tables below)) e → IsUntied (Group rule input) instance flipped (length old) (error_of e)
+    pub group_untied : (e : StepError) → IsLarge most_rows (group_over rule (produced_of tables below)) e → IsUntied (Group rule input) instance turned (length old) (error_of e)
     group_untied step.TooManyRows h = λ choice long s. or_right (has_large_step input instance choice) (is_large (Group rule input) instance choice) (large_group h choice long s)
     group_untied step.OutOfMemory h = tt
 
-  pub window_untied : (w : WindowRule) (input : PlanTree) (e : EvalError) → IsUntied input instance flipped (length old) e → IsUntied (Window w input) instance flipped (length old) e
+  pub window_untied : (w : WindowRule) (input : PlanTree) (e : EvalError) → IsUntied input instance turned (length old) e → IsUntied (Window w input) instance turned (length old) e
   window_untied w input (NotValid p) h = h
   window_untied w input TooManyRows h = λ choice long s. or_left (has_large_step input instance choice) (is_large (Window w input) instance choice) (h choice (omega arith) s.0)
   window_untied w input OutOfMemory h = tt
 
-  pub limit_untied : (limit : LimitRule) (input : PlanTree) (e : EvalError) → IsUntied input instance flipped (length old) e → IsUntied (Limit limit input) instance flipped (length old) e
+  pub limit_untied : (limit : LimitRule) (input : PlanTree) (e : EvalError) → IsUntied input instance turned (length old) e → IsUntied (Limit limit input) instance turned (length old) e
   limit_untied limit input (NotValid p) h = h
   limit_untied limit input TooManyRows h = λ choice long s. or_left (has_large_step input instance choice) (is_large (Limit limit input) instance choice) (h choice (omega arith) s.0)
   limit_untied limit input OutOfMemory h = tt
 
   -- ---- what stands after the orderings of a node below
 
-  module _ (plan : PlanTree) (mid own new : List (List ℕ)) (o : Produced) (b : IsTied plan tables instance flipped old mid o) (e : new ≡ mid ++ own) where
+  module _ (plan : PlanTree) (mid own new : List (List ℕ)) (o : Produced) (b : IsTied plan tables instance turned old mid o) (e : new ≡ mid ++ own) where
     abbrev at_mid : Evaluated
     at_mid = record { outcome = o; next = length mid }
 
@@ -246,8 +248,8 @@ module _ (tables instance : Instance) (flipped : Option ℕ) (old : List (List �
     rest : drop (length old) new ≡ drop (length old) mid ++ own
     rest = ap (drop (length old)) e ∙ drop-append-le (length old) mid own (grown_long mid b.own b.grown)
 
-    pub still_tied : AreTied plan instance flipped (length old) (drop (length old) new)
-    still_tied = subst (AreTied plan instance flipped (length old)) (sym rest) (tied_append instance flipped plan (length old) (drop (length old) mid) own b.evaluated.served.present b.tied)
+    pub still_tied : AreTied plan instance turned (length old) (drop (length old) new)
+    still_tied = subst (AreTied plan instance turned (length old)) (sym rest) (tied_append instance turned plan (length old) (drop (length old) mid) own b.evaluated.served.present b.tied)
 
     -- the orderings put there
     pub put_at : (k : ℕ) → ordering_at (drop (length old) new) (ordering_count plan + k) ≡ ordering_at own k
@@ -264,7 +266,7 @@ module _ (tables instance : Instance) (flipped : Option ℕ) (old : List (List �
     pub grown_more : new ≡ old ++ (b.own ++ own)
     grown_more = e ∙ ap (λ ch. ch ++ own) b.grown ∙ append_assoc old b.own own
 
-  pub window_tied : (w : WindowRule) (input : PlanTree) (mid new : List (List ℕ)) (below o : Produced) → IsTied input tables instance flipped old mid below → IsTiedWindow w (produced_of tables below) flipped mid new (produced_of tables o) → IsTied (Window w input) tables instance flipped old new o
+  pub window_tied : (w : WindowRule) (input : PlanTree) (mid new : List (List ℕ)) (below o : Produced) → IsTied input tables instance turned old mid below → IsTiedWindow w (produced_of tables below) turned mid new (produced_of tables o) → IsTied (Window w input) tables instance turned old new o
   window_tied w input mid new below o b x =
       let own = x.put.own in
       let e = x.put.grown in
@@ -282,13 +284,13 @@ module _ (tables instance : Instance) (flipped : Option ℕ) (old : List (List �
           still_tied input mid own new below b e,
           λ k l. (
               let number : length mid + k ≡ length old + ordering_count input + k = omega arith in
-              subst (IsSortedOver (class_at w k) (is_flipped flipped (length old + ordering_count input + k)) (outcome input instance (drop (length old) new))) (sym (put_at input mid own new below b e k))
-              (subst (λ (r : RowsOrFault). IsSortedOver (class_at w k) (is_flipped flipped (length old + ordering_count input + k)) r (ordering_at own k)) (below_is input mid own new below b e)
-              (subst (λ (n : ℕ). IsSortedOver (class_at w k) (is_flipped flipped n) (produced_of tables below) (ordering_at own k)) number (sorted.each k l)))),
+              subst (IsSortedOver (class_at w k) (turn_of turned (length old + ordering_count input + k)) (outcome input instance (drop (length old) new))) (sym (put_at input mid own new below b e k))
+              (subst (λ (r : RowsOrFault). IsSortedOver (class_at w k) (turn_of turned (length old + ordering_count input + k)) r (ordering_at own k)) (below_is input mid own new below b e)
+              (subst (λ (n : ℕ). IsSortedOver (class_at w k) (turn_of turned n) (produced_of tables below) (ordering_at own k)) number (sorted.each k l)))),
         );
       }
 
-  pub limit_tied : (limit : LimitRule) (input : PlanTree) (mid new : List (List ℕ)) (below : Produced) (o : Outcome) → IsTied input tables instance flipped old mid below → IsTiedLimit limit (produced_of tables below) flipped mid new o → IsTied (Limit limit input) tables instance flipped old new (Made o)
+  pub limit_tied : (limit : LimitRule) (input : PlanTree) (mid new : List (List ℕ)) (below : Produced) (o : Outcome) → IsTied input tables instance turned old mid below → IsTiedLimit limit (produced_of tables below) turned mid new o → IsTied (Limit limit input) tables instance turned old new (Made o)
   limit_tied limit input mid new below o b x =
       let own = x.own ∷ [] in
       let e = x.grown in
@@ -304,16 +306,16 @@ module _ (tables instance : Instance) (flipped : Option ℕ) (old : List (List �
         evaluated = limit_done most_rows tables instance new (length old) limit input (record { outcome = below; next = length mid }) (omega arith) (still input mid own new below b e) o (length new) x.is (omega arith);
         tied = (
           still_tied input mid own new below b e,
-          subst (IsSortedOver (limit_class limit) (is_flipped flipped (length old + ordering_count input)) (outcome input instance (drop (length old) new))) (sym at)
-              (subst (λ (r : RowsOrFault). IsSortedOver (limit_class limit) (is_flipped flipped (length old + ordering_count input)) r x.own) (below_is input mid own new below b e)
-              (subst (λ (n : ℕ). IsSortedOver (limit_class limit) (is_flipped flipped n) (produced_of tables below) x.own) number x.sorted)),
+          subst (IsSortedOver (limit_class limit) (turn_of turned (length old + ordering_count input)) (outcome input instance (drop (length old) new))) (sym at)
+              (subst (λ (r : RowsOrFault). IsSortedOver (limit_class limit) (turn_of turned (length old + ordering_count input)) r x.own) (below_is input mid own new below b e)
+              (subst (λ (n : ℕ). IsSortedOver (limit_class limit) (turn_of turned n) (produced_of tables below) x.own) number x.sorted)),
         );
       }
 
   -- ---- Join
 
   module _ (condition : Option Expression) (left right : PlanTree) where
-    pub join_untied_left : (e : EvalError) → IsUntied left instance flipped (length old) e → IsUntied (Join condition left right) instance flipped (length old) e
+    pub join_untied_left : (e : EvalError) → IsUntied left instance turned (length old) e → IsUntied (Join condition left right) instance turned (length old) e
     join_untied_left (NotValid p) h = h
     join_untied_left TooManyRows h = λ choice long s. (
         let on_left = has_large_step left instance choice in
@@ -321,8 +323,8 @@ module _ (tables instance : Instance) (flipped : Option ℕ) (old : List (List �
         or_left (on_left || on_right) (is_large (Join condition left right) instance choice) (or_left on_left on_right (h choice (omega arith) s.0)))
     join_untied_left OutOfMemory h = tt
 
-    module _ (mid : List (List ℕ)) (lo : Produced) (l : IsTied left tables instance flipped old mid lo) where
-      pub join_untied_right : (e : EvalError) → IsUntied right instance flipped (length mid) e → IsUntied (Join condition left right) instance flipped (length old) e
+    module _ (mid : List (List ℕ)) (lo : Produced) (l : IsTied left tables instance turned old mid lo) where
+      pub join_untied_right : (e : EvalError) → IsUntied right instance turned (length mid) e → IsUntied (Join condition left right) instance turned (length old) e
       join_untied_right (NotValid p) h = h
       join_untied_right TooManyRows h = λ choice long s. (
           let n = ordering_count left in
@@ -330,20 +332,20 @@ module _ (tables instance : Instance) (flipped : Option ℕ) (old : List (List �
           let on_left = has_large_step left instance choice in
           let on_right = has_large_step right instance (drop n choice) in
           or_left (on_left || on_right) (is_large (Join condition left right) instance choice)
-          (or_right on_left on_right (h (drop n choice) (omega arith) (subst (λ (k : ℕ). AreTied right instance flipped k (drop n choice)) (sym l.evaluated.next) s.1))))
+          (or_right on_left on_right (h (drop n choice) (omega arith) (subst (λ (k : ℕ). AreTied right instance turned k (drop n choice)) (sym l.evaluated.next) s.1))))
       join_untied_right OutOfMemory h = tt
 
-      module _ (new : List (List ℕ)) (ro : Produced) (r : IsTied right tables instance flipped mid new ro) where
+      module _ (new : List (List ℕ)) (ro : Produced) (r : IsTied right tables instance turned mid new ro) where
         right_rest : drop (ordering_count left) (drop (length old) new) ≡ drop (length mid) new
         right_rest = drop-drop (ordering_count left) (length old) new ∙ ap (λ k. drop k new) (sym l.evaluated.next)
 
-        right_tied : AreTied right instance flipped (length old + ordering_count left) (drop (ordering_count left) (drop (length old) new))
-        right_tied = subst (λ (k : ℕ). AreTied right instance flipped k (drop (ordering_count left) (drop (length old) new))) l.evaluated.next (subst (AreTied right instance flipped (length mid)) (sym right_rest) r.tied)
+        right_tied : AreTied right instance turned (length old + ordering_count left) (drop (ordering_count left) (drop (length old) new))
+        right_tied = subst (λ (k : ℕ). AreTied right instance turned k (drop (ordering_count left) (drop (length old) new))) l.evaluated.next (subst (AreTied right instance turned (length mid)) (sym right_rest) r.tied)
 
-        both_tied : AreTied (Join condition left right) instance flipped (length old) (drop (length old) new)
+        both_tied : AreTied (Join condition left right) instance turned (length old) (drop (length old) new)
         both_tied = (still_tied left mid r.own new lo l r.grown, right_tied)
 
-        pub join_tied : (o : Produced) → IsSmall most_rows (join_over condition (produced_of tables lo) (produced_of tables ro)) (produced_of tables o) → IsTied (Join condition left right) tables instance flipped old new o
+        pub join_tied : (o : Produced) → IsSmall most_rows (join_over condition (produced_of tables lo) (produced_of tables ro)) (produced_of tables o) → IsTied (Join condition left right) tables instance turned old new o
         join_tied o s = record {
           own = l.own ++ r.own;
           grown = grown_more left mid r.own new lo l r.grown;
@@ -351,25 +353,25 @@ module _ (tables instance : Instance) (flipped : Option ℕ) (old : List (List �
           tied = both_tied;
         }
 
-        large_here : has_more_rows most_rows (join_over condition (produced_of tables lo) (produced_of tables ro)) ≡ true → (choice : List (List ℕ)) → ordering_count left + ordering_count right ≤ length choice → AreTied (Join condition left right) instance flipped (length old) choice → is_large (Join condition left right) instance choice ≡ true
+        large_here : has_more_rows most_rows (join_over condition (produced_of tables lo) (produced_of tables ro)) ≡ true → (choice : List (List ℕ)) → ordering_count left + ordering_count right ≤ length choice → AreTied (Join condition left right) instance turned (length old) choice → is_large (Join condition left right) instance choice ≡ true
         large_here h choice long s =
             let next = l.evaluated.next in
             let last = r.evaluated.next in
             let size = length-drop (length old) new in
             let enough : ordering_count left + ordering_count right ≤ length (drop (length old) new) = omega arith in
-            let same : outcome (Join condition left right) instance choice ≡ outcome (Join condition left right) instance (drop (length old) new) = one_outcome instance flipped (Join condition left right) (length old) choice (drop (length old) new) long enough s both_tied in
+            let same : outcome (Join condition left right) instance choice ≡ outcome (Join condition left right) instance (drop (length old) new) = one_outcome instance turned (Join condition left right) (length old) choice (drop (length old) new) long enough s both_tied in
             let on_left : produced_of tables lo ≡ outcome left instance (drop (length old) new) = below_is left mid r.own new lo l r.grown in
             let on_right : produced_of tables ro ≡ outcome right instance (drop (ordering_count left) (drop (length old) new)) = r.evaluated.is ∙ ap (outcome right instance) (sym right_rest) in
             ap (has_more_rows most_rows) same ∙ (λ i. has_more_rows most_rows (join_over condition (sym on_left i) (sym on_right i))) ∙ h
 
-        pub join_untied : (e : StepError) → IsLarge most_rows (join_over condition (produced_of tables lo) (produced_of tables ro)) e → IsUntied (Join condition left right) instance flipped (length old) (error_of e)
+        pub join_untied : (e : StepError) → IsLarge most_rows (join_over condition (produced_of tables lo) (produced_of tables ro)) e → IsUntied (Join condition left right) instance turned (length old) (error_of e)
         join_untied step.TooManyRows h = λ choice long s. or_right (has_large_step left instance choice || has_large_step right instance (drop (ordering_count left) choice)) (is_large (Join condition left right) instance choice) (large_here h choice long s)
         join_untied step.OutOfMemory h = tt
 
 -- ---- whole plans
 
-module _ (plan : PlanTree) (tables instance : Instance) (flipped : Option ℕ) (new : List (List ℕ)) (g : Produced) (t : IsTied plan tables instance flipped [] new g) where
-  pub tied_valid : IsValidTiedChoice plan instance flipped new
+module _ (plan : PlanTree) (tables instance : Instance) (turned : Option Turned) (new : List (List ℕ)) (g : Produced) (t : IsTied plan tables instance turned [] new g) where
+  pub tied_valid : IsValidTurnedChoice plan instance turned new
   tied_valid = record {
     tied = record { number = t.evaluated.next ∙ omega arith; tied = t.tied };
     valid = record { number = t.evaluated.next ∙ omega arith; lawful = t.evaluated.served.lawful };

@@ -4,16 +4,17 @@ use Rattle.wd_value.specs.Rows.{Instance}
 use Rattle.wd_plan.specs.Choices.{IsValidChoice}
 use Rattle.wd_plan.specs.Outcomes.{outcome}
 use Rattle.wd_plan.specs.Plans.{PlanTree}
-use Rattle.wd_eval.specs.Tied.{IsTiedChoice}
+use Rattle.wd_eval.specs.Tied.{IsTurnedChoice}
 use Rattle.wd_eval.specs.Wrong.{IsWrongOrdering}
+use Rattle.wd_eval.specs.declared.turned.Turned.{Turned}
 
--- each plan has such a choice over each instance
+-- each plan has such a choice over each instance, whichever ordering takes rows that tie in another turn
 abbrev pub HasTiedChoice : Type 0
-HasTiedChoice = (plan : PlanTree) (instance : Instance) (flipped : Option ℕ) → (choice : List (List ℕ)) × IsTiedChoice plan instance flipped choice
+HasTiedChoice = (plan : PlanTree) (instance : Instance) (turned : Option Turned) → (choice : List (List ℕ)) × IsTurnedChoice plan instance turned choice
 
 -- all such choices give one outcome
 abbrev pub HasOneTiedOutcome : Type 0
-HasOneTiedOutcome = (plan : PlanTree) (instance : Instance) (flipped : Option ℕ) (a b : List (List ℕ)) → IsTiedChoice plan instance flipped a → IsTiedChoice plan instance flipped b → outcome plan instance a ≡ outcome plan instance b
+HasOneTiedOutcome = (plan : PlanTree) (instance : Instance) (turned : Option Turned) (a b : List (List ℕ)) → IsTurnedChoice plan instance turned a → IsTurnedChoice plan instance turned b → outcome plan instance a ≡ outcome plan instance b
 
 -- a valid choice has no wrong ordering
 abbrev pub HasNoWrongOrdering : Type 0

@@ -7,19 +7,27 @@ use Rattle.wd_plan.specs.Plans.{PlanTree}
 use Rattle.wd_eval.specs.Windows.{orderings_of}
 use Rattle.wd_eval.specs.Steps.{has_large_step}
 use Rattle.wd_eval.specs.Judged.{IsOutcome}
-use Rattle.wd_eval.specs.Tied.{IsTiedChoice, IsTiedRefused, IsValidTiedChoice}
+use Rattle.wd_eval.specs.Tied.{IsTiedChoice, IsTiedRefused, IsTurnedRefused, IsValidTurnedChoice, reversed_at}
 use Rattle.wd_eval.specs.declared.error.EvalError.{EvalError}
 use Rattle.wd_eval.specs.declared.eval.TiedOutcome.{TiedOutcome}
+use Rattle.wd_eval.specs.declared.turned.Turned.{Turned}
 
--- such a choice, but for one ordering that may be flipped, and the outcome under it
-pub record IsTiedOutcome (plan : PlanTree) (instance : Instance) (flipped : Option ℕ) (t : TiedOutcome) : Type 0 where
-  pub choice : IsValidTiedChoice plan instance flipped (orderings_of t.choice.orderings.items)
+-- such a choice, but for one ordering that may take rows that tie in another turn, and the outcome under it
+pub record IsTurnedOutcome (plan : PlanTree) (instance : Instance) (turned : Option Turned) (t : TiedOutcome) : Type 0 where
+  pub choice : IsValidTurnedChoice plan instance turned (orderings_of t.choice.orderings.items)
   pub is : outcome_of t.outcome ≡ outcome plan instance (orderings_of t.choice.orderings.items)
 
 -- the two, or why there are none
-pub record IsTiedOutcomeOrRefused (plan : PlanTree) (instance : Instance) (flipped : Option ℕ) (r : Result TiedOutcome EvalError) : Type 0 where
-  pub ok : IfOk r (λ t. IsTiedOutcome plan instance flipped t)
-  pub refused : IfErr r (λ e. IsTiedRefused plan instance flipped e)
+pub record IsTurnedOutcomeOrRefused (plan : PlanTree) (instance : Instance) (turned : Option Turned) (r : Result TiedOutcome EvalError) : Type 0 where
+  pub ok : IfOk r (λ t. IsTurnedOutcome plan instance turned t)
+  pub refused : IfErr r (λ e. IsTurnedRefused plan instance turned e)
+
+-- where that ordering is flipped
+abbrev pub IsTiedOutcome : PlanTree → Instance → Option ℕ → TiedOutcome → Type 0
+IsTiedOutcome plan instance flipped t = IsTurnedOutcome plan instance (reversed_at flipped) t
+
+abbrev pub IsTiedOutcomeOrRefused : PlanTree → Instance → Option ℕ → Result TiedOutcome EvalError → Type 0
+IsTiedOutcomeOrRefused plan instance flipped r = IsTurnedOutcomeOrRefused plan instance (reversed_at flipped) r
 
 -- the outcome under a valid choice that leaves rows that tie as they are, and under which no step is too large
 pub record IsRun (plan : PlanTree) (instance : Instance) (o : RowsOrFault) : Type 0 where

@@ -1,5 +1,5 @@
--- The choice that leaves rows that tie as they are, but for one ordering that turns them round.
-use Rattle.std.specs.Prelude.{◌≡◌, ℕ, ◌+◌, ◌<◌, Bool, false, List, [], length, drop, Option, Some, None, Result, IfErr, IfOk, nat_eq, true, ⊤}
+-- The choice that leaves rows that tie as they are, but for one ordering that takes them in another turn.
+use Rattle.std.specs.Prelude.{◌≡◌, ℕ, ◌+◌, ◌<◌, false, List, [], length, drop, if◌then◌else◌, Option, Some, None, option_map, Result, IfErr, IfOk, nat_eq, true, ⊤}
 use Rattle.wd_value.specs.Rows.{Row, Instance}
 use Rattle.wd_sort.specs.Sorting.{IsStableSortOf}
 use Rattle.wd_plan.specs.declared.plan.Choice.{Choice}
@@ -8,66 +8,91 @@ use Rattle.wd_plan.specs.Outcomes.{RowsOrFault, class_at, ordering_at, outcome}
 use Rattle.wd_plan.specs.Plans.{ClassRule, PlanTree, Scan, Join, Filter, Map, Group, Window, Distinct, Limit, ordering_count}
 use Rattle.wd_plan.specs.Sorting.{limit_class}
 use Rattle.wd_partition.specs.Columns.{given_positions, sort_columns}
+use Rattle.wd_partition.specs.declared.turn.Turn.{Turn}
+use Rattle.wd_partition.specs.declared.turn.Turn.TheVariants.{AsGiven, Reversed}
 use Rattle.wd_eval.specs.Windows.{orderings_of}
 use Rattle.wd_eval.specs.Steps.{has_large_step}
 use Rattle.wd_eval.specs.declared.error.EvalError.{EvalError}
+use Rattle.wd_eval.specs.declared.turned.Turned.{Turned}
 use Rattle.wd_eval.specs.declared.error.EvalError.TheVariants.{NotValid, TooManyRows, OutOfMemory}
 
--- the stable sort of the positions by partition, ascending with NULL last, and then by the keys; flipped the positions are
--- taken last to first
-abbrev pub IsSortedOrdering : ClassRule → Bool → List Row → List ℕ → Type 0
-IsSortedOrdering class flipped rows ordering = IsStableSortOf (sort_columns class) rows (given_positions flipped (length rows)) ordering
+-- the stable sort of the positions, taken in this turn, by partition, ascending with NULL last, and then by the keys
+abbrev pub IsSortedOrdering : ClassRule → Turn → List Row → List ℕ → Type 0
+IsSortedOrdering class turn rows ordering = IsStableSortOf (sort_columns class) rows (given_positions turn (length rows)) ordering
 
 -- that ordering of a node's input rows, and the empty list where the input is a fault
-abbrev pub IsSortedOver : ClassRule → Bool → RowsOrFault → List ℕ → Type 0
-IsSortedOver class flipped input ordering = AtRows input (λ rows. IsSortedOrdering class flipped rows ordering) (ordering ≡ [])
+abbrev pub IsSortedOver : ClassRule → Turn → RowsOrFault → List ℕ → Type 0
+IsSortedOver class turn input ordering = AtRows input (λ rows. IsSortedOrdering class turn rows ordering) (ordering ≡ [])
 
--- whether the ordering with this number is the one to flip
-abbrev pub is_flipped : Option ℕ → ℕ → Bool
-is_flipped None number = false
-is_flipped (Some n) number = nat_eq n number
+-- the turn in which the ordering with this number takes the positions: all but one take them as given
+abbrev pub turn_of : Option Turned → ℕ → Turn
+turn_of None number = AsGiven
+turn_of (Some t) number = if nat_eq t.number number then t.turn else AsGiven
 
 -- each ordering is the sorted one over its node's input rows, as this choice makes them; the plan's first ordering has the
 -- number `first`
-abbrev pub AreTied : PlanTree → Instance → Option ℕ → ℕ → List (List ℕ) → Type 0
-AreTied (Scan table columns) instance flipped first choice = ⊤
-AreTied (Join condition left right) instance flipped first choice =
-    AreTied left instance flipped first choice × AreTied right instance flipped (first + ordering_count left) (drop (ordering_count left) choice)
-AreTied (Filter condition input) instance flipped first choice = AreTied input instance flipped first choice
-AreTied (Map outputs input) instance flipped first choice = AreTied input instance flipped first choice
-AreTied (Group rule input) instance flipped first choice = AreTied input instance flipped first choice
-AreTied (Window w input) instance flipped first choice =
-    AreTied input instance flipped first choice
-    × ((n : ℕ) → n < length w.classes → IsSortedOver (class_at w n) (is_flipped flipped (first + ordering_count input + n)) (outcome input instance choice) (ordering_at choice (ordering_count input + n)))
-AreTied (Distinct input) instance flipped first choice = AreTied input instance flipped first choice
-AreTied (Limit limit input) instance flipped first choice =
-    AreTied input instance flipped first choice
-    × IsSortedOver (limit_class limit) (is_flipped flipped (first + ordering_count input)) (outcome input instance choice) (ordering_at choice (ordering_count input))
+abbrev pub AreTied : PlanTree → Instance → Option Turned → ℕ → List (List ℕ) → Type 0
+AreTied (Scan table columns) instance turned first choice = ⊤
+AreTied (Join condition left right) instance turned first choice =
+    AreTied left instance turned first choice × AreTied right instance turned (first + ordering_count left) (drop (ordering_count left) choice)
+AreTied (Filter condition input) instance turned first choice = AreTied input instance turned first choice
+AreTied (Map outputs input) instance turned first choice = AreTied input instance turned first choice
+AreTied (Group rule input) instance turned first choice = AreTied input instance turned first choice
+AreTied (Window w input) instance turned first choice =
+    AreTied input instance turned first choice
+    × ((n : ℕ) → n < length w.classes → IsSortedOver (class_at w n) (turn_of turned (first + ordering_count input + n)) (outcome input instance choice) (ordering_at choice (ordering_count input + n)))
+AreTied (Distinct input) instance turned first choice = AreTied input instance turned first choice
+AreTied (Limit limit input) instance turned first choice =
+    AreTied input instance turned first choice
+    × IsSortedOver (limit_class limit) (turn_of turned (first + ordering_count input)) (outcome input instance choice) (ordering_at choice (ordering_count input))
 
 -- the choice with one such ordering for each class of each Window and each Limit, in postorder
-pub record IsTiedChoice (plan : PlanTree) (instance : Instance) (flipped : Option ℕ) (choice : List (List ℕ)) : Type 0 where
+pub record IsTurnedChoice (plan : PlanTree) (instance : Instance) (turned : Option Turned) (choice : List (List ℕ)) : Type 0 where
   pub number : length choice ≡ ordering_count plan
-  pub tied : AreTied plan instance flipped 0 choice
+  pub tied : AreTied plan instance turned 0 choice
 
 -- that choice, which is valid; no step is too large under it
-pub record IsValidTiedChoice (plan : PlanTree) (instance : Instance) (flipped : Option ℕ) (choice : List (List ℕ)) : Type 0 where
-  pub tied : IsTiedChoice plan instance flipped choice
+pub record IsValidTurnedChoice (plan : PlanTree) (instance : Instance) (turned : Option Turned) (choice : List (List ℕ)) : Type 0 where
+  pub tied : IsTurnedChoice plan instance turned choice
   pub valid : IsValidChoice plan instance choice
   pub small : has_large_step plan instance choice ≡ false
 
 -- some step is too large under that choice
-pub record IsTiedTooLarge (plan : PlanTree) (instance : Instance) (flipped : Option ℕ) : Type 0 where
+pub record IsTurnedTooLarge (plan : PlanTree) (instance : Instance) (turned : Option Turned) : Type 0 where
   pub choice : List (List ℕ)
-  pub tied : IsTiedChoice plan instance flipped choice
+  pub tied : IsTurnedChoice plan instance turned choice
   pub large : has_large_step plan instance choice ≡ true
 
 -- why it is not answered; it is never refused itself
-abbrev pub IsTiedRefused : PlanTree → Instance → Option ℕ → EvalError → Type 0
-IsTiedRefused plan instance flipped (NotValid place) = ⊥
-IsTiedRefused plan instance flipped TooManyRows = IsTiedTooLarge plan instance flipped
-IsTiedRefused plan instance flipped OutOfMemory = ⊤
+abbrev pub IsTurnedRefused : PlanTree → Instance → Option Turned → EvalError → Type 0
+IsTurnedRefused plan instance turned (NotValid place) = ⊥
+IsTurnedRefused plan instance turned TooManyRows = IsTurnedTooLarge plan instance turned
+IsTurnedRefused plan instance turned OutOfMemory = ⊤
 
 -- that choice, or why it is not answered
-pub record IsTiedOrRefused (plan : PlanTree) (instance : Instance) (flipped : Option ℕ) (r : Result Choice EvalError) : Type 0 where
-  pub ok : IfOk r (λ c. IsValidTiedChoice plan instance flipped (orderings_of c.orderings.items))
-  pub refused : IfErr r (λ e. IsTiedRefused plan instance flipped e)
+pub record IsTurnedOrRefused (plan : PlanTree) (instance : Instance) (turned : Option Turned) (r : Result Choice EvalError) : Type 0 where
+  pub ok : IfOk r (λ c. IsValidTurnedChoice plan instance turned (orderings_of c.orderings.items))
+  pub refused : IfErr r (λ e. IsTurnedRefused plan instance turned e)
+
+-- ---- where that ordering is flipped: it takes the positions last to first
+
+abbrev pub reversed : ℕ → Turned
+reversed number = record { number = number; turn = Reversed }
+
+abbrev pub reversed_at : Option ℕ → Option Turned
+reversed_at flipped = option_map reversed flipped
+
+abbrev pub IsTiedChoice : PlanTree → Instance → Option ℕ → List (List ℕ) → Type 0
+IsTiedChoice plan instance flipped choice = IsTurnedChoice plan instance (reversed_at flipped) choice
+
+abbrev pub IsValidTiedChoice : PlanTree → Instance → Option ℕ → List (List ℕ) → Type 0
+IsValidTiedChoice plan instance flipped choice = IsValidTurnedChoice plan instance (reversed_at flipped) choice
+
+abbrev pub IsTiedTooLarge : PlanTree → Instance → Option ℕ → Type 0
+IsTiedTooLarge plan instance flipped = IsTurnedTooLarge plan instance (reversed_at flipped)
+
+abbrev pub IsTiedRefused : PlanTree → Instance → Option ℕ → EvalError → Type 0
+IsTiedRefused plan instance flipped e = IsTurnedRefused plan instance (reversed_at flipped) e
+
+abbrev pub IsTiedOrRefused : PlanTree → Instance → Option ℕ → Result Choice EvalError → Type 0
+IsTiedOrRefused plan instance flipped r = IsTurnedOrRefused plan instance (reversed_at flipped) r

@@ -11,54 +11,55 @@ use Rattle.wd_nodes.specs.Produced.{most_rows}
 use Rattle.wd_eval.specs.Nodes.{IsCut, IsEvaluated}
 use Rattle.wd_eval.specs.Windows.{IsExtended, orderings_of}
 use Rattle.wd_eval.specs.Steps.{has_large_step}
-use Rattle.wd_eval.specs.Tied.{AreTied, IsSortedOver, is_flipped}
+use Rattle.wd_eval.specs.Tied.{AreTied, IsSortedOver, turn_of}
 use Rattle.wd_eval.specs.declared.error.EvalError.{EvalError}
+use Rattle.wd_eval.specs.declared.turned.Turned.{Turned}
 use Rattle.wd_nodes.specs.declared.produced.Produced.{Produced}
 use Rattle.wd_eval.specs.declared.error.EvalError.TheVariants.{NotValid, TooManyRows, OutOfMemory}
 
 -- the sorted orderings of the first n classes of a Window over its input, the first of them with this number
-pub record AreSortedOver (w : WindowRule) (input : RowsOrFault) (flipped : Option ℕ) (first n : ℕ) (own : List (List ℕ)) : Type 0 where
+pub record AreSortedOver (w : WindowRule) (input : RowsOrFault) (turned : Option Turned) (first n : ℕ) (own : List (List ℕ)) : Type 0 where
   pub long : length own ≡ n
-  pub each : (k : ℕ) → k < n → IsSortedOver (class_at w k) (is_flipped flipped (first + k)) input (ordering_at own k)
+  pub each : (k : ℕ) → k < n → IsSortedOver (class_at w k) (turn_of turned (first + k)) input (ordering_at own k)
 
 -- they were put after the orderings that were there
-pub record ArePut (w : WindowRule) (input : RowsOrFault) (flipped : Option ℕ) (n : ℕ) (old new : List (List ℕ)) : Type 0 where
+pub record ArePut (w : WindowRule) (input : RowsOrFault) (turned : Option Turned) (n : ℕ) (old new : List (List ℕ)) : Type 0 where
   pub own : List (List ℕ)
   pub grown : new ≡ old ++ own
-  pub sorted : AreSortedOver w input flipped (length old) n own
+  pub sorted : AreSortedOver w input turned (length old) n own
 
 -- those of all classes
-abbrev pub AreAllPut : WindowRule → RowsOrFault → Option ℕ → List (List ℕ) → List (List ℕ) → Type 0
-AreAllPut w input flipped old new = ArePut w input flipped (length w.classes) old new
+abbrev pub AreAllPut : WindowRule → RowsOrFault → Option Turned → List (List ℕ) → List (List ℕ) → Type 0
+AreAllPut w input turned old new = ArePut w input turned (length w.classes) old new
 
 -- and what is found is what the Window gives under them
-pub record IsTiedWindow (w : WindowRule) (input : RowsOrFault) (flipped : Option ℕ) (old new : List (List ℕ)) (found : RowsOrFault) : Type 0 where
-  pub put : AreAllPut w input flipped old new
+pub record IsTiedWindow (w : WindowRule) (input : RowsOrFault) (turned : Option Turned) (old new : List (List ℕ)) (found : RowsOrFault) : Type 0 where
+  pub put : AreAllPut w input turned old new
   pub extended : IsExtended w input new (length old) found
 
 -- the sorted ordering of a Limit was put there, and the outcome is that under it
-pub record IsTiedLimit (limit : LimitRule) (input : RowsOrFault) (flipped : Option ℕ) (old new : List (List ℕ)) (o : Outcome) : Type 0 where
+pub record IsTiedLimit (limit : LimitRule) (input : RowsOrFault) (turned : Option Turned) (old new : List (List ℕ)) (o : Outcome) : Type 0 where
   pub own : List ℕ
   pub grown : new ≡ old ++ own ∷ []
-  pub sorted : IsSortedOver (limit_class limit) (is_flipped flipped (length old)) input own
+  pub sorted : IsSortedOver (limit_class limit) (turn_of turned (length old)) input own
   pub is : IsCut limit input new (length old) o
 
 -- the plan's sorted orderings were put after those that were there, and the outcome is that under them
-pub record IsTied (plan : PlanTree) (tables instance : Instance) (flipped : Option ℕ) (old new : List (List ℕ)) (o : Produced) : Type 0 where
+pub record IsTied (plan : PlanTree) (tables instance : Instance) (turned : Option Turned) (old new : List (List ℕ)) (o : Produced) : Type 0 where
   pub own : List (List ℕ)
   pub grown : new ≡ old ++ own
   pub evaluated : IsEvaluated most_rows plan tables instance new (length old) (record { outcome = o; next = length new })
-  pub tied : AreTied plan instance flipped (length old) (drop (length old) new)
+  pub tied : AreTied plan instance turned (length old) (drop (length old) new)
 
 -- some step is too large under all sorted orderings
-abbrev pub IsTiedTooLargeFrom : PlanTree → Instance → Option ℕ → ℕ → Type 0
-IsTiedTooLargeFrom plan instance flipped first = (choice : List (List ℕ)) → ordering_count plan ≤ length choice → AreTied plan instance flipped first choice → has_large_step plan instance choice ≡ true
+abbrev pub IsTiedTooLargeFrom : PlanTree → Instance → Option Turned → ℕ → Type 0
+IsTiedTooLargeFrom plan instance turned first = (choice : List (List ℕ)) → ordering_count plan ≤ length choice → AreTied plan instance turned first choice → has_large_step plan instance choice ≡ true
 
 -- out of memory, or such a step
-abbrev pub IsUntied : PlanTree → Instance → Option ℕ → ℕ → EvalError → Type 0
-IsUntied plan instance flipped first (NotValid place) = ⊥
-IsUntied plan instance flipped first TooManyRows = IsTiedTooLargeFrom plan instance flipped first
-IsUntied plan instance flipped first OutOfMemory = ⊤
+abbrev pub IsUntied : PlanTree → Instance → Option Turned → ℕ → EvalError → Type 0
+IsUntied plan instance turned first (NotValid place) = ⊥
+IsUntied plan instance turned first TooManyRows = IsTiedTooLargeFrom plan instance turned first
+IsUntied plan instance turned first OutOfMemory = ⊤
 
 -- out of memory alone
 abbrev pub IsOutOfMemory : EvalError → Type 0
@@ -74,11 +75,11 @@ pub record IsPutEmpty (count : ℕ) (old new : List (List ℕ)) : Type 0 where
   pub empty : (k : ℕ) → k < count → ordering_at own k ≡ []
 
 -- what a Window gives under its sorted orderings, as the view of a value has it, or out of memory
-pub record IsTiedWindowOrNoMemory {X : Type 0} (view : X → RowsOrFault) (w : WindowRule) (input : RowsOrFault) (flipped : Option ℕ) (old new : List (Vec ℕ Global)) (r : Result X EvalError) : Type 0 where
-  pub ok : IfOk r (λ x. IsTiedWindow w input flipped (orderings_of old) (orderings_of new) (view x))
+pub record IsTiedWindowOrNoMemory {X : Type 0} (view : X → RowsOrFault) (w : WindowRule) (input : RowsOrFault) (turned : Option Turned) (old new : List (Vec ℕ Global)) (r : Result X EvalError) : Type 0 where
+  pub ok : IfOk r (λ x. IsTiedWindow w input turned (orderings_of old) (orderings_of new) (view x))
   pub refused : IfErr r (λ e. IsOutOfMemory e)
 
 -- a Limit's outcome under its sorted ordering, or out of memory
-pub record IsTiedLimitOrNoMemory (limit : LimitRule) (input : RowsOrFault) (flipped : Option ℕ) (old new : List (Vec ℕ Global)) (r : Result Outcome EvalError) : Type 0 where
-  pub ok : IfOk r (λ o. IsTiedLimit limit input flipped (orderings_of old) (orderings_of new) o)
+pub record IsTiedLimitOrNoMemory (limit : LimitRule) (input : RowsOrFault) (turned : Option Turned) (old new : List (Vec ℕ Global)) (r : Result Outcome EvalError) : Type 0 where
+  pub ok : IfOk r (λ o. IsTiedLimit limit input turned (orderings_of old) (orderings_of new) o)
   pub refused : IfErr r (λ e. IsOutOfMemory e)

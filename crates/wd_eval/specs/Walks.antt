@@ -21,28 +21,28 @@ use Rattle.wd_eval.specs.declared.orderings.Orderings.TheVariants.{Chosen, Sorte
 -- the most rows that a step may have under these orderings
 abbrev pub most_of : Orderings → ℕ
 most_of (Chosen choice most) = most
-most_of (Sorted flipped) = most_rows
+most_of (Sorted turned) = most_rows
 
 -- the number of the next ordering: one within the choice, or that of the orderings made so far
 abbrev pub IsAt : Orderings → ℕ → List (Vec ℕ Global) → Type 0
 IsAt (Chosen choice most) first made = first ≤ length choice.now
-IsAt (Sorted flipped) first made = first ≡ length made
+IsAt (Sorted turned) first made = first ≡ length made
 
 -- what a plan gives under the choice's orderings from the number `first` on, or under its sorted orderings, which are put after
 -- those made before, as these tables show it; with the number of the next ordering
 abbrev pub IsWalked : PlanTree → Instance → Instance → Orderings → ℕ → List (Vec ℕ Global) → List (Vec ℕ Global) → Evaluated → Type 0
 IsWalked plan tables instance (Chosen choice most) first old new e = IsEvaluated most plan tables instance (orderings_of choice.now) first e
-IsWalked plan tables instance (Sorted flipped) first old new e = (e.next ≡ length new) × IsTied plan tables instance flipped (orderings_of old) (orderings_of new) e.outcome
+IsWalked plan tables instance (Sorted turned) first old new e = (e.next ≡ length new) × IsTied plan tables instance turned (orderings_of old) (orderings_of new) e.outcome
 
 -- the place is that of the first wrong ordering of the choice; no sorted ordering is wrong
 abbrev pub IsWrongAt : PlanTree → Instance → Orderings → ℕ → ℕ → Type 0
 IsWrongAt plan instance (Chosen choice most) first place = IsLeast (IsWrongFrom plan instance (orderings_of choice.now) first) place
-IsWrongAt plan instance (Sorted flipped) first place = ⊥
+IsWrongAt plan instance (Sorted turned) first place = ⊥
 
 -- some step is too large under these orderings
 abbrev pub IsTooLarge : PlanTree → Instance → Orderings → ℕ → Type 0
 IsTooLarge plan instance (Chosen choice most) first = has_larger_step most plan instance (drop first (orderings_of choice.now)) ≡ true
-IsTooLarge plan instance (Sorted flipped) first = IsTiedTooLargeFrom plan instance flipped first
+IsTooLarge plan instance (Sorted turned) first = IsTiedTooLargeFrom plan instance turned first
 
 -- why a plan gives nothing
 abbrev pub IsHalted : PlanTree → Instance → Orderings → ℕ → EvalError → Type 0
@@ -59,8 +59,8 @@ pub record IsWalkedOrHalted (plan : PlanTree) (tables instance : Instance) (orde
 
 abbrev pub IsWindowStep : {X : Type 0} → (X → RowsOrFault) → WindowRule → RowsOrFault → Orderings → ℕ → List (Vec ℕ Global) → List (Vec ℕ Global) → Result X EvalError → Type 0
 IsWindowStep view w input (Chosen choice most) first old new r = IsExtendedOrUnserved view w input (orderings_of choice.now) first r
-IsWindowStep view w input (Sorted flipped) first old new r = IsTiedWindowOrNoMemory view w input flipped old new r
+IsWindowStep view w input (Sorted turned) first old new r = IsTiedWindowOrNoMemory view w input turned old new r
 
 abbrev pub IsLimitStep : LimitRule → RowsOrFault → Orderings → ℕ → List (Vec ℕ Global) → List (Vec ℕ Global) → Result Outcome EvalError → Type 0
 IsLimitStep limit input (Chosen choice most) first old new r = IsCutOrUnserved limit input (orderings_of choice.now) first r
-IsLimitStep limit input (Sorted flipped) first old new r = IsTiedLimitOrNoMemory limit input flipped old new r
+IsLimitStep limit input (Sorted turned) first old new r = IsTiedLimitOrNoMemory limit input turned old new r

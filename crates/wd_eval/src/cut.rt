@@ -15,11 +15,12 @@ ghost use Rattle.wd_value.specs.Rows.{instance_of, rows_at, rows_of};
 ghost use Rattle.wd_eval.specs.Windows.{orderings_of};
 
 use crate::error::EvalError;
-use crate::orderings::{Orderings, is_flipped};
+use crate::orderings::Orderings;
+use crate::turned::{Turned, turn_of};
 use std::alloc::Global;
 use wd_columns::{RowSource, moved_rows};
 use wd_nodes::{Given, Produced, gathered, shown, table_in};
-use wd_partition::{is_ordering, sorted_ordering};
+use wd_partition::{Turn, is_ordering, sorted_ordering};
 use wd_plan::{Limit, Outcome};
 use wd_steps::{cut_rows, kept_positions};
 use wd_value::{OutOfMemory, Row};
@@ -41,8 +42,8 @@ pub(crate) fn limited(
     let input = gathered(alloc, instance, input, 0)?;
     match orderings {
         Orderings::Chosen(choice, _) => chosen_limit(alloc, instance, limit, input, choice, first),
-        Orderings::Sorted(flipped) => {
-            let outcome = sorted_limit(alloc, instance, limit, input, flipped, made)?;
+        Orderings::Sorted(turned) => {
+            let outcome = sorted_limit(alloc, instance, limit, input, turned, made)?;
             Ok(outcome)
         }
     }
@@ -133,13 +134,13 @@ fn sorted_limit(
     instance: &[Vec<Row>],
     limit: &Limit,
     input: Given,
-    flipped: Option<u32>,
+    turned: Option<Turned>,
     made: &mut Vec<Vec<u64>>,
 ) -> Result<Outcome, OutOfMemory>
-    ensures { IfOk result (λ o. IsTiedLimit (limit_of limit.now) (given_of (instance_of instance.now) input) flipped (orderings_of made.old.items) (orderings_of made.new.items) o) }
+    ensures { IfOk result (λ o. IsTiedLimit (limit_of limit.now) (given_of (instance_of instance.now) input) turned (orderings_of made.old.items) (orderings_of made.new.items) o) }
 {
-    let turned = is_flipped(flipped, made.len());
-    let ordering = sorted_over(alloc, instance, &input, limit, turned)?;
+    let turn = turn_of(turned, made.len());
+    let ordering = sorted_over(alloc, instance, &input, limit, turn)?;
     let outcome = cut_given(alloc, instance, limit, input, &ordering)?;
     made.push(ordering)?;
     Ok(outcome)
@@ -151,9 +152,9 @@ fn sorted_over(
     instance: &[Vec<Row>],
     input: &Given,
     limit: &Limit,
-    turned: bool,
+    turn: Turn,
 ) -> Result<Vec<u64>, OutOfMemory>
-    ensures { IfOk result (λ v. IsSortedOver (limit_class (limit_of limit.now)) turned (given_of (instance_of instance.now) input.now) v.items) }
+    ensures { IfOk result (λ v. IsSortedOver (limit_class (limit_of limit.now)) turn (given_of (instance_of instance.now) input.now) v.items) }
 {
     match shown(input, instance) {
         Err(_) => Ok(Vec::new(alloc)),
@@ -163,7 +164,7 @@ fn sorted_over(
                 &RowSource::of_rows(rows),
                 &[],
                 &limit.keys,
-                turned,
+                turn,
             )?;
             Ok(ordering)
         }

@@ -3,8 +3,8 @@
 ghost use Rattle.std.specs.Prelude.{◌≡◌, ◌≤◌, true, None, IfOk};
 ghost use Rattle.wd_eval.specs.Judged.{IsAllowedOrRefused, IsOutcomeOrRefused, IsOutcomeWithinOrRefused};
 ghost use Rattle.wd_eval.specs.Windows.{orderings_of};
-ghost use Rattle.wd_eval.specs.Runs.{IsRunOrRefused, IsTiedOutcomeOrRefused};
-ghost use Rattle.wd_eval.specs.Tied.{IsTiedOrRefused};
+ghost use Rattle.wd_eval.specs.Runs.{IsRunOrRefused, IsTiedOutcomeOrRefused, IsTurnedOutcomeOrRefused};
+ghost use Rattle.wd_eval.specs.Tied.{IsTiedOrRefused, IsTurnedOrRefused};
 ghost use Rattle.wd_nodes.specs.Produced.{most_rows};
 ghost use Rattle.wd_plan.specs.Fits.{fits};
 ghost use Rattle.wd_plan.specs.Outcomes.{outcome_of};
@@ -16,6 +16,7 @@ use crate::answer::{Answer, answer_of};
 use crate::error::EvalError;
 use crate::node::evaluate;
 use crate::orderings::{MOST_ROWS, Orderings};
+use crate::turned::{Turned, reversed_at};
 use std::alloc::Global;
 use wd_columns::Columns;
 use wd_nodes::{handed_over, outcome_from};
@@ -95,8 +96,23 @@ pub fn tied_choice(
     requires { fits (schema_of schema.now) (plan_of plan.now) ≡ true }
     ensures { IsTiedOrRefused (plan_of plan.now) (instance_of instance.now.items) flipped result }
 {
+    turned_choice(alloc, plan, schema, instance, reversed_at(flipped))
+}
+
+/// The choice that leaves rows that tie as they are, but for one ordering that may take them in
+/// another turn.
+fn turned_choice(
+    alloc: Global,
+    plan: &Plan,
+    schema: &Schema,
+    instance: &Instance,
+    turned: Option<Turned>,
+) -> Result<Choice, EvalError>
+    requires { fits (schema_of schema.now) (plan_of plan.now) ≡ true }
+    ensures { IsTurnedOrRefused (plan_of plan.now) (instance_of instance.now.items) turned result }
+{
     let mut orderings = Vec::new(alloc);
-    let sorted = Orderings::Sorted(flipped);
+    let sorted = Orderings::Sorted(turned);
     evaluate(alloc, plan, instance, None, sorted, 0, &mut orderings, 0)?;
     Ok(Choice { orderings })
 }
@@ -132,8 +148,24 @@ pub fn eval_tied(
     requires { fits (schema_of schema.now) (plan_of plan.now) ≡ true }
     ensures { IsTiedOutcomeOrRefused (plan_of plan.now) (instance_of instance.now.items) flipped result }
 {
+    eval_turned(alloc, plan, schema, instance, reversed_at(flipped))
+}
+
+/// The choice that leaves rows that tie as they are, but for the ordering with the number of
+/// `turned`, and the outcome of the plan under it, evaluated once. That ordering is the stable sort of
+/// the positions taken in its turn; a number past the last turns nothing.
+pub fn eval_turned(
+    alloc: Global,
+    plan: &Plan,
+    schema: &Schema,
+    instance: &Instance,
+    turned: Option<Turned>,
+) -> Result<TiedOutcome, EvalError>
+    requires { fits (schema_of schema.now) (plan_of plan.now) ≡ true }
+    ensures { IsTurnedOutcomeOrRefused (plan_of plan.now) (instance_of instance.now.items) turned result }
+{
     let mut orderings = Vec::new(alloc);
-    let sorted = Orderings::Sorted(flipped);
+    let sorted = Orderings::Sorted(turned);
     let evaluated = evaluate(alloc, plan, instance, None, sorted, 0, &mut orderings, 0)?;
     let outcome = outcome_from(alloc, instance, evaluated.outcome, 0)?;
     let choice = Choice { orderings };

@@ -3,7 +3,7 @@
 
 ghost use Rattle.wd_eval.specs.Laws.{HasNoWrongOrdering, HasOneTiedOutcome, HasTiedChoice};
 
-/// Each plan has such a choice over each instance, whichever ordering is flipped.
+/// Each plan has such a choice over each instance, whichever ordering takes rows that tie in another turn.
 pub fn has_tied_choice()
     ensures { HasTiedChoice }
 {}

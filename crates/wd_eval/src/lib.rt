@@ -12,12 +12,15 @@ pub mod laws;
 mod listing;
 mod node;
 mod orderings;
+mod turned;
 mod window;
 
 pub use answer::Answer;
 pub use error::EvalError;
 pub use eval::{
-    TiedOutcome, check_choice, eval_tied, eval_with, eval_within, first_choice, run_columns,
-    run_plan, tied_choice,
+    TiedOutcome, check_choice, eval_tied, eval_turned, eval_with, eval_within, first_choice,
+    run_columns, run_plan, tied_choice,
 };
+pub use turned::Turned;
+pub use wd_partition::Turn;
 pub use window::evaluate_window;

@@ -13,7 +13,7 @@ ghost use Rattle.wd_eval.specs.Windows.{HasOrdering, orderings_of};
 use crate::error::EvalError;
 use std::alloc::Global;
 use wd_columns::RowSource;
-use wd_partition::{Partitions, SortedPartitions, partitions, sorted_partitions};
+use wd_partition::{Partitions, SortedPartitions, Turn, partitions, sorted_partitions};
 use wd_plan::{Class, Frame, FrameMode, Window};
 use wd_value::{OutOfMemory, SortColumn};
 
@@ -81,37 +81,37 @@ pub(crate) struct SortedListing {
     pub listing: Listing,
 }
 
-/// The stable sort of the rows' positions by the Window's class with this number, last to first where
-/// it is flipped, and the partitions that it makes.
+/// The stable sort of the rows' positions, taken in this turn, by the Window's class with this number,
+/// and the partitions that it makes.
 pub(crate) fn sorted_listing(
     alloc: Global,
     window: &Window,
     number: usize,
     rows: &RowSource,
-    flipped: bool,
+    turn: Turn,
 ) -> Result<SortedListing, OutOfMemory>
     requires short { length rows.now < 2 ^ 32 }
     requires within { number < length (window_of window.now).classes }
-    ensures stable { IfOk result (λ s. IsStableSortOf (sort_columns (class_at (window_of window.now) number)) rows.now (given_positions flipped (length rows.now)) s.ordering.items) }
+    ensures stable { IfOk result (λ s. IsStableSortOf (sort_columns (class_at (window_of window.now) number)) rows.now (given_positions turn (length rows.now)) s.ordering.items) }
     ensures listing { IfOk result (λ s. IsListingIn (window_of window.now) number rows.now s.ordering.items s.listing) }
 {
     let asked = asks_keys(window, number);
-    sorted_listing_of(alloc, &window.classes[number], asked, rows, flipped)
+    sorted_listing_of(alloc, &window.classes[number], asked, rows, turn)
 }
 
-/// The stable sort of the rows' positions by a class, and the partitions that it makes, with the keys where they are asked for.
+/// The stable sort of the rows' positions, taken in this turn, by a class, and the partitions that it makes, with the keys where they are asked for.
 fn sorted_listing_of(
     alloc: Global,
     class: &Class,
     asked: bool,
     rows: &RowSource,
-    flipped: bool,
+    turn: Turn,
 ) -> Result<SortedListing, OutOfMemory>
     requires { length rows.now < 2 ^ 32 }
-    ensures stable { IfOk result (λ s. IsStableSortOf (sort_columns (class_of class.now)) rows.now (given_positions flipped (length rows.now)) s.ordering.items) }
+    ensures stable { IfOk result (λ s. IsStableSortOf (sort_columns (class_of class.now)) rows.now (given_positions turn (length rows.now)) s.ordering.items) }
     ensures listing { IfOk result (λ s. IsListing (class_of class.now) asked rows.now s.ordering.items s.listing) }
 {
-    let sorted = sorted_partitions(alloc, rows, &class.partition, &class.order, flipped, asked)?;
+    let sorted = sorted_partitions(alloc, rows, &class.partition, &class.order, turn, asked)?;
     let SortedPartitions {
         ordering,
         partitions,

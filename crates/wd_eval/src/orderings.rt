@@ -1,8 +1,9 @@
 //! Where the orderings of a plan's nodes come from.
 
 ghost use Rattle.std.specs.Prelude.{◌≡◌};
-ghost use Rattle.wd_eval.specs.Tied as spec;
 ghost use Rattle.wd_eval.specs.Walks.{most_of};
+
+use crate::turned::Turned;
 
 /// The most rows that a step may have, where nothing less is asked for.
 pub(crate) const MOST_ROWS: usize = 10_000_000;
@@ -12,9 +13,9 @@ pub(crate) const MOST_ROWS: usize = 10_000_000;
 pub(crate) enum Orderings<'a> {
     /// Those of a choice, each of which has to be lawful, and the most rows that a step may have.
     Chosen(&'a [Vec<u64>], u64),
-    /// The sorted ones, that with this number the other way round. They are made where a node asks
-    /// for them.
-    Sorted(Option<u32>),
+    /// The sorted ones, of which one may take rows that tie in another turn. They are made where a
+    /// node asks for them.
+    Sorted(Option<Turned>),
 }
 
 impl Orderings<'_> {
@@ -26,15 +27,5 @@ impl Orderings<'_> {
             Orderings::Chosen(_, most) => most,
             Orderings::Sorted(_) => MOST_ROWS as u64,
         }
-    }
-}
-
-/// Whether the sorted ordering with this number is the one to flip.
-pub(crate) fn is_flipped(flipped: Option<u32>, number: usize) -> bool
-    ensures { result ≡ spec.is_flipped flipped number }
-{
-    match flipped {
-        None => false,
-        Some(n) => n as usize == number,
     }
 }

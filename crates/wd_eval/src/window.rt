@@ -13,7 +13,8 @@ ghost use Rattle.wd_value.specs.Rows.{Instance, instance_of};
 use crate::calls::{with_calls, with_calls_by_column};
 use crate::error::EvalError;
 use crate::listing::{Listing, SortedListing, listings, sorted_listing};
-use crate::orderings::{Orderings, is_flipped};
+use crate::orderings::Orderings;
+use crate::turned::{Turned, turn_of};
 use std::alloc::Global;
 use wd_columns::{Columns, RowSource};
 use wd_nodes::{Produced, outcome_from};
@@ -43,8 +44,8 @@ pub(crate) fn extended(
             let outcome = evaluate_window(alloc, window, input, choice, first)?;
             Ok(Produced::Made(outcome))
         }
-        Orderings::Sorted(flipped) => {
-            let produced = sorted_window(alloc, instance, window, input, flipped, made)?;
+        Orderings::Sorted(turned) => {
+            let produced = sorted_window(alloc, instance, window, input, turned, made)?;
             Ok(produced)
         }
     }
@@ -109,18 +110,18 @@ fn sorted_window(
     instance: &[Vec<Row>],
     window: &Window,
     input: Produced,
-    flipped: Option<u32>,
+    turned: Option<Turned>,
     made: &mut Vec<Vec<u64>>,
 ) -> Result<Produced, OutOfMemory>
     requires few { AreFew (2 ^ 32 - 1) (produced_of (instance_of instance.now) input) }
     requires named { NamesClasses (window_of window.now) }
-    ensures { IfOk result (λ o. IsTiedWindow (window_of window.now) (produced_of (instance_of instance.now) input) flipped (orderings_of made.old.items) (orderings_of made.new.items) (produced_of (instance_of instance.now) o)) }
+    ensures { IfOk result (λ o. IsTiedWindow (window_of window.now) (produced_of (instance_of instance.now) input) turned (orderings_of made.old.items) (orderings_of made.new.items) (produced_of (instance_of instance.now) o)) }
 {
     match input {
-        Produced::ByColumn(columns) => sorted_by_column(alloc, window, columns, flipped, made),
+        Produced::ByColumn(columns) => sorted_by_column(alloc, window, columns, turned, made),
         other => {
             let given = outcome_from(alloc, instance, other, window.calls.len())?;
-            let outcome = sorted_rows(alloc, window, given, flipped, made)?;
+            let outcome = sorted_rows(alloc, window, given, turned, made)?;
             Ok(Produced::Made(outcome))
         }
     }
@@ -131,18 +132,18 @@ fn sorted_by_column(
     alloc: Global,
     window: &Window,
     columns: Columns,
-    flipped: Option<u32>,
+    turned: Option<Turned>,
     made: &mut Vec<Vec<u64>>,
 ) -> Result<Produced, OutOfMemory>
     requires few { length columns < 2 ^ 32 }
     requires named { NamesClasses (window_of window.now) }
-    ensures { IfOk result (λ o. (instance : Instance) → IsTiedWindow (window_of window.now) (Ok columns) flipped (orderings_of made.old.items) (orderings_of made.new.items) (produced_of instance o)) }
+    ensures { IfOk result (λ o. (instance : Instance) → IsTiedWindow (window_of window.now) (Ok columns) turned (orderings_of made.old.items) (orderings_of made.new.items) (produced_of instance o)) }
 {
     let listings = put_sorted(
         alloc,
         window,
         &RowSource::of_columns(&columns),
-        flipped,
+        turned,
         made,
     )?;
     match with_calls_by_column(alloc, window, columns, &listings)? {
@@ -156,12 +157,12 @@ fn sorted_rows(
     alloc: Global,
     window: &Window,
     input: Outcome,
-    flipped: Option<u32>,
+    turned: Option<Turned>,
     made: &mut Vec<Vec<u64>>,
 ) -> Result<Outcome, OutOfMemory>
     requires few { AreFew (2 ^ 32 - 1) (outcome_of input) }
     requires named { NamesClasses (window_of window.now) }
-    ensures { IfOk result (λ o. IsTiedWindow (window_of window.now) (outcome_of input) flipped (orderings_of made.old.items) (orderings_of made.new.items) (outcome_of o)) }
+    ensures { IfOk result (λ o. IsTiedWindow (window_of window.now) (outcome_of input) turned (orderings_of made.old.items) (orderings_of made.new.items) (outcome_of o)) }
 {
     match input {
         Outcome::Fault(fault) => {
@@ -169,7 +170,7 @@ fn sorted_rows(
             Ok(Outcome::Fault(fault))
         }
         Outcome::Rows(rows) => {
-            let listings = put_sorted(alloc, window, &RowSource::of_rows(&rows), flipped, made)?;
+            let listings = put_sorted(alloc, window, &RowSource::of_rows(&rows), turned, made)?;
             let outcome = with_calls(alloc, window, rows, &listings)?;
             Ok(outcome)
         }
@@ -182,17 +183,17 @@ fn put_sorted(
     alloc: Global,
     window: &Window,
     rows: &RowSource,
-    flipped: Option<u32>,
+    turned: Option<Turned>,
     made: &mut Vec<Vec<u64>>,
 ) -> Result<Vec<Listing>, OutOfMemory>
     requires { length rows.now < 2 ^ 32 }
-    ensures put { OnOk result (AreAllPut (window_of window.now) (Ok rows.now) flipped (orderings_of made.old.items) (orderings_of made.new.items)) }
+    ensures put { OnOk result (AreAllPut (window_of window.now) (Ok rows.now) turned (orderings_of made.old.items) (orderings_of made.new.items)) }
     ensures listings { IfOk result (λ v. AreListings (window_of window.now) rows.now (orderings_of made.new.items) (length (orderings_of made.old.items)) (length (window_of window.now).classes) v.items) }
 {
     let mut listings = Vec::new(alloc);
     for number in 0..window.classes.len() {
-        let turned = is_flipped(flipped, made.len());
-        let sorted = sorted_listing(alloc, window, number, rows, turned)?;
+        let turn = turn_of(turned, made.len());
+        let sorted = sorted_listing(alloc, window, number, rows, turn)?;
         let SortedListing { ordering, listing } = sorted;
         made.push(ordering)?;
         listings.push(listing)?;

@@ -16,7 +16,7 @@ cut_given-requires c =
     let limit = limit_of c.args.limit.now in
     let input = given_of (instance_of c.args.instance.now) c.args.input in
     let ordering = c.in_ok-ordering.ordering.items in
-    subst (λ o. AtRows input (λ rows. IsOrdering (limit_class limit) rows o) (o ≡ [])) (sym c.deref.ensures.value) (lawful_over (limit_class limit) c.is_flipped-turned.result input ordering c.in_ok-ordering.ensures)
+    subst (λ o. AtRows input (λ rows. IsOrdering (limit_class limit) rows o) (o ≡ [])) (sym c.deref.ensures.value) (lawful_over (limit_class limit) c.turn_of-turn.result input ordering c.in_ok-ordering.ensures)
 
 pub returns : goal.returns
 returns c =
@@ -31,4 +31,4 @@ returns c =
     let at : number ≡ length old = (let long = length-map made (λ v. v.items) in omega arith) in
     let grown : new ≡ old ++ own ∷ [] = ap orderings_of c.in_ok-push.ensures.items ∙ map_push (λ v. v.items) made c.in_ok-ordering.ordering in
     let is = subst (λ ps. outcome_of o ≡ cut_over limit ps input) c.deref.ensures.value c.in_ok-outcome.ensures in
-    limit_tied_from limit input c.args.flipped old new own number c.is_flipped-turned.result at grown c.in_ok-ordering.ensures o c.is_flipped-turned.ensures is
+    limit_tied_from limit input c.args.turned old new own number c.turn_of-turn.result at grown c.in_ok-ordering.ensures o c.turn_of-turn.ensures is

@@ -12,7 +12,7 @@ use Rattle.wd_nodes.proofs.Held.{same_for_some, same_held}
 use Rattle.wd_eval.proofs.SomeTied.{refused_from}
 use Rattle.wd_eval.proofs.Tying.{tied_outcome, tied_valid}
 use Rattle.wd_eval.proofs.Walks.{to_untied}
-use Rattle.wd_eval.proofs.eval.eval_tied.Goals as goal
+use Rattle.wd_eval.proofs.eval.eval_turned.Goals as goal
 
 pub evaluate-requires-clause-named : goal.evaluate-requires-clause-named
 evaluate-requires-clause-named c = names_classes (schema_of c.args.schema.now) (plan_of c.args.plan.now) c.requires
@@ -25,9 +25,9 @@ returns-in_err-evaluated c =
     let p = err_from_is_err_and c.from_residual.result c.from_residual.ensures.1 in
     let e = c.in_err-evaluated.field-0.0 in
     let plan = plan_of c.args.plan.now in
-    let untied = to_untied plan (instance_of c.deref.result.now) 0 c.args.flipped e (c.in_err-evaluated.ensures (instance_of c.deref.result.now) (same_held plan (instance_of c.deref.result.now))).refused in
-    let h = subst (λ is. IsUntied plan (instance_of is) c.args.flipped 0 e) c.deref.ensures.value untied in
-    rw (p.1, p.2) (record { ok = tt; refused = refused_from plan (instance_of c.args.instance.now.items) c.args.flipped e h })
+    let untied = to_untied plan (instance_of c.deref.result.now) 0 c.args.turned e (c.in_err-evaluated.ensures (instance_of c.deref.result.now) (same_held plan (instance_of c.deref.result.now))).refused in
+    let h = subst (λ is. IsUntied plan (instance_of is) c.args.turned 0 e) c.deref.ensures.value untied in
+    rw (p.1, p.2) (record { ok = tt; refused = refused_from plan (instance_of c.args.instance.now.items) c.args.turned e h })
 
 pub returns : goal.returns
 returns c =
@@ -38,10 +38,10 @@ returns c =
     let new = orderings_of c.evaluate.new.made.items in
     let o = c.in_ok-outcome.outcome in
     let walked = (c.in_ok-evaluated.ensures own (same_held plan own)).ok in
-    let tied = subst (λ old. IsTied plan own own c.args.flipped (orderings_of old) new e.outcome) c.new-orderings.ensures.items walked.1 in
-    let here = subst (λ is. IsTied plan (instance_of is) (instance_of is) c.args.flipped [] new e.outcome) c.deref.ensures.value tied in
+    let tied = subst (λ old. IsTied plan own own c.args.turned (orderings_of old) new e.outcome) c.new-orderings.ensures.items walked.1 in
+    let here = subst (λ is. IsTied plan (instance_of is) (instance_of is) c.args.turned [] new e.outcome) c.deref.ensures.value tied in
     let is = subst (λ is. outcome_of o ≡ produced_of (instance_of is) e.outcome) c.deref-2.ensures.value c.in_ok-outcome.ensures in
     record {
-      ok = record { choice = tied_valid plan instance instance c.args.flipped new e.outcome here; is = (tied_outcome plan instance instance c.args.flipped new e.outcome here (outcome_of o) is).is };
+      ok = record { choice = tied_valid plan instance instance c.args.turned new e.outcome here; is = (tied_outcome plan instance instance c.args.turned new e.outcome here (outcome_of o) is).is };
       refused = tt;
     }

@@ -56,7 +56,7 @@ returns-in_err-below-in-Filter t c = λ instance held. (
     rw (err.1, err.2) (record {
       ok = tt;
       refused = subst (λ p. IsHalted p instance orderings first e) (sym (ap plan_of c.in-Filter.is))
-          (halted_below tables instance first old orderings input (Filter condition input) e c.requires.at (λ choice. filter_stopped (most_of orderings) tables instance choice first condition input e) (λ flipped. filter_untied tables instance flipped (orderings_of old) condition input e) h);
+          (halted_below tables instance first old orderings input (Filter condition input) e c.requires.at (λ choice. filter_stopped (most_of orderings) tables instance choice first condition input e) (λ turned. filter_untied tables instance turned (orderings_of old) condition input e) h);
     }))
 
 pub returns-in_ok-outcome-in-Map : goal.returns-in_ok-outcome-in-Map
@@ -96,7 +96,7 @@ returns-in_err-below-in-Map t c = λ instance held. (
     rw (err.1, err.2) (record {
       ok = tt;
       refused = subst (λ p. IsHalted p instance orderings first e) (sym (ap plan_of c.in-Map.is))
-          (halted_below tables instance first old orderings input (Map outputs input) e c.requires.at (λ choice. map_stopped (most_of orderings) tables instance choice first outputs input e) (λ flipped. map_untied tables instance flipped (orderings_of old) outputs input e) h);
+          (halted_below tables instance first old orderings input (Map outputs input) e c.requires.at (λ choice. map_stopped (most_of orderings) tables instance choice first outputs input e) (λ turned. map_untied tables instance turned (orderings_of old) outputs input e) h);
     }))
 
 pub returns-in_ok-outcome-in-Distinct : goal.returns-in_ok-outcome-in-Distinct
@@ -134,7 +134,7 @@ returns-in_err-below-in-Distinct t c = λ instance held. (
     rw (err.1, err.2) (record {
       ok = tt;
       refused = subst (λ p. IsHalted p instance orderings first e) (sym (ap plan_of c.in-Distinct.is))
-          (halted_below tables instance first old orderings input (Distinct input) e c.requires.at (λ choice. distinct_stopped (most_of orderings) tables instance choice first input e) (λ flipped. distinct_untied tables instance flipped (orderings_of old) input e) h);
+          (halted_below tables instance first old orderings input (Distinct input) e c.requires.at (λ choice. distinct_stopped (most_of orderings) tables instance choice first input e) (λ turned. distinct_untied tables instance turned (orderings_of old) input e) h);
     }))
 
 pub returns-in_ok-outcome-in-Window : goal.returns-in_ok-outcome-in-Window
@@ -179,7 +179,7 @@ returns-in_err-below-in-Window t c = λ instance held. (
     rw (err.1, err.2) (record {
       ok = tt;
       refused = subst (λ p. IsHalted p instance orderings first e) (sym (ap plan_of c.in-Window.is))
-          (halted_below tables instance first old orderings input (Window w input) e c.requires.at (λ choice. window_stopped_below (most_of orderings) tables instance choice first w input e) (λ flipped. window_untied tables instance flipped (orderings_of old) w input e) h);
+          (halted_below tables instance first old orderings input (Window w input) e c.requires.at (λ choice. window_stopped_below (most_of orderings) tables instance choice first w input e) (λ turned. window_untied tables instance turned (orderings_of old) w input e) h);
     }))
 
 pub returns-in_err-outcome-in-Window : goal.returns-in_err-outcome-in-Window
@@ -242,7 +242,7 @@ returns-in_err-below-in-Limit t c = λ instance held. (
     rw (err.1, err.2) (record {
       ok = tt;
       refused = subst (λ p. IsHalted p instance orderings first e) (sym (ap plan_of c.in-Limit.is))
-          (halted_below tables instance first old orderings input (Limit limit input) e c.requires.at (λ choice. limit_stopped_below (most_of orderings) tables instance choice first limit input e) (λ flipped. limit_untied tables instance flipped (orderings_of old) limit input e) h);
+          (halted_below tables instance first old orderings input (Limit limit input) e c.requires.at (λ choice. limit_stopped_below (most_of orderings) tables instance choice first limit input e) (λ turned. limit_untied tables instance turned (orderings_of old) limit input e) h);
     }))
 
 pub returns-in_err-outcome-in-Limit : goal.returns-in_err-outcome-in-Limit
@@ -282,7 +282,7 @@ returns-in_err-left-in-Join t c = λ instance held. (
     rw (err.1, err.2) (record {
       ok = tt;
       refused = subst (λ p. IsHalted p instance orderings first e) (sym (ap plan_of c.in-Join.is))
-          (halted_below tables instance first old orderings left (Join condition left right) e c.requires.at (λ choice. join_stopped_left (most_of orderings) tables instance choice first condition left right e) (λ flipped. join_untied_left tables instance flipped (orderings_of old) condition left right e) h);
+          (halted_below tables instance first old orderings left (Join condition left right) e c.requires.at (λ choice. join_stopped_left (most_of orderings) tables instance choice first condition left right e) (λ turned. join_untied_left tables instance turned (orderings_of old) condition left right e) h);
     }))
 
 pub returns-in_err-right-in-Join : goal.returns-in_err-right-in-Join
@@ -407,7 +407,7 @@ returns-in_err-below-in-Group t c = λ instance held. (
     rw (err.1, err.2) (record {
       ok = tt;
       refused = subst (λ p. IsHalted p instance orderings first e) (sym (ap plan_of c.in-Group.is))
-          (halted_below tables instance first old orderings input (Group rule input) e c.requires.at (λ choice. group_stopped_below (most_of orderings) tables instance choice first rule input e) (λ flipped. group_untied_below tables instance flipped (orderings_of old) rule input e) h);
+          (halted_below tables instance first old orderings input (Group rule input) e c.requires.at (λ choice. group_stopped_below (most_of orderings) tables instance choice first rule input e) (λ turned. group_untied_below tables instance turned (orderings_of old) rule input e) h);
     }))
 
 pub returns-in_err-outcome-in-Group : goal.returns-in_err-outcome-in-Group

@@ -11,7 +11,7 @@ use Rattle.wd_eval.proofs.window.put_sorted.Goals as goal
 
 pub loop-number-init : goal.loop-number-init
 loop-number-init c = record {
-  put = none_put (window_of c.args.window.now) (Ok c.args.rows.now) c.args.flipped (orderings_of c.args.made.now.items);
+  put = none_put (window_of c.args.window.now) (Ok c.args.rows.now) c.args.turned (orderings_of c.args.made.now.items);
   listings = subst (λ ls. AreListings (window_of c.args.window.now) c.args.rows.now (orderings_of c.args.made.now.items) (length (orderings_of c.args.made.now.items)) 0 ls) (sym c.new-listings.ensures.items)
       (none_listed (window_of c.args.window.now) c.args.rows.now (orderings_of c.args.made.now.items));
 }
@@ -21,7 +21,7 @@ returns-clause-put c =
     let w = window_of c.args.window.now in
     let long = length-map c.args.window.now.classes.items class_of in
     let all : c.loop-number.number ≡ length w.classes = omega arith in
-    subst (λ n. ArePut w (Ok c.args.rows.now) c.args.flipped n (orderings_of c.args.made.now.items) (orderings_of c.loop-number.made.items)) all c.loop-number.invariant.put
+    subst (λ n. ArePut w (Ok c.args.rows.now) c.args.turned n (orderings_of c.args.made.now.items) (orderings_of c.loop-number.made.items)) all c.loop-number.invariant.put
 
 pub returns-clause-listings : goal.returns-clause-listings
 returns-clause-listings c =
@@ -35,19 +35,19 @@ loop-number-preserved c =
     let w = window_of c.args.window.now in
     let n = c.loop-number.number in
     let rows = c.args.rows.now in
-    let turned = c.is_flipped-turned.result in
+    let turn = c.turn_of-turn.result in
     let sorted = c.in_ok-sorted.sorted in
     let old = orderings_of c.args.made.now.items in
     let mid = orderings_of c.loop-number.made.items in
     let new = orderings_of c.push.new.self.items in
     let number : c.len.result ≡ length mid = (let long = length-map c.loop-number.made.items (λ v. v.items) in omega arith) in
     let grown : new ≡ mid ++ sorted.ordering.items ∷ [] = ap orderings_of c.in_ok-push.ensures.items ∙ map_push (λ v. v.items) c.loop-number.made.items sorted.ordering in
-    let stable : IsSortedOver (class_at w n) turned (Ok rows) sorted.ordering.items = c.in_ok-sorted.ensures.stable in
+    let stable : IsSortedOver (class_at w n) turn (Ok rows) sorted.ordering.items = c.in_ok-sorted.ensures.stable in
     let p = c.loop-number.invariant.put in
     let size = ap length p.grown ∙ length-append old p.own in
     let many = p.sorted.long in
     let at : length old + n ≡ length mid = omega arith in
     record {
-      put = one_put w (Ok rows) c.args.flipped n c.len.result old mid new turned sorted.ordering.items p number c.is_flipped-turned.ensures stable grown;
+      put = one_put w (Ok rows) c.args.turned n c.len.result old mid new turn sorted.ordering.items p number c.turn_of-turn.ensures stable grown;
       listings = one_listed w rows (length old) n mid new sorted.ordering.items c.loop-number.listings.items c.push-in-loop-number.new.self.items sorted.listing at grown c.loop-number.invariant.listings c.in_ok-sorted.ensures.listing c.in_ok-push-2.ensures.items;
     }

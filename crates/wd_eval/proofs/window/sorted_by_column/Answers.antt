@@ -14,7 +14,7 @@ returns-in-Ok c = λ instance. (
     let new = orderings_of c.put_sorted.new.made.items in
     let listings = c.in_ok-listings.listings.items in
     let source : c.of_columns.result ≡ rows = c.of_columns.ensures in
-    let put : AreAllPut w (Ok rows) c.args.flipped old new = subst (λ rs. AreAllPut w (Ok rs) c.args.flipped old new) source c.in_ok-listings.ensures.put in
+    let put : AreAllPut w (Ok rows) c.args.turned old new = subst (λ rs. AreAllPut w (Ok rs) c.args.turned old new) source c.in_ok-listings.ensures.put in
     let all : AreListings w rows new (length old) (length w.classes) listings = subst (λ rs. AreListings w rs new (length old) (length w.classes) listings) source c.in_ok-listings.ensures.listings in
     record {
       put = put;
@@ -29,7 +29,7 @@ returns c = λ instance. (
     let new = orderings_of c.put_sorted.new.made.items in
     let listings = c.in_ok-listings.listings.items in
     let source : c.of_columns.result ≡ rows = c.of_columns.ensures in
-    let put : AreAllPut w (Ok rows) c.args.flipped old new = subst (λ rs. AreAllPut w (Ok rs) c.args.flipped old new) source c.in_ok-listings.ensures.put in
+    let put : AreAllPut w (Ok rows) c.args.turned old new = subst (λ rs. AreAllPut w (Ok rs) c.args.turned old new) source c.in_ok-listings.ensures.put in
     let all : AreListings w rows new (length old) (length w.classes) listings = subst (λ rs. AreListings w rs new (length old) (length w.classes) listings) source c.in_ok-listings.ensures.listings in
     record {
       put = put;

@@ -17,8 +17,8 @@ returns-in_ok-put_empty-in-Fault c =
     let new = orderings_of c.put_empty.new.made.items in
     let n = length c.args.window.now.classes.items in
     let put : IsPutEmpty n old new = search rules in
-    subst (λ (r : RowsOrFault). IsTiedWindow w r c.args.flipped old new (Err c.in-Fault.fault)) (sym (ap outcome_of c.in-Fault.is))
-    (fault_tied w c.in-Fault.fault c.args.flipped n old new (sym (length-map c.args.window.now.classes.items class_of)) put)
+    subst (λ (r : RowsOrFault). IsTiedWindow w r c.args.turned old new (Err c.in-Fault.fault)) (sym (ap outcome_of c.in-Fault.is))
+    (fault_tied w c.in-Fault.fault c.args.turned n old new (sym (length-map c.args.window.now.classes.items class_of)) put)
 
 pub returns-in_ok-outcome-in-Rows : goal.returns-in_ok-outcome-in-Rows
 returns-in_ok-outcome-in-Rows c =
@@ -29,9 +29,9 @@ returns-in_ok-outcome-in-Rows c =
     let listings = c.in_ok-listings-in-Rows.listings.items in
     let o = c.in_ok-outcome-in-Rows.outcome in
     let source : c.of_rows.result ≡ rows = c.of_rows.ensures ∙ ap rows_of c.deref.ensures.value in
-    let put : AreAllPut w (Ok rows) c.args.flipped old new = subst (λ rs. AreAllPut w (Ok rs) c.args.flipped old new) source c.in_ok-listings-in-Rows.ensures.put in
+    let put : AreAllPut w (Ok rows) c.args.turned old new = subst (λ rs. AreAllPut w (Ok rs) c.args.turned old new) source c.in_ok-listings-in-Rows.ensures.put in
     let all : AreListings w rows new (length old) (length w.classes) listings = subst (λ rs. AreListings w rs new (length old) (length w.classes) listings) source c.in_ok-listings-in-Rows.ensures.listings in
-    subst (λ (r : RowsOrFault). IsTiedWindow w r c.args.flipped old new (outcome_of o)) (sym (ap outcome_of c.in-Rows.is)) (record {
+    subst (λ (r : RowsOrFault). IsTiedWindow w r c.args.turned old new (outcome_of o)) (sym (ap outcome_of c.in-Rows.is)) (record {
       put = put;
       extended = rows_done w rows new (length old) listings (outcome_of o) all (λ orderings listed. c.in_ok-outcome-in-Rows.ensures orderings (subst (λ ls. AreListed w rows orderings ls) (sym c.deref-in-Rows.ensures.value) listed));
     })
