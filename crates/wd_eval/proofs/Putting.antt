@@ -1,5 +1,5 @@
 -- Sorted orderings put after those that are there serve a Window, or a Limit, over its input.
-use Rattle.std.proofs.Common.{◌≡◌, ℕ, ◌+◌, ◌<◌, Bool, List, [], ◌∷◌, ◌++◌, take, drop, length, get_or, Option, Ok, Err, refl, sym, ap, ◌∙◌, subst, arith, append_assoc, below_more, length-append}
+use Rattle.std.proofs.Common.{◌≡◌, ℕ, ◌+◌, ◌<◌, List, [], ◌∷◌, ◌++◌, take, drop, length, get_or, Option, Ok, Err, refl, sym, ap, ◌∙◌, subst, arith, append_assoc, below_more, length-append}
 use Rattle.std.specs.List.{AllByRecursion}
 use Rattle.std.proofs.Math.Seq.{drop-append_seam, get_or-append_seam}
 use Rattle.std.proofs.lemmas.List.{append-nil, get_or_append_left, take_all}

@@ -1,5 +1,5 @@
 -- What a node gives under its sorted orderings, and why it stops, from what the nodes below it give.
-use Rattle.std.proofs.Common.{◌≡◌, ℕ, ◌+◌, ◌<◌, ◌≤◌, Bool, true, ◌||◌, List, [], ◌∷◌, ◌++◌, take, drop, length, get_or, Option, Ok, Err, refl, sym, ap, ◌∙◌, subst, arith, append_assoc, length-append, length-drop, drop-drop, length-take}
+use Rattle.std.proofs.Common.{◌≡◌, ℕ, ◌+◌, ◌<◌, ◌≤◌, true, ◌||◌, List, [], ◌∷◌, ◌++◌, take, drop, length, get_or, Option, Ok, Err, refl, sym, ap, ◌∙◌, subst, arith, append_assoc, length-append, length-drop, drop-drop, length-take}
 use Rattle.std.proofs.lemmas.List.{append-nil, drop-append-le, get_or-append-add, get_or-drop, get_or-take, get_or_append_left, ext_get_or}
 use Rattle.wd_value.specs.Rows.{Instance, table_at}
 use Rattle.wd_plan.specs.declared.plan.Outcome.{Outcome}
