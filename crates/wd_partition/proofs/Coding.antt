@@ -1,5 +1,5 @@
 -- Steps by numbers in the place of rows.
-use Rattle.std.proofs.Common.{◌≡◌, ◌∙◌, ℕ, zero, suc, ◌+◌, ◌<◌, Bool, List, get_or, length, refl, sym, arith, Ordering}
+use Rattle.std.proofs.Common.{◌≡◌, ◌∙◌, ℕ, zero, suc, ◌<◌, List, get_or, length, refl, sym, arith, Ordering}
 use Rattle.std.specs.Prelude.{All}
 use Rattle.std.proofs.lemmas.List.Elements.{All-from_get_or, All-get_or}
 use Rattle.std.proofs.lemmas.List.FromFn.{get_or-range_with_len, length-range_with_len}
@@ -8,12 +8,13 @@ use Rattle.wd_value.specs.Bags.{positions}
 use Rattle.wd_partition.specs.Columns.{given_positions}
 use Rattle.wd_partition.specs.Steps.{AreSteps, step_by, step_to}
 use Rattle.wd_partition.specs.declared.steps.Step.{Step}
+use Rattle.wd_partition.specs.declared.turn.Turn.{Turn}
 use Rattle.wd_partition.proofs.Grouping.{IsPermutation-given}
 
 -- the given positions are those of rows
-pub within_given : (flipped : Bool) (n : ℕ) → All (λ p. p < n) (given_positions flipped n)
-within_given flipped n =
-    All-permutation (λ p. p < n) (positions n) (given_positions flipped n) (IsPermutation-given flipped n)
+pub within_given : (turn : Turn) (n : ℕ) → All (λ p. p < n) (given_positions turn n)
+within_given turn n =
+    All-permutation (λ p. p < n) (positions n) (given_positions turn n) (IsPermutation-given turn n)
     (All-from_get_or (λ p. p < n) (positions n) 0
     (λ i low. (
     let long = length-range_with_len 0 n in

@@ -1,5 +1,5 @@
 -- An ordering and its positions by partition have the same members in each partition.
-use Rattle.std.proofs.Common.{◌≡◌, ℕ, zero, suc, ◌+◌, ◌<◌, Bool, true, false, List, [], ◌∷◌, filter, get_or, length, refl, sym, ◌∙◌, ap, subst, arith, Ordering, Less, Equal, Greater, is_gt, IsPermutation}
+use Rattle.std.proofs.Common.{◌≡◌, ℕ, zero, suc, ◌+◌, ◌<◌, Bool, true, false, List, [], ◌∷◌, ◌++◌, filter, get_or, length, refl, sym, ◌∙◌, ap, subst, arith, Ordering, Less, Equal, Greater, is_gt, IsPermutation}
 use Rattle.std.specs.Prelude.{IsSorted}
 use Rattle.std.specs.List.{AllByRecursion}
 use Rattle.std.specs.List.Sorted.{ties}
@@ -18,8 +18,10 @@ use Rattle.wd_value.proofs.KeyLaws.{compare_keys_total, same_row_self}
 use Rattle.wd_plan.proofs.Parts.{NotAfter, Perm-ordering, ordered, part, partition_of-is, rising_part}
 use Rattle.wd_plan.proofs.Sorted.{Rising}
 use Rattle.wd_plan.proofs.SortLaws.{EachOnce-from_IsPermutation, IsOrdering-from_sort}
-use Rattle.wd_partition.specs.Columns.{given_positions, partition_columns, sort_columns}
+use Rattle.wd_partition.specs.Columns.{exchanged, given_positions, partition_columns, rotated, sort_columns}
 use Rattle.wd_partition.specs.Orderings.{AreGrouped, IsGroupedOrdering}
+use Rattle.wd_partition.specs.declared.turn.Turn.{Turn}
+use Rattle.wd_partition.specs.declared.turn.Turn.TheVariants.{AsGiven, Reversed, Rotated, Exchanged}
 use Rattle.wd_partition.proofs.ByColumns.{by_parts, ties_are_partitions, tie_is_partition}
 
 -- ---- rearrangements
@@ -30,9 +32,25 @@ IsPermutation-from_Perm (Perm.keep x {xs = xs} {ys = ys} p) = IsPermutation-cons
 IsPermutation-from_Perm (Perm.flip x y xs) = IsPermutation-swap (x ∷ y ∷ xs) (y ∷ x ∷ xs) 0 1 (omega arith) (omega arith) refl
 IsPermutation-from_Perm (Perm.both {xs = xs} {ys = ys} {zs = zs} p q) = IsPermutation-trans xs ys zs (IsPermutation-from_Perm p) (IsPermutation-from_Perm q)
 
-pub IsPermutation-given : (flipped : Bool) (n : ℕ) → IsPermutation (positions n) (given_positions flipped n)
-IsPermutation-given true n = IsPermutation-reverse (positions n)
-IsPermutation-given false n = IsPermutation-refl (positions n)
+-- the first one behind the others
+Perm-behind : (x : ℕ) (ys : List ℕ) → Perm ℕ (x ∷ ys) (ys ++ x ∷ [])
+Perm-behind x [] = Perm.keep x Perm.done
+Perm-behind x (y ∷ ys) = Perm.both (Perm.flip x y ys) (Perm.keep y (Perm-behind x ys))
+
+Perm-rotated : (xs : List ℕ) → Perm ℕ xs (rotated xs)
+Perm-rotated [] = Perm.done
+Perm-rotated (x ∷ xs) = Perm-behind x xs
+
+Perm-exchanged : (xs : List ℕ) → Perm ℕ xs (exchanged xs)
+Perm-exchanged [] = Perm.done
+Perm-exchanged (x ∷ []) = Perm.keep x Perm.done
+Perm-exchanged (x ∷ y ∷ xs) = Perm.both (Perm.flip x y xs) (Perm.keep y (Perm.keep x (Perm-exchanged xs)))
+
+pub IsPermutation-given : (turn : Turn) (n : ℕ) → IsPermutation (positions n) (given_positions turn n)
+IsPermutation-given AsGiven n = IsPermutation-refl (positions n)
+IsPermutation-given Reversed n = IsPermutation-reverse (positions n)
+IsPermutation-given Rotated n = IsPermutation-from_Perm (Perm-rotated (positions n))
+IsPermutation-given Exchanged n = IsPermutation-from_Perm (Perm-exchanged (positions n))
 
 module _ (class : ClassRule) (rows : List Row) where
   -- ---- sorted by all columns
@@ -41,9 +59,9 @@ module _ (class : ClassRule) (rows : List Row) where
   IsOrdering-from_columns ordering permutation sorted =
       IsOrdering-from_sort class rows ordering permutation (λ k d low high. ap is_lt (sym (by_parts class _ _)) ∙ sorted k d low high)
 
-  pub IsOrdering-from_given : (flipped : Bool) (ordering : List ℕ) → IsStableSortOf (sort_columns class) rows (given_positions flipped (length rows)) ordering → IsOrdering class rows ordering
-  IsOrdering-from_given flipped ordering sort =
-      IsOrdering-from_columns ordering (IsPermutation-trans (positions (length rows)) (given_positions flipped (length rows)) ordering (IsPermutation-given flipped (length rows)) sort.rearranged) sort.sorted
+  pub IsOrdering-from_given : (turn : Turn) (ordering : List ℕ) → IsStableSortOf (sort_columns class) rows (given_positions turn (length rows)) ordering → IsOrdering class rows ordering
+  IsOrdering-from_given turn ordering sort =
+      IsOrdering-from_columns ordering (IsPermutation-trans (positions (length rows)) (given_positions turn (length rows)) ordering (IsPermutation-given turn (length rows)) sort.rearranged) sort.sorted
 
   -- ---- members
 

@@ -13,8 +13,10 @@ mod places;
 mod placing;
 mod runs;
 mod steps;
+mod turn;
 
 pub use listing::{SortedPartitions, partitions, sorted_partitions};
 pub use member::Member;
 pub use members::Partitions;
 pub use ordering::{is_ordering, sorted_ordering};
+pub use turn::Turn;

@@ -9,6 +9,7 @@ ghost use Rattle.wd_sort.specs.Sorting.{IsStableSortOf};
 
 use crate::members::{Partitions, partitions_of};
 use crate::ordering::{grouped, sorted_arrangement};
+use crate::turn::Turn;
 use std::alloc::Global;
 use wd_columns::RowSource;
 use wd_value::{OutOfMemory, SortColumn};
@@ -51,14 +52,14 @@ pub fn sorted_partitions(
     rows: &RowSource,
     partition: &[u16],
     keys: &[SortColumn],
-    flipped: bool,
+    turn: Turn,
     numbers: bool,
 ) -> Result<SortedPartitions, OutOfMemory>
     requires { length rows.now < 2 ^ 32 }
-    ensures stable { IfOk result (λ s. IsStableSortOf (columns.sort_columns (class_by partition.now keys.now)) rows.now (columns.given_positions flipped (length rows.now)) s.ordering.items) }
+    ensures stable { IfOk result (λ s. IsStableSortOf (columns.sort_columns (class_by partition.now keys.now)) rows.now (columns.given_positions turn (length rows.now)) s.ordering.items) }
     ensures partitions { IfOk result (λ s. ArePartitions (class_by partition.now keys.now) numbers rows.now s.ordering.items s.partitions) }
 {
-    let arrangement = sorted_arrangement(alloc, rows, partition, keys, flipped)?;
+    let arrangement = sorted_arrangement(alloc, rows, partition, keys, turn)?;
     let ordering = arrangement.positions.to_vec(alloc)?;
     let partitions = partitions_of(alloc, rows, partition, keys, arrangement, numbers)?;
     Ok(SortedPartitions {

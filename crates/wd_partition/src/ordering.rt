@@ -11,9 +11,10 @@ ghost use Rattle.wd_sort.specs.Sorting.{IsStableSortOf, compare_rows_at};
 use crate::columns::{partition_columns, sort_columns};
 use crate::once::has_each_once;
 use crate::steps::{Step, coded_steps, sorted_steps, steps_of};
+use crate::turn::{Turn, given_positions};
 use std::alloc::Global;
 use wd_columns::RowSource;
-use wd_sort::{all_positions, row_coding, sorted_by_coding, sorted_in};
+use wd_sort::{row_coding, sorted_by_coding, sorted_in};
 use wd_value::{OutOfMemory, SortColumn};
 
 /// Fewer rows are sorted as they are: to find numbers for them would take longer.
@@ -27,33 +28,23 @@ pub struct Arrangement {
 }
 
 /// The ordering that a stable sort gives: the positions of the rows by the partition columns,
-/// ascending with NULL last, and then by the sort keys. Rows that tie on all of these stay as they
-/// are among the rows, or with `flipped` the other way round. It is an ordering that the class
-/// allows (SQL, window clause).
+/// ascending with NULL last, and then by the sort keys. Rows that tie on all of these stand
+/// in the order in which `turn` takes them. It is an ordering that the class allows (SQL, window
+/// clause).
 pub fn sorted_ordering(
     alloc: Global,
     rows: &RowSource,
     partition: &[u16],
     keys: &[SortColumn],
-    flipped: bool,
+    turn: Turn,
 ) -> Result<Vec<u64>, OutOfMemory>
-    ensures stable { IfOk result (λ v. IsStableSortOf (columns_of_class.sort_columns (class_by partition.now keys.now)) rows.now (columns_of_class.given_positions flipped (length rows.now)) v.items) }
+    ensures stable { IfOk result (λ v. IsStableSortOf (columns_of_class.sort_columns (class_by partition.now keys.now)) rows.now (columns_of_class.given_positions turn (length rows.now)) v.items) }
     ensures lawful { IfOk result (λ v. IsOrdering (class_by partition.now keys.now) rows.now v.items) }
 {
     let columns = sort_columns(alloc, partition, keys)?;
-    let given = given_positions(alloc, rows.len(), flipped)?;
+    let given = given_positions(alloc, rows.len(), turn)?;
     let ordering = sorted_in(alloc, rows, &columns, &given)?;
     Ok(ordering)
-}
-
-fn given_positions(alloc: Global, count: usize, flipped: bool) -> Result<Vec<u64>, OutOfMemory>
-    ensures { IfOk result (λ v. v.items ≡ columns_of_class.given_positions flipped count) }
-{
-    let mut all = all_positions(alloc, count)?;
-    if flipped {
-        all.reverse();
-    }
-    Ok(all)
 }
 
 /// Whether the list is an ordering that the class allows: each position of the rows once, and the
@@ -122,19 +113,19 @@ pub fn sorted_arrangement(
     rows: &RowSource,
     partition: &[u16],
     keys: &[SortColumn],
-    flipped: bool,
+    turn: Turn,
 ) -> Result<Arrangement, OutOfMemory>
-    ensures stable { IfOk result (λ v. IsStableSortOf (columns_of_class.sort_columns (class_by partition.now keys.now)) rows.now (columns_of_class.given_positions flipped (length rows.now)) v.positions.items) }
+    ensures stable { IfOk result (λ v. IsStableSortOf (columns_of_class.sort_columns (class_by partition.now keys.now)) rows.now (columns_of_class.given_positions turn (length rows.now)) v.positions.items) }
     ensures steps { IfOk result (λ v. AreSteps (compare_rows_at (columns_of_class.partition_columns partition.now) rows.now) (compare_rows_at keys.now rows.now) v.positions.items v.steps.items) }
 {
     if rows.len() >= FEW {
         let by_partition = partition_columns(alloc, partition)?;
-        let coded = coded_arrangement(alloc, rows, &by_partition, keys, flipped)?;
+        let coded = coded_arrangement(alloc, rows, &by_partition, keys, turn)?;
         if let Some(arrangement) = coded {
             return Ok(arrangement);
         }
     }
-    let ordering = sorted_ordering(alloc, rows, partition, keys, flipped)?;
+    let ordering = sorted_ordering(alloc, rows, partition, keys, turn)?;
     let arrangement = arranged(alloc, rows, partition, keys, &ordering)?;
     Ok(arrangement)
 }
@@ -145,9 +136,9 @@ fn coded_arrangement(
     rows: &RowSource,
     by_partition: &[SortColumn],
     keys: &[SortColumn],
-    flipped: bool,
+    turn: Turn,
 ) -> Result<Option<Arrangement>, OutOfMemory>
-    ensures stable { IfOk result (λ o. IfSome o (λ v. IsStableSortOf (by_partition.now ++ keys.now) rows.now (columns_of_class.given_positions flipped (length rows.now)) v.positions.items)) }
+    ensures stable { IfOk result (λ o. IfSome o (λ v. IsStableSortOf (by_partition.now ++ keys.now) rows.now (columns_of_class.given_positions turn (length rows.now)) v.positions.items)) }
     ensures steps { IfOk result (λ o. IfSome o (λ v. AreSteps (compare_rows_at by_partition.now rows.now) (compare_rows_at keys.now rows.now) v.positions.items v.steps.items)) }
 {
     let Some(partitions) = row_coding(alloc, rows, by_partition)? else {
@@ -156,7 +147,7 @@ fn coded_arrangement(
     let Some(within) = row_coding(alloc, rows, keys)? else {
         return Ok(None);
     };
-    let all = given_positions(alloc, rows.len(), flipped)?;
+    let all = given_positions(alloc, rows.len(), turn)?;
     let sorted = sorted_by_coding(alloc, &within, &all)?;
     let positions = sorted_by_coding(alloc, &partitions, &sorted)?;
     match coded_steps(alloc, &partitions.codes, &within.codes, &positions)? {

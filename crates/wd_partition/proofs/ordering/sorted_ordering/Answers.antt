@@ -8,5 +8,5 @@ pub returns-clause-lawful : goal.returns-clause-lawful
 returns-clause-lawful c =
     let rows = c.args.rows.now in
     let class = class_by c.args.partition.now c.args.keys.now in
-    let sort : IsStableSortOf (sort_columns class) rows (given_positions c.args.flipped (length c.args.rows.now)) c.in_ok-ordering.ordering.items = search rules in
-    IsOrdering-from_given class rows c.args.flipped c.in_ok-ordering.ordering.items sort
+    let sort : IsStableSortOf (sort_columns class) rows (given_positions c.args.turn (length c.args.rows.now)) c.in_ok-ordering.ordering.items = search rules in
+    IsOrdering-from_given class rows c.args.turn c.in_ok-ordering.ordering.items sort

@@ -1,0 +1,72 @@
+//! The orders in which positions are taken before they are sorted: rows that tie stay so.
+
+ghost use Rattle.std.specs.Prelude.{◌≡◌, IfOk};
+ghost use Rattle.wd_partition.specs.Columns as spec;
+
+use std::alloc::Global;
+use wd_sort::all_positions;
+use wd_value::OutOfMemory;
+
+/// The order in which positions are taken.
+#[derive(Clone, Copy)]
+pub enum Turn {
+    /// From the first to the last.
+    AsGiven,
+    /// From the last to the first.
+    Reversed,
+    /// The first one last, behind the others as they are.
+    Rotated,
+    /// Neighbours exchanged two by two; an odd last one stays.
+    Exchanged,
+}
+
+/// The positions of so many rows in this order.
+pub(crate) fn given_positions(
+    alloc: Global,
+    count: usize,
+    turn: Turn,
+) -> Result<Vec<u64>, OutOfMemory>
+    ensures { IfOk result (λ v. v.items ≡ spec.given_positions turn count) }
+{
+    let mut all = all_positions(alloc, count)?;
+    match turn {
+        Turn::AsGiven => Ok(all),
+        Turn::Reversed => {
+            all.reverse();
+            Ok(all)
+        }
+        Turn::Rotated => rotated(alloc, &all),
+        Turn::Exchanged => exchanged(alloc, &all),
+    }
+}
+
+/// The first position last.
+fn rotated(alloc: Global, positions: &[u64]) -> Result<Vec<u64>, OutOfMemory>
+    ensures { IfOk result (λ v. v.items ≡ spec.rotated positions.now) }
+{
+    match positions {
+        [] => Ok(Vec::new(alloc)),
+        [first, rest @ ..] => {
+            let mut turned = rest.to_vec(alloc)?;
+            turned.push(*first)?;
+            Ok(turned)
+        }
+    }
+}
+
+/// Neighbours exchanged two by two; an odd last one stays.
+fn exchanged(alloc: Global, positions: &[u64]) -> Result<Vec<u64>, OutOfMemory>
+    ensures { IfOk result (λ v. v.items ≡ spec.exchanged positions.now) }
+{
+    let mut turned = Vec::with_capacity(alloc, positions.len())?;
+    let mut rest = positions;
+    while let [first, second, after @ ..] = rest {
+        turned.push(*second)?;
+        turned.push(*first)?;
+        rest = after;
+    }
+    if let [last] = rest {
+        turned.push(*last)?;
+    }
+    Ok(turned)
+}
