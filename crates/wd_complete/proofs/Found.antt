@@ -16,7 +16,8 @@ use Rattle.wd_analyse.specs.declared.analysis.Analysis.TheVariants.{Certified, O
 use Rattle.wd_analyse.specs.declared.analysis.Reason.{Reason}
 use Rattle.wd_candidates.specs.Candidates.{candidate, shapes}
 use Rattle.wd_eval.specs.Steps.{has_large_step}
-use Rattle.wd_eval.specs.Tied.{IsTiedChoice, IsTiedTooLarge}
+use Rattle.wd_eval.specs.Tied.{IsTiedChoice, IsTurnedTooLarge}
+use Rattle.wd_partition.specs.declared.turn.Turn.TheVariants.{Reversed}
 use Rattle.wd_seek.specs.Evaluations.{ShowNothing, ShowsNothing, flip_of, most_evaluations}
 use Rattle.wd_seek.specs.Search.{Begun, FindsNothing}
 use Rattle.wd_seek.specs.Sought.{is_meeting, to_try}
@@ -108,12 +109,12 @@ module _ (tables : List TableRule) (p : PlainPlan) (over : IsPlainOver tables p)
   small_flipped : has_large_step (plan_by p) instance ((1 ∷ 0 ∷ []) ∷ []) ≡ false
   small_flipped = small p instance r q (rows_are tables p over lacking) tied (1 ∷ 0 ∷ []) 2 1 (window_flipped p a b tied)
 
-  not_large : (k : ℕ) → k < 2 → IsTiedTooLarge (plan_by p) instance (flip_of k) → ⊥
+  not_large : (k : ℕ) → k < 2 → IsTurnedTooLarge (plan_by p) instance (flip_of Reversed k) → ⊥
   not_large zero h l = true≢false (sym l.large ∙ ap (has_large_step (plan_by p) instance) (first_is l.choice l.tied) ∙ small_first)
   not_large (suc zero) h l = true≢false (sym l.large ∙ ap (has_large_step (plan_by p) instance) (flipped_is l.choice l.tied) ∙ small_flipped)
   not_large (suc (suc k)) h l = absurd (omega (arith, h))
 
-  shows_two : (n : ℕ) → ShowsNothing (plan_by p) instance n → ⊥
+  shows_two : (n : ℕ) → ShowsNothing Reversed (plan_by p) instance n → ⊥
   shows_two n (inl (e, all)) =
       let two : n ≡ 2 = e in
       let s = all 1 (omega (arith, two)) in
@@ -124,16 +125,16 @@ module _ (tables : List TableRule) (p : PlainPlan) (over : IsPlainOver tables p)
   cons_nil : (x : Instance) (xs : List Instance) → [] ≡ x ∷ xs → ⊥
   cons_nil x xs h = cc
 
-  ends : (more before rest : List Instance) (spent part end : ℕ) → before ++ rest ≡ instance ∷ more → ShowNothing (plan_by p) before spent → Begun (plan_by p) rest part → end ≡ 0 + (spent + part) → (rest ≡ []) ⊎ (end ≡ most_evaluations) → ⊥
+  ends : (more before rest : List Instance) (spent part end : ℕ) → before ++ rest ≡ instance ∷ more → ShowNothing Reversed (plan_by p) before spent → Begun Reversed (plan_by p) rest part → end ≡ 0 + (spent + part) → (rest ≡ []) ⊎ (end ≡ most_evaluations) → ⊥
   ends more [] rest spent part end parts none begun total (inl e) = cons_nil instance more (sym e ∙ parts)
   ends more [] rest spent part end parts none begun total (inr e) =
-      let is = subst (λ l. Begun (plan_by p) l part) parts begun in
+      let is = subst (λ l. Begun Reversed (plan_by p) l part) parts begun in
       let few : part < 2 = is.1 in
       let last : end ≡ 2000 = e in
       omega (arith, none, few, total, last)
   ends more (b ∷ before) rest spent part end parts none begun total whole =
       let head : b ≡ instance = cc in
-      shows_two none.0 (subst (λ (i : Instance). ShowsNothing (plan_by p) i none.0) head none.3)
+      shows_two none.0 (subst (λ (i : Instance). ShowsNothing Reversed (plan_by p) i none.0) head none.3)
 
   keep_head : (test : Instance → Bool) (x : Instance) (xs : List Instance) → test x ≡ true → filter test (x ∷ xs) ≡ x ∷ filter test xs
   keep_head test x xs e = ap (λ c. cond c (x ∷ filter test xs) (filter test xs)) e
@@ -142,7 +143,7 @@ module _ (tables : List TableRule) (p : PlainPlan) (over : IsPlainOver tables p)
   abbrev others : List Instance
   others = map (candidate tables (plan_by p) (record { node = input_of p; columns = class_columns p.class })) (drop 1 shapes) ++ []
 
-  pub finds : (n : ℕ) → FindsNothing (plan_by p) (to_try tables (plan_by p) (the_reason ∷ [])) 0 n → ⊥
+  pub finds : (n : ℕ) → FindsNothing Reversed (plan_by p) (to_try tables (plan_by p) (the_reason ∷ [])) 0 n → ⊥
   finds n f =
       ends (filter (is_meeting tables) others) f.before f.rest f.spent f.part n (sym f.parts ∙ keep_head (is_meeting tables) instance others (test_from_meets tables instance (meets tables p over lacking))) f.nothing f.begun f.total f.whole
 
@@ -163,4 +164,4 @@ open_is_found tables p (Certified certificate) end over answer is sought = absur
 open_is_found tables p (Open reasons marks) end over answer is sought =
     let x = answer.exact in
     let o = left_open tables p x.before x.top x.are (some_reason reasons.items _ x.tells.1 x.tells.0) in
-    finds tables p over o.lacking end (subst (λ rs. FindsNothing (plan_by p) (to_try tables (plan_by p) rs) 0 end) (x.tells.1 ∙ o.one) sought)
+    finds tables p over o.lacking end (subst (λ rs. FindsNothing Reversed (plan_by p) (to_try tables (plan_by p) rs) 0 end) (x.tells.1 ∙ o.one) sought)

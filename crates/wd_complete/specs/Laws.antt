@@ -11,6 +11,7 @@ use Rattle.wd_analyse.specs.declared.analysis.Analysis.{Analysis}
 use Rattle.wd_analyse.specs.declared.analysis.Analysis.TheVariants.{Certified, Open}
 use Rattle.wd_candidates.specs.Candidates.{candidate}
 use Rattle.wd_candidates.specs.declared.shape.Style.TheVariants.{TiedNull}
+use Rattle.wd_partition.specs.declared.turn.Turn.TheVariants.{Reversed}
 use Rattle.wd_seek.specs.Sought.{IsSought, reasons_of, to_try}
 use Rattle.wd_complete.specs.Plain.{IsPlain, PlainPlan, input_of, plan_by}
 
@@ -37,4 +38,4 @@ OpenShowsTwo = (tables : List TableRule) (p : PlainPlan) (analysis : Analysis) �
 -- and the search for a witness finds one
 abbrev pub OpenIsFound : Type 0
 OpenIsFound = (tables : List TableRule) (p : PlainPlan) (analysis : Analysis) (end : ℕ) → IsPlainOver tables p → IsAnswer tables (plan_by p) analysis → IsOpen analysis
-    → IsSought tables (plan_by p) (to_try tables (plan_by p) (reasons_of analysis)) 0 None end → ⊥
+    → IsSought Reversed tables (plan_by p) (to_try tables (plan_by p) (reasons_of analysis)) 0 None end → ⊥

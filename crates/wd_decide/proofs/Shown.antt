@@ -10,6 +10,7 @@ use Rattle.wd_witness_text.specs.Witnesses.{witness_of}
 use Rattle.wd_witness_text.specs.declared.witness.Witness.{Witness}
 use Rattle.wd_refute.specs.Laws.{IsShown, ShownIsNotRefused}
 use Rattle.wd_accept.proofs.Verdicts.{every}
+use Rattle.wd_partition.specs.declared.turn.Turn.TheVariants.{Reversed}
 use Rattle.wd_seek.proofs.Shown.{found_is_shown}
 use Rattle.wd_decide.specs.Laws.{ReportedAreTrue}
 use Rattle.wd_decide.specs.Verdicts.{IsVerdictOf}
@@ -18,7 +19,7 @@ use Rattle.wd_decide.specs.declared.verdict.Verdict.TheVariants.{Depends}
 -- a verdict with a witness shows it
 pub shown_of : (tables : List TableRule) (plan : PlanTree) (analysis : Analysis) (witness : Witness) → IsVerdictOf tables plan analysis (Depends witness) → IsShown tables plan (witness_of witness)
 shown_of tables plan (Certified certificate) witness is = absurd is
-shown_of tables plan (Open reasons marks) witness (n, found) = found_is_shown tables plan _ 0 n (witness_of witness) found
+shown_of tables plan (Open reasons marks) witness (n, found) = found_is_shown Reversed tables plan _ 0 n (witness_of witness) found
 
 -- it is true, and nothing refuses its texts
 pub true_of : HasOneMeaning → HasOnePlan → ShownIsNotRefused → ReportedAreTrue

@@ -14,6 +14,7 @@ use Rattle.wd_complete.specs.Queries.{IsPlainQuery}
 use Rattle.wd_query.specs.Causes.{HasTextCause, text_number, text_place}
 use Rattle.wd_query.specs.Readings.{ForReading, IsRead}
 use Rattle.wd_witness_text.specs.declared.witness.Witness.{Witness}
+use Rattle.wd_partition.specs.declared.turn.Turn.TheVariants.{Reversed}
 use Rattle.wd_seek.specs.Sought.{IsSought, to_try}
 use Rattle.wd_decide.specs.declared.error.DecideError.{DecideError}
 use Rattle.wd_decide.specs.declared.error.DecideError.TheVariants.{Texts, OutOfMemory}
@@ -29,7 +30,7 @@ pub record IsExamined (schema query : List ℕ) (examined : Examined) : Type 0 w
 
 -- the search for a witness, through the candidates for these reasons, ends so
 abbrev pub EndsWith : List TableRule → PlanTree → List Reason → Option Witness → Type 0
-EndsWith tables plan reasons found = (n : ℕ) × IsSought tables plan (to_try tables plan reasons) 0 found n
+EndsWith tables plan reasons found = (n : ℕ) × IsSought Reversed tables plan (to_try tables plan reasons) 0 found n
 
 -- the verdict that an analysis gives: its certificate; else the witness that is found against the plan, or the reasons where none is
 abbrev pub IsVerdictOf : List TableRule → PlanTree → Analysis → Verdict → Type 0

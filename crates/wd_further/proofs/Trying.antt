@@ -1,5 +1,5 @@
 -- The tries of a round, and the rounds, one after another.
-use Rattle.std.proofs.Common.{◌≡◌, ℕ, ◌<◌, ◌≤◌, Bool, true, false, List, [], ◌∷◌, flat_map, length, get_or, take, sym, subst, ◌∙◌, refl, arith, IfSome, Option, None, Some}
+use Rattle.std.proofs.Common.{◌≡◌, ℕ, ◌<◌, ◌≤◌, Bool, true, false, List, [], ◌∷◌, flat_map, length, get_or, take, sym, subst, ◌∙◌, refl, arith, inl, inr, IfSome, Option, None, Some}
 use Rattle.std.proofs.lemmas.List.{length-map}
 use Rattle.std.proofs.lemmas.Bool.{le-ltb, lt-ltb}
 use Rattle.std.proofs.lemmas.List.FromFn.{get_or-map-range_with_len, get_or-range_with_len, length-range_with_len}
@@ -19,7 +19,7 @@ use Rattle.wd_varied.specs.Literals.{compared, literals}
 use Rattle.wd_varied.specs.Suggested.{all_near, around, most_literals}
 use Rattle.wd_varied.specs.Varied.{fillings, filled_row, rows_in, varied}
 use Rattle.wd_further.specs.Rounds.{of_size, tries}
-use Rattle.wd_further.specs.Finds.{IsSoughtIn, to_try}
+use Rattle.wd_further.specs.Finds.{IsSoughtBy, IsSoughtIn, Turning, to_try, turnings}
 
 -- ---- one after another
 
@@ -27,9 +27,15 @@ pub position_at : (n i d : ℕ) → i < n → get_or (positions n) i d ≡ i
 position_at n i d within = get_or-range_with_len 0 n i d within ∙ omega arith
 
 -- a witness that is found shows two answers
-pub shown_of : (tables : List TableRule) (plan : PlanTree) (o : Option Witness) → IsSoughtIn o tables plan → IfSome o (λ w. IsShown tables plan (witness_of w))
-shown_of tables plan None h = tt
-shown_of tables plan (Some w) h = found_is_shown tables plan (to_try tables plan) 0 h.0 (witness_of w) h.1
+module _ (tables : List TableRule) (plan : PlanTree) where
+  shown_by : (w : Witness) (ts : List Turning) → IsSoughtBy (Some w) tables plan ts → IsShown tables plan (witness_of w)
+  shown_by w [] e = absurd cc
+  shown_by w (t ∷ ts) (inl h) = found_is_shown t.turn tables plan (to_try tables plan) t.start h.0 (witness_of w) h.1
+  shown_by w (t ∷ ts) (inr h) = shown_by w ts h.1
+
+  pub shown_of : (o : Option Witness) → IsSoughtIn o tables plan → IfSome o (λ w. IsShown tables plan (witness_of w))
+  shown_of None h = tt
+  shown_of (Some w) h = shown_by w turnings h
 
 -- a size that is tried in a round, and one that is not
 module _ (tables : List TableRule) (plan : PlanTree) (number rows : ℕ) where

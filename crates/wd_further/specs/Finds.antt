@@ -1,8 +1,10 @@
 -- What a further search answers.
-use Rattle.std.specs.Prelude.{◌⊎◌, ℕ, List, filter, Option, Some, None, IsSome}
+use Rattle.std.specs.Prelude.{◌≡◌, ◌⊎◌, ℕ, List, [], ◌∷◌, filter, Option, Some, None, IsSome}
 use Rattle.wd_value.specs.Rows.{Instance}
 use Rattle.wd_schema.specs.Tables.{TableRule}
 use Rattle.wd_plan.specs.Plans.{PlanTree}
+use Rattle.wd_partition.specs.declared.turn.Turn.{Turn}
+use Rattle.wd_partition.specs.declared.turn.Turn.TheVariants.{Reversed, Rotated, Exchanged}
 use Rattle.wd_query.specs.Causes.{HasTextCause, text_number}
 use Rattle.wd_query.specs.Readings.{ForReading}
 use Rattle.wd_query.specs.declared.error.TextError.{TextError}
@@ -25,9 +27,27 @@ pub record IsFound (schema query : List ℕ) (found : Found) : Type 0 where
 abbrev pub to_try : List TableRule → PlanTree → List Instance
 to_try tables plan = filter (is_meeting tables) (candidates tables plan)
 
--- a witness over the first of them that shows two answers, or none where none does
+-- a search among them: the turn in which one ordering takes rows that tie, and the number from which its evaluations count to the most
+pub record Turning : Type 0 where
+  pub turn : Turn
+  pub start : ℕ
+
+-- 1,000 evaluations with rows that tie turned round, then 500 with the first of them last, and 500 with neighbours exchanged
+abbrev pub turnings : List Turning
+turnings = record { turn = Reversed; start = 1000 } ∷ record { turn = Rotated; start = 1500 } ∷ record { turn = Exchanged; start = 1500 } ∷ []
+
+-- a search gives a witness over the first candidate that shows two answers, or none where none does
+abbrev pub EndsWith : Option Witness → List TableRule → PlanTree → Turning → Type 0
+EndsWith found tables plan t = (end : ℕ) × IsSought t.turn tables plan (to_try tables plan) t.start found end
+
+-- a witness is that of the first search that gives one
+abbrev pub IsSoughtBy : Option Witness → List TableRule → PlanTree → List Turning → Type 0
+IsSoughtBy found tables plan [] = found ≡ None
+IsSoughtBy None tables plan (t ∷ ts) = EndsWith None tables plan t × IsSoughtBy None tables plan ts
+IsSoughtBy (Some w) tables plan (t ∷ ts) = EndsWith (Some w) tables plan t ⊎ (EndsWith None tables plan t × IsSoughtBy (Some w) tables plan ts)
+
 abbrev pub IsSoughtIn : Option Witness → List TableRule → PlanTree → Type 0
-IsSoughtIn found tables plan = (end : ℕ) × IsSought tables plan (to_try tables plan) 0 found end
+IsSoughtIn found tables plan = IsSoughtBy found tables plan turnings
 
 -- a text is refused by a number
 pub record AreRefused (schema query : List ℕ) : Type 0 where

@@ -8,15 +8,12 @@ use Rattle.wd_seek.specs.Evaluations.{evaluations}
 use Rattle.wd_varied.specs.Sizes.{paired, sizes}
 use Rattle.wd_varied.specs.Varied.{varied}
 
--- the most rounds, the most tries, and the most rows that all evaluations of a search go over
-abbrev pub most_rounds : ℕ
-most_rounds = 1000
-
+-- the most tries of a search, and the most rows that all its evaluations go over
 abbrev pub most_tries : ℕ
-most_tries = 2000
+most_tries = 600
 
 abbrev pub most_rows : ℕ
-most_rows = 1000000
+most_rows = 400000
 
 -- the rows that the evaluations of one try go over: those to which the tables pair, in each evaluation
 abbrev pub cost : PlanTree → ℕ → ℕ
@@ -37,6 +34,6 @@ of_round tables plan number = flat_map (of_size tables plan number) (sizes plan)
 abbrev pub of_rounds : List TableRule → PlanTree → ℕ → List Instance
 of_rounds tables plan rounds = flat_map (of_round tables plan) (positions rounds)
 
--- all rounds
+-- all rounds: no size has more tries
 abbrev pub candidates : List TableRule → PlanTree → List Instance
-candidates tables plan = of_rounds tables plan most_rounds
+candidates tables plan = of_rounds tables plan most_tries

@@ -26,8 +26,9 @@ pub struct Found {
 ///
 /// For queries that `decide` leaves open, since its own search comes before. The candidates are tables of 2, 3 and 4 rows, and of one
 /// and two more rows than a count with its offset or than another number in the query, at most 64; in each round one of each size,
-/// the least first. One that does not meet the schema is passed over. The search ends after 1,000 rounds or 2,000 evaluations; these
-/// go over no more than 1,000,000 rows, if as many are counted as the tables pair to.
+/// the least first. One that does not meet the schema is passed over. Rows that tie are turned round in one ordering after another,
+/// for 1,000 evaluations; then the first of them is the last, and then neighbours are exchanged, for 500 each. Each of these searches
+/// ends after 600 tries, or where its evaluations go over 400,000 rows, if as many are counted as the tables pair to.
 pub fn seek_further(
     alloc: Global,
     schema: &[u8],

@@ -18,6 +18,7 @@ ghost use Rattle.wd_witness_text.specs.Witnesses.{witness_of};
 
 use std::alloc::Global;
 use wd_candidates::{Outline, outline_of};
+use wd_eval::Turn;
 use wd_plan::Plan;
 use wd_schema::Schema;
 use wd_seek::try_candidate;
@@ -25,19 +26,17 @@ use wd_value::OutOfMemory;
 use wd_varied::{Suggested, paired, sizes, suggested_by, varied};
 use wd_witness_text::Witness;
 
-/// The most rounds, in each of which each size is tried once.
-const MOST_ROUNDS: u32 = 1000;
-
 /// The most tries of a search.
-const MOST_TRIES: u32 = 2000;
+const MOST_TRIES: u32 = 600;
 
-/// The most evaluations of a search.
+/// The number to which the evaluations of a search count.
 const MOST_EVALUATIONS: u32 = 2000;
 
-/// The most rows that they go over.
-const MOST_ROWS: u128 = 1_000_000;
+/// The most rows that the evaluations of a search go over.
+const MOST_ROWS: u128 = 400_000;
 
-/// A witness over the first candidate that shows two answers of a plan.
+/// A witness over the first candidate that shows two answers of a plan: first among those in which rows that tie are turned round, then
+/// those in which the first of them is the last, then those in which neighbours are exchanged.
 pub(crate) fn search(
     alloc: Global,
     schema: &Schema,
@@ -50,6 +49,34 @@ pub(crate) fn search(
     let outline = outline_of(alloc, schema, plan)?;
     let suggested = suggested_by(alloc, plan)?;
     let sizes = sizes(alloc, plan)?;
+    let turned = search_rounds(
+        alloc,
+        schema,
+        plan,
+        &outline,
+        &suggested,
+        &sizes,
+        Turn::Reversed,
+        1000,
+        MOST_TRIES,
+    )?;
+    if let Some(witness) = turned {
+        return Ok(Some(witness));
+    }
+    let rotated = search_rounds(
+        alloc,
+        schema,
+        plan,
+        &outline,
+        &suggested,
+        &sizes,
+        Turn::Rotated,
+        1500,
+        MOST_TRIES,
+    )?;
+    if let Some(witness) = rotated {
+        return Ok(Some(witness));
+    }
     search_rounds(
         alloc,
         schema,
@@ -57,11 +84,13 @@ pub(crate) fn search(
         &outline,
         &suggested,
         &sizes,
-        MOST_ROUNDS,
+        Turn::Exchanged,
+        1500,
+        MOST_TRIES,
     )
 }
 
-/// So many rounds, one after another.
+/// So many rounds, one after another, with evaluations that count from a number on.
 fn search_rounds(
     alloc: Global,
     schema: &Schema,
@@ -69,6 +98,8 @@ fn search_rounds(
     outline: &Outline,
     suggested: &Suggested,
     sizes: &[u32],
+    turn: Turn,
+    start: u32,
     rounds: u32,
 ) -> Result<Option<Witness>, OutOfMemory>
     requires fitting { fits (schema_of schema.now) (plan_of plan.now) ≡ true }
@@ -78,12 +109,13 @@ fn search_rounds(
     requires count { length sizes.now ≤ 63 }
     requires large { All (λ rows. 2 ≤ rows) sizes.now }
     requires small { All (λ rows. rows ≤ 64) sizes.now }
-    ensures { IfOk result (λ o. (end : ℕ) × IsSought (schema_of schema.now) (plan_of plan.now) (filter (is_meeting (schema_of schema.now)) (spec.of_rounds (schema_of schema.now) (plan_of plan.now) rounds)) 0 o end) }
+    requires few { start ≤ most_evaluations }
+    ensures { IfOk result (λ o. (end : ℕ) × IsSought turn (schema_of schema.now) (plan_of plan.now) (filter (is_meeting (schema_of schema.now)) (spec.of_rounds (schema_of schema.now) (plan_of plan.now) rounds)) start o end) }
 {
-    let mut spent = 0;
+    let mut spent = start;
     for number in 0..rounds {
         let (found, made) = search_round(
-            alloc, schema, plan, outline, suggested, sizes, number, spent,
+            alloc, schema, plan, outline, suggested, sizes, turn, number, spent,
         )?;
         if let Some(witness) = found {
             return Ok(Some(witness));
@@ -101,6 +133,7 @@ fn search_round(
     outline: &Outline,
     suggested: &Suggested,
     sizes: &[u32],
+    turn: Turn,
     number: u32,
     spent: u32,
 ) -> Result<(Option<Witness>, u32), OutOfMemory>
@@ -113,13 +146,13 @@ fn search_round(
     requires small { All (λ rows. rows ≤ 64) sizes.now }
     requires few { spent ≤ most_evaluations }
     ensures few { IfOk result (λ r. r.1 ≤ most_evaluations) }
-    ensures sought { IfOk result (λ r. IsSought (schema_of schema.now) (plan_of plan.now) (filter (is_meeting (schema_of schema.now)) (spec.of_round (schema_of schema.now) (plan_of plan.now) number)) spent r.0 r.1) }
+    ensures sought { IfOk result (λ r. IsSought turn (schema_of schema.now) (plan_of plan.now) (filter (is_meeting (schema_of schema.now)) (spec.of_round (schema_of schema.now) (plan_of plan.now) number)) spent r.0 r.1) }
 {
     let mut total = spent;
     for rows in sizes {
         let tries = tries(plan, *rows, sizes.len());
         let (found, made) = search_size(
-            alloc, schema, plan, outline, suggested, *rows, tries, number, total,
+            alloc, schema, plan, outline, suggested, *rows, tries, turn, number, total,
         )?;
         if let Some(witness) = found {
             return Ok((Some(witness), made));
@@ -138,6 +171,7 @@ fn search_size(
     suggested: &Suggested,
     rows: u32,
     tries: u32,
+    turn: Turn,
     number: u32,
     spent: u32,
 ) -> Result<(Option<Witness>, u32), OutOfMemory>
@@ -148,10 +182,12 @@ fn search_size(
     requires tries { tries ≡ spec.tries (plan_of plan.now) rows }
     requires few { spent ≤ most_evaluations }
     ensures few { IfOk result (λ r. r.1 ≤ most_evaluations) }
-    ensures sought { IfOk result (λ r. IsSought (schema_of schema.now) (plan_of plan.now) (filter (is_meeting (schema_of schema.now)) (spec.of_size (schema_of schema.now) (plan_of plan.now) number rows)) spent r.0 r.1) }
+    ensures sought { IfOk result (λ r. IsSought turn (schema_of schema.now) (plan_of plan.now) (filter (is_meeting (schema_of schema.now)) (spec.of_size (schema_of schema.now) (plan_of plan.now) number rows)) spent r.0 r.1) }
 {
     if number < tries {
-        try_varied(alloc, schema, plan, outline, suggested, rows, number, spent)
+        try_varied(
+            alloc, schema, plan, outline, suggested, rows, turn, number, spent,
+        )
     } else {
         Ok((None, spent))
     }
@@ -165,6 +201,7 @@ fn try_varied(
     outline: &Outline,
     suggested: &Suggested,
     rows: u32,
+    turn: Turn,
     number: u32,
     spent: u32,
 ) -> Result<(Option<Witness>, u32), OutOfMemory>
@@ -174,13 +211,13 @@ fn try_varied(
     requires small { rows ≤ 64 }
     requires few { spent ≤ most_evaluations }
     ensures few { IfOk result (λ r. r.1 ≤ most_evaluations) }
-    ensures sought { IfOk result (λ r. IsSought (schema_of schema.now) (plan_of plan.now) (filter (is_meeting (schema_of schema.now)) (varied_of (schema_of schema.now) (plan_of plan.now) rows number ∷ [])) spent r.0 r.1) }
+    ensures sought { IfOk result (λ r. IsSought turn (schema_of schema.now) (plan_of plan.now) (filter (is_meeting (schema_of schema.now)) (varied_of (schema_of schema.now) (plan_of plan.now) rows number ∷ [])) spent r.0 r.1) }
 {
     if spent == MOST_EVALUATIONS {
         return Ok((None, spent));
     }
     let instance = varied(alloc, schema, outline, suggested, rows, number)?;
-    try_candidate(alloc, schema, plan, outline, instance, spent)
+    try_candidate(alloc, schema, plan, outline, instance, turn, spent)
 }
 
 /// How many tries there are of a size, of so many sizes.

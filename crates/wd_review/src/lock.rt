@@ -2,6 +2,7 @@
 
 use crate::mended::unwritten;
 use crate::outputs::{Used, lock_path};
+use crate::queries::Queries;
 use crate::run::{Run, Step, WRONG, steps};
 use crate::stop::Stop;
 use std::alloc::Global;
@@ -156,7 +157,8 @@ fn lock_file<S: Sources, W: Watch>(
     let Some(schema) = run.schemas.file(number) else {
         return Ok(());
     };
-    let lock = lock_statements(run.alloc, &schema.text, &text, watch)?;
+    let queries = Queries::over(run.alloc, schema, text)?;
+    let lock = lock_statements(run.alloc, &schema.text, &queries.text, watch)?;
     count.queries = count.queries.saturating_add(lock.entries.len() as u64);
     count.certified = count.certified.saturating_add(lock.certified());
     write_lock(run, path, lock_path.as_str(), &lock, report)

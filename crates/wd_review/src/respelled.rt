@@ -1,7 +1,8 @@
 //! The texts over which queries are judged.
 
+use crate::queries::Queries;
 use crate::run::{Run, Step, WRONG, steps};
-use crate::schema::Reading;
+use crate::schema::{Reading, SchemaFile};
 use crate::stop::Stop;
 use std::alloc::Global;
 use std::io::Write;
@@ -16,7 +17,7 @@ use wd_words::{Colour, FilesRequest, Format};
 /// The status where a schema is not read.
 const NOT_READ: u8 = 2;
 
-/// Prints the text of each schema over which queries of these files are judged. What is told of them goes to standard error.
+/// Prints the text of each schema over which queries of these files are judged, and of each file with queries that are respelled. What is told of them goes to standard error.
 pub(crate) fn show_respelled<'w, S: Sources, C: Clock, O: Write, E: Write>(
     alloc: Global,
     request: &FilesRequest<'w>,
@@ -57,54 +58,72 @@ pub(crate) fn show_respelled<'w, S: Sources, C: Clock, O: Write, E: Write>(
     })
 }
 
-/// The schemas that are printed.
+/// What is printed.
 #[derive(Drop)]
 struct Shown {
-    /// How many of those that were read.
+    /// How many of the schemas that were read are in it.
     count: usize,
     text: Vec<u8>,
 }
 
 impl Shown {
-    /// Adds the schema of a query's file, where it is not there yet.
+    /// Adds a query's file, where some of its queries are respelled; and before it its schema, where that is not there yet.
     fn add<S: Sources>(
         &mut self,
         run: &mut Run<'_, S>,
         query: &str,
         report: &mut Report,
     ) -> Result<(), OutOfMemory> {
+        let Some(text) = run.read(query, report)? else {
+            return Ok(());
+        };
         let Some(number) = run.schema_for(query, report)? else {
             return Ok(());
         };
-        if number < self.count {
-            return Ok(());
-        }
-        self.count = number.saturating_add(1);
         let Some(schema) = run.schemas.file(number) else {
             return Ok(());
         };
+        if number >= self.count {
+            self.count = number.saturating_add(1);
+            self.add_schema(run.alloc, schema, report)?;
+        }
+        let queries = Queries::over(run.alloc, schema, text)?;
+        if queries.is_respelled {
+            let file = File {
+                path: query,
+                text: &queries.text,
+            };
+            self.add_text(run.alloc, file)?;
+        }
+        Ok(())
+    }
+
+    /// Adds a schema, where it is read.
+    fn add_schema(
+        &mut self,
+        alloc: Global,
+        schema: &SchemaFile,
+        report: &mut Report,
+    ) -> Result<(), OutOfMemory> {
         match schema.reading {
-            Reading::Read => self.add_text(run.alloc, schema.file()),
-            Reading::Unread => {
-                let path = schema.file().path;
-                report.add_remark(
-                    run.alloc,
-                    path,
-                    "not read: judge a query over it to see where",
-                )
-            }
+            Reading::Read => self.add_text(alloc, schema.file()),
+            Reading::Unread => report.add_remark(
+                alloc,
+                schema.file().path,
+                "not read: judge a query over it to see where",
+            ),
             Reading::Refused => Ok(()),
         }
     }
 
-    /// Adds a schema, with its path above it.
-    fn add_text(&mut self, alloc: Global, schema: File<'_>) -> Result<(), OutOfMemory> {
+    /// Adds a text, with its path above it.
+    fn add_text(&mut self, alloc: Global, file: File<'_>) -> Result<(), OutOfMemory> {
         let mut path = String::new(alloc);
-        add_plain(&mut path, schema.path)?;
+        add_plain(&mut path, file.path)?;
         self.text.extend_from_slice(b"-- ")?;
         self.text.extend_from_slice(path.as_bytes())?;
         self.text.push(b'\n')?;
-        self.text.extend_from_slice(schema.text.trim_ascii_end())?;
+        self.text.extend_from_slice(file.text.trim_ascii_end())?;
         Ok(self.text.push(b'\n')?)
     }
 }

@@ -2,6 +2,7 @@
 
 use crate::lock::{lock_all, lock_beside};
 use crate::mended::write_mended;
+use crate::queries::Queries;
 use crate::outputs::{check_outputs, knowledge, write_baseline, write_page};
 use crate::respelled::show_respelled;
 use crate::run::{Run, Step, WRONG, steps};
@@ -141,7 +142,15 @@ fn review_file<S: Sources, W: Watch>(
     let Some(number) = run.schema_for(path, report)? else {
         return Ok(());
     };
-    let file = File { path, text: &text };
+    let queries = match run.schemas.file(number) {
+        Some(schema) if !request.is_fix => Queries::over(run.alloc, schema, text)?,
+        _ => Queries::as_written(run.alloc, text),
+    };
+    queries.tell(run.alloc, path, report)?;
+    let file = File {
+        path,
+        text: &queries.text,
+    };
     let Some(reviewed) = review_text(run, file, number, &mut review.tally, report, watch)? else {
         return Ok(());
     };

@@ -3,8 +3,9 @@ use Rattle.std.proofs.Common.{◌≡◌, ℕ, zero, suc, ◌+◌, ◌<◌, ◌�
 use Rattle.wd_value.specs.Rows.{Instance}
 use Rattle.wd_plan.specs.Outcomes.{Agree, RowsOrFault, outcome}
 use Rattle.wd_plan.specs.Plans.{PlanTree, ordering_count}
-use Rattle.wd_eval.specs.Tied.{IsTiedTooLarge, IsValidTiedChoice}
-use Rattle.wd_seek.specs.Evaluations.{AllPass, IsTooLargeAt, Passes, flip_of, most_evaluations}
+use Rattle.wd_eval.specs.Tied.{IsTurnedTooLarge, IsValidTurnedChoice}
+use Rattle.wd_partition.specs.declared.turn.Turn.{Turn}
+use Rattle.wd_seek.specs.Evaluations.{AllPass, IsTooLargeAt, Passes, flip_of, most_evaluations, turned_at}
 use Rattle.wd_seek.specs.Probed.{IsFirst, IsTiedOutcome}
 
 below_or_at : (k n : ℕ) → k < n + 1 → (k < n) ⊎ (k ≡ n)
@@ -17,15 +18,15 @@ below_or_at (suc k) (suc n) h = by (below_or_at k n (omega (arith, h)))
     by (inl l) = inl (omega arith)
     by (inr e) = inr (λ i. suc (e i))
 
-pub all_pass_more : (plan : PlanTree) (instance : Instance) (n : ℕ) → AllPass plan instance n → Passes plan instance n → AllPass plan instance (n + 1)
-all_pass_more plan instance n all last k h = by (below_or_at k n h)
+pub all_pass_more : (turn : Turn) (plan : PlanTree) (instance : Instance) (n : ℕ) → AllPass turn plan instance n → Passes turn plan instance n → AllPass turn plan instance (n + 1)
+all_pass_more turn plan instance n all last k h = by (below_or_at k n h)
   where
-    by : (k < n) ⊎ (k ≡ n) → Passes plan instance k
+    by : (k < n) ⊎ (k ≡ n) → Passes turn plan instance k
     by (inl l) = all k l
-    by (inr e) = subst (Passes plan instance) (sym e) last
+    by (inr e) = subst (Passes turn plan instance) (sym e) last
 
-pub none_pass : (plan : PlanTree) (instance : Instance) → AllPass plan instance 0
-none_pass plan instance k h = absurd (omega (arith, h))
+pub none_pass : (turn : Turn) (plan : PlanTree) (instance : Instance) → AllPass turn plan instance 0
+none_pass turn plan instance k h = absurd (omega (arith, h))
 
 -- ---- against the first
 
@@ -33,27 +34,27 @@ agree_self : (o : RowsOrFault) → Agree o o
 agree_self (Ok rows) = λ r. refl
 agree_self (Err fault) = refl
 
-pub first_passes : (plan : PlanTree) (instance : Instance) (o : RowsOrFault) → IsFirst plan instance o → AllPass plan instance (0 + 1)
-first_passes plan instance o first = all_pass_more plan instance 0 (none_pass plan instance)
+pub first_passes : (turn : Turn) (plan : PlanTree) (instance : Instance) (o : RowsOrFault) → IsFirst plan instance o → AllPass turn plan instance (0 + 1)
+first_passes turn plan instance o first = all_pass_more turn plan instance 0 (none_pass turn plan instance)
     (record { first = first.choice; choice = first.choice; first_valid = first.tied.valid; valid = first.tied.valid; agree = agree_self (outcome plan instance first.choice) })
 
-next_flip : (k : ℕ) → flip_of (k + 1) ≡ Some k
-next_flip k = let e : k + 1 ≡ suc k = omega arith in subst (λ n. flip_of n ≡ Some k) (sym e) refl
+next_flip : (turn : Turn) (k : ℕ) → flip_of turn (k + 1) ≡ Some (turned_at turn k)
+next_flip turn k = let e : k + 1 ≡ suc k = omega arith in subst (λ n. flip_of turn n ≡ Some (turned_at turn k)) (sym e) refl
 
-pub next_passes : (plan : PlanTree) (instance : Instance) (o other : RowsOrFault) (k : ℕ) (choice : List (List ℕ)) → IsFirst plan instance o → IsTiedOutcome plan instance (Some k) choice other → Agree o other → Passes plan instance (k + 1)
-next_passes plan instance o other k choice first tied agree = record {
+pub next_passes : (turn : Turn) (plan : PlanTree) (instance : Instance) (o other : RowsOrFault) (k : ℕ) (choice : List (List ℕ)) → IsFirst plan instance o → IsTiedOutcome plan instance (Some (turned_at turn k)) choice other → Agree o other → Passes turn plan instance (k + 1)
+next_passes turn plan instance o other k choice first tied agree = record {
   first = first.choice;
   choice = choice;
   first_valid = first.tied.valid;
-  valid = subst (λ f. IsValidTiedChoice plan instance f choice) (sym (next_flip k)) tied.valid;
+  valid = subst (λ f. IsValidTurnedChoice plan instance f choice) (sym (next_flip turn k)) tied.valid;
   agree = subst (λ x. Agree x (outcome plan instance choice)) first.tied.is (subst (Agree o) tied.is agree);
 }
 
-pub next_too_large : (plan : PlanTree) (instance : Instance) (k : ℕ) → k < ordering_count plan → AllPass plan instance (k + 1) → IsTiedTooLarge plan instance (Some k) → IsTooLargeAt plan instance (k + 1)
-next_too_large plan instance k within passed large = record {
+pub next_too_large : (turn : Turn) (plan : PlanTree) (instance : Instance) (k : ℕ) → k < ordering_count plan → AllPass turn plan instance (k + 1) → IsTurnedTooLarge plan instance (Some (turned_at turn k)) → IsTooLargeAt turn plan instance (k + 1)
+next_too_large turn plan instance k within passed large = record {
   within = omega (arith, within);
   passed = passed;
-  large = subst (IsTiedTooLarge plan instance) (sym (next_flip k)) large;
+  large = subst (IsTurnedTooLarge plan instance) (sym (next_flip turn k)) large;
 }
 
 -- ---- the plan's orderings, which are counted up to a limit

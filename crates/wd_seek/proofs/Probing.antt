@@ -5,43 +5,44 @@ use Rattle.wd_plan.specs.Outcomes.{Agree, RowsOrFault, outcome}
 use Rattle.wd_plan.specs.Plans.{PlanTree}
 use Rattle.wd_plan.specs.declared.plan.Choice.{Choice}
 use Rattle.wd_eval.specs.Windows.{orderings_of}
-use Rattle.wd_eval.specs.Tied.{IsTiedTooLarge}
+use Rattle.wd_eval.specs.Tied.{IsTurnedTooLarge}
+use Rattle.wd_partition.specs.declared.turn.Turn.{Turn}
 use Rattle.wd_seek.specs.Evaluations.{AllPass, IsTooLargeAt, evaluations, most_evaluations}
 use Rattle.wd_seek.specs.Search.{FindsNothing, FindsTwo}
 use Rattle.wd_seek.specs.Probed.{IsOther, IsTiedOutcome, ShowNoOther}
 use Rattle.wd_seek.proofs.Passing.{none_pass}
 
 -- no evaluation is left
-pub none_left : (plan : PlanTree) (instance : Instance) → FindsNothing plan (instance ∷ []) most_evaluations most_evaluations
-none_left plan instance = record {
+pub none_left : (turn : Turn) (plan : PlanTree) (instance : Instance) → FindsNothing turn plan (instance ∷ []) most_evaluations most_evaluations
+none_left turn plan instance = record {
   before = [];
   rest = instance ∷ [];
   spent = 0;
   part = 0;
   parts = refl;
   nothing = refl;
-  begun = (none_pass plan instance, omega arith);
+  begun = (none_pass turn plan instance, omega arith);
   total = omega arith;
   whole = inr refl;
 }
 
 -- a step is too large in the first
-pub first_too_large : (plan : PlanTree) (instance : Instance) (start : ℕ) → IsTiedTooLarge plan instance None → FindsNothing plan (instance ∷ []) start (start + 1)
-first_too_large plan instance start large = record {
+pub first_too_large : (turn : Turn) (plan : PlanTree) (instance : Instance) (start : ℕ) → IsTurnedTooLarge plan instance None → FindsNothing turn plan (instance ∷ []) start (start + 1)
+first_too_large turn plan instance start large = record {
   before = instance ∷ [];
   rest = [];
   spent = 1;
   part = 0;
   parts = refl;
-  nothing = (1, 0, refl, inr (0, refl, record { within = omega arith; passed = none_pass plan instance; large = large }), refl);
+  nothing = (1, 0, refl, inr (0, refl, record { within = omega arith; passed = none_pass turn plan instance; large = large }), refl);
   begun = refl;
   total = omega arith;
   whole = inl refl;
 }
 
 -- the others show nothing
-pub no_other : (plan : PlanTree) (instance : Instance) (o : RowsOrFault) (start end : ℕ) → IsOther plan instance o (start + 1) end None → FindsNothing plan (instance ∷ []) start end
-no_other plan instance o start end h = by h.2
+pub no_other : (turn : Turn) (plan : PlanTree) (instance : Instance) (o : RowsOrFault) (start end : ℕ) → IsOther turn plan instance o (start + 1) end None → FindsNothing turn plan (instance ∷ []) start end
+no_other turn plan instance o start end h = by h.2
   where
     made : ℕ
     made = h.0
@@ -49,7 +50,7 @@ no_other plan instance o start end h = by h.2
     total : end ≡ start + ((made + 1) + 0)
     total = let e = h.1 in omega arith
 
-    given_up : ((made + 1 ≡ evaluations plan) × AllPass plan instance (made + 1)) ⊎ ((k : ℕ) × (made + 1 ≡ k + 1) × IsTooLargeAt plan instance k) → FindsNothing plan (instance ∷ []) start end
+    given_up : ((made + 1 ≡ evaluations plan) × AllPass turn plan instance (made + 1)) ⊎ ((k : ℕ) × (made + 1 ≡ k + 1) × IsTooLargeAt turn plan instance k) → FindsNothing turn plan (instance ∷ []) start end
     given_up all = record {
       before = instance ∷ [];
       rest = [];
@@ -62,7 +63,7 @@ no_other plan instance o start end h = by h.2
       whole = inl refl;
     }
 
-    by : ShowNoOther plan instance made end → FindsNothing plan (instance ∷ []) start end
+    by : ShowNoOther turn plan instance made end → FindsNothing turn plan (instance ∷ []) start end
     by (inl all) = given_up (inl (let e = all.0 in omega arith, all.1))
     by (inr (inl large)) = given_up (inr (made, refl, large))
     by (inr (inr cut)) = record {
@@ -78,9 +79,9 @@ no_other plan instance o start end h = by h.2
     }
 
 -- one of them differs from the first
-pub another : (plan : PlanTree) (instance : Instance) (start end : ℕ) (o : RowsOrFault) (first : List (List ℕ)) (second : Choice) → IsTiedOutcome plan instance None first o
-    → IsOther plan instance o (start + 1) end (Some second) → FindsTwo plan (instance ∷ []) start end instance first (orderings_of second.orderings.items)
-another plan instance start end o first second tied h = record {
+pub another : (turn : Turn) (plan : PlanTree) (instance : Instance) (start end : ℕ) (o : RowsOrFault) (first : List (List ℕ)) (second : Choice) → IsTiedOutcome plan instance None first o
+    → IsOther turn plan instance o (start + 1) end (Some second) → FindsTwo turn plan (instance ∷ []) start end instance first (orderings_of second.orderings.items)
+another turn plan instance start end o first second tied h = record {
   before = [];
   after = [];
   spent = 0;

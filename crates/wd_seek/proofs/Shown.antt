@@ -3,6 +3,7 @@ use Rattle.std.proofs.Common.{◌≡◌, ℕ, List, Option, Some, None, IfNone, 
 use Rattle.wd_value.specs.Rows.{Instance}
 use Rattle.wd_schema.specs.Tables.{TableRule}
 use Rattle.wd_plan.specs.Plans.{PlanTree}
+use Rattle.wd_partition.specs.declared.turn.Turn.{Turn}
 use Rattle.wd_eval.specs.Steps.{has_large_step}
 use Rattle.wd_rules.specs.Laws.{IsTrueWitness}
 use Rattle.wd_refute.specs.Laws.{IsShown}
@@ -31,8 +32,8 @@ some_ordered tables (Some o) (Some u) t e h = let same : u ≡ t = cc in (o, ref
 -- ---- the end
 
 -- what is found is a witness that is true, and no step is too large under its choices
-pub found_is_shown : (tables : List TableRule) (plan : PlanTree) (instances : List Instance) (start end : ℕ) (w : WitnessRecord) → IsFound tables plan instances start end w → IsShown tables plan w
-found_is_shown tables plan instances start end w h =
+pub found_is_shown : (turn : Turn) (tables : List TableRule) (plan : PlanTree) (instances : List Instance) (start end : ℕ) (w : WitnessRecord) → IsFound turn tables plan instances start end w → IsShown tables plan w
+found_is_shown turn tables plan instances start end w h =
     let two = h.two.two in
     let is = sym h.over.is in
     record {
@@ -43,10 +44,10 @@ found_is_shown tables plan instances start end w h =
       second_small = subst (λ i. has_large_step plan i w.second ≡ false) is two.second_valid.small;
     }
 
-pub shown : (tables : List TableRule) (plan : PlanTree) (instances : List Instance) (found : Option Witness) (end : ℕ) → IsSought tables plan instances 0 found end → IfSome found (λ w. IsShown tables plan (witness_of w))
-shown tables plan instances None end h = tt
-shown tables plan instances (Some w) end h = found_is_shown tables plan instances 0 end (witness_of w) h
+pub shown : (turn : Turn) (tables : List TableRule) (plan : PlanTree) (instances : List Instance) (found : Option Witness) (end : ℕ) → IsSought turn tables plan instances 0 found end → IfSome found (λ w. IsShown tables plan (witness_of w))
+shown turn tables plan instances None end h = tt
+shown turn tables plan instances (Some w) end h = found_is_shown turn tables plan instances 0 end (witness_of w) h
 
-pub exhausted : (tables : List TableRule) (plan : PlanTree) (instances : List Instance) (found : Option Witness) (end : ℕ) → IsSought tables plan instances 0 found end → IfNone found (FirstShowNothing plan instances)
-exhausted tables plan instances None end h = first_show_nothing plan instances end h
-exhausted tables plan instances (Some w) end h = tt
+pub exhausted : (turn : Turn) (tables : List TableRule) (plan : PlanTree) (instances : List Instance) (found : Option Witness) (end : ℕ) → IsSought turn tables plan instances 0 found end → IfNone found (FirstShowNothing turn plan instances)
+exhausted turn tables plan instances None end h = first_show_nothing turn plan instances end h
+exhausted turn tables plan instances (Some w) end h = tt

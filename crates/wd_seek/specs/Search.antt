@@ -2,36 +2,37 @@
 use Rattle.std.specs.Prelude.{◌≡◌, ◌⊎◌, ℕ, ◌+◌, ◌/◌, ◌<◌, All, List, [], ◌∷◌, ◌++◌, take}
 use Rattle.wd_value.specs.Rows.{Instance}
 use Rattle.wd_plan.specs.Plans.{PlanTree}
+use Rattle.wd_partition.specs.declared.turn.Turn.{Turn}
 use Rattle.wd_seek.specs.Evaluations.{AllPass, ShowNothing, ShowsNothing, ShowsTwo, evaluations, most_evaluations}
 
 -- so many evaluations of the next candidate, but not all, show nothing
-abbrev pub Begun : PlanTree → List Instance → ℕ → Type 0
-Begun plan [] n = n ≡ 0
-Begun plan (instance ∷ instances) n = AllPass plan instance n × (n < evaluations plan)
+abbrev pub Begun : Turn → PlanTree → List Instance → ℕ → Type 0
+Begun turn plan [] n = n ≡ 0
+Begun turn plan (instance ∷ instances) n = AllPass turn plan instance n × (n < evaluations plan)
 
 -- a search finds nothing: it goes through all candidates, or ends in the midst of them at the most evaluations
-pub record FindsNothing (plan : PlanTree) (instances : List Instance) (start end : ℕ) : Type 0 where
+pub record FindsNothing (turn : Turn) (plan : PlanTree) (instances : List Instance) (start end : ℕ) : Type 0 where
   pub before : List Instance
   pub rest : List Instance
   pub spent : ℕ
   pub part : ℕ
   pub parts : instances ≡ before ++ rest
-  pub nothing : ShowNothing plan before spent
-  pub begun : Begun plan rest part
+  pub nothing : ShowNothing turn plan before spent
+  pub begun : Begun turn plan rest part
   pub total : end ≡ start + (spent + part)
   pub whole : (rest ≡ []) ⊎ (end ≡ most_evaluations)
 
 -- a search finds two choices over a candidate, which end it; the candidates before show nothing
-pub record FindsTwo (plan : PlanTree) (instances : List Instance) (start end : ℕ) (instance : Instance) (first second : List (List ℕ)) : Type 0 where
+pub record FindsTwo (turn : Turn) (plan : PlanTree) (instances : List Instance) (start end : ℕ) (instance : Instance) (first second : List (List ℕ)) : Type 0 where
   pub before : List Instance
   pub after : List Instance
   pub spent : ℕ
   pub flipped : ℕ
   pub parts : instances ≡ before ++ instance ∷ after
-  pub nothing : ShowNothing plan before spent
-  pub two : ShowsTwo plan instance flipped first second
+  pub nothing : ShowNothing turn plan before spent
+  pub two : ShowsTwo turn plan instance flipped first second
   pub total : end ≡ start + (spent + (flipped + 2))
 
 -- each of the first candidates shows nothing, of as many as the most evaluations suffice for
-abbrev pub FirstShowNothing : PlanTree → List Instance → Type 0
-FirstShowNothing plan instances = All (λ instance. (n : ℕ) × ShowsNothing plan instance n) (take (most_evaluations / evaluations plan) instances)
+abbrev pub FirstShowNothing : Turn → PlanTree → List Instance → Type 0
+FirstShowNothing turn plan instances = All (λ instance. (n : ℕ) × ShowsNothing turn plan instance n) (take (most_evaluations / evaluations plan) instances)

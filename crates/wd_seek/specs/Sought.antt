@@ -6,6 +6,7 @@ use Rattle.wd_value.specs.Rows.{Instance, table_at}
 use Rattle.wd_schema.specs.Meets.{Meets, is_met}
 use Rattle.wd_schema.specs.Tables.{TableRule}
 use Rattle.wd_plan.specs.Plans.{PlanTree}
+use Rattle.wd_partition.specs.declared.turn.Turn.{Turn}
 use Rattle.wd_facts.specs.Given.{table_rule}
 use Rattle.wd_analyse.specs.declared.analysis.Analysis.{Analysis}
 use Rattle.wd_analyse.specs.declared.analysis.Analysis.TheVariants.{Certified, Open}
@@ -34,14 +35,14 @@ abbrev pub to_try : List TableRule → PlanTree → List Reason → List Instanc
 to_try tables plan reasons = filter (is_meeting tables) (candidates_for tables plan reasons)
 
 -- a witness over the first candidate that shows two answers; the search began and ended with so many evaluations
-pub record IsFound (tables : List TableRule) (plan : PlanTree) (instances : List Instance) (start end : ℕ) (w : WitnessRecord) : Type 0 where
+pub record IsFound (turn : Turn) (tables : List TableRule) (plan : PlanTree) (instances : List Instance) (start end : ℕ) (w : WitnessRecord) : Type 0 where
   pub instance : Instance
   pub meets : Meets tables instance
-  pub two : FindsTwo plan instances start end instance w.first w.second
+  pub two : FindsTwo turn plan instances start end instance w.first w.second
   pub over : IsOver tables plan instance w
   pub fits : AllFit64 w
 
 -- what a search through instances finds
-abbrev pub IsSought : List TableRule → PlanTree → List Instance → ℕ → Option Witness → ℕ → Type 0
-IsSought tables plan instances start None end = FindsNothing plan instances start end
-IsSought tables plan instances start (Some w) end = IsFound tables plan instances start end (witness_of w)
+abbrev pub IsSought : Turn → List TableRule → PlanTree → List Instance → ℕ → Option Witness → ℕ → Type 0
+IsSought turn tables plan instances start None end = FindsNothing turn plan instances start end
+IsSought turn tables plan instances start (Some w) end = IsFound turn tables plan instances start end (witness_of w)

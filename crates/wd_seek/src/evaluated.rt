@@ -8,7 +8,7 @@ ghost use Rattle.wd_seek.specs.Probed.{IsEvaluated};
 ghost use Rattle.wd_value.specs.Rows.{instance_of};
 
 use std::alloc::Global;
-use wd_eval::{EvalError, TiedOutcome, eval_tied};
+use wd_eval::{EvalError, TiedOutcome, Turned, eval_turned};
 use wd_plan::{Choice, Plan};
 use wd_refute::SortedOutcome;
 use wd_schema::Schema;
@@ -21,18 +21,18 @@ pub(crate) struct Evaluated {
     pub outcome: SortedOutcome,
 }
 
-/// The plan's outcome over an instance under the choice that flips an ordering or nothing; None where a step is too large.
+/// The plan's outcome over an instance under the choice that turns an ordering or none; None where a step is too large.
 pub(crate) fn evaluate(
     alloc: Global,
     schema: &Schema,
     plan: &Plan,
     instance: &Instance,
-    flipped: Option<u32>,
+    turned: Option<Turned>,
 ) -> Result<Option<Evaluated>, OutOfMemory>
     requires { fits (schema_of schema.now) (plan_of plan.now) ≡ true }
-    ensures { IfOk result (IsEvaluated (plan_of plan.now) (instance_of instance.now.items) flipped) }
+    ensures { IfOk result (IsEvaluated (plan_of plan.now) (instance_of instance.now.items) turned) }
 {
-    match eval_tied(alloc, plan, schema, instance, flipped) {
+    match eval_turned(alloc, plan, schema, instance, turned) {
         Ok(TiedOutcome { choice, outcome }) => {
             let outcome = SortedOutcome::new(alloc, outcome)?;
             Ok(Some(Evaluated { choice, outcome }))

@@ -10,6 +10,7 @@ ghost use Rattle.wd_value.specs.Rows.{instance_of};
 
 use crate::evaluated::evaluate;
 use std::alloc::Global;
+use wd_eval::{Turn, Turned};
 use wd_plan::{Choice, Plan};
 use wd_refute::SortedOutcome;
 use wd_schema::Schema;
@@ -25,20 +26,21 @@ pub(crate) struct Pair {
     pub second: Choice,
 }
 
-/// Evaluates a plan over an instance under the choice that flips nothing, and then flips one ordering after another until an
-/// outcome does not agree with the first. It is given up where a step has more than 10,000,000 rows, and at the most evaluations.
+/// Evaluates a plan over an instance under the choice that leaves rows that tie as they are, and then turns one ordering after another
+/// until an outcome does not agree with the first. It is given up where a step has more than 10,000,000 rows, and at the most evaluations.
 /// `spent` is the number of the evaluations before, and the number in the answer that with the ones made here.
 pub(crate) fn probe(
     alloc: Global,
     schema: &Schema,
     plan: &Plan,
     instance: &Instance,
+    turn: Turn,
     spent: u32,
 ) -> Result<(Option<Pair>, u32), OutOfMemory>
     requires fitting { fits (schema_of schema.now) (plan_of plan.now) ≡ true }
     requires few { spent ≤ most_evaluations }
     ensures few { IfOk result (λ r. r.1 ≤ most_evaluations) }
-    ensures tried { IfOk result (λ r. IsProbed (plan_of plan.now) (instance_of instance.now.items) spent r.1 r.0) }
+    ensures tried { IfOk result (λ r. IsProbed turn (plan_of plan.now) (instance_of instance.now.items) spent r.1 r.0) }
 {
     if spent == MOST_EVALUATIONS {
         return Ok((None, spent));
@@ -46,7 +48,15 @@ pub(crate) fn probe(
     let Some(first) = evaluate(alloc, schema, plan, instance, None)? else {
         return Ok((None, spent + 1));
     };
-    let (other, spent) = other_choice(alloc, schema, plan, instance, &first.outcome, spent + 1)?;
+    let (other, spent) = other_choice(
+        alloc,
+        schema,
+        plan,
+        instance,
+        &first.outcome,
+        turn,
+        spent + 1,
+    )?;
     match other {
         Some(second) => {
             let first = first.choice;
@@ -56,7 +66,7 @@ pub(crate) fn probe(
     }
 }
 
-/// Flips one ordering after another until the outcome does not agree with the first; the choice that does it, and the number of
+/// Turns one ordering after another until the outcome does not agree with the first; the choice that does it, and the number of
 /// evaluations.
 fn other_choice(
     alloc: Global,
@@ -64,13 +74,14 @@ fn other_choice(
     plan: &Plan,
     instance: &Instance,
     first: &SortedOutcome,
+    turn: Turn,
     spent: u32,
 ) -> Result<(Option<Choice>, u32), OutOfMemory>
     requires fitting { fits (schema_of schema.now) (plan_of plan.now) ≡ true }
     requires first { IsFirst (plan_of plan.now) (instance_of instance.now.items) first.now }
     requires few { spent ≤ most_evaluations }
     ensures few { IfOk result (λ r. r.1 ≤ most_evaluations) }
-    ensures other { IfOk result (λ r. IsOther (plan_of plan.now) (instance_of instance.now.items) first.now spent r.1 r.0) }
+    ensures other { IfOk result (λ r. IsOther turn (plan_of plan.now) (instance_of instance.now.items) first.now spent r.1 r.0) }
 {
     let orderings = plan.orderings();
     for flipped in 0..orderings {
@@ -78,7 +89,11 @@ fn other_choice(
         if made == MOST_EVALUATIONS {
             return Ok((None, made));
         }
-        let Some(other) = evaluate(alloc, schema, plan, instance, Some(flipped))? else {
+        let turned = Turned {
+            number: flipped,
+            turn,
+        };
+        let Some(other) = evaluate(alloc, schema, plan, instance, Some(turned))? else {
             return Ok((None, made + 1));
         };
         if !first.agrees(&other.outcome) {

@@ -4,6 +4,7 @@ ghost use Rattle.std.specs.Prelude.{◌≡◌, ◌≤◌, true, filter, IfNone, 
 ghost use Rattle.wd_candidates.specs.Candidates.{candidates};
 ghost use Rattle.wd_candidates.specs.Outlines.{IsOutline};
 ghost use Rattle.wd_plan.specs.Fits.{fits};
+ghost use Rattle.wd_partition.specs.declared.turn.Turn.TheVariants.{Reversed};
 ghost use Rattle.wd_plan.specs.Plans.{plan_of};
 ghost use Rattle.wd_seek.specs.Evaluations.{most_evaluations};
 ghost use Rattle.wd_seek.specs.Search.{FirstShowNothing};
@@ -36,10 +37,10 @@ pub fn seek(
     analysis: &Analysis,
 ) -> Result<(Option<Witness>, u32), OutOfMemory>
     requires { fits (schema_of schema.now) (plan_of plan.now) ≡ true }
-    ensures sought { IfOk result (λ r. IsSought (schema_of schema.now) (plan_of plan.now) (to_try (schema_of schema.now) (plan_of plan.now) (reasons_of analysis.now)) 0 r.0 r.1) }
+    ensures sought { IfOk result (λ r. IsSought Reversed (schema_of schema.now) (plan_of plan.now) (to_try (schema_of schema.now) (plan_of plan.now) (reasons_of analysis.now)) 0 r.0 r.1) }
     ensures few { IfOk result (λ r. r.1 ≤ most_evaluations) }
     ensures shown { IfOk result (λ r. IfSome r.0 (λ w. IsShown (schema_of schema.now) (plan_of plan.now) (witness_of w))) }
-    ensures exhaustive { IfOk result (λ r. IfNone r.0 (FirstShowNothing (plan_of plan.now) (to_try (schema_of schema.now) (plan_of plan.now) (reasons_of analysis.now)))) }
+    ensures exhaustive { IfOk result (λ r. IfNone r.0 (FirstShowNothing Reversed (plan_of plan.now) (to_try (schema_of schema.now) (plan_of plan.now) (reasons_of analysis.now)))) }
 {
     match analysis {
         Analysis::Certified(_) => Ok((None, 0)),
@@ -61,7 +62,7 @@ fn try_reasons(
     requires fitting { fits (schema_of schema.now) (plan_of plan.now) ≡ true }
     requires outline { IsOutline (schema_of schema.now) (plan_of plan.now) outline.now }
     ensures few { IfOk result (λ r. r.1 ≤ most_evaluations) }
-    ensures sought { IfOk result (λ r. IsSought (schema_of schema.now) (plan_of plan.now) (to_try (schema_of schema.now) (plan_of plan.now) reasons.now) 0 r.0 r.1) }
+    ensures sought { IfOk result (λ r. IsSought Reversed (schema_of schema.now) (plan_of plan.now) (to_try (schema_of schema.now) (plan_of plan.now) reasons.now) 0 r.0 r.1) }
 {
     let mut spent = 0;
     for reason in reasons {
@@ -87,7 +88,7 @@ fn try_reason(
     requires outline { IsOutline (schema_of schema.now) (plan_of plan.now) outline.now }
     requires few { spent ≤ most_evaluations }
     ensures few { IfOk result (λ r. r.1 ≤ most_evaluations) }
-    ensures sought { IfOk result (λ r. IsSought (schema_of schema.now) (plan_of plan.now) (filter (is_meeting (schema_of schema.now)) (candidates (schema_of schema.now) (plan_of plan.now) reason.node reason.call)) spent r.0 r.1) }
+    ensures sought { IfOk result (λ r. IsSought Reversed (schema_of schema.now) (plan_of plan.now) (filter (is_meeting (schema_of schema.now)) (candidates (schema_of schema.now) (plan_of plan.now) reason.node reason.call)) spent r.0 r.1) }
 {
     if spent == MOST_EVALUATIONS {
         return Ok((None, spent));

@@ -5,6 +5,7 @@ ghost use Rattle.wd_candidates.specs.Candidates.{candidate as candidate_of, shap
 ghost use Rattle.wd_candidates.specs.Outlines.{AreTied, IsOutline};
 ghost use Rattle.wd_candidates.specs.Tied.{NodeColumns};
 ghost use Rattle.wd_plan.specs.Fits.{fits};
+ghost use Rattle.wd_partition.specs.declared.turn.Turn.TheVariants.{Reversed};
 ghost use Rattle.wd_plan.specs.Plans.{plan_of};
 ghost use Rattle.wd_seek.specs.Evaluations.{most_evaluations};
 ghost use Rattle.wd_schema.specs.Meets.{Meets};
@@ -18,6 +19,7 @@ use crate::probed::{MOST_EVALUATIONS, probe};
 use crate::witness::{names_differ, witness_over};
 use std::alloc::Global;
 use wd_candidates::{Outline, Shape, TiedColumns, candidate, shapes};
+use wd_eval::Turn;
 use wd_plan::Plan;
 use wd_schema::{Schema, meets};
 use wd_value::{Instance, OutOfMemory};
@@ -36,7 +38,7 @@ pub(crate) fn try_shapes(
     requires outline { IsOutline (schema_of schema.now) (plan_of plan.now) outline.now }
     requires few { spent ≤ most_evaluations }
     ensures few { IfOk result (λ r. r.1 ≤ most_evaluations) }
-    ensures sought { IfOk result (λ r. (o : NodeColumns) → AreTied (schema_of schema.now) o tied.now → IsSought (schema_of schema.now) (plan_of plan.now) (filter (is_meeting (schema_of schema.now)) (map (candidate_of (schema_of schema.now) (plan_of plan.now) o) all_shapes)) spent r.0 r.1) }
+    ensures sought { IfOk result (λ r. (o : NodeColumns) → AreTied (schema_of schema.now) o tied.now → IsSought Reversed (schema_of schema.now) (plan_of plan.now) (filter (is_meeting (schema_of schema.now)) (map (candidate_of (schema_of schema.now) (plan_of plan.now) o) all_shapes)) spent r.0 r.1) }
 {
     let mut total = spent;
     for shape in &shapes() {
@@ -64,33 +66,43 @@ fn try_shape(
     requires small { shape.rows ≤ 64 }
     requires few { spent ≤ most_evaluations }
     ensures few { IfOk result (λ r. r.1 ≤ most_evaluations) }
-    ensures sought { IfOk result (λ r. (o : NodeColumns) → AreTied (schema_of schema.now) o tied.now → IsSought (schema_of schema.now) (plan_of plan.now) (filter (is_meeting (schema_of schema.now)) (candidate_of (schema_of schema.now) (plan_of plan.now) o shape ∷ [])) spent r.0 r.1) }
+    ensures sought { IfOk result (λ r. (o : NodeColumns) → AreTied (schema_of schema.now) o tied.now → IsSought Reversed (schema_of schema.now) (plan_of plan.now) (filter (is_meeting (schema_of schema.now)) (candidate_of (schema_of schema.now) (plan_of plan.now) o shape ∷ [])) spent r.0 r.1) }
 {
     if spent == MOST_EVALUATIONS {
         return Ok((None, spent));
     }
     let instance = candidate(alloc, schema, outline, tied, shape)?;
-    try_candidate(alloc, schema, plan, outline, instance, spent)
+    try_candidate(
+        alloc,
+        schema,
+        plan,
+        outline,
+        instance,
+        Turn::Reversed,
+        spent,
+    )
 }
 
-/// Tries an instance of a plan's tables, if it meets the schema: the witness over it where two outcomes do not agree, and the number
-/// of evaluations, that of the ones before included.
+/// Tries an instance of a plan's tables, if it meets the schema: under the orderings in which rows that tie stay as they are, and with
+/// one ordering after another in which they are taken in this turn. The witness over it where two outcomes do not agree, and the
+/// number of evaluations, that of the ones before included.
 pub fn try_candidate(
     alloc: Global,
     schema: &Schema,
     plan: &Plan,
     outline: &Outline,
     instance: Instance,
+    turn: Turn,
     spent: u32,
 ) -> Result<(Option<Witness>, u32), OutOfMemory>
     requires fitting { fits (schema_of schema.now) (plan_of plan.now) ≡ true }
     requires outline { IsOutline (schema_of schema.now) (plan_of plan.now) outline.now }
     requires few { spent ≤ most_evaluations }
     ensures few { IfOk result (λ r. r.1 ≤ most_evaluations) }
-    ensures sought { IfOk result (λ r. HasFewRows (schema_of schema.now) (plan_of plan.now) (instance_of instance.items) → IsSought (schema_of schema.now) (plan_of plan.now) (filter (is_meeting (schema_of schema.now)) (instance_of instance.items ∷ [])) spent r.0 r.1) }
+    ensures sought { IfOk result (λ r. HasFewRows (schema_of schema.now) (plan_of plan.now) (instance_of instance.items) → IsSought turn (schema_of schema.now) (plan_of plan.now) (filter (is_meeting (schema_of schema.now)) (instance_of instance.items ∷ [])) spent r.0 r.1) }
 {
     match meets(schema, &instance) {
-        Ok(()) => try_instance(alloc, schema, plan, outline, instance, spent),
+        Ok(()) => try_instance(alloc, schema, plan, outline, instance, turn, spent),
         Err(_) => Ok((None, spent)),
     }
 }
@@ -102,16 +114,17 @@ fn try_instance(
     plan: &Plan,
     outline: &Outline,
     instance: Instance,
+    turn: Turn,
     spent: u32,
 ) -> Result<(Option<Witness>, u32), OutOfMemory>
     requires fitting { fits (schema_of schema.now) (plan_of plan.now) ≡ true }
     requires meets { Meets (schema_of schema.now) (instance_of instance.items) }
     requires few { spent ≤ most_evaluations }
     ensures few { IfOk result (λ r. r.1 ≤ most_evaluations) }
-    ensures tried { IfOk result (λ r. IsTried (schema_of schema.now) (plan_of plan.now) outline.now (instance_of instance.items) spent r.0 r.1) }
+    ensures tried { IfOk result (λ r. IsTried turn (schema_of schema.now) (plan_of plan.now) outline.now (instance_of instance.items) spent r.0 r.1) }
 {
     names_differ(schema);
-    let (pair, spent) = probe(alloc, schema, plan, &instance, spent)?;
+    let (pair, spent) = probe(alloc, schema, plan, &instance, turn, spent)?;
     match pair {
         None => Ok((None, spent)),
         Some(pair) => {

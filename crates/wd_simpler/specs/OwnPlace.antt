@@ -1,6 +1,6 @@
--- Frames of the row's own place, which hold the row or nothing: the same rows are in a frame of its peers that leaves out the others, or
--- all of them. That one goes by no order.
-use Rattle.std.specs.Prelude.{Bool, true, false, ◌&&◌, if◌then◌else◌}
+-- Frames of the row's own place, which hold the row or nothing, and frames that end before they start: the same rows are in a frame of
+-- its peers that leaves out the others, or all of them. That one goes by no order.
+use Rattle.std.specs.Prelude.{Bool, true, false, ◌&&◌, nat_eq, nat_lt, if◌then◌else◌}
 use Rattle.wd_plan.specs.declared.window.Bound.{Bound}
 use Rattle.wd_plan.specs.declared.window.Bound.TheVariants.{UnboundedPreceding, Preceding, CurrentRow, Following, UnboundedFollowing}
 use Rattle.wd_plan.specs.declared.window.Exclusion.{Exclusion}
@@ -9,12 +9,29 @@ use Rattle.wd_plan.specs.declared.window.Frame.{Frame}
 use Rattle.wd_plan.specs.declared.window.FrameMode.{FrameMode}
 use Rattle.wd_plan.specs.declared.window.FrameMode.TheVariants.{Rows, Range, Groups}
 
-abbrev pub is_current : Bound → Bool
-is_current UnboundedPreceding = false
-is_current (Preceding n) = false
-is_current CurrentRow = true
-is_current (Following n) = false
-is_current UnboundedFollowing = false
+-- CURRENT ROW, 0 PRECEDING or 0 FOLLOWING
+abbrev pub is_here : Bound → Bool
+is_here UnboundedPreceding = false
+is_here (Preceding n) = nat_eq n 0
+is_here CurrentRow = true
+is_here (Following n) = nat_eq n 0
+is_here UnboundedFollowing = false
+
+-- a start that lies after an end, both before the row or both after it
+abbrev pub is_past : Bound → Bound → Bool
+is_past UnboundedPreceding end = false
+is_past (Preceding n) UnboundedPreceding = false
+is_past (Preceding n) (Preceding m) = nat_lt n m
+is_past (Preceding n) CurrentRow = false
+is_past (Preceding n) (Following m) = false
+is_past (Preceding n) UnboundedFollowing = false
+is_past CurrentRow end = false
+is_past (Following n) UnboundedPreceding = false
+is_past (Following n) (Preceding m) = false
+is_past (Following n) CurrentRow = false
+is_past (Following n) (Following m) = nat_lt m n
+is_past (Following n) UnboundedFollowing = false
+is_past UnboundedFollowing end = false
 
 abbrev pub counts_rows : FrameMode → Bool
 counts_rows Rows = true
@@ -23,7 +40,11 @@ counts_rows Groups = false
 
 -- ROWS BETWEEN CURRENT ROW AND CURRENT ROW
 abbrev pub is_own_place : Frame → Bool
-is_own_place frame = counts_rows frame.mode && (is_current frame.start && is_current frame.end)
+is_own_place frame = counts_rows frame.mode && (is_here frame.start && is_here frame.end)
+
+-- ROWS BETWEEN 2 PRECEDING AND 3 PRECEDING
+abbrev pub is_nowhere : Frame → Bool
+is_nowhere frame = counts_rows frame.mode && is_past frame.start frame.end
 
 -- what is left out of the row's peers: the others where the row stays, all where it is left out
 abbrev pub peer_exclusion : Exclusion → Exclusion
@@ -32,6 +53,13 @@ peer_exclusion exclude.CurrentRow = exclude.Group
 peer_exclusion exclude.Group = exclude.Group
 peer_exclusion exclude.Ties = exclude.Ties
 
--- a frame, and one of peers in the place of one of the row's own place
+-- the row's peers, without some of them
+abbrev pub peers_without : Exclusion → Frame
+peers_without exclusion = record { mode = Range; start = CurrentRow; end = CurrentRow; exclusion = exclusion }
+
+-- a frame, and one of peers in the place of one of the row's own place, or of one that holds nothing
 abbrev pub peer_frame : Frame → Frame
-peer_frame frame = if is_own_place frame then record { mode = Range; start = CurrentRow; end = CurrentRow; exclusion = peer_exclusion frame.exclusion } else frame
+peer_frame frame =
+    if is_own_place frame then peers_without (peer_exclusion frame.exclusion)
+    else if is_nowhere frame then peers_without exclude.Group
+    else frame

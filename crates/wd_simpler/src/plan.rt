@@ -408,18 +408,49 @@ fn peer_call(call: Call) -> Call
     }
 }
 
-/// The frame, and one of peers in the place of one of the row's own place.
+/// The frame, and one of peers in the place of one of the row's own place, or of one that holds nothing.
 fn peer_frame(frame: Frame) -> Frame
     ensures { result ≡ peers.peer_frame frame }
 {
-    match (frame.mode, frame.start, frame.end) {
-        (FrameMode::Rows, Bound::CurrentRow, Bound::CurrentRow) => Frame {
-            mode: FrameMode::Range,
-            start: Bound::CurrentRow,
-            end: Bound::CurrentRow,
-            exclusion: peer_exclusion(frame.exclusion),
-        },
+    match frame.mode {
+        FrameMode::Rows if is_here(frame.start) && is_here(frame.end) => {
+            peers_without(peer_exclusion(frame.exclusion))
+        }
+        FrameMode::Rows if is_past(frame.start, frame.end) => peers_without(Exclusion::Group),
         _ => frame,
+    }
+}
+
+/// Whether a bound of ROWS is the row itself.
+fn is_here(bound: Bound) -> bool
+    ensures { result ≡ peers.is_here bound }
+{
+    matches!(
+        bound,
+        Bound::CurrentRow | Bound::Preceding(0) | Bound::Following(0)
+    )
+}
+
+/// Whether a start lies after an end, both before the row or both after it.
+fn is_past(start: Bound, end: Bound) -> bool
+    ensures { result ≡ peers.is_past start end }
+{
+    match (start, end) {
+        (Bound::Preceding(start), Bound::Preceding(end)) => start < end,
+        (Bound::Following(start), Bound::Following(end)) => end < start,
+        _ => false,
+    }
+}
+
+/// The row's peers, without some of them.
+fn peers_without(exclusion: Exclusion) -> Frame
+    ensures { result ≡ peers.peers_without exclusion }
+{
+    Frame {
+        mode: FrameMode::Range,
+        start: Bound::CurrentRow,
+        end: Bound::CurrentRow,
+        exclusion,
     }
 }
 

@@ -10,4 +10,4 @@ use Rattle.wd_further.proofs.search.search_round.Given as goal
 
 abbrev pub invariant-loop-rows : goal.invariant-loop-rows
 invariant-loop-rows l = (l.total ≤ most_evaluations)
-    × FindsNothing (plan_of l.plan) (tried_by (schema_of l.schema) (plan_of l.plan) (of_size (schema_of l.schema) (plan_of l.plan) l.number) (take l.rows-index (sizes (plan_of l.plan)))) l.spent l.total
+    × FindsNothing l.turn (plan_of l.plan) (tried_by (schema_of l.schema) (of_size (schema_of l.schema) (plan_of l.plan) l.number) (take l.rows-index (sizes (plan_of l.plan)))) l.spent l.total

@@ -16,10 +16,10 @@ loop-number-preserved c =
     let l = c.loop-number in
     let f = of_round tables plan in
     let within : l.number < length (positions c.args.rounds) = subst (λ n. l.number < n) (sym (length-range_with_len 0 c.args.rounds)) c.loop-number-test.true in
-    let here = subst (λ n. IsSought tables plan (filter (is_meeting tables) (f n)) l.spent c.in_ok-found.found c.in_ok-found.made) (sym (position_at c.args.rounds l.number 0 c.loop-number-test.true)) c.in_ok-found.ensures.sought in (
+    let here = subst (λ n. IsSought c.args.turn tables plan (filter (is_meeting tables) (f n)) l.spent c.in_ok-found.found c.in_ok-found.made) (sym (position_at c.args.rounds l.number 0 c.loop-number-test.true)) c.in_ok-found.ensures.sought in (
       c.in_ok-found.ensures.few,
-      nothing_in_one_more tables plan f (positions c.args.rounds) l.number 0 0 l.spent c.in_ok-found.made c.in_ok-found.ensures.few within l.invariant.1
-          (subst (λ found. IsSought tables plan (filter (is_meeting tables) (f (get_or (positions c.args.rounds) l.number 0))) l.spent found c.in_ok-found.made) c.in_default.is here),
+      nothing_in_one_more c.args.turn tables plan f (positions c.args.rounds) l.number 0 c.args.start l.spent c.in_ok-found.made c.in_ok-found.ensures.few within l.invariant.1
+          (subst (λ found. IsSought c.args.turn tables plan (filter (is_meeting tables) (f (get_or (positions c.args.rounds) l.number 0))) l.spent found c.in_ok-found.made) c.in_default.is here),
     )
 
 pub returns-in-Some : goal.returns-in-Some
@@ -29,14 +29,14 @@ returns-in-Some c =
     let l = c.loop-number in
     let f = of_round tables plan in
     let within : l.number < length (positions c.args.rounds) = subst (λ n. l.number < n) (sym (length-range_with_len 0 c.args.rounds)) c.loop-number-test.true in
-    let here = subst (λ n. IsSought tables plan (filter (is_meeting tables) (f n)) l.spent c.in_ok-found.found c.in_ok-found.made) (sym (position_at c.args.rounds l.number 0 c.loop-number-test.true)) c.in_ok-found.ensures.sought in (
+    let here = subst (λ n. IsSought c.args.turn tables plan (filter (is_meeting tables) (f n)) l.spent c.in_ok-found.found c.in_ok-found.made) (sym (position_at c.args.rounds l.number 0 c.loop-number-test.true)) c.in_ok-found.ensures.sought in (
       c.in_ok-found.made,
-      found_in_one_more tables plan f (positions c.args.rounds) l.number 0 0 l.spent c.in_ok-found.made c.in_ok-found.ensures.few within l.invariant.1 c.in-Some.witness
-          (subst (λ found. IsSought tables plan (filter (is_meeting tables) (f (get_or (positions c.args.rounds) l.number 0))) l.spent found c.in_ok-found.made) c.in-Some.is here),
+      found_in_one_more c.args.turn tables plan f (positions c.args.rounds) l.number 0 c.args.start l.spent c.in_ok-found.made c.in_ok-found.ensures.few within l.invariant.1 c.in-Some.witness
+          (subst (λ found. IsSought c.args.turn tables plan (filter (is_meeting tables) (f (get_or (positions c.args.rounds) l.number 0))) l.spent found c.in_ok-found.made) c.in-Some.is here),
     )
 
 pub returns : goal.returns
 returns c =
     let l = c.loop-number in
     let all : length (positions c.args.rounds) ≤ l.number = subst (λ n. n ≤ l.number) (sym (length-range_with_len 0 c.args.rounds)) c.loop-number-test.false in
-    (l.spent, nothing_in_all (schema_of c.args.schema.now) (plan_of c.args.plan.now) (of_round (schema_of c.args.schema.now) (plan_of c.args.plan.now)) (positions c.args.rounds) l.number 0 l.spent all l.invariant.1)
+    (l.spent, nothing_in_all (schema_of c.args.schema.now) (plan_of c.args.plan.now) (of_round (schema_of c.args.schema.now) (plan_of c.args.plan.now)) (positions c.args.rounds) l.number c.args.start l.spent all l.invariant.1)

@@ -10,4 +10,4 @@ use Rattle.wd_further.proofs.search.search_rounds.Given as goal
 
 abbrev pub invariant-loop-number : goal.invariant-loop-number
 invariant-loop-number l = (l.spent ≤ most_evaluations)
-    × FindsNothing (plan_of l.plan) (tried_by (schema_of l.schema) (plan_of l.plan) (of_round (schema_of l.schema) (plan_of l.plan)) (take l.number (positions l.rounds))) 0 l.spent
+    × FindsNothing l.turn (plan_of l.plan) (tried_by (schema_of l.schema) (of_round (schema_of l.schema) (plan_of l.plan)) (take l.number (positions l.rounds))) l.start l.spent

@@ -14,7 +14,7 @@ returns-then-number-tries-clause-sought c =
     let plan = plan_of c.args.plan.now in
     let left = subst (λ n. c.args.number < n) c.requires.tries c.if-number-tries.true in
     let one = size_tried tables plan c.args.number c.args.rows left in
-    IfOk-weaker c.try_varied.result _ _ (λ r h. subst (λ is. IsSought tables plan (filter (is_meeting tables) is) c.args.spent r.0 r.1) (sym one) h) c.try_varied.ensures.sought
+    IfOk-weaker c.try_varied.result _ _ (λ r h. subst (λ is. IsSought c.args.turn tables plan (filter (is_meeting tables) is) c.args.spent r.0 r.1) (sym one) h) c.try_varied.ensures.sought
 
 pub returns-else-number-tries-clause-sought : goal.returns-else-number-tries-clause-sought
 returns-else-number-tries-clause-sought c =
@@ -22,4 +22,4 @@ returns-else-number-tries-clause-sought c =
     let plan = plan_of c.args.plan.now in
     let done = subst (λ n. n ≤ c.args.number) c.requires.tries c.if-number-tries.false in
     let none = size_done tables plan c.args.number c.args.rows done in
-    subst (λ is. FindsNothing plan (filter (is_meeting tables) is) c.args.spent c.args.spent) (sym none) (nothing_to_try plan c.args.spent)
+    subst (λ is. FindsNothing c.args.turn plan (filter (is_meeting tables) is) c.args.spent c.args.spent) (sym none) (nothing_to_try c.args.turn plan c.args.spent)

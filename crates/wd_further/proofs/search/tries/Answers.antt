@@ -10,7 +10,7 @@ returns c =
     let plan = plan_of c.args.plan.now in
     let some = some_pairs c.args.rows plan (omega (arith, c.requires.large)) in
     c.share.ensures
-    ∙ (λ j. min (2000 / c.requires.is j) (1000000 / ((c.paired.ensures j * (c.orderings.ensures j + 1)) * c.requires.is j)))
+    ∙ (λ j. min (600 / c.requires.is j) (400000 / ((c.paired.ensures j * (c.orderings.ensures j + 1)) * c.requires.is j)))
     ∙ capped (paired c.args.rows plan) (ordering_count plan) (length (sizes plan)) some (subst (λ n. 1 ≤ n) c.requires.is c.requires.sizes)
 
 pub share-requires-clause-some : goal.share-requires-clause-some

@@ -16,11 +16,11 @@ returns-clause-sought c =
     let plan = plan_of c.args.plan.now in
     let is = c.in_ok-instance.ensures plan c.requires.outline c.requires.suggested in
     IfOk-weaker c.try_candidate.result _ _ (λ r h.
-    subst (λ i. HasFewRows tables plan i → IsSought tables plan (filter (is_meeting tables) (i ∷ [])) c.args.spent r.0 r.1) is h (few_rows tables plan c.args.rows c.args.number c.requires.small)) c.try_candidate.ensures.sought
+    subst (λ i. HasFewRows tables plan i → IsSought c.args.turn tables plan (filter (is_meeting tables) (i ∷ [])) c.args.spent r.0 r.1) is h (few_rows tables plan c.args.rows c.args.number c.requires.small)) c.try_candidate.ensures.sought
 
 pub returns-then-spent-eq-MOST_EVALUATIONS-clause-sought : goal.returns-then-spent-eq-MOST_EVALUATIONS-clause-sought
 returns-then-spent-eq-MOST_EVALUATIONS-clause-sought c =
     let tables = schema_of c.args.schema.now in
     let plan = plan_of c.args.plan.now in
     let instances = filter (is_meeting tables) (varied tables plan c.args.rows c.args.number ∷ []) in
-    subst (λ n. FindsNothing plan instances n n) (sym c.if-spent-eq-MOST_EVALUATIONS.true) (none_left_for plan instances)
+    subst (λ n. FindsNothing c.args.turn plan instances n n) (sym c.if-spent-eq-MOST_EVALUATIONS.true) (none_left_for c.args.turn plan instances)

@@ -1,12 +1,13 @@
 use Rattle.std.proofs.Common.{◌+◌, Some, arith, subst, inl, inr}
 use Rattle.wd_plan.specs.Plans.{ordering_count, plan_of}
 use Rattle.wd_value.specs.Rows.{instance_of}
+use Rattle.wd_seek.specs.Evaluations.{turned_at}
 use Rattle.wd_seek.specs.Probed.{IsEvaluated}
 use Rattle.wd_seek.proofs.Passing.{next_too_large, first_passes, within_count}
 use Rattle.wd_seek.proofs.probed.other_choice.Goals as goal
 
 pub loop-flipped-init : goal.loop-flipped-init
-loop-flipped-init c = (omega (arith, c.requires.few), first_passes (plan_of c.args.plan.now) (instance_of c.args.instance.now.items) c.args.first.now c.requires.first)
+loop-flipped-init c = (omega (arith, c.requires.few), first_passes c.args.turn (plan_of c.args.plan.now) (instance_of c.args.instance.now.items) c.args.first.now c.requires.first)
 
 pub returns-in_default-clause-other : goal.returns-in_default-clause-other
 returns-in_default-clause-other c =
@@ -14,5 +15,5 @@ returns-in_default-clause-other c =
     let instance = instance_of c.args.instance.now.items in
     let k = c.loop-flipped.flipped in
     let within = within_count (ordering_count plan) k c.orderings-orderings.result c.orderings-orderings.ensures c.loop-flipped-test.true in
-    let large = subst (IsEvaluated plan instance (Some k)) c.in_default.is c.in_ok-other.ensures in
-    (k + 1, omega arith, inr (inl (next_too_large plan instance k within c.loop-flipped.invariant.1 large)))
+    let large = subst (IsEvaluated plan instance (Some (turned_at c.args.turn k))) c.in_default.is c.in_ok-other.ensures in
+    (k + 1, omega arith, inr (inl (next_too_large c.args.turn plan instance k within c.loop-flipped.invariant.1 large)))

@@ -11,13 +11,13 @@ pub returns-then-spent-eq-MOST_EVALUATIONS-clause-tried : goal.returns-then-spen
 returns-then-spent-eq-MOST_EVALUATIONS-clause-tried c =
     let plan = plan_of c.args.plan.now in
     let instance = instance_of c.args.instance.now.items in
-    subst (λ n. FindsNothing plan (instance ∷ []) n n) (sym c.if-spent-eq-MOST_EVALUATIONS.true) (none_left plan instance)
+    subst (λ n. FindsNothing c.args.turn plan (instance ∷ []) n n) (sym c.if-spent-eq-MOST_EVALUATIONS.true) (none_left c.args.turn plan instance)
 
 pub returns-in_default-clause-tried : goal.returns-in_default-clause-tried
 returns-in_default-clause-tried c =
     let plan = plan_of c.args.plan.now in
     let instance = instance_of c.args.instance.now.items in
-    first_too_large plan instance c.args.spent (subst (IsEvaluated plan instance None) c.in_default.is c.in_ok-first.ensures)
+    first_too_large c.args.turn plan instance c.args.spent (subst (IsEvaluated plan instance None) c.in_default.is c.in_ok-first.ensures)
 
 pub returns-in-Some-other-clause-tried : goal.returns-in-Some-other-clause-tried
 returns-in-Some-other-clause-tried c =
@@ -25,12 +25,12 @@ returns-in-Some-other-clause-tried c =
     let instance = instance_of c.args.instance.now.items in
     let first = c.in-Some.first in
     let tied = subst (IsEvaluated plan instance None) c.in-Some.is c.in_ok-first.ensures in
-    another plan instance c.args.spent c.in_ok-other.spent first.outcome (orderings_of first.choice.orderings.items) c.in-Some-other.second tied
-    (subst (IsOther plan instance first.outcome (c.args.spent + 1) c.in_ok-other.spent) c.in-Some-other.is c.in_ok-other.ensures.other)
+    another c.args.turn plan instance c.args.spent c.in_ok-other.spent first.outcome (orderings_of first.choice.orderings.items) c.in-Some-other.second tied
+    (subst (IsOther c.args.turn plan instance first.outcome (c.args.spent + 1) c.in_ok-other.spent) c.in-Some-other.is c.in_ok-other.ensures.other)
 
 pub returns-in-None-clause-tried : goal.returns-in-None-clause-tried
 returns-in-None-clause-tried c =
     let plan = plan_of c.args.plan.now in
     let instance = instance_of c.args.instance.now.items in
     let o = c.in-Some.first.outcome in
-    no_other plan instance o c.args.spent c.in_ok-other.spent (subst (IsOther plan instance o (c.args.spent + 1) c.in_ok-other.spent) c.in-None.is c.in_ok-other.ensures.other)
+    no_other c.args.turn plan instance o c.args.spent c.in_ok-other.spent (subst (IsOther c.args.turn plan instance o (c.args.spent + 1) c.in_ok-other.spent) c.in-None.is c.in_ok-other.ensures.other)

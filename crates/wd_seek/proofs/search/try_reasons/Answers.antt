@@ -1,4 +1,5 @@
 use Rattle.std.proofs.Common.{filter, get_or, subst, None}
+use Rattle.wd_partition.specs.declared.turn.Turn.TheVariants.{Reversed}
 use Rattle.wd_plan.specs.Plans.{plan_of}
 use Rattle.wd_schema.specs.Schemas.{schema_of}
 use Rattle.wd_analyse.specs.declared.analysis.Reason.{Reason}
@@ -15,8 +16,8 @@ loop-reason-preserved c =
     let l = c.loop-reason in
     let none : Reason = record { node = 0; call = None; lack = SecondClass } in (
       c.in_ok-found.ensures.few,
-      nothing_in_one_more tables plan (λ (reason : Reason). candidates tables plan reason.node reason.call) c.args.reasons.now l.reason-index none 0 l.spent c.in_ok-found.made c.in_ok-found.ensures.few c.loop-reason-test.true l.invariant.1
-          (subst (λ found. IsSought tables plan (filter (is_meeting tables) (candidates tables plan (get_or c.args.reasons.now l.reason-index none).node (get_or c.args.reasons.now l.reason-index none).call)) l.spent found c.in_ok-found.made) c.in_default.is c.in_ok-found.ensures.sought),
+      nothing_in_one_more Reversed tables plan (λ (reason : Reason). candidates tables plan reason.node reason.call) c.args.reasons.now l.reason-index none 0 l.spent c.in_ok-found.made c.in_ok-found.ensures.few c.loop-reason-test.true l.invariant.1
+          (subst (λ found. IsSought Reversed tables plan (filter (is_meeting tables) (candidates tables plan (get_or c.args.reasons.now l.reason-index none).node (get_or c.args.reasons.now l.reason-index none).call)) l.spent found c.in_ok-found.made) c.in_default.is c.in_ok-found.ensures.sought),
     )
 
 pub returns-in-Some-clause-sought : goal.returns-in-Some-clause-sought
@@ -25,5 +26,5 @@ returns-in-Some-clause-sought c =
     let plan = plan_of c.args.plan.now in
     let l = c.loop-reason in
     let none : Reason = record { node = 0; call = None; lack = SecondClass } in
-    found_in_one_more tables plan (λ (reason : Reason). candidates tables plan reason.node reason.call) c.args.reasons.now l.reason-index none 0 l.spent c.in_ok-found.made c.in_ok-found.ensures.few c.loop-reason-test.true l.invariant.1 c.in-Some.witness
-    (subst (λ found. IsSought tables plan (filter (is_meeting tables) (candidates tables plan (get_or c.args.reasons.now l.reason-index none).node (get_or c.args.reasons.now l.reason-index none).call)) l.spent found c.in_ok-found.made) c.in-Some.is c.in_ok-found.ensures.sought)
+    found_in_one_more Reversed tables plan (λ (reason : Reason). candidates tables plan reason.node reason.call) c.args.reasons.now l.reason-index none 0 l.spent c.in_ok-found.made c.in_ok-found.ensures.few c.loop-reason-test.true l.invariant.1 c.in-Some.witness
+    (subst (λ found. IsSought Reversed tables plan (filter (is_meeting tables) (candidates tables plan (get_or c.args.reasons.now l.reason-index none).node (get_or c.args.reasons.now l.reason-index none).call)) l.spent found c.in_ok-found.made) c.in-Some.is c.in_ok-found.ensures.sought)

@@ -1,4 +1,5 @@
 use Rattle.std.proofs.Common.{◌≤◌, take}
+use Rattle.wd_partition.specs.declared.turn.Turn.TheVariants.{Reversed}
 use Rattle.wd_plan.specs.Plans.{plan_of}
 use Rattle.wd_schema.specs.Schemas.{schema_of}
 use Rattle.wd_analyse.specs.declared.analysis.Reason.{Reason}
@@ -10,4 +11,4 @@ use Rattle.wd_seek.proofs.search.try_reasons.Given as goal
 
 abbrev pub invariant-loop-reason : goal.invariant-loop-reason
 invariant-loop-reason l = (l.spent ≤ most_evaluations)
-    × FindsNothing (plan_of l.plan) (tried_by (schema_of l.schema) (plan_of l.plan) (λ (reason : Reason). candidates (schema_of l.schema) (plan_of l.plan) reason.node reason.call) (take l.reason-index l.reasons)) 0 l.spent
+    × FindsNothing Reversed (plan_of l.plan) (tried_by (schema_of l.schema) (λ (reason : Reason). candidates (schema_of l.schema) (plan_of l.plan) reason.node reason.call) (take l.reason-index l.reasons)) 0 l.spent

@@ -1,5 +1,6 @@
 use Rattle.std.proofs.Common.{◌∷◌, [], filter, subst, sym}
 use Rattle.std.proofs.lemmas.Result.{IfOk-weaker}
+use Rattle.wd_partition.specs.declared.turn.Turn.TheVariants.{Reversed}
 use Rattle.wd_plan.specs.Plans.{plan_of}
 use Rattle.wd_schema.specs.Schemas.{schema_of}
 use Rattle.wd_candidates.specs.Candidates.{candidate}
@@ -16,11 +17,11 @@ returns-clause-sought c =
     let plan = plan_of c.args.plan.now in
     IfOk-weaker c.try_candidate.result _ _ (λ r h. λ o tied.
     let is = c.in_ok-instance.ensures plan o c.requires.outline tied in
-    subst (λ i. HasFewRows tables plan i → IsSought tables plan (filter (is_meeting tables) (i ∷ [])) c.args.spent r.0 r.1) is h (few_rows tables plan o c.args.shape c.requires.small)) c.try_candidate.ensures.sought
+    subst (λ i. HasFewRows tables plan i → IsSought Reversed tables plan (filter (is_meeting tables) (i ∷ [])) c.args.spent r.0 r.1) is h (few_rows tables plan o c.args.shape c.requires.small)) c.try_candidate.ensures.sought
 
 pub returns-then-spent-eq-MOST_EVALUATIONS-clause-sought : goal.returns-then-spent-eq-MOST_EVALUATIONS-clause-sought
 returns-then-spent-eq-MOST_EVALUATIONS-clause-sought c = λ o tied.
     let tables = schema_of c.args.schema.now in
     let plan = plan_of c.args.plan.now in
     let instances = filter (is_meeting tables) (candidate tables plan o c.args.shape ∷ []) in
-    subst (λ n. FindsNothing plan instances n n) (sym c.if-spent-eq-MOST_EVALUATIONS.true) (none_left_for plan instances)
+    subst (λ n. FindsNothing Reversed plan instances n n) (sym c.if-spent-eq-MOST_EVALUATIONS.true) (none_left_for Reversed plan instances)

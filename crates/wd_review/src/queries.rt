@@ -1,0 +1,64 @@
+//! A file of queries, as it is judged.
+
+use crate::schema::SchemaFile;
+use std::alloc::Global;
+use wd_formats::Level;
+use wd_output::Report;
+use wd_query_front::{RespelledText, respelled_text};
+use wd_value::OutOfMemory;
+
+/// What is told of a file in which queries are respelled.
+const RESPELLED: &str = "note: queries that wdcheck does not read are judged as the standard's equations respell them; --show-respelled prints them";
+
+/// A file of queries, as it is judged.
+#[derive(Drop)]
+pub(crate) struct Queries {
+    pub(crate) text: Vec<u8>,
+    /// Whether some of them are respelled.
+    pub(crate) is_respelled: bool,
+    /// What is told of these, a line each.
+    notes: Vec<String>,
+}
+
+impl Queries {
+    /// A file whose text is judged as it is.
+    pub(crate) fn as_written(alloc: Global, text: Vec<u8>) -> Queries {
+        Queries {
+            text,
+            is_respelled: false,
+            notes: Vec::new(alloc),
+        }
+    }
+
+    /// A file of this text over a schema: what the profile refuses stands as the standard's equations respell it.
+    pub(crate) fn over(
+        alloc: Global,
+        schema: &SchemaFile,
+        text: Vec<u8>,
+    ) -> Result<Queries, OutOfMemory> {
+        match respelled_text(alloc, &schema.text, &text)? {
+            Some(RespelledText { text, notes }) => Ok(Queries {
+                text,
+                is_respelled: true,
+                notes,
+            }),
+            None => Ok(Queries::as_written(alloc, text)),
+        }
+    }
+
+    /// Tells that queries are respelled.
+    pub(crate) fn tell(
+        &self,
+        alloc: Global,
+        path: &str,
+        report: &mut Report,
+    ) -> Result<(), OutOfMemory> {
+        if self.is_respelled {
+            report.add_line(alloc, "note", Level::Warning, path, RESPELLED)?;
+        }
+        for note in &self.notes {
+            report.add_line(alloc, "note", Level::Warning, path, note.as_str())?;
+        }
+        Ok(())
+    }
+}
