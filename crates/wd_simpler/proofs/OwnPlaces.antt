@@ -1,5 +1,5 @@
 -- A frame of the row's own place, and one that holds nothing, have the same rows as that of peers.
-use Rattle.std.proofs.Common.{◌≡◌, ℕ, ℤ, zero, suc, ◌+◌, pos, ◌-ℤ◌, neg_ℤ, Bool, true, false, not, ◌&&◌, nat_lt, List, [], ◌∷◌, map, refl, sym, ◌∙◌, ap, subst, arith, nat_eq, zero-add}
+use Rattle.std.proofs.Common.{◌≡◌, ℕ, ℤ, zero, suc, ◌+◌, pos, ◌-ℤ◌, neg_ℤ, Bool, true, false, not, ◌&&◌, nat_lt, List, [], ◌∷◌, map, refl, sym, ◌∙◌, ap, subst, arith, nat_eq, zero-add, if◌then◌else◌}
 use Rattle.std.specs.List.{AllByRecursion, enumerate_from}
 use Rattle.std.specs.Prelude.{int_le}
 use Rattle.std.proofs.lemmas.Bool.{and_parts, eq-eqb, eqb-true, false≢true}
@@ -67,19 +67,19 @@ rows_frame start end x = record { mode = Rows; start = start; end = end; exclusi
 starts_here : (b : Bound) (d : ℤ) → is_here b ≡ true → starts_at b d ≡ int_le (pos 0) d
 starts_here UnboundedPreceding d h = absurd (false≢true h)
 starts_here (Preceding zero) d h = refl
-starts_here (Preceding (suc n)) d h = absurd (false≢true h)
+starts_here (Preceding (suc n)) d h = absurd (omega (arith, eqb-true (suc n) 0 h))
 starts_here CurrentRow d h = refl
 starts_here (Following zero) d h = refl
-starts_here (Following (suc n)) d h = absurd (false≢true h)
+starts_here (Following (suc n)) d h = absurd (omega (arith, eqb-true (suc n) 0 h))
 starts_here UnboundedFollowing d h = absurd (false≢true h)
 
 ends_here : (b : Bound) (d : ℤ) → is_here b ≡ true → ends_at b d ≡ int_le d (pos 0)
 ends_here UnboundedPreceding d h = absurd (false≢true h)
 ends_here (Preceding zero) d h = refl
-ends_here (Preceding (suc n)) d h = absurd (false≢true h)
+ends_here (Preceding (suc n)) d h = absurd (omega (arith, eqb-true (suc n) 0 h))
 ends_here CurrentRow d h = refl
 ends_here (Following zero) d h = refl
-ends_here (Following (suc n)) d h = absurd (false≢true h)
+ends_here (Following (suc n)) d h = absurd (omega (arith, eqb-true (suc n) 0 h))
 ends_here UnboundedFollowing d h = absurd (false≢true h)
 
 own_same : (class : ClassRule) (start end : Bound) (x : Exclusion) (part : List Row) (i j : ℕ) (q : Row) → is_here start ≡ true → is_here end ≡ true → q ≡ row_at part j
