@@ -1,0 +1,3 @@
+pub mod Nests
+pub mod Opened
+pub mod Operands
