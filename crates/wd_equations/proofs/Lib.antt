@@ -1,0 +1,2 @@
+pub mod EachFacts
+pub mod TerminalFacts

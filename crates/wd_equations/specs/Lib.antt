@@ -1,0 +1,5 @@
+pub mod Equations
+pub mod Given
+pub mod Parts
+pub mod Places
+pub mod Tokens

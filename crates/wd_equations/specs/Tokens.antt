@@ -1,0 +1,73 @@
+-- Single tokens, and what stands at the start of tokens.
+use Rattle.std.specs.Str.{bytes_eq}
+use Rattle.std.specs.Prelude.{ℕ, ◌-◌, ◌==◌, nat_lt, codes, Bool, true, false, if◌then◌else◌, List, [], ◌∷◌, take, drop, Option, Some, None, option_and_then}
+use Rattle.wd_lex.specs.declared.token.Terminal.{Terminal}
+use Rattle.wd_lex.specs.declared.token.Terminal.TheVariants as m
+use Rattle.wd_lex.specs.declared.token.Token.{Token}
+use Rattle.wd_lex.specs.declared.token.TokenKind.{TokenKind}
+use Rattle.wd_lex.specs.declared.token.TokenKind.TheVariants as t
+use Rattle.wd_lex.specs.Terminals.{terminal_code}
+use Rattle.wd_operands.specs.Nests.{nest_length}
+use Rattle.wd_operands.specs.Operands.{is_test_word, operand_length}
+
+infixl 10 ◌>>=◌
+abbrev pub ◌>>=◌ : {A B : Type 0} → Option A → (A → Option B) → Option B
+None >>= f = None
+(Some x) >>= f = f x
+
+abbrev pub is_terminal : Terminal → TokenKind → Bool
+is_terminal x (t.Terminal y) = terminal_code y == terminal_code x
+is_terminal x _ = false
+
+-- a word of that spelling, which is not reserved
+abbrev pub is_word : List ℕ → TokenKind → Bool
+is_word word (t.Word text) = bytes_eq text word
+is_word word _ = false
+
+-- the tokens after a terminal, where it stands first
+unfoldable pub past : Terminal → List Token → Option (List Token)
+past x [] = None
+past x (token ∷ tokens) = if is_terminal x token.kind then Some tokens else None
+
+-- what stands first, and the tokens after it
+abbrev pub AndRest : Type 0
+AndRest = List Token × List Token
+
+-- the operand at the start, and the tokens after it
+unfoldable pub operand_at : List Token → Option AndRest
+operand_at tokens = if operand_length tokens == 0 then None else Some (take (operand_length tokens) tokens, drop (operand_length tokens) tokens)
+
+-- what stands between the brackets at the start, or between CASE and END, and the tokens after them
+unfoldable pub nest_at : List Token → Option AndRest
+nest_at tokens =
+    if nat_lt (nest_length tokens) 2 then None else Some (drop 1 (take (nest_length tokens - 1) (take (nest_length tokens) tokens)), drop (nest_length tokens) tokens)
+
+-- what stands between the round brackets at the start, and the tokens after them
+unfoldable pub brackets_at : List Token → Option AndRest
+brackets_at [] = None
+brackets_at (token ∷ tokens) = if is_terminal m.LeftBracket token.kind then nest_at (token ∷ tokens) else None
+
+-- a token that goes on with what binds no less tightly than IS
+abbrev pub is_operator : TokenKind → Bool
+is_operator (t.Terminal m.Plus) = true
+is_operator (t.Terminal m.Minus) = true
+is_operator (t.Terminal m.Star) = true
+is_operator (t.Terminal m.Slash) = true
+is_operator (t.Terminal m.Percent) = true
+is_operator (t.Terminal m.Equals) = true
+is_operator (t.Terminal m.NotEquals) = true
+is_operator (t.Terminal m.Less) = true
+is_operator (t.Terminal m.LessOrEqual) = true
+is_operator (t.Terminal m.Greater) = true
+is_operator (t.Terminal m.GreaterOrEqual) = true
+is_operator (t.Terminal m.Not) = true
+is_operator (t.Terminal m.Is) = true
+is_operator (t.Terminal m.IsNull) = true
+is_operator (t.Terminal m.NotNull) = true
+is_operator (t.Word text) = is_test_word text
+is_operator _ = false
+
+-- the tokens go on with it
+unfoldable pub goes_on : List Token → Bool
+goes_on [] = false
+goes_on (token ∷ tokens) = is_operator token.kind
