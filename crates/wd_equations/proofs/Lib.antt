@@ -1,2 +1,3 @@
 pub mod EachFacts
+pub mod PartFacts
 pub mod TerminalFacts

@@ -1,0 +1,43 @@
+-- How the loop over the parts of tokens goes on.
+use Rattle.std.proofs.Common.{◌≡◌, ◌∙◌, ◌<◌, ◌≤◌, ◌+◌, ◌-◌, ◌++◌, ℕ, zero, suc, List, [], ◌∷◌, Bor, length, map, take, drop, refl, ap, sym, append_assoc, arith}
+use Rattle.std.proofs.lemmas.List.{map_push}
+use Rattle.std.proofs.lemmas.Grind.{common_steps}
+use Rattle.wd_lex.specs.declared.token.Terminal.{Terminal}
+use Rattle.wd_lex.specs.declared.token.Token.{Token}
+use Rattle.wd_equations.specs.Parts.{and_parts, part_from, parts_of}
+
+abbrev pub now : Bor (List Token) → List Token
+now part = part.now
+
+behind_one : (token : Token) (tokens : List Token) → take (length (token ∷ tokens) - 1) tokens ≡ tokens
+behind_one token tokens = grind (arith, common_steps)
+
+and_some : (tokens behind : List Token) (more : List Token → List (List Token)) → 1 ≤ length behind → and_parts tokens behind more ≡ more (take (length behind - 1) (drop 1 behind))
+and_some tokens [] more le = absurd (omega arith)
+and_some tokens (token ∷ behind) more le = ap more (sym (behind_one token behind))
+
+pub parts_more : (n i count : ℕ) (here next : Terminal) (front : List (Bor (List Token))) (part : Bor (List Token)) (rest behind : List Token) (total : List (List Token))
+    → i < n → count ≡ part_from here 0 0 rest → part.now ≡ take count rest → behind ≡ drop count rest → 1 ≤ length behind
+    → map now front ++ parts_of (n - i) here next rest ≡ total
+    → map now (front ++ part ∷ []) ++ parts_of (n - (i + 1)) next here (take (length behind - 1) (drop 1 behind)) ≡ total
+unfolding parts_of
+parts_more n i count here next front part rest behind total lt counted first back le so_far =
+    let k : n - i ≡ suc (n - (i + 1)) = omega arith in
+    let after = parts_of (n - (i + 1)) next here (take (length behind - 1) (drop 1 behind)) in
+    let one : parts_of (n - i) here next rest ≡ take count rest ∷ after =
+    rw (k, ← counted, ← back) (and_some rest behind (λ b. take count rest ∷ parts_of (n - (i + 1)) next here b) le) in
+    rw (map_push now front part, append_assoc (map now front) (part.now ∷ []) after, first) (ap (λ ys. map now front ++ ys) (sym one) ∙ so_far)
+
+pub parts_none : (n count : ℕ) (here next : Terminal) (tokens behind : List Token) → count ≡ part_from here 0 0 tokens → behind ≡ drop count tokens → length behind < 1 → parts_of n here next tokens ≡ tokens ∷ []
+unfolding parts_of
+parts_none zero count here next tokens behind counted back lt = refl
+parts_none (suc n) count here next tokens [] counted back lt = rw (← counted, ← back) refl
+parts_none (suc n) count here next tokens (token ∷ behind) counted back lt = absurd (omega arith)
+
+pub parts_over : (n i : ℕ) (here next : Terminal) (tokens : List Token) → n ≤ i → parts_of (n - i) here next tokens ≡ tokens ∷ []
+unfolding parts_of
+parts_over n i here next tokens le = let k : n - i ≡ 0 = omega arith in rw k refl
+
+pub parts_end : (n : ℕ) (here next : Terminal) (front : List (Bor (List Token))) (last : Bor (List Token)) (total : List (List Token))
+    → parts_of n here next last.now ≡ last.now ∷ [] → map now front ++ parts_of n here next last.now ≡ total → map now (front ++ last ∷ []) ≡ total
+parts_end n here next front last total e so_far = rw (map_push now front last) (ap (λ ys. map now front ++ ys) (sym e) ∙ so_far)
