@@ -16,28 +16,28 @@ and_some : (tokens behind : List Token) (more : List Token → List (List Token)
 and_some tokens [] more le = absurd (omega arith)
 and_some tokens (token ∷ behind) more le = ap more (sym (behind_one token behind))
 
-pub parts_more : (n i count : ℕ) (here next : Terminal) (front : List (Bor (List Token))) (part : Bor (List Token)) (rest behind : List Token) (total : List (List Token))
-    → i < n → count ≡ part_from here 0 0 rest → part.now ≡ take count rest → behind ≡ drop count rest → 1 ≤ length behind
-    → map now front ++ parts_of (n - i) here next rest ≡ total
-    → map now (front ++ part ∷ []) ++ parts_of (n - (i + 1)) next here (take (length behind - 1) (drop 1 behind)) ≡ total
+pub parts_more : (n i count : ℕ) (first next : Terminal) (front : List (Bor (List Token))) (part : Bor (List Token)) (rest behind : List Token) (total : List (List Token))
+    → i < n → count ≡ part_from first 0 0 rest → part.now ≡ take count rest → behind ≡ drop count rest → 1 ≤ length behind
+    → map now front ++ parts_of (n - i) first next rest ≡ total
+    → map now (front ++ part ∷ []) ++ parts_of (n - (i + 1)) next first (take (length behind - 1) (drop 1 behind)) ≡ total
 unfolding parts_of
-parts_more n i count here next front part rest behind total lt counted first back le so_far =
+parts_more n i count first next front part rest behind total lt counted front_is back le so_far =
     let k : n - i ≡ suc (n - (i + 1)) = omega arith in
-    let after = parts_of (n - (i + 1)) next here (take (length behind - 1) (drop 1 behind)) in
-    let one : parts_of (n - i) here next rest ≡ take count rest ∷ after =
-    rw (k, ← counted, ← back) (and_some rest behind (λ b. take count rest ∷ parts_of (n - (i + 1)) next here b) le) in
-    rw (map_push now front part, append_assoc (map now front) (part.now ∷ []) after, first) (ap (λ ys. map now front ++ ys) (sym one) ∙ so_far)
+    let after = parts_of (n - (i + 1)) next first (take (length behind - 1) (drop 1 behind)) in
+    let one : parts_of (n - i) first next rest ≡ take count rest ∷ after =
+    rw (k, ← counted, ← back) (and_some rest behind (λ b. take count rest ∷ parts_of (n - (i + 1)) next first b) le) in
+    rw (map_push now front part, append_assoc (map now front) (part.now ∷ []) after, front_is) (ap (λ ys. map now front ++ ys) (sym one) ∙ so_far)
 
-pub parts_none : (n count : ℕ) (here next : Terminal) (tokens behind : List Token) → count ≡ part_from here 0 0 tokens → behind ≡ drop count tokens → length behind < 1 → parts_of n here next tokens ≡ tokens ∷ []
+pub parts_none : (n count : ℕ) (first next : Terminal) (tokens behind : List Token) → count ≡ part_from first 0 0 tokens → behind ≡ drop count tokens → length behind < 1 → parts_of n first next tokens ≡ tokens ∷ []
 unfolding parts_of
-parts_none zero count here next tokens behind counted back lt = refl
-parts_none (suc n) count here next tokens [] counted back lt = rw (← counted, ← back) refl
-parts_none (suc n) count here next tokens (token ∷ behind) counted back lt = absurd (omega arith)
+parts_none zero count first next tokens behind counted back lt = refl
+parts_none (suc n) count first next tokens [] counted back lt = rw (← counted, ← back) refl
+parts_none (suc n) count first next tokens (token ∷ behind) counted back lt = absurd (omega arith)
 
-pub parts_over : (n i : ℕ) (here next : Terminal) (tokens : List Token) → n ≤ i → parts_of (n - i) here next tokens ≡ tokens ∷ []
+pub parts_over : (n i : ℕ) (first next : Terminal) (tokens : List Token) → n ≤ i → parts_of (n - i) first next tokens ≡ tokens ∷ []
 unfolding parts_of
-parts_over n i here next tokens le = let k : n - i ≡ 0 = omega arith in rw k refl
+parts_over n i first next tokens le = let k : n - i ≡ 0 = omega arith in rw k refl
 
-pub parts_end : (n : ℕ) (here next : Terminal) (front : List (Bor (List Token))) (last : Bor (List Token)) (total : List (List Token))
-    → parts_of n here next last.now ≡ last.now ∷ [] → map now front ++ parts_of n here next last.now ≡ total → map now (front ++ last ∷ []) ≡ total
-parts_end n here next front last total e so_far = rw (map_push now front last) (ap (λ ys. map now front ++ ys) (sym e) ∙ so_far)
+pub parts_end : (n : ℕ) (first next : Terminal) (front : List (Bor (List Token))) (last : Bor (List Token)) (total : List (List Token))
+    → parts_of n first next last.now ≡ last.now ∷ [] → map now front ++ parts_of n first next last.now ≡ total → map now (front ++ last ∷ []) ≡ total
+parts_end n first next front last total e so_far = rw (map_push now front last) (ap (λ ys. map now front ++ ys) (sym e) ∙ so_far)

@@ -38,3 +38,11 @@ and_parts tokens (separator ∷ behind) more = more behind
 unfoldable pub parts_of : ℕ → Terminal → Terminal → List Token → List (List Token)
 parts_of zero first second tokens = tokens ∷ []
 parts_of (suc turns) first second tokens = and_parts tokens (behind_part first tokens) (λ behind. first_part first tokens ∷ parts_of turns second first behind)
+
+-- the values of a list, between commas
+abbrev pub values_of : List Token → List (List Token)
+values_of tokens = parts_of (length tokens) m.Comma m.Comma tokens
+
+-- the operand of a CASE, and for each WHEN its value and its result
+abbrev pub arms_of : List Token → List (List Token)
+arms_of tokens = parts_of (length tokens) m.When m.Then tokens

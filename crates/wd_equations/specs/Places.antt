@@ -8,6 +8,7 @@ use Rattle.wd_lex.specs.declared.token.TokenKind.TheVariants as t
 use Rattle.wd_equations.specs.declared.equation.Form.{Form}
 use Rattle.wd_equations.specs.declared.found.Before.{Before}
 use Rattle.wd_equations.specs.declared.found.Before.TheVariants.{Open, Compared, Inside}
+use Rattle.wd_equations.specs.declared.found.Found.{Found}
 
 -- A NOT before what it denies leaves the place as it was. Else it belongs to a test.
 abbrev pub after_not : Before → Before
@@ -46,3 +47,10 @@ pub record Place : Type 0 where
   pub at : Span
   pub parts : List (List Token)
   pub rest : List Token
+
+abbrev pub place : Form → Bool → Span → List (List Token) → List Token → Place
+place form is_not at parts rest = record { form = form; is_not = is_not; at = at; parts = parts; rest = rest }
+
+-- what the code found, as a place
+abbrev pub seen : Found → Place
+seen found = place found.form found.is_not found.at (map (λ part. part.now) found.parts.items) found.rest.now

@@ -1,6 +1,6 @@
 //! What the standard says that a test, a call or a CASE is.
 
-ghost use Rattle.std.specs.Prelude.{◌≡◌, ◌++◌, ◌^◌, ◌<◌, ◌≤◌, OnOk, IfOk};
+ghost use Rattle.std.specs.Prelude.{◌≡◌, ◌++◌, ◌+◌, ◌^◌, ◌<◌, ◌≤◌, OnOk, IfOk};
 ghost use Rattle.wd_equations.specs.Equations as spec;
 ghost use Rattle.wd_equations.specs.Equations.{each, equation};
 
@@ -163,7 +163,7 @@ const FILTER: [Piece; 9] = [
 
 /// What an equation writes for its value of that number, from 0.
 fn arm_of(alloc: Global, arm: Arm, index: usize) -> Result<Vec<Piece>, AllocError>
-    requires { index < 2 ^ 32 }
+    requires { index + 1 < 2 ^ 63 }
     ensures { IfOk result (λ pieces. pieces.items ≡ spec.arm arm index) }
 {
     match arm {
@@ -204,7 +204,7 @@ fn arm_of(alloc: Global, arm: Arm, index: usize) -> Result<Vec<Piece>, AllocErro
 
 /// Adds what an equation writes for so many values.
 fn push_each(pieces: &mut Vec<Piece>, repeated: Arm, count: usize) -> Result<(), AllocError>
-    requires { count ≤ 2 ^ 32 }
+    requires { count < 2 ^ 63 }
     ensures { OnOk result (pieces.new.items ≡ pieces.old.items ++ each repeated 0 count) }
 {
     for index in 0..count {
@@ -216,7 +216,7 @@ fn push_each(pieces: &mut Vec<Piece>, repeated: Arm, count: usize) -> Result<(),
 
 /// `(x = a OR x = b OR ..)`, of so many parts.
 fn among(alloc: Global, count: usize) -> Result<Vec<Piece>, AllocError>
-    requires { count ≤ 2 ^ 32 }
+    requires { count < 2 ^ 63 }
     ensures { IfOk result (λ pieces. pieces.items ≡ spec.among count) }
 {
     let mut pieces = Vec::from_slice(
@@ -235,7 +235,7 @@ fn among(alloc: Global, count: usize) -> Result<Vec<Piece>, AllocError>
 
 /// `CASE WHEN x IS NOT NULL THEN x .. ELSE last END`, of so many parts.
 fn coalesce(alloc: Global, count: usize) -> Result<Vec<Piece>, AllocError>
-    requires { count ≤ 2 ^ 32 }
+    requires { count < 2 ^ 63 }
     ensures { IfOk result (λ pieces. pieces.items ≡ spec.coalesce count) }
 {
     let mut pieces = Vec::from_slice(alloc, &[Mark(Terminal::Case)])?;
@@ -247,7 +247,7 @@ fn coalesce(alloc: Global, count: usize) -> Result<Vec<Piece>, AllocError>
 
 /// `CASE WHEN x = a THEN r .. END`, of so many parts.
 fn simple_case(alloc: Global, count: usize) -> Result<Vec<Piece>, AllocError>
-    requires { count ≤ 2 ^ 32 }
+    requires { count < 2 ^ 63 }
     ensures { IfOk result (λ pieces. pieces.items ≡ spec.simple_case count) }
 {
     let mut pieces = Vec::from_slice(alloc, &[Mark(Terminal::Case)])?;
@@ -258,7 +258,7 @@ fn simple_case(alloc: Global, count: usize) -> Result<Vec<Piece>, AllocError>
 
 /// What is written in place of a form of so many parts.
 pub fn pieces_of(alloc: Global, form: Form, count: usize) -> Result<Vec<Piece>, AllocError>
-    requires { count ≤ 2 ^ 32 }
+    requires { count < 2 ^ 63 }
     ensures { IfOk result (λ pieces. pieces.items ≡ equation form count) }
 {
     match form {

@@ -6,10 +6,13 @@
 //! in its place, as a list of pieces, and `expand` writes the pieces with each part expanded.
 #![tactic(auto)]
 
+mod calls;
 mod equation;
 mod error;
 mod found;
 mod split;
+mod tests;
 mod tokens;
+mod write;
 
 pub use error::ExpandError;
