@@ -1,3 +1,5 @@
+pub mod AddFacts
 pub mod EachFacts
 pub mod PartFacts
 pub mod TerminalFacts
+pub mod WalkFacts
