@@ -1,10 +1,10 @@
 -- Tokens that are added one list after the other.
-use Rattle.std.proofs.Common.{◌≡◌, ◌∙◌, ◌<◌, ◌≤◌, ◌+◌, ◌++◌, ℕ, List, [], ◌∷◌, length, Err, refl, ap, sym, append_assoc, length-append, arith}
+use Rattle.std.proofs.Common.{◌≡◌, ◌∙◌, ◌<◌, ◌++◌, List, [], length, ap, sym, append_assoc, length-append, arith}
 use Rattle.std.proofs.lemmas.List.{append-nil}
 use Rattle.wd_lex.specs.declared.token.Token.{Token}
 use Rattle.wd_equations.specs.declared.error.ExpandError.{ExpandError}
 use Rattle.wd_equations.specs.declared.error.ExpandError.TheVariants as e
-use Rattle.wd_equations.specs.Given.{Adds, most_tokens}
+use Rattle.wd_equations.specs.Given.{Fails, most_tokens}
 
 longer : (mid part rest old total : List Token) → mid ++ (part ++ rest) ≡ old ++ total → most_tokens < length (mid ++ part) → most_tokens < length (old ++ total)
 longer mid part rest old total so_far lt =
@@ -12,9 +12,9 @@ longer mid part rest old total so_far lt =
     omega (arith, lt, same, length-append mid (part ++ rest), length-append part rest, length-append mid part)
 
 -- where a part is too much, so is the whole
-pub adds_fail : {X Y : Type 0} (refusal : ExpandError) (mid new part rest old later total : List Token) → Adds {X} (Err refusal) mid new part → mid ++ (part ++ rest) ≡ old ++ total → Adds {Y} (Err refusal) old later total
-adds_fail e.TooLong mid new part rest old later total h so_far = longer mid part rest old total so_far h
-adds_fail e.OutOfMemory mid new part rest old later total h so_far = tt
+pub adds_fail : (refusal : ExpandError) (mid part rest old total : List Token) → Fails refusal mid part → mid ++ (part ++ rest) ≡ old ++ total → Fails refusal old total
+adds_fail e.TooLong mid part rest old total h so_far = longer mid part rest old total so_far h
+adds_fail e.OutOfMemory mid part rest old total h so_far = tt
 
 -- a part was added, and others are to come
 pub adds_more : (mid new part rest old total : List Token) → new ≡ mid ++ part → mid ++ (part ++ rest) ≡ old ++ total → new ++ rest ≡ old ++ total

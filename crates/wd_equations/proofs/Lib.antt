@@ -1,5 +1,6 @@
 pub mod AddFacts
 pub mod EachFacts
 pub mod PartFacts
+pub mod PieceFacts
 pub mod TerminalFacts
 pub mod WalkFacts

@@ -1,12 +1,12 @@
 -- How the loops over pieces and over tokens go on.
-use Rattle.std.proofs.Common.{◌≡◌, ◌∙◌, ◌<◌, ◌≤◌, ◌+◌, ◌-◌, ◌++◌, ℕ, zero, suc, nat_eq, true, false, List, [], ◌∷◌, length, Err, refl, ap, sym, arith, eqb-true}
+use Rattle.std.proofs.Common.{◌≡◌, ◌∙◌, ◌<◌, ◌≤◌, ◌+◌, ◌-◌, ◌++◌, ℕ, zero, suc, nat_eq, true, false, List, [], ◌∷◌, length, refl, ap, sym, arith, eqb-true}
 use Rattle.std.proofs.lemmas.Bool.{true≢false}
 use Rattle.std.proofs.lemmas.List.{append-nil}
 use Rattle.wd_lex.specs.declared.token.Token.{Token}
 use Rattle.wd_equations.specs.declared.error.ExpandError.{ExpandError}
 use Rattle.wd_equations.specs.declared.found.Before.{Before}
 use Rattle.wd_equations.specs.declared.found.Before.TheVariants.{Open}
-use Rattle.wd_equations.specs.Given.{Adds}
+use Rattle.wd_equations.specs.Given.{Fails}
 use Rattle.wd_equations.specs.Expanded.{Step, step, walked}
 use Rattle.wd_equations.proofs.AddFacts.{adds_fail, adds_more}
 
@@ -43,8 +43,8 @@ walk_more turns turn before next tokens rest old mid new total lt some added is_
     let s = turn_step turns turn before tokens in
     rw (is_next, is_rest) (adds_more mid new s.0 (walked (turns - (turn + 1)) s.1 s.2) old total added (ap (λ ys. mid ++ ys) (sym (walked_more turns turn before tokens lt some)) ∙ so_far))
 
-pub walk_fail : {X Y : Type 0} (refusal : ExpandError) (turns turn : ℕ) (before : Before) (tokens old mid new later total : List Token) → turn < turns → nat_eq (length tokens) 0 ≡ false
-    → Adds {X} (Err refusal) mid new (turn_step turns turn before tokens).0 → mid ++ walked (turns - turn) before tokens ≡ old ++ total → Adds {Y} (Err refusal) old later total
-walk_fail refusal turns turn before tokens old mid new later total lt some added so_far =
+pub walk_fail : (refusal : ExpandError) (turns turn : ℕ) (before : Before) (tokens old mid total : List Token) → turn < turns → nat_eq (length tokens) 0 ≡ false
+    → Fails refusal mid (turn_step turns turn before tokens).0 → mid ++ walked (turns - turn) before tokens ≡ old ++ total → Fails refusal old total
+walk_fail refusal turns turn before tokens old mid total lt some added so_far =
     let s = turn_step turns turn before tokens in
-    adds_fail refusal mid new s.0 (walked (turns - (turn + 1)) s.1 s.2) old later total added (ap (λ ys. mid ++ ys) (sym (walked_more turns turn before tokens lt some)) ∙ so_far)
+    adds_fail refusal mid s.0 (walked (turns - (turn + 1)) s.1 s.2) old total added (ap (λ ys. mid ++ ys) (sym (walked_more turns turn before tokens lt some)) ∙ so_far)

@@ -1,6 +1,6 @@
 -- Which test stands after an operand, and of which parts.
 use Rattle.std.specs.Str.{bytes_eq}
-use Rattle.std.specs.Prelude.{ℕ, ◌||◌, not, codes, Bool, true, false, if◌then◌else◌, List, [], ◌∷◌, length, Option, Some, None}
+use Rattle.std.specs.Prelude.{◌||◌, not, codes, Bool, true, false, if◌then◌else◌, List, [], ◌∷◌, Option, Some, None}
 use Rattle.wd_lex.specs.declared.token.Terminal.TheVariants as m
 use Rattle.wd_lex.specs.declared.token.Span.{Span}
 use Rattle.wd_lex.specs.declared.token.Token.{Token}

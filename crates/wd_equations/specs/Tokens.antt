@@ -1,6 +1,6 @@
 -- Single tokens, and what stands at the start of tokens.
 use Rattle.std.specs.Str.{bytes_eq}
-use Rattle.std.specs.Prelude.{ℕ, ◌-◌, ◌==◌, nat_lt, codes, Bool, true, false, if◌then◌else◌, List, [], ◌∷◌, take, drop, Option, Some, None, option_and_then}
+use Rattle.std.specs.Prelude.{ℕ, ◌-◌, ◌==◌, nat_lt, Bool, true, false, if◌then◌else◌, List, [], ◌∷◌, take, drop, Option, Some, None}
 use Rattle.wd_lex.specs.declared.token.Terminal.{Terminal}
 use Rattle.wd_lex.specs.declared.token.Terminal.TheVariants as m
 use Rattle.wd_lex.specs.declared.token.Token.{Token}
