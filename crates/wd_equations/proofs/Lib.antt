@@ -4,3 +4,4 @@ pub mod PartFacts
 pub mod PieceFacts
 pub mod TerminalFacts
 pub mod WalkFacts
+pub mod Worked

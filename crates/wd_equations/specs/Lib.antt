@@ -1,5 +1,6 @@
 pub mod Calls
 pub mod Equations
+pub mod Examples
 pub mod Expanded
 pub mod Given
 pub mod Parts

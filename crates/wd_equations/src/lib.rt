@@ -11,6 +11,7 @@ mod equation;
 mod error;
 mod expansion;
 mod found;
+pub mod laws;
 mod split;
 mod tests;
 mod tokens;
