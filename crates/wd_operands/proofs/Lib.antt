@@ -1,2 +1,3 @@
-pub mod Opened
 pub mod LinkFacts
+pub mod Opened
+pub mod Worked

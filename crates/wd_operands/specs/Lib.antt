@@ -1,3 +1,4 @@
+pub mod Examples
 pub mod Nests
 pub mod Opened
 pub mod Operands

@@ -3,6 +3,7 @@
 //! `nest` says where a bracket is closed, and `operand` how far an arithmetic operand goes.
 #![tactic(auto)]
 
+pub mod laws;
 mod nest;
 mod operand;
 mod primary;

@@ -1,0 +1,8 @@
+//! Laws of lengths, over the definitions alone.
+
+ghost use Rattle.wd_operands.specs.Examples.{OperandsComeOut};
+
+/// Worked brackets and operands: how many tokens they take.
+pub fn operands_come_out()
+    ensures { OperandsComeOut }
+{}
