@@ -1,0 +1,46 @@
+-- Derived tables in place of the tables of a name.
+use Rattle.std.specs.Prelude.{ℕ, ◌+◌, ◌&&◌, not, if◌then◌else◌, Bool, true, false, List, [], ◌∷◌, ◌++◌}
+use Rattle.wd_lex.specs.declared.token.Terminal.{Terminal}
+use Rattle.wd_lex.specs.declared.token.Terminal.TheVariants as m
+use Rattle.wd_lex.specs.declared.token.TokenKind.{TokenKind}
+use Rattle.wd_lex.specs.declared.token.TokenKind.TheVariants as t
+use Rattle.wd_lex.specs.declared.token.Token.{Token}
+use Rattle.wd_with.specs.declared.place.Place.{Place}
+use Rattle.wd_with.specs.Places.{is_table, levels_after}
+use Rattle.wd_with.specs.Members.{NamedQuery, begins, is_as, is_name, is_same_name}
+
+-- a terminal that is added because of a word
+abbrev pub added : Terminal → Token → Token
+added terminal word = record { kind = t.Terminal terminal; span = word.span }
+
+-- a name goes on after a dot, and before a bracket it is a function's
+abbrev pub goes_on : TokenKind → Bool
+goes_on (t.Terminal m.Dot) = true
+goes_on (t.Terminal m.LeftBracket) = true
+goes_on _ = false
+
+-- a member is read there: its bare name stands where a table stands
+abbrev pub is_read : NamedQuery → List Place → Token → List Token → Bool
+is_read member levels token after = is_table levels && is_same_name member.name.kind token.kind && not (begins goes_on after)
+
+-- the alias of a derived table that stands for a table: its own where it has one, else the table's name
+abbrev pub alias : Token → List Token → List Token
+alias table after = if begins is_as after then [] else (if begins is_name after then added m.As table ∷ [] else added m.As table ∷ table ∷ [])
+
+-- ( query ) [AS [name]], before what follows the table's name
+abbrev pub derived : List Token → Token → List Token → List Token
+derived query table after = added m.LeftBracket table ∷ query ++ added m.RightBracket table ∷ alias table after
+
+-- what stands for a token
+abbrev pub written : NamedQuery → List Place → Token → List Token → List Token
+written member levels token after = if is_read member levels token after then derived member.query token after else token ∷ []
+
+-- tokens with the member's query in place of each table of its name
+unfoldable pub replaced : NamedQuery → List Place → List Token → List Token
+replaced member levels [] = []
+replaced member levels (token ∷ after) = written member levels token after ++ replaced member (levels_after levels token.kind) after
+
+-- how often the member is read
+unfoldable pub uses : NamedQuery → List Place → List Token → ℕ
+uses member levels [] = 0
+uses member levels (token ∷ after) = (if is_read member levels token after then 1 else 0) + uses member (levels_after levels token.kind) after

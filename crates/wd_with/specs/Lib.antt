@@ -1,0 +1,6 @@
+pub mod Places
+pub mod Members
+pub mod Named
+pub mod Derived
+pub mod Given
+pub mod Expanded

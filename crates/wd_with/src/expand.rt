@@ -1,0 +1,81 @@
+//! A query without its WITH clause.
+
+ghost use Rattle.std.specs.Prelude.{◌≡◌, map, IfOk};
+ghost use Rattle.wd_with.specs.Expanded as spec;
+ghost use Rattle.wd_with.specs.Given.{Makes};
+ghost use Rattle.wd_with.specs.Named.{named_query};
+
+use crate::derived::replaced;
+use crate::error::WithError;
+use crate::member::{Member, are_distinct, is_with, members_at};
+use crate::write::{copied, copy_token};
+use std::alloc::Global;
+use wd_lex::Token;
+
+/// A query without its WITH clause.
+#[derive(Drop)]
+pub struct Expanded {
+    pub tokens: Vec<Token>,
+    /// The names of the members that are read more than once, the last first.
+    pub read_twice: Vec<Token>,
+}
+
+/// A query as it stands.
+fn unchanged(alloc: Global, tokens: &[Token]) -> Result<Expanded, WithError>
+    ensures { Makes spec.said (λ s. s.tokens) result (spec.unchanged tokens.now) }
+{
+    Ok(Expanded {
+        tokens: copied(alloc, tokens)?,
+        read_twice: Vec::new(alloc),
+    })
+}
+
+/// A query without one member.
+fn taken_out(alloc: Global, member: &Member, query: Expanded) -> Result<Expanded, WithError>
+    ensures { Makes spec.said (λ s. s.tokens) result (spec.taken_out (named_query member.now) (spec.said query)) }
+{
+    let Expanded {
+        tokens,
+        mut read_twice,
+    } = query;
+    let found = replaced(alloc, member, &tokens)?;
+    if found.uses >= 2 {
+        read_twice.push(copy_token(member.name)?)?;
+    }
+    Ok(Expanded {
+        tokens: found.tokens,
+        read_twice,
+    })
+}
+
+/// A query without the members that stand before it.
+fn without(alloc: Global, mut members: Vec<Member>, query: &[Token]) -> Result<Expanded, WithError>
+    ensures { Makes spec.said (λ s. s.tokens) result (spec.without (map named_query members.entry.items) (spec.unchanged query.now)) }
+{
+    let mut expanded = unchanged(alloc, query)?;
+    while let Some(member) = members.pop() {
+        expanded = taken_out(alloc, &member, expanded)?;
+    }
+    Ok(expanded)
+}
+
+/// A query without its WITH clause, where one that is read begins it; another query stays as it is.
+pub fn without_with(alloc: Global, tokens: &[Token]) -> Result<Expanded, WithError>
+    ensures { Makes spec.said (λ s. s.tokens) result (spec.expanded tokens.now) }
+{
+    let [first, rest @ ..] = tokens else {
+        return unchanged(alloc, tokens);
+    };
+    if !is_with(&first.kind) {
+        return unchanged(alloc, tokens);
+    }
+    match members_at(alloc, rest)? {
+        Some((members, query)) => {
+            if are_distinct(&members) {
+                return without(alloc, members, query);
+            }
+            unchanged(alloc, tokens)
+        }
+        None => unchanged(alloc, tokens),
+    }
+}

@@ -1,0 +1,14 @@
+//! WITH by derived tables: `WITH a AS ( q ) ..` is what follows with `( q ) AS a` in place of each table `a`. `member` reads
+//! the members, `place` finds the tables of a query, `derived` writes the derived tables, and `expand` takes the members out,
+//! the last one first.
+#![tactic(auto)]
+
+mod derived;
+mod error;
+mod expand;
+mod member;
+mod place;
+mod write;
+
+pub use error::WithError;
+pub use expand::{Expanded, without_with};

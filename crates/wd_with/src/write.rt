@@ -1,0 +1,71 @@
+//! Tokens that are written behind others, at most 65,536 in all.
+
+ghost use Rattle.std.specs.Prelude.{◌≡◌, ◌∷◌, [], IfOk};
+ghost use Rattle.wd_with.specs.Given.{Makes, Writes};
+ghost use Rattle.wd_with.specs.Derived as spec;
+
+use crate::error::WithError;
+use std::alloc::{AllocError, Global};
+use wd_lex::{Terminal, Token, TokenKind};
+
+// The most tokens of a query.
+const MOST_TOKENS: usize = 65_536;
+
+/// An equal token.
+pub fn copy_token(token: &Token) -> Result<Token, AllocError>
+    ensures { IfOk result (λ t. t ≡ token.now) }
+{
+    let kind = match &token.kind {
+        TokenKind::Terminal(terminal) => TokenKind::Terminal(*terminal),
+        TokenKind::Word(text) => TokenKind::Word(text.copy()?),
+        TokenKind::Quoted(text) => TokenKind::Quoted(text.copy()?),
+        TokenKind::Literal(text) => TokenKind::Literal(text.copy()?),
+        TokenKind::Number(number) => TokenKind::Number(*number),
+    };
+    Ok(Token {
+        kind,
+        span: token.span,
+    })
+}
+
+/// A terminal that is added because of a word.
+pub fn added(terminal: Terminal, word: &Token) -> Token
+    ensures { result ≡ spec.added terminal word.now }
+{
+    Token {
+        kind: TokenKind::Terminal(terminal),
+        span: word.span,
+    }
+}
+
+/// Adds a token, if there is room for it.
+pub fn add(written: &mut Vec<Token>, token: Token) -> Result<(), WithError>
+    ensures { Writes written.old.items written.new.items result (token ∷ []) }
+{
+    if written.len() >= MOST_TOKENS {
+        return Err(WithError::TooLong);
+    }
+    written.push(token)?;
+    Ok(())
+}
+
+/// Adds copies of tokens.
+pub fn add_all(written: &mut Vec<Token>, tokens: &[Token]) -> Result<(), WithError>
+    ensures { Writes written.old.items written.new.items result tokens.now }
+{
+    let mut rest = tokens;
+    while let [first, after @ ..] = rest {
+        add(written, copy_token(first)?)?;
+        rest = after;
+    }
+    Ok(())
+}
+
+/// Copies of tokens.
+pub fn copied(alloc: Global, tokens: &[Token]) -> Result<Vec<Token>, WithError>
+    ensures { Makes (λ x. x.items) (λ x. x) result tokens.now }
+{
+    let mut written = Vec::new(alloc);
+    add_all(&mut written, tokens)?;
+    Ok(written)
+}
