@@ -1,7 +1,7 @@
 -- No query grows shorter where members are taken out.
 use Rattle.std.proofs.Common.{◌≤◌, List, [], ◌∷◌, length, Bool, true, false, if◌then◌else◌, arith, length-append, Err}
-use Rattle.wd_with.specs.declared.error.WithError.{WithError}
-use Rattle.wd_with.specs.declared.error.WithError.TheVariants.{TooLong, OutOfMemory}
+use Rattle.wd_clauses.specs.declared.error.RespellError.{RespellError}
+use Rattle.wd_clauses.specs.declared.error.RespellError.TheVariants.{TooLong, OutOfMemory}
 use Rattle.wd_lex.specs.declared.token.Token.{Token}
 use Rattle.wd_with.specs.declared.place.Place.{Place}
 use Rattle.wd_with.specs.declared.place.Place.TheVariants.{Elsewhere}
@@ -9,7 +9,7 @@ use Rattle.wd_with.specs.Places.{levels_after}
 use Rattle.wd_with.specs.Members.{NamedQuery}
 use Rattle.wd_with.specs.Derived.{derived, is_read, replaced, written}
 use Rattle.wd_with.specs.Expanded.{Said, said, without}
-use Rattle.wd_with.specs.Given.{Makes}
+use Rattle.wd_clauses.specs.Given.{Makes}
 
 written_length : (is : Bool) (query : List Token) (token : Token) (after : List Token) → 1 ≤ length (if is then derived query token after else token ∷ [])
 written_length true query token after = omega (arith, length-append {A = Token})
@@ -30,6 +30,6 @@ without_length (member ∷ members) query =
     omega (arith, replaced_length member (Elsewhere ∷ []) (without members query).tokens)
 
 -- what is too long stays so where more is written
-pub makes_longer : (e : WithError) (small big : Said) → length small.tokens ≤ length big.tokens → Makes said (λ s. s.tokens) (Err e) small → Makes said (λ s. s.tokens) (Err e) big
+pub makes_longer : (e : RespellError) (small big : Said) → length small.tokens ≤ length big.tokens → Makes said (λ s. s.tokens) (Err e) small → Makes said (λ s. s.tokens) (Err e) big
 makes_longer TooLong small big le h = omega arith
 makes_longer OutOfMemory small big le h = tt

@@ -2,7 +2,7 @@
 use Rattle.std.proofs.Common.{◌≡◌, ◌<◌, ◌≤◌, ◌-◌, ◌+◌, ◌++◌, ℕ, suc, List, [], ◌∷◌, Some, None, refl, ap, sym, ◌∙◌, arith, append_assoc, map}
 use Rattle.std.proofs.lemmas.List.{map_push}
 use Rattle.wd_lex.specs.declared.token.Token.{Token}
-use Rattle.wd_with.specs.Members.{NamedQuery, Members, behind, past_comma, member_at, members_at, with_front}
+use Rattle.wd_with.specs.Members.{NamedQuery, Members, past_comma, member_at, members_at, with_front}
 use Rattle.wd_with.specs.declared.member.Member.{Member}
 use Rattle.wd_with.specs.Named.{named_query}
 use Rattle.wd_with.specs.Expanded.{Said, taken_out, without}
@@ -10,6 +10,11 @@ use Rattle.wd_with.specs.Expanded.{Said, taken_out, without}
 pub without-push : (members : List NamedQuery) (member : NamedQuery) (query : Said) → without (members ++ member ∷ []) query ≡ without members (taken_out member query)
 without-push [] member query = refl
 without-push (first ∷ members) member query = ap (taken_out first) (without-push members member query)
+
+-- those after others
+abbrev pub behind : List NamedQuery → Members → Members
+behind front None = None
+behind front (Some found) = Some (front ++ found.0, found.1)
 
 behind_front : (front : List NamedQuery) (member : NamedQuery) (found : Members) → behind front (with_front member found) ≡ behind (front ++ member ∷ []) found
 behind_front front member None = refl

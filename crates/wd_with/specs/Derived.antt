@@ -1,17 +1,14 @@
 -- Derived tables in place of the tables of a name.
 use Rattle.std.specs.Prelude.{ℕ, ◌+◌, ◌&&◌, not, if◌then◌else◌, Bool, true, false, List, [], ◌∷◌, ◌++◌}
-use Rattle.wd_lex.specs.declared.token.Terminal.{Terminal}
 use Rattle.wd_lex.specs.declared.token.Terminal.TheVariants as m
 use Rattle.wd_lex.specs.declared.token.TokenKind.{TokenKind}
 use Rattle.wd_lex.specs.declared.token.TokenKind.TheVariants as t
 use Rattle.wd_lex.specs.declared.token.Token.{Token}
 use Rattle.wd_with.specs.declared.place.Place.{Place}
 use Rattle.wd_with.specs.Places.{is_table, levels_after}
-use Rattle.wd_with.specs.Members.{NamedQuery, begins, is_as, is_name, is_same_name}
-
--- a terminal that is added because of a word
-abbrev pub added : Terminal → Token → Token
-added terminal word = record { kind = t.Terminal terminal; span = word.span }
+use Rattle.wd_with.specs.Members.{NamedQuery, begins, is_as}
+use Rattle.wd_clauses.specs.Added.{added}
+use Rattle.wd_clauses.specs.Names.{is_name, is_same_name}
 
 -- a name goes on after a dot, and before a bracket it is a function's
 abbrev pub goes_on : TokenKind → Bool

@@ -2,5 +2,4 @@ pub mod Places
 pub mod Members
 pub mod Named
 pub mod Derived
-pub mod Given
 pub mod Expanded

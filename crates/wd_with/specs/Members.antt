@@ -1,33 +1,16 @@
 -- The members of a WITH clause: a name, AS, and a query in brackets. RECURSIVE, MATERIALIZED and names of columns are not read.
-use Rattle.std.specs.Prelude.{ℕ, zero, suc, ◌+◌, ◌-◌, ◌==◌, ◌&&◌, if◌then◌else◌, Bool, true, false, List, [], ◌∷◌, ◌++◌, take, drop, Option, Some, None}
-use Rattle.std.specs.Str.{bytes_eq}
+use Rattle.std.specs.Prelude.{ℕ, zero, suc, ◌+◌, ◌&&◌, if◌then◌else◌, Bool, true, false, List, [], ◌∷◌, take, drop, Option, Some, None}
 use Rattle.wd_lex.specs.declared.token.Terminal.TheVariants as m
 use Rattle.wd_lex.specs.declared.token.TokenKind.{TokenKind}
 use Rattle.wd_lex.specs.declared.token.TokenKind.TheVariants as t
 use Rattle.wd_lex.specs.declared.token.Token.{Token}
+use Rattle.wd_clauses.specs.Names.{is_name, is_same_name}
+use Rattle.wd_clauses.specs.Reach.{closing, is_comma, opens}
 
 -- a query by its name
 pub record NamedQuery : Type 0 where
   pub name : Token
   pub query : List Token
-
--- a name, quoted or not
-abbrev pub is_name : TokenKind → Bool
-is_name (t.Word text) = true
-is_name (t.Quoted text) = true
-is_name _ = false
-
--- the bytes are that name
-abbrev pub is_named : List ℕ → TokenKind → Bool
-is_named bytes (t.Word text) = bytes_eq bytes text
-is_named bytes (t.Quoted text) = bytes_eq bytes text
-is_named bytes _ = false
-
--- two names are one: quoted or not, their bytes are the same
-abbrev pub is_same_name : TokenKind → TokenKind → Bool
-is_same_name (t.Word text) kind = is_named text kind
-is_same_name (t.Quoted text) kind = is_named text kind
-is_same_name _ kind = false
 
 abbrev pub is_as : TokenKind → Bool
 is_as (t.Terminal m.As) = true
@@ -37,38 +20,11 @@ abbrev pub is_with : TokenKind → Bool
 is_with (t.Terminal m.With) = true
 is_with _ = false
 
-abbrev pub is_comma : TokenKind → Bool
-is_comma (t.Terminal m.Comma) = true
-is_comma _ = false
-
-abbrev pub closes : TokenKind → Bool
-closes (t.Terminal m.RightBracket) = true
-closes _ = false
-
-abbrev pub opens : TokenKind → Bool
-opens (t.Terminal m.LeftBracket) = true
-opens _ = false
-
 -- SELECT or WITH begins a query
 abbrev pub is_query : TokenKind → Bool
 is_query (t.Terminal m.Select) = true
 is_query (t.Terminal m.With) = true
 is_query _ = false
-
--- how many brackets are open after a token
-abbrev pub depth_after : ℕ → TokenKind → ℕ
-depth_after depth (t.Terminal m.LeftBracket) = depth + 1
-depth_after depth (t.Terminal m.RightBracket) = depth - 1
-depth_after depth _ = depth
-
--- the place of the bracket that closes what holds these tokens, of which the first has that place; so many brackets are open
-unfoldable pub closing_from : ℕ → ℕ → List Token → Option ℕ
-closing_from depth place [] = None
-closing_from depth place (token ∷ tokens) =
-    if closes token.kind && depth == 0 then Some place else closing_from (depth_after depth token.kind) (place + 1) tokens
-
-abbrev pub closing : List Token → Option ℕ
-closing tokens = closing_from 0 0 tokens
 
 abbrev pub begins : (TokenKind → Bool) → List Token → Bool
 begins test [] = false
@@ -96,11 +52,6 @@ Members = Option (List NamedQuery × List Token)
 abbrev pub with_front : NamedQuery → Members → Members
 with_front member None = None
 with_front member (Some found) = Some (member ∷ found.0, found.1)
-
--- those after others
-abbrev pub behind : List NamedQuery → Members → Members
-behind front None = None
-behind front (Some found) = Some (front ++ found.0, found.1)
 
 -- the tokens after a comma, where it stands first
 abbrev pub past_comma : List Token → Option (List Token)

@@ -3,15 +3,15 @@
 ghost use Rattle.std.specs.Prelude.{◌≡◌, ◌∷◌, [], IfOk, if◌then◌else◌, reverse};
 ghost use Rattle.wd_with.specs.declared.place.Place.TheVariants.{Elsewhere};
 ghost use Rattle.wd_with.specs.Derived as spec;
-ghost use Rattle.wd_with.specs.Given.{Makes, Writes};
-ghost use Rattle.wd_with.specs.Members.{begins, is_as, is_name};
+ghost use Rattle.wd_clauses.specs.Given.{Makes, Writes};
+ghost use Rattle.wd_with.specs.Members.{begins, is_as};
+ghost use Rattle.wd_clauses.specs.Names.{is_name};
 ghost use Rattle.wd_with.specs.Named.{named_query};
 
-use crate::error::WithError;
-use crate::member::{Member, is_as, is_name, is_same_name};
+use crate::member::{Member, is_as};
 use crate::place::{Place, is_table, pass};
-use crate::write::{add, add_all, added, copy_token};
 use std::alloc::Global;
+use wd_clauses::{RespellError, add, add_all, added, copy_token, is_name, is_same_name};
 use wd_lex::{Terminal, Token, TokenKind};
 
 /// A query with a derived table in place of each table of a name, and how many those are.
@@ -62,7 +62,7 @@ fn is_read(member: &Member, levels: &[Place], token: &Token, after: &[Token]) ->
 }
 
 /// Adds the alias of a derived table that stands for a table.
-fn add_alias(written: &mut Vec<Token>, table: &Token, after: &[Token]) -> Result<(), WithError>
+fn add_alias(written: &mut Vec<Token>, table: &Token, after: &[Token]) -> Result<(), RespellError>
     ensures { Writes written.old.items written.new.items result (spec.alias table.now after.now) }
 {
     if begins_as(after) {
@@ -82,7 +82,7 @@ fn add_derived(
     query: &[Token],
     table: &Token,
     after: &[Token],
-) -> Result<(), WithError>
+) -> Result<(), RespellError>
     ensures { Writes written.old.items written.new.items result (spec.derived query.now table.now after.now) }
 {
     add(written, added(Terminal::LeftBracket, table))?;
@@ -99,7 +99,7 @@ fn add_written(
     query: &[Token],
     token: &Token,
     after: &[Token],
-) -> Result<(), WithError>
+) -> Result<(), RespellError>
     ensures { Writes written.old.items written.new.items result (if is_read then spec.derived query.now token.now after.now else token.now ∷ []) }
 {
     if is_read {
@@ -112,7 +112,7 @@ fn add_written(
 
 /// A query with the member's query in place of each table of its name.
 #[tactic(auto, unfolding(crate::specs::Derived::replaced, crate::specs::Derived::uses))]
-pub fn replaced(alloc: Global, member: &Member, tokens: &[Token]) -> Result<Respelled, WithError>
+pub fn replaced(alloc: Global, member: &Member, tokens: &[Token]) -> Result<Respelled, RespellError>
     ensures tokens { Makes (λ x. x.tokens.items) (λ x. x) result (spec.replaced (named_query member.now) (Elsewhere ∷ []) tokens.now) }
     ensures uses { IfOk result (λ x. x.uses ≡ spec.uses (named_query member.now) (Elsewhere ∷ []) tokens.now) }
 {

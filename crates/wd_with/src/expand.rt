@@ -2,14 +2,13 @@
 
 ghost use Rattle.std.specs.Prelude.{◌≡◌, map, IfOk};
 ghost use Rattle.wd_with.specs.Expanded as spec;
-ghost use Rattle.wd_with.specs.Given.{Makes};
+ghost use Rattle.wd_clauses.specs.Given.{Makes};
 ghost use Rattle.wd_with.specs.Named.{named_query};
 
 use crate::derived::replaced;
-use crate::error::WithError;
 use crate::member::{Member, are_distinct, is_with, members_at};
-use crate::write::{copied, copy_token};
 use std::alloc::Global;
+use wd_clauses::{RespellError, copied, copy_token};
 use wd_lex::Token;
 
 /// A query without its WITH clause.
@@ -21,7 +20,7 @@ pub struct Expanded {
 }
 
 /// A query as it stands.
-fn unchanged(alloc: Global, tokens: &[Token]) -> Result<Expanded, WithError>
+fn unchanged(alloc: Global, tokens: &[Token]) -> Result<Expanded, RespellError>
     ensures { Makes spec.said (λ s. s.tokens) result (spec.unchanged tokens.now) }
 {
     Ok(Expanded {
@@ -31,7 +30,7 @@ fn unchanged(alloc: Global, tokens: &[Token]) -> Result<Expanded, WithError>
 }
 
 /// A query without one member.
-fn taken_out(alloc: Global, member: &Member, query: Expanded) -> Result<Expanded, WithError>
+fn taken_out(alloc: Global, member: &Member, query: Expanded) -> Result<Expanded, RespellError>
     ensures { Makes spec.said (λ s. s.tokens) result (spec.taken_out (named_query member.now) (spec.said query)) }
 {
     let Expanded {
@@ -49,7 +48,11 @@ fn taken_out(alloc: Global, member: &Member, query: Expanded) -> Result<Expanded
 }
 
 /// A query without the members that stand before it.
-fn without(alloc: Global, mut members: Vec<Member>, query: &[Token]) -> Result<Expanded, WithError>
+fn without(
+    alloc: Global,
+    mut members: Vec<Member>,
+    query: &[Token],
+) -> Result<Expanded, RespellError>
     ensures { Makes spec.said (λ s. s.tokens) result (spec.without (map named_query members.entry.items) (spec.unchanged query.now)) }
 {
     let mut expanded = unchanged(alloc, query)?;
@@ -60,7 +63,7 @@ fn without(alloc: Global, mut members: Vec<Member>, query: &[Token]) -> Result<E
 }
 
 /// A query without its WITH clause, where one that is read begins it; another query stays as it is.
-pub fn without_with(alloc: Global, tokens: &[Token]) -> Result<Expanded, WithError>
+pub fn without_with(alloc: Global, tokens: &[Token]) -> Result<Expanded, RespellError>
     ensures { Makes spec.said (λ s. s.tokens) result (spec.expanded tokens.now) }
 {
     let [first, rest @ ..] = tokens else {

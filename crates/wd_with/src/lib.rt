@@ -4,11 +4,8 @@
 #![tactic(auto)]
 
 mod derived;
-mod error;
 mod expand;
 mod member;
 mod place;
-mod write;
 
-pub use error::WithError;
 pub use expand::{Expanded, without_with};

@@ -1,11 +1,13 @@
 //! The members of a WITH clause.
 
-ghost use Rattle.std.specs.Prelude.{◌≡◌, ◌+◌, ◌<◌, ◌^◌, length, map, IfOk, IfSome, Some, None};
-ghost use Rattle.std.specs.Option.{option_map};
+ghost use Rattle.std.specs.Prelude.{◌≡◌, map, IfOk};
+ghost use Rattle.wd_clauses.specs.Reach as reach;
+ghost use Rattle.wd_clauses.specs.Given.{Finds};
 ghost use Rattle.wd_with.specs.Members as spec;
-ghost use Rattle.wd_with.specs.Named.{Finds, named_query};
+ghost use Rattle.wd_with.specs.Named.{named_query};
 
 use std::alloc::{AllocError, Global};
+use wd_clauses::{closing, is_name, is_same_name};
 use wd_lex::{Terminal, Token, TokenKind};
 
 /// A query by its name.
@@ -13,33 +15,6 @@ use wd_lex::{Terminal, Token, TokenKind};
 pub struct Member<'t> {
     pub name: &'t Token,
     pub query: &'t [Token],
-}
-
-/// Whether a token is a name, quoted or not.
-pub fn is_name(kind: &TokenKind) -> bool
-    ensures { result ≡ spec.is_name kind.now }
-{
-    matches!(kind, TokenKind::Word(_) | TokenKind::Quoted(_))
-}
-
-/// Whether a token is that name.
-fn is_named(bytes: &[u8], kind: &TokenKind) -> bool
-    ensures { result ≡ spec.is_named bytes.now kind.now }
-{
-    match kind {
-        TokenKind::Word(text) | TokenKind::Quoted(text) => bytes == text.as_bytes(),
-        _ => false,
-    }
-}
-
-/// Whether two tokens are one name.
-pub fn is_same_name(name: &TokenKind, kind: &TokenKind) -> bool
-    ensures { result ≡ spec.is_same_name name.now kind.now }
-{
-    match name {
-        TokenKind::Word(text) | TokenKind::Quoted(text) => is_named(text.as_bytes(), kind),
-        _ => false,
-    }
 }
 
 pub fn is_as(kind: &TokenKind) -> bool
@@ -55,21 +30,15 @@ pub fn is_with(kind: &TokenKind) -> bool
 }
 
 fn is_comma(kind: &TokenKind) -> bool
-    ensures { result ≡ spec.is_comma kind.now }
+    ensures { result ≡ reach.is_comma kind.now }
 {
     matches!(kind, TokenKind::Terminal(Terminal::Comma))
 }
 
 fn opens(kind: &TokenKind) -> bool
-    ensures { result ≡ spec.opens kind.now }
+    ensures { result ≡ reach.opens kind.now }
 {
     matches!(kind, TokenKind::Terminal(Terminal::LeftBracket))
-}
-
-fn closes(kind: &TokenKind) -> bool
-    ensures { result ≡ spec.closes kind.now }
-{
-    matches!(kind, TokenKind::Terminal(Terminal::RightBracket))
 }
 
 /// Whether SELECT or WITH stands first.
@@ -83,38 +52,6 @@ fn begins_query(tokens: &[Token]) -> bool
         ),
         [] => false,
     }
-}
-
-/// How many brackets are open after a token.
-fn depth_after(depth: usize, kind: &TokenKind) -> usize
-    requires { depth + 1 < 2 ^ 64 }
-    ensures { result ≡ spec.depth_after depth kind.now }
-{
-    match kind {
-        TokenKind::Terminal(Terminal::LeftBracket) => depth + 1,
-        TokenKind::Terminal(Terminal::RightBracket) => depth.saturating_sub(1),
-        _ => depth,
-    }
-}
-
-/// The place of the bracket that closes what holds the tokens.
-#[tactic(auto, unfolding(crate::specs::Members::closing_from))]
-fn closing(tokens: &[Token]) -> Option<usize>
-    ensures place { result ≡ spec.closing tokens.now }
-    ensures within { IfSome result (λ place. place < length tokens.now) }
-{
-    let mut depth: usize = 0;
-    let mut place: usize = 0;
-    let mut rest = tokens;
-    while let [first, after @ ..] = rest {
-        if closes(&first.kind) && depth == 0 {
-            return Some(place);
-        }
-        depth = depth_after(depth, &first.kind);
-        place += 1;
-        rest = after;
-    }
-    None
 }
 
 /// `name AS ( query )`, and the tokens after it.

@@ -1,5 +1,6 @@
 use Rattle.std.proofs.Common.{◌≡◌, ◌-◌, map}
-use Rattle.wd_with.specs.Members.{behind, members_at, most_members}
+use Rattle.wd_with.specs.Members.{members_at, most_members}
+use Rattle.wd_with.proofs.MemberFacts.{behind}
 use Rattle.wd_with.specs.Named.{named_query}
 use Rattle.wd_with.proofs.member.members_at.Given as goal
 

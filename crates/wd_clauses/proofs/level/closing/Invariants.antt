@@ -1,6 +1,6 @@
 use Rattle.std.proofs.Common.{◌≡◌, ◌+◌, ◌≤◌, length}
-use Rattle.wd_with.specs.Members.{closing_from}
-use Rattle.wd_with.proofs.member.closing.Given as goal
+use Rattle.wd_clauses.specs.Reach.{closing_from}
+use Rattle.wd_clauses.proofs.level.closing.Given as goal
 
 abbrev pub invariant-loop-rest : goal.invariant-loop-rest
 invariant-loop-rest l = record {

@@ -1,10 +1,10 @@
 //! Tokens that are written behind others, at most 65,536 in all.
 
 ghost use Rattle.std.specs.Prelude.{◌≡◌, ◌∷◌, [], IfOk};
-ghost use Rattle.wd_with.specs.Given.{Makes, Writes};
-ghost use Rattle.wd_with.specs.Derived as spec;
+ghost use Rattle.wd_clauses.specs.Added as spec;
+ghost use Rattle.wd_clauses.specs.Given.{Makes, Writes};
 
-use crate::error::WithError;
+use crate::error::RespellError;
 use std::alloc::{AllocError, Global};
 use wd_lex::{Terminal, Token, TokenKind};
 
@@ -38,19 +38,19 @@ pub fn added(terminal: Terminal, word: &Token) -> Token
     }
 }
 
-/// Adds a token, if there is room for it.
-pub fn add(written: &mut Vec<Token>, token: Token) -> Result<(), WithError>
+/// Adds a token, if there is room for it; else the tokens stay as they are.
+pub fn add(written: &mut Vec<Token>, token: Token) -> Result<(), RespellError>
     ensures { Writes written.old.items written.new.items result (token ∷ []) }
 {
     if written.len() >= MOST_TOKENS {
-        return Err(WithError::TooLong);
+        return Err(RespellError::TooLong);
     }
     written.push(token)?;
     Ok(())
 }
 
-/// Adds copies of tokens.
-pub fn add_all(written: &mut Vec<Token>, tokens: &[Token]) -> Result<(), WithError>
+/// Adds copies of tokens, where there is room for all.
+pub fn add_all(written: &mut Vec<Token>, tokens: &[Token]) -> Result<(), RespellError>
     ensures { Writes written.old.items written.new.items result tokens.now }
 {
     let mut rest = tokens;
@@ -62,7 +62,7 @@ pub fn add_all(written: &mut Vec<Token>, tokens: &[Token]) -> Result<(), WithErr
 }
 
 /// Copies of tokens.
-pub fn copied(alloc: Global, tokens: &[Token]) -> Result<Vec<Token>, WithError>
+pub fn copied(alloc: Global, tokens: &[Token]) -> Result<Vec<Token>, RespellError>
     ensures { Makes (λ x. x.items) (λ x. x) result tokens.now }
 {
     let mut written = Vec::new(alloc);

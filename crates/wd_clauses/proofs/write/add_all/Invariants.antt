@@ -1,5 +1,5 @@
 use Rattle.std.proofs.Common.{◌≡◌, ◌++◌, length}
-use Rattle.wd_with.proofs.write.add_all.Given as goal
+use Rattle.wd_clauses.proofs.write.add_all.Given as goal
 
 abbrev pub invariant-loop-rest : goal.invariant-loop-rest
 invariant-loop-rest l = l.written.items ++ l.rest ≡ l.initial.written.items ++ l.fn.tokens

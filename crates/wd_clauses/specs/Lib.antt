@@ -1,0 +1,5 @@
+pub mod Names
+pub mod Reach
+pub mod Parts
+pub mod Added
+pub mod Given

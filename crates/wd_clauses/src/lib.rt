@@ -1,0 +1,15 @@
+//! Parts of queries, token by token, for equations that respell a query: how far a clause reaches (`level`), the parts of a list
+//! between commas (`list`), names (`name`), and tokens that are written behind others (`write`), at most 65,536 in all.
+#![tactic(auto)]
+
+mod error;
+mod level;
+mod list;
+mod name;
+mod write;
+
+pub use error::RespellError;
+pub use level::{Stop, closing, split};
+pub use list::parts;
+pub use name::{is_name, is_same_name};
+pub use write::{add, add_all, added, copied, copy_token};
