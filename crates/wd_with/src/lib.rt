@@ -9,3 +9,4 @@ mod member;
 mod place;
 
 pub use expand::{Expanded, without_with};
+pub use place::{Place, is_table, pass};

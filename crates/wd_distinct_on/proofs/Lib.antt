@@ -1,0 +1,4 @@
+pub mod ListFacts
+pub mod TokenFacts
+pub mod BelowFacts
+pub mod WriteFacts

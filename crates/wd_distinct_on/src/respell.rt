@@ -1,0 +1,181 @@
+//! A query without DISTINCT ON.
+
+ghost use Rattle.std.specs.Prelude.{◌≡◌, map, take, drop, IfOk};
+ghost use Rattle.wd_clauses.specs.Given.{Finds};
+ghost use Rattle.wd_distinct_on.specs.Named.{named_item, pieces, sort_key};
+ghost use Rattle.wd_distinct_on.specs.Respelled as spec;
+
+use crate::item::{Item, are_distinct, items_of};
+use crate::key::{Key, fits, keys_of};
+use crate::select::{Select, select_at};
+use crate::write::written;
+use std::alloc::{AllocError, Global};
+use wd_clauses::{RespellError, copied, parts};
+use wd_lex::Token;
+
+// The most selects that are respelled.
+const MOST_SELECTS: usize = 64;
+
+// The most tokens of a query.
+const MOST_TOKENS: usize = 65_536;
+
+/// The items of a list, if each has a name.
+fn items_in(alloc: Global, tokens: &[Token]) -> Result<Option<Vec<Item<'_>>>, AllocError>
+    ensures { IfOk result (λ found. Finds (λ x. map named_item x.items) found (spec.items_in tokens.now)) }
+{
+    match parts(alloc, tokens)? {
+        Some(parts) => {
+            let items = items_of(alloc, &parts)?;
+            Ok(items)
+        }
+        None => Ok(None),
+    }
+}
+
+/// The keys of a list that may be empty, if none is the place of an item.
+fn keys_in<'t>(
+    alloc: Global,
+    items: &[Item<'t>],
+    tokens: &'t [Token],
+) -> Result<Option<Vec<Key<'t>>>, AllocError>
+    ensures { IfOk result (λ found. Finds (λ x. map sort_key x.items) found (spec.keys_in (map named_item items.now) tokens.now)) }
+{
+    if tokens.is_empty() {
+        return Ok(Some(Vec::new(alloc)));
+    }
+    match parts(alloc, tokens)? {
+        Some(parts) => {
+            let keys = keys_of(alloc, items, &parts)?;
+            Ok(keys)
+        }
+        None => Ok(None),
+    }
+}
+
+/// What stands for a select behind these tokens, if its names are distinct and its keys fit.
+fn if_fit(
+    alloc: Global,
+    front: &[Token],
+    select: &Select,
+    items: &[Item],
+    keys: &[Key],
+    orders: &[Key],
+) -> Result<Option<Vec<Token>>, RespellError>
+    ensures { spec.MayWrite (λ x. x.items) result (spec.if_fit front.now (pieces select.now) (map named_item items.now) (map sort_key keys.now) (map sort_key orders.now)) }
+{
+    if are_distinct(items) && fits(keys, orders) {
+        let tokens = written(alloc, front, select, items, keys, orders)?;
+        return Ok(Some(tokens));
+    }
+    Ok(None)
+}
+
+/// What stands for a select, by its items and its keys.
+fn with_orders<'t>(
+    alloc: Global,
+    front: &[Token],
+    select: &Select<'t>,
+    items: &[Item<'t>],
+    keys: &[Key],
+) -> Result<Option<Vec<Token>>, RespellError>
+    ensures { spec.MayWrite (λ x. x.items) result (spec.with_orders front.now (pieces select.now) (map named_item items.now) (map sort_key keys.now)) }
+{
+    match keys_in(alloc, items, select.order.keys)? {
+        Some(orders) => {
+            let tokens = if_fit(alloc, front, select, items, keys, &orders)?;
+            Ok(tokens)
+        }
+        None => Ok(None),
+    }
+}
+
+/// What stands for a select, by its items.
+fn with_keys<'t>(
+    alloc: Global,
+    front: &[Token],
+    select: &Select<'t>,
+    items: &[Item<'t>],
+) -> Result<Option<Vec<Token>>, RespellError>
+    ensures { spec.MayWrite (λ x. x.items) result (spec.with_keys front.now (pieces select.now) (map named_item items.now)) }
+{
+    match keys_in(alloc, items, select.keys)? {
+        Some(keys) => {
+            let tokens = with_orders(alloc, front, select, items, &keys)?;
+            Ok(tokens)
+        }
+        None => Ok(None),
+    }
+}
+
+/// What stands for a select behind these tokens.
+#[tactic(auto, unfolding(crate::specs::Respelled::respelled_select))]
+fn respelled_select(
+    alloc: Global,
+    front: &[Token],
+    select: &Select,
+) -> Result<Option<Vec<Token>>, RespellError>
+    ensures { spec.MayWrite (λ x. x.items) result (spec.respelled_select front.now (pieces select.now)) }
+{
+    match items_in(alloc, select.items)? {
+        Some(items) => {
+            let tokens = with_keys(alloc, front, select, &items)?;
+            Ok(tokens)
+        }
+        None => Ok(None),
+    }
+}
+
+/// The tokens before a place, and those from there on.
+fn cut(place: usize, tokens: &[Token]) -> (&[Token], &[Token])
+    ensures before { result.0.now ≡ take place tokens.now }
+    ensures behind { result.1.now ≡ drop place tokens.now }
+{
+    let place = place.min(tokens.len());
+    (&tokens[..place], &tokens[place..])
+}
+
+/// The query in which the select that begins at a place is respelled.
+#[tactic(auto, unfolding(crate::specs::Respelled::respelled_at))]
+fn respelled_at(
+    alloc: Global,
+    place: usize,
+    tokens: &[Token],
+) -> Result<Option<Vec<Token>>, RespellError>
+    ensures { spec.MayWrite (λ x. x.items) result (spec.respelled_at place tokens.now) }
+{
+    let (front, rest) = cut(place, tokens);
+    match select_at(rest) {
+        Some(select) => {
+            let tokens = respelled_select(alloc, front, &select)?;
+            Ok(tokens)
+        }
+        None => Ok(None),
+    }
+}
+
+/// The query without DISTINCT ON, as far as its selects with it are read.
+#[tactic(auto, unfolding(crate::specs::Respelled::respelled_below))]
+pub fn without_distinct_on(alloc: Global, tokens: &[Token]) -> Result<Vec<Token>, RespellError>
+    ensures { spec.Gives (λ x. x.items) result (spec.respelled tokens.now) }
+{
+    if tokens.len() > MOST_TOKENS {
+        return Err(RespellError::TooLong);
+    }
+    let mut query = copied(alloc, tokens)?;
+    let mut left = MOST_SELECTS;
+    let mut place = tokens.len();
+    while place > 0 {
+        if left == 0 {
+            return Ok(query);
+        }
+        place -= 1;
+        if let Some(next) = respelled_at(alloc, place, &query)? {
+            if next.len() > MOST_TOKENS {
+                return Err(RespellError::TooLong);
+            }
+            query = next;
+            left -= 1;
+        }
+    }
+    Ok(query)
+}
