@@ -522,6 +522,19 @@ def the_marks():
             check(f"marks on the page of {text}", heads == columns, heads)
 
 
+def the_respelled():
+    """Queries that the profile refuses, as the standard's equations respell them, and what is found of them."""
+    for text, wanted, kind in lines_of("respelled.txt"):
+        with tempfile.TemporaryDirectory() as folder:
+            put(folder, {"schema.sql": SCHEMA, "q.sql": text})
+            shown, told, ended = run("--show-respelled", "q.sql", cwd=folder)
+            there = shown.split("-- q.sql")[1] if "-- q.sql" in shown else ""
+            check(f"respelled: {text}", (told, ended) == ("", 0) and " ".join(there.split()) == wanted, (ended, shown, told))
+            out, _, status = run("q.sql", cwd=folder)
+            check(f"respelled: {text}: {kind}", status == {"deterministic": 0, "depend": 1, "not read": 2}[kind] and f" 1 {kind}" in out, (status, out))
+            check(f"respelled: {text}: note", ("note: queries that wdcheck does not read" in out) == bool(wanted), out)
+
+
 def the_simpler():
     """Queries that have one answer because what ties decide is not shown."""
     for text, wanted in lines_of("simpler.txt"):
@@ -899,6 +912,7 @@ the_places()
 the_ties()
 the_marks()
 the_simpler()
+the_respelled()
 the_further()
 the_excuses()
 the_written()

@@ -1,0 +1,11 @@
+use Rattle.std.proofs.Common.{All, drop, length}
+use Rattle.wd_fix.proofs.Choosing.{StandWith}
+use Rattle.wd_query_front.specs.Fronts.{IsRespelledAt}
+use Rattle.wd_query_front.proofs.front.respelled_statements.Given as goal
+
+-- those that are respelled, and the statements that are left
+abbrev pub invariant-loop-span : goal.invariant-loop-span
+invariant-loop-span l = record {
+  ordered : StandWith l.fixes.items (drop l.span-index l.spans) (length l.text);
+  each : All (IsRespelledAt l.schema l.text) l.fixes.items;
+}

@@ -1,0 +1,134 @@
+//! The text over which the queries of a file are judged.
+
+ghost use Rattle.std.specs.Prelude.{◌≡◌, ◌≤◌, All, IfOk, IfSome, length, map};
+ghost use Rattle.wd_fix.specs.Fixes.{span_of};
+ghost use Rattle.wd_query.specs.Causes.{HasTextCause};
+ghost use Rattle.wd_query_front.specs.Fronts.{IsRespelledAt, IsRespelledText};
+ghost use Rattle.wd_respell.specs.Respelled.{IsRespelledAs};
+ghost use Rattle.wd_source.specs.Statements.{StandInOrder};
+
+use std::alloc::Global;
+use wd_fix::{Fix, fixed_text};
+use wd_lex::{Span, Token, TokenKind};
+use wd_query::{TextError, read_texts};
+use wd_respell::{Respelled, respell};
+use wd_source::statements;
+use wd_value::OutOfMemory;
+
+/// A file of queries, some of them respelled.
+#[derive(Drop)]
+pub struct RespelledText {
+    pub text: Vec<u8>,
+    /// What is told of members of WITH that are read more than once, a line each.
+    pub notes: Vec<String>,
+}
+
+/// The text of a file in which each statement that the profile refuses over a schema stands as the equations respell it, where there
+/// is such a statement.
+pub fn respelled_text(
+    alloc: Global,
+    schema: &[u8],
+    text: &[u8],
+) -> Result<Option<RespelledText>, OutOfMemory>
+    ensures { IfOk result (λ o. IfSome o (λ r. IsRespelledText schema.now text.now r.text.items)) }
+{
+    let mut notes = Vec::new(alloc);
+    let spans = statements(alloc, text)?;
+    let fixes = respelled_statements(alloc, schema, text, &spans, &mut notes)?;
+    if fixes.is_empty() {
+        return Ok(None);
+    }
+    let text = fixed_text(alloc, text, &fixes)?;
+    Ok(Some(RespelledText { text, notes }))
+}
+
+/// The statements that are respelled; what is told of them goes behind the notes.
+fn respelled_statements(
+    alloc: Global,
+    schema: &[u8],
+    text: &[u8],
+    spans: &[Span],
+    notes: &mut Vec<String>,
+) -> Result<Vec<Fix>, OutOfMemory>
+    requires { StandInOrder 0 spans.now (length text.now) }
+    ensures order { IfOk result (λ fixes. StandInOrder 0 (map span_of fixes.items) (length text.now)) }
+    ensures each { IfOk result (λ fixes. All (IsRespelledAt schema.now text.now) fixes.items) }
+{
+    let mut fixes = Vec::new(alloc);
+    for span in spans {
+        if let Some(fix) = respelled_statement(alloc, schema, text, *span, notes)? {
+            fixes.push(fix)?;
+        }
+    }
+    Ok(fixes)
+}
+
+/// The statement that stands there, respelled, where the profile refuses it.
+fn respelled_statement(
+    alloc: Global,
+    schema: &[u8],
+    text: &[u8],
+    span: Span,
+    notes: &mut Vec<String>,
+) -> Result<Option<Fix>, OutOfMemory>
+    requires ordered { span.start ≤ span.end }
+    requires within { span.end ≤ length text.now }
+    ensures stands { IfOk result (λ o. IfSome o (λ fix. fix.span ≡ span)) }
+    ensures respelled { IfOk result (λ o. IfSome o (IsRespelledAt schema.now text.now)) }
+{
+    let query = &text[span.start as usize..span.end as usize];
+    match refusal(alloc, schema, query) {
+        None | Some(TextError::Schema(_)) => Ok(None),
+        Some(error) => match error.number() {
+            Some(_) => respelling(alloc, query, span, notes),
+            None => Err(OutOfMemory),
+        },
+    }
+}
+
+/// Why the profile refuses a query over a schema, if it does.
+fn refusal(alloc: Global, schema: &[u8], query: &[u8]) -> Option<TextError>
+    ensures { IfSome result (HasTextCause schema.now query.now) }
+{
+    match read_texts(alloc, schema, query) {
+        Ok(_) => None,
+        Err(error) => Some(error),
+    }
+}
+
+/// What the equations make of a query, to stand there.
+fn respelling(
+    alloc: Global,
+    query: &[u8],
+    span: Span,
+    notes: &mut Vec<String>,
+) -> Result<Option<Fix>, OutOfMemory>
+    ensures stands { IfOk result (λ o. IfSome o (λ fix. fix.span ≡ span)) }
+    ensures respelled { IfOk result (λ o. IfSome o (λ fix. IsRespelledAs query.now fix.text.items)) }
+{
+    match respell(alloc, query)? {
+        Some(respelled) => {
+            let Respelled { text, read_twice } = respelled;
+            for name in &read_twice {
+                notes.push(note_of(alloc, name)?)?;
+            }
+            let text = Vec::from_slice(alloc, text.as_bytes())?;
+            Ok(Some(Fix { span, text }))
+        }
+        None => Ok(None),
+    }
+}
+
+/// What is told of a member of WITH that is read more than once.
+fn note_of(alloc: Global, name: &Token) -> Result<String, OutOfMemory> {
+    let mut line = String::from_str(alloc, "note: WITH ")?;
+    match &name.kind {
+        TokenKind::Word(word) => line.push_str(word.as_str())?,
+        TokenKind::Quoted(word) => line.push_str(word.as_str())?,
+        _ => {}
+    }
+    line.push_str(
+        " is read more than once; each use is judged by itself, so its ties may differ here where the database evaluates it once",
+    )?;
+    Ok(line)
+}

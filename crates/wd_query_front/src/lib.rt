@@ -1,0 +1,6 @@
+//! Files of queries as they are judged: a statement that the profile refuses stands there as the standard's equations respell it.
+#![tactic(auto)]
+
+mod front;
+
+pub use front::{RespelledText, respelled_text};

@@ -1,0 +1,35 @@
+//! Tokens that say the same.
+
+ghost use Rattle.std.specs.Prelude.{◌≡◌, true};
+ghost use Rattle.wd_lex.specs.Lexed.{kinds_of};
+
+use wd_lex::{Token, TokenKind};
+
+/// Whether tokens say the same, one by one, wherever they stand.
+pub(crate) fn say_the_same(tokens: &[Token], others: &[Token]) -> bool
+    ensures { result ≡ true → kinds_of tokens.now ≡ kinds_of others.now }
+{
+    if tokens.len() != others.len() {
+        return false;
+    }
+    for number in 0..tokens.len() {
+        if !is_same(&tokens[number].kind, &others[number].kind) {
+            return false;
+        }
+    }
+    true
+}
+
+/// Whether two tokens say the same.
+fn is_same(kind: &TokenKind, other: &TokenKind) -> bool
+    ensures { result ≡ true → kind.now ≡ other.now }
+{
+    match (kind, other) {
+        (TokenKind::Terminal(a), TokenKind::Terminal(b)) => a == b,
+        (TokenKind::Word(a), TokenKind::Word(b)) => a.as_str() == b.as_str(),
+        (TokenKind::Quoted(a), TokenKind::Quoted(b)) => a.as_str() == b.as_str(),
+        (TokenKind::Literal(a), TokenKind::Literal(b)) => a.as_str() == b.as_str(),
+        (TokenKind::Number(a), TokenKind::Number(b)) => a == b,
+        _ => false,
+    }
+}

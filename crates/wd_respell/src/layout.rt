@@ -1,0 +1,120 @@
+//! Tokens as a text, each as near as can be to where it stood in the source.
+
+use std::alloc::Global;
+use std::fmt::Write;
+use wd_lex::{Token, TokenKind};
+use wd_print::{push_literal, push_name, push_terminal, push_word};
+use wd_value::OutOfMemory;
+
+/// A text that grows, and how far it is.
+#[derive(Drop)]
+struct Layout {
+    text: String,
+    /// The line on which the next token would stand, counted from 0.
+    line: usize,
+    /// Where that line began in the text.
+    line_start: usize,
+}
+
+/// The text of tokens that stood in a source: what stands before its first token, and then the tokens. One that stood further down or
+/// further to the right than the text has come stands just there; another one after one blank. At the end as many lines are begun as
+/// the source has.
+pub(crate) fn laid_out(
+    alloc: Global,
+    source: &[u8],
+    start: usize,
+    tokens: &[Token],
+) -> Result<String, OutOfMemory> {
+    let breaks = line_breaks(alloc, source)?;
+    let before = &source[..start.min(source.len())];
+    let mut layout = Layout::new(alloc, before)?;
+    for token in tokens {
+        layout.move_to(&breaks, token.span.start as usize)?;
+        layout.add(token)?;
+    }
+    layout.end_on(breaks.len())?;
+    Ok(layout.text)
+}
+
+/// Where the lines of a text end.
+fn line_breaks(alloc: Global, text: &[u8]) -> Result<Vec<usize>, OutOfMemory> {
+    let mut breaks = Vec::new(alloc);
+    for at in 0..text.len() {
+        if text[at] == b'\n' {
+            breaks.push(at)?;
+        }
+    }
+    Ok(breaks)
+}
+
+impl Layout {
+    /// A text that begins with these bytes, where they are UTF-8.
+    fn new(alloc: Global, before: &[u8]) -> Result<Layout, OutOfMemory> {
+        let mut text = String::new(alloc);
+        text.push_str(str::from_utf8(before).unwrap_or(""))?;
+        let breaks = line_breaks(alloc, text.as_bytes())?;
+        let line_start = match breaks.last() {
+            Some(at) => at.saturating_add(1),
+            None => 0,
+        };
+        Ok(Layout {
+            text,
+            line: breaks.len(),
+            line_start,
+        })
+    }
+
+    /// Goes on to where a token stood that began at a byte of the source, if that is further on; else one blank on.
+    fn move_to(&mut self, breaks: &[usize], at: usize) -> Result<(), OutOfMemory> {
+        let line = breaks.partition_point(|end| *end < at);
+        if line > self.line {
+            self.end_on(line)?;
+        }
+        let start = match line.checked_sub(1) {
+            Some(last) => breaks[last].saturating_add(1),
+            None => 0,
+        };
+        let column = at.saturating_sub(start);
+        let mut here = self.text.len().saturating_sub(self.line_start);
+        if here > 0 && !self.text.as_bytes().last().is_some_and(|byte| byte.is_ascii_whitespace()) {
+            self.text.push(' ')?;
+            here = here.saturating_add(1);
+        }
+        if line == self.line {
+            for _ in here..column {
+                self.text.push(' ')?;
+            }
+        }
+        Ok(())
+    }
+
+    /// Begins lines until so many are ended.
+    fn end_on(&mut self, line: usize) -> Result<(), OutOfMemory> {
+        for ended in self.line..line {
+            self.text.push('\n')?;
+            self.line = ended.saturating_add(1);
+            self.line_start = self.text.len();
+        }
+        Ok(())
+    }
+
+    /// Adds a token.
+    fn add(&mut self, token: &Token) -> Result<(), OutOfMemory> {
+        let mut piece = String::new(*self.text.allocator());
+        match &token.kind {
+            TokenKind::Terminal(terminal) => push_terminal(&mut piece, *terminal)?,
+            TokenKind::Word(word) => push_word(&mut piece, word.as_str())?,
+            TokenKind::Quoted(name) => push_name(&mut piece, name.as_str())?,
+            TokenKind::Literal(text) => push_literal(&mut piece, text.as_str())?,
+            TokenKind::Number(number) => write!(piece, "{number}")?,
+        }
+        for letter in piece.as_str().trim_end().chars() {
+            self.text.push(letter)?;
+            if letter == '\n' {
+                self.line = self.line.saturating_add(1);
+                self.line_start = self.text.len();
+            }
+        }
+        Ok(())
+    }
+}
