@@ -1,8 +1,8 @@
 //! The candidates, one after another.
 
-ghost use Rattle.std.specs.Prelude.{◌≡◌, ◌≤◌, ◌+◌, ◌*◌, ◌/◌, ◌^◌, ◌∷◌, [], ℕ, true, filter, length, min, All, IfOk, IfSome};
+ghost use Rattle.std.specs.Prelude.{◌≡◌, ◌≤◌, ◌+◌, ◌*◌, ◌/◌, ◌^◌, ◌∷◌, [], ℕ, true, drop, filter, length, min, All, IfOk, IfSome};
 ghost use Rattle.wd_candidates.specs.Outlines.{IsOutline};
-ghost use Rattle.wd_further.specs.Finds.{IsSoughtIn};
+ghost use Rattle.wd_further.specs.Finds.{IsSoughtBy, IsSoughtIn, turnings};
 ghost use Rattle.wd_further.specs.Rounds.{most_rows, most_tries};
 ghost use Rattle.wd_further.specs.Rounds as spec;
 ghost use Rattle.wd_plan.specs.Fits.{fits};
@@ -35,8 +35,7 @@ const MOST_EVALUATIONS: u32 = 2000;
 /// The most rows that the evaluations of a search go over.
 const MOST_ROWS: u128 = 400_000;
 
-/// A witness over the first candidate that shows two answers of a plan: first among those in which rows that tie are turned round, then
-/// those in which the first of them is the last, then those in which neighbours are exchanged.
+/// A witness over the first candidate that shows two answers of a plan.
 pub(crate) fn search(
     alloc: Global,
     schema: &Schema,
@@ -49,45 +48,87 @@ pub(crate) fn search(
     let outline = outline_of(alloc, schema, plan)?;
     let suggested = suggested_by(alloc, plan)?;
     let sizes = sizes(alloc, plan)?;
+    search_turned(alloc, schema, plan, &outline, &suggested, &sizes)
+}
+
+/// The searches one after another: with rows that tie turned round, and then with neighbours in other orders.
+fn search_turned(
+    alloc: Global,
+    schema: &Schema,
+    plan: &Plan,
+    outline: &Outline,
+    suggested: &Suggested,
+    sizes: &[u32],
+) -> Result<Option<Witness>, OutOfMemory>
+    requires fitting { fits (schema_of schema.now) (plan_of plan.now) ≡ true }
+    requires outline { IsOutline (schema_of schema.now) (plan_of plan.now) outline.now }
+    requires suggested { IsSuggested (plan_of plan.now) suggested.now }
+    requires sizes { sizes.now ≡ sizes_of (plan_of plan.now) }
+    requires count { length sizes.now ≤ 63 }
+    requires large { All (λ rows. 2 ≤ rows) sizes.now }
+    requires small { All (λ rows. rows ≤ 64) sizes.now }
+    ensures { IfOk result (λ o. IsSoughtIn o (schema_of schema.now) (plan_of plan.now)) }
+{
     let turned = search_rounds(
         alloc,
         schema,
         plan,
-        &outline,
-        &suggested,
-        &sizes,
+        outline,
+        suggested,
+        sizes,
         Turn::Reversed,
         1000,
         MOST_TRIES,
     )?;
-    if let Some(witness) = turned {
-        return Ok(Some(witness));
+    match turned {
+        Some(witness) => Ok(Some(witness)),
+        None => search_neighbours(alloc, schema, plan, outline, suggested, sizes),
     }
+}
+
+/// The searches with the first of the rows that tie as the last, and with neighbours exchanged.
+fn search_neighbours(
+    alloc: Global,
+    schema: &Schema,
+    plan: &Plan,
+    outline: &Outline,
+    suggested: &Suggested,
+    sizes: &[u32],
+) -> Result<Option<Witness>, OutOfMemory>
+    requires fitting { fits (schema_of schema.now) (plan_of plan.now) ≡ true }
+    requires outline { IsOutline (schema_of schema.now) (plan_of plan.now) outline.now }
+    requires suggested { IsSuggested (plan_of plan.now) suggested.now }
+    requires sizes { sizes.now ≡ sizes_of (plan_of plan.now) }
+    requires count { length sizes.now ≤ 63 }
+    requires large { All (λ rows. 2 ≤ rows) sizes.now }
+    requires small { All (λ rows. rows ≤ 64) sizes.now }
+    ensures { IfOk result (λ o. IsSoughtBy o (schema_of schema.now) (plan_of plan.now) (drop 1 turnings)) }
+{
     let rotated = search_rounds(
         alloc,
         schema,
         plan,
-        &outline,
-        &suggested,
-        &sizes,
+        outline,
+        suggested,
+        sizes,
         Turn::Rotated,
         1500,
         MOST_TRIES,
     )?;
-    if let Some(witness) = rotated {
-        return Ok(Some(witness));
+    match rotated {
+        Some(witness) => Ok(Some(witness)),
+        None => search_rounds(
+            alloc,
+            schema,
+            plan,
+            outline,
+            suggested,
+            sizes,
+            Turn::Exchanged,
+            1500,
+            MOST_TRIES,
+        ),
     }
-    search_rounds(
-        alloc,
-        schema,
-        plan,
-        &outline,
-        &suggested,
-        &sizes,
-        Turn::Exchanged,
-        1500,
-        MOST_TRIES,
-    )
 }
 
 /// So many rounds, one after another, with evaluations that count from a number on.

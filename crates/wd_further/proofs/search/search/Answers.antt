@@ -1,6 +1,8 @@
-use Rattle.std.proofs.Common.{IfSome, None, Some, inl, inr, refl, subst}
 use Rattle.std.proofs.lemmas.Result.{IfOk-weaker}
 use Rattle.wd_plan.specs.Plans.{plan_of}
 use Rattle.wd_schema.specs.Schemas.{schema_of}
 use Rattle.wd_further.proofs.Trying.{shown_of}
 use Rattle.wd_further.proofs.search.search.Goals as goal
+
+pub returns-clause-shown : goal.returns-clause-shown
+returns-clause-shown c = IfOk-weaker c.search_turned.result _ _ (shown_of (schema_of c.args.schema.now) (plan_of c.args.plan.now)) c.search_turned.ensures

@@ -39,4 +39,4 @@ pub returns : goal.returns
 returns c =
     let l = c.loop-number in
     let all : length (positions c.args.rounds) ≤ l.number = subst (λ n. n ≤ l.number) (sym (length-range_with_len 0 c.args.rounds)) c.loop-number-test.false in
-    (l.spent, nothing_in_all (schema_of c.args.schema.now) (plan_of c.args.plan.now) (of_round (schema_of c.args.schema.now) (plan_of c.args.plan.now)) (positions c.args.rounds) l.number c.args.start l.spent all l.invariant.1)
+    (l.spent, nothing_in_all c.args.turn (schema_of c.args.schema.now) (plan_of c.args.plan.now) (of_round (schema_of c.args.schema.now) (plan_of c.args.plan.now)) (positions c.args.rounds) l.number c.args.start l.spent all l.invariant.1)
