@@ -76,7 +76,13 @@ impl Layout {
         };
         let column = at.saturating_sub(start);
         let mut here = self.text.len().saturating_sub(self.line_start);
-        if here > 0 && !self.text.as_bytes().last().is_some_and(|byte| byte.is_ascii_whitespace()) {
+        if here > 0
+            && !self
+                .text
+                .as_bytes()
+                .last()
+                .is_some_and(|byte| byte.is_ascii_whitespace())
+        {
             self.text.push(' ')?;
             here = here.saturating_add(1);
         }

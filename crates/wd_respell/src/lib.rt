@@ -8,5 +8,4 @@ mod kinds;
 mod layout;
 mod query;
 
-
 pub use query::{Respelled, respell};

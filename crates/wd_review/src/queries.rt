@@ -8,7 +8,8 @@ use wd_query_front::{RespelledText, respelled_text};
 use wd_value::OutOfMemory;
 
 /// What is told of a file in which queries are respelled.
-const RESPELLED: &str = "note: queries that wdcheck does not read are judged as the standard's equations respell them; --show-respelled prints them";
+const RESPELLED: &str =
+    "note: queries that wdcheck does not read are judged as the standard's equations respell them; --show-respelled prints them";
 
 /// A file of queries, as it is judged.
 #[derive(Drop)]

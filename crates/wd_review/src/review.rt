@@ -2,8 +2,8 @@
 
 use crate::lock::{lock_all, lock_beside};
 use crate::mended::write_mended;
-use crate::queries::Queries;
 use crate::outputs::{check_outputs, knowledge, write_baseline, write_page};
+use crate::queries::Queries;
 use crate::respelled::show_respelled;
 use crate::run::{Run, Step, WRONG, steps};
 use crate::schema::Reading;
