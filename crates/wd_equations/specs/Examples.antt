@@ -1,5 +1,5 @@
 -- Tests, calls and CASE whose expansion is read off by hand.
-use Rattle.std.specs.Prelude.{◌≡◌, ℕ, codes, List, [], ◌∷◌, map}
+use Rattle.std.specs.Prelude.{◌≡◌, codes, List, [], ◌∷◌, map}
 use Rattle.wd_lex.specs.declared.token.Terminal.{Terminal}
 use Rattle.wd_lex.specs.declared.token.Terminal.TheVariants as m
 use Rattle.wd_lex.specs.declared.token.Span.{Span}

@@ -66,7 +66,7 @@ step inner before tokens = step_by inner before tokens (place_at before tokens)
 abbrev pub and_then : Step → (Before → List Token → List Token) → List Token
 and_then first more = first.0 ++ more first.1 first.2
 
--- step by step to the end; the number bounds the turns, and the count of the tokens is always enough, since each step takes a
+-- step by step to the end; the number bounds the turns. The count of the tokens is enough, since each step takes a
 -- token at least, and parts have fewer than the whole
 unfoldable pub walked : ℕ → Before → List Token → List Token
 walked zero before tokens = []
