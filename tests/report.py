@@ -855,6 +855,22 @@ def the_written_judged():
         check("written: no path", status == 3, (status, out, err))
 
 
+def the_queries_written():
+    """Queries as analysts wrote them, over schemas as they wrote these: what is found, or the word that no equation is for."""
+    for path, wanted in lines_of("written.txt"):
+        name, file = path.split("/")
+        with tempfile.TemporaryDirectory() as folder:
+            put(folder, {"schema.sql": held(f"{TOP}/tests/report/written/{name}.sql"), "q.sql": held(f"{TOP}/tests/report/written/{path}")})
+            out, _, status = run("q.sql", cwd=folder)
+            if wanted.startswith("at "):
+                lines = out.splitlines()
+                at = next((n for n, line in enumerate(lines) if re.fullmatch(r" +\| +\^+", line)), 0)
+                word = lines[at - 1][lines[at].find("^"):][: lines[at].count("^")] if at else ""
+                check(f"written: {path}: {wanted}", status == 2 and word.upper() == wanted[3:], (status, out))
+            else:
+                check(f"written: {path}: {wanted}", status == {"deterministic": 0, "depend": 1, "may tie": 1}[wanted] and f" 1 {wanted}" in out, (status, out))
+
+
 HOSTILE = "SELECT g AS \"</pre><script>alert(1)</script>\", '<b>&\"\u202e' AS \"it's\", ROW_NUMBER() OVER (ORDER BY v) AS n FROM t"
 
 
@@ -917,6 +933,7 @@ the_further()
 the_excuses()
 the_written()
 the_written_judged()
+the_queries_written()
 the_baselines()
 the_outputs()
 the_locks()
