@@ -1,6 +1,6 @@
 -- The pieces of SELECT DISTINCT ON ( keys ) items FROM .. [WHERE ..] [ORDER BY orders], and what follows it. No other clause
 -- may stand in it.
-use Rattle.std.specs.Prelude.{ℕ, ◌+◌, ◌&&◌, if◌then◌else◌, Bool, true, List, [], ◌∷◌, take, drop, Option, Some, None}
+use Rattle.std.specs.Prelude.{ℕ, ◌+◌, ◌&&◌, if◌then◌else◌, Bool, true, false, List, [], ◌∷◌, take, drop, Option, Some, None}
 use Rattle.wd_lex.specs.declared.token.Token.{Token}
 use Rattle.wd_clauses.specs.declared.level.Stop.TheVariants.{From, Later}
 use Rattle.wd_clauses.specs.Reach.{closing, ends_level, opens, reach}
@@ -48,6 +48,11 @@ behind_keys select distinct tokens None = None
 behind_keys select distinct tokens (Some place) =
     let behind = drop (place + 1) tokens in
     behind_items select distinct (take place tokens) (take (reach From behind) behind) (drop (reach From behind) behind)
+
+-- SELECT DISTINCT ON ( stands first
+abbrev pub begins_select : List Token → Bool
+begins_select (select ∷ distinct ∷ on ∷ bracket ∷ tokens) = is_select select.kind && is_distinct distinct.kind && is_on on.kind && opens bracket.kind
+begins_select _ = false
 
 -- the select with DISTINCT ON that begins here
 unfoldable pub select_at : List Token → Option Pieces

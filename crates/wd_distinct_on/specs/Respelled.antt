@@ -8,7 +8,7 @@ use Rattle.wd_clauses.specs.Given.{most_tokens}
 use Rattle.wd_clauses.specs.Parts.{parts}
 use Rattle.wd_distinct_on.specs.Items.{NamedItem, are_distinct, items_of}
 use Rattle.wd_distinct_on.specs.Keys.{SortKey, fits, keys_of}
-use Rattle.wd_distinct_on.specs.Pieces.{Pieces, select_at}
+use Rattle.wd_distinct_on.specs.Pieces.{Pieces, begins_select, select_at}
 use Rattle.wd_distinct_on.specs.Written.{written}
 
 -- what is read in a list that may be empty
@@ -47,19 +47,23 @@ respelled_select front select = items_in select.items >>= λ items. with_keys fr
 unfoldable pub respelled_at : ℕ → List Token → Option (List Token)
 respelled_at place tokens = select_at (drop place tokens) >>= λ select. respelled_select (take place tokens) select
 
--- the most selects that are respelled (this project's choice)
+-- the most selects with DISTINCT ON that are looked at (this project's choice)
 abbrev pub most_selects : ℕ
 most_selects = 64
 
--- on with a select less where one was respelled, if the query is not too long by it
-abbrev pub turned : (ℕ → List Token → Result (List Token) RespellError) → ℕ → List Token → Option (List Token) → Result (List Token) RespellError
-turned go left tokens None = go left tokens
-turned go left tokens (Some new) = if nat_lt most_tokens (length new) then Err TooLong else go (left - 1) new
+-- how many selects are left to be looked at, where one may begin
+abbrev pub fewer : ℕ → List Token → ℕ
+fewer left tokens = if begins_select tokens then left - 1 else left
+
+-- on with the query as it stands, or with the one that was respelled, if that is not too long
+abbrev pub turned : (List Token → Result (List Token) RespellError) → List Token → Option (List Token) → Result (List Token) RespellError
+turned go tokens None = go tokens
+turned go tokens (Some new) = if nat_lt most_tokens (length new) then Err TooLong else go new
 
 -- the selects that begin at the first so many places, from the last to the first, and at most so many of them
 unfoldable pub respelled_below : ℕ → ℕ → List Token → Result (List Token) RespellError
 respelled_below left zero tokens = Ok tokens
-respelled_below left (suc place) tokens = if left == 0 then Ok tokens else turned (λ fewer new. respelled_below fewer place new) left tokens (respelled_at place tokens)
+respelled_below left (suc place) tokens = if left == 0 then Ok tokens else turned (λ query. respelled_below (fewer left (drop place tokens)) place query) tokens (respelled_at place tokens)
 
 -- a query without DISTINCT ON
 abbrev pub respelled : List Token → Result (List Token) RespellError

@@ -7,13 +7,13 @@ ghost use Rattle.wd_distinct_on.specs.Respelled as spec;
 
 use crate::item::{Item, are_distinct, items_of};
 use crate::key::{Key, fits, keys_of};
-use crate::select::{Select, select_at};
+use crate::select::{Select, begins_select, select_at};
 use crate::write::written;
 use std::alloc::{AllocError, Global};
 use wd_clauses::{RespellError, copied, parts};
 use wd_lex::Token;
 
-// The most selects that are respelled.
+// The most selects with DISTINCT ON that are looked at.
 const MOST_SELECTS: usize = 64;
 
 // The most tokens of a query.
@@ -153,6 +153,17 @@ fn respelled_at(
     }
 }
 
+/// How many selects are left to be looked at, where one may begin at a place.
+fn fewer(left: usize, place: usize, tokens: &[Token]) -> usize
+    ensures { result ≡ spec.fewer left (drop place tokens.now) }
+{
+    let (_, rest) = cut(place, tokens);
+    if begins_select(rest) {
+        return left.saturating_sub(1);
+    }
+    left
+}
+
 /// The query without DISTINCT ON, as far as its selects with it are read.
 #[tactic(auto, unfolding(crate::specs::Respelled::respelled_below))]
 pub fn without_distinct_on(alloc: Global, tokens: &[Token]) -> Result<Vec<Token>, RespellError>
@@ -169,12 +180,15 @@ pub fn without_distinct_on(alloc: Global, tokens: &[Token]) -> Result<Vec<Token>
             return Ok(query);
         }
         place -= 1;
-        if let Some(next) = respelled_at(alloc, place, &query)? {
-            if next.len() > MOST_TOKENS {
-                return Err(RespellError::TooLong);
+        left = fewer(left, place, &query);
+        match respelled_at(alloc, place, &query)? {
+            Some(next) => {
+                if next.len() > MOST_TOKENS {
+                    return Err(RespellError::TooLong);
+                }
+                query = next;
             }
-            query = next;
-            left -= 1;
+            None => {}
         }
     }
     Ok(query)

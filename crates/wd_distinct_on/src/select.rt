@@ -122,6 +122,21 @@ fn opens(kind: &TokenKind) -> bool
     matches!(kind, TokenKind::Terminal(Terminal::LeftBracket))
 }
 
+/// Whether `SELECT DISTINCT ON (` stands first.
+pub fn begins_select(tokens: &[Token]) -> bool
+    ensures { result ≡ spec.begins_select tokens.now }
+{
+    match tokens {
+        [select, distinct, on, bracket, ..] => {
+            is_select(&select.kind)
+                && is_distinct(&distinct.kind)
+                && is_on(&on.kind)
+                && opens(&bracket.kind)
+        }
+        _ => false,
+    }
+}
+
 /// The select with DISTINCT ON that begins here.
 #[tactic(auto, unfolding(crate::specs::Pieces::select_at))]
 pub fn select_at(tokens: &[Token]) -> Option<Select<'_>>
