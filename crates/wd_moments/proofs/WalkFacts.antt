@@ -1,0 +1,44 @@
+-- How the loop over tokens goes on.
+use Rattle.std.proofs.Common.{◌≡◌, ◌∙◌, ◌<◌, ◌≤◌, ◌+◌, ◌-◌, ◌++◌, ℕ, zero, suc, nat_eq, Bool, true, false, List, [], ◌∷◌, length, Err, refl, ap, sym, arith, eqb-true}
+use Rattle.std.proofs.lemmas.Bool.{true≢false}
+use Rattle.std.proofs.lemmas.List.{append-nil}
+use Rattle.wd_lex.specs.declared.token.Token.{Token}
+use Rattle.wd_moments.specs.declared.error.MomentError.{MomentError}
+use Rattle.wd_moments.specs.Given.{Adds}
+use Rattle.wd_moments.specs.Names.{Use}
+use Rattle.wd_moments.specs.Numbered.{Step, step, walked}
+use Rattle.wd_moments.proofs.AddFacts.{adds_fail, adds_more}
+
+walked_more : (known : List Use) (turns turn : ℕ) (begins : Bool) (tokens : List Token) → turn < turns → nat_eq (length tokens) 0 ≡ false
+    → walked known (turns - turn) begins tokens ≡ (step known begins tokens).0 ++ walked known (turns - (turn + 1)) (step known begins tokens).1 (step known begins tokens).2
+unfolding walked
+walked_more known turns turn begins [] lt some = absurd (true≢false some)
+walked_more known turns turn begins (token ∷ tokens) lt some =
+    let k : turns - turn ≡ suc (turns - (turn + 1)) = omega arith in
+    rw k refl
+
+pub walked_none : (known : List Use) (turns : ℕ) (begins : Bool) (tokens : List Token) → nat_eq (length tokens) 0 ≡ true → walked known turns begins tokens ≡ []
+unfolding walked
+walked_none known zero begins tokens none = refl
+walked_none known (suc turns) begins [] none = refl
+walked_none known (suc turns) begins (token ∷ tokens) none = absurd (let no : suc (length tokens) ≡ 0 = eqb-true (suc (length tokens)) 0 none in omega arith)
+
+pub walked_over : (known : List Use) (turns turn : ℕ) (begins : Bool) (tokens : List Token) → turns ≤ turn → walked known (turns - turn) begins tokens ≡ []
+unfolding walked
+walked_over known turns turn begins tokens le = let k : turns - turn ≡ 0 = omega arith in rw k refl
+
+pub walk_end : (new rest old total : List Token) → rest ≡ [] → new ++ rest ≡ old ++ total → new ≡ old ++ total
+walk_end new rest old total none so_far = sym (append-nil new) ∙ ap (λ ys. new ++ ys) (sym none) ∙ so_far
+
+pub walk_more : (known : List Use) (turns turn : ℕ) (begins next : Bool) (tokens rest old mid new total : List Token) → turn < turns → nat_eq (length tokens) 0 ≡ false
+    → new ≡ mid ++ (step known begins tokens).0 → next ≡ (step known begins tokens).1 → rest ≡ (step known begins tokens).2
+    → mid ++ walked known (turns - turn) begins tokens ≡ old ++ total → new ++ walked known (turns - (turn + 1)) next rest ≡ old ++ total
+walk_more known turns turn begins next tokens rest old mid new total lt some added is_next is_rest so_far =
+    let s = step known begins tokens in
+    rw (is_next, is_rest) (adds_more mid new s.0 (walked known (turns - (turn + 1)) s.1 s.2) old total added (ap (λ ys. mid ++ ys) (sym (walked_more known turns turn begins tokens lt some)) ∙ so_far))
+
+pub walk_fail : {X Y : Type 0} (known : List Use) (refusal : MomentError) (turns turn : ℕ) (begins : Bool) (tokens old mid new later total : List Token) → turn < turns → nat_eq (length tokens) 0 ≡ false
+    → Adds {X} (Err refusal) mid new (step known begins tokens).0 → mid ++ walked known (turns - turn) begins tokens ≡ old ++ total → Adds {Y} (Err refusal) old later total
+walk_fail known refusal turns turn begins tokens old mid new later total lt some added so_far =
+    let s = step known begins tokens in
+    adds_fail refusal mid new s.0 (walked known (turns - (turn + 1)) s.1 s.2) old later total added (ap (λ ys. mid ++ ys) (sym (walked_more known turns turn begins tokens lt some)) ∙ so_far)

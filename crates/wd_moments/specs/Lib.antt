@@ -1,0 +1,9 @@
+pub mod Comparisons
+pub mod Given
+pub mod Literals
+pub mod Names
+pub mod Numbered
+pub mod Seen
+pub mod Terms
+pub mod Tokens
+pub mod Units

@@ -1,0 +1,94 @@
+-- Single tokens, and what stands at the start of tokens.
+use Rattle.std.specs.Prelude.{ℕ, ◌+◌, ◌-◌, ◌==◌, ◌&&◌, ◌||◌, not, codes, nat_lt, Bool, true, false, if◌then◌else◌, List, [], ◌∷◌, length, take, drop, Option, Some, None}
+use Rattle.std.specs.Str.{bytes_eq}
+use Rattle.wd_lex.specs.declared.token.Terminal.TheVariants as m
+use Rattle.wd_lex.specs.declared.token.Token.{Token}
+use Rattle.wd_lex.specs.declared.token.TokenKind.{TokenKind}
+use Rattle.wd_lex.specs.declared.token.TokenKind.TheVariants as t
+use Rattle.wd_operands.specs.Nests.{nest_length}
+use Rattle.wd_operands.specs.Operands.{is_left_bracket, is_sign, operand_length}
+use Rattle.wd_moments.specs.declared.token.Stop.{Stop}
+use Rattle.wd_moments.specs.declared.token.Stop.TheVariants.{Sign, Comma}
+
+infixl 10 ◌>>=◌
+abbrev pub ◌>>=◌ : {A B : Type 0} → Option A → (A → Option B) → Option B
+None >>= f = None
+(Some x) >>= f = f x
+
+-- the first of two that is there
+abbrev pub or_else : {A : Type 0} → Option A → Option A → Option A
+or_else (Some x) other = Some x
+or_else None other = other
+
+abbrev pub is_dot : TokenKind → Bool
+is_dot (t.Terminal m.Dot) = true
+is_dot _ = false
+
+abbrev pub is_right_bracket : TokenKind → Bool
+is_right_bracket (t.Terminal m.RightBracket) = true
+is_right_bracket _ = false
+
+abbrev pub is_as : TokenKind → Bool
+is_as (t.Terminal m.As) = true
+is_as _ = false
+
+abbrev pub is_text : TokenKind → Bool
+is_text (t.Literal text) = true
+is_text _ = false
+
+abbrev pub is_comparison : TokenKind → Bool
+is_comparison (t.Terminal m.Equals) = true
+is_comparison (t.Terminal m.NotEquals) = true
+is_comparison (t.Terminal m.Less) = true
+is_comparison (t.Terminal m.LessOrEqual) = true
+is_comparison (t.Terminal m.Greater) = true
+is_comparison (t.Terminal m.GreaterOrEqual) = true
+is_comparison _ = false
+
+-- a text stands somewhere among them
+unfoldable pub holds_text : List Token → Bool
+holds_text [] = false
+holds_text (token ∷ tokens) = is_text token.kind || holds_text tokens
+
+unfoldable pub begins_bracket : List Token → Bool
+begins_bracket [] = false
+begins_bracket (token ∷ tokens) = is_left_bracket token.kind
+
+-- ---- lengths
+
+-- a sign or a comma that no bracket encloses ends a part
+abbrev pub stops : Stop → TokenKind → Bool
+stops Sign kind = is_sign kind
+stops Comma (t.Terminal m.Comma) = true
+stops Comma _ = false
+
+-- how many brackets are open after a token
+abbrev pub depth_after : ℕ → TokenKind → ℕ
+depth_after depth (t.Terminal m.LeftBracket) = depth + 1
+depth_after depth (t.Terminal m.Case) = depth + 1
+depth_after depth (t.Terminal m.RightBracket) = depth - 1
+depth_after depth (t.Terminal m.End) = depth - 1
+depth_after depth _ = depth
+
+-- how many tokens stand up to where a part ends; so many stand before these, in so many brackets
+unfoldable pub part_from : Stop → ℕ → ℕ → List Token → ℕ
+part_from stop count depth [] = count
+part_from stop count depth (token ∷ tokens) =
+    if depth == 0 && stops stop token.kind then count else part_from stop (count + 1) (depth_after depth token.kind) tokens
+
+unfoldable pub part_length : Stop → List Token → ℕ
+part_length stop tokens = part_from stop 0 0 tokens
+
+-- ---- what stands first, and the tokens after it
+
+abbrev pub AndRest : Type 0
+AndRest = List Token × List Token
+
+unfoldable pub operand_at : List Token → Option AndRest
+operand_at tokens = if operand_length tokens == 0 then None else Some (take (operand_length tokens) tokens, drop (operand_length tokens) tokens)
+
+-- what stands between the round brackets at the start
+unfoldable pub brackets_at : List Token → Option AndRest
+brackets_at tokens =
+    if not (begins_bracket tokens) || nat_lt (nest_length tokens) 2 then None
+    else Some (drop 1 (take (nest_length tokens - 1) (take (nest_length tokens) tokens)), drop (nest_length tokens) tokens)

@@ -1,0 +1,124 @@
+//! Comparisons whose sides count one unit.
+
+ghost use Rattle.std.specs.Prelude.{◌≡◌, map};
+ghost use Rattle.wd_moments.specs.Comparisons as spec;
+ghost use Rattle.wd_moments.specs.Given.{Finds};
+ghost use Rattle.wd_moments.specs.Seen.{comparison_seen, use_seen};
+
+use crate::literal::number_said;
+use crate::names::NameUse;
+use crate::operand::unit_of;
+use crate::token::{is_comparison, is_left_bracket, is_name, is_right_bracket, operand_at};
+use crate::unit::{Unit, is_same};
+use wd_lex::Token;
+
+/// A comparison, what both sides count, and the tokens after it.
+#[derive(Clone, Copy)]
+pub struct Comparison<'t> {
+    pub left: &'t [Token],
+    pub sign: &'t Token,
+    pub right: &'t [Token],
+    pub unit: Unit,
+    pub rest: &'t [Token],
+}
+
+/// Whether all tokens close brackets.
+#[tactic(auto, unfolding(crate::specs::Comparisons::closes))]
+fn closes(tokens: &[Token]) -> bool
+    ensures { result ≡ spec.closes tokens.now }
+{
+    let mut rest = tokens;
+    while let [first, after @ ..] = rest {
+        if !is_right_bracket(&first.kind) {
+            return false;
+        }
+        rest = after;
+    }
+    true
+}
+
+/// Whether it is a text alone, in brackets or not, that says so many of that unit.
+#[tactic(auto, unfolding(crate::specs::Comparisons::says))]
+fn says(unit: Unit, tokens: &[Token]) -> bool
+    ensures { result ≡ spec.says unit tokens.now }
+{
+    let mut rest = tokens;
+    while let [first, after @ ..] = rest {
+        if !is_left_bracket(&first.kind) {
+            return number_said(unit, &first.kind).is_some() && closes(after);
+        }
+        rest = after;
+    }
+    false
+}
+
+/// The unit of both sides, by what each counts.
+fn common(
+    first: Option<Unit>,
+    second: Option<Unit>,
+    left: &[Token],
+    right: &[Token],
+) -> Option<Unit>
+    ensures { result ≡ spec.common first second left.now right.now }
+{
+    let (unit, is_common) = match (first, second) {
+        (Some(first), Some(second)) => (first, is_same(first, second)),
+        (Some(first), None) => (first, says(first, right)),
+        (None, Some(second)) => (second, says(second, left)),
+        (None, None) => return None,
+    };
+    if is_common { Some(unit) } else { None }
+}
+
+/// The sign of a comparison, and the tokens after it.
+#[tactic(auto, unfolding(crate::specs::Comparisons::sign_at))]
+fn sign_at(tokens: &[Token]) -> Option<(&Token, &[Token])>
+    ensures { Finds (λ x. (x.0.now, x.1.now)) result (spec.sign_at tokens.now) }
+{
+    match tokens {
+        [first, rest @ ..] => if is_comparison(&first.kind) {
+            Some((first, rest))
+        } else {
+            None
+        },
+        [] => None,
+    }
+}
+
+/// Whether no name follows, which would say more of the last operand.
+#[tactic(auto, unfolding(crate::specs::Comparisons::is_done))]
+fn is_done(tokens: &[Token]) -> bool
+    ensures { result ≡ spec.is_done tokens.now }
+{
+    match tokens {
+        [first, ..] => !is_name(&first.kind),
+        [] => true,
+    }
+}
+
+/// The comparison at the start, where it is known what its sides count.
+#[tactic(auto, unfolding(crate::specs::Comparisons::comparison_at))]
+pub fn comparison_at<'t>(known: &[NameUse], tokens: &'t [Token]) -> Option<Comparison<'t>>
+    ensures { Finds comparison_seen result (spec.comparison_at (map use_seen known.now) tokens.now) }
+{
+    let Some((left, rest)) = operand_at(tokens) else {
+        return None;
+    };
+    let Some((sign, rest)) = sign_at(rest) else {
+        return None;
+    };
+    let Some((right, rest)) = operand_at(rest) else {
+        return None;
+    };
+    if !is_done(rest) {
+        return None;
+    }
+    let unit = common(unit_of(known, left), unit_of(known, right), left, right)?;
+    Some(Comparison {
+        left,
+        sign,
+        right,
+        unit,
+        rest,
+    })
+}

@@ -1,0 +1,224 @@
+//! Calls and what stands in brackets, and what is left of an operand without them.
+
+ghost use Rattle.std.specs.Prelude.{◌≡◌, map};
+ghost use Rattle.wd_moments.specs.Given.{Finds};
+ghost use Rattle.wd_moments.specs.Seen.{use_seen};
+ghost use Rattle.wd_moments.specs.Terms as spec;
+
+use crate::literal::{Amount, amount_at};
+use crate::names::{NameUse, unit_named};
+use crate::token::{Stop, brackets_at, holds_text, is_dot, is_name, is_over, part_length};
+use crate::unit::Unit;
+use wd_lex::{Token, TokenKind};
+use wd_operands::nest_length;
+
+fn token_unit(known: &[NameUse], kind: &TokenKind) -> Option<Unit>
+    ensures { result ≡ spec.token_unit (map use_seen known.now) kind.now }
+{
+    match kind {
+        TokenKind::Word(name) | TokenKind::Quoted(name) => unit_named(known, name.as_str()),
+        TokenKind::Number(_) => Some(Unit::Plain),
+        _ => None,
+    }
+}
+
+/// A name, of a table or not, or a number.
+#[tactic(auto, unfolding(crate::specs::Terms::column_unit))]
+fn column_unit(known: &[NameUse], tokens: &[Token]) -> Option<Unit>
+    ensures { result ≡ spec.column_unit (map use_seen known.now) tokens.now }
+{
+    match tokens {
+        [only] => token_unit(known, &only.kind),
+        [table, dot, column] => {
+            if is_name(&table.kind) && is_dot(&dot.kind) && is_name(&column.kind) {
+                token_unit(known, &column.kind)
+            } else {
+                None
+            }
+        }
+        _ => None,
+    }
+}
+
+fn unit_in(amount: Option<Amount>) -> Option<Unit>
+    ensures { result ≡ spec.unit_in amount }
+{
+    match amount {
+        Some(amount) => Some(amount.unit),
+        None => None,
+    }
+}
+
+/// A literal.
+#[tactic(auto, unfolding(crate::specs::Terms::literal_unit))]
+fn literal_unit(tokens: &[Token]) -> Option<Unit>
+    ensures { result ≡ spec.literal_unit tokens.now }
+{
+    if tokens.len() == 2 {
+        unit_in(amount_at(tokens))
+    } else {
+        None
+    }
+}
+
+/// Whether a call gives one of the values of its first argument.
+fn is_picked(kind: &TokenKind) -> bool
+    ensures { result ≡ spec.is_picked kind.now }
+{
+    match kind {
+        TokenKind::Word(name) => {
+            let name = name.as_str();
+            name == "lag"
+                || name == "lead"
+                || name == "first_value"
+                || name == "last_value"
+                || name == "nth_value"
+                || name == "min"
+                || name == "max"
+        }
+        _ => false,
+    }
+}
+
+/// Whether a call counts rows.
+fn is_counted(kind: &TokenKind) -> bool
+    ensures { result ≡ spec.is_counted kind.now }
+{
+    match kind {
+        TokenKind::Word(name) => {
+            let name = name.as_str();
+            name == "count"
+                || name == "row_number"
+                || name == "rank"
+                || name == "dense_rank"
+                || name == "ntile"
+        }
+        _ => false,
+    }
+}
+
+/// Whether it is a window's name, or what stands in brackets.
+#[tactic(auto, unfolding(crate::specs::Terms::is_window))]
+fn is_window(tokens: &[Token]) -> bool
+    ensures { result ≡ spec.is_window tokens.now }
+{
+    match tokens {
+        [] => false,
+        [only] => is_name(&only.kind),
+        _ => nest_length(tokens) == tokens.len(),
+    }
+}
+
+/// Whether it is nothing, or OVER and a window in which no text stands.
+#[tactic(auto, unfolding(crate::specs::Terms::ends_call))]
+fn ends_call(tokens: &[Token]) -> bool
+    ensures { result ≡ spec.ends_call tokens.now }
+{
+    match tokens {
+        [] => true,
+        [first, rest @ ..] => is_over(&first.kind) && is_window(rest) && !holds_text(rest),
+    }
+}
+
+/// The arguments of a call, after its name.
+#[tactic(auto, unfolding(crate::specs::Terms::arguments_of))]
+fn arguments_of(tokens: &[Token]) -> Option<&[Token]>
+    ensures { Finds (λ r. r.now) result (spec.arguments_of tokens.now) }
+{
+    let Some((arguments, rest)) = brackets_at(tokens) else {
+        return None;
+    };
+    if ends_call(rest) {
+        Some(arguments)
+    } else {
+        None
+    }
+}
+
+/// The first argument, where no text stands in the others.
+#[tactic(auto, unfolding(crate::specs::Terms::first_argument))]
+fn first_argument(tokens: &[Token]) -> Option<&[Token]>
+    ensures { Finds (λ r. r.now) result (spec.first_argument tokens.now) }
+{
+    let Some(arguments) = arguments_of(tokens) else {
+        return None;
+    };
+    let (first, others) = arguments.split_at(part_length(Stop::Comma, arguments));
+    if holds_text(others) {
+        None
+    } else {
+        Some(first)
+    }
+}
+
+/// A call that counts rows.
+#[tactic(auto, unfolding(crate::specs::Terms::count_unit))]
+fn count_unit(tokens: &[Token]) -> Option<Unit>
+    ensures { result ≡ spec.count_unit tokens.now }
+{
+    let [first, rest @ ..] = tokens else {
+        return None;
+    };
+    if !is_counted(&first.kind) {
+        return None;
+    }
+    match arguments_of(rest) {
+        Some(arguments) => if holds_text(arguments) {
+            None
+        } else {
+            Some(Unit::Plain)
+        },
+        None => None,
+    }
+}
+
+/// The argument of which a call gives one of the values.
+#[tactic(auto, unfolding(crate::specs::Terms::picked_argument))]
+fn picked_argument(tokens: &[Token]) -> Option<&[Token]>
+    ensures { Finds (λ r. r.now) result (spec.picked_argument tokens.now) }
+{
+    match tokens {
+        [first, rest @ ..] => if is_picked(&first.kind) {
+            first_argument(rest)
+        } else {
+            None
+        },
+        [] => None,
+    }
+}
+
+/// What stands in brackets, where nothing stands after them.
+#[tactic(auto, unfolding(crate::specs::Terms::bracketed))]
+fn bracketed(tokens: &[Token]) -> Option<&[Token]>
+    ensures { Finds (λ r. r.now) result (spec.bracketed tokens.now) }
+{
+    let Some((inside, rest)) = brackets_at(tokens) else {
+        return None;
+    };
+    if rest.is_empty() { Some(inside) } else { None }
+}
+
+/// The smaller operand that counts what this one does.
+#[tactic(auto, unfolding(crate::specs::Terms::inner_operand))]
+pub fn inner_operand(tokens: &[Token]) -> Option<&[Token]>
+    ensures { Finds (λ r. r.now) result (spec.inner_operand tokens.now) }
+{
+    match bracketed(tokens) {
+        Some(inside) => Some(inside),
+        None => picked_argument(tokens),
+    }
+}
+
+/// What a name, a number, a literal or a call counts that has no smaller operand.
+#[tactic(auto, unfolding(crate::specs::Terms::plain_unit))]
+pub fn plain_unit(known: &[NameUse], tokens: &[Token]) -> Option<Unit>
+    ensures { result ≡ spec.plain_unit (map use_seen known.now) tokens.now }
+{
+    if let Some(unit) = column_unit(known, tokens) {
+        return Some(unit);
+    }
+    match literal_unit(tokens) {
+        Some(unit) => Some(unit),
+        None => count_unit(tokens),
+    }
+}
