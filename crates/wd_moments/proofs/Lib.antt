@@ -1,2 +1,4 @@
 pub mod AddFacts
+pub mod NumberFacts
+pub mod SumFacts
 pub mod WalkFacts

@@ -1,12 +1,12 @@
 -- How the loop over tokens goes on.
-use Rattle.std.proofs.Common.{◌≡◌, ◌∙◌, ◌<◌, ◌≤◌, ◌+◌, ◌-◌, ◌++◌, ℕ, zero, suc, nat_eq, Bool, true, false, List, [], ◌∷◌, length, Err, refl, ap, sym, arith, eqb-true}
+use Rattle.std.proofs.Common.{◌≡◌, ◌∙◌, ◌<◌, ◌≤◌, ◌+◌, ◌-◌, ◌++◌, ℕ, zero, suc, nat_eq, Bool, true, false, List, [], ◌∷◌, length, refl, ap, sym, arith, eqb-true}
 use Rattle.std.proofs.lemmas.Bool.{true≢false}
 use Rattle.std.proofs.lemmas.List.{append-nil}
 use Rattle.wd_lex.specs.declared.token.Token.{Token}
 use Rattle.wd_moments.specs.declared.error.MomentError.{MomentError}
-use Rattle.wd_moments.specs.Given.{Adds}
+use Rattle.wd_moments.specs.Given.{Fails}
 use Rattle.wd_moments.specs.Names.{Use}
-use Rattle.wd_moments.specs.Numbered.{Step, step, walked}
+use Rattle.wd_moments.specs.Numbered.{step, walked}
 use Rattle.wd_moments.proofs.AddFacts.{adds_fail, adds_more}
 
 walked_more : (known : List Use) (turns turn : ℕ) (begins : Bool) (tokens : List Token) → turn < turns → nat_eq (length tokens) 0 ≡ false
@@ -37,8 +37,8 @@ walk_more known turns turn begins next tokens rest old mid new total lt some add
     let s = step known begins tokens in
     rw (is_next, is_rest) (adds_more mid new s.0 (walked known (turns - (turn + 1)) s.1 s.2) old total added (ap (λ ys. mid ++ ys) (sym (walked_more known turns turn begins tokens lt some)) ∙ so_far))
 
-pub walk_fail : {X Y : Type 0} (known : List Use) (refusal : MomentError) (turns turn : ℕ) (begins : Bool) (tokens old mid new later total : List Token) → turn < turns → nat_eq (length tokens) 0 ≡ false
-    → Adds {X} (Err refusal) mid new (step known begins tokens).0 → mid ++ walked known (turns - turn) begins tokens ≡ old ++ total → Adds {Y} (Err refusal) old later total
-walk_fail known refusal turns turn begins tokens old mid new later total lt some added so_far =
+pub walk_fail : (known : List Use) (refusal : MomentError) (turns turn : ℕ) (begins : Bool) (tokens old mid total : List Token) → turn < turns → nat_eq (length tokens) 0 ≡ false
+    → Fails refusal mid (step known begins tokens).0 → mid ++ walked known (turns - turn) begins tokens ≡ old ++ total → Fails refusal old total
+walk_fail known refusal turns turn begins tokens old mid total lt some added so_far =
     let s = step known begins tokens in
-    adds_fail refusal mid new s.0 (walked known (turns - (turn + 1)) s.1 s.2) old later total added (ap (λ ys. mid ++ ys) (sym (walked_more known turns turn begins tokens lt some)) ∙ so_far)
+    adds_fail refusal mid s.0 (walked known (turns - (turn + 1)) s.1 s.2) old total added (ap (λ ys. mid ++ ys) (sym (walked_more known turns turn begins tokens lt some)) ∙ so_far)

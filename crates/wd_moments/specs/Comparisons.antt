@@ -1,6 +1,5 @@
 -- Comparisons whose sides count one unit.
-use Rattle.std.specs.Prelude.{ℕ, ◌==◌, ◌&&◌, ◌||◌, not, Bool, true, false, if◌then◌else◌, List, [], ◌∷◌, Option, Some, None, is_some}
-use Rattle.std.specs.List.{list_all}
+use Rattle.std.specs.Prelude.{◌&&◌, not, Bool, true, false, if◌then◌else◌, List, [], ◌∷◌, Option, Some, None, is_some}
 use Rattle.wd_lex.specs.declared.token.Token.{Token}
 use Rattle.wd_operands.specs.Operands.{is_left_bracket, is_name}
 use Rattle.wd_moments.specs.declared.unit.Unit.{Unit as Counts}

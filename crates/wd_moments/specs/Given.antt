@@ -18,8 +18,12 @@ pair found = (found.0.now, found.1.now)
 abbrev pub most_tokens : ℕ
 most_tokens = 65536
 
--- A function added these tokens to others: all of them, or they would be too many, unless memory ran out.
+-- A refusal to add tokens to others: they would be too many, unless memory ran out.
+abbrev pub Fails : MomentError → List Token → List Token → Type 0
+Fails e.TooLong old added = most_tokens < length (old ++ added)
+Fails e.OutOfMemory old added = Unit {0}
+
+-- A function added these tokens to others, all of them, or refused.
 abbrev pub Adds : {X : Type 0} → Result X MomentError → List Token → List Token → List Token → Type 0
 Adds (Ok x) old new added = (new ≡ old ++ added) × (length new ≤ most_tokens)
-Adds (Err e.TooLong) old new added = most_tokens < length (old ++ added)
-Adds (Err e.OutOfMemory) old new added = Unit {0}
+Adds (Err refusal) old new added = Fails refusal old added

@@ -11,7 +11,7 @@ use Rattle.wd_calendar.specs.Dates.{day_of}
 use Rattle.wd_calendar.specs.Times.{interval_of, microsecond_of}
 use Rattle.wd_moments.specs.declared.literal.Amount.{Amount}
 use Rattle.wd_moments.specs.declared.unit.Unit.{Unit as Counts}
-use Rattle.wd_moments.specs.declared.unit.Unit.TheVariants.{Days, Microseconds, Span, Plain}
+use Rattle.wd_moments.specs.declared.unit.Unit.TheVariants.{Days, Microseconds, Span}
 
 -- what a literal counts, and how much of it
 abbrev pub counted : Counts → Option ℤ → Option Amount

@@ -96,9 +96,12 @@ with_use Unused unit = On unit
 with_use (On first) unit = if is_also first unit then On first else Not
 with_use Not unit = Not
 
+abbrev pub with_next : Agreed → Use → List ℕ → Agreed
+with_next so_far x name = if bytes_eq x.0 name then with_use so_far x.1 else so_far
+
 unfoldable pub agreed_from : Agreed → List ℕ → List Use → Agreed
 agreed_from so_far name [] = so_far
-agreed_from so_far name (x ∷ xs) = agreed_from (if bytes_eq x.0 name then with_use so_far x.1 else so_far) name xs
+agreed_from so_far name (x ∷ xs) = agreed_from (with_next so_far x name) name xs
 
 abbrev pub agreed_unit : Agreed → Option Counts
 agreed_unit (On unit) = unit

@@ -202,21 +202,36 @@ fn with_use(so_far: Agreed, unit: Option<Unit>) -> Agreed
     }
 }
 
+/// What they count with one more use, which may be of another name.
+fn with_next(so_far: Agreed, next: &NameUse, name: &str) -> Agreed
+    ensures { result ≡ spec.with_next so_far (use_seen next.now) name.now }
+{
+    if next.name == name {
+        with_use(so_far, next.unit)
+    } else {
+        so_far
+    }
+}
+
+fn agreed_unit(agreed: Agreed) -> Option<Unit>
+    ensures { result ≡ spec.agreed_unit agreed }
+{
+    match agreed {
+        Agreed::On(unit) => unit,
+        Agreed::Unused | Agreed::Not => None,
+    }
+}
+
 /// What a name counts, where all its uses are known and count that.
-#[tactic(auto, unfolding(crate::specs::Names::unit_named))]
+#[tactic(auto, unfolding(crate::specs::Names::unit_named, crate::specs::Names::agreed_from))]
 pub fn unit_named(known: &[NameUse], name: &str) -> Option<Unit>
     ensures { result ≡ spec.unit_named (map use_seen known.now) name.now }
 {
     let mut agreed = Agreed::Unused;
     let mut rest = known;
     while let [first, after @ ..] = rest {
-        if first.name == name {
-            agreed = with_use(agreed, first.unit);
-        }
+        agreed = with_next(agreed, first, name);
         rest = after;
     }
-    match agreed {
-        Agreed::On(unit) => unit,
-        Agreed::Unused | Agreed::Not => None,
-    }
+    agreed_unit(agreed)
 }
