@@ -1,18 +1,26 @@
 //! A query through the equations.
 
-ghost use Rattle.std.specs.Prelude.{◌≡◌, IfOk, IfSome};
+ghost use Rattle.std.specs.Prelude.{◌≡◌, ◌∷◌, [], Ok, IfOk, IfSome};
 ghost use Rattle.std.specs.String.{string_bytes};
 ghost use Rattle.wd_lex.specs.Lexed.{IsLexed};
+ghost use Rattle.wd_distinct_on.specs.Respelled.{respelled};
+ghost use Rattle.wd_equations.specs.Expanded as expressions;
+ghost use Rattle.wd_moments.specs.Numbered as numbers;
+ghost use Rattle.wd_qualified.specs.Unqualified.{unqualified};
 ghost use Rattle.wd_respell.specs.Respelled.{IsEquated, IsRespelled};
 ghost use Rattle.wd_with.specs.Expanded.{said};
+ghost use Rattle.wd_with.specs.declared.place.Place.TheVariants.{Elsewhere};
 
 use crate::kinds::say_the_same;
 use crate::layout::laid_out;
 use std::alloc::Global;
 use wd_clauses::RespellError;
+use wd_dialect_read::Statement;
 use wd_distinct_on::without_distinct_on;
 use wd_equations::{ExpandError, expand};
 use wd_lex::{LexError, Token, lex};
+use wd_moments::{MomentError, with_numbers};
+use wd_qualified::unqualified_query;
 use wd_value::OutOfMemory;
 use wd_with::{Expanded, without_with};
 
@@ -26,53 +34,95 @@ pub struct Respelled {
 }
 
 /// The text of a query with the equations put in, where these change it. None also where its own text has no tokens, or the other
-/// would have too many.
-pub fn respell(alloc: Global, query: &[u8]) -> Result<Option<Respelled>, OutOfMemory>
-    ensures { IfOk result (λ o. IfSome o (λ r. IsRespelled query.now (string_bytes r.text) r.read_twice.items)) }
+/// would have too many. What its columns count is known by the statements of PostgreSQL's that make its schema.
+pub fn respell(
+    alloc: Global,
+    statements: &[Statement],
+    query: &[u8],
+) -> Result<Option<Respelled>, OutOfMemory>
+    ensures { IfOk result (λ o. IfSome o (λ r. IsRespelled statements.now query.now (string_bytes r.text) r.read_twice.items)) }
 {
     let tokens = match lex(alloc, query) {
         Ok(tokens) => tokens,
         Err(LexError::OutOfMemory) => return Err(OutOfMemory),
         Err(_) => return Ok(None),
     };
-    match equated(alloc, &tokens)? {
+    match equated(alloc, statements, &tokens)? {
         Some(equated) if !say_the_same(&tokens, &equated.tokens) => {
-            written(alloc, query, &tokens, equated)
+            written(alloc, statements, query, &tokens, equated)
         }
         _ => Ok(None),
     }
 }
 
 /// What the tokens are by the equations, unless they would be too many.
-fn equated(alloc: Global, tokens: &[Token]) -> Result<Option<Expanded>, OutOfMemory>
-    ensures { IfOk result (λ o. IfSome o (λ e. IsEquated tokens.now (said e))) }
+fn equated(
+    alloc: Global,
+    statements: &[Statement],
+    tokens: &[Token],
+) -> Result<Option<Expanded>, OutOfMemory>
+    ensures { IfOk result (λ o. IfSome o (λ e. IsEquated statements.now tokens.now (said e))) }
 {
-    let Expanded { tokens, read_twice } = match without_with(alloc, tokens) {
-        Ok(expanded) => expanded,
-        Err(RespellError::OutOfMemory) => return Err(OutOfMemory),
-        Err(RespellError::TooLong) => return Ok(None),
-    };
-    match without_distinct_on(alloc, &tokens) {
-        Ok(plain) => match expand(alloc, &plain) {
-            Ok(tokens) => Ok(Some(Expanded { tokens, read_twice })),
-            Err(ExpandError::OutOfMemory) => Err(OutOfMemory),
-            Err(ExpandError::TooLong) => Ok(None),
+    match without_with(alloc, tokens) {
+        Ok(expanded) => {
+            let Expanded { tokens, read_twice } = expanded;
+            match plain(alloc, &tokens)? {
+                Some(plain) => numbered(alloc, statements, &plain, read_twice),
+                None => Ok(None),
+            }
+        }
+        Err(RespellError::OutOfMemory) => Err(OutOfMemory),
+        Err(RespellError::TooLong) => Ok(None),
+    }
+}
+
+/// The tokens without schemas of tables and without DISTINCT ON.
+fn plain(alloc: Global, tokens: &[Token]) -> Result<Option<Vec<Token>>, OutOfMemory>
+    ensures { IfOk result (λ o. IfSome o (λ plain. respelled (unqualified (Elsewhere ∷ []) tokens.now) ≡ Ok plain.items)) }
+{
+    match unqualified_query(alloc, tokens) {
+        Ok(tables) => match without_distinct_on(alloc, &tables) {
+            Ok(plain) => Ok(Some(plain)),
+            Err(RespellError::OutOfMemory) => Err(OutOfMemory),
+            Err(RespellError::TooLong) => Ok(None),
         },
         Err(RespellError::OutOfMemory) => Err(OutOfMemory),
         Err(RespellError::TooLong) => Ok(None),
     }
 }
 
+/// The tokens with the equations of expressions, and with numbers for moments, beside these names.
+fn numbered(
+    alloc: Global,
+    statements: &[Statement],
+    tokens: &[Token],
+    read_twice: Vec<Token>,
+) -> Result<Option<Expanded>, OutOfMemory>
+    ensures numbered { IfOk result (λ o. IfSome o (λ e. e.tokens.items ≡ numbers.with_numbers statements.now (expressions.expanded tokens.now))) }
+    ensures names { IfOk result (λ o. IfSome o (λ e. e.read_twice.items ≡ read_twice.items)) }
+{
+    match expand(alloc, tokens) {
+        Ok(expanded) => match with_numbers(alloc, statements, &expanded) {
+            Ok(tokens) => Ok(Some(Expanded { tokens, read_twice })),
+            Err(MomentError::OutOfMemory) => Err(OutOfMemory),
+            Err(MomentError::TooLong) => Ok(None),
+        },
+        Err(ExpandError::OutOfMemory) => Err(OutOfMemory),
+        Err(ExpandError::TooLong) => Ok(None),
+    }
+}
+
 /// The text of the other tokens, where the lexer reads just these in it.
 fn written(
     alloc: Global,
+    statements: &[Statement],
     query: &[u8],
     tokens: &[Token],
     equated: Expanded,
 ) -> Result<Option<Respelled>, OutOfMemory>
     requires lexed { IsLexed query.now tokens.now }
-    requires equated { IsEquated tokens.now (said equated) }
-    ensures { IfOk result (λ o. IfSome o (λ r. IsRespelled query.now (string_bytes r.text) r.read_twice.items)) }
+    requires equated { IsEquated statements.now tokens.now (said equated) }
+    ensures { IfOk result (λ o. IfSome o (λ r. IsRespelled statements.now query.now (string_bytes r.text) r.read_twice.items)) }
 {
     let start = match tokens.first() {
         Some(first) => first.span.start as usize,

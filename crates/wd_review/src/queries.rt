@@ -37,7 +37,7 @@ impl Queries {
         schema: &SchemaFile,
         text: Vec<u8>,
     ) -> Result<Queries, OutOfMemory> {
-        match respelled_text(alloc, &schema.text, &text)? {
+        match respelled_text(alloc, &schema.statements, &schema.text, &text)? {
             Some(RespelledText { text, notes }) => Ok(Queries {
                 text,
                 is_respelled: true,

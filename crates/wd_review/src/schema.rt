@@ -2,6 +2,7 @@
 
 use std::alloc::Global;
 use std::mem;
+use wd_dialect_schema::{DialectSchema, Statement};
 use wd_formats::Level;
 use wd_front::{Front, Refused, front_of, note_lines};
 use wd_judged::File;
@@ -39,6 +40,8 @@ pub(crate) struct SchemaFile {
     /// The text over which queries are judged: that of the file, or the one that spells its tables.
     pub(crate) text: Vec<u8>,
     pub(crate) reading: Reading,
+    /// The statements of PostgreSQL's that make it; none where the profile reads it.
+    pub(crate) statements: Vec<Statement>,
     untold: Untold,
 }
 
@@ -51,24 +54,32 @@ impl SchemaFile {
                 path,
                 text,
                 reading: Reading::Read,
+                statements: Vec::new(alloc),
                 untold: Untold::Nothing,
             }),
             Front::Unread(Refused::Profile) => Ok(SchemaFile {
                 path,
                 text,
                 reading: Reading::Unread,
+                statements: Vec::new(alloc),
                 untold: Untold::Nothing,
             }),
-            Front::Respelled(schema) => Ok(SchemaFile {
-                path,
-                text: Vec::from_slice(alloc, schema.text.as_bytes())?,
-                reading: Reading::Read,
-                untold: Untold::Notes(note_lines(alloc, &schema.statements)?),
-            }),
+            Front::Respelled(schema) => {
+                let DialectSchema { statements, text } = schema;
+                let lines = note_lines(alloc, &statements)?;
+                Ok(SchemaFile {
+                    path,
+                    text: Vec::from_slice(alloc, text.as_bytes())?,
+                    reading: Reading::Read,
+                    statements,
+                    untold: Untold::Notes(lines),
+                })
+            }
             Front::Unread(refused) => Ok(SchemaFile {
                 path,
                 text,
                 reading: Reading::Refused,
+                statements: Vec::new(alloc),
                 untold: untold_of(alloc, refused)?,
             }),
         }
