@@ -120,7 +120,7 @@ def small_cases():
         ("two statements", {"q.sql": f"-- ; no end\n{ONE};\n{TIED};"}, ["q.sql"], 1, ["q.sql:3:11: depends", "2 queries: 1 deterministic, 1 depend", "help: ORDER BY v, id "]),
         ("a comment alone", {"q.sql": f"{ONE}; -- behind"}, ["q.sql"], 0, ["1 query: 1 deterministic"]),
         ("no query", {"q.sql": "-- nothing\n"}, ["q.sql"], 2, ["q.sql: not read", "1 not read"]),
-        ("a refusal", {"q.sql": "SELECT id\nFROM t WHERE g IN ('a')"}, ["q.sql"], 2, ["q.sql:2:16: not read", "[201]", "    2 | FROM t WHERE g IN ('a')\n      |                ^^"]),
+        ("a refusal", {"q.sql": "SELECT id\nFROM t WHERE g LIKE 'a'"}, ["q.sql"], 2, ["q.sql:2:16: not read", "[201]", "    2 | FROM t WHERE g LIKE 'a'\n      |                ^^^^"]),
         ("a refused second statement", {"q.sql": f"{ONE};\n\nSELECT 12.5 FROM t"}, ["q.sql"], 2, ["q.sql:3:8: not read", "[104]"]),
         ("an unknown column in a second statement", {"q.sql": f"{ONE};\nSELECT idd FROM t"}, ["q.sql"], 2, ["q.sql:2:8: not read", "[402]", "    2 | SELECT idd FROM t\n      |        ^^^"]),
         ("a bad schema", {"q.sql": ONE, "schema.sql": "CREATE TABLE t (a DATE,)"}, ["q.sql"], 2, ["schema.sql:1:24: not read: ", "[309]", "1 not read"]),
