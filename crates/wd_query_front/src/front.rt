@@ -25,18 +25,18 @@ pub struct RespelledText {
 }
 
 /// The text of a file in which each statement that the profile refuses over a schema stands as the equations respell it, where there
-/// is such a statement. What its columns count is known by the statements of PostgreSQL's that make the schema.
+/// is such a statement. What its columns count is known by what statements of PostgreSQL's declare.
 pub fn respelled_text(
     alloc: Global,
-    statements: &[Statement],
+    declared: &[Statement],
     schema: &[u8],
     text: &[u8],
 ) -> Result<Option<RespelledText>, OutOfMemory>
-    ensures { IfOk result (λ o. IfSome o (λ r. IsRespelledText statements.now schema.now text.now r.text.items)) }
+    ensures { IfOk result (λ o. IfSome o (λ r. IsRespelledText declared.now schema.now text.now r.text.items)) }
 {
     let mut notes = Vec::new(alloc);
     let spans = statements(alloc, text)?;
-    let fixes = respelled_statements(alloc, statements, schema, text, &spans, &mut notes)?;
+    let fixes = respelled_statements(alloc, declared, schema, text, &spans, &mut notes)?;
     if fixes.is_empty() {
         return Ok(None);
     }
@@ -47,7 +47,7 @@ pub fn respelled_text(
 /// The statements that are respelled; what is told of them goes behind the notes.
 fn respelled_statements(
     alloc: Global,
-    statements: &[Statement],
+    declared: &[Statement],
     schema: &[u8],
     text: &[u8],
     spans: &[Span],
@@ -55,11 +55,11 @@ fn respelled_statements(
 ) -> Result<Vec<Fix>, OutOfMemory>
     requires { StandInOrder 0 spans.now (length text.now) }
     ensures order { IfOk result (λ fixes. StandInOrder 0 (map span_of fixes.items) (length text.now)) }
-    ensures each { IfOk result (λ fixes. All (IsRespelledAt statements.now schema.now text.now) fixes.items) }
+    ensures each { IfOk result (λ fixes. All (IsRespelledAt declared.now schema.now text.now) fixes.items) }
 {
     let mut fixes = Vec::new(alloc);
     for span in spans {
-        if let Some(fix) = respelled_statement(alloc, statements, schema, text, *span, notes)? {
+        if let Some(fix) = respelled_statement(alloc, declared, schema, text, *span, notes)? {
             fixes.push(fix)?;
         }
     }
@@ -69,7 +69,7 @@ fn respelled_statements(
 /// The statement that stands there, respelled, where the profile refuses it.
 fn respelled_statement(
     alloc: Global,
-    statements: &[Statement],
+    declared: &[Statement],
     schema: &[u8],
     text: &[u8],
     span: Span,
@@ -78,13 +78,13 @@ fn respelled_statement(
     requires ordered { span.start ≤ span.end }
     requires within { span.end ≤ length text.now }
     ensures stands { IfOk result (λ o. IfSome o (λ fix. fix.span ≡ span)) }
-    ensures respelled { IfOk result (λ o. IfSome o (IsRespelledAt statements.now schema.now text.now)) }
+    ensures respelled { IfOk result (λ o. IfSome o (IsRespelledAt declared.now schema.now text.now)) }
 {
     let query = &text[span.start as usize..span.end as usize];
     match refusal(alloc, schema, query) {
         None | Some(TextError::Schema(_)) => Ok(None),
         Some(error) => match error.number() {
-            Some(_) => respelling(alloc, statements, query, span, notes),
+            Some(_) => respelling(alloc, declared, query, span, notes),
             None => Err(OutOfMemory),
         },
     }
@@ -103,15 +103,15 @@ fn refusal(alloc: Global, schema: &[u8], query: &[u8]) -> Option<TextError>
 /// What the equations make of a query, to stand there.
 fn respelling(
     alloc: Global,
-    statements: &[Statement],
+    declared: &[Statement],
     query: &[u8],
     span: Span,
     notes: &mut Vec<String>,
 ) -> Result<Option<Fix>, OutOfMemory>
     ensures stands { IfOk result (λ o. IfSome o (λ fix. fix.span ≡ span)) }
-    ensures respelled { IfOk result (λ o. IfSome o (λ fix. IsRespelledAs statements.now query.now fix.text.items)) }
+    ensures respelled { IfOk result (λ o. IfSome o (λ fix. IsRespelledAs declared.now query.now fix.text.items)) }
 {
-    match respell(alloc, statements, query)? {
+    match respell(alloc, declared, query)? {
         Some(respelled) => {
             let Respelled { text, read_twice } = respelled;
             for name in &read_twice {

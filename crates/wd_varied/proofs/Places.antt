@@ -14,7 +14,7 @@ use Rattle.wd_candidates.specs.Origins.{is_scanned}
 use Rattle.wd_candidates.specs.Outlines.{fixed_in, scanned_in}
 use Rattle.wd_varied.specs.Patterns.{FillingRule, filled}
 use Rattle.wd_varied.specs.Varied.{IsVaried, by_place, filled_row, fillings, rows_in, varied_by}
-use Rattle.wd_varied.specs.declared.suggested.Suggested.{Suggested}
+use Rattle.wd_varied.specs.declared.pools.Suggested.{Suggested}
 
 -- ---- by places
 

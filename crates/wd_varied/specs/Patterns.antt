@@ -1,12 +1,13 @@
 -- How the rows of a column stand to one another, by what is drawn for it.
-use Rattle.std.specs.Prelude.{ℕ, ◌+◌, ◌-◌, ◌*◌, ◌/◌, ◌%◌, Bool, false, List, length, min, nat_eq, nat_lt, slice_get, slice_index_or, if◌then◌else◌, Option, Some, None}
+use Rattle.std.specs.Prelude.{ℕ, ◌+◌, ◌-◌, ◌*◌, ◌/◌, ◌%◌, Bool, false, List, length, filter, min, nat_eq, nat_lt, slice_get, slice_index_or, if◌then◌else◌, Option, Some, None}
 use Rattle.std.specs.List.{list_any}
 use Rattle.wd_value.specs.declared.value.Value.{Value}
 use Rattle.wd_value.specs.declared.value.Value.TheVariants.{Null, Text}
 use Rattle.wd_value.specs.declared.value.ColumnType.{ColumnType}
 use Rattle.wd_schema.specs.declared.table.Column.{Column}
+use Rattle.wd_schema.specs.Meets.{is_of_type}
 use Rattle.wd_schema.specs.Tables.{KeyRule}
-use Rattle.wd_varied.specs.Values.{apart, apart_from}
+use Rattle.wd_varied.specs.Values.{apart, apart_from, or_else}
 use Rattle.wd_varied.specs.declared.patterns.Pattern.{Pattern}
 use Rattle.wd_varied.specs.declared.patterns.Pattern.TheVariants as pattern
 use Rattle.wd_varied.specs.declared.patterns.Filling.{Filling}
@@ -60,8 +61,9 @@ pub record FillingRule : Type 0 where
   pub kind : ColumnType
   pub pool : List Value
 
-abbrev pub filling_of : Filling → FillingRule
-filling_of f = record { pattern = f.pattern; kind = f.kind; pool = f.pool.items }
+-- the pool has the column's own values, or else those of its type among all
+abbrev pub filling_of : List Value → Filling → FillingRule
+filling_of all f = record { pattern = f.pattern; kind = f.kind; pool = or_else f.own.items (filter (is_of_type f.kind) all) }
 
 -- the value of a pool with a number, counted round
 abbrev pub value_at : List Value → ℕ → Value

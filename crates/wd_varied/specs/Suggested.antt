@@ -5,9 +5,9 @@ use Rattle.wd_value.specs.declared.value.ColumnType.{ColumnType}
 use Rattle.wd_schema.specs.Meets.{is_of_type}
 use Rattle.wd_plan.specs.Plans.{PlanTree}
 use Rattle.wd_varied.specs.Literals.{compared, literals}
-use Rattle.wd_varied.specs.Values.{near, small}
+use Rattle.wd_varied.specs.Values.{near, or_else, small}
 use Rattle.wd_varied.specs.declared.compared.Compared.{Compared}
-use Rattle.wd_varied.specs.declared.suggested.Suggested.{Suggested}
+use Rattle.wd_varied.specs.declared.pools.Suggested.{Suggested}
 
 -- so many literals of a plan are looked at
 abbrev pub most_literals : ℕ
@@ -30,10 +30,6 @@ is_for table c kind one = nat_eq one.table table && (nat_eq one.column c && is_o
 
 abbrev pub values_for : ℕ → ℕ → ColumnType → List Compared → List Value
 values_for table c kind ones = map (λ (one : Compared). one.value) (filter (is_for table c kind) ones)
-
-abbrev pub or_else : List Value → List Value → List Value
-or_else [] others = others
-or_else (v ∷ vs) others = v ∷ vs
 
 -- the pool of a column of a type: what comparisons with it suggest, or else those of all values
 abbrev pub pool_in : List Compared → List Value → ℕ → ℕ → ColumnType → List Value

@@ -6,6 +6,11 @@ use Rattle.wd_value.specs.declared.value.ColumnType.{ColumnType}
 use Rattle.wd_value.specs.declared.value.ColumnType.TheVariants as type
 use Rattle.wd_plan.specs.Expressions.{fits_64}
 
+-- some values, or others where there are none
+abbrev pub or_else : List Value → List Value → List Value
+or_else [] others = others
+or_else (v ∷ vs) others = v ∷ vs
+
 -- ---- near a literal
 
 -- a number, if 64 bits hold it

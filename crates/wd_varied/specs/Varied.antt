@@ -16,7 +16,7 @@ use Rattle.wd_varied.specs.Literals.{compared, literals}
 use Rattle.wd_varied.specs.Patterns.{FillingRule, drawn, filled, is_telling, pattern_by}
 use Rattle.wd_varied.specs.Suggested.{IsSuggested, all_near, around, most_literals, pool_in}
 use Rattle.wd_varied.specs.declared.compared.Compared.{Compared}
-use Rattle.wd_varied.specs.declared.suggested.Suggested.{Suggested}
+use Rattle.wd_varied.specs.declared.pools.Suggested.{Suggested}
 
 -- what a function of a place and an element gives for each element, the first of which has this place
 abbrev pub by_place : {X Y : Type 0} → (ℕ → X → Y) → ℕ → List X → List Y

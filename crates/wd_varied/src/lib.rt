@@ -6,11 +6,13 @@ mod compared;
 mod literals;
 mod near;
 mod patterns;
+mod pools;
 mod size;
 mod suggested;
 mod tables;
 
 pub use compared::Compared;
+pub use pools::Suggested;
 pub use size::{paired, sizes};
-pub use suggested::{Suggested, suggested_by};
+pub use suggested::suggested_by;
 pub use tables::varied;

@@ -8,6 +8,7 @@ ghost use Rattle.wd_varied.specs.Patterns.{filling_of};
 ghost use Rattle.wd_varied.specs.Patterns as spec;
 ghost use Rattle.wd_varied.specs.Values as values;
 
+use crate::pools::Suggested;
 use std::alloc::Global;
 use wd_schema::{Column, Key};
 use wd_value::{ColumnType, OutOfMemory, Text, Value};
@@ -38,7 +39,8 @@ pub(crate) enum Pattern {
 pub(crate) struct Filling {
     pub pattern: Pattern,
     pub kind: ColumnType,
-    pub pool: Vec<Value>,
+    /// The values that comparisons with it suggest; where there are none, the pool has those of its type among all.
+    pub own: Vec<Value>,
 }
 
 /// Whether a key of a table is to tell rows apart by a column, in the try with a number.
@@ -109,20 +111,25 @@ pub(crate) fn pattern_of(drawn: u64, column: &Column, telling: bool) -> Pattern
 /// What a filling gives a row with a number, of so many rows.
 pub(crate) fn filled(
     alloc: Global,
+    suggested: &Suggested,
     filling: &Filling,
     rows: u32,
     row: u32,
 ) -> Result<Value, OutOfMemory>
-    ensures { IfOk result (λ v. v ≡ spec.filled (filling_of filling.now) rows row) }
+    ensures { IfOk result (λ v. v ≡ spec.filled (filling_of suggested.now.all.items filling.now) rows row) }
 {
     match filling.pattern {
-        Pattern::Same(from) => value_at(alloc, &filling.pool, u128::from(from)),
+        Pattern::Same(from) => value_at(alloc, suggested.pool(filling), u128::from(from)),
         Pattern::InTurn(from) => {
-            value_at(alloc, &filling.pool, u128::from(from) + u128::from(row))
+            value_at(
+                alloc,
+                suggested.pool(filling),
+                u128::from(from) + u128::from(row),
+            )
         }
         Pattern::Apart => apart(alloc, filling.kind, row),
         Pattern::ApartFrom(from) => {
-            let first = value_at(alloc, &filling.pool, u128::from(from))?;
+            let first = value_at(alloc, suggested.pool(filling), u128::from(from))?;
             apart_from(alloc, first, filling.kind, row)
         }
         Pattern::LastTwoAlike => apart(alloc, filling.kind, row.min(rows.saturating_sub(2))),

@@ -10,6 +10,7 @@ ghost use Rattle.wd_varied.specs.Suggested as spec;
 use crate::compared::{Compared, add_compared};
 use crate::literals::add_literals;
 use crate::near::{near, small};
+use crate::pools::Suggested;
 use std::alloc::Global;
 use wd_plan::Plan;
 use wd_schema::is_of_type;
@@ -17,13 +18,6 @@ use wd_value::{ColumnType, OutOfMemory, Value};
 
 /// No more than so many literals of a plan are looked at.
 const MOST_LITERALS: usize = 64;
-
-/// The values that the literals of a plan suggest: for the columns that its conditions compare with them, and for all others.
-#[derive(Drop)]
-pub struct Suggested {
-    pub compared: Vec<Compared>,
-    pub all: Vec<Value>,
-}
 
 /// What the literals of a plan suggest: themselves, and values near them.
 pub fn suggested_by(alloc: Global, plan: &Plan) -> Result<Suggested, OutOfMemory>
@@ -37,7 +31,7 @@ pub fn suggested_by(alloc: Global, plan: &Plan) -> Result<Suggested, OutOfMemory
     literals.truncate(MOST_LITERALS);
     let compared = all_around(alloc, &found)?;
     let all = all_near(alloc, &literals)?;
-    Ok(Suggested { compared, all })
+    Suggested::new(alloc, compared, all)
 }
 
 /// A few small values, and those near some literals.
@@ -83,28 +77,8 @@ fn add_each(
     Ok(())
 }
 
-impl Suggested {
-    /// The values for the column of a type: those that comparisons with it suggest, or else those of all literals.
-    pub(crate) fn pool(
-        &self,
-        alloc: Global,
-        table: usize,
-        column: usize,
-        kind: ColumnType,
-    ) -> Result<Vec<Value>, OutOfMemory>
-        ensures { IfOk result (λ v. v.items ≡ spec.pool_in self.now.compared.items self.now.all.items table column kind) }
-    {
-        let own = values_for(alloc, &self.compared, table, column, kind)?;
-        if own.is_empty() {
-            values_of(alloc, &self.all, kind)
-        } else {
-            Ok(own)
-        }
-    }
-}
-
 /// The values of a type that comparisons with a column suggest.
-fn values_for(
+pub(crate) fn values_for(
     alloc: Global,
     compared: &[Compared],
     table: usize,
@@ -128,17 +102,4 @@ fn is_for(one: &Compared, table: usize, column: usize, kind: ColumnType) -> bool
     usize::from(one.table) == table
         && usize::from(one.column) == column
         && is_of_type(kind, &one.value)
-}
-
-/// Those of some values that are of a type.
-fn values_of(alloc: Global, all: &[Value], kind: ColumnType) -> Result<Vec<Value>, OutOfMemory>
-    ensures { IfOk result (λ v. v.items ≡ filter (is_of kind) all.now) }
-{
-    let mut values = Vec::new(alloc);
-    for value in all {
-        if is_of_type(kind, value) {
-            values.push(value.copy(alloc)?)?;
-        }
-    }
-    Ok(values)
 }

@@ -13,7 +13,8 @@ ghost use Rattle.wd_varied.specs.Varied.{IsVaried};
 ghost use Rattle.wd_varied.specs.Varied as spec;
 
 use crate::patterns::{Filling, drawn, filled, is_telling, pattern_of};
-use crate::suggested::Suggested;
+use crate::pools::Suggested;
+use crate::suggested::values_for;
 use std::alloc::Global;
 use wd_candidates::{Outline, fixed_at, fixed_columns, is_marked};
 use wd_schema::{Column, Schema, Table};
@@ -55,7 +56,13 @@ fn rows_of_table(
     match schema.tables.get_index(at) {
         Some((_, table)) if is_marked(&outline.scanned, at) => {
             let fillings = fillings(alloc, table, at, suggested, rows, number)?;
-            filled_rows(alloc, fixed_columns(outline, at), &fillings, rows)
+            filled_rows(
+                alloc,
+                suggested,
+                fixed_columns(outline, at),
+                &fillings,
+                rows,
+            )
         }
         _ => Ok(Vec::new(alloc)),
     }
@@ -70,7 +77,7 @@ fn fillings(
     rows: u32,
     number: u32,
 ) -> Result<Vec<Filling>, OutOfMemory>
-    ensures { IfOk result (λ v. map filling_of v.items ≡ spec.fillings suggested.now.compared.items suggested.now.all.items (table_of table.now) at rows number) }
+    ensures { IfOk result (λ v. map (filling_of suggested.now.all.items) v.items ≡ spec.fillings suggested.now.compared.items suggested.now.all.items (table_of table.now) at rows number) }
 {
     let mut fillings = Vec::with_capacity(alloc, table.columns.len())?;
     for c in 0..table.columns.len() {
@@ -92,29 +99,30 @@ fn filling(
     telling: bool,
     drawn: u64,
 ) -> Result<Filling, OutOfMemory>
-    ensures { IfOk result (λ f. filling_of f ≡ spec.filling_by suggested.now.compared.items suggested.now.all.items table telling at column.now drawn) }
+    ensures { IfOk result (λ f. filling_of suggested.now.all.items f ≡ spec.filling_by suggested.now.compared.items suggested.now.all.items table telling at column.now drawn) }
 {
     let pattern = pattern_of(drawn, column, telling);
-    let pool = suggested.pool(alloc, table, at, column.kind)?;
+    let own = values_for(alloc, &suggested.compared, table, at, column.kind)?;
     Ok(Filling {
         pattern,
         kind: column.kind,
-        pool,
+        own,
     })
 }
 
 /// So many rows, filled.
 fn filled_rows(
     alloc: Global,
+    suggested: &Suggested,
     fixed: &[Option<Value>],
     fillings: &[Filling],
     rows: u32,
 ) -> Result<Vec<Row>, OutOfMemory>
-    ensures { IfOk result (λ v. rows_of v.items ≡ map (spec.filled_row (λ c. slice_index_or fixed.now c None) (map filling_of fillings.now) rows) (positions rows)) }
+    ensures { IfOk result (λ v. rows_of v.items ≡ map (spec.filled_row (λ c. slice_index_or fixed.now c None) (map (filling_of suggested.now.all.items) fillings.now) rows) (positions rows)) }
 {
     let mut made = Vec::new(alloc);
     for row in 0..rows {
-        made.push(filled_row(alloc, fixed, fillings, rows, row)?)?;
+        made.push(filled_row(alloc, suggested, fixed, fillings, rows, row)?)?;
     }
     Ok(made)
 }
@@ -122,16 +130,24 @@ fn filled_rows(
 /// The row with a number, of so many.
 fn filled_row(
     alloc: Global,
+    suggested: &Suggested,
     fixed: &[Option<Value>],
     fillings: &[Filling],
     rows: u32,
     row: u32,
 ) -> Result<Row, OutOfMemory>
-    ensures { IfOk result (λ v. v.items ≡ spec.filled_row (λ c. slice_index_or fixed.now c None) (map filling_of fillings.now) rows row) }
+    ensures { IfOk result (λ v. v.items ≡ spec.filled_row (λ c. slice_index_or fixed.now c None) (map (filling_of suggested.now.all.items) fillings.now) rows row) }
 {
     let mut made = Vec::with_capacity(alloc, fillings.len())?;
     for c in 0..fillings.len() {
-        let value = cell(alloc, fixed_at(fixed, c), &fillings[c], rows, row)?;
+        let value = cell(
+            alloc,
+            suggested,
+            fixed_at(fixed, c),
+            &fillings[c],
+            rows,
+            row,
+        )?;
         made.push(value)?;
     }
     Ok(made)
@@ -140,15 +156,16 @@ fn filled_row(
 /// What a column holds in a row: what it is fixed to, or else what its filling gives.
 fn cell(
     alloc: Global,
+    suggested: &Suggested,
     fixed: Option<&Value>,
     filling: &Filling,
     rows: u32,
     row: u32,
 ) -> Result<Value, OutOfMemory>
-    ensures { IfOk result (λ v. v ≡ cell_of (option_map (λ f. f.now) fixed.entry) (filled_by (filling_of filling.now) rows row)) }
+    ensures { IfOk result (λ v. v ≡ cell_of (option_map (λ f. f.now) fixed.entry) (filled_by (filling_of suggested.now.all.items filling.now) rows row)) }
 {
     match fixed {
         Some(value) => value.copy(alloc),
-        None => filled(alloc, filling, rows, row),
+        None => filled(alloc, suggested, filling, rows, row),
     }
 }

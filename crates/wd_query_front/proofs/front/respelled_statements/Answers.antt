@@ -27,7 +27,7 @@ loop-span-preserved c =
           let respelled = rw w.in-Some.is at c.in_ok-fix.ensures.respelled in
           rw (w.fixes-is, w.in_ok-push.ensures.items) (record {
             ordered = choose l.fixes.items w.in-Some.fix _ _ (length c.args.text.now) stands next;
-            each = All-push (IsRespelledAt c.args.statements.now c.args.schema.now c.args.text.now) l.fixes.items w.in-Some.fix l.invariant.each respelled;
+            each = All-push (IsRespelledAt c.args.declared.now c.args.schema.now c.args.text.now) l.fixes.items w.in-Some.fix l.invariant.each respelled;
           })
       | in_default w ↦
           rw w.fixes-is (record {

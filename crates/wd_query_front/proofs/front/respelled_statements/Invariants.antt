@@ -7,5 +7,5 @@ use Rattle.wd_query_front.proofs.front.respelled_statements.Given as goal
 abbrev pub invariant-loop-span : goal.invariant-loop-span
 invariant-loop-span l = record {
   ordered : StandWith l.fixes.items (drop l.span-index l.spans) (length l.text);
-  each : All (IsRespelledAt l.statements l.schema l.text) l.fixes.items;
+  each : All (IsRespelledAt l.declared l.schema l.text) l.fixes.items;
 }

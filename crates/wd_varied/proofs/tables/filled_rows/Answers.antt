@@ -8,7 +8,7 @@ use Rattle.wd_varied.proofs.tables.filled_rows.Goals as goal
 
 pub loop-row-preserved : goal.loop-row-preserved
 loop-row-preserved c =
-    let f = filled_row (λ n. slice_index_or c.args.fixed.now n None) (map filling_of c.args.fillings.now) c.args.rows in
+    let f = filled_row (λ n. slice_index_or c.args.fixed.now n None) (map (filling_of c.args.suggested.now.all.items) c.args.fillings.now) c.args.rows in
     let i = c.loop-row.row in
     let row : c.in_ok-filled_row.field-0.items ≡ f i = search rules in
     let pushed = c.in_ok-push.ensures.items in

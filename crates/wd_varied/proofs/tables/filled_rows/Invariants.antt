@@ -6,4 +6,4 @@ use Rattle.wd_varied.specs.Varied.{filled_row}
 use Rattle.wd_varied.proofs.tables.filled_rows.Given as goal
 
 abbrev pub invariant-loop-row : goal.invariant-loop-row
-invariant-loop-row l = rows_of l.made.items ≡ map (filled_row (λ c. slice_index_or l.fixed c None) (map filling_of l.fillings) l.rows) (range_with_len 0 l.row)
+invariant-loop-row l = rows_of l.made.items ≡ map (filled_row (λ c. slice_index_or l.fixed c None) (map (filling_of l.suggested.all.items) l.fillings) l.rows) (range_with_len 0 l.row)

@@ -16,8 +16,8 @@ loop-c-preserved c =
     let telling : c.is_telling-telling.result ≡ is_telling c.args.number at (map key_of keys) =
     c.is_telling-telling.ensures ∙ ap (list_any (λ key. tells c.args.number at (key_of key))) c.deref.ensures.value ∙ any_of (tells c.args.number at) key_of keys in
     let value = c.in_ok-filling.ensures ∙ (λ j. filling_by s.compared.items s.all.items c.args.at (telling j) at column (c.drawn-drawn.ensures j)) in
-    let next = place_next _ (map filling_of c.loop-c.fillings.items) _ c.args.table.now.columns.items at column (filling_of c.in_ok-filling.filling) (search rules) c.index.ensures value c.loop-c.invariant in
-    rw (c.in_ok-push.ensures.items, map-append filling_of c.loop-c.fillings.items (c.in_ok-filling.filling ∷ [])) next
+    let next = place_next _ (map (filling_of c.args.suggested.now.all.items) c.loop-c.fillings.items) _ c.args.table.now.columns.items at column (filling_of c.args.suggested.now.all.items c.in_ok-filling.filling) (search rules) c.index.ensures value c.loop-c.invariant in
+    rw (c.in_ok-push.ensures.items, map-append (filling_of c.args.suggested.now.all.items) c.loop-c.fillings.items (c.in_ok-filling.filling ∷ [])) next
 
 pub returns : goal.returns
-returns c = place_end _ (map filling_of c.loop-c.fillings.items) _ c.args.table.now.columns.items c.loop-c.c (search rules) c.loop-c.invariant
+returns c = place_end _ (map (filling_of c.args.suggested.now.all.items) c.loop-c.fillings.items) _ c.args.table.now.columns.items c.loop-c.c (search rules) c.loop-c.invariant

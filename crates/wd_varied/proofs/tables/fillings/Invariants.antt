@@ -5,5 +5,5 @@ use Rattle.wd_varied.specs.Varied.{by_place, filling, fillings}
 use Rattle.wd_varied.proofs.tables.fillings.Given as goal
 
 abbrev pub invariant-loop-c : goal.invariant-loop-c
-invariant-loop-c l = map filling_of l.fillings.items ++ by_place (λ c column. filling l.suggested.compared.items l.suggested.all.items l.at l.rows l.number (is_telling l.number c (map key_of l.table.keys.items)) c column) l.c (drop l.c l.table.columns.items)
+invariant-loop-c l = map (filling_of l.suggested.all.items) l.fillings.items ++ by_place (λ c column. filling l.suggested.compared.items l.suggested.all.items l.at l.rows l.number (is_telling l.number c (map key_of l.table.keys.items)) c column) l.c (drop l.c l.table.columns.items)
     ≡ fillings l.suggested.compared.items l.suggested.all.items (table_of l.table) l.at l.rows l.number

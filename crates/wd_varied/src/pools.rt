@@ -1,0 +1,94 @@
+//! The values that a search takes for columns.
+
+ghost use Rattle.std.specs.Prelude.{◌≡◌, filter, IfOk};
+ghost use Rattle.wd_schema.specs.Meets.{is_of_type as is_of};
+ghost use Rattle.wd_value.specs.declared.value.ColumnType.TheVariants.{SmallInt, Integer, BigInt, Text as TextType, Boolean as BooleanType};
+ghost use Rattle.wd_varied.specs.Patterns.{filling_of};
+
+use crate::compared::Compared;
+use crate::patterns::Filling;
+use std::alloc::Global;
+use wd_schema::is_of_type;
+use wd_value::{ColumnType, OutOfMemory, Value};
+
+/// The values that the literals of a plan suggest: for the columns that its conditions compare with them, and for all others.
+#[derive(Drop)]
+pub struct Suggested {
+    pub compared: Vec<Compared>,
+    pub all: Vec<Value>,
+    // Those of all that are of each type.
+    small: Vec<Value>,
+    whole: Vec<Value>,
+    big: Vec<Value>,
+    texts: Vec<Value>,
+    truths: Vec<Value>,
+    ghost of_small: { small.items ≡ filter (is_of SmallInt) all.items },
+    ghost of_whole: { whole.items ≡ filter (is_of Integer) all.items },
+    ghost of_big: { big.items ≡ filter (is_of BigInt) all.items },
+    ghost of_texts: { texts.items ≡ filter (is_of TextType) all.items },
+    ghost of_truths: { truths.items ≡ filter (is_of BooleanType) all.items },
+}
+
+impl Suggested {
+    /// The values that comparisons with columns suggest, and those of all literals, parted by types.
+    pub(crate) fn new(
+        alloc: Global,
+        compared: Vec<Compared>,
+        all: Vec<Value>,
+    ) -> Result<Suggested, OutOfMemory>
+        ensures compared { IfOk result (λ s. s.compared.items ≡ compared.items) }
+        ensures all { IfOk result (λ s. s.all.items ≡ all.items) }
+    {
+        let small = values_of(alloc, &all, ColumnType::SmallInt)?;
+        let whole = values_of(alloc, &all, ColumnType::Integer)?;
+        let big = values_of(alloc, &all, ColumnType::BigInt)?;
+        let texts = values_of(alloc, &all, ColumnType::Text)?;
+        let truths = values_of(alloc, &all, ColumnType::Boolean)?;
+        Ok(Suggested {
+            compared,
+            all,
+            small,
+            whole,
+            big,
+            texts,
+            truths,
+        })
+    }
+
+    /// The values of a type.
+    fn of_type(&self, kind: ColumnType) -> &[Value]
+        ensures { result.now ≡ filter (is_of kind) self.now.all.items }
+    {
+        match kind {
+            ColumnType::SmallInt => &self.small,
+            ColumnType::Integer => &self.whole,
+            ColumnType::BigInt => &self.big,
+            ColumnType::Text => &self.texts,
+            ColumnType::Boolean => &self.truths,
+        }
+    }
+
+    /// The pool of a filling: the values that comparisons with its column suggest, or else those of all literals.
+    pub(crate) fn pool<'a>(&'a self, filling: &'a Filling) -> &'a [Value]
+        ensures { result.now ≡ (filling_of self.now.all.items filling.now).pool }
+    {
+        if filling.own.is_empty() {
+            self.of_type(filling.kind)
+        } else {
+            &filling.own
+        }
+    }
+}
+
+/// Those of some values that are of a type.
+fn values_of(alloc: Global, all: &[Value], kind: ColumnType) -> Result<Vec<Value>, OutOfMemory>
+    ensures { IfOk result (λ v. v.items ≡ filter (is_of kind) all.now) }
+{
+    let mut values = Vec::new(alloc);
+    for value in all {
+        if is_of_type(kind, value) {
+            values.push(value.copy(alloc)?)?;
+        }
+    }
+    Ok(values)
+}
