@@ -1,0 +1,122 @@
+-- The tables of a FROM clause in which declared tables are joined by [INNER] JOIN, each ON a condition or USING columns.
+-- No other FROM clause is read: none with a derived table, another kind of join, or a comma between tables.
+use Rattle.std.specs.Prelude.{ℕ, zero, suc, ◌+◌, ◌||◌, ◌&&◌, if◌then◌else◌, Bool, true, false, List, [], ◌∷◌, take, drop, Option, Some, None}
+use Rattle.wd_lex.specs.declared.token.TokenKind.{TokenKind}
+use Rattle.wd_lex.specs.declared.token.TokenKind.TheVariants as t
+use Rattle.wd_lex.specs.declared.token.Token.{Token}
+use Rattle.wd_schema.specs.declared.table.Column.{Column}
+use Rattle.wd_schema.specs.Tables.{TableRule}
+use Rattle.wd_schema.specs.Schemas.{table_named}
+use Rattle.wd_clauses.specs.Names.{is_name}
+use Rattle.wd_clauses.specs.Reach.{closing, opens}
+use Rattle.wd_clauses.specs.Parts.{parts}
+use Rattle.wd_distinct_on.specs.Kinds.{is_as, is_on}
+use Rattle.wd_distinct_on.specs.Lists.{with_front}
+use Rattle.wd_distinct_on.specs.Respelled.{◌>>=◌}
+use Rattle.wd_using.specs.declared.level.Extent.TheVariants.{Table}
+use Rattle.wd_using.specs.Kinds.{begins_table, is_inner, is_using}
+use Rattle.wd_using.specs.Reach.{reach}
+
+-- how many tokens a table and its alias are, and the name by which its columns are called
+pub record Alias : Type 0 where
+  pub count : ℕ
+  pub name : Token
+
+-- the columns of USING, the word USING, and what stands behind them; without USING no columns
+pub record Condition : Type 0 where
+  pub word : Token
+  pub names : List Token
+  pub rest : List Token
+
+-- a table as it is joined
+pub record JoinedTable : Type 0 where
+  pub join : Token
+  pub table : List Token
+  pub alias : Token
+  pub columns : List Column
+  pub condition : Condition
+
+abbrev pub alias_behind_as : Token → List Token → Alias
+alias_behind_as name [] = record { count = 1; name = name }
+alias_behind_as name (alias ∷ tokens) = if is_name alias.kind then record { count = 3; name = alias } else record { count = 1; name = name }
+
+-- [[AS] alias] behind a table's name
+abbrev pub alias_at : Token → List Token → Alias
+alias_at name [] = record { count = 1; name = name }
+alias_at name (next ∷ tokens) =
+    if is_as next.kind then alias_behind_as name tokens else (if is_name next.kind then record { count = 2; name = next } else record { count = 1; name = name })
+
+-- the declared table of that name
+abbrev pub declared : List TableRule → TokenKind → Option TableRule
+declared tables (t.Word text) = table_named text tables
+declared tables (t.Quoted text) = table_named text tables
+declared tables kind = None
+
+-- a name alone
+abbrev pub name_of : List Token → Option Token
+name_of (name ∷ []) = if is_name name.kind then Some name else None
+name_of tokens = None
+
+abbrev pub with_name : Option Token → Option (List Token) → Option (List Token)
+with_name None names = None
+with_name (Some name) names = with_front name names
+
+-- the names, if each part is one
+abbrev pub names_of : List (List Token) → Option (List Token)
+names_of [] = Some []
+names_of (part ∷ found) = with_name (name_of part) (names_of found)
+
+-- nothing, or INNER before the next JOIN
+abbrev pub ends : List Token → Bool
+ends [] = true
+ends (word ∷ []) = is_inner word.kind
+ends tokens = false
+
+abbrev pub with_names : Token → List Token → Option (List Token) → Option Condition
+with_names word rest None = None
+with_names word rest (Some names) = if ends rest then Some (record { word = word; names = names; rest = rest }) else None
+
+-- the columns up to the bracket that closes
+abbrev pub names_up_to : Token → List Token → Option ℕ → Option Condition
+names_up_to word tokens None = None
+names_up_to word tokens (Some place) = with_names word (drop (place + 1) tokens) (parts (take place tokens) >>= names_of)
+
+-- ( columns ) behind USING
+abbrev pub using_at : Token → List Token → Option Condition
+using_at word [] = None
+using_at word (bracket ∷ tokens) = if opens bracket.kind then names_up_to word tokens (closing tokens) else None
+
+-- USING columns, or ON a condition, or nothing
+abbrev pub condition_at : Token → List Token → Option Condition
+condition_at alias [] = Some (record { word = alias; names = []; rest = [] })
+condition_at alias (word ∷ tokens) =
+    if is_using word.kind then using_at word tokens
+    else (if is_on word.kind || ends (word ∷ tokens) then Some (record { word = alias; names = []; rest = word ∷ tokens }) else None)
+
+abbrev pub with_condition : Token → List Token → Token → List Column → Option Condition → Option JoinedTable
+with_condition join table alias columns None = None
+with_condition join table alias columns (Some condition) = Some (record { join = join; table = table; alias = alias; columns = columns; condition = condition })
+
+abbrev pub with_table : Token → List Token → Alias → Option TableRule → Option JoinedTable
+with_table join tokens alias None = None
+with_table join tokens alias (Some table) = with_condition join (take alias.count tokens) alias.name table.columns (condition_at alias.name (drop alias.count tokens))
+
+-- a declared table, its alias, and its condition
+unfoldable pub joined_at : List TableRule → Token → List Token → Option JoinedTable
+joined_at tables join [] = None
+joined_at tables join (name ∷ tokens) = with_table join (name ∷ tokens) (alias_at name tokens) (declared tables name.kind)
+
+-- a FROM clause has fewer tables than that (this project's choice)
+abbrev pub most_tables : ℕ
+most_tables = 32
+
+abbrev pub with_joined : Option JoinedTable → Option (List JoinedTable) → Option (List JoinedTable)
+with_joined None more = None
+with_joined (Some table) more = with_front table more
+
+-- FROM table {JOIN table}, and nothing else, with fewer tables than so many
+unfoldable pub joined_tables : List TableRule → ℕ → List Token → Option (List JoinedTable)
+joined_tables tables zero tokens = None
+joined_tables tables (suc more) [] = Some []
+joined_tables tables (suc more) (join ∷ tokens) =
+    if begins_table join.kind then with_joined (joined_at tables join (take (reach Table tokens) tokens)) (joined_tables tables more (drop (reach Table tokens) tokens)) else None

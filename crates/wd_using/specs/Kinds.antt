@@ -1,0 +1,71 @@
+-- Single tokens.
+use Rattle.std.specs.Prelude.{◌||◌, if◌then◌else◌, Bool, true, false, List, [], ◌∷◌}
+use Rattle.wd_lex.specs.declared.token.Terminal.TheVariants as m
+use Rattle.wd_lex.specs.declared.token.TokenKind.{TokenKind}
+use Rattle.wd_lex.specs.declared.token.TokenKind.TheVariants as t
+use Rattle.wd_lex.specs.declared.token.Token.{Token}
+use Rattle.wd_clauses.specs.Names.{is_name}
+
+abbrev pub is_using : TokenKind → Bool
+is_using (t.Terminal m.Using) = true
+is_using _ = false
+
+abbrev pub is_inner : TokenKind → Bool
+is_inner (t.Terminal m.Inner) = true
+is_inner _ = false
+
+abbrev pub is_star : TokenKind → Bool
+is_star (t.Terminal m.Star) = true
+is_star _ = false
+
+-- FROM or JOIN stands before a table
+abbrev pub begins_table : TokenKind → Bool
+begins_table (t.Terminal m.From) = true
+begins_table (t.Terminal m.Join) = true
+begins_table _ = false
+
+-- what stands behind a table and its condition, in a FROM clause
+abbrev pub ends_table : TokenKind → Bool
+ends_table (t.Terminal m.Join) = true
+ends_table (t.Terminal m.Comma) = true
+ends_table (t.Terminal m.Left) = true
+ends_table (t.Terminal m.Right) = true
+ends_table (t.Terminal m.Full) = true
+ends_table (t.Terminal m.Natural) = true
+ends_table (t.Terminal m.Cross) = true
+ends_table _ = false
+
+-- a further select
+abbrev pub begins_select : TokenKind → Bool
+begins_select (t.Terminal m.Select) = true
+begins_select (t.Terminal m.Union) = true
+begins_select _ = false
+
+-- a star behind it stands for columns: it begins an item, or it is a dot
+abbrev pub begins_columns : TokenKind → Bool
+begins_columns (t.Terminal m.Select) = true
+begins_columns (t.Terminal m.Distinct) = true
+begins_columns (t.Terminal m.Comma) = true
+begins_columns (t.Terminal m.Dot) = true
+begins_columns _ = false
+
+-- a value may end there, or it is AS: a name behind it would name an item
+abbrev pub ends_value : TokenKind → Bool
+ends_value (t.Terminal m.As) = true
+ends_value (t.Terminal m.RightBracket) = true
+ends_value (t.Terminal m.End) = true
+ends_value (t.Terminal m.Null) = true
+ends_value (t.Terminal m.True) = true
+ends_value (t.Terminal m.False) = true
+ends_value (t.Terminal terminal) = false
+ends_value _ = true
+
+-- behind AS a name is a new one, and behind a dot it is a certain table's
+abbrev pub is_taken : TokenKind → Bool
+is_taken (t.Terminal m.As) = true
+is_taken (t.Terminal m.Dot) = true
+is_taken _ = false
+
+abbrev pub has : (TokenKind → Bool) → List Token → Bool
+has test [] = false
+has test (token ∷ tokens) = if test token.kind then true else has test tokens

@@ -1,0 +1,41 @@
+-- The pieces of SELECT [DISTINCT] items FROM .. clauses, and what follows it. No other select may stand in it or be united with it.
+use Rattle.std.specs.Prelude.{ℕ, if◌then◌else◌, Bool, List, [], ◌∷◌, take, drop, Option, Some, None}
+use Rattle.wd_lex.specs.declared.token.Token.{Token}
+use Rattle.wd_clauses.specs.declared.level.Stop.TheVariants.{Clause, From}
+use Rattle.wd_clauses.specs.Reach as clauses
+use Rattle.wd_distinct_on.specs.Kinds.{begins, is_distinct, is_from, is_select}
+use Rattle.wd_using.specs.declared.level.Extent.TheVariants.{Level}
+use Rattle.wd_using.specs.Kinds.{begins_select, has}
+use Rattle.wd_using.specs.Reach.{reach}
+
+pub record Pieces : Type 0 where
+  pub select : Token
+  pub distinct : List Token
+  pub items : List Token
+  pub tables : List Token
+  pub clauses : List Token
+  pub after : List Token
+
+abbrev pub distinct_count : List Token → ℕ
+distinct_count tokens = if begins is_distinct tokens then 1 else 0
+
+-- with the FROM clause and the clauses behind it
+abbrev pub with_tables : Token → List Token → List Token → List Token → List Token → Option Pieces
+with_tables select distinct items tokens after =
+    if begins is_from tokens then
+    Some (record { select = select; distinct = distinct; items = items; tables = take (clauses.reach Clause tokens) tokens; clauses = drop (clauses.reach Clause tokens) tokens; after = after })
+    else None
+
+-- with the items behind SELECT [DISTINCT]
+abbrev pub with_items : Token → List Token → List Token → List Token → Option Pieces
+with_items select distinct tokens after = with_tables select distinct (take (clauses.reach From tokens) tokens) (drop (clauses.reach From tokens) tokens) after
+
+-- with what stands behind SELECT at its level
+abbrev pub with_body : Token → List Token → List Token → Option Pieces
+with_body select body after =
+    if has begins_select body then None else with_items select (take (distinct_count body) body) (drop (distinct_count body) body) after
+
+-- the select that begins here
+unfoldable pub select_at : List Token → Option Pieces
+select_at [] = None
+select_at (select ∷ tokens) = if is_select select.kind then with_body select (take (reach Level tokens) tokens) (drop (reach Level tokens) tokens) else None

@@ -1,0 +1,23 @@
+-- How far a table of a FROM clause reaches, with its condition, and how far a level does.
+use Rattle.std.specs.Prelude.{ℕ, ◌+◌, ◌==◌, ◌||◌, ◌&&◌, if◌then◌else◌, Bool, false, List, [], ◌∷◌}
+use Rattle.wd_lex.specs.declared.token.TokenKind.{TokenKind}
+use Rattle.wd_lex.specs.declared.token.Token.{Token}
+use Rattle.wd_clauses.specs.Reach.{depth_after, ends_level}
+use Rattle.wd_using.specs.declared.level.Extent.{Extent}
+use Rattle.wd_using.specs.declared.level.Extent.TheVariants as extent
+use Rattle.wd_using.specs.Kinds.{ends_table}
+
+-- a part ends there, beside the end of its level
+abbrev pub stops : Extent → TokenKind → Bool
+stops extent.Table kind = ends_table kind
+stops extent.Level kind = false
+
+-- so many tokens and those that stand before the end of the part; so many brackets are open
+unfoldable pub reach_from : Extent → ℕ → ℕ → List Token → ℕ
+reach_from extent depth count [] = count
+reach_from extent depth count (token ∷ tokens) =
+    if depth == 0 && (ends_level token.kind || stops extent token.kind) then count else reach_from extent (depth_after depth token.kind) (count + 1) tokens
+
+-- how many tokens stand before the end of a part that begins with them
+abbrev pub reach : Extent → List Token → ℕ
+reach extent tokens = reach_from extent 0 0 tokens

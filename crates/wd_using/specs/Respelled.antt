@@ -1,0 +1,67 @@
+-- A query without USING. FROM a JOIN b USING ( k ) is FROM a JOIN b ON a.k = b.k, and k is a.k in each clause of the select.
+-- A select is left as it is where its tables or the table of a merged column are not clear, where an item stands for all
+-- columns, or where an item has the name of a merged column by AS or behind its value.
+use Rattle.std.specs.Prelude.{ℕ, zero, suc, ◌-◌, ◌&&◌, ◌||◌, ◌==◌, not, if◌then◌else◌, nat_lt, nat_le, Bool, true, false, List, [], ◌∷◌, ◌++◌, length, take, drop, Option, Some, None, Result, Ok, Err}
+use Rattle.wd_lex.specs.declared.token.TokenKind.{TokenKind}
+use Rattle.wd_lex.specs.declared.token.Token.{Token}
+use Rattle.wd_schema.specs.Tables.{TableRule}
+use Rattle.wd_clauses.specs.declared.error.RespellError.{RespellError}
+use Rattle.wd_clauses.specs.declared.error.RespellError.TheVariants.{TooLong}
+use Rattle.wd_clauses.specs.Given.{most_tokens}
+use Rattle.wd_distinct_on.specs.Respelled.{◌>>=◌, turned}
+use Rattle.wd_using.specs.Kinds.{begins_columns, ends_value, is_star}
+use Rattle.wd_using.specs.Joins.{JoinedTable, joined_tables, most_tables}
+use Rattle.wd_using.specs.Merged.{MergedColumn, merged_of, names_in, table_of}
+use Rattle.wd_using.specs.Pieces.{Pieces, select_at}
+use Rattle.wd_using.specs.Written.{written}
+
+abbrev pub is_found : Option Token → Bool
+is_found None = false
+is_found (Some table) = true
+
+-- a star stands for columns, or a merged column's name is that of an item
+abbrev pub is_unclear : List MergedColumn → TokenKind → Token → Bool
+is_unclear merged before token = (is_star token.kind && begins_columns before) || (ends_value before && is_found (table_of token.kind merged))
+
+-- no item stands for all columns or has the name of a merged column
+abbrev pub are_clear : List MergedColumn → TokenKind → List Token → Bool
+are_clear merged before [] = true
+are_clear merged before (token ∷ tokens) = if is_unclear merged before token then false else are_clear merged token.kind tokens
+
+-- the most merged columns of a select (this project's choice)
+abbrev pub most_merged : ℕ
+most_merged = 64
+
+-- at least one, and not too many
+abbrev pub are_few : List MergedColumn → Bool
+are_few [] = false
+are_few (column ∷ merged) = nat_lt (length merged) most_merged
+
+-- what stands for a select behind these tokens, if its items are clear
+abbrev pub if_clear : List Token → Pieces → List JoinedTable → List MergedColumn → Option (List Token)
+if_clear front select tables merged = if are_few merged && are_clear merged select.select.kind select.items then Some (front ++ written merged tables select) else None
+
+abbrev pub with_tables : List Token → Pieces → List JoinedTable → Option (List Token)
+with_tables front select tables = merged_of tables (names_in tables) >>= λ merged. if_clear front select tables merged
+
+-- what stands for a select behind these tokens
+abbrev pub respelled_select : List TableRule → List Token → Pieces → Option (List Token)
+respelled_select schema front select = joined_tables schema most_tables select.tables >>= λ tables. with_tables front select tables
+
+-- a query in which the select that begins at a place is respelled
+unfoldable pub respelled_at : List TableRule → ℕ → List Token → Option (List Token)
+respelled_at schema place tokens = select_at (drop place tokens) >>= λ select. respelled_select schema (take place tokens) select
+
+-- the most selects that are respelled (this project's choice)
+abbrev pub most_selects : ℕ
+most_selects = 64
+
+-- the selects that begin at the first so many places, from the last to the first, and at most so many of them
+unfoldable pub respelled_below : List TableRule → ℕ → ℕ → List Token → Result (List Token) RespellError
+respelled_below schema left zero tokens = Ok tokens
+respelled_below schema left (suc place) tokens =
+    if left == 0 then Ok tokens else turned (λ fewer new. respelled_below schema fewer place new) left tokens (respelled_at schema place tokens)
+
+-- a query without USING
+abbrev pub respelled : List TableRule → List Token → Result (List Token) RespellError
+respelled schema tokens = if nat_lt most_tokens (length tokens) then Err TooLong else respelled_below schema most_selects (length tokens) tokens

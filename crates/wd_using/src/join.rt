@@ -1,0 +1,250 @@
+//! The tables of a FROM clause, over a schema.
+
+ghost use Rattle.std.specs.Prelude.{◌≡◌, map, take, drop, IfOk};
+ghost use Rattle.wd_clauses.specs.Given.{Finds};
+ghost use Rattle.wd_schema.specs.Schemas.{schema_of};
+ghost use Rattle.wd_schema.specs.Tables as rules;
+ghost use Rattle.wd_using.specs.Joins as spec;
+ghost use Rattle.wd_using.specs.Named as named;
+
+use crate::kind::{begins_table, is_as, is_inner, is_on, is_using, opens};
+use crate::level::{Extent, split_at};
+use std::alloc::{AllocError, Global};
+use wd_clauses::{closing, is_name, parts};
+use wd_lex::{Token, TokenKind};
+use wd_schema::{Column, Schema, Table};
+
+/// How many tokens a table and its alias are, and the name by which its columns are called.
+#[derive(Drop)]
+pub struct Alias<'t> {
+    pub count: usize,
+    pub name: &'t Token,
+}
+
+/// The columns of USING, the word USING, and what stands behind them; without USING no columns.
+#[derive(Drop)]
+pub struct Condition<'t> {
+    pub word: &'t Token,
+    pub names: Vec<&'t Token>,
+    pub rest: &'t [Token],
+}
+
+/// A table as it is joined: FROM or JOIN, the table with its alias, its columns, and its condition.
+#[derive(Drop)]
+pub struct Joined<'t> {
+    pub join: &'t Token,
+    pub table: &'t [Token],
+    pub alias: &'t Token,
+    pub columns: &'t [Column],
+    pub condition: Condition<'t>,
+}
+
+/// `alias`, behind a table's name and AS
+fn alias_behind_as<'t>(name: &'t Token, tokens: &'t [Token]) -> Alias<'t>
+    ensures { named.alias result ≡ spec.alias_behind_as name.now tokens.now }
+{
+    match tokens {
+        [alias, ..] if is_name(&alias.kind) => Alias {
+            count: 3,
+            name: alias,
+        },
+        _ => Alias { count: 1, name },
+    }
+}
+
+/// `[[AS] alias]`, behind a table's name
+fn alias_at<'t>(name: &'t Token, tokens: &'t [Token]) -> Alias<'t>
+    ensures { named.alias result ≡ spec.alias_at name.now tokens.now }
+{
+    let [next, rest @ ..] = tokens else {
+        return Alias { count: 1, name };
+    };
+    if is_as(&next.kind) {
+        return alias_behind_as(name, rest);
+    }
+    if is_name(&next.kind) {
+        return Alias {
+            count: 2,
+            name: next,
+        };
+    }
+    Alias { count: 1, name }
+}
+
+/// The declared table of that name.
+fn declared<'t>(schema: &'t Schema, name: &TokenKind) -> Option<&'t Table>
+    ensures { Finds (λ table. rules.table_of table.now) result (spec.declared (schema_of schema.now) name.now) }
+{
+    match name {
+        TokenKind::Word(text) | TokenKind::Quoted(text) => schema.table(text.as_str()),
+        _ => None,
+    }
+}
+
+/// A name alone.
+fn name_of(tokens: &[Token]) -> Option<&Token>
+    ensures { Finds (λ name. name.now) result (spec.name_of tokens.now) }
+{
+    match tokens {
+        [name] if is_name(&name.kind) => Some(name),
+        _ => None,
+    }
+}
+
+/// The names, if each part is one.
+fn names_of<'t>(
+    alloc: Global,
+    parts: &[&'t [Token]],
+) -> Result<Option<Vec<&'t Token>>, AllocError>
+    ensures { IfOk result (λ found. Finds (λ x. map (λ name. name.now) x.items) found (spec.names_of (map (λ part. part.now) parts.now))) }
+{
+    let mut names = Vec::new(alloc);
+    let mut rest = parts;
+    while let [part, after @ ..] = rest {
+        match name_of(part) {
+            Some(name) => names.push(name)?,
+            None => return Ok(None),
+        }
+        rest = after;
+    }
+    Ok(Some(names))
+}
+
+/// Whether nothing stands there, or INNER before the next JOIN.
+fn ends(tokens: &[Token]) -> bool
+    ensures { result ≡ spec.ends tokens.now }
+{
+    match tokens {
+        [] => true,
+        [word] => is_inner(&word.kind),
+        _ => false,
+    }
+}
+
+/// The columns up to the bracket at a place.
+fn names_up_to<'t>(
+    alloc: Global,
+    word: &'t Token,
+    tokens: &'t [Token],
+) -> Result<Option<Condition<'t>>, AllocError>
+    ensures { IfOk result (λ found. Finds named.condition found (spec.names_up_to word.now tokens.now (Rattle.wd_clauses.specs.Reach.closing tokens.now))) }
+{
+    let Some(place) = closing(tokens) else {
+        return Ok(None);
+    };
+    let rest = &tokens[place + 1..];
+    let Some(parts) = parts(alloc, &tokens[..place])? else {
+        return Ok(None);
+    };
+    match names_of(alloc, &parts)? {
+        Some(names) if ends(rest) => Ok(Some(Condition { word, names, rest })),
+        _ => Ok(None),
+    }
+}
+
+/// `( columns )` behind USING
+fn using_at<'t>(
+    alloc: Global,
+    word: &'t Token,
+    tokens: &'t [Token],
+) -> Result<Option<Condition<'t>>, AllocError>
+    ensures { IfOk result (λ found. Finds named.condition found (spec.using_at word.now tokens.now)) }
+{
+    match tokens {
+        [bracket, rest @ ..] if opens(&bracket.kind) => names_up_to(alloc, word, rest),
+        _ => Ok(None),
+    }
+}
+
+/// USING columns, or ON a condition, or nothing.
+fn condition_at<'t>(
+    alloc: Global,
+    alias: &'t Token,
+    tokens: &'t [Token],
+) -> Result<Option<Condition<'t>>, AllocError>
+    ensures { IfOk result (λ found. Finds named.condition found (spec.condition_at alias.now tokens.now)) }
+{
+    if let [word, rest @ ..] = tokens {
+        if is_using(&word.kind) {
+            return using_at(alloc, word, rest);
+        }
+        if !(is_on(&word.kind) || ends(tokens)) {
+            return Ok(None);
+        }
+    }
+    Ok(Some(Condition {
+        word: alias,
+        names: Vec::new(alloc),
+        rest: tokens,
+    }))
+}
+
+/// The tokens before a place, and those from there on.
+pub fn cut(place: usize, tokens: &[Token]) -> (&[Token], &[Token])
+    ensures before { result.0.now ≡ take place tokens.now }
+    ensures behind { result.1.now ≡ drop place tokens.now }
+{
+    let place = place.min(tokens.len());
+    (&tokens[..place], &tokens[place..])
+}
+
+/// A declared table, its alias, and its condition, behind FROM or JOIN.
+#[tactic(auto, unfolding(crate::specs::Joins::joined_at))]
+fn joined_at<'t>(
+    alloc: Global,
+    schema: &'t Schema,
+    join: &'t Token,
+    tokens: &'t [Token],
+) -> Result<Option<Joined<'t>>, AllocError>
+    ensures { IfOk result (λ found. Finds named.joined_table found (spec.joined_at (schema_of schema.now) join.now tokens.now)) }
+{
+    let [name, rest @ ..] = tokens else {
+        return Ok(None);
+    };
+    let Some(declared) = declared(schema, &name.kind) else {
+        return Ok(None);
+    };
+    let alias = alias_at(name, rest);
+    let (table, behind) = cut(alias.count, tokens);
+    match condition_at(alloc, alias.name, behind)? {
+        Some(condition) => Ok(Some(Joined {
+            join,
+            table,
+            alias: alias.name,
+            columns: declared.columns.as_slice(),
+            condition,
+        })),
+        None => Ok(None),
+    }
+}
+
+// A FROM clause has fewer tables than that.
+const MOST_TABLES: usize = 32;
+
+/// The tables of a FROM clause, if there are fewer than 32 and each is read.
+#[tactic(auto, unfolding(crate::specs::Joins::joined_tables))]
+pub fn joined_tables<'t>(
+    alloc: Global,
+    schema: &'t Schema,
+    tokens: &'t [Token],
+) -> Result<Option<Vec<Joined<'t>>>, AllocError>
+    ensures { IfOk result (λ found. Finds (λ x. map named.joined_table x.items) found (spec.joined_tables (schema_of schema.now) spec.most_tables tokens.now)) }
+{
+    let mut tables = Vec::new(alloc);
+    let mut rest = tokens;
+    for _ in 0..MOST_TABLES {
+        let [join, after @ ..] = rest else {
+            return Ok(Some(tables));
+        };
+        if !begins_table(&join.kind) {
+            return Ok(None);
+        }
+        let (part, behind) = split_at(Extent::Table, after);
+        match joined_at(alloc, schema, join, part)? {
+            Some(table) => tables.push(table)?,
+            None => return Ok(None),
+        }
+        rest = behind;
+    }
+    Ok(None)
+}

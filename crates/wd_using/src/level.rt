@@ -1,0 +1,68 @@
+//! How far a table of a FROM clause reaches, with its condition, and how far a level does.
+
+ghost use Rattle.std.specs.Prelude.{◌≡◌, ◌+◌, ◌<◌, ◌≤◌, ◌^◌, length, take, drop};
+ghost use Rattle.wd_clauses.specs.Reach as clauses;
+ghost use Rattle.wd_using.specs.Reach as spec;
+
+use crate::kind::{ends_level, ends_table};
+use wd_lex::{Terminal, Token, TokenKind};
+
+/// What is looked through, up to its end or the end of the level.
+#[derive(Clone, Copy, PartialEq, Eq)]
+pub enum Extent {
+    /// A table of a FROM clause, with its condition.
+    Table,
+    /// The level.
+    Level,
+}
+
+/// Whether a part ends there, beside the end of its level.
+fn stops(extent: Extent, kind: &TokenKind) -> bool
+    ensures { result ≡ spec.stops extent kind.now }
+{
+    match extent {
+        Extent::Table => ends_table(kind),
+        Extent::Level => false,
+    }
+}
+
+/// How many brackets are open after a token.
+fn depth_after(depth: usize, kind: &TokenKind) -> usize
+    requires { depth + 1 < 2 ^ 64 }
+    ensures { result ≡ clauses.depth_after depth kind.now }
+{
+    match kind {
+        TokenKind::Terminal(Terminal::LeftBracket) => depth + 1,
+        TokenKind::Terminal(Terminal::RightBracket) => depth.saturating_sub(1),
+        _ => depth,
+    }
+}
+
+/// How many tokens stand before the end of a part that begins with them.
+#[tactic(auto, unfolding(crate::specs::Reach::reach_from))]
+fn reach(extent: Extent, tokens: &[Token]) -> usize
+    ensures length { result ≡ spec.reach extent tokens.now }
+    ensures within { result ≤ length tokens.now }
+{
+    let mut depth: usize = 0;
+    let mut count: usize = 0;
+    let mut rest = tokens;
+    while let [first, after @ ..] = rest {
+        if depth == 0 && (ends_level(&first.kind) || stops(extent, &first.kind)) {
+            return count;
+        }
+        depth = depth_after(depth, &first.kind);
+        count += 1;
+        rest = after;
+    }
+    count
+}
+
+/// A part that begins with the tokens, and those behind it.
+pub fn split_at(extent: Extent, tokens: &[Token]) -> (&[Token], &[Token])
+    ensures part { result.0.now ≡ take (spec.reach extent tokens.now) tokens.now }
+    ensures behind { result.1.now ≡ drop (spec.reach extent tokens.now) tokens.now }
+{
+    let count = reach(extent, tokens);
+    (&tokens[..count], &tokens[count..])
+}

@@ -1,0 +1,15 @@
+//! JOIN .. USING by ON: `FROM a JOIN b USING ( k )` is `FROM a JOIN b ON a.k = b.k`, and `k` is `a.k` in each clause of the
+//! select. `select` reads the pieces of a select, `join` its tables over a schema, `merge` finds the table of each merged column,
+//! `write` writes the select with them, and `respell` goes through the selects of a query, the last one first. `level` says how
+//! far a table and a level reach, `kind` what single tokens are.
+#![tactic(auto)]
+
+mod join;
+mod kind;
+mod level;
+mod merge;
+mod respell;
+mod select;
+mod write;
+
+pub use respell::without_using;

@@ -1,0 +1,175 @@
+//! A query without USING.
+
+ghost use Rattle.std.specs.Prelude.{◌≡◌, map};
+ghost use Rattle.wd_distinct_on.specs.Respelled.{Gives, MayWrite};
+ghost use Rattle.wd_schema.specs.Schemas.{schema_of};
+ghost use Rattle.wd_using.specs.Named.{joined_table, merged_column, pieces};
+ghost use Rattle.wd_using.specs.Respelled as spec;
+
+use crate::join::{Joined, cut, joined_tables};
+use crate::kind::{begins_columns, ends_value, is_star};
+use crate::merge::{Merged, merged_of, names_in, table_of};
+use crate::select::{Select, select_at};
+use crate::write::written;
+use std::alloc::Global;
+use wd_clauses::{RespellError, copied};
+use wd_lex::{Token, TokenKind};
+use wd_schema::Schema;
+
+// The most selects that are respelled.
+const MOST_SELECTS: usize = 64;
+
+// The most merged columns of a select.
+const MOST_MERGED: usize = 64;
+
+// The most tokens of a query.
+const MOST_TOKENS: usize = 65_536;
+
+/// Whether a name is that of a merged column.
+fn is_merged(name: &TokenKind, merged: &[Merged]) -> bool
+    ensures { result ≡ spec.is_found (Rattle.wd_using.specs.Merged.table_of name.now (map merged_column merged.now)) }
+{
+    match table_of(name, merged) {
+        Some(_) => true,
+        None => false,
+    }
+}
+
+/// Whether a star stands for columns, or a merged column's name is that of an item.
+fn is_unclear(merged: &[Merged], before: &TokenKind, token: &Token) -> bool
+    ensures { result ≡ spec.is_unclear (map merged_column merged.now) before.now token.now }
+{
+    (is_star(&token.kind) && begins_columns(before))
+        || (ends_value(before) && is_merged(&token.kind, merged))
+}
+
+/// Whether no item stands for all columns or has the name of a merged column.
+fn are_clear(merged: &[Merged], before: &TokenKind, tokens: &[Token]) -> bool
+    ensures { result ≡ spec.are_clear (map merged_column merged.now) before.now tokens.now }
+{
+    let mut last = before;
+    let mut rest = tokens;
+    while let [first, after @ ..] = rest {
+        if is_unclear(merged, last, first) {
+            return false;
+        }
+        last = &first.kind;
+        rest = after;
+    }
+    true
+}
+
+/// Whether there is at least one, and not too many.
+fn are_few(merged: &[Merged]) -> bool
+    ensures { result ≡ spec.are_few (map merged_column merged.now) }
+{
+    match merged {
+        [] => false,
+        [_first, rest @ ..] => rest.len() < MOST_MERGED,
+    }
+}
+
+/// What stands for a select behind these tokens, if its items are clear.
+fn if_clear(
+    alloc: Global,
+    front: &[Token],
+    select: &Select,
+    tables: &[Joined],
+    merged: &[Merged],
+) -> Result<Option<Vec<Token>>, RespellError>
+    ensures { MayWrite (λ x. x.items) result (spec.if_clear front.now (pieces select.now) (map joined_table tables.now) (map merged_column merged.now)) }
+{
+    if are_few(merged) && are_clear(merged, &select.select.kind, select.items) {
+        let tokens = written(alloc, front, merged, tables, select)?;
+        return Ok(Some(tokens));
+    }
+    Ok(None)
+}
+
+/// What stands for a select, by its tables.
+fn with_tables(
+    alloc: Global,
+    front: &[Token],
+    select: &Select,
+    tables: &[Joined],
+) -> Result<Option<Vec<Token>>, RespellError>
+    ensures { MayWrite (λ x. x.items) result (spec.with_tables front.now (pieces select.now) (map joined_table tables.now)) }
+{
+    let names = names_in(alloc, tables)?;
+    match merged_of(alloc, tables, &names)? {
+        Some(merged) => {
+            let tokens = if_clear(alloc, front, select, tables, &merged)?;
+            Ok(tokens)
+        }
+        None => Ok(None),
+    }
+}
+
+/// What stands for a select behind these tokens.
+fn respelled_select(
+    alloc: Global,
+    schema: &Schema,
+    front: &[Token],
+    select: &Select,
+) -> Result<Option<Vec<Token>>, RespellError>
+    ensures { MayWrite (λ x. x.items) result (spec.respelled_select (schema_of schema.now) front.now (pieces select.now)) }
+{
+    match joined_tables(alloc, schema, select.tables)? {
+        Some(tables) => {
+            let tokens = with_tables(alloc, front, select, &tables)?;
+            Ok(tokens)
+        }
+        None => Ok(None),
+    }
+}
+
+/// The query in which the select that begins at a place is respelled.
+#[tactic(auto, unfolding(crate::specs::Respelled::respelled_at))]
+fn respelled_at(
+    alloc: Global,
+    schema: &Schema,
+    place: usize,
+    tokens: &[Token],
+) -> Result<Option<Vec<Token>>, RespellError>
+    ensures { MayWrite (λ x. x.items) result (spec.respelled_at (schema_of schema.now) place tokens.now) }
+{
+    let (front, rest) = cut(place, tokens);
+    match select_at(rest) {
+        Some(select) => {
+            let tokens = respelled_select(alloc, schema, front, &select)?;
+            Ok(tokens)
+        }
+        None => Ok(None),
+    }
+}
+
+/// The query without USING, as far as it is clear which columns it merges.
+#[tactic(auto, unfolding(crate::specs::Respelled::respelled_below))]
+pub fn without_using(
+    alloc: Global,
+    schema: &Schema,
+    tokens: &[Token],
+) -> Result<Vec<Token>, RespellError>
+    ensures { Gives (λ x. x.items) result (spec.respelled (schema_of schema.now) tokens.now) }
+{
+    if tokens.len() > MOST_TOKENS {
+        return Err(RespellError::TooLong);
+    }
+    let mut query = copied(alloc, tokens)?;
+    let mut left = MOST_SELECTS;
+    let mut place = tokens.len();
+    while place > 0 {
+        if left == 0 {
+            return Ok(query);
+        }
+        place -= 1;
+        if let Some(next) = respelled_at(alloc, schema, place, &query)? {
+            if next.len() > MOST_TOKENS {
+                return Err(RespellError::TooLong);
+            }
+            query = next;
+            left -= 1;
+        }
+    }
+    Ok(query)
+}

@@ -1,0 +1,65 @@
+//! The pieces of a select.
+
+ghost use Rattle.std.specs.Prelude.{◌≡◌};
+ghost use Rattle.wd_clauses.specs.Given.{Finds};
+ghost use Rattle.wd_using.specs.Named.{pieces};
+ghost use Rattle.wd_using.specs.Pieces as spec;
+
+use crate::join::cut;
+use crate::kind::{begins_distinct, begins_from, has_select, is_select};
+use crate::level::{Extent, split_at};
+use wd_clauses::{Stop, split};
+use wd_lex::Token;
+
+/// `SELECT [DISTINCT] items FROM tables clauses`, and what follows it.
+#[derive(Drop)]
+pub struct Select<'t> {
+    pub select: &'t Token,
+    pub distinct: &'t [Token],
+    pub items: &'t [Token],
+    pub tables: &'t [Token],
+    pub clauses: &'t [Token],
+    pub after: &'t [Token],
+}
+
+/// With what stands behind SELECT at its level.
+fn with_body<'t>(
+    select: &'t Token,
+    body: &'t [Token],
+    after: &'t [Token],
+) -> Option<Select<'t>>
+    ensures { Finds pieces result (spec.with_body select.now body.now after.now) }
+{
+    if has_select(body) {
+        return None;
+    }
+    let (distinct, list) = cut(if begins_distinct(body) { 1 } else { 0 }, body);
+    let (items, behind) = split(Stop::From, list);
+    if !begins_from(behind) {
+        return None;
+    }
+    let (tables, clauses) = split(Stop::Clause, behind);
+    Some(Select {
+        select,
+        distinct,
+        items,
+        tables,
+        clauses,
+        after,
+    })
+}
+
+/// The select that begins with the tokens, if no other stands in it.
+#[tactic(auto, unfolding(crate::specs::Pieces::select_at))]
+pub fn select_at(tokens: &[Token]) -> Option<Select<'_>>
+    ensures { Finds pieces result (spec.select_at tokens.now) }
+{
+    let [select, rest @ ..] = tokens else {
+        return None;
+    };
+    if !is_select(&select.kind) {
+        return None;
+    }
+    let (body, after) = split_at(Extent::Level, rest);
+    with_body(select, body, after)
+}
