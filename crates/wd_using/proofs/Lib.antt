@@ -1,1 +1,2 @@
 pub mod BelowFacts
+pub mod JoinFacts

@@ -106,17 +106,31 @@ unfoldable pub joined_at : List TableRule → Token → List Token → Option Jo
 joined_at tables join [] = None
 joined_at tables join (name ∷ tokens) = with_table join (name ∷ tokens) (alias_at name tokens) (declared tables name.kind)
 
--- a FROM clause has fewer tables than that (this project's choice)
+abbrev pub with_behind : List Token → Option JoinedTable → Option (JoinedTable × List Token)
+with_behind behind None = None
+with_behind behind (Some table) = Some (table, behind)
+
+-- FROM or JOIN, a table with its condition, and what follows
+unfoldable pub table_at : List TableRule → List Token → Option (JoinedTable × List Token)
+table_at tables [] = None
+table_at tables (join ∷ tokens) = if begins_table join.kind then with_behind (drop (reach Table tokens) tokens) (joined_at tables join (take (reach Table tokens) tokens)) else None
+
+-- the most tables of a FROM clause (this project's choice)
 abbrev pub most_tables : ℕ
 most_tables = 32
 
-abbrev pub with_joined : Option JoinedTable → Option (List JoinedTable) → Option (List JoinedTable)
-with_joined None more = None
-with_joined (Some table) more = with_front table more
+abbrev pub is_end : List Token → Bool
+is_end [] = true
+is_end (token ∷ tokens) = false
 
--- FROM table {JOIN table}, and nothing else, with fewer tables than so many
+abbrev pub with_next : (List Token → Option (List JoinedTable)) → JoinedTable → List Token → Option (List JoinedTable)
+with_next further table behind = if is_end behind then Some (table ∷ []) else with_front table (further behind)
+
+abbrev pub with_further : (List Token → Option (List JoinedTable)) → Option (JoinedTable × List Token) → Option (List JoinedTable)
+with_further further None = None
+with_further further (Some found) = with_next further found.0 found.1
+
+-- FROM table {JOIN table}, and nothing else, with at most so many tables
 unfoldable pub joined_tables : List TableRule → ℕ → List Token → Option (List JoinedTable)
 joined_tables tables zero tokens = None
-joined_tables tables (suc more) [] = Some []
-joined_tables tables (suc more) (join ∷ tokens) =
-    if begins_table join.kind then with_joined (joined_at tables join (take (reach Table tokens) tokens)) (joined_tables tables more (drop (reach Table tokens) tokens)) else None
+joined_tables tables (suc more) tokens = with_further (joined_tables tables more) (table_at tables tokens)

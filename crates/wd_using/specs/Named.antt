@@ -9,14 +9,14 @@ use Rattle.wd_using.specs.Joins as spec
 use Rattle.wd_using.specs.Merged.{MergedColumn}
 use Rattle.wd_using.specs.Pieces.{Pieces}
 
-abbrev pub alias : Alias → spec.Alias
-alias alias = record { count = alias.count; name = alias.name.now }
+abbrev pub table_alias : Alias → spec.Alias
+table_alias alias = record { count = alias.count; name = alias.name.now }
 
-abbrev pub condition : Condition → spec.Condition
-condition condition = record { word = condition.word.now; names = map (λ name. name.now) condition.names.items; rest = condition.rest.now }
+abbrev pub join_condition : Condition → spec.Condition
+join_condition condition = record { word = condition.word.now; names = map (λ name. name.now) condition.names.items; rest = condition.rest.now }
 
 abbrev pub joined_table : Joined → spec.JoinedTable
-joined_table joined = record { join = joined.join.now; table = joined.table.now; alias = joined.alias.now; columns = joined.columns.now; condition = condition joined.condition }
+joined_table joined = record { join = joined.join.now; table = joined.table.now; alias = joined.alias.now; columns = joined.columns.now; condition = join_condition joined.condition }
 
 abbrev pub merged_column : Merged → MergedColumn
 merged_column merged = record { name = merged.name.now; table = merged.table.now }

@@ -2,6 +2,7 @@
 
 ghost use Rattle.std.specs.Prelude.{◌≡◌, map, take, drop, IfOk};
 ghost use Rattle.wd_clauses.specs.Given.{Finds};
+ghost use Rattle.wd_clauses.specs.Reach as reach;
 ghost use Rattle.wd_schema.specs.Schemas.{schema_of};
 ghost use Rattle.wd_schema.specs.Tables as rules;
 ghost use Rattle.wd_using.specs.Joins as spec;
@@ -41,7 +42,7 @@ pub struct Joined<'t> {
 
 /// `alias`, behind a table's name and AS
 fn alias_behind_as<'t>(name: &'t Token, tokens: &'t [Token]) -> Alias<'t>
-    ensures { named.alias result ≡ spec.alias_behind_as name.now tokens.now }
+    ensures { named.table_alias result ≡ spec.alias_behind_as name.now tokens.now }
 {
     match tokens {
         [alias, ..] if is_name(&alias.kind) => Alias {
@@ -54,7 +55,7 @@ fn alias_behind_as<'t>(name: &'t Token, tokens: &'t [Token]) -> Alias<'t>
 
 /// `[[AS] alias]`, behind a table's name
 fn alias_at<'t>(name: &'t Token, tokens: &'t [Token]) -> Alias<'t>
-    ensures { named.alias result ≡ spec.alias_at name.now tokens.now }
+    ensures { named.table_alias result ≡ spec.alias_at name.now tokens.now }
 {
     let [next, rest @ ..] = tokens else {
         return Alias { count: 1, name };
@@ -127,7 +128,7 @@ fn names_up_to<'t>(
     word: &'t Token,
     tokens: &'t [Token],
 ) -> Result<Option<Condition<'t>>, AllocError>
-    ensures { IfOk result (λ found. Finds named.condition found (spec.names_up_to word.now tokens.now (Rattle.wd_clauses.specs.Reach.closing tokens.now))) }
+    ensures { IfOk result (λ found. Finds named.join_condition found (spec.names_up_to word.now tokens.now (reach.closing tokens.now))) }
 {
     let Some(place) = closing(tokens) else {
         return Ok(None);
@@ -148,7 +149,7 @@ fn using_at<'t>(
     word: &'t Token,
     tokens: &'t [Token],
 ) -> Result<Option<Condition<'t>>, AllocError>
-    ensures { IfOk result (λ found. Finds named.condition found (spec.using_at word.now tokens.now)) }
+    ensures { IfOk result (λ found. Finds named.join_condition found (spec.using_at word.now tokens.now)) }
 {
     match tokens {
         [bracket, rest @ ..] if opens(&bracket.kind) => names_up_to(alloc, word, rest),
@@ -162,7 +163,7 @@ fn condition_at<'t>(
     alias: &'t Token,
     tokens: &'t [Token],
 ) -> Result<Option<Condition<'t>>, AllocError>
-    ensures { IfOk result (λ found. Finds named.condition found (spec.condition_at alias.now tokens.now)) }
+    ensures { IfOk result (λ found. Finds named.join_condition found (spec.condition_at alias.now tokens.now)) }
 {
     if let [word, rest @ ..] = tokens {
         if is_using(&word.kind) {
@@ -218,11 +219,42 @@ fn joined_at<'t>(
     }
 }
 
-// A FROM clause has fewer tables than that.
+/// FROM or JOIN, a table with its condition, and what follows.
+#[tactic(auto, unfolding(crate::specs::Joins::table_at))]
+fn table_at<'t>(
+    alloc: Global,
+    schema: &'t Schema,
+    tokens: &'t [Token],
+) -> Result<Option<(Joined<'t>, &'t [Token])>, AllocError>
+    ensures { IfOk result (λ found. Finds (λ x. (named.joined_table x.0, x.1.now)) found (spec.table_at (schema_of schema.now) tokens.now)) }
+{
+    let [join, rest @ ..] = tokens else {
+        return Ok(None);
+    };
+    if !begins_table(&join.kind) {
+        return Ok(None);
+    }
+    let (part, behind) = split_at(Extent::Table, rest);
+    match joined_at(alloc, schema, join, part)? {
+        Some(table) => Ok(Some((table, behind))),
+        None => Ok(None),
+    }
+}
+
+/// Whether nothing follows.
+fn is_end(tokens: &[Token]) -> bool
+    ensures { result ≡ spec.is_end tokens.now }
+{
+    match tokens {
+        [] => true,
+        [_, ..] => false,
+    }
+}
+
+// The most tables of a FROM clause.
 const MOST_TABLES: usize = 32;
 
-/// The tables of a FROM clause, if there are fewer than 32 and each is read.
-#[tactic(auto, unfolding(crate::specs::Joins::joined_tables))]
+/// The tables of a FROM clause, if there are at most 32 and each is read.
 pub fn joined_tables<'t>(
     alloc: Global,
     schema: &'t Schema,
@@ -233,18 +265,16 @@ pub fn joined_tables<'t>(
     let mut tables = Vec::new(alloc);
     let mut rest = tokens;
     for _ in 0..MOST_TABLES {
-        let [join, after @ ..] = rest else {
-            return Ok(Some(tables));
-        };
-        if !begins_table(&join.kind) {
-            return Ok(None);
-        }
-        let (part, behind) = split_at(Extent::Table, after);
-        match joined_at(alloc, schema, join, part)? {
-            Some(table) => tables.push(table)?,
+        match table_at(alloc, schema, rest)? {
+            Some((table, behind)) => {
+                tables.push(table)?;
+                if is_end(behind) {
+                    return Ok(Some(tables));
+                }
+                rest = behind;
+            }
             None => return Ok(None),
         }
-        rest = behind;
     }
     Ok(None)
 }

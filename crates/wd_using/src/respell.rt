@@ -3,6 +3,7 @@
 ghost use Rattle.std.specs.Prelude.{◌≡◌, map};
 ghost use Rattle.wd_distinct_on.specs.Respelled.{Gives, MayWrite};
 ghost use Rattle.wd_schema.specs.Schemas.{schema_of};
+ghost use Rattle.wd_using.specs.Merged as merging;
 ghost use Rattle.wd_using.specs.Named.{joined_table, merged_column, pieces};
 ghost use Rattle.wd_using.specs.Respelled as spec;
 
@@ -27,7 +28,7 @@ const MOST_TOKENS: usize = 65_536;
 
 /// Whether a name is that of a merged column.
 fn is_merged(name: &TokenKind, merged: &[Merged]) -> bool
-    ensures { result ≡ spec.is_found (Rattle.wd_using.specs.Merged.table_of name.now (map merged_column merged.now)) }
+    ensures { result ≡ spec.is_found (merging.table_of name.now (map merged_column merged.now)) }
 {
     match table_of(name, merged) {
         Some(_) => true,

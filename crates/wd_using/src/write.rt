@@ -1,8 +1,10 @@
 //! A select without USING.
 
 ghost use Rattle.std.specs.Prelude.{◌≡◌, map, ◌∷◌, [], ◌++◌, Option, option_map};
+ghost use Rattle.wd_clauses.specs.Added as spelling;
 ghost use Rattle.wd_clauses.specs.Given.{Makes, Writes};
 ghost use Rattle.wd_lex.specs.declared.token.Terminal.TheVariants.{On};
+ghost use Rattle.wd_using.specs.Merged as merging;
 ghost use Rattle.wd_using.specs.Named as named;
 ghost use Rattle.wd_using.specs.Written as spec;
 
@@ -43,7 +45,7 @@ fn add_column(
     word: &Token,
     name: &Token,
 ) -> Result<(), RespellError>
-    ensures { Writes written.old.items written.new.items result (spec.of_table_if word.now name.now (Rattle.wd_using.specs.Merged.table_of name.now.kind (map named.merged_column merged.now))) }
+    ensures { Writes written.old.items written.new.items result (spec.of_table_if word.now name.now (merging.table_of name.now.kind (map named.merged_column merged.now))) }
 {
     match table_of(&name.kind, merged) {
         Some(table) => {
@@ -119,7 +121,7 @@ fn add_compared(
     first: Terminal,
     name: &Token,
 ) -> Result<(), RespellError>
-    ensures { Writes written.old.items written.new.items result (Rattle.wd_clauses.specs.Added.added first table.now.condition.word.now ∷ spec.comparison (map named.merged_column merged.now) (named.joined_table table.now) name.now) }
+    ensures { Writes written.old.items written.new.items result (spelling.added first table.now.condition.word.now ∷ spec.comparison (map named.merged_column merged.now) (named.joined_table table.now) name.now) }
 {
     add(written, added(first, table.condition.word))?;
     add_comparison(written, merged, table, name)?;
