@@ -1,10 +1,9 @@
 -- Single tokens.
-use Rattle.std.specs.Prelude.{◌||◌, if◌then◌else◌, Bool, true, false, List, [], ◌∷◌}
+use Rattle.std.specs.Prelude.{if◌then◌else◌, Bool, true, false, List, [], ◌∷◌}
 use Rattle.wd_lex.specs.declared.token.Terminal.TheVariants as m
 use Rattle.wd_lex.specs.declared.token.TokenKind.{TokenKind}
 use Rattle.wd_lex.specs.declared.token.TokenKind.TheVariants as t
 use Rattle.wd_lex.specs.declared.token.Token.{Token}
-use Rattle.wd_clauses.specs.Names.{is_name}
 
 abbrev pub is_using : TokenKind → Bool
 is_using (t.Terminal m.Using) = true
@@ -45,6 +44,7 @@ begins_select _ = false
 abbrev pub begins_columns : TokenKind → Bool
 begins_columns (t.Terminal m.Select) = true
 begins_columns (t.Terminal m.Distinct) = true
+begins_columns (t.Terminal m.All) = true
 begins_columns (t.Terminal m.Comma) = true
 begins_columns (t.Terminal m.Dot) = true
 begins_columns _ = false

@@ -1,9 +1,10 @@
--- The pieces of SELECT [DISTINCT] items FROM .. clauses, and what follows it. No other select may stand in it or be united with it.
-use Rattle.std.specs.Prelude.{ℕ, if◌then◌else◌, Bool, List, [], ◌∷◌, take, drop, Option, Some, None}
+-- The pieces of SELECT [DISTINCT] items FROM .. clauses, and what follows it. DISTINCT ON may not stand in it, nor another
+-- select, nor UNION.
+use Rattle.std.specs.Prelude.{ℕ, ◌||◌, if◌then◌else◌, List, [], ◌∷◌, take, drop, Option, Some, None}
 use Rattle.wd_lex.specs.declared.token.Token.{Token}
 use Rattle.wd_clauses.specs.declared.level.Stop.TheVariants.{Clause, From}
 use Rattle.wd_clauses.specs.Reach as clauses
-use Rattle.wd_distinct_on.specs.Kinds.{begins, is_distinct, is_from, is_select}
+use Rattle.wd_distinct_on.specs.Kinds.{begins, is_distinct, is_from, is_on, is_select}
 use Rattle.wd_using.specs.declared.level.Extent.TheVariants.{Level}
 use Rattle.wd_using.specs.Kinds.{begins_select, has}
 use Rattle.wd_using.specs.Reach.{reach}
@@ -33,7 +34,8 @@ with_items select distinct tokens after = with_tables select distinct (take (cla
 -- with what stands behind SELECT at its level
 abbrev pub with_body : Token → List Token → List Token → Option Pieces
 with_body select body after =
-    if has begins_select body then None else with_items select (take (distinct_count body) body) (drop (distinct_count body) body) after
+    let list = drop (distinct_count body) body in
+    if has begins_select body || begins is_on list then None else with_items select (take (distinct_count body) body) list after
 
 -- the select that begins here
 unfoldable pub select_at : List Token → Option Pieces

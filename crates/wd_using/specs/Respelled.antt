@@ -1,14 +1,16 @@
 -- A query without USING. FROM a JOIN b USING ( k ) is FROM a JOIN b ON a.k = b.k, and k is a.k in each clause of the select.
 -- A select is left as it is where its tables or the table of a merged column are not clear, where an item stands for all
--- columns, or where an item has the name of a merged column by AS or behind its value.
-use Rattle.std.specs.Prelude.{ℕ, zero, suc, ◌-◌, ◌&&◌, ◌||◌, ◌==◌, not, if◌then◌else◌, nat_lt, nat_le, Bool, true, false, List, [], ◌∷◌, ◌++◌, length, take, drop, Option, Some, None, Result, Ok, Err}
+-- columns, or where an item may have the name of a merged column by AS, behind its value, or after a function.
+use Rattle.std.specs.Prelude.{ℕ, zero, suc, ◌&&◌, ◌||◌, ◌==◌, if◌then◌else◌, nat_lt, Bool, true, false, List, [], ◌∷◌, ◌++◌, length, take, drop, Option, Some, None, Result, Ok, Err}
 use Rattle.wd_lex.specs.declared.token.TokenKind.{TokenKind}
 use Rattle.wd_lex.specs.declared.token.Token.{Token}
 use Rattle.wd_schema.specs.Tables.{TableRule}
 use Rattle.wd_clauses.specs.declared.error.RespellError.{RespellError}
 use Rattle.wd_clauses.specs.declared.error.RespellError.TheVariants.{TooLong}
 use Rattle.wd_clauses.specs.Given.{most_tokens}
+use Rattle.wd_distinct_on.specs.Kinds.{begins}
 use Rattle.wd_distinct_on.specs.Respelled.{◌>>=◌, turned}
+use Rattle.wd_with.specs.Derived.{goes_on}
 use Rattle.wd_using.specs.Kinds.{begins_columns, ends_value, is_star}
 use Rattle.wd_using.specs.Joins.{JoinedTable, joined_tables, most_tables}
 use Rattle.wd_using.specs.Merged.{MergedColumn, merged_of, names_in, table_of}
@@ -19,14 +21,18 @@ abbrev pub is_found : Option Token → Bool
 is_found None = false
 is_found (Some table) = true
 
--- a star stands for columns, or a merged column's name is that of an item
-abbrev pub is_unclear : List MergedColumn → TokenKind → Token → Bool
-is_unclear merged before token = (is_star token.kind && begins_columns before) || (ends_value before && is_found (table_of token.kind merged))
+-- a name is that of an item by AS or behind its value, or that of a function, after which an item may be called
+abbrev pub may_name_item : TokenKind → List Token → Bool
+may_name_item before after = ends_value before || begins goes_on after
 
--- no item stands for all columns or has the name of a merged column
+-- a star stands for columns, or an item may have the name of a merged column
+abbrev pub is_unclear : List MergedColumn → TokenKind → Token → List Token → Bool
+is_unclear merged before token after = (is_star token.kind && begins_columns before) || (may_name_item before after && is_found (table_of token.kind merged))
+
+-- no item stands for all columns or may have the name of a merged column
 abbrev pub are_clear : List MergedColumn → TokenKind → List Token → Bool
 are_clear merged before [] = true
-are_clear merged before (token ∷ tokens) = if is_unclear merged before token then false else are_clear merged token.kind tokens
+are_clear merged before (token ∷ after) = if is_unclear merged before token after then false else are_clear merged token.kind after
 
 -- the most merged columns of a select (this project's choice)
 abbrev pub most_merged : ℕ

@@ -92,7 +92,11 @@ pub fn begins_columns(kind: &TokenKind) -> bool
     matches!(
         kind,
         TokenKind::Terminal(
-            Terminal::Select | Terminal::Distinct | Terminal::Comma | Terminal::Dot
+            Terminal::Select
+                | Terminal::Distinct
+                | Terminal::All
+                | Terminal::Comma
+                | Terminal::Dot
         )
     )
 }
@@ -151,6 +155,16 @@ pub fn begins_from(tokens: &[Token]) -> bool
 {
     match tokens {
         [first, ..] => matches!(first.kind, TokenKind::Terminal(Terminal::From)),
+        [] => false,
+    }
+}
+
+/// Whether ON stands first.
+pub fn begins_on(tokens: &[Token]) -> bool
+    ensures { result ≡ kinds.begins kinds.is_on tokens.now }
+{
+    match tokens {
+        [first, ..] => is_on(&first.kind),
         [] => false,
     }
 }

@@ -8,7 +8,7 @@ ghost use Rattle.wd_using.specs.Named.{joined_table, merged_column, pieces};
 ghost use Rattle.wd_using.specs.Respelled as spec;
 
 use crate::join::{Joined, cut, joined_tables};
-use crate::kind::{begins_columns, ends_value, is_star};
+use crate::kind::{begins_columns, ends_value, goes_on, is_star};
 use crate::merge::{Merged, merged_of, names_in, table_of};
 use crate::select::{Select, select_at};
 use crate::write::written;
@@ -36,22 +36,22 @@ fn is_merged(name: &TokenKind, merged: &[Merged]) -> bool
     }
 }
 
-/// Whether a star stands for columns, or a merged column's name is that of an item.
-fn is_unclear(merged: &[Merged], before: &TokenKind, token: &Token) -> bool
-    ensures { result ≡ spec.is_unclear (map merged_column merged.now) before.now token.now }
+/// Whether a star stands for columns, or an item may have the name of a merged column.
+fn is_unclear(merged: &[Merged], before: &TokenKind, token: &Token, after: &[Token]) -> bool
+    ensures { result ≡ spec.is_unclear (map merged_column merged.now) before.now token.now after.now }
 {
     (is_star(&token.kind) && begins_columns(before))
-        || (ends_value(before) && is_merged(&token.kind, merged))
+        || ((ends_value(before) || goes_on(after)) && is_merged(&token.kind, merged))
 }
 
-/// Whether no item stands for all columns or has the name of a merged column.
+/// Whether no item stands for all columns or may have the name of a merged column.
 fn are_clear(merged: &[Merged], before: &TokenKind, tokens: &[Token]) -> bool
     ensures { result ≡ spec.are_clear (map merged_column merged.now) before.now tokens.now }
 {
     let mut last = before;
     let mut rest = tokens;
     while let [first, after @ ..] = rest {
-        if is_unclear(merged, last, first) {
+        if is_unclear(merged, last, first, after) {
             return false;
         }
         last = &first.kind;

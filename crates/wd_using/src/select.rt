@@ -6,7 +6,7 @@ ghost use Rattle.wd_using.specs.Named.{pieces};
 ghost use Rattle.wd_using.specs.Pieces as spec;
 
 use crate::join::cut;
-use crate::kind::{begins_distinct, begins_from, has_select, is_select};
+use crate::kind::{begins_distinct, begins_from, begins_on, has_select, is_select};
 use crate::level::{Extent, split_at};
 use wd_clauses::{Stop, split};
 use wd_lex::Token;
@@ -30,10 +30,10 @@ fn with_body<'t>(
 ) -> Option<Select<'t>>
     ensures { Finds pieces result (spec.with_body select.now body.now after.now) }
 {
-    if has_select(body) {
+    let (distinct, list) = cut(if begins_distinct(body) { 1 } else { 0 }, body);
+    if has_select(body) || begins_on(list) {
         return None;
     }
-    let (distinct, list) = cut(if begins_distinct(body) { 1 } else { 0 }, body);
     let (items, behind) = split(Stop::From, list);
     if !begins_from(behind) {
         return None;

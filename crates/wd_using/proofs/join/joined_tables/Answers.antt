@@ -1,4 +1,4 @@
-use Rattle.std.proofs.Common.{rules, ◌≡◌, ◌∷◌, ◌++◌, [], map, true, false, Some, None}
+use Rattle.std.proofs.Common.{rules, ◌≡◌, map, true, false, Some, None}
 use Rattle.std.proofs.lemmas.List.{map_push}
 use Rattle.wd_schema.specs.Schemas.{schema_of}
 use Rattle.wd_using.specs.Joins.{is_end, joined_tables, most_tables, table_at}
