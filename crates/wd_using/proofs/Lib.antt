@@ -1,2 +1,3 @@
 pub mod BelowFacts
 pub mod JoinFacts
+pub mod Worked

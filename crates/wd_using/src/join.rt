@@ -93,10 +93,7 @@ fn name_of(tokens: &[Token]) -> Option<&Token>
 }
 
 /// The names, if each part is one.
-fn names_of<'t>(
-    alloc: Global,
-    parts: &[&'t [Token]],
-) -> Result<Option<Vec<&'t Token>>, AllocError>
+fn names_of<'t>(alloc: Global, parts: &[&'t [Token]]) -> Result<Option<Vec<&'t Token>>, AllocError>
     ensures { IfOk result (λ found. Finds (λ x. map (λ name. name.now) x.items) found (spec.names_of (map (λ part. part.now) parts.now))) }
 {
     let mut names = Vec::new(alloc);

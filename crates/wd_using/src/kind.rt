@@ -92,11 +92,7 @@ pub fn begins_columns(kind: &TokenKind) -> bool
     matches!(
         kind,
         TokenKind::Terminal(
-            Terminal::Select
-                | Terminal::Distinct
-                | Terminal::All
-                | Terminal::Comma
-                | Terminal::Dot
+            Terminal::Select | Terminal::Distinct | Terminal::All | Terminal::Comma | Terminal::Dot
         )
     )
 }

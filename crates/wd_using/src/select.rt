@@ -23,11 +23,7 @@ pub struct Select<'t> {
 }
 
 /// With what stands behind SELECT at its level.
-fn with_body<'t>(
-    select: &'t Token,
-    body: &'t [Token],
-    after: &'t [Token],
-) -> Option<Select<'t>>
+fn with_body<'t>(select: &'t Token, body: &'t [Token], after: &'t [Token]) -> Option<Select<'t>>
     ensures { Finds pieces result (spec.with_body select.now body.now after.now) }
 {
     let (distinct, list) = cut(if begins_distinct(body) { 1 } else { 0 }, body);
