@@ -7,6 +7,8 @@ use Rattle.wd_query.specs.Causes.{HasTextCause}
 use Rattle.wd_query.specs.declared.error.TextError.{TextError}
 use Rattle.wd_lex.specs.declared.token.Span.{Span}
 use Rattle.wd_respell.specs.Respelled.{IsRespelledAs}
+use Rattle.wd_schema.specs.Tables.{TableRule}
+use Rattle.wd_schema.specs.Texts.{Declares}
 
 -- the text of the statement that stands there
 abbrev pub statement_of : List ℕ → Span → List ℕ
@@ -16,7 +18,9 @@ statement_of text span = slice_range text span.start span.end
 pub record IsRespelledAt (statements : List Statement) (schema text : List ℕ) (fix : Fix) : Type 0 where
   pub refusal : TextError
   pub refused : HasTextCause schema (statement_of text fix.span) refusal
-  pub respelled : IsRespelledAs statements (statement_of text fix.span) fix.text.items
+  pub tables : List TableRule
+  pub declared : Declares schema tables
+  pub respelled : IsRespelledAs tables statements (statement_of text fix.span) fix.text.items
 
 -- this is the text with at least one of its statements respelled, and all else as it was, byte for byte
 pub record IsRespelledText (statements : List Statement) (schema text after : List ℕ) : Type 0 where

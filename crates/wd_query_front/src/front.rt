@@ -5,6 +5,8 @@ ghost use Rattle.wd_fix.specs.Fixes.{span_of};
 ghost use Rattle.wd_query.specs.Causes.{HasTextCause};
 ghost use Rattle.wd_query_front.specs.Fronts.{IsRespelledAt, IsRespelledText};
 ghost use Rattle.wd_respell.specs.Respelled.{IsRespelledAs};
+ghost use Rattle.wd_schema.specs.Schemas.{schema_of};
+ghost use Rattle.wd_schema.specs.Texts.{Declares};
 ghost use Rattle.wd_source.specs.Statements.{StandInOrder};
 
 use std::alloc::Global;
@@ -13,6 +15,7 @@ use wd_fix::{Fix, fixed_text};
 use wd_lex::{Span, Token, TokenKind};
 use wd_query::{TextError, read_texts};
 use wd_respell::{Respelled, respell};
+use wd_schema::{Schema, SchemaError, read_schema};
 use wd_source::statements;
 use wd_value::OutOfMemory;
 
@@ -34,9 +37,27 @@ pub fn respelled_text(
 ) -> Result<Option<RespelledText>, OutOfMemory>
     ensures { IfOk result (λ o. IfSome o (λ r. IsRespelledText declared.now schema.now text.now r.text.items)) }
 {
+    match read_schema(alloc, schema) {
+        Ok(tables) => respelled_over(alloc, declared, schema, &tables, text),
+        Err(SchemaError::OutOfMemory) => Err(OutOfMemory),
+        Err(_) => Ok(None),
+    }
+}
+
+/// The text of a file over the schema that was read of a text.
+fn respelled_over(
+    alloc: Global,
+    declared: &[Statement],
+    schema: &[u8],
+    tables: &Schema,
+    text: &[u8],
+) -> Result<Option<RespelledText>, OutOfMemory>
+    requires { Declares schema.now (schema_of tables.now) }
+    ensures { IfOk result (λ o. IfSome o (λ r. IsRespelledText declared.now schema.now text.now r.text.items)) }
+{
     let mut notes = Vec::new(alloc);
     let spans = statements(alloc, text)?;
-    let fixes = respelled_statements(alloc, declared, schema, text, &spans, &mut notes)?;
+    let fixes = respelled_statements(alloc, declared, schema, tables, text, &spans, &mut notes)?;
     if fixes.is_empty() {
         return Ok(None);
     }
@@ -49,17 +70,21 @@ fn respelled_statements(
     alloc: Global,
     declared: &[Statement],
     schema: &[u8],
+    tables: &Schema,
     text: &[u8],
     spans: &[Span],
     notes: &mut Vec<String>,
 ) -> Result<Vec<Fix>, OutOfMemory>
-    requires { StandInOrder 0 spans.now (length text.now) }
+    requires declares { Declares schema.now (schema_of tables.now) }
+    requires order { StandInOrder 0 spans.now (length text.now) }
     ensures order { IfOk result (λ fixes. StandInOrder 0 (map span_of fixes.items) (length text.now)) }
     ensures each { IfOk result (λ fixes. All (IsRespelledAt declared.now schema.now text.now) fixes.items) }
 {
     let mut fixes = Vec::new(alloc);
     for span in spans {
-        if let Some(fix) = respelled_statement(alloc, declared, schema, text, *span, notes)? {
+        if let Some(fix) = respelled_statement(
+            alloc, declared, schema, tables, text, *span, notes,
+        )? {
             fixes.push(fix)?;
         }
     }
@@ -71,10 +96,12 @@ fn respelled_statement(
     alloc: Global,
     declared: &[Statement],
     schema: &[u8],
+    tables: &Schema,
     text: &[u8],
     span: Span,
     notes: &mut Vec<String>,
 ) -> Result<Option<Fix>, OutOfMemory>
+    requires declares { Declares schema.now (schema_of tables.now) }
     requires ordered { span.start ≤ span.end }
     requires within { span.end ≤ length text.now }
     ensures stands { IfOk result (λ o. IfSome o (λ fix. fix.span ≡ span)) }
@@ -84,7 +111,7 @@ fn respelled_statement(
     match refusal(alloc, schema, query) {
         None | Some(TextError::Schema(_)) => Ok(None),
         Some(error) => match error.number() {
-            Some(_) => respelling(alloc, declared, query, span, notes),
+            Some(_) => respelling(alloc, declared, tables, query, span, notes),
             None => Err(OutOfMemory),
         },
     }
@@ -104,14 +131,15 @@ fn refusal(alloc: Global, schema: &[u8], query: &[u8]) -> Option<TextError>
 fn respelling(
     alloc: Global,
     declared: &[Statement],
+    tables: &Schema,
     query: &[u8],
     span: Span,
     notes: &mut Vec<String>,
 ) -> Result<Option<Fix>, OutOfMemory>
     ensures stands { IfOk result (λ o. IfSome o (λ fix. fix.span ≡ span)) }
-    ensures respelled { IfOk result (λ o. IfSome o (λ fix. IsRespelledAs declared.now query.now fix.text.items)) }
+    ensures respelled { IfOk result (λ o. IfSome o (λ fix. IsRespelledAs (schema_of tables.now) declared.now query.now fix.text.items)) }
 {
-    match respell(alloc, declared, query)? {
+    match respell(alloc, tables, declared, query)? {
         Some(respelled) => {
             let Respelled { text, read_twice } = respelled;
             for name in &read_twice {

@@ -5,31 +5,40 @@ use Rattle.wd_lex.specs.Lexed.{IsLexed, kinds_of}
 use Rattle.wd_with.specs.Expanded.{Said}
 use Rattle.wd_with.specs.Expanded as members
 use Rattle.wd_distinct_on.specs.Respelled as selects
+use Rattle.wd_schema.specs.Tables.{TableRule}
+use Rattle.wd_using.specs.Respelled as joins
 use Rattle.wd_equations.specs.Expanded as expressions
 use Rattle.wd_moments.specs.Numbered.{with_numbers}
 use Rattle.wd_qualified.specs.Unqualified.{unqualified}
 use Rattle.wd_with.specs.declared.place.Place.TheVariants.{Elsewhere}
 use Rattle.wd_dialect_read.specs.declared.said.Statement.{Statement}
 
--- what the tokens of a query are by the equations, over the schema that these statements make: WITH and the schemas of tables are taken
--- out, then DISTINCT ON; then come the equations of expressions, and moments become numbers. And the members of WITH that are read twice
-pub record IsEquated (statements : List Statement) (tokens : List Token) (said : Said) : Type 0 where
+-- tokens without the schemas of tables, then without USING over these tables, and then without DISTINCT ON
+pub record IsPlain (tables : List TableRule) (tokens plain : List Token) : Type 0 where
+  pub joined : List Token
+  pub using : joins.respelled tables (unqualified (Elsewhere ∷ []) tokens) ≡ Ok joined
+  pub selects : selects.respelled joined ≡ Ok plain
+
+-- what the tokens of a query are by the equations, over these tables, which the statements make: WITH is taken out, then come the schemas of
+-- tables, USING and DISTINCT ON, then the equations of expressions, and moments become numbers. And the members of WITH that are read
+-- twice
+pub record IsEquated (tables : List TableRule) (statements : List Statement) (tokens : List Token) (said : Said) : Type 0 where
   pub plain : List Token
-  pub selects : selects.respelled (unqualified (Elsewhere ∷ []) (members.expanded tokens).tokens) ≡ Ok plain
+  pub is_plain : IsPlain tables (members.expanded tokens).tokens plain
   pub expressions : said.tokens ≡ with_numbers statements (expressions.expanded plain)
   pub members : said.read_twice ≡ (members.expanded tokens).read_twice
 
 -- the other text has the tokens that the equations give for those of the query, which reads these members of WITH more than once
-pub record IsRespelled (statements : List Statement) (query other : List ℕ) (twice : List Token) : Type 0 where
+pub record IsRespelled (tables : List TableRule) (statements : List Statement) (query other : List ℕ) (twice : List Token) : Type 0 where
   pub tokens : List Token
   pub lexed : IsLexed query tokens
   pub said : Said
-  pub equated : IsEquated statements tokens said
+  pub equated : IsEquated tables statements tokens said
   pub own : List Token
   pub read : IsLexed other own
   pub are : kinds_of own ≡ kinds_of said.tokens
   pub members : twice ≡ said.read_twice
 
 -- whichever these members are
-abbrev pub IsRespelledAs : List Statement → List ℕ → List ℕ → Type 0
-IsRespelledAs statements query other = (twice : List Token) × IsRespelled statements query other twice
+abbrev pub IsRespelledAs : List TableRule → List Statement → List ℕ → List ℕ → Type 0
+IsRespelledAs tables statements query other = (twice : List Token) × IsRespelled tables statements query other twice

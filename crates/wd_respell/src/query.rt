@@ -1,15 +1,14 @@
 //! A query through the equations.
 
-ghost use Rattle.std.specs.Prelude.{◌≡◌, ◌∷◌, [], Ok, IfOk, IfSome};
+ghost use Rattle.std.specs.Prelude.{◌≡◌, Ok, IfOk, IfSome};
 ghost use Rattle.std.specs.String.{string_bytes};
 ghost use Rattle.wd_lex.specs.Lexed.{IsLexed};
 ghost use Rattle.wd_distinct_on.specs.Respelled.{respelled};
 ghost use Rattle.wd_equations.specs.Expanded as expressions;
 ghost use Rattle.wd_moments.specs.Numbered as numbers;
-ghost use Rattle.wd_qualified.specs.Unqualified.{unqualified};
-ghost use Rattle.wd_respell.specs.Respelled.{IsEquated, IsRespelled};
+ghost use Rattle.wd_respell.specs.Respelled.{IsEquated, IsPlain, IsRespelled};
+ghost use Rattle.wd_schema.specs.Schemas.{schema_of};
 ghost use Rattle.wd_with.specs.Expanded.{said};
-ghost use Rattle.wd_with.specs.declared.place.Place.TheVariants.{Elsewhere};
 
 use crate::kinds::say_the_same;
 use crate::layout::laid_out;
@@ -21,6 +20,8 @@ use wd_equations::{ExpandError, expand};
 use wd_lex::{LexError, Token, lex};
 use wd_moments::{MomentError, with_numbers};
 use wd_qualified::unqualified_query;
+use wd_schema::Schema;
+use wd_using::without_using;
 use wd_value::OutOfMemory;
 use wd_with::{Expanded, without_with};
 
@@ -37,19 +38,20 @@ pub struct Respelled {
 /// would have too many. What its columns count is known by the statements of PostgreSQL's that make its schema.
 pub fn respell(
     alloc: Global,
+    schema: &Schema,
     statements: &[Statement],
     query: &[u8],
 ) -> Result<Option<Respelled>, OutOfMemory>
-    ensures { IfOk result (λ o. IfSome o (λ r. IsRespelled statements.now query.now (string_bytes r.text) r.read_twice.items)) }
+    ensures { IfOk result (λ o. IfSome o (λ r. IsRespelled (schema_of schema.now) statements.now query.now (string_bytes r.text) r.read_twice.items)) }
 {
     let tokens = match lex(alloc, query) {
         Ok(tokens) => tokens,
         Err(LexError::OutOfMemory) => return Err(OutOfMemory),
         Err(_) => return Ok(None),
     };
-    match equated(alloc, statements, &tokens)? {
+    match equated(alloc, schema, statements, &tokens)? {
         Some(equated) if !say_the_same(&tokens, &equated.tokens) => {
-            written(alloc, statements, query, &tokens, equated)
+            written(alloc, schema, statements, query, &tokens, equated)
         }
         _ => Ok(None),
     }
@@ -58,15 +60,16 @@ pub fn respell(
 /// What the tokens are by the equations, unless they would be too many.
 fn equated(
     alloc: Global,
+    schema: &Schema,
     statements: &[Statement],
     tokens: &[Token],
 ) -> Result<Option<Expanded>, OutOfMemory>
-    ensures { IfOk result (λ o. IfSome o (λ e. IsEquated statements.now tokens.now (said e))) }
+    ensures { IfOk result (λ o. IfSome o (λ e. IsEquated (schema_of schema.now) statements.now tokens.now (said e))) }
 {
     match without_with(alloc, tokens) {
         Ok(expanded) => {
             let Expanded { tokens, read_twice } = expanded;
-            match plain(alloc, &tokens)? {
+            match plain(alloc, schema, &tokens)? {
                 Some(plain) => numbered(alloc, statements, &plain, read_twice),
                 None => Ok(None),
             }
@@ -76,16 +79,31 @@ fn equated(
     }
 }
 
-/// The tokens without schemas of tables and without DISTINCT ON.
-fn plain(alloc: Global, tokens: &[Token]) -> Result<Option<Vec<Token>>, OutOfMemory>
-    ensures { IfOk result (λ o. IfSome o (λ plain. respelled (unqualified (Elsewhere ∷ []) tokens.now) ≡ Ok plain.items)) }
+/// The tokens without schemas of tables, without USING and without DISTINCT ON.
+fn plain(
+    alloc: Global,
+    schema: &Schema,
+    tokens: &[Token],
+) -> Result<Option<Vec<Token>>, OutOfMemory>
+    ensures { IfOk result (λ o. IfSome o (λ plain. IsPlain (schema_of schema.now) tokens.now plain.items)) }
 {
     match unqualified_query(alloc, tokens) {
-        Ok(tables) => match without_distinct_on(alloc, &tables) {
-            Ok(plain) => Ok(Some(plain)),
+        Ok(tables) => match without_using(alloc, schema, &tables) {
+            Ok(joined) => without_selects(alloc, &joined),
             Err(RespellError::OutOfMemory) => Err(OutOfMemory),
             Err(RespellError::TooLong) => Ok(None),
         },
+        Err(RespellError::OutOfMemory) => Err(OutOfMemory),
+        Err(RespellError::TooLong) => Ok(None),
+    }
+}
+
+/// The tokens without DISTINCT ON.
+fn without_selects(alloc: Global, tokens: &[Token]) -> Result<Option<Vec<Token>>, OutOfMemory>
+    ensures { IfOk result (λ o. IfSome o (λ plain. respelled tokens.now ≡ Ok plain.items)) }
+{
+    match without_distinct_on(alloc, tokens) {
+        Ok(plain) => Ok(Some(plain)),
         Err(RespellError::OutOfMemory) => Err(OutOfMemory),
         Err(RespellError::TooLong) => Ok(None),
     }
@@ -115,14 +133,15 @@ fn numbered(
 /// The text of the other tokens, where the lexer reads just these in it.
 fn written(
     alloc: Global,
+    schema: &Schema,
     statements: &[Statement],
     query: &[u8],
     tokens: &[Token],
     equated: Expanded,
 ) -> Result<Option<Respelled>, OutOfMemory>
     requires lexed { IsLexed query.now tokens.now }
-    requires equated { IsEquated statements.now tokens.now (said equated) }
-    ensures { IfOk result (λ o. IfSome o (λ r. IsRespelled statements.now query.now (string_bytes r.text) r.read_twice.items)) }
+    requires equated { IsEquated (schema_of schema.now) statements.now tokens.now (said equated) }
+    ensures { IfOk result (λ o. IfSome o (λ r. IsRespelled (schema_of schema.now) statements.now query.now (string_bytes r.text) r.read_twice.items)) }
 {
     let start = match tokens.first() {
         Some(first) => first.span.start as usize,
