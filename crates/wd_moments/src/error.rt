@@ -1,3 +1,5 @@
+//! Why no tokens are written.
+
 ghost use Rattle.std.specs.Prelude.{◌≡◌};
 ghost use Rattle.wd_moments.specs.declared.error.MomentError.TheVariants.{OutOfMemory};
 

@@ -1,4 +1,4 @@
-//! What the names of a query count.
+//! What the names of a query count. A name is looked for among all uses of names, one after the other.
 
 ghost use Rattle.std.specs.Prelude.{◌≡◌, ◌++◌, map, false, IfOk};
 ghost use Rattle.wd_moments.specs.Names as spec;
