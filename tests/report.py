@@ -535,6 +535,38 @@ def the_respelled():
             check(f"respelled: {text}: note", ("note: queries that wdcheck does not read" in out) == bool(wanted), out)
 
 
+def nested(count, around):
+    """An expression within itself so often."""
+    text = "v"
+    for _ in range(count):
+        text = around.replace("#", text)
+    return text
+
+
+# Queries that the equations would make deep or long: each is refused, in a stack of 2 MB.
+EXTREME = {
+    "brackets": f"SELECT id FROM t WHERE {nested(62, '(# + 1)')} IN (1, 2)",
+    "calls": f"SELECT id FROM t WHERE {nested(60, 'COALESCE(#, 0)')} IN (1, 2)",
+    "cases": f"SELECT id, {nested(63, 'CASE WHEN v IN (1) THEN # END')} AS w FROM t",
+    "open brackets": "SELECT id FROM t WHERE " + "(" * 30000,
+    "values": f"SELECT id FROM t WHERE v IN ({','.join(['1'] * 30000)})",
+    "a sum": f"SELECT id FROM t WHERE v + {' + '.join(['1'] * 16000)} BETWEEN 1 AND 2",
+    "members": "WITH " + ", ".join(f"a{i} AS (SELECT id FROM {f'a{i - 1}' if i else 't'})" for i in range(64)) + " SELECT id FROM a63",
+    "members read twice": "WITH a0 AS (SELECT id FROM t), " + ", ".join(f"a{i} AS (SELECT x.id FROM a{i - 1} x JOIN a{i - 1} y ON x.id = y.id)" for i in range(1, 40)) + " SELECT id FROM a39",
+    "tests": "SELECT id FROM t WHERE " + " OR ".join(f"v IN ({i})" for i in range(4000)),
+    "moments": "SELECT id FROM t WHERE d >= DATE '2026-01-01'" + " AND d < DATE '2026-01-02'" * 2000,
+}
+
+
+def the_extreme():
+    """Queries that are refused however deep or long the equations would make them."""
+    for name, text in EXTREME.items():
+        with tempfile.TemporaryDirectory() as folder:
+            put(folder, {"schema.sql": SCHEMA, "q.sql": text})
+            ran = subprocess.run(["bash", "-c", 'ulimit -s 2048; exec "$0" q.sql', PROGRAM], cwd=folder, capture_output=True, timeout=300)
+            check(f"extreme: {name}", ran.returncode == 2 and b" 1 not read" in ran.stdout and not ran.stderr, ran)
+
+
 def the_simpler():
     """Queries that have one answer because what ties decide is not shown."""
     for text, wanted in lines_of("simpler.txt"):
@@ -929,6 +961,7 @@ the_ties()
 the_marks()
 the_simpler()
 the_respelled()
+the_extreme()
 the_further()
 the_excuses()
 the_written()
