@@ -64,6 +64,10 @@ equal left right name = its left name ++ mark m.Equals ∷ its right name
 abbrev pub of_a : List TokenKind
 of_a = mark m.Select ∷ k ∷ mark m.From ∷ a ∷ []
 
+-- ( SELECT k FROM b )
+abbrev pub query_of_b : List TokenKind
+query_of_b = mark m.LeftBracket ∷ mark m.Select ∷ k ∷ mark m.From ∷ b ∷ mark m.RightBracket ∷ []
+
 -- SELECT k FROM a LEFT JOIN b USING ( k )
 abbrev pub outer : List TokenKind
 outer = of_a ++ mark m.Left ∷ mark m.Join ∷ b ∷ using k
@@ -88,6 +92,8 @@ pub record UsingComesOut : Type 0 where
   -- SELECT a.k FROM a JOIN b ON a.k = b.k JOIN c AS n ON b.n = n.n AND a.k = n.k
   pub two : Becomes (of_a ++ mark m.Join ∷ b ∷ using k ++ mark m.Join ∷ c ∷ mark m.As ∷ n ∷ mark m.Using ∷ mark m.LeftBracket ∷ n ∷ mark m.Comma ∷ k ∷ mark m.RightBracket ∷ [])
       (mark m.Select ∷ its a k ++ mark m.From ∷ a ∷ mark m.Join ∷ b ∷ mark m.On ∷ equal a b k ++ mark m.Join ∷ c ∷ mark m.As ∷ n ∷ mark m.On ∷ equal b n n ++ mark m.And ∷ equal a n k)
+  -- SELECT k FROM a JOIN ( SELECT k FROM b ) AS n USING ( k ) becomes SELECT a.k FROM a JOIN ( SELECT k FROM b ) AS n ON a.k = n.k
+  pub derived : Becomes (of_a ++ mark m.Join ∷ query_of_b ++ mark m.As ∷ n ∷ using k) (mark m.Select ∷ its a k ++ mark m.From ∷ a ∷ mark m.Join ∷ query_of_b ++ mark m.As ∷ n ∷ mark m.On ∷ equal a n k)
   pub outer_stays : Becomes outer outer
   pub star_stays : Becomes starred starred
   pub renamed_stays : Becomes renamed renamed

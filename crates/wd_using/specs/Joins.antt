@@ -1,20 +1,24 @@
--- The tables of a FROM clause in which declared tables are joined by [INNER] JOIN, each ON a condition or USING columns.
--- No other FROM clause is read: none with a derived table, another kind of join, or a comma between tables.
-use Rattle.std.specs.Prelude.{ℕ, zero, suc, ◌+◌, ◌||◌, if◌then◌else◌, Bool, true, false, List, [], ◌∷◌, take, drop, Option, Some, None}
+-- The tables of a FROM clause in which tables are joined by [INNER] JOIN, each ON a condition or USING columns. A table is a
+-- declared one, or a derived one with an alias, each of whose items has a name. No other FROM clause is read: none with another
+-- kind of join, or a comma between tables, or a select in a condition.
+use Rattle.std.specs.Prelude.{ℕ, zero, suc, ◌+◌, ◌==◌, ◌||◌, ◌&&◌, not, if◌then◌else◌, Bool, true, false, List, [], ◌∷◌, map, take, drop, Option, Some, None}
 use Rattle.wd_lex.specs.declared.token.TokenKind.{TokenKind}
 use Rattle.wd_lex.specs.declared.token.TokenKind.TheVariants as t
 use Rattle.wd_lex.specs.declared.token.Token.{Token}
-use Rattle.wd_schema.specs.declared.table.Column.{Column}
 use Rattle.wd_schema.specs.Tables.{TableRule}
 use Rattle.wd_schema.specs.Schemas.{table_named}
 use Rattle.wd_clauses.specs.Names.{is_name}
 use Rattle.wd_clauses.specs.Reach.{closing, opens}
 use Rattle.wd_clauses.specs.Parts.{parts}
-use Rattle.wd_distinct_on.specs.Kinds.{is_as, is_on}
+use Rattle.wd_distinct_on.specs.Kinds.{is_as, is_on, is_select}
 use Rattle.wd_distinct_on.specs.Lists.{with_front}
 use Rattle.wd_distinct_on.specs.Respelled.{◌>>=◌}
 use Rattle.wd_using.specs.declared.level.Extent.TheVariants.{Table}
-use Rattle.wd_using.specs.Kinds.{begins_table, is_inner, is_using}
+use Rattle.wd_clauses.specs.declared.level.Stop.TheVariants.{From}
+use Rattle.wd_clauses.specs.Reach.{reach as reach_items}
+use Rattle.wd_distinct_on.specs.Items.{NamedItem, item_of}
+use Rattle.wd_using.specs.Kinds.{begins_select, begins_table, has, is_inner, is_using}
+use Rattle.wd_using.specs.Pieces.{distinct_count}
 use Rattle.wd_using.specs.Reach.{reach}
 
 -- how many tokens a table and its alias are, and the name by which its columns are called
@@ -33,7 +37,7 @@ pub record JoinedTable : Type 0 where
   pub join : Token
   pub table : List Token
   pub alias : Token
-  pub columns : List Column
+  pub columns : List (List ℕ)
   pub condition : Condition
 
 abbrev pub alias_behind_as : Token → List Token → Alias
@@ -91,20 +95,76 @@ abbrev pub condition_at : Token → List Token → Option Condition
 condition_at alias [] = Some (record { word = alias; names = []; rest = [] })
 condition_at alias (word ∷ tokens) =
     if is_using word.kind then using_at word tokens
-    else (if is_on word.kind || ends (word ∷ tokens) then Some (record { word = alias; names = []; rest = word ∷ tokens }) else None)
+    else (if (is_on word.kind || ends (word ∷ tokens)) && not (has begins_select tokens) then Some (record { word = alias; names = []; rest = word ∷ tokens }) else None)
 
-abbrev pub with_condition : Token → List Token → Token → List Column → Option Condition → Option JoinedTable
+abbrev pub with_condition : Token → List Token → Token → List (List ℕ) → Option Condition → Option JoinedTable
 with_condition join table alias columns None = None
 with_condition join table alias columns (Some condition) = Some (record { join = join; table = table; alias = alias; columns = columns; condition = condition })
 
-abbrev pub with_table : Token → List Token → Alias → Option TableRule → Option JoinedTable
-with_table join tokens alias None = None
-with_table join tokens alias (Some table) = with_condition join (take alias.count tokens) alias.name table.columns (condition_at alias.name (drop alias.count tokens))
+abbrev pub name_in : Option NamedItem → Option Token
+name_in None = None
+name_in (Some item) = Some item.name
 
--- a declared table, its alias, and its condition
-unfoldable pub joined_at : List TableRule → Token → List Token → Option JoinedTable
-joined_at tables join [] = None
-joined_at tables join (name ∷ tokens) = with_table join (name ∷ tokens) (alias_at name tokens) (declared tables name.kind)
+abbrev pub text_of : TokenKind → Option (List ℕ)
+text_of (t.Word text) = Some text
+text_of (t.Quoted text) = Some text
+text_of kind = None
+
+abbrev pub text_in : Option Token → Option (List ℕ)
+text_in None = None
+text_in (Some name) = text_of name.kind
+
+abbrev pub with_column : Option (List ℕ) → Option (List (List ℕ)) → Option (List (List ℕ))
+with_column None columns = None
+with_column (Some column) columns = with_front column columns
+
+-- the names of items, if each has one
+abbrev pub item_names : List (List Token) → Option (List (List ℕ))
+item_names [] = Some []
+item_names (part ∷ found) = with_column (text_in (name_in (item_of part))) (item_names found)
+
+-- the columns of a derived table, by the items of its select
+abbrev pub derived_columns : List Token → Option (List (List ℕ))
+derived_columns [] = None
+derived_columns (select ∷ tokens) =
+    let list = drop (distinct_count tokens) tokens in
+    if is_select select.kind then parts (take (reach_items From list) list) >>= item_names else None
+
+-- the columns of a table, how many tokens it is with its alias, and its alias
+pub record Source : Type 0 where
+  pub columns : List (List ℕ)
+  pub alias : Alias
+
+abbrev pub columns_of : TableRule → List (List ℕ)
+columns_of table = map (λ column. column.name) table.columns
+
+abbrev pub declared_source : Alias → Option TableRule → Option Source
+declared_source alias None = None
+declared_source alias (Some table) = Some (record { columns = columns_of table; alias = alias })
+
+abbrev pub with_columns : ℕ → Alias → Option (List (List ℕ)) → Option Source
+with_columns place alias None = None
+with_columns place alias (Some columns) = Some (record { columns = columns; alias = record { count = place + 1 + alias.count; name = alias.name } })
+
+-- a query in brackets, of which the place of the second is this, and its alias, which it must have
+abbrev pub derived_source : Token → List Token → Option ℕ → Option Source
+derived_source bracket tokens None = None
+derived_source bracket tokens (Some place) =
+    let alias = alias_at bracket (drop (place + 1) tokens) in
+    if alias.count == 1 then None else with_columns place alias (derived_columns (take place tokens))
+
+-- a declared table, or a derived one, with its alias
+unfoldable pub source_at : List TableRule → List Token → Option Source
+source_at tables [] = None
+source_at tables (first ∷ tokens) = if opens first.kind then derived_source first tokens (closing tokens) else declared_source (alias_at first tokens) (declared tables first.kind)
+
+abbrev pub with_source : Token → List Token → Option Source → Option JoinedTable
+with_source join tokens None = None
+with_source join tokens (Some source) = with_condition join (take source.alias.count tokens) source.alias.name source.columns (condition_at source.alias.name (drop source.alias.count tokens))
+
+-- a table, its alias, and its condition
+abbrev pub joined_at : List TableRule → Token → List Token → Option JoinedTable
+joined_at tables join tokens = with_source join tokens (source_at tables tokens)
 
 abbrev pub with_behind : List Token → Option JoinedTable → Option (JoinedTable × List Token)
 with_behind behind None = None

@@ -1,9 +1,8 @@
 -- The columns that USING merges, and the table to which each is ascribed. Of the tables that have such a column each but the
 -- first is joined USING it, and no other table is: so on the left of each USING just one column has the name, merged or not.
-use Rattle.std.specs.Prelude.{not, if◌then◌else◌, Bool, true, false, List, [], ◌∷◌, ◌++◌, Option, Some, None}
+use Rattle.std.specs.Prelude.{ℕ, not, if◌then◌else◌, Bool, true, false, List, [], ◌∷◌, ◌++◌, Option, Some, None}
 use Rattle.wd_lex.specs.declared.token.TokenKind.{TokenKind}
 use Rattle.wd_lex.specs.declared.token.Token.{Token}
-use Rattle.wd_schema.specs.declared.table.Column.{Column}
 use Rattle.wd_clauses.specs.Names.{is_named, is_same_name}
 use Rattle.wd_distinct_on.specs.Lists.{with_front}
 use Rattle.wd_using.specs.Joins.{JoinedTable}
@@ -13,9 +12,9 @@ pub record MergedColumn : Type 0 where
   pub name : Token
   pub table : Token
 
-abbrev pub has_column : TokenKind → List Column → Bool
+abbrev pub has_column : TokenKind → List (List ℕ) → Bool
 has_column name [] = false
-has_column name (column ∷ columns) = if is_named column.name name then true else has_column name columns
+has_column name (column ∷ columns) = if is_named column name then true else has_column name columns
 
 abbrev pub has_name : TokenKind → List Token → Bool
 has_name name [] = false

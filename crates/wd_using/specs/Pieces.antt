@@ -1,6 +1,6 @@
--- The pieces of SELECT [DISTINCT] items FROM .. clauses, and what follows it. DISTINCT ON may not stand in it, nor another
--- select, nor UNION.
-use Rattle.std.specs.Prelude.{ℕ, ◌||◌, if◌then◌else◌, List, [], ◌∷◌, take, drop, Option, Some, None}
+-- The pieces of SELECT [DISTINCT] items FROM .. clauses, and what follows it. DISTINCT ON may not stand in it, nor UNION,
+-- nor another select but in the FROM clause.
+use Rattle.std.specs.Prelude.{ℕ, ◌&&◌, not, if◌then◌else◌, List, [], ◌∷◌, take, drop, Option, Some, None}
 use Rattle.wd_lex.specs.declared.token.Token.{Token}
 use Rattle.wd_clauses.specs.declared.level.Stop.TheVariants.{Clause, From}
 use Rattle.wd_clauses.specs.Reach as clauses
@@ -23,8 +23,9 @@ distinct_count tokens = if begins is_distinct tokens then 1 else 0
 -- with the FROM clause and the clauses behind it
 abbrev pub with_tables : Token → List Token → List Token → List Token → List Token → Option Pieces
 with_tables select distinct items tokens after =
-    if begins is_from tokens then
-    Some (record { select = select; distinct = distinct; items = items; tables = take (clauses.reach Clause tokens) tokens; clauses = drop (clauses.reach Clause tokens) tokens; after = after })
+    let behind = drop (clauses.reach Clause tokens) tokens in
+    if begins is_from tokens && not (has begins_select items) && not (has begins_select behind) then
+    Some (record { select = select; distinct = distinct; items = items; tables = take (clauses.reach Clause tokens) tokens; clauses = behind; after = after })
     else None
 
 -- with the items behind SELECT [DISTINCT]
@@ -35,7 +36,7 @@ with_items select distinct tokens after = with_tables select distinct (take (cla
 abbrev pub with_body : Token → List Token → List Token → Option Pieces
 with_body select body after =
     let list = drop (distinct_count body) body in
-    if has begins_select body || begins is_on list then None else with_items select (take (distinct_count body) body) list after
+    if begins is_on list then None else with_items select (take (distinct_count body) body) list after
 
 -- the select that begins here
 unfoldable pub select_at : List Token → Option Pieces

@@ -1,26 +1,19 @@
 //! The tables of a FROM clause, over a schema.
 
-ghost use Rattle.std.specs.Prelude.{◌≡◌, map, take, drop, IfOk};
+ghost use Rattle.std.specs.Prelude.{◌≡◌, map, IfOk};
 ghost use Rattle.wd_clauses.specs.Given.{Finds};
 ghost use Rattle.wd_clauses.specs.Reach as reach;
 ghost use Rattle.wd_schema.specs.Schemas.{schema_of};
-ghost use Rattle.wd_schema.specs.Tables as rules;
 ghost use Rattle.wd_using.specs.Joins as spec;
 ghost use Rattle.wd_using.specs.Named as named;
 
-use crate::kind::{begins_table, is_as, is_inner, is_on, is_using, opens};
-use crate::level::{Extent, split_at};
+use crate::kind::{begins_table, has_select, is_inner, is_on, is_using, opens};
+use crate::level::{Extent, cut, split_at};
+use crate::source::{Source, source_at};
 use std::alloc::{AllocError, Global};
 use wd_clauses::{closing, is_name, parts};
-use wd_lex::{Token, TokenKind};
-use wd_schema::{Column, Schema, Table};
-
-/// How many tokens a table and its alias are, and the name by which its columns are called.
-#[derive(Drop)]
-pub struct Alias<'t> {
-    pub count: usize,
-    pub name: &'t Token,
-}
+use wd_lex::Token;
+use wd_schema::Schema;
 
 /// The columns of USING, the word USING, and what stands behind them; without USING no columns.
 #[derive(Drop)]
@@ -36,50 +29,8 @@ pub struct Joined<'t> {
     pub join: &'t Token,
     pub table: &'t [Token],
     pub alias: &'t Token,
-    pub columns: &'t [Column],
+    pub columns: Vec<&'t [u8]>,
     pub condition: Condition<'t>,
-}
-
-/// `alias`, behind a table's name and AS
-fn alias_behind_as<'t>(name: &'t Token, tokens: &'t [Token]) -> Alias<'t>
-    ensures { named.table_alias result ≡ spec.alias_behind_as name.now tokens.now }
-{
-    match tokens {
-        [alias, ..] if is_name(&alias.kind) => Alias {
-            count: 3,
-            name: alias,
-        },
-        _ => Alias { count: 1, name },
-    }
-}
-
-/// `[[AS] alias]`, behind a table's name
-fn alias_at<'t>(name: &'t Token, tokens: &'t [Token]) -> Alias<'t>
-    ensures { named.table_alias result ≡ spec.alias_at name.now tokens.now }
-{
-    let [next, rest @ ..] = tokens else {
-        return Alias { count: 1, name };
-    };
-    if is_as(&next.kind) {
-        return alias_behind_as(name, rest);
-    }
-    if is_name(&next.kind) {
-        return Alias {
-            count: 2,
-            name: next,
-        };
-    }
-    Alias { count: 1, name }
-}
-
-/// The declared table of that name.
-fn declared<'t>(schema: &'t Schema, name: &TokenKind) -> Option<&'t Table>
-    ensures { Finds (λ table. rules.table_of table.now) result (spec.declared (schema_of schema.now) name.now) }
-{
-    match name {
-        TokenKind::Word(text) | TokenKind::Quoted(text) => schema.table(text.as_str()),
-        _ => None,
-    }
 }
 
 /// A name alone.
@@ -166,7 +117,7 @@ fn condition_at<'t>(
         if is_using(&word.kind) {
             return using_at(alloc, word, rest);
         }
-        if !(is_on(&word.kind) || ends(tokens)) {
+        if !(is_on(&word.kind) || ends(tokens)) || has_select(rest) {
             return Ok(None);
         }
     }
@@ -177,17 +128,7 @@ fn condition_at<'t>(
     }))
 }
 
-/// The tokens before a place, and those from there on.
-pub fn cut(place: usize, tokens: &[Token]) -> (&[Token], &[Token])
-    ensures before { result.0.now ≡ take place tokens.now }
-    ensures behind { result.1.now ≡ drop place tokens.now }
-{
-    let place = place.min(tokens.len());
-    (&tokens[..place], &tokens[place..])
-}
-
-/// A declared table, its alias, and its condition, behind FROM or JOIN.
-#[tactic(auto, unfolding(crate::specs::Joins::joined_at))]
+/// A table, its alias, and its condition, behind FROM or JOIN.
 fn joined_at<'t>(
     alloc: Global,
     schema: &'t Schema,
@@ -196,20 +137,16 @@ fn joined_at<'t>(
 ) -> Result<Option<Joined<'t>>, AllocError>
     ensures { IfOk result (λ found. Finds named.joined_table found (spec.joined_at (schema_of schema.now) join.now tokens.now)) }
 {
-    let [name, rest @ ..] = tokens else {
+    let Some(Source { columns, alias }) = source_at(alloc, schema, tokens)? else {
         return Ok(None);
     };
-    let Some(declared) = declared(schema, &name.kind) else {
-        return Ok(None);
-    };
-    let alias = alias_at(name, rest);
     let (table, behind) = cut(alias.count, tokens);
     match condition_at(alloc, alias.name, behind)? {
         Some(condition) => Ok(Some(Joined {
             join,
             table,
             alias: alias.name,
-            columns: declared.columns.as_slice(),
+            columns,
             condition,
         })),
         None => Ok(None),

@@ -15,6 +15,12 @@ pub fn is_as(kind: &TokenKind) -> bool
     matches!(kind, TokenKind::Terminal(Terminal::As))
 }
 
+pub fn is_dot(kind: &TokenKind) -> bool
+    ensures { result ≡ kinds.is_dot kind.now }
+{
+    matches!(kind, TokenKind::Terminal(Terminal::Dot))
+}
+
 pub fn is_on(kind: &TokenKind) -> bool
     ensures { result ≡ kinds.is_on kind.now }
 {

@@ -10,7 +10,6 @@ use crate::kind::is_named;
 use std::alloc::{AllocError, Global};
 use wd_clauses::is_same_name;
 use wd_lex::{Token, TokenKind};
-use wd_schema::Column;
 
 /// A merged column, and the alias of its table.
 #[derive(Drop)]
@@ -20,11 +19,11 @@ pub struct Merged<'t> {
 }
 
 /// Whether one of the columns has that name.
-fn has_column(name: &TokenKind, mut columns: &[Column]) -> bool
-    ensures { result ≡ spec.has_column name.now columns.entry.now }
+fn has_column(name: &TokenKind, mut columns: &[&[u8]]) -> bool
+    ensures { result ≡ spec.has_column name.now (map (λ column. column.now) columns.entry.now) }
 {
     while let [column, rest @ ..] = columns {
-        if is_named(column.name.as_bytes(), name) {
+        if is_named(column, name) {
             return true;
         }
         columns = rest;
@@ -49,7 +48,7 @@ fn has_name(name: &TokenKind, mut names: &[&Token]) -> bool
 fn is_joined_by(name: &TokenKind, table: &Joined) -> bool
     ensures { result ≡ spec.is_joined_by name.now (joined_table table.now) }
 {
-    has_column(name, table.columns) == has_name(name, &table.condition.names)
+    has_column(name, &table.columns) == has_name(name, &table.condition.names)
 }
 
 /// Whether each table is joined USING a column just if it has it.
@@ -74,7 +73,7 @@ fn first_with<'t>(name: &TokenKind, tables: &[Joined<'t>]) -> Option<&'t Token>
         if has_name(name, &table.condition.names) {
             return None;
         }
-        if has_column(name, table.columns) {
+        if has_column(name, &table.columns) {
             if are_joined_by(name, rest) {
                 return Some(table.alias);
             }

@@ -7,8 +7,9 @@ ghost use Rattle.wd_using.specs.Merged as merging;
 ghost use Rattle.wd_using.specs.Named.{joined_table, merged_column, pieces};
 ghost use Rattle.wd_using.specs.Respelled as spec;
 
-use crate::join::{Joined, cut, joined_tables};
+use crate::join::{Joined, joined_tables};
 use crate::kind::{begins_columns, ends_value, goes_on, is_star};
+use crate::level::cut;
 use crate::merge::{Merged, merged_of, names_in, table_of};
 use crate::select::{Select, select_at};
 use crate::write::written;

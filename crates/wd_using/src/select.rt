@@ -5,9 +5,8 @@ ghost use Rattle.wd_clauses.specs.Given.{Finds};
 ghost use Rattle.wd_using.specs.Named.{pieces};
 ghost use Rattle.wd_using.specs.Pieces as spec;
 
-use crate::join::cut;
 use crate::kind::{begins_distinct, begins_from, begins_on, has_select, is_select};
-use crate::level::{Extent, split_at};
+use crate::level::{Extent, cut, split_at};
 use wd_clauses::{Stop, split};
 use wd_lex::Token;
 
@@ -27,14 +26,14 @@ fn with_body<'t>(select: &'t Token, body: &'t [Token], after: &'t [Token]) -> Op
     ensures { Finds pieces result (spec.with_body select.now body.now after.now) }
 {
     let (distinct, list) = cut(if begins_distinct(body) { 1 } else { 0 }, body);
-    if has_select(body) || begins_on(list) {
+    if begins_on(list) {
         return None;
     }
     let (items, behind) = split(Stop::From, list);
-    if !begins_from(behind) {
+    let (tables, clauses) = split(Stop::Clause, behind);
+    if !begins_from(behind) || has_select(items) || has_select(clauses) {
         return None;
     }
-    let (tables, clauses) = split(Stop::Clause, behind);
     Some(Select {
         select,
         distinct,
@@ -45,7 +44,7 @@ fn with_body<'t>(select: &'t Token, body: &'t [Token], after: &'t [Token]) -> Op
     })
 }
 
-/// The select that begins with the tokens, if no other stands in it.
+/// The select that begins with the tokens, if another stands only in its FROM clause.
 #[tactic(auto, unfolding(crate::specs::Pieces::select_at))]
 pub fn select_at(tokens: &[Token]) -> Option<Select<'_>>
     ensures { Finds pieces result (spec.select_at tokens.now) }

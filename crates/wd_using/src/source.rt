@@ -1,0 +1,243 @@
+//! The tables of a FROM clause, declared or derived, with their columns and aliases.
+
+ghost use Rattle.std.specs.Prelude.{◌≡◌, ◌≤◌, map, IfOk};
+ghost use Rattle.wd_clauses.specs.Given.{Finds};
+ghost use Rattle.wd_clauses.specs.Reach as reach;
+ghost use Rattle.wd_distinct_on.specs.Items as items;
+ghost use Rattle.wd_schema.specs.Schemas.{schema_of};
+ghost use Rattle.wd_schema.specs.Tables as rules;
+ghost use Rattle.wd_using.specs.Joins as spec;
+ghost use Rattle.wd_using.specs.Named as named;
+
+use crate::kind::{begins_distinct, is_as, is_dot, is_select, opens};
+use crate::level::cut;
+use std::alloc::{AllocError, Global};
+use wd_clauses::{Stop, closing, is_name, parts, split};
+use wd_lex::{Token, TokenKind};
+use wd_schema::{Column, Schema, Table};
+
+/// How many tokens a table and its alias are, and the name by which its columns are called.
+#[derive(Drop)]
+pub struct Alias<'t> {
+    pub count: usize,
+    pub name: &'t Token,
+}
+
+/// The columns of a table, and its alias.
+#[derive(Drop)]
+pub struct Source<'t> {
+    pub columns: Vec<&'t [u8]>,
+    pub alias: Alias<'t>,
+}
+
+/// `alias`, behind a table's name and AS
+fn alias_behind_as<'t>(name: &'t Token, tokens: &'t [Token]) -> Alias<'t>
+    ensures alias { named.table_alias result ≡ spec.alias_behind_as name.now tokens.now }
+    ensures few { result.count ≤ 3 }
+{
+    match tokens {
+        [alias, ..] if is_name(&alias.kind) => Alias {
+            count: 3,
+            name: alias,
+        },
+        _ => Alias { count: 1, name },
+    }
+}
+
+/// `[[AS] alias]`, behind a table's name
+fn alias_at<'t>(name: &'t Token, tokens: &'t [Token]) -> Alias<'t>
+    ensures alias { named.table_alias result ≡ spec.alias_at name.now tokens.now }
+    ensures few { result.count ≤ 3 }
+{
+    let [next, rest @ ..] = tokens else {
+        return Alias { count: 1, name };
+    };
+    if is_as(&next.kind) {
+        return alias_behind_as(name, rest);
+    }
+    if is_name(&next.kind) {
+        return Alias {
+            count: 2,
+            name: next,
+        };
+    }
+    Alias { count: 1, name }
+}
+
+/// The declared table of that name.
+fn declared<'t>(schema: &'t Schema, name: &TokenKind) -> Option<&'t Table>
+    ensures { Finds (λ table. rules.table_of table.now) result (spec.declared (schema_of schema.now) name.now) }
+{
+    match name {
+        TokenKind::Word(text) | TokenKind::Quoted(text) => schema.table(text.as_str()),
+        _ => None,
+    }
+}
+
+/// The name of a column, with a table's before it or not.
+fn column_of(tokens: &[Token]) -> Option<&Token>
+    ensures { Finds (λ name. name.now) result (spec.name_in (items.column_of tokens.now)) }
+{
+    match tokens {
+        [column] if is_name(&column.kind) => Some(column),
+        [table, dot, column]
+            if is_name(&table.kind) && is_dot(&dot.kind) && is_name(&column.kind) => Some(column),
+        _ => None,
+    }
+}
+
+/// The name behind AS.
+fn behind_as(tokens: &[Token]) -> Option<&Token>
+    ensures { Finds (λ name. name.now) result (items.behind_as tokens.now) }
+{
+    match tokens {
+        [word, name] if is_as(&word.kind) && is_name(&name.kind) => Some(name),
+        _ => None,
+    }
+}
+
+/// The name of an item.
+fn item_name(tokens: &[Token]) -> Option<&Token>
+    ensures { Finds (λ name. name.now) result (spec.name_in (items.item_of tokens.now)) }
+{
+    let count = tokens.len().saturating_sub(2);
+    match behind_as(&tokens[count..]) {
+        Some(name) => Some(name),
+        None => column_of(tokens),
+    }
+}
+
+/// The text of a name.
+fn text_of(kind: &TokenKind) -> Option<&[u8]>
+    ensures { Finds (λ text. text.now) result (spec.text_of kind.now) }
+{
+    match kind {
+        TokenKind::Word(text) | TokenKind::Quoted(text) => Some(text.as_bytes()),
+        _ => None,
+    }
+}
+
+/// The text of an item's name.
+fn item_text(tokens: &[Token]) -> Option<&[u8]>
+    ensures { Finds (λ text. text.now) result (spec.text_in (spec.name_in (items.item_of tokens.now))) }
+{
+    match item_name(tokens) {
+        Some(name) => text_of(&name.kind),
+        None => None,
+    }
+}
+
+/// The names of items, if each has one.
+fn item_names<'t>(alloc: Global, parts: &[&'t [Token]]) -> Result<Option<Vec<&'t [u8]>>, AllocError>
+    ensures { IfOk result (λ found. Finds (λ x. map (λ name. name.now) x.items) found (spec.item_names (map (λ part. part.now) parts.now))) }
+{
+    let mut names = Vec::new(alloc);
+    let mut rest = parts;
+    while let [part, after @ ..] = rest {
+        match item_text(part) {
+            Some(name) => names.push(name)?,
+            None => return Ok(None),
+        }
+        rest = after;
+    }
+    Ok(Some(names))
+}
+
+/// The columns of a derived table, by the items of its select.
+fn derived_columns(alloc: Global, tokens: &[Token]) -> Result<Option<Vec<&[u8]>>, AllocError>
+    ensures { IfOk result (λ found. Finds (λ x. map (λ name. name.now) x.items) found (spec.derived_columns tokens.now)) }
+{
+    let [select, rest @ ..] = tokens else {
+        return Ok(None);
+    };
+    if !is_select(&select.kind) {
+        return Ok(None);
+    }
+    let (_distinct, list) = cut(if begins_distinct(rest) { 1 } else { 0 }, rest);
+    let (items, _behind) = split(Stop::From, list);
+    match parts(alloc, items)? {
+        Some(parts) => {
+            let names = item_names(alloc, &parts)?;
+            Ok(names)
+        }
+        None => Ok(None),
+    }
+}
+
+/// The names of columns.
+fn names_of_columns(alloc: Global, columns: &[Column]) -> Result<Vec<&[u8]>, AllocError>
+    ensures { IfOk result (λ x. map (λ name. name.now) x.items ≡ map (λ column. column.name) columns.now) }
+{
+    let mut names = Vec::new(alloc);
+    let mut rest = columns;
+    while let [column, after @ ..] = rest {
+        names.push(column.name.as_bytes())?;
+        rest = after;
+    }
+    Ok(names)
+}
+
+/// A declared table.
+fn declared_source<'t>(
+    alloc: Global,
+    schema: &'t Schema,
+    name: &TokenKind,
+    alias: Alias<'t>,
+) -> Result<Option<Source<'t>>, AllocError>
+    ensures { IfOk result (λ found. Finds named.table_source found (spec.declared_source (named.table_alias alias.entry) (spec.declared (schema_of schema.now) name.now))) }
+{
+    match declared(schema, name) {
+        Some(table) => {
+            let columns = names_of_columns(alloc, &table.columns)?;
+            Ok(Some(Source { columns, alias }))
+        }
+        None => Ok(None),
+    }
+}
+
+/// A query in brackets, and its alias.
+fn derived_source<'t>(
+    alloc: Global,
+    bracket: &'t Token,
+    tokens: &'t [Token],
+) -> Result<Option<Source<'t>>, AllocError>
+    ensures { IfOk result (λ found. Finds named.table_source found (spec.derived_source bracket.now tokens.now (reach.closing tokens.now))) }
+{
+    let Some(place) = closing(tokens) else {
+        return Ok(None);
+    };
+    let Alias { count, name } = alias_at(bracket, &tokens[place + 1..]);
+    if count == 1 {
+        return Ok(None);
+    }
+    match derived_columns(alloc, &tokens[..place])? {
+        Some(columns) => Ok(Some(Source {
+            columns,
+            alias: Alias {
+                count: place + 1 + count,
+                name,
+            },
+        })),
+        None => Ok(None),
+    }
+}
+
+/// A declared table, or a derived one, with its alias.
+#[tactic(auto, unfolding(crate::specs::Joins::source_at))]
+pub fn source_at<'t>(
+    alloc: Global,
+    schema: &'t Schema,
+    tokens: &'t [Token],
+) -> Result<Option<Source<'t>>, AllocError>
+    ensures { IfOk result (λ found. Finds named.table_source found (spec.source_at (schema_of schema.now) tokens.now)) }
+{
+    let [first, rest @ ..] = tokens else {
+        return Ok(None);
+    };
+    if opens(&first.kind) {
+        let source = derived_source(alloc, first, rest)?;
+        return Ok(source);
+    }
+    let source = declared_source(alloc, schema, &first.kind, alias_at(first, rest))?;
+    Ok(source)
+}
