@@ -13,14 +13,14 @@ use Rattle.wd_qualified.specs.Unqualified.{unqualified}
 use Rattle.wd_with.specs.declared.place.Place.TheVariants.{Elsewhere}
 use Rattle.wd_dialect_read.specs.declared.said.Statement.{Statement}
 
--- tokens without the schemas of tables, then without USING over these tables, and then without DISTINCT ON
+-- tokens without the schemas of tables, then without DISTINCT ON, and then without USING over these tables
 pub record IsPlain (tables : List TableRule) (tokens plain : List Token) : Type 0 where
-  pub joined : List Token
-  pub using : joins.respelled tables (unqualified (Elsewhere ∷ []) tokens) ≡ Ok joined
-  pub selects : selects.respelled joined ≡ Ok plain
+  pub distinct : List Token
+  pub selects : selects.respelled (unqualified (Elsewhere ∷ []) tokens) ≡ Ok distinct
+  pub using : joins.respelled tables distinct ≡ Ok plain
 
 -- what the tokens of a query are by the equations, over these tables, which the statements make: WITH is taken out, then come the schemas of
--- tables, USING and DISTINCT ON, then the equations of expressions, and moments become numbers. And the members of WITH that are read
+-- tables, DISTINCT ON and USING, then the equations of expressions, and moments become numbers. And the members of WITH that are read
 -- twice
 pub record IsEquated (tables : List TableRule) (statements : List Statement) (tokens : List Token) (said : Said) : Type 0 where
   pub plain : List Token

@@ -3,11 +3,11 @@
 ghost use Rattle.std.specs.Prelude.{◌≡◌, Ok, IfOk, IfSome};
 ghost use Rattle.std.specs.String.{string_bytes};
 ghost use Rattle.wd_lex.specs.Lexed.{IsLexed};
-ghost use Rattle.wd_distinct_on.specs.Respelled.{respelled};
 ghost use Rattle.wd_equations.specs.Expanded as expressions;
 ghost use Rattle.wd_moments.specs.Numbered as numbers;
 ghost use Rattle.wd_respell.specs.Respelled.{IsEquated, IsPlain, IsRespelled};
 ghost use Rattle.wd_schema.specs.Schemas.{schema_of};
+ghost use Rattle.wd_using.specs.Respelled.{respelled};
 ghost use Rattle.wd_with.specs.Expanded.{said};
 
 use crate::kinds::say_the_same;
@@ -79,7 +79,7 @@ fn equated(
     }
 }
 
-/// The tokens without schemas of tables, without USING and without DISTINCT ON.
+/// The tokens without schemas of tables, without DISTINCT ON and without USING.
 fn plain(
     alloc: Global,
     schema: &Schema,
@@ -88,8 +88,8 @@ fn plain(
     ensures { IfOk result (λ o. IfSome o (λ plain. IsPlain (schema_of schema.now) tokens.now plain.items)) }
 {
     match unqualified_query(alloc, tokens) {
-        Ok(tables) => match without_using(alloc, schema, &tables) {
-            Ok(joined) => without_selects(alloc, &joined),
+        Ok(tables) => match without_distinct_on(alloc, &tables) {
+            Ok(distinct) => joined(alloc, schema, &distinct),
             Err(RespellError::OutOfMemory) => Err(OutOfMemory),
             Err(RespellError::TooLong) => Ok(None),
         },
@@ -98,11 +98,15 @@ fn plain(
     }
 }
 
-/// The tokens without DISTINCT ON.
-fn without_selects(alloc: Global, tokens: &[Token]) -> Result<Option<Vec<Token>>, OutOfMemory>
-    ensures { IfOk result (λ o. IfSome o (λ plain. respelled tokens.now ≡ Ok plain.items)) }
+/// The tokens without USING.
+fn joined(
+    alloc: Global,
+    schema: &Schema,
+    tokens: &[Token],
+) -> Result<Option<Vec<Token>>, OutOfMemory>
+    ensures { IfOk result (λ o. IfSome o (λ plain. respelled (schema_of schema.now) tokens.now ≡ Ok plain.items)) }
 {
-    match without_distinct_on(alloc, tokens) {
+    match without_using(alloc, schema, tokens) {
         Ok(plain) => Ok(Some(plain)),
         Err(RespellError::OutOfMemory) => Err(OutOfMemory),
         Err(RespellError::TooLong) => Ok(None),
