@@ -9,7 +9,7 @@ use Rattle.wd_clauses.specs.declared.error.RespellError.{RespellError}
 use Rattle.wd_clauses.specs.declared.error.RespellError.TheVariants.{TooLong}
 use Rattle.wd_clauses.specs.Given.{most_tokens}
 use Rattle.wd_distinct_on.specs.Kinds.{begins}
-use Rattle.wd_distinct_on.specs.Respelled.{◌>>=◌, turned}
+use Rattle.wd_distinct_on.specs.Respelled.{◌>>=◌}
 use Rattle.wd_with.specs.Derived.{goes_on}
 use Rattle.wd_using.specs.Kinds.{begins_columns, ends_value, is_star}
 use Rattle.wd_using.specs.Joins.{JoinedTable, joined_tables, most_tables}
@@ -61,6 +61,11 @@ respelled_at schema place tokens = select_at (drop place tokens) >>= λ select. 
 -- the most selects that are respelled (this project's choice)
 abbrev pub most_selects : ℕ
 most_selects = 64
+
+-- on with a select less where one was respelled, if the query is not too long by it
+abbrev pub turned : (ℕ → List Token → Result (List Token) RespellError) → ℕ → List Token → Option (List Token) → Result (List Token) RespellError
+turned go left tokens None = go left tokens
+turned go left tokens (Some new) = if nat_lt most_tokens (length new) then Err TooLong else go (left - 1) new
 
 -- the selects that begin at the first so many places, from the last to the first, and at most so many of them
 unfoldable pub respelled_below : List TableRule → ℕ → ℕ → List Token → Result (List Token) RespellError
