@@ -1,7 +1,7 @@
 -- A query without USING. FROM a JOIN b USING ( k ) is FROM a JOIN b ON a.k = b.k, and k is a.k in each clause of the select.
 -- A select is left as it is where its tables or the table of a merged column are not clear, where an item stands for all
 -- columns, or where an item may have the name of a merged column by AS, behind its value, or after a function.
-use Rattle.std.specs.Prelude.{ℕ, zero, suc, ◌&&◌, ◌||◌, ◌==◌, if◌then◌else◌, nat_lt, Bool, true, false, List, [], ◌∷◌, ◌++◌, length, take, drop, Option, Some, None, Result, Ok, Err}
+use Rattle.std.specs.Prelude.{ℕ, zero, suc, ◌-◌, ◌&&◌, ◌||◌, ◌==◌, if◌then◌else◌, nat_lt, Bool, true, false, List, [], ◌∷◌, ◌++◌, length, take, drop, Option, Some, None, Result, Ok, Err}
 use Rattle.wd_lex.specs.declared.token.TokenKind.{TokenKind}
 use Rattle.wd_lex.specs.declared.token.Token.{Token}
 use Rattle.wd_schema.specs.Tables.{TableRule}
