@@ -33,6 +33,19 @@ TEXTS = {
     "60 keys, 62 sizes": (WIDE, numbered("t a", " AND ".join(f"a.c{60 + i} <> {2 * i + 3}" for i in range(62)) + f" AND {NEVER}")),
     "4 tables": (WIDE, numbered("t a JOIN t b ON a.c1 = b.c2 JOIN t c ON b.c3 = c.c4 JOIN t d ON d.c5 = c.c6", NEVER)),
     "8 tables of texts, 62 literals": (MANY, numbered(f"t0 a {SEVEN}", " AND ".join(f"a.c{i} <> 'x{i}'" for i in range(62)) + " AND a.c0 > 'zzzz' AND a.c0 < 'a'")),
+    "2 tables of texts, 62 sizes": (
+        "".join(table(f"t{k}", 250, "TEXT NOT NULL", 1) for k in range(2)).replace("c249 TEXT", "c249 BIGINT"),
+        numbered("t0 a JOIN t1 b ON a.c1 = b.c2", " AND ".join(f"a.c249 <> {2 * i + 3}" for i in range(62)) + " AND a.c3 > 'zzzz' AND a.c3 < 'a'"),
+    ),
+    "3,000 comparisons": (WIDE, numbered("t a", " AND ".join(f"a.c{i % 250} <> {-7 - i}" for i in range(3000)) + f" AND {NEVER}")),
+    "64 grouping sets": (
+        WIDE,
+        f"SELECT c100, ROW_NUMBER() OVER (ORDER BY c101) AS n FROM t a WHERE {NEVER} GROUP BY CUBE (c100, c101, c102, c103, c104, c105)",
+    ),
+    "31 levels": (
+        WIDE,
+        "SELECT c1, ROW_NUMBER() OVER (ORDER BY c2) AS n FROM " + "(SELECT * FROM " * 30 + f"t a WHERE {NEVER}" + "".join(f") AS d{i}" for i in range(30)),
+    ),
     "110 calls": (WIDE, f"SELECT c0, {', '.join(f'ROW_NUMBER() OVER (ORDER BY c{i}) AS n{i}' for i in range(60, 170))} FROM t a WHERE {NEVER}"),
 }
 

@@ -1,5 +1,5 @@
 -- The candidates of the further search, round after round.
-use Rattle.std.specs.Prelude.{ℕ, ◌*◌, ◌/◌, List, [], ◌∷◌, flat_map, length, min, nat_lt, if◌then◌else◌}
+use Rattle.std.specs.Prelude.{ℕ, ◌*◌, ◌/◌, List, [], ◌∷◌, flat_map, length, max, min, nat_lt, if◌then◌else◌}
 use Rattle.wd_value.specs.Bags.{positions}
 use Rattle.wd_value.specs.Rows.{Instance}
 use Rattle.wd_schema.specs.Tables.{TableRule}
@@ -7,21 +7,22 @@ use Rattle.wd_plan.specs.Plans.{PlanTree}
 use Rattle.wd_seek.specs.Evaluations.{evaluations}
 use Rattle.wd_varied.specs.Sizes.{paired, sizes}
 use Rattle.wd_varied.specs.Varied.{varied}
+use Rattle.wd_varied.specs.Work.{row_work}
 
--- the most tries of a search, and the most rows that all its evaluations go over
+-- the most tries of a search, and the most that all its evaluations do, in parts of about five nanoseconds
 abbrev pub most_tries : ℕ
 most_tries = 600
 
-abbrev pub most_rows : ℕ
-most_rows = 400000
+abbrev pub most_work : ℕ
+most_work = 100000000
 
--- the rows that the evaluations of one try go over: those to which the tables pair, in each evaluation
+-- what the evaluations of one try do for all rows to which the tables pair, for each at least 250
 abbrev pub cost : PlanTree → ℕ → ℕ
-cost plan rows = paired rows plan * evaluations plan
+cost plan rows = (paired rows plan * evaluations plan) * max 250 (row_work plan)
 
--- how many tries there are of a size: its share of the most, as far as its share of the most rows suffices for them
+-- how many tries there are of a size: its share of the most, as far as its share of the most work suffices for them
 abbrev pub tries : PlanTree → ℕ → ℕ
-tries plan rows = min (most_tries / length (sizes plan)) (most_rows / (cost plan rows * length (sizes plan)))
+tries plan rows = min (most_tries / length (sizes plan)) (most_work / (cost plan rows * length (sizes plan)))
 
 -- in the round with a number there is one try of each size, as long as there are more of it
 abbrev pub of_size : List TableRule → PlanTree → ℕ → ℕ → List Instance

@@ -17,6 +17,8 @@ pub(crate) fn remedy_at(number: u32, text: &[u8], span: Span) -> Option<&'static
         201 => found(&AT_WORD, word).or_else(|| found(&AFTER_WORD, last_word(before))),
         307 => found(&OF_TYPE, word),
         309 => found(&IN_SCHEMA, word).or_else(|| found(&OF_TYPE, last_word(before))),
+        402 => found(&OF_NAME, word),
+        405 => found(&OF_FUNCTION, first_word(word)),
         _ => None,
     }
 }
@@ -39,6 +41,15 @@ fn last_word(text: &[u8]) -> &[u8] {
         None => 0,
     };
     &text[start..]
+}
+
+/// The word with which a text begins.
+fn first_word(text: &[u8]) -> &[u8] {
+    let end = match text.iter().position(|byte| !is_of_word(*byte)) {
+        Some(at) => at,
+        None => text.len(),
+    };
+    &text[..end]
 }
 
 /// Whether a byte is of a word.
@@ -228,4 +239,95 @@ const IN_SCHEMA: [(&str, &str); 12] = [
         "leave out the schema's name: a table has one name",
     ),
     (".", "leave out the schema's name: a table has one name"),
+];
+
+const TODAY: &str = "write the day or the time: what is asked of today changes from day to day";
+
+const NO_NUMBER: &str = "a row has no number of its own: name the columns of a key";
+
+/// By a name that stands for no column.
+const OF_NAME: [(&str, &str); 8] = [
+    ("current_date", TODAY),
+    ("current_time", TODAY),
+    ("current_timestamp", TODAY),
+    ("localtime", TODAY),
+    ("localtimestamp", TODAY),
+    ("ctid", NO_NUMBER),
+    ("rowid", NO_NUMBER),
+    ("rownum", NO_NUMBER),
+];
+
+const OF_DATE: &str = "keep that part of the date as a column of the table";
+
+const OF_TEXT: &str = "keep the text that it gives as a column of the table";
+
+const BESIDE: &str = "show the numbers that it is computed from, and compute it in the report";
+
+const IN_ORDER: &str =
+    "what it gives goes by the order of its rows: show the rows in an order that a key makes sure of";
+
+/// By a function that is not read.
+const OF_FUNCTION: [(&str, &str); 47] = [
+    (
+        "avg",
+        "for a mean write SUM(v) OVER w / COUNT(v) OVER w, of a group SUM(v) / COUNT(v)",
+    ),
+    (
+        "percent_rank",
+        "write RANK() OVER w and COUNT(*) over the same partition, and divide them in the report",
+    ),
+    (
+        "cume_dist",
+        "write COUNT(*) OVER w and COUNT(*) over the same partition, and divide them in the report",
+    ),
+    ("stddev", BESIDE),
+    ("stddev_pop", BESIDE),
+    ("stddev_samp", BESIDE),
+    ("variance", BESIDE),
+    ("var_pop", BESIDE),
+    ("var_samp", BESIDE),
+    ("corr", BESIDE),
+    ("round", BESIDE),
+    ("floor", BESIDE),
+    ("ceil", BESIDE),
+    ("ceiling", BESIDE),
+    ("trunc", BESIDE),
+    ("array_agg", IN_ORDER),
+    ("string_agg", IN_ORDER),
+    ("group_concat", IN_ORDER),
+    ("listagg", IN_ORDER),
+    ("json_agg", IN_ORDER),
+    ("jsonb_agg", IN_ORDER),
+    ("abs", "write CASE WHEN v < 0 THEN -v ELSE v END"),
+    ("greatest", "write CASE WHEN a > b THEN a ELSE b END"),
+    ("least", "write CASE WHEN a < b THEN a ELSE b END"),
+    ("bool_and", "write COUNT(CASE WHEN NOT p THEN 1 END) = 0"),
+    ("bool_or", "write COUNT(CASE WHEN p THEN 1 END) > 0"),
+    ("date_trunc", OF_DATE),
+    ("date_part", OF_DATE),
+    ("to_char", OF_DATE),
+    ("to_date", OF_DATE),
+    ("age", OF_DATE),
+    ("strftime", OF_DATE),
+    ("year", OF_DATE),
+    ("month", OF_DATE),
+    ("day", OF_DATE),
+    ("now", TODAY),
+    ("lower", OF_TEXT),
+    ("upper", OF_TEXT),
+    ("trim", OF_TEXT),
+    ("substr", OF_TEXT),
+    ("substring", OF_TEXT),
+    ("replace", OF_TEXT),
+    ("concat", OF_TEXT),
+    ("split_part", OF_TEXT),
+    ("length", "keep the length as a column of the table"),
+    (
+        "random",
+        "leave it out: what it gives changes from run to run",
+    ),
+    (
+        "nextval",
+        "leave it out: what it gives changes from run to run",
+    ),
 ];

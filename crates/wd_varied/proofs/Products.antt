@@ -1,5 +1,5 @@
 -- Products that are counted up to a bound.
-use Rattle.std.proofs.Common.{◌≡◌, ℕ, ◌*◌, ◌^◌, ◌<◌, ◌≤◌, leb, nat_le, min, Bool, true, false, refl, sym, ◌∙◌, ap, subst, arith}
+use Rattle.std.proofs.Common.{◌≡◌, ℕ, ◌*◌, ◌^◌, ◌≤◌, leb, nat_le, min, Bool, true, false, refl, sym, ◌∙◌, ap, arith}
 use Rattle.std.proofs.Math.Nat.{le-mul_of_pos_right, min-eq_left, min-eq_right, mul_comm}
 use Rattle.std.proofs.lemmas.Bool.{leb-false, leb-true, lt-leb}
 use Rattle.wd_plan.specs.Plans.{PlanTree, Scan, Join, Filter, Map, Group, Window, Distinct, Limit}
@@ -47,16 +47,16 @@ product a b most some also bound = by (leb a most) (leb b most) refl refl
         let long : most ≤ a * b = above a b (omega (arith, large)) also in
         ap (λ k. min (k * min b most) most) one ∙ min-eq_right short ∙ sym (min-eq_right long)
 
-pub capped : (rows : ℕ) (left right : PlanTree) → 1 ≤ rows → min (min (paired rows left) (2 ^ 24) * min (paired rows right) (2 ^ 24)) (2 ^ 24) ≡ min (paired rows left * paired rows right) (2 ^ 24)
-capped rows left right h = product (paired rows left) (paired rows right) (2 ^ 24) (some_pairs rows left h) (some_pairs rows right h) (omega arith)
+pub capped : (rows : ℕ) (left right : PlanTree) → 1 ≤ rows → min (min (paired rows left) (2 ^ 28) * min (paired rows right) (2 ^ 28)) (2 ^ 28) ≡ min (paired rows left * paired rows right) (2 ^ 28)
+capped rows left right h = product (paired rows left) (paired rows right) (2 ^ 28) (some_pairs rows left h) (some_pairs rows right h) (omega arith)
 
 -- a number that is counted up to more is small where its count is
-pub few : (n : ℕ) → nat_le (min n (2 ^ 24)) 16384 ≡ nat_le n 16384
-few n = by (leb n (2 ^ 24)) refl
+pub few : (n : ℕ) → nat_le (min n (2 ^ 28)) 16384 ≡ nat_le n 16384
+few n = by (leb n (2 ^ 28)) refl
   where
-    by : (t : Bool) → leb n (2 ^ 24) ≡ t → nat_le (min n (2 ^ 24)) 16384 ≡ nat_le n 16384
-    by true e = ap (λ k. nat_le k 16384) (min-eq_left (leb-true n (2 ^ 24) e))
+    by : (t : Bool) → leb n (2 ^ 28) ≡ t → nat_le (min n (2 ^ 28)) 16384 ≡ nat_le n 16384
+    by true e = ap (λ k. nat_le k 16384) (min-eq_left (leb-true n (2 ^ 28) e))
     by false e =
-        let above = leb-false n (2 ^ 24) e in
-        let cut : min n (2 ^ 24) ≡ 2 ^ 24 = min-eq_right (omega (arith, above)) in
+        let above = leb-false n (2 ^ 28) e in
+        let cut : min n (2 ^ 28) ≡ 2 ^ 28 = min-eq_right (omega (arith, above)) in
         ap (λ k. nat_le k 16384) cut ∙ sym (lt-leb n 16384 (omega (arith, above)))

@@ -4,3 +4,4 @@ pub mod Suggested
 pub mod Patterns
 pub mod Sizes
 pub mod Varied
+pub mod Work

@@ -1,5 +1,5 @@
 -- The values that the literals of a plan suggest for the columns of tables.
-use Rattle.std.specs.Prelude.{◌≡◌, ℕ, ◌&&◌, Bool, List, [], ◌∷◌, ◌++◌, filter, flat_map, map, nat_eq, take}
+use Rattle.std.specs.Prelude.{◌≡◌, ℕ, ◌&&◌, Bool, List, ◌++◌, filter, flat_map, map, nat_eq, take}
 use Rattle.wd_value.specs.declared.value.Value.{Value}
 use Rattle.wd_value.specs.declared.value.ColumnType.{ColumnType}
 use Rattle.wd_schema.specs.Meets.{is_of_type}

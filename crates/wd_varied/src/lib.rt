@@ -10,9 +10,11 @@ mod pools;
 mod size;
 mod suggested;
 mod tables;
+mod work;
 
 pub use compared::Compared;
 pub use pools::Suggested;
 pub use size::{paired, sizes};
 pub use suggested::suggested_by;
 pub use tables::varied;
+pub use work::row_work;

@@ -15,7 +15,7 @@ use wd_value::{OutOfMemory, Value};
 const MOST_PAIRED: u64 = 16_384;
 
 /// So many rows are counted, and no more.
-const MOST_COUNTED: u64 = 16_777_216;
+const MOST_COUNTED: u64 = 268_435_456;
 
 /// The numbers of rows to try, the least first: of 2 to 64 those up to 4, and one and two more than a literal, or than the count of a
 /// Limit with its offset; none but 2 with which the tables of a plan pair to more than 16,384 rows.
@@ -140,12 +140,12 @@ fn reach(limit: &Limit) -> u128
     u128::from(limit.offset) + u128::from(limit.count.unwrap_or(0))
 }
 
-/// How many rows the tables of a plan pair to, of so many rows each; one that is read twice counts twice. 2^24 where there are more.
+/// How many rows the tables of a plan pair to, of so many rows each; one that is read twice counts twice. 2^28 where there are more.
 #[tactic(auto, using(crate::proofs::Products::capped))]
 pub fn paired(plan: &Plan, rows: u32) -> u64
     requires some { 1 ≤ rows }
     requires small { rows ≤ 64 }
-    ensures { result ≡ min (spec.paired rows (plan_of plan.now)) (2 ^ 24) }
+    ensures { result ≡ min (spec.paired rows (plan_of plan.now)) (2 ^ 28) }
 {
     match plan {
         Plan::Scan { .. } => u64::from(rows),

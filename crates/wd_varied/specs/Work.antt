@@ -1,0 +1,49 @@
+-- What an evaluation does for each row to which the tables of a plan pair, in parts of about five nanoseconds.
+use Rattle.std.specs.Prelude.{ℕ, ◌+◌, ◌*◌, List, [], ◌∷◌, length, Option, Some, None}
+use Rattle.wd_plan.specs.Expressions.{Expression, Column, Literal, Negate, Arithmetic, Compare, Not, And, Or, IsNull, IsNotNull, Case}
+use Rattle.wd_plan.specs.Plans.{ClassRule, PlanTree, Scan, Join, Filter, Map, Group, Window, Distinct, Limit}
+
+-- 3 for each column and each literal that an expression reads
+abbrev pub expression_work : Expression → ℕ
+expression_work (Column c) = 3
+expression_work (Literal v kind) = 3
+expression_work (Negate a) = expression_work a
+expression_work (Arithmetic o a b) = expression_work b + expression_work a
+expression_work (Compare o a b) = expression_work b + expression_work a
+expression_work (Not a) = expression_work a
+expression_work (And a b) = expression_work b + expression_work a
+expression_work (Or a b) = expression_work b + expression_work a
+expression_work (IsNull a) = expression_work a
+expression_work (IsNotNull a) = expression_work a
+expression_work (Case k a b c) = (expression_work a + expression_work b) + expression_work c
+
+abbrev pub condition_work : Option Expression → ℕ
+condition_work None = 0
+condition_work (Some condition) = expression_work condition
+
+abbrev pub expressions_work : List Expression → ℕ
+expressions_work [] = 0
+expressions_work (e ∷ es) = expression_work e + expressions_work es
+
+-- to sort or to part rows by so many columns
+abbrev pub columns_work : ℕ → ℕ
+columns_work n = 20 + 4 * n
+
+abbrev pub classes_work : List ClassRule → ℕ
+classes_work [] = 0
+classes_work (c ∷ cs) = columns_work (length c.partition + length c.order) + classes_work cs
+
+abbrev pub sets_work : List (List ℕ) → ℕ
+sets_work [] = 0
+sets_work (set ∷ sets) = columns_work (length set) + sets_work sets
+
+-- 12 for each column of a table; 5 for each call
+abbrev pub row_work : PlanTree → ℕ
+row_work (Scan table columns) = 12 * columns
+row_work (Join condition left right) = (row_work left + row_work right) + condition_work condition
+row_work (Filter condition input) = row_work input + expression_work condition
+row_work (Map outputs input) = row_work input + expressions_work outputs
+row_work (Group g input) = (row_work input + sets_work g.sets) + 5 * length g.calls
+row_work (Window w input) = (row_work input + classes_work w.classes) + 5 * length w.calls
+row_work (Distinct input) = row_work input + columns_work 0
+row_work (Limit limit input) = row_work input + columns_work (length limit.keys)
