@@ -17,14 +17,14 @@ pub record Conjunct : Type 0 where
 abbrev pub stands : Extent → List Token → Bool
 stands part tokens = not (is_end (drop (reach part tokens) tokens))
 
-abbrev pub conjunct : Token → List Token → Conjunct
-conjunct word tokens = record { word = word; test = take (reach extent.Conjunct tokens) tokens }
+abbrev pub conjunct_at : Token → List Token → Conjunct
+conjunct_at word tokens = record { word = word; test = take (reach extent.Conjunct tokens) tokens }
 
 -- word test {word test}, at most so many
 unfoldable pub conjuncts_at : ℕ → List Token → Option (List Conjunct)
 conjuncts_at more [] = Some []
 conjuncts_at zero (word ∷ tokens) = None
-conjuncts_at (suc more) (word ∷ tokens) = with_front (conjunct word tokens) (conjuncts_at more (drop (reach extent.Conjunct tokens) tokens))
+conjuncts_at (suc more) (word ∷ tokens) = with_front (conjunct_at word tokens) (conjuncts_at more (drop (reach extent.Conjunct tokens) tokens))
 
 -- the most conjuncts of a WHERE clause (this project's choice)
 abbrev pub most_conjuncts : ℕ

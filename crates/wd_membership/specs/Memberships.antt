@@ -167,13 +167,13 @@ pub record Member : Type 0 where
   pub membership : Option Membership
 
 -- a conjunct as it is read; what stands behind the AND of BETWEEN is not looked at
-abbrev pub member : Bool → Conjunct → Member
-member is_behind conjunct = record { conjunct = conjunct; membership = (if is_behind then None else membership_at conjunct.test) }
+abbrev pub member_of : Bool → Conjunct → Member
+member_of is_behind conjunct = record { conjunct = conjunct; membership = (if is_behind then None else membership_at conjunct.test) }
 
 -- conjuncts as they are read
 abbrev pub members : Bool → List Conjunct → List Member
 members is_behind [] = []
-members is_behind (conjunct ∷ conjuncts) = member is_behind conjunct ∷ members (stands extent.Between conjunct.test) conjuncts
+members is_behind (conjunct ∷ conjuncts) = member_of is_behind conjunct ∷ members (stands extent.Between conjunct.test) conjuncts
 
 abbrev pub is_found : Option Membership → Bool
 is_found None = false

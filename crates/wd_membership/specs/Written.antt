@@ -12,16 +12,14 @@ use Rattle.wd_membership.specs.Memberships.{Member, Membership, Pair}
 use Rattle.wd_membership.specs.Names.{column_name, table_name}
 use Rattle.wd_membership.specs.Queries.{later}
 
--- y AS "in 1", for the first pair, and a comma where another follows
-abbrev pub item_of : Membership → ℕ → ℕ → List Pair → List Token
-item_of membership table column [] = []
-item_of membership table column (pair ∷ pairs) =
-    pair.inner ++ added m.As membership.word ∷ added_name (column_name membership.test table column) membership.word ∷ comma_before pairs membership.word
+-- y AS "in 1"
+abbrev pub item_of : Membership → ℕ → ℕ → Pair → List Token
+item_of membership table column pair = pair.inner ++ added m.As membership.word ∷ added_name (column_name membership.test table column) membership.word ∷ []
 
 -- y AS "in 1" {, y AS "in 1"}, from a number of a column on
 abbrev pub items : Membership → ℕ → ℕ → List Pair → List Token
 items membership table column [] = []
-items membership table column (pair ∷ pairs) = item_of membership table column (pair ∷ pairs) ++ items membership table (column + 1) pairs
+items membership table column (pair ∷ pairs) = item_of membership table column pair ++ comma_before pairs membership.word ++ items membership table (column + 1) pairs
 
 -- WHERE test {AND test}
 abbrev pub conditions : Terminal → List Conjunct → List Token
@@ -51,15 +49,14 @@ abbrev pub and_before : List Pair → Token → List Token
 and_before [] word = []
 and_before (next ∷ more) word = added m.And word ∷ []
 
--- x = "in 1"."in 1", for the first pair, and AND where another follows
-abbrev pub comparison_of : Membership → ℕ → ℕ → List Pair → List Token
-comparison_of membership table column [] = []
-comparison_of membership table column (pair ∷ pairs) = pair.outer ++ column_of membership table column ++ and_before pairs membership.word
+-- x = "in 1"."in 1"
+abbrev pub comparison_of : Membership → ℕ → ℕ → Pair → List Token
+comparison_of membership table column pair = pair.outer ++ column_of membership table column
 
 -- x = "in 1"."in 1" {AND x = "in 1"."in 1"}, from a number of a column on
 abbrev pub comparisons : Membership → ℕ → ℕ → List Pair → List Token
 comparisons membership table column [] = []
-comparisons membership table column (pair ∷ pairs) = comparison_of membership table column (pair ∷ pairs) ++ comparisons membership table (column + 1) pairs
+comparisons membership table column (pair ∷ pairs) = comparison_of membership table column pair ++ and_before pairs membership.word ++ comparisons membership table (column + 1) pairs
 
 abbrev pub table_if : ℕ → Option Membership → List Token
 table_if table None = []

@@ -1,6 +1,6 @@
 //! EXISTS of a query of one table, some of whose columns equal columns of the select.
 
-ghost use Rattle.std.specs.Prelude.{◌≡◌, map, IfOk};
+ghost use Rattle.std.specs.Prelude.{◌≡◌, false, map, IfOk};
 ghost use Rattle.wd_clauses.specs.Given.{Finds};
 ghost use Rattle.wd_membership.specs.Memberships as spec;
 ghost use Rattle.wd_membership.specs.Named as named;
@@ -179,7 +179,7 @@ fn parted<'t>(
     others: Vec<Conjunct<'t>>,
     alias: &Token,
 ) -> Option<Membership<'t>>
-    ensures { Finds named.membership result (spec.parted word.now (pieces select.now) (map named.pair pairs.items) (map named.conjunct others.items) alias.now) }
+    ensures { Finds named.membership result (spec.parted word.now (pieces select.now) (map named.pair pairs.entry.items) (map named.conjunct others.entry.items) alias.now) }
 {
     if pairs.is_empty() || !are_own(alias, &others) {
         None

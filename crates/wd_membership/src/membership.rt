@@ -1,6 +1,6 @@
 //! Tests that say of a row that it is among others: IN and EXISTS, each with a query.
 
-ghost use Rattle.std.specs.Prelude.{◌≡◌, map, option_map, IfOk};
+ghost use Rattle.std.specs.Prelude.{◌≡◌, false, map, IfOk};
 ghost use Rattle.wd_clauses.specs.Given.{Finds};
 ghost use Rattle.wd_membership.specs.Memberships as spec;
 ghost use Rattle.wd_membership.specs.Named as named;
@@ -143,12 +143,12 @@ fn membership_at(alloc: Global, tokens: &[Token]) -> Result<Option<Membership<'_
 }
 
 /// A conjunct as it is read.
-fn member<'t>(
+fn member_of<'t>(
     alloc: Global,
     is_behind: bool,
     conjunct: Conjunct<'t>,
 ) -> Result<Member<'t>, AllocError>
-    ensures { IfOk result (λ x. named.member x ≡ spec.member is_behind (named.conjunct conjunct.entry)) }
+    ensures { IfOk result (λ x. named.member x ≡ spec.member_of is_behind (named.conjunct conjunct.entry)) }
 {
     if is_behind {
         return Ok(Member {
@@ -164,17 +164,14 @@ fn member<'t>(
 }
 
 /// The conjuncts as they are read.
-pub fn members<'t>(
-    alloc: Global,
-    conjuncts: &[Conjunct<'t>],
-) -> Result<Vec<Member<'t>>, AllocError>
+pub fn members<'t>(alloc: Global, conjuncts: &[Conjunct<'t>]) -> Result<Vec<Member<'t>>, AllocError>
     ensures { IfOk result (λ x. map named.member x.items ≡ spec.members false (map named.conjunct conjuncts.now)) }
 {
     let mut members = Vec::new(alloc);
     let mut is_behind = false;
     let mut rest = conjuncts;
     while let [conjunct, after @ ..] = rest {
-        members.push(member(alloc, is_behind, *conjunct)?)?;
+        members.push(member_of(alloc, is_behind, *conjunct)?)?;
         is_behind = stands(Extent::Between, conjunct.test);
         rest = after;
     }

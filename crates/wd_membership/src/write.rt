@@ -1,7 +1,8 @@
 //! A select with a derived table for each membership.
 
-ghost use Rattle.std.specs.Prelude.{◌≡◌, ◌≤◌, ◌<◌, ◌+◌, ◌^◌, ◌++◌, ◌∷◌, length, map};
+ghost use Rattle.std.specs.Prelude.{◌≡◌, ◌≤◌, ◌<◌, ◌+◌, ◌^◌, ◌++◌, map};
 ghost use Rattle.wd_clauses.specs.Given.{Makes, Writes};
+ghost use Rattle.wd_distinct_on.specs.Written.{comma_before};
 ghost use Rattle.wd_lex.specs.declared.token.Terminal.TheVariants.{Where};
 ghost use Rattle.wd_membership.specs.Named as named;
 ghost use Rattle.wd_membership.specs.Written as spec;
@@ -15,28 +16,48 @@ use wd_clauses::{RespellError, Stop, add, add_all, added, copied, copy_token, sp
 use wd_lex::{Terminal, Token};
 use wd_using::Select;
 
-/// Adds `y AS "in 1"`, and a comma where another follows.
+/// Adds `y AS "in 1"`.
 fn add_item(
     alloc: Global,
     written: &mut Vec<Token>,
     membership: &Membership,
     table: usize,
     column: usize,
-    pairs: &[Pair],
+    pair: &Pair,
 ) -> Result<(), RespellError>
-    ensures { Writes written.old.items written.new.items result (spec.item_of (named.membership membership.now) table column (map named.pair pairs.now)) }
+    ensures { Writes written.old.items written.new.items result (spec.item_of (named.membership membership.now) table column (named.pair pair.now)) }
 {
-    let [pair, rest @ ..] = pairs else {
-        return Ok(());
-    };
     let name = column_name(alloc, membership.test, table, column, membership.word)?;
     add_all(written, pair.inner)?;
     add(written, added(Terminal::As, membership.word))?;
     add(written, name)?;
-    if !rest.is_empty() {
-        add(written, added(Terminal::Comma, membership.word))?;
-    }
     Ok(())
+}
+
+/// Adds a comma, where something follows.
+fn add_comma(written: &mut Vec<Token>, pairs: &[Pair], word: &Token) -> Result<(), RespellError>
+    ensures { Writes written.old.items written.new.items result (comma_before (map named.pair pairs.now) word.now) }
+{
+    match pairs {
+        [] => Ok(()),
+        [_, ..] => {
+            add(written, added(Terminal::Comma, word))?;
+            Ok(())
+        }
+    }
+}
+
+/// Adds AND, where something follows.
+fn add_and(written: &mut Vec<Token>, pairs: &[Pair], word: &Token) -> Result<(), RespellError>
+    ensures { Writes written.old.items written.new.items result (spec.and_before (map named.pair pairs.now) word.now) }
+{
+    match pairs {
+        [] => Ok(()),
+        [_, ..] => {
+            add(written, added(Terminal::And, word))?;
+            Ok(())
+        }
+    }
 }
 
 /// Adds `y AS "in 1" {, y AS "in 1"}`.
@@ -50,8 +71,9 @@ fn add_items(
 {
     let mut column: usize = 1;
     let mut pairs = membership.pairs.as_slice();
-    while let [_pair, rest @ ..] = pairs {
-        add_item(alloc, written, membership, table, column, pairs)?;
+    while let [pair, rest @ ..] = pairs {
+        add_item(alloc, written, membership, table, column, pair)?;
+        add_comma(written, rest, membership.word)?;
         column += 1;
         pairs = rest;
     }
@@ -142,25 +164,19 @@ fn add_column(
     Ok(())
 }
 
-/// Adds `x = "in 1"."in 1"`, and AND where another follows.
+/// Adds `x = "in 1"."in 1"`.
 fn add_comparison(
     alloc: Global,
     written: &mut Vec<Token>,
     membership: &Membership,
     table: usize,
     column: usize,
-    pairs: &[Pair],
+    pair: &Pair,
 ) -> Result<(), RespellError>
-    ensures { Writes written.old.items written.new.items result (spec.comparison_of (named.membership membership.now) table column (map named.pair pairs.now)) }
+    ensures { Writes written.old.items written.new.items result (spec.comparison_of (named.membership membership.now) table column (named.pair pair.now)) }
 {
-    let [pair, rest @ ..] = pairs else {
-        return Ok(());
-    };
     add_all(written, pair.outer)?;
     add_column(alloc, written, membership, table, column)?;
-    if !rest.is_empty() {
-        add(written, added(Terminal::And, membership.word))?;
-    }
     Ok(())
 }
 
@@ -175,8 +191,9 @@ fn add_comparisons(
 {
     let mut column: usize = 1;
     let mut pairs = membership.pairs.as_slice();
-    while let [_pair, rest @ ..] = pairs {
-        add_comparison(alloc, written, membership, table, column, pairs)?;
+    while let [pair, rest @ ..] = pairs {
+        add_comparison(alloc, written, membership, table, column, pair)?;
+        add_and(written, rest, membership.word)?;
         column += 1;
         pairs = rest;
     }
@@ -192,10 +209,13 @@ fn add_table(
 ) -> Result<(), RespellError>
     ensures { Writes written.old.items written.new.items result (spec.table_if table (named.member member.now).membership) }
 {
-    if let Some(membership) = &member.membership {
-        add_derived(alloc, written, membership, table)?;
+    match &member.membership {
+        Some(membership) => {
+            add_derived(alloc, written, membership, table)?;
+            Ok(())
+        }
+        None => Ok(()),
     }
-    Ok(())
 }
 
 /// The number of the next table.
@@ -228,21 +248,25 @@ fn add_tables(
     Ok(())
 }
 
-/// Adds a conjunct, or the comparisons with the table of the membership that it is.
+/// Adds what a conjunct tests, or the comparisons with the table of the membership that it is.
 fn add_test(
     alloc: Global,
     written: &mut Vec<Token>,
     member: &Member,
     table: usize,
 ) -> Result<(), RespellError>
-    ensures { Writes written.old.items written.new.items result ((named.member member.now).conjunct.word ∷ spec.test table (named.member member.now).conjunct (named.member member.now).membership) }
+    ensures { Writes written.old.items written.new.items result (spec.test table (named.member member.now).conjunct (named.member member.now).membership) }
 {
-    add(written, copy_token(member.conjunct.word)?)?;
     match &member.membership {
-        Some(membership) => add_comparisons(alloc, written, membership, table)?,
-        None => add_all(written, member.conjunct.test)?,
+        Some(membership) => {
+            add_comparisons(alloc, written, membership, table)?;
+            Ok(())
+        }
+        None => {
+            add_all(written, member.conjunct.test)?;
+            Ok(())
+        }
     }
-    Ok(())
 }
 
 /// Adds the conjuncts, with comparisons in place of the memberships.
@@ -256,6 +280,7 @@ fn add_tests(
     let mut table: usize = 1;
     let mut rest = members;
     while let [member, after @ ..] = rest {
+        add(written, copy_token(member.conjunct.word)?)?;
         add_test(alloc, written, member, table)?;
         table = next(table, member);
         rest = after;
