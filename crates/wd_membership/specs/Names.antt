@@ -11,4 +11,4 @@ table_name test.Exists table = codes "exists " ++ decimal table
 
 abbrev pub column_name : Test → ℕ → ℕ → List ℕ
 column_name test.In table column = codes "in " ++ decimal table
-column_name test.Exists table column = codes "exists " ++ decimal table ++ codes " " ++ decimal column
+column_name test.Exists table column = codes "exists " ++ (decimal table ++ (codes " " ++ decimal column))

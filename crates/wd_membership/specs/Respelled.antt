@@ -30,11 +30,10 @@ respelled_select front select =
 unfoldable pub respelled_at : ℕ → List Token → Option (List Token)
 respelled_at place tokens = select_at (drop place tokens) >>= respelled_select (take place tokens)
 
--- the selects of a query, the last one first
-abbrev pub respelled_selects : List Token → Result (List Token) RespellError
-respelled_selects tokens = respelled_below respelled_at most_selects (length tokens) tokens
+-- the most selects of a query that are respelled: none, where it has a name as those that are added
+abbrev pub selects_of : List Token → ℕ
+selects_of tokens = if has is_ours tokens then 0 else most_selects
 
 -- a query without memberships
 abbrev pub respelled : List Token → Result (List Token) RespellError
-respelled tokens =
-    if nat_lt most_tokens (length tokens) then Err TooLong else (if has is_ours tokens then Ok tokens else respelled_selects tokens)
+respelled tokens = if nat_lt most_tokens (length tokens) then Err TooLong else respelled_below respelled_at (selects_of tokens) (length tokens) tokens

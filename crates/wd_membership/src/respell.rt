@@ -80,13 +80,23 @@ fn respelled_at(
     }
 }
 
-/// The selects of a query, the last one first.
-#[tactic(auto, unfolding(wd_using::specs::Respelled::respelled_below))]
-fn respelled(alloc: Global, tokens: &[Token]) -> Result<Vec<Token>, RespellError>
-    ensures { Gives (λ x. x.items) result (spec.respelled_selects tokens.now) }
+/// The most selects of a query that are respelled.
+fn selects_of(tokens: &[Token]) -> usize
+    ensures { result ≡ spec.selects_of tokens.now }
 {
+    if has_ours(tokens) { 0 } else { MOST_SELECTS }
+}
+
+/// The query without memberships among the conjuncts of its WHERE clauses, as far as they are read.
+#[tactic(auto, unfolding(wd_using::specs::Respelled::respelled_below))]
+pub fn without_membership(alloc: Global, tokens: &[Token]) -> Result<Vec<Token>, RespellError>
+    ensures { Gives (λ x. x.items) result (spec.respelled tokens.now) }
+{
+    if tokens.len() > MOST_TOKENS {
+        return Err(RespellError::TooLong);
+    }
     let mut query = copied(alloc, tokens)?;
-    let mut left = MOST_SELECTS;
+    let mut left = selects_of(tokens);
     let mut place = tokens.len();
     while place > 0 {
         if left == 0 {
@@ -102,19 +112,4 @@ fn respelled(alloc: Global, tokens: &[Token]) -> Result<Vec<Token>, RespellError
         }
     }
     Ok(query)
-}
-
-/// The query without memberships among the conjuncts of its WHERE clauses, as far as they are read.
-pub fn without_membership(alloc: Global, tokens: &[Token]) -> Result<Vec<Token>, RespellError>
-    ensures { Gives (λ x. x.items) result (spec.respelled tokens.now) }
-{
-    if tokens.len() > MOST_TOKENS {
-        return Err(RespellError::TooLong);
-    }
-    if has_ours(tokens) {
-        let tokens = copied(alloc, tokens)?;
-        return Ok(tokens);
-    }
-    let tokens = respelled(alloc, tokens)?;
-    Ok(tokens)
 }
