@@ -1,1 +1,2 @@
 pub mod ConjunctFacts
+pub mod Worked

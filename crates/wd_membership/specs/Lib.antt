@@ -6,3 +6,4 @@ pub mod Memberships
 pub mod Written
 pub mod Respelled
 pub mod Named
+pub mod Examples

@@ -2,7 +2,7 @@
 -- AND q ). Such a test holds of a row just if one row of the distinct y, or of the distinct a.k for which q holds, is equal to it,
 -- and never more than one is, since NULL is equal to nothing. A name in the query that is none of its own tables' needs no care:
 -- it means nothing in a derived table, where the query is written, so the profile refuses it.
-use Rattle.std.specs.Prelude.{ℕ, ◌+◌, ◌-◌, ◌||◌, ◌&&◌, not, if◌then◌else◌, Bool, true, false, List, [], ◌∷◌, length, take, drop, Option, Some, None}
+use Rattle.std.specs.Prelude.{◌-◌, ◌||◌, ◌&&◌, not, if◌then◌else◌, Bool, true, false, List, [], ◌∷◌, length, take, drop, Option, Some, None}
 use Rattle.wd_lex.specs.declared.token.Token.{Token}
 use Rattle.wd_clauses.specs.declared.level.Stop.TheVariants.{Comma}
 use Rattle.wd_clauses.specs.Names.{is_name, is_same_name}
@@ -10,7 +10,6 @@ use Rattle.wd_clauses.specs.Reach as clauses
 use Rattle.wd_operands.specs.Operands.{operand_length}
 use Rattle.wd_distinct_on.specs.Items.{behind_as}
 use Rattle.wd_distinct_on.specs.Kinds.{begins, is_dot}
-use Rattle.wd_distinct_on.specs.Lists.{with_front}
 use Rattle.wd_distinct_on.specs.Respelled.{◌>>=◌}
 use Rattle.wd_using.specs.declared.level.Extent.TheVariants as extent
 use Rattle.wd_using.specs.Joins.{alias_at, is_end}

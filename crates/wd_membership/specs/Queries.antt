@@ -1,5 +1,5 @@
 -- Selects with a FROM clause, among which UNION and its like stand only in brackets, and the queries of IN and EXISTS.
-use Rattle.std.specs.Prelude.{ℕ, ◌+◌, ◌||◌, ◌&&◌, if◌then◌else◌, List, [], ◌∷◌, take, drop, Option, Some, None}
+use Rattle.std.specs.Prelude.{ℕ, ◌+◌, ◌||◌, if◌then◌else◌, List, [], ◌∷◌, take, drop, Option, Some, None}
 use Rattle.wd_lex.specs.declared.token.Token.{Token}
 use Rattle.wd_clauses.specs.declared.level.Stop.TheVariants.{Later}
 use Rattle.wd_clauses.specs.Reach.{closing, opens, reach}

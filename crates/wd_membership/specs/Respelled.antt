@@ -2,7 +2,7 @@
 -- for each, and the conjunct compares with it. Its selects are respelled from the last to the first, so that each is respelled
 -- before the one that it stands in. A select is left as it is where an item stands for the columns of all tables; and the query
 -- is, where it has such a name as those that are added.
-use Rattle.std.specs.Prelude.{ℕ, if◌then◌else◌, nat_lt, false, List, ◌++◌, length, take, drop, Option, Some, None, Result, Ok, Err}
+use Rattle.std.specs.Prelude.{ℕ, if◌then◌else◌, nat_lt, false, List, ◌++◌, length, take, drop, Option, Some, None, Result, Err}
 use Rattle.wd_lex.specs.declared.token.Token.{Token}
 use Rattle.wd_clauses.specs.declared.error.RespellError.{RespellError}
 use Rattle.wd_clauses.specs.declared.error.RespellError.TheVariants.{TooLong}

@@ -2,12 +2,13 @@
 //! WHERE x = "in 1"."in 1"`, and EXISTS with columns that equal those of the select is the same with these. `query` finds the
 //! pieces of a select and of a query in brackets, `conjunct` the conjuncts of a WHERE clause; `membership` reads IN, and `exists`
 //! EXISTS. `name` makes the names that are added, `write` writes the select with them, and `respell` goes through the selects of a
-//! query, the last one first. `kind` says what single tokens are.
+//! query, the last one first. `kind` says what single tokens are; `laws` has worked queries.
 #![tactic(auto)]
 
 mod conjunct;
 mod exists;
 mod kind;
+pub mod laws;
 mod membership;
 mod name;
 mod query;
