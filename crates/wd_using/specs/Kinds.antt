@@ -1,5 +1,6 @@
 -- Single tokens.
-use Rattle.std.specs.Prelude.{if◌then◌else◌, Bool, true, false, List, [], ◌∷◌}
+use Rattle.std.specs.Prelude.{codes, if◌then◌else◌, Bool, true, false, List, [], ◌∷◌}
+use Rattle.std.specs.Str.{bytes_eq}
 use Rattle.wd_lex.specs.declared.token.Terminal.TheVariants as m
 use Rattle.wd_lex.specs.declared.token.TokenKind.{TokenKind}
 use Rattle.wd_lex.specs.declared.token.TokenKind.TheVariants as t
@@ -39,6 +40,29 @@ abbrev pub begins_select : TokenKind → Bool
 begins_select (t.Terminal m.Select) = true
 begins_select (t.Terminal m.Union) = true
 begins_select _ = false
+
+abbrev pub is_and : TokenKind → Bool
+is_and (t.Terminal m.And) = true
+is_and _ = false
+
+-- OR, and CASE, in which AND and OR may stand without brackets
+abbrev pub is_choice : TokenKind → Bool
+is_choice (t.Terminal m.Or) = true
+is_choice (t.Terminal m.Case) = true
+is_choice _ = false
+
+-- the AND behind it is its own
+abbrev pub is_between : TokenKind → Bool
+is_between (t.Word text) = bytes_eq text (codes "between")
+is_between _ = false
+
+-- what may take rows away by their order begins there
+abbrev pub begins_limit : TokenKind → Bool
+begins_limit (t.Terminal m.Order) = true
+begins_limit (t.Terminal m.Limit) = true
+begins_limit (t.Terminal m.Offset) = true
+begins_limit (t.Terminal m.Fetch) = true
+begins_limit _ = false
 
 -- a star behind it stands for columns: it begins an item, or it is a dot
 abbrev pub begins_columns : TokenKind → Bool

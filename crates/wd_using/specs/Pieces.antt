@@ -1,10 +1,10 @@
--- The pieces of SELECT [DISTINCT] items FROM .. clauses, and what follows it. DISTINCT ON may not stand in it, nor UNION,
--- nor another select but in the FROM clause.
-use Rattle.std.specs.Prelude.{ℕ, ◌&&◌, not, if◌then◌else◌, List, [], ◌∷◌, take, drop, Option, Some, None}
+-- The pieces of SELECT [DISTINCT] items FROM .. clauses, and what follows it. DISTINCT ON may not stand in it.
+use Rattle.std.specs.Prelude.{ℕ, ◌||◌, if◌then◌else◌, List, [], ◌∷◌, take, drop, Option, Some, None}
 use Rattle.wd_lex.specs.declared.token.Token.{Token}
 use Rattle.wd_clauses.specs.declared.level.Stop.TheVariants.{Clause, From}
 use Rattle.wd_clauses.specs.Reach as clauses
 use Rattle.wd_distinct_on.specs.Kinds.{begins, is_distinct, is_from, is_on, is_select}
+use Rattle.wd_distinct_on.specs.Respelled.{◌>>=◌}
 use Rattle.wd_using.specs.declared.level.Extent.TheVariants.{Level}
 use Rattle.wd_using.specs.Kinds.{begins_select, has}
 use Rattle.wd_using.specs.Reach.{reach}
@@ -23,9 +23,8 @@ distinct_count tokens = if begins is_distinct tokens then 1 else 0
 -- with the FROM clause and the clauses behind it
 abbrev pub with_tables : Token → List Token → List Token → List Token → List Token → Option Pieces
 with_tables select distinct items tokens after =
-    let behind = drop (clauses.reach Clause tokens) tokens in
-    if begins is_from tokens && not (has begins_select items) && not (has begins_select behind) then
-    Some (record { select = select; distinct = distinct; items = items; tables = take (clauses.reach Clause tokens) tokens; clauses = behind; after = after })
+    if begins is_from tokens then
+    Some (record { select = select; distinct = distinct; items = items; tables = take (clauses.reach Clause tokens) tokens; clauses = drop (clauses.reach Clause tokens) tokens; after = after })
     else None
 
 -- with the items behind SELECT [DISTINCT]
@@ -39,6 +38,14 @@ with_body select body after =
     if begins is_on list then None else with_items select (take (distinct_count body) body) list after
 
 -- the select that begins here
-unfoldable pub select_at : List Token → Option Pieces
-select_at [] = None
-select_at (select ∷ tokens) = if is_select select.kind then with_body select (take (reach Level tokens) tokens) (drop (reach Level tokens) tokens) else None
+unfoldable pub pieces_at : List Token → Option Pieces
+pieces_at [] = None
+pieces_at (select ∷ tokens) = if is_select select.kind then with_body select (take (reach Level tokens) tokens) (drop (reach Level tokens) tokens) else None
+
+-- neither UNION nor another select stands in it but in its FROM clause
+abbrev pub if_single : Pieces → Option Pieces
+if_single select = if has begins_select select.items || has begins_select select.clauses then None else Some select
+
+-- the select that begins here, if another stands only in its FROM clause
+abbrev pub select_at : List Token → Option Pieces
+select_at tokens = pieces_at tokens >>= if_single

@@ -1,16 +1,21 @@
--- How far a table of a FROM clause reaches, with its condition, and how far a level does.
+-- How far a table of a FROM clause reaches, with its condition, how far a conjunct does, and how far a level does.
 use Rattle.std.specs.Prelude.{ℕ, ◌+◌, ◌==◌, ◌||◌, ◌&&◌, if◌then◌else◌, Bool, false, List, [], ◌∷◌}
 use Rattle.wd_lex.specs.declared.token.TokenKind.{TokenKind}
 use Rattle.wd_lex.specs.declared.token.Token.{Token}
 use Rattle.wd_clauses.specs.Reach.{depth_after, ends_level}
 use Rattle.wd_using.specs.declared.level.Extent.{Extent}
 use Rattle.wd_using.specs.declared.level.Extent.TheVariants as extent
-use Rattle.wd_using.specs.Kinds.{ends_table}
+use Rattle.wd_using.specs.Kinds.{begins_limit, begins_select, ends_table, is_and, is_between, is_choice}
 
 -- a part ends there, beside the end of its level
 abbrev pub stops : Extent → TokenKind → Bool
 stops extent.Table kind = ends_table kind
 stops extent.Level kind = false
+stops extent.Conjunct kind = is_and kind
+stops extent.Choice kind = is_choice kind
+stops extent.Between kind = is_between kind
+stops extent.Select kind = begins_select kind
+stops extent.Limit kind = begins_limit kind
 
 -- so many tokens and those that stand before the end of the part; so many brackets are open
 unfoldable pub reach_from : Extent → ℕ → ℕ → List Token → ℕ

@@ -67,12 +67,12 @@ abbrev pub turned : (ℕ → List Token → Result (List Token) RespellError) �
 turned go left tokens None = go left tokens
 turned go left tokens (Some new) = if nat_lt most_tokens (length new) then Err TooLong else go (left - 1) new
 
--- the selects that begin at the first so many places, from the last to the first, and at most so many of them
-unfoldable pub respelled_below : List TableRule → ℕ → ℕ → List Token → Result (List Token) RespellError
-respelled_below schema left zero tokens = Ok tokens
-respelled_below schema left (suc place) tokens =
-    if left == 0 then Ok tokens else turned (λ fewer new. respelled_below schema fewer place new) left tokens (respelled_at schema place tokens)
+-- by what respells the select that begins at a place: the selects that begin at the first so many places, from the last to the
+-- first, and at most so many of them
+unfoldable pub respelled_below : (ℕ → List Token → Option (List Token)) → ℕ → ℕ → List Token → Result (List Token) RespellError
+respelled_below at left zero tokens = Ok tokens
+respelled_below at left (suc place) tokens = if left == 0 then Ok tokens else turned (λ fewer new. respelled_below at fewer place new) left tokens (at place tokens)
 
 -- a query without USING
 abbrev pub respelled : List TableRule → List Token → Result (List Token) RespellError
-respelled schema tokens = if nat_lt most_tokens (length tokens) then Err TooLong else respelled_below schema most_selects (length tokens) tokens
+respelled schema tokens = if nat_lt most_tokens (length tokens) then Err TooLong else respelled_below (respelled_at schema) most_selects (length tokens) tokens

@@ -91,6 +91,39 @@ pub fn ends_table(kind: &TokenKind) -> bool
     )
 }
 
+pub fn is_and(kind: &TokenKind) -> bool
+    ensures { result ≡ spec.is_and kind.now }
+{
+    matches!(kind, TokenKind::Terminal(Terminal::And))
+}
+
+/// Whether OR stands there, or CASE, in which AND and OR may stand without brackets.
+pub fn is_choice(kind: &TokenKind) -> bool
+    ensures { result ≡ spec.is_choice kind.now }
+{
+    matches!(kind, TokenKind::Terminal(Terminal::Or | Terminal::Case))
+}
+
+/// Whether the next AND is part of a test.
+pub fn is_between(kind: &TokenKind) -> bool
+    ensures { result ≡ spec.is_between kind.now }
+{
+    match kind {
+        TokenKind::Word(text) => text.as_bytes() == b"between".as_slice(),
+        _ => false,
+    }
+}
+
+/// Whether what may take rows away by their order begins there.
+pub fn begins_limit(kind: &TokenKind) -> bool
+    ensures { result ≡ spec.begins_limit kind.now }
+{
+    matches!(
+        kind,
+        TokenKind::Terminal(Terminal::Order | Terminal::Limit | Terminal::Offset | Terminal::Fetch)
+    )
+}
+
 /// Whether a star behind it stands for columns.
 pub fn begins_columns(kind: &TokenKind) -> bool
     ensures { result ≡ spec.begins_columns kind.now }
@@ -172,7 +205,7 @@ pub fn begins_on(tokens: &[Token]) -> bool
 }
 
 /// Whether a further select begins there.
-fn begins_select(kind: &TokenKind) -> bool
+pub fn begins_select(kind: &TokenKind) -> bool
     ensures { result ≡ spec.begins_select kind.now }
 {
     matches!(

@@ -1,10 +1,12 @@
-//! How far a table of a FROM clause reaches, with its condition, and how far a level does.
+//! How far a table of a FROM clause reaches, with its condition, how far a conjunct does, and how far a level does.
 
 ghost use Rattle.std.specs.Prelude.{◌≡◌, ◌+◌, ◌<◌, ◌≤◌, ◌^◌, length, take, drop};
 ghost use Rattle.wd_clauses.specs.Reach as clauses;
 ghost use Rattle.wd_using.specs.Reach as spec;
 
-use crate::kind::{ends_level, ends_table};
+use crate::kind::{
+    begins_limit, begins_select, ends_level, ends_table, is_and, is_between, is_choice,
+};
 use wd_lex::{Terminal, Token, TokenKind};
 
 /// What is looked through, up to its end or the end of the level.
@@ -14,6 +16,16 @@ pub enum Extent {
     Table,
     /// The level.
     Level,
+    /// What stands before AND.
+    Conjunct,
+    /// What stands before OR and CASE.
+    Choice,
+    /// What stands before BETWEEN.
+    Between,
+    /// What stands before a further select.
+    Select,
+    /// What stands before ORDER, LIMIT, OFFSET and FETCH.
+    Limit,
 }
 
 /// Whether a part ends there, beside the end of its level.
@@ -23,6 +35,11 @@ fn stops(extent: Extent, kind: &TokenKind) -> bool
     match extent {
         Extent::Table => ends_table(kind),
         Extent::Level => false,
+        Extent::Conjunct => is_and(kind),
+        Extent::Choice => is_choice(kind),
+        Extent::Between => is_between(kind),
+        Extent::Select => begins_select(kind),
+        Extent::Limit => begins_limit(kind),
     }
 }
 

@@ -31,7 +31,7 @@ fn with_body<'t>(select: &'t Token, body: &'t [Token], after: &'t [Token]) -> Op
     }
     let (items, behind) = split(Stop::From, list);
     let (tables, clauses) = split(Stop::Clause, behind);
-    if !begins_from(behind) || has_select(items) || has_select(clauses) {
+    if !begins_from(behind) {
         return None;
     }
     Some(Select {
@@ -44,10 +44,10 @@ fn with_body<'t>(select: &'t Token, body: &'t [Token], after: &'t [Token]) -> Op
     })
 }
 
-/// The select that begins with the tokens, if another stands only in its FROM clause.
-#[tactic(auto, unfolding(crate::specs::Pieces::select_at))]
-pub fn select_at(tokens: &[Token]) -> Option<Select<'_>>
-    ensures { Finds pieces result (spec.select_at tokens.now) }
+/// The select that begins with the tokens. None where it has DISTINCT ON, or no FROM clause.
+#[tactic(auto, unfolding(crate::specs::Pieces::pieces_at))]
+pub fn pieces_at(tokens: &[Token]) -> Option<Select<'_>>
+    ensures { Finds pieces result (spec.pieces_at tokens.now) }
 {
     let [select, rest @ ..] = tokens else {
         return None;
@@ -57,4 +57,20 @@ pub fn select_at(tokens: &[Token]) -> Option<Select<'_>>
     }
     let (body, after) = split_at(Extent::Level, rest);
     with_body(select, body, after)
+}
+
+/// The select that begins with the tokens, if another stands only in its FROM clause.
+pub fn select_at(tokens: &[Token]) -> Option<Select<'_>>
+    ensures { Finds pieces result (spec.select_at tokens.now) }
+{
+    match pieces_at(tokens) {
+        Some(select) => {
+            if has_select(select.items) || has_select(select.clauses) {
+                None
+            } else {
+                Some(select)
+            }
+        }
+        None => None,
+    }
 }

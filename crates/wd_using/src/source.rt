@@ -45,7 +45,7 @@ fn alias_behind_as<'t>(name: &'t Token, tokens: &'t [Token]) -> Alias<'t>
 }
 
 /// `[[AS] alias]`, behind a table's name
-fn alias_at<'t>(name: &'t Token, tokens: &'t [Token]) -> Alias<'t>
+pub fn alias_at<'t>(name: &'t Token, tokens: &'t [Token]) -> Alias<'t>
     ensures alias { named.table_alias result ≡ spec.alias_at name.now tokens.now }
     ensures few { result.count ≤ 3 }
 {
@@ -87,7 +87,7 @@ fn column_of(tokens: &[Token]) -> Option<&Token>
 }
 
 /// The name behind AS.
-fn behind_as(tokens: &[Token]) -> Option<&Token>
+pub fn behind_as(tokens: &[Token]) -> Option<&Token>
     ensures { Finds (λ name. name.now) result (items.behind_as tokens.now) }
 {
     match tokens {

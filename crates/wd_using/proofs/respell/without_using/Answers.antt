@@ -16,4 +16,4 @@ loop-place-preserved-in-Some c =
     let f : respelled_at schema place c.loop-place.query.items ≡ Some c.in-Some.next.items =
     subst (λ (ts : List Token). respelled_at schema place ts ≡ Some c.in-Some.next.items) c.deref.ensures.value e in
     let short : length c.in-Some.next.items ≤ most_tokens = omega arith in
-    below_some schema c.loop-place.left c.loop-place.place c.loop-place.query.items c.in-Some.next.items (respelled_below schema most_selects (length c.args.tokens.now) c.args.tokens.now) c.loop-place-test.true c.if-left-eq0.false f short c.loop-place.invariant
+    below_some (respelled_at schema) c.loop-place.left c.loop-place.place c.loop-place.query.items c.in-Some.next.items (respelled_below (respelled_at schema) most_selects (length c.args.tokens.now) c.args.tokens.now) c.loop-place-test.true c.if-left-eq0.false f short c.loop-place.invariant

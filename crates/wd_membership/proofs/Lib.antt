@@ -1,0 +1,2 @@
+pub mod ConjunctFacts
+pub mod Worked

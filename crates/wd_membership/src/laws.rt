@@ -1,0 +1,8 @@
+//! Laws of queries without memberships, over the definitions alone.
+
+ghost use Rattle.wd_membership.specs.Examples.{MembershipComesOut};
+
+/// Worked queries: what is written in their place, and which are left as they are.
+pub fn membership_comes_out()
+    ensures { MembershipComesOut }
+{}

@@ -1,0 +1,192 @@
+//! Tests that say of a row that it is among others: IN and EXISTS, each with a query.
+
+ghost use Rattle.std.specs.Prelude.{◌≡◌, false, map, IfOk};
+ghost use Rattle.wd_clauses.specs.Given.{Finds};
+ghost use Rattle.wd_membership.specs.Memberships as spec;
+ghost use Rattle.wd_membership.specs.Named as named;
+ghost use Rattle.wd_using.specs.Named.{pieces};
+
+use crate::conjunct::{Conjunct, stands};
+use crate::exists::exists_at;
+use crate::kind::{begins_star, is_end, is_in};
+use crate::query::query_in;
+use std::alloc::{AllocError, Global};
+use wd_clauses::{Stop, split};
+use wd_lex::Token;
+use wd_operands::operand_length;
+use wd_using::{Extent, Select, behind_as, cut};
+
+/// A test by which a row is among others.
+#[derive(Clone, Copy, PartialEq, Eq)]
+pub enum Test {
+    In,
+    Exists,
+}
+
+/// A value of the select, and the value of the query that it is to equal.
+#[derive(Clone, Copy)]
+pub struct Pair<'t> {
+    pub outer: &'t [Token],
+    pub inner: &'t [Token],
+}
+
+/// IN or EXISTS, the word, what is compared, and of the query SELECT, FROM with its tables, its conjuncts, and other clauses.
+#[derive(Drop)]
+pub struct Membership<'t> {
+    pub test: Test,
+    pub word: &'t Token,
+    pub pairs: Vec<Pair<'t>>,
+    pub select: &'t Token,
+    pub tables: &'t [Token],
+    pub conjuncts: Vec<Conjunct<'t>>,
+    pub clauses: &'t [Token],
+}
+
+/// A conjunct, and the membership that it is, if it is one.
+#[derive(Drop)]
+pub struct Member<'t> {
+    pub conjunct: Conjunct<'t>,
+    pub membership: Option<Membership<'t>>,
+}
+
+/// What an item stands for, without AS and a name.
+fn value_of(item: &[Token]) -> &[Token]
+    ensures { result.now ≡ spec.value_of item.now }
+{
+    let count = item.len().saturating_sub(2);
+    match behind_as(&item[count..]) {
+        Some(_) => &item[..count],
+        None => item,
+    }
+}
+
+/// Whether there is one item, which does not end with a star.
+fn is_value(items: &[Token]) -> bool
+    ensures { result ≡ spec.is_value items.now }
+{
+    let (_item, behind) = split(Stop::Comma, items);
+    is_end(behind) && !begins_star(&items[items.len().saturating_sub(1)..])
+}
+
+/// `x IN ( select )`, if the query has one item, and its rows do not hang on their order.
+fn in_query<'t>(
+    alloc: Global,
+    operand: &'t [Token],
+    word: &'t Token,
+    select: &Select<'t>,
+) -> Result<Option<Membership<'t>>, AllocError>
+    ensures { IfOk result (λ found. Finds named.membership found (spec.in_query operand.now word.now (pieces select.now))) }
+{
+    if !is_value(select.items) || stands(Extent::Limit, select.clauses) {
+        return Ok(None);
+    }
+    let mut pairs = Vec::new(alloc);
+    pairs.push(Pair {
+        outer: operand,
+        inner: value_of(select.items),
+    })?;
+    Ok(Some(Membership {
+        test: Test::In,
+        word,
+        pairs,
+        select: select.select,
+        tables: select.tables,
+        conjuncts: Vec::new(alloc),
+        clauses: select.clauses,
+    }))
+}
+
+/// `IN ( query )` behind an operand
+fn behind_operand<'t>(
+    alloc: Global,
+    operand: &'t [Token],
+    tokens: &'t [Token],
+) -> Result<Option<Membership<'t>>, AllocError>
+    ensures { IfOk result (λ found. Finds named.membership found (spec.behind_operand operand.now tokens.now)) }
+{
+    let [word, rest @ ..] = tokens else {
+        return Ok(None);
+    };
+    if is_end(operand) || !is_in(&word.kind) {
+        return Ok(None);
+    }
+    match query_in(rest) {
+        Some(select) => {
+            let found = in_query(alloc, operand, word, &select)?;
+            Ok(found)
+        }
+        None => Ok(None),
+    }
+}
+
+/// `x IN ( query )`, and nothing else
+fn in_at(alloc: Global, tokens: &[Token]) -> Result<Option<Membership<'_>>, AllocError>
+    ensures { IfOk result (λ found. Finds named.membership found (spec.in_at tokens.now)) }
+{
+    let (operand, behind) = cut(operand_length(tokens), tokens);
+    let found = behind_operand(alloc, operand, behind)?;
+    Ok(found)
+}
+
+/// The membership that the tokens are.
+#[tactic(auto, unfolding(crate::specs::Memberships::membership_at))]
+fn membership_at(alloc: Global, tokens: &[Token]) -> Result<Option<Membership<'_>>, AllocError>
+    ensures { IfOk result (λ found. Finds named.membership found (spec.membership_at tokens.now)) }
+{
+    match exists_at(alloc, tokens)? {
+        Some(membership) => Ok(Some(membership)),
+        None => {
+            let found = in_at(alloc, tokens)?;
+            Ok(found)
+        }
+    }
+}
+
+/// A conjunct as it is read.
+fn member_of<'t>(
+    alloc: Global,
+    is_behind: bool,
+    conjunct: Conjunct<'t>,
+) -> Result<Member<'t>, AllocError>
+    ensures { IfOk result (λ x. named.member x ≡ spec.member_of is_behind (named.conjunct conjunct.entry)) }
+{
+    if is_behind {
+        return Ok(Member {
+            conjunct,
+            membership: None,
+        });
+    }
+    let membership = membership_at(alloc, conjunct.test)?;
+    Ok(Member {
+        conjunct,
+        membership,
+    })
+}
+
+/// The conjuncts as they are read.
+pub fn members<'t>(alloc: Global, conjuncts: &[Conjunct<'t>]) -> Result<Vec<Member<'t>>, AllocError>
+    ensures { IfOk result (λ x. map named.member x.items ≡ spec.members false (map named.conjunct conjuncts.now)) }
+{
+    let mut members = Vec::new(alloc);
+    let mut is_behind = false;
+    let mut rest = conjuncts;
+    while let [conjunct, after @ ..] = rest {
+        members.push(member_of(alloc, is_behind, *conjunct)?)?;
+        is_behind = stands(Extent::Between, conjunct.test);
+        rest = after;
+    }
+    Ok(members)
+}
+
+/// Whether one of the conjuncts is a membership.
+pub fn has_membership(mut members: &[Member]) -> bool
+    ensures { result ≡ spec.has_membership (map named.member members.entry.now) }
+{
+    while let [member, rest @ ..] = members {
+        if member.membership.is_some() {
+            return true;
+        }
+        members = rest;
+    }
+    false
+}
