@@ -14,4 +14,7 @@ mod select;
 mod source;
 mod write;
 
+pub use kind::{begins_distinct, ends_value, is_star, opens};
 pub use respell::without_using;
+pub use select::{Select, select_at};
+pub use source::{Alias, alias_at};

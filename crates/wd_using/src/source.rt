@@ -10,9 +10,9 @@ ghost use Rattle.wd_using.specs.Joins as spec;
 ghost use Rattle.wd_using.specs.Named as named;
 
 use crate::kind::{begins_distinct, is_as, is_dot, is_select, opens};
-use crate::level::cut;
 use std::alloc::{AllocError, Global};
 use wd_clauses::{Stop, closing, is_name, parts, split};
+use wd_distinct_on::cut;
 use wd_lex::{Token, TokenKind};
 use wd_schema::{Column, Schema, Table};
 
@@ -45,7 +45,7 @@ fn alias_behind_as<'t>(name: &'t Token, tokens: &'t [Token]) -> Alias<'t>
 }
 
 /// `[[AS] alias]`, behind a table's name
-fn alias_at<'t>(name: &'t Token, tokens: &'t [Token]) -> Alias<'t>
+pub fn alias_at<'t>(name: &'t Token, tokens: &'t [Token]) -> Alias<'t>
     ensures alias { named.table_alias result ≡ spec.alias_at name.now tokens.now }
     ensures few { result.count ≤ 3 }
 {
