@@ -73,7 +73,7 @@ joined (Some first) (Some column) = if is_same_column first column then Some fir
 abbrev pub column_in : Option (List Token) → TokenKind → List Token → Option (Option (List Token))
 column_in so_far before [] = Some so_far
 column_in so_far before (token ∷ tokens) =
-    if begins_call before token tokens then joined so_far (counted_at before tokens) >>= λ column. column_in (Some column) token.kind tokens
+    if begins_call before token tokens then (joined so_far (counted_at before tokens) >>= λ column. column_in (Some column) token.kind tokens)
     else column_in so_far token.kind tokens
 
 -- tokens without DISTINCT in such calls

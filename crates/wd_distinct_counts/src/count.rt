@@ -129,7 +129,7 @@ fn is_same_column(column: &[Token], other: &[Token]) -> bool
 
 /// The one column that is counted, after a further call.
 fn joined<'t>(so_far: Option<&'t [Token]>, found: Option<&'t [Token]>) -> Option<&'t [Token]>
-    ensures { Finds (λ column. column.now) result (spec.joined (option_map (λ column. column.now) so_far) (option_map (λ column. column.now) found)) }
+    ensures { Finds (λ column. column.now) result (spec.joined (option_map (λ column. column.now) so_far.entry) (option_map (λ column. column.now) found.entry)) }
 {
     match (so_far, found) {
         (_, None) => None,
@@ -145,7 +145,7 @@ pub fn column_in<'t>(
     before: &TokenKind,
     tokens: &'t [Token],
 ) -> Option<Option<&'t [Token]>>
-    ensures { Finds (λ found. option_map (λ column. column.now) found) result (spec.column_in (option_map (λ column. column.now) so_far) before.now tokens.now) }
+    ensures { Finds (λ found. option_map (λ column. column.now) found) result (spec.column_in (option_map (λ column. column.now) so_far.entry) before.now tokens.now) }
 {
     let mut column = so_far;
     let mut last = before;
