@@ -4,5 +4,6 @@ pub mod Items
 pub mod Keys
 pub mod Pieces
 pub mod Written
+pub mod Selects
 pub mod Respelled
 pub mod Named

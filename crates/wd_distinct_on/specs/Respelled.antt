@@ -1,6 +1,5 @@
--- A query without DISTINCT ON. Its selects are respelled from the last to the first, so that each is respelled before the one
--- that it stands in.
-use Rattle.std.specs.Prelude.{ℕ, zero, suc, ◌≡◌, ◌<◌, ◌-◌, ◌&&◌, ◌==◌, if◌then◌else◌, nat_lt, List, [], ◌∷◌, ◌++◌, length, take, drop, Option, Some, None, Result, Ok, Err}
+-- A query without DISTINCT ON.
+use Rattle.std.specs.Prelude.{ℕ, ◌≡◌, ◌<◌, ◌&&◌, if◌then◌else◌, List, [], ◌∷◌, ◌++◌, length, take, drop, Option, Some, None, Result, Ok, Err}
 use Rattle.wd_lex.specs.declared.token.Token.{Token}
 use Rattle.wd_clauses.specs.declared.error.RespellError.{RespellError}
 use Rattle.wd_clauses.specs.declared.error.RespellError.TheVariants.{TooLong, OutOfMemory}
@@ -9,6 +8,7 @@ use Rattle.wd_clauses.specs.Parts.{parts}
 use Rattle.wd_distinct_on.specs.Items.{NamedItem, are_distinct, items_of}
 use Rattle.wd_distinct_on.specs.Keys.{SortKey, fits, keys_of}
 use Rattle.wd_distinct_on.specs.Pieces.{Pieces, begins_select, select_at}
+use Rattle.wd_distinct_on.specs.Selects.{respelled_backwards}
 use Rattle.wd_distinct_on.specs.Written.{written}
 
 -- what is read in a list that may be empty
@@ -51,23 +51,9 @@ respelled_at place tokens = select_at (drop place tokens) >>= λ select. respell
 abbrev pub most_selects : ℕ
 most_selects = 64
 
--- how many selects are left to be looked at, where one may begin
-abbrev pub fewer : ℕ → List Token → ℕ
-fewer left tokens = if begins_select tokens then left - 1 else left
-
--- on with the query as it stands, or with the one that was respelled, if that is not too long
-abbrev pub turned : (List Token → Result (List Token) RespellError) → List Token → Option (List Token) → Result (List Token) RespellError
-turned go tokens None = go tokens
-turned go tokens (Some new) = if nat_lt most_tokens (length new) then Err TooLong else go new
-
--- the selects that begin at the first so many places, from the last to the first, and at most so many of them
-unfoldable pub respelled_below : ℕ → ℕ → List Token → Result (List Token) RespellError
-respelled_below left zero tokens = Ok tokens
-respelled_below left (suc place) tokens = if left == 0 then Ok tokens else turned (λ query. respelled_below (fewer left (drop place tokens)) place query) tokens (respelled_at place tokens)
-
 -- a query without DISTINCT ON
 abbrev pub respelled : List Token → Result (List Token) RespellError
-respelled tokens = if nat_lt most_tokens (length tokens) then Err TooLong else respelled_below most_selects (length tokens) tokens
+respelled tokens = respelled_backwards begins_select respelled_at most_selects tokens
 
 -- What a function returned is what is respelled, unless memory ran out.
 abbrev pub Gives : {X : Type 0} → (X → List Token) → Result X RespellError → Result (List Token) RespellError → Type 0

@@ -25,6 +25,14 @@ added_name text word = record { kind = t.Quoted text; span = word.span }
 abbrev pub added_number : ℕ → Token → Token
 added_number number word = record { kind = t.Number number; span = word.span }
 
+-- a token, and tokens, with the place of a word
+abbrev pub placed : Token → Token → Token
+placed token word = record { kind = token.kind; span = word.span }
+
+abbrev pub all_placed : List Token → Token → List Token
+all_placed [] word = []
+all_placed (token ∷ tokens) word = placed token word ∷ all_placed tokens word
+
 -- a comma, where something follows
 abbrev pub comma_before : {A : Type 0} → List A → Token → List Token
 comma_before [] word = []

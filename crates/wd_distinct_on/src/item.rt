@@ -18,7 +18,7 @@ pub struct Item<'t> {
 }
 
 /// `c` or `x.c`
-fn column_of(tokens: &[Token]) -> Option<Item<'_>>
+pub fn column_of(tokens: &[Token]) -> Option<Item<'_>>
     ensures { Finds named_item result (spec.column_of tokens.now) }
 {
     match tokens {
@@ -48,7 +48,7 @@ fn behind_as(tokens: &[Token]) -> Option<&Token>
 }
 
 /// `value AS c`, or a column.
-fn item_of(tokens: &[Token]) -> Option<Item<'_>>
+pub fn item_of(tokens: &[Token]) -> Option<Item<'_>>
     ensures { Finds named_item result (spec.item_of tokens.now) }
 {
     let count = tokens.len().saturating_sub(2);

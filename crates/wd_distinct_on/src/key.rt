@@ -90,23 +90,33 @@ pub fn keys_of<'t>(
     Ok(Some(keys))
 }
 
+/// What stands behind tokens that say the same as a value.
+pub fn strip<'t>(value: &[Token], tokens: &'t [Token]) -> Option<&'t [Token]>
+    ensures { Finds (λ r. r.now) result (spec.strip value.now tokens.now) }
+{
+    let mut left = value;
+    let mut rest = tokens;
+    while let [first, after @ ..] = left {
+        let [token, behind @ ..] = rest else {
+            return None;
+        };
+        if !is_same(&first.kind, &token.kind) {
+            return None;
+        }
+        left = after;
+        rest = behind;
+    }
+    Some(rest)
+}
+
 /// Whether a key of ORDER BY sorts by a key of DISTINCT ON.
 fn sorts_by(key: &Key, order: &Key) -> bool
     ensures { result ≡ spec.sorts_by (sort_key key.now) (sort_key order.now) }
 {
-    let mut value = key.value;
-    let mut rest = order.value;
-    while let [first, after @ ..] = value {
-        let [token, behind @ ..] = rest else {
-            return false;
-        };
-        if !is_same(&first.kind, &token.kind) {
-            return false;
-        }
-        value = after;
-        rest = behind;
+    match strip(key.value, order.value) {
+        Some(rest) => ends_key(rest),
+        None => false,
     }
-    ends_key(rest)
 }
 
 /// Whether a key of ORDER BY sorts by that key.

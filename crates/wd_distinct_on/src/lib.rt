@@ -1,6 +1,7 @@
 //! DISTINCT ON by ROW_NUMBER: `SELECT DISTINCT ON ( keys ) items FROM .. ORDER BY orders` holds the first row of each key, which
 //! has the number 1 among the rows of its key. `select` finds the pieces of such a select, `item` and `key` read its lists,
-//! `write` writes the select that stands for it, and `respell` goes through a query from its end.
+//! `write` writes the select that stands for it, and `respell` respells a query. `selects` goes through the selects of a query
+//! from its end, for each such equation.
 #![tactic(auto)]
 
 mod item;
@@ -8,6 +9,12 @@ mod key;
 mod kind;
 mod respell;
 mod select;
+mod selects;
 mod write;
 
+pub use item::{Item, column_of, item_of};
+pub use key::strip;
+pub use kind::{is_by, is_direction};
 pub use respell::without_distinct_on;
+pub use selects::{Selects, cut, respelled_backwards};
+pub use write::{add_all_placed, add_placed, add_terminals, added_name};

@@ -1,6 +1,6 @@
 //! A query without DISTINCT ON.
 
-ghost use Rattle.std.specs.Prelude.{◌≡◌, map, take, drop, IfOk};
+ghost use Rattle.std.specs.Prelude.{map, IfOk};
 ghost use Rattle.wd_clauses.specs.Given.{Finds};
 ghost use Rattle.wd_distinct_on.specs.Named.{named_item, pieces, sort_key};
 ghost use Rattle.wd_distinct_on.specs.Respelled as spec;
@@ -8,16 +8,14 @@ ghost use Rattle.wd_distinct_on.specs.Respelled as spec;
 use crate::item::{Item, are_distinct, items_of};
 use crate::key::{Key, fits, keys_of};
 use crate::select::{Select, begins_select, select_at};
+use crate::selects::{Selects, cut, respelled_backwards};
 use crate::write::written;
 use std::alloc::{AllocError, Global};
-use wd_clauses::{RespellError, copied, parts};
+use wd_clauses::{RespellError, parts};
 use wd_lex::Token;
 
 // The most selects with DISTINCT ON that are looked at.
 const MOST_SELECTS: usize = 64;
-
-// The most tokens of a query.
-const MOST_TOKENS: usize = 65_536;
 
 /// The items of a list, if each has a name.
 fn items_in(alloc: Global, tokens: &[Token]) -> Result<Option<Vec<Item<'_>>>, AllocError>
@@ -125,15 +123,6 @@ fn respelled_select(
     }
 }
 
-/// The tokens before a place, and those from there on.
-fn cut(place: usize, tokens: &[Token]) -> (&[Token], &[Token])
-    ensures before { result.0.now ≡ take place tokens.now }
-    ensures behind { result.1.now ≡ drop place tokens.now }
-{
-    let place = place.min(tokens.len());
-    (&tokens[..place], &tokens[place..])
-}
-
 /// The query in which the select that begins at a place is respelled.
 #[tactic(auto, unfolding(crate::specs::Respelled::respelled_at))]
 fn respelled_at(
@@ -153,43 +142,35 @@ fn respelled_at(
     }
 }
 
-/// How many selects are left to be looked at, where one may begin at a place.
-fn fewer(left: usize, place: usize, tokens: &[Token]) -> usize
-    ensures { result ≡ spec.fewer left (drop place tokens.now) }
-{
-    let (_, rest) = cut(place, tokens);
-    if begins_select(rest) {
-        return left.saturating_sub(1);
+/// Selects with DISTINCT ON.
+#[derive(Clone, Copy)]
+struct DistinctOn;
+
+impl Selects for DistinctOn {
+    ghost use Rattle.wd_distinct_on.specs.Pieces.{begins_select};
+    ghost use Rattle.wd_distinct_on.specs.Respelled as spec;
+
+    ghost starts = { λ _. begins_select };
+
+    ghost respelled = { λ _. spec.respelled_at };
+
+    fn begins(&self, tokens: &[Token]) -> bool {
+        begins_select(tokens)
     }
-    left
+
+    fn respelled_at(
+        &self,
+        alloc: Global,
+        place: usize,
+        tokens: &[Token],
+    ) -> Result<Option<Vec<Token>>, RespellError> {
+        respelled_at(alloc, place, tokens)
+    }
 }
 
 /// The query without DISTINCT ON, as far as its selects with it are read.
-#[tactic(auto, unfolding(crate::specs::Respelled::respelled_below))]
 pub fn without_distinct_on(alloc: Global, tokens: &[Token]) -> Result<Vec<Token>, RespellError>
     ensures { spec.Gives (λ x. x.items) result (spec.respelled tokens.now) }
 {
-    if tokens.len() > MOST_TOKENS {
-        return Err(RespellError::TooLong);
-    }
-    let mut query = copied(alloc, tokens)?;
-    let mut left = MOST_SELECTS;
-    let mut place = tokens.len();
-    while place > 0 {
-        if left == 0 {
-            return Ok(query);
-        }
-        place -= 1;
-        left = fewer(left, place, &query);
-        match respelled_at(alloc, place, &query)? {
-            Some(next) => {
-                if next.len() > MOST_TOKENS {
-                    return Err(RespellError::TooLong);
-                }
-                query = next;
-            }
-            None => {}
-        }
-    }
-    Ok(query)
+    respelled_backwards(alloc, &DistinctOn, MOST_SELECTS, tokens)
 }

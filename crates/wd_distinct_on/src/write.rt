@@ -25,7 +25,7 @@ fn added_word(alloc: Global, text: &str, word: &Token) -> Result<Token, AllocErr
 }
 
 /// A name that is added because of a word.
-fn added_name(alloc: Global, text: &str, word: &Token) -> Result<Token, AllocError>
+pub fn added_name(alloc: Global, text: &str, word: &Token) -> Result<Token, AllocError>
     ensures { IfOk result (λ t. t ≡ spec.added_name text.now word.now) }
 {
     let text = Text::from_str(alloc, text)?;
@@ -36,7 +36,7 @@ fn added_name(alloc: Global, text: &str, word: &Token) -> Result<Token, AllocErr
 }
 
 /// Adds terminals because of a word.
-fn add_terminals(
+pub fn add_terminals(
     written: &mut Vec<Token>,
     terminals: &[Terminal],
     word: &Token,
@@ -46,6 +46,41 @@ fn add_terminals(
     let mut rest = terminals;
     while let [terminal, after @ ..] = rest {
         add(written, added(*terminal, word))?;
+        rest = after;
+    }
+    Ok(())
+}
+
+/// Adds a copy of a token, with the place of a word.
+pub fn add_placed(
+    written: &mut Vec<Token>,
+    token: &Token,
+    word: &Token,
+) -> Result<(), RespellError>
+    ensures { Writes written.old.items written.new.items result (spec.placed token.now word.now ∷ []) }
+{
+    let copy = copy_token(token)?;
+    add(
+        written,
+        Token {
+            kind: copy.kind,
+            span: word.span,
+        },
+    )?;
+    Ok(())
+}
+
+/// Adds copies of tokens, all with the place of a word.
+pub fn add_all_placed(
+    written: &mut Vec<Token>,
+    tokens: &[Token],
+    word: &Token,
+) -> Result<(), RespellError>
+    ensures { Writes written.old.items written.new.items result (spec.all_placed tokens.now word.now) }
+{
+    let mut rest = tokens;
+    while let [first, after @ ..] = rest {
+        add_placed(written, first, word)?;
         rest = after;
     }
     Ok(())

@@ -8,10 +8,11 @@ ghost use Rattle.wd_using.specs.Joins as spec;
 ghost use Rattle.wd_using.specs.Named as named;
 
 use crate::kind::{begins_table, has_select, is_inner, is_on, is_using, opens};
-use crate::level::{Extent, cut, split_at};
+use crate::level::{Extent, split_at};
 use crate::source::{Source, source_at};
 use std::alloc::{AllocError, Global};
 use wd_clauses::{closing, is_name, parts};
+use wd_distinct_on::cut;
 use wd_lex::Token;
 use wd_schema::Schema;
 

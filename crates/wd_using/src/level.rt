@@ -83,12 +83,3 @@ pub fn split_at(extent: Extent, tokens: &[Token]) -> (&[Token], &[Token])
     let count = reach(extent, tokens);
     (&tokens[..count], &tokens[count..])
 }
-
-/// The tokens before a place, and those from there on.
-pub fn cut(place: usize, tokens: &[Token]) -> (&[Token], &[Token])
-    ensures before { result.0.now ≡ take place tokens.now }
-    ensures behind { result.1.now ≡ drop place tokens.now }
-{
-    let place = place.min(tokens.len());
-    (&tokens[..place], &tokens[place..])
-}

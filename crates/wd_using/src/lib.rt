@@ -14,8 +14,8 @@ mod select;
 mod source;
 mod write;
 
-pub use kind::{begins_columns, is_dot, is_star, opens};
-pub use level::{Extent, cut, split_at};
+pub use kind::{begins_columns, begins_distinct, ends_value, is_dot, is_star, opens};
+pub use level::{Extent, split_at};
 pub use respell::without_using;
-pub use select::{Select, pieces_at};
+pub use select::{Select, pieces_at, select_at};
 pub use source::{Alias, alias_at, behind_as};

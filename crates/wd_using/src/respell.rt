@@ -9,12 +9,12 @@ ghost use Rattle.wd_using.specs.Respelled as spec;
 
 use crate::join::{Joined, joined_tables};
 use crate::kind::{begins_columns, ends_value, goes_on, is_star};
-use crate::level::cut;
 use crate::merge::{Merged, merged_of, names_in, table_of};
 use crate::select::{Select, select_at};
 use crate::write::written;
 use std::alloc::Global;
 use wd_clauses::{RespellError, copied};
+use wd_distinct_on::cut;
 use wd_lex::{Token, TokenKind};
 use wd_schema::Schema;
 

@@ -6,8 +6,9 @@ ghost use Rattle.wd_using.specs.Named.{pieces};
 ghost use Rattle.wd_using.specs.Pieces as spec;
 
 use crate::kind::{begins_distinct, begins_from, begins_on, has_select, is_select};
-use crate::level::{Extent, cut, split_at};
+use crate::level::{Extent, split_at};
 use wd_clauses::{Stop, split};
+use wd_distinct_on::cut;
 use wd_lex::Token;
 
 /// `SELECT [DISTINCT] items FROM tables clauses`, and what follows it.

@@ -1,0 +1,184 @@
+//! The calls COUNT( DISTINCT c ) among tokens.
+
+ghost use Rattle.std.specs.Prelude.{◌≡◌, option_map};
+ghost use Rattle.wd_clauses.specs.Given.{Finds, Writes};
+ghost use Rattle.wd_clauses.specs.Reach as reach;
+ghost use Rattle.wd_distinct_counts.specs.Counts as spec;
+ghost use Rattle.wd_distinct_on.specs.Kinds as kinds;
+
+use wd_clauses::{RespellError, add, copy_token};
+use wd_distinct_on::{cut, strip};
+use wd_grouping::{is_column, is_over};
+use wd_lex::{Terminal, Token, TokenKind};
+use wd_using::{begins_distinct, opens};
+
+/// Whether COUNT stands there.
+fn is_count(kind: &TokenKind) -> bool
+    ensures { result ≡ spec.is_count kind.now }
+{
+    match kind {
+        TokenKind::Word(text) => text.as_bytes() == b"count".as_slice(),
+        _ => false,
+    }
+}
+
+/// Whether COUNT, SUM, MIN or MAX stands there, quoted or not.
+fn is_aggregate(kind: &TokenKind) -> bool
+    ensures { result ≡ spec.is_aggregate kind.now }
+{
+    match kind {
+        TokenKind::Word(text) | TokenKind::Quoted(text) => {
+            text.as_bytes() == b"count".as_slice()
+                || text.as_bytes() == b"sum".as_slice()
+                || text.as_bytes() == b"min".as_slice()
+                || text.as_bytes() == b"max".as_slice()
+        }
+        _ => false,
+    }
+}
+
+/// Whether OVER or FILTER stands there.
+fn goes_on(kind: &TokenKind) -> bool
+    ensures { result ≡ spec.goes_on kind.now }
+{
+    match kind {
+        TokenKind::Word(text) => text.as_bytes() == b"filter".as_slice(),
+        _ => is_over(kind),
+    }
+}
+
+/// Whether OVER or FILTER stands first.
+fn begins_more(tokens: &[Token]) -> bool
+    ensures { result ≡ kinds.begins spec.goes_on tokens.now }
+{
+    match tokens {
+        [first, ..] => goes_on(&first.kind),
+        [] => false,
+    }
+}
+
+fn closes(kind: &TokenKind) -> bool
+    ensures { result ≡ reach.closes kind.now }
+{
+    matches!(kind, TokenKind::Terminal(Terminal::RightBracket))
+}
+
+fn is_distinct(kind: &TokenKind) -> bool
+    ensures { result ≡ kinds.is_distinct kind.now }
+{
+    matches!(kind, TokenKind::Terminal(Terminal::Distinct))
+}
+
+/// Whether a bracket closes the call, and no OVER or FILTER stands behind it.
+fn closes_call(tokens: &[Token]) -> bool
+    ensures { result ≡ spec.closes_call tokens.now }
+{
+    match tokens {
+        [bracket, rest @ ..] => closes(&bracket.kind) && !begins_more(rest),
+        [] => false,
+    }
+}
+
+/// So many tokens, if they are a column and the call closes behind them.
+fn if_closed(count: usize, tokens: &[Token]) -> Option<&[Token]>
+    ensures { Finds (λ column. column.now) result (spec.closed_after count tokens.now) }
+{
+    let (column, behind) = cut(count, tokens);
+    if is_column(column) && closes_call(behind) {
+        return Some(column);
+    }
+    None
+}
+
+/// `x.c` or `c`, with the bracket that closes the call behind it.
+fn column_at(tokens: &[Token]) -> Option<&[Token]>
+    ensures { Finds (λ column. column.now) result (spec.column_at tokens.now) }
+{
+    match if_closed(3, tokens) {
+        Some(column) => Some(column),
+        None => if_closed(1, tokens),
+    }
+}
+
+/// The column of `COUNT( DISTINCT c )`, behind its bracket, before which this stands.
+fn counted_at<'t>(before: &TokenKind, tokens: &'t [Token]) -> Option<&'t [Token]>
+    ensures { Finds (λ column. column.now) result (spec.counted_at before.now tokens.now) }
+{
+    match tokens {
+        [distinct, rest @ ..] if is_count(before) && is_distinct(&distinct.kind) => column_at(rest),
+        _ => None,
+    }
+}
+
+/// Whether it is the bracket of an aggregate, or DISTINCT stands behind it.
+fn begins_call(before: &TokenKind, bracket: &Token, tokens: &[Token]) -> bool
+    ensures { result ≡ spec.begins_call before.now bracket.now tokens.now }
+{
+    opens(&bracket.kind) && (is_aggregate(before) || begins_distinct(tokens))
+}
+
+/// Whether two columns say the same.
+fn is_same_column(column: &[Token], other: &[Token]) -> bool
+    ensures { result ≡ spec.is_same_column column.now other.now }
+{
+    match strip(column, other) {
+        Some([]) => true,
+        _ => false,
+    }
+}
+
+/// The one column that is counted, after a further call.
+fn joined<'t>(so_far: Option<&'t [Token]>, found: Option<&'t [Token]>) -> Option<&'t [Token]>
+    ensures { Finds (λ column. column.now) result (spec.joined (option_map (λ column. column.now) so_far.entry) (option_map (λ column. column.now) found.entry)) }
+{
+    match (so_far, found) {
+        (_, None) => None,
+        (None, Some(column)) => Some(column),
+        (Some(first), Some(column)) if is_same_column(first, column) => Some(first),
+        (Some(_), Some(_)) => None,
+    }
+}
+
+/// The one column, if any, of each `COUNT( DISTINCT c )` behind such a token and before it, where there is no other aggregate.
+pub fn column_in<'t>(
+    so_far: Option<&'t [Token]>,
+    before: &TokenKind,
+    tokens: &'t [Token],
+) -> Option<Option<&'t [Token]>>
+    ensures { Finds (λ found. option_map (λ column. column.now) found) result (spec.column_in (option_map (λ column. column.now) so_far.entry) before.now tokens.now) }
+{
+    let mut column = so_far;
+    let mut last = before;
+    let mut rest = tokens;
+    while let [first, after @ ..] = rest {
+        if begins_call(last, first, after) {
+            match joined(column, counted_at(last, after)) {
+                Some(one) => column = Some(one),
+                None => return None,
+            }
+        }
+        last = &first.kind;
+        rest = after;
+    }
+    Some(column)
+}
+
+/// Adds tokens without DISTINCT in such calls.
+pub fn add_counted(
+    written: &mut Vec<Token>,
+    before: &TokenKind,
+    tokens: &[Token],
+) -> Result<(), RespellError>
+    ensures { Writes written.old.items written.new.items result (spec.counted before.now tokens.now) }
+{
+    let mut last = before;
+    let mut rest = tokens;
+    while let [first, after @ ..] = rest {
+        if !(opens(last) && is_distinct(&first.kind)) {
+            add(written, copy_token(first)?)?;
+        }
+        last = &first.kind;
+        rest = after;
+    }
+    Ok(())
+}

@@ -1,0 +1,165 @@
+//! A query without COUNT( DISTINCT c ).
+
+ghost use Rattle.std.specs.Prelude.{◌≡◌, map, option_map, IfOk};
+ghost use Rattle.wd_clauses.specs.Given.{Finds};
+ghost use Rattle.wd_distinct_counts.specs.Named.{grouping_pieces};
+ghost use Rattle.wd_distinct_counts.specs.Respelled as spec;
+ghost use Rattle.wd_distinct_on.specs.Respelled.{Gives, MayWrite, parts_in};
+ghost use Rattle.wd_grouping.specs.Named.{one_table};
+ghost use Rattle.wd_using.specs.Named.{pieces};
+
+use crate::count::column_in;
+use crate::select::{Grouping, grouping_of};
+use crate::write::written;
+use std::alloc::{AllocError, Global};
+use wd_clauses::{RespellError, parts};
+use wd_distinct_on::{Selects, cut, respelled_backwards};
+use wd_grouping::{OneTable, begins_select, is_column, one_table};
+use wd_lex::Token;
+use wd_using::{Select, select_at};
+
+// The most selects that are looked at.
+const MOST_SELECTS: usize = 128;
+
+/// Whether each key is a column.
+fn are_columns(mut keys: &[&[Token]]) -> bool
+    ensures { result ≡ spec.are_columns (map (λ key. key.now) keys.entry.now) }
+{
+    while let [key, rest @ ..] = keys {
+        if !is_column(key) {
+            return false;
+        }
+        keys = rest;
+    }
+    true
+}
+
+/// The parts of a list that may be empty.
+fn keys_in(alloc: Global, tokens: &[Token]) -> Result<Option<Vec<&[Token]>>, AllocError>
+    ensures { IfOk result (λ found. Finds (λ x. map (λ key. key.now) x.items) found (parts_in tokens.now)) }
+{
+    if tokens.is_empty() {
+        return Ok(Some(Vec::new(alloc)));
+    }
+    let keys = parts(alloc, tokens)?;
+    Ok(keys)
+}
+
+/// What stands for a select over its one table, if its keys are columns.
+fn with_table(
+    alloc: Global,
+    front: &[Token],
+    select: &Select,
+    grouping: &Grouping,
+    column: &[Token],
+    one: &OneTable,
+) -> Result<Option<Vec<Token>>, RespellError>
+    ensures { MayWrite (λ x. x.items) result (spec.with_table front.now (pieces select.now) (grouping_pieces grouping.now) column.now (one_table one.now)) }
+{
+    match keys_in(alloc, grouping.keys)? {
+        Some(keys) if are_columns(&keys) => {
+            let tokens = written(alloc, front, select, grouping, one, column)?;
+            Ok(Some(tokens))
+        }
+        _ => Ok(None),
+    }
+}
+
+/// What stands for a select that counts a column.
+fn with_column(
+    alloc: Global,
+    front: &[Token],
+    select: &Select,
+    grouping: &Grouping,
+    column: &[Token],
+) -> Result<Option<Vec<Token>>, RespellError>
+    ensures { MayWrite (λ x. x.items) result (spec.with_column front.now (pieces select.now) (grouping_pieces grouping.now) column.now) }
+{
+    match one_table(select.tables) {
+        Some(one) => {
+            let tokens = with_table(alloc, front, select, grouping, column, &one)?;
+            Ok(tokens)
+        }
+        None => Ok(None),
+    }
+}
+
+/// The one column that is counted in the items and in the clauses behind GROUP BY, if any.
+fn column_of<'t>(select: &Select<'t>, grouping: &Grouping<'t>) -> Option<Option<&'t [Token]>>
+    ensures { Finds (λ found. option_map (λ column. column.now) found) result (spec.column_of (pieces select.now) (grouping_pieces grouping.now)) }
+{
+    match column_in(None, &select.select.kind, select.items) {
+        Some(so_far) => column_in(so_far, &select.select.kind, grouping.later),
+        None => None,
+    }
+}
+
+/// What stands for a select behind these tokens.
+fn respelled_select(
+    alloc: Global,
+    front: &[Token],
+    select: &Select,
+) -> Result<Option<Vec<Token>>, RespellError>
+    ensures { MayWrite (λ x. x.items) result (spec.respelled_select front.now (pieces select.now)) }
+{
+    let grouping = grouping_of(select.clauses);
+    match column_of(select, &grouping) {
+        Some(Some(column)) => {
+            let tokens = with_column(alloc, front, select, &grouping, column)?;
+            Ok(tokens)
+        }
+        _ => Ok(None),
+    }
+}
+
+/// The query in which the select that begins at a place is respelled.
+#[tactic(auto, unfolding(crate::specs::Respelled::respelled_at))]
+fn respelled_at(
+    alloc: Global,
+    place: usize,
+    tokens: &[Token],
+) -> Result<Option<Vec<Token>>, RespellError>
+    ensures { MayWrite (λ x. x.items) result (spec.respelled_at place tokens.now) }
+{
+    let (front, rest) = cut(place, tokens);
+    match select_at(rest) {
+        Some(select) => {
+            let tokens = respelled_select(alloc, front, &select)?;
+            Ok(tokens)
+        }
+        None => Ok(None),
+    }
+}
+
+/// Selects with COUNT( DISTINCT c ).
+#[derive(Clone, Copy)]
+struct DistinctCounts;
+
+impl Selects for DistinctCounts {
+    ghost use Rattle.wd_distinct_counts.specs.Respelled as spec;
+    ghost use Rattle.wd_distinct_on.specs.Kinds.{begins, is_select};
+
+    ghost starts = { λ _. begins is_select };
+
+    ghost respelled = { λ _. spec.respelled_at };
+
+    fn begins(&self, tokens: &[Token]) -> bool {
+        begins_select(tokens)
+    }
+
+    fn respelled_at(
+        &self,
+        alloc: Global,
+        place: usize,
+        tokens: &[Token],
+    ) -> Result<Option<Vec<Token>>, RespellError> {
+        respelled_at(alloc, place, tokens)
+    }
+}
+
+/// The query without COUNT( DISTINCT c ), as far as its selects are read.
+pub fn without_distinct_counts(alloc: Global, tokens: &[Token]) -> Result<Vec<Token>, RespellError>
+    ensures { Gives (λ x. x.items) result (spec.respelled tokens.now) }
+{
+    respelled_backwards(alloc, &DistinctCounts, MOST_SELECTS, tokens)
+}

@@ -1,0 +1,10 @@
+use Rattle.std.proofs.Common.{◌≡◌, ◌++◌, length, map}
+use Rattle.wd_grouping.specs.Written.{columns}
+use Rattle.wd_grouping.specs.Named.{group_key}
+use Rattle.wd_grouping.proofs.write.add_columns.Given as goal
+
+abbrev pub invariant-loop-rest : goal.invariant-loop-rest
+invariant-loop-rest l = l.written.items ++ columns (map group_key l.rest) l.fn.word ≡ l.initial.written.items ++ columns (map group_key l.fn.keys) l.fn.word
+
+abbrev pub decreases-loop-rest : goal.decreases-loop-rest
+decreases-loop-rest l = length l.rest

@@ -1,0 +1,49 @@
+-- A query whose keys of GROUP BY are columns. A select is left as it is where its keys are columns already or lists of keys, where an
+-- item stands for all columns, where a number is that of no item, where there are too many expressions, and where the FROM clause of
+-- a select with an expression has more than one table.
+use Rattle.std.specs.Prelude.{ℕ, ◌||◌, if◌then◌else◌, Bool, List, ◌++◌, take, drop, Option, Some, None, Result}
+use Rattle.wd_lex.specs.declared.token.Token.{Token}
+use Rattle.wd_clauses.specs.declared.error.RespellError.{RespellError}
+use Rattle.wd_clauses.specs.Parts.{parts}
+use Rattle.wd_distinct_on.specs.Kinds.{begins, is_select}
+use Rattle.wd_distinct_on.specs.Respelled.{◌>>=◌}
+use Rattle.wd_distinct_on.specs.Selects.{respelled_backwards}
+use Rattle.wd_using.specs.Pieces.{select_at}
+use Rattle.wd_grouping.specs.Keys.{GroupKey, all_stay, have_names, keys_of}
+use Rattle.wd_grouping.specs.Pieces.{GroupedPieces, OneTable, grouped_of, one_table}
+use Rattle.wd_grouping.specs.Replaced.{are_clear, have_star}
+use Rattle.wd_grouping.specs.Written.{written, written_over}
+
+-- what stands for a select behind these tokens, if the name of each item is clear
+abbrev pub if_clear : List Token → GroupedPieces → List (List Token) → List GroupKey → OneTable → Option (List Token)
+if_clear front select items keys one = if are_clear keys items then Some (front ++ written select one items keys) else None
+
+abbrev pub with_keys : List Token → GroupedPieces → List (List Token) → List GroupKey → Option (List Token)
+with_keys front select items keys =
+    if have_names keys then one_table select.select.tables >>= if_clear front select items keys else Some (front ++ written_over select keys)
+
+abbrev pub with_parts : List Token → GroupedPieces → List (List Token) → List (List Token) → Option (List Token)
+with_parts front select items found = if all_stay found || have_star items then None else keys_of 0 items found >>= with_keys front select items
+
+abbrev pub with_items : List Token → GroupedPieces → List (List Token) → Option (List Token)
+with_items front select items = parts select.keys >>= with_parts front select items
+
+-- what stands for a select behind these tokens
+abbrev pub respelled_select : List Token → GroupedPieces → Option (List Token)
+respelled_select front select = parts select.select.items >>= with_items front select
+
+-- the select with GROUP BY that begins with the tokens
+abbrev pub grouped_at : List Token → Option GroupedPieces
+grouped_at tokens = select_at tokens >>= grouped_of
+
+-- a query in which the select that begins at a place is respelled
+unfoldable pub respelled_at : ℕ → List Token → Option (List Token)
+respelled_at place tokens = grouped_at (drop place tokens) >>= respelled_select (take place tokens)
+
+-- the most selects that are looked at (this project's choice)
+abbrev pub most_selects : ℕ
+most_selects = 128
+
+-- a query whose keys of GROUP BY are columns
+abbrev pub respelled : List Token → Result (List Token) RespellError
+respelled tokens = respelled_backwards (begins is_select) respelled_at most_selects tokens

@@ -1,0 +1,256 @@
+//! Tokens in which each expression of a key that stands as an operand of its own is the column that stands for it.
+
+ghost use Rattle.std.specs.Prelude.{◌≡◌, ◌∷◌, [], map, option_map};
+ghost use Rattle.wd_clauses.specs.Given.{Finds, Writes};
+ghost use Rattle.wd_distinct_on.specs.Written.{added_name};
+ghost use Rattle.wd_grouping.specs.Named as named;
+ghost use Rattle.wd_grouping.specs.Replaced as spec;
+
+use crate::key::{Key, begins_set};
+use crate::kind::{begins_operand, ends_operand};
+use std::alloc::Global;
+use wd_clauses::{RespellError, add, added, copy_token, is_name};
+use wd_distinct_on::{added_name, strip};
+use wd_lex::{Terminal, Token, TokenKind};
+use wd_using::is_star;
+
+/// The column that stands for an expression, and how many tokens that is.
+#[derive(Clone, Copy)]
+pub struct Operand {
+    pub name: &'static str,
+    pub count: usize,
+}
+
+/// Whether an operand ends before these tokens, as before the name of an item.
+fn ends(tokens: &[Token]) -> bool
+    ensures { result ≡ spec.ends (Some tokens.now) }
+{
+    match tokens {
+        [name] => ends_operand(&name.kind) || is_name(&name.kind),
+        [first, ..] => ends_operand(&first.kind),
+        [] => true,
+    }
+}
+
+/// The expression of a key, if it stands first and ends there.
+fn operand_by(key: &Key, tokens: &[Token]) -> Option<Operand>
+    ensures { Finds named.operand result (spec.operand_by (named.group_key key.now).name (named.group_key key.now).value tokens.now) }
+{
+    let name = key.name?;
+    match strip(key.value, tokens) {
+        Some(rest) if ends(rest) => Some(Operand {
+            name,
+            count: key.value.len(),
+        }),
+        _ => None,
+    }
+}
+
+/// The first key whose expression stands first and ends there.
+fn operand_of(keys: &[Key], tokens: &[Token]) -> Option<Operand>
+    ensures { Finds named.operand result (spec.operand_of (map named.group_key keys.now) tokens.now) }
+{
+    let mut left = keys;
+    while let [key, rest @ ..] = left {
+        if let Some(operand) = operand_by(key, tokens) {
+            return Some(operand);
+        }
+        left = rest;
+    }
+    None
+}
+
+/// The operand of its own that stands behind such a token.
+fn operand_at(keys: &[Key], before: &TokenKind, tokens: &[Token]) -> Option<Operand>
+    ensures { Finds named.operand result (spec.operand_at (map named.group_key keys.now) before.now tokens.now) }
+{
+    if begins_operand(before) {
+        return operand_of(keys, tokens);
+    }
+    None
+}
+
+/// Adds a name because of a word.
+pub fn add_name(
+    alloc: Global,
+    written: &mut Vec<Token>,
+    name: &str,
+    word: &Token,
+) -> Result<(), RespellError>
+    ensures { Writes written.old.items written.new.items result (added_name name.now word.now ∷ []) }
+{
+    add(written, added_name(alloc, name, word)?)?;
+    Ok(())
+}
+
+/// Adds what is written at a token.
+fn add_at(
+    alloc: Global,
+    written: &mut Vec<Token>,
+    token: &Token,
+    operand: Option<Operand>,
+) -> Result<(), RespellError>
+    ensures { Writes written.old.items written.new.items result (spec.written_at token.now (option_map named.operand operand)) }
+{
+    match operand {
+        Some(operand) => {
+            add_name(alloc, written, operand.name, token)?;
+            Ok(())
+        }
+        None => {
+            add(written, copy_token(token)?)?;
+            Ok(())
+        }
+    }
+}
+
+/// How many further tokens an operand is.
+fn passed_by(operand: Option<Operand>) -> usize
+    ensures { result ≡ spec.passed_by (option_map named.operand operand) }
+{
+    match operand {
+        Some(operand) => operand.count.saturating_sub(1),
+        None => 0,
+    }
+}
+
+/// Adds tokens in which the expressions of keys are columns.
+#[tactic(auto, unfolding(crate::specs::Replaced::replaced))]
+pub fn add_replaced(
+    alloc: Global,
+    written: &mut Vec<Token>,
+    keys: &[Key],
+    before: &TokenKind,
+    tokens: &[Token],
+) -> Result<(), RespellError>
+    ensures { Writes written.old.items written.new.items result (spec.replaced (map named.group_key keys.now) 0 before.now tokens.now) }
+{
+    let mut passed: usize = 0;
+    let mut last = before;
+    let mut rest = tokens;
+    while let [first, after @ ..] = rest {
+        if passed == 0 {
+            let operand = operand_at(keys, last, rest);
+            add_at(alloc, written, first, operand)?;
+            passed = passed_by(operand);
+        } else {
+            passed -= 1;
+        }
+        last = &first.kind;
+        rest = after;
+    }
+    Ok(())
+}
+
+/// The column that stands for an item, if it is nothing but an expression.
+fn whole(keys: &[Key], item: &[Token]) -> Option<&'static str>
+    ensures { Finds (λ name. name.now) result (spec.whole (map named.group_key keys.now) item.now) }
+{
+    match operand_of(keys, item) {
+        Some(operand) if operand.count == item.len() => Some(operand.name),
+        _ => None,
+    }
+}
+
+/// Adds a column with the name of an item that has none.
+fn add_unnamed(
+    alloc: Global,
+    written: &mut Vec<Token>,
+    name: &str,
+    select: &Token,
+) -> Result<(), RespellError>
+    ensures { Writes written.old.items written.new.items result (spec.unnamed name.now select.now) }
+{
+    add_name(alloc, written, name, select)?;
+    add(written, added(Terminal::As, select))?;
+    add_name(alloc, written, "?column?", select)?;
+    Ok(())
+}
+
+/// Adds an item in which the expressions of keys are columns.
+fn add_item(
+    alloc: Global,
+    written: &mut Vec<Token>,
+    keys: &[Key],
+    select: &Token,
+    item: &[Token],
+) -> Result<(), RespellError>
+    ensures { Writes written.old.items written.new.items result (spec.item_by (map named.group_key keys.now) select.now item.now (spec.whole (map named.group_key keys.now) item.now)) }
+{
+    match whole(keys, item) {
+        Some(name) => add_unnamed(alloc, written, name, select),
+        None => add_replaced(alloc, written, keys, &select.kind, item),
+    }
+}
+
+/// Adds items in which the expressions of keys are columns.
+pub fn add_items(
+    alloc: Global,
+    written: &mut Vec<Token>,
+    keys: &[Key],
+    select: &Token,
+    items: &[&[Token]],
+) -> Result<(), RespellError>
+    ensures { Writes written.old.items written.new.items result (spec.replaced_items (map named.group_key keys.now) select.now (map (λ item. item.now) items.now)) }
+{
+    let mut rest = items;
+    while let [item, after @ ..] = rest {
+        add_item(alloc, written, keys, select, item)?;
+        if !after.is_empty() {
+            add(written, added(Terminal::Comma, select))?;
+        }
+        rest = after;
+    }
+    Ok(())
+}
+
+/// Whether a star stands last.
+fn ends_with_star(item: &[Token]) -> bool
+    ensures { result ≡ spec.ends_with_star item.now }
+{
+    let mut rest = item;
+    while let [first, after @ ..] = rest {
+        if after.is_empty() {
+            return is_star(&first.kind);
+        }
+        rest = after;
+    }
+    false
+}
+
+/// Whether an item stands for all columns.
+pub fn have_star(mut items: &[&[Token]]) -> bool
+    ensures { result ≡ spec.have_star (map (λ item. item.now) items.entry.now) }
+{
+    while let [item, rest @ ..] = items {
+        if ends_with_star(item) {
+            return true;
+        }
+        items = rest;
+    }
+    false
+}
+
+/// Whether an item is nothing but an expression, and may have the name of a column.
+fn is_unclear(keys: &[Key], item: &[Token]) -> bool
+    ensures { result ≡ spec.is_unclear (map named.group_key keys.now) item.now }
+{
+    match whole(keys, item) {
+        Some(_) => begins_set(item),
+        None => false,
+    }
+}
+
+/// Whether no item that is nothing but an expression may have the name of a column.
+pub fn are_clear(keys: &[Key], items: &[&[Token]]) -> bool
+    ensures { result ≡ spec.are_clear (map named.group_key keys.now) (map (λ item. item.now) items.now) }
+{
+    let mut rest = items;
+    while let [item, after @ ..] = rest {
+        if is_unclear(keys, item) {
+            return false;
+        }
+        rest = after;
+    }
+    true
+}

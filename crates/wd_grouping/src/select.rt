@@ -1,0 +1,45 @@
+//! The pieces of a select with GROUP BY.
+
+ghost use Rattle.std.specs.Prelude.{◌≡◌};
+ghost use Rattle.wd_clauses.specs.Given.{Finds};
+ghost use Rattle.wd_grouping.specs.Named.{grouped_pieces};
+ghost use Rattle.wd_grouping.specs.Pieces as spec;
+ghost use Rattle.wd_using.specs.Named.{pieces};
+
+use crate::kind::is_group;
+use wd_clauses::{Stop, split};
+use wd_distinct_on::is_by;
+use wd_lex::Token;
+use wd_using::Select;
+
+/// A select, its WHERE clause, its keys behind GROUP BY, and the clauses behind them.
+#[derive(Drop)]
+pub struct Grouped<'t> {
+    pub select: Select<'t>,
+    pub condition: &'t [Token],
+    pub group: &'t Token,
+    pub by: &'t Token,
+    pub keys: &'t [Token],
+    pub later: &'t [Token],
+}
+
+/// A select with GROUP BY.
+pub fn grouped_of(select: Select<'_>) -> Option<Grouped<'_>>
+    ensures { Finds grouped_pieces result (spec.grouped_of (pieces select.entry)) }
+{
+    let (condition, behind) = split(Stop::Later, select.clauses);
+    match behind {
+        [group, by, rest @ ..] if is_group(&group.kind) && is_by(&by.kind) => {
+            let (keys, later) = split(Stop::Later, rest);
+            Some(Grouped {
+                select,
+                condition,
+                group,
+                by,
+                keys,
+                later,
+            })
+        }
+        _ => None,
+    }
+}
