@@ -4,7 +4,7 @@ ghost use Rattle.std.specs.Prelude.{◌≡◌};
 ghost use Rattle.wd_distinct_on.specs.Kinds as spec;
 
 use wd_clauses::is_same_name;
-use wd_lex::{Terminal, TokenKind};
+use wd_lex::{Terminal, Token, TokenKind};
 
 pub fn is_as(kind: &TokenKind) -> bool
     ensures { result ≡ spec.is_as kind.now }
@@ -89,5 +89,15 @@ pub fn is_same(kind: &TokenKind, other: &TokenKind) -> bool
             TokenKind::Number(second) => *number == *second,
             _ => false,
         },
+    }
+}
+
+/// Whether SELECT stands first.
+pub fn starts_with_select(tokens: &[Token]) -> bool
+    ensures { result ≡ spec.begins spec.is_select tokens.now }
+{
+    match tokens {
+        [first, ..] => is_select(&first.kind),
+        [] => false,
     }
 }

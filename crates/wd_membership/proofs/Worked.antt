@@ -4,9 +4,9 @@ use Rattle.std.specs.Fmt.{digits}
 use Rattle.wd_clauses.specs.Reach as clauses
 use Rattle.wd_operands.specs.Operands as operands
 use Rattle.wd_operands.specs.Nests.{nest_length, nest_from}
+use Rattle.wd_distinct_on.specs.Selects.{respelled_below}
 use Rattle.wd_using.specs.Pieces.{pieces_at}
 use Rattle.wd_using.specs.Reach as level
-use Rattle.wd_using.specs.Respelled.{respelled_below}
 use Rattle.wd_membership.specs.Conjuncts.{conjuncts_at}
 use Rattle.wd_membership.specs.Examples.{MembershipComesOut}
 use Rattle.wd_membership.specs.Memberships.{membership_at}

@@ -2,15 +2,15 @@
 -- for each, and the conjunct compares with it. Its selects are respelled from the last to the first, so that each is respelled
 -- before the one that it stands in. A select is left as it is where an item stands for the columns of all tables; and the query
 -- is, where it has such a name as those that are added.
-use Rattle.std.specs.Prelude.{ℕ, if◌then◌else◌, nat_lt, false, List, ◌++◌, length, take, drop, Option, Some, None, Result, Err}
+use Rattle.std.specs.Prelude.{ℕ, if◌then◌else◌, false, List, ◌++◌, take, drop, Option, Some, None, Result}
 use Rattle.wd_lex.specs.declared.token.Token.{Token}
 use Rattle.wd_clauses.specs.declared.error.RespellError.{RespellError}
-use Rattle.wd_clauses.specs.declared.error.RespellError.TheVariants.{TooLong}
-use Rattle.wd_clauses.specs.Given.{most_tokens}
+use Rattle.wd_distinct_on.specs.Kinds.{begins, is_select}
 use Rattle.wd_distinct_on.specs.Respelled.{◌>>=◌}
+use Rattle.wd_distinct_on.specs.Selects.{respelled_backwards}
 use Rattle.wd_using.specs.Kinds.{has}
 use Rattle.wd_using.specs.Pieces.{Pieces}
-use Rattle.wd_using.specs.Respelled.{most_selects, respelled_below}
+use Rattle.wd_using.specs.Respelled.{most_selects}
 use Rattle.wd_membership.specs.Conjuncts.{Conjunct, conjuncts}
 use Rattle.wd_membership.specs.Kinds.{has_all, is_ours}
 use Rattle.wd_membership.specs.Memberships.{has_membership, members}
@@ -30,10 +30,10 @@ respelled_select front select =
 unfoldable pub respelled_at : ℕ → List Token → Option (List Token)
 respelled_at place tokens = select_at (drop place tokens) >>= respelled_select (take place tokens)
 
--- the most selects of a query that are respelled: none, where it has a name as those that are added
+-- the most selects of a query that are looked at: none, where it has a name as those that are added
 abbrev pub selects_of : List Token → ℕ
 selects_of tokens = if has is_ours tokens then 0 else most_selects
 
 -- a query without memberships
 abbrev pub respelled : List Token → Result (List Token) RespellError
-respelled tokens = if nat_lt most_tokens (length tokens) then Err TooLong else respelled_below respelled_at (selects_of tokens) (length tokens) tokens
+respelled tokens = respelled_backwards (begins is_select) respelled_at (selects_of tokens) tokens

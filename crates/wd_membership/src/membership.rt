@@ -12,9 +12,10 @@ use crate::kind::{begins_star, is_end, is_in};
 use crate::query::query_in;
 use std::alloc::{AllocError, Global};
 use wd_clauses::{Stop, split};
+use wd_distinct_on::cut;
 use wd_lex::Token;
 use wd_operands::operand_length;
-use wd_using::{Extent, Select, behind_as, cut};
+use wd_using::{Extent, Select, behind_as};
 
 /// A test by which a row is among others.
 #[derive(Clone, Copy, PartialEq, Eq)]

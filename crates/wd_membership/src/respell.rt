@@ -12,15 +12,13 @@ use crate::membership::{has_membership, members};
 use crate::query::select_at;
 use crate::write::written;
 use std::alloc::Global;
-use wd_clauses::{RespellError, Stop, copied, split};
+use wd_clauses::{RespellError, Stop, split};
+use wd_distinct_on::{Selects, cut, respelled_backwards, starts_with_select};
 use wd_lex::Token;
-use wd_using::{Select, cut};
+use wd_using::Select;
 
-// The most selects that are respelled.
-const MOST_SELECTS: usize = 64;
-
-// The most tokens of a query.
-const MOST_TOKENS: usize = 65_536;
+// The most selects that are looked at.
+const MOST_SELECTS: usize = 128;
 
 /// What stands for a select behind these tokens, if one of its conjuncts is a membership.
 fn if_any(
@@ -80,36 +78,42 @@ fn respelled_at(
     }
 }
 
-/// The most selects of a query that are respelled.
+/// The most selects of a query that are looked at.
 fn selects_of(tokens: &[Token]) -> usize
     ensures { result ≡ spec.selects_of tokens.now }
 {
     if has_ours(tokens) { 0 } else { MOST_SELECTS }
 }
 
+/// Selects with memberships in their WHERE clauses.
+#[derive(Clone, Copy)]
+struct Memberships;
+
+impl Selects for Memberships {
+    ghost use Rattle.wd_distinct_on.specs.Kinds.{begins, is_select};
+    ghost use Rattle.wd_membership.specs.Respelled as spec;
+
+    ghost starts = { λ _. begins is_select };
+
+    ghost respelled = { λ _. spec.respelled_at };
+
+    fn begins(&self, tokens: &[Token]) -> bool {
+        starts_with_select(tokens)
+    }
+
+    fn respelled_at(
+        &self,
+        alloc: Global,
+        place: usize,
+        tokens: &[Token],
+    ) -> Result<Option<Vec<Token>>, RespellError> {
+        respelled_at(alloc, place, tokens)
+    }
+}
+
 /// The query without memberships among the conjuncts of its WHERE clauses, as far as they are read.
-#[tactic(auto, unfolding(wd_using::specs::Respelled::respelled_below))]
 pub fn without_membership(alloc: Global, tokens: &[Token]) -> Result<Vec<Token>, RespellError>
     ensures { Gives (λ x. x.items) result (spec.respelled tokens.now) }
 {
-    if tokens.len() > MOST_TOKENS {
-        return Err(RespellError::TooLong);
-    }
-    let mut query = copied(alloc, tokens)?;
-    let mut left = selects_of(tokens);
-    let mut place = tokens.len();
-    while place > 0 {
-        if left == 0 {
-            return Ok(query);
-        }
-        place -= 1;
-        if let Some(next) = respelled_at(alloc, place, &query)? {
-            if next.len() > MOST_TOKENS {
-                return Err(RespellError::TooLong);
-            }
-            query = next;
-            left -= 1;
-        }
-    }
-    Ok(query)
+    respelled_backwards(alloc, &Memberships, selects_of(tokens), tokens)
 }

@@ -1,3 +1,2 @@
-pub mod BelowFacts
 pub mod JoinFacts
 pub mod Worked

@@ -2,11 +2,12 @@
 use Rattle.std.proofs.Common.{refl}
 use Rattle.wd_clauses.specs.Parts.{parts_at}
 use Rattle.wd_clauses.specs.Reach.{closing_from, reach_from}
+use Rattle.wd_distinct_on.specs.Selects.{respelled_below}
 use Rattle.wd_using.specs.Examples.{UsingComesOut}
 use Rattle.wd_using.specs.Joins.{joined_tables, source_at, table_at}
 use Rattle.wd_using.specs.Pieces.{pieces_at}
 use Rattle.wd_using.specs.Reach as level
-use Rattle.wd_using.specs.Respelled.{respelled_at, respelled_below}
+use Rattle.wd_using.specs.Respelled.{respelled_at}
 use Rattle.wd_using.specs.Written.{qualified}
 
 pub using_comes_out : UsingComesOut

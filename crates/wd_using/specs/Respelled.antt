@@ -1,15 +1,14 @@
 -- A query without USING. FROM a JOIN b USING ( k ) is FROM a JOIN b ON a.k = b.k, and k is a.k in each clause of the select.
 -- A select is left as it is where its tables or the table of a merged column are not clear, where an item stands for all
 -- columns, or where an item may have the name of a merged column by AS, behind its value, or after a function.
-use Rattle.std.specs.Prelude.{ℕ, zero, suc, ◌-◌, ◌&&◌, ◌||◌, ◌==◌, if◌then◌else◌, nat_lt, Bool, true, false, List, [], ◌∷◌, ◌++◌, length, take, drop, Option, Some, None, Result, Ok, Err}
+use Rattle.std.specs.Prelude.{ℕ, ◌&&◌, ◌||◌, if◌then◌else◌, nat_lt, Bool, true, false, List, [], ◌∷◌, ◌++◌, length, take, drop, Option, Some, None, Result}
 use Rattle.wd_lex.specs.declared.token.TokenKind.{TokenKind}
 use Rattle.wd_lex.specs.declared.token.Token.{Token}
 use Rattle.wd_schema.specs.Tables.{TableRule}
 use Rattle.wd_clauses.specs.declared.error.RespellError.{RespellError}
-use Rattle.wd_clauses.specs.declared.error.RespellError.TheVariants.{TooLong}
-use Rattle.wd_clauses.specs.Given.{most_tokens}
-use Rattle.wd_distinct_on.specs.Kinds.{begins}
+use Rattle.wd_distinct_on.specs.Kinds.{begins, is_select}
 use Rattle.wd_distinct_on.specs.Respelled.{◌>>=◌}
+use Rattle.wd_distinct_on.specs.Selects.{respelled_backwards}
 use Rattle.wd_with.specs.Derived.{goes_on}
 use Rattle.wd_using.specs.Kinds.{begins_columns, ends_value, is_star}
 use Rattle.wd_using.specs.Joins.{JoinedTable, joined_tables, most_tables}
@@ -58,21 +57,10 @@ respelled_select schema front select = joined_tables schema most_tables select.t
 unfoldable pub respelled_at : List TableRule → ℕ → List Token → Option (List Token)
 respelled_at schema place tokens = select_at (drop place tokens) >>= λ select. respelled_select schema (take place tokens) select
 
--- the most selects that are respelled (this project's choice)
+-- the most selects that are looked at (this project's choice)
 abbrev pub most_selects : ℕ
-most_selects = 64
-
--- on with a select less where one was respelled, if the query is not too long by it
-abbrev pub turned : (ℕ → List Token → Result (List Token) RespellError) → ℕ → List Token → Option (List Token) → Result (List Token) RespellError
-turned go left tokens None = go left tokens
-turned go left tokens (Some new) = if nat_lt most_tokens (length new) then Err TooLong else go (left - 1) new
-
--- by what respells the select that begins at a place: the selects that begin at the first so many places, from the last to the
--- first, and at most so many of them
-unfoldable pub respelled_below : (ℕ → List Token → Option (List Token)) → ℕ → ℕ → List Token → Result (List Token) RespellError
-respelled_below at left zero tokens = Ok tokens
-respelled_below at left (suc place) tokens = if left == 0 then Ok tokens else turned (λ fewer new. respelled_below at fewer place new) left tokens (at place tokens)
+most_selects = 128
 
 -- a query without USING
 abbrev pub respelled : List TableRule → List Token → Result (List Token) RespellError
-respelled schema tokens = if nat_lt most_tokens (length tokens) then Err TooLong else respelled_below (respelled_at schema) most_selects (length tokens) tokens
+respelled schema tokens = respelled_backwards (begins is_select) (respelled_at schema) most_selects tokens

@@ -13,19 +13,16 @@ use crate::merge::{Merged, merged_of, names_in, table_of};
 use crate::select::{Select, select_at};
 use crate::write::written;
 use std::alloc::Global;
-use wd_clauses::{RespellError, copied};
-use wd_distinct_on::cut;
+use wd_clauses::RespellError;
+use wd_distinct_on::{Selects, cut, respelled_backwards, starts_with_select};
 use wd_lex::{Token, TokenKind};
 use wd_schema::Schema;
 
-// The most selects that are respelled.
-const MOST_SELECTS: usize = 64;
+// The most selects that are looked at.
+const MOST_SELECTS: usize = 128;
 
 // The most merged columns of a select.
 const MOST_MERGED: usize = 64;
-
-// The most tokens of a query.
-const MOST_TOKENS: usize = 65_536;
 
 /// Whether a name is that of a merged column.
 fn is_merged(name: &TokenKind, merged: &[Merged]) -> bool
@@ -145,8 +142,36 @@ fn respelled_at(
     }
 }
 
+/// Selects whose tables are joined USING columns, over a schema.
+#[derive(Clone, Copy)]
+struct Using<'s> {
+    schema: &'s Schema,
+}
+
+impl<'s> Selects for Using<'s> {
+    ghost use Rattle.wd_distinct_on.specs.Kinds.{begins, is_select};
+    ghost use Rattle.wd_schema.specs.Schemas.{schema_of};
+    ghost use Rattle.wd_using.specs.Respelled as spec;
+
+    ghost starts = { λ _. begins is_select };
+
+    ghost respelled = { λ using. spec.respelled_at (schema_of using.schema.now) };
+
+    fn begins(&self, tokens: &[Token]) -> bool {
+        starts_with_select(tokens)
+    }
+
+    fn respelled_at(
+        &self,
+        alloc: Global,
+        place: usize,
+        tokens: &[Token],
+    ) -> Result<Option<Vec<Token>>, RespellError> {
+        respelled_at(alloc, self.schema, place, tokens)
+    }
+}
+
 /// The query without USING, as far as it is clear which columns it merges.
-#[tactic(auto, unfolding(crate::specs::Respelled::respelled_below))]
 pub fn without_using(
     alloc: Global,
     schema: &Schema,
@@ -154,24 +179,5 @@ pub fn without_using(
 ) -> Result<Vec<Token>, RespellError>
     ensures { Gives (λ x. x.items) result (spec.respelled (schema_of schema.now) tokens.now) }
 {
-    if tokens.len() > MOST_TOKENS {
-        return Err(RespellError::TooLong);
-    }
-    let mut query = copied(alloc, tokens)?;
-    let mut left = MOST_SELECTS;
-    let mut place = tokens.len();
-    while place > 0 {
-        if left == 0 {
-            return Ok(query);
-        }
-        place -= 1;
-        if let Some(next) = respelled_at(alloc, schema, place, &query)? {
-            if next.len() > MOST_TOKENS {
-                return Err(RespellError::TooLong);
-            }
-            query = next;
-            left -= 1;
-        }
-    }
-    Ok(query)
+    respelled_backwards(alloc, &Using { schema }, MOST_SELECTS, tokens)
 }
