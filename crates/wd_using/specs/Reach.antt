@@ -1,4 +1,5 @@
--- How far a table of a FROM clause reaches, with its condition, how far a conjunct does, and how far a level does.
+-- How far parts of a select reach: a table of a FROM clause with its condition, a conjunct, a level, and what stands before certain
+-- words.
 use Rattle.std.specs.Prelude.{ℕ, ◌+◌, ◌==◌, ◌||◌, ◌&&◌, if◌then◌else◌, Bool, false, List, [], ◌∷◌}
 use Rattle.wd_lex.specs.declared.token.TokenKind.{TokenKind}
 use Rattle.wd_lex.specs.declared.token.Token.{Token}

@@ -1,4 +1,4 @@
-//! How far a table of a FROM clause reaches, with its condition, how far a conjunct does, and how far a level does.
+//! How far parts of a select reach: a table of a FROM clause with its condition, a conjunct, a level, and what stands before certain words.
 
 ghost use Rattle.std.specs.Prelude.{◌≡◌, ◌+◌, ◌<◌, ◌≤◌, ◌^◌, length, take, drop};
 ghost use Rattle.wd_clauses.specs.Reach as clauses;

@@ -1,7 +1,7 @@
 //! JOIN .. USING by ON: `FROM a JOIN b USING ( k )` is `FROM a JOIN b ON a.k = b.k`, and `k` is `a.k` in each clause of the
 //! select. `select` reads the pieces of a select, `join` its tables, each of which `source` finds in a schema or derives, `merge` finds the table of each merged column,
 //! `write` writes the select with them, and `respell` goes through the selects of a query, the last one first. `level` says how
-//! far a table and a level reach, `kind` what single tokens are; `laws` has worked queries.
+//! far parts of a select reach, `kind` what single tokens are; `laws` has worked queries.
 #![tactic(auto)]
 
 mod join;
