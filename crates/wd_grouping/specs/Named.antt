@@ -16,7 +16,7 @@ abbrev pub operand : Operand → replaced.Operand
 operand found = record { name = found.name.now; count = found.count }
 
 abbrev pub one_table : OneTable → pieces.OneTable
-one_table one = record { from = one.from.now; alias = one.alias.now }
+one_table one = record { from = one.from.now; alias = one.alias.now; qualifier = option_map (λ table. table.now) one.qualifier }
 
 abbrev pub grouped_pieces : Grouped → pieces.GroupedPieces
 grouped_pieces grouped = record {
