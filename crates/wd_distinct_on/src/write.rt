@@ -52,11 +52,7 @@ pub fn add_terminals(
 }
 
 /// Adds a copy of a token, with the place of a word.
-pub fn add_placed(
-    written: &mut Vec<Token>,
-    token: &Token,
-    word: &Token,
-) -> Result<(), RespellError>
+pub fn add_placed(written: &mut Vec<Token>, token: &Token, word: &Token) -> Result<(), RespellError>
     ensures { Writes written.old.items written.new.items result (spec.placed token.now word.now ∷ []) }
 {
     let copy = copy_token(token)?;

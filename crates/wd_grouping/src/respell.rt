@@ -199,10 +199,7 @@ impl Selects for ExpressionKeys {
 }
 
 /// The query with columns for the keys of GROUP BY, as far as its selects are read.
-pub fn without_expression_keys(
-    alloc: Global,
-    tokens: &[Token],
-) -> Result<Vec<Token>, RespellError>
+pub fn without_expression_keys(alloc: Global, tokens: &[Token]) -> Result<Vec<Token>, RespellError>
     ensures { Gives (λ x. x.items) result (spec.respelled tokens.now) }
 {
     respelled_backwards(alloc, &ExpressionKeys, MOST_SELECTS, tokens)

@@ -220,7 +220,14 @@ fn add_head(
     ensures { Writes written.old.items written.new.items result (spec.head (grouped_pieces select.now) (one_table one.now) (map (λ item. item.now) items.now) (map group_key keys.now)) }
 {
     add_select(written, select)?;
-    add_items(alloc, written, keys, one.qualifier, select.select.select, items)?;
+    add_items(
+        alloc,
+        written,
+        keys,
+        one.qualifier,
+        select.select.select,
+        items,
+    )?;
     add_table(alloc, written, select, one, keys)?;
     Ok(())
 }
@@ -236,7 +243,14 @@ fn add_tail(
     ensures { Writes written.old.items written.new.items result (spec.tail (grouped_pieces select.now) (one_table one.now) (map group_key keys.now)) }
 {
     add_grouped(alloc, written, select, one.qualifier, keys)?;
-    add_replaced(alloc, written, keys, one.qualifier, &select.select.select.kind, select.later)?;
+    add_replaced(
+        alloc,
+        written,
+        keys,
+        one.qualifier,
+        &select.select.select.kind,
+        select.later,
+    )?;
     add_all(written, select.select.after)?;
     Ok(())
 }
