@@ -1,5 +1,5 @@
 -- Parts of a select as they are read, without where they lie in memory.
-use Rattle.std.specs.Prelude.{Option, option_map}
+use Rattle.std.specs.Prelude.{option_map}
 use Rattle.wd_using.specs.Named as using
 use Rattle.wd_grouping.specs.declared.key.Key.{Key}
 use Rattle.wd_grouping.specs.declared.replace.Operand.{Operand}

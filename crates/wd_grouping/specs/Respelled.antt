@@ -1,6 +1,6 @@
 -- A query whose keys of GROUP BY are columns. A select is left as it is where its keys are columns already or lists of keys, where an
 -- item stands for all columns, where a number is that of no item, and where there are too many expressions.
-use Rattle.std.specs.Prelude.{ℕ, ◌||◌, if◌then◌else◌, Bool, List, [], ◌∷◌, ◌++◌, take, drop, Option, Some, None, Result}
+use Rattle.std.specs.Prelude.{ℕ, ◌||◌, if◌then◌else◌, List, [], ◌∷◌, ◌++◌, take, drop, Option, Some, None, Result}
 use Rattle.wd_lex.specs.declared.token.Token.{Token}
 use Rattle.wd_clauses.specs.declared.error.RespellError.{RespellError}
 use Rattle.wd_clauses.specs.Parts.{parts}
