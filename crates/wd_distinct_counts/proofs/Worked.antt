@@ -14,6 +14,8 @@ unfolding parts_at closing_from reach_from respelled_below select_at level.reach
 counts_come_out = record {
   by_a_key = λ at. refl;
   of_all = λ at. refl;
+  of_two_tables = λ at. refl;
+  another_table_stays = λ at. refl;
   another_column_stays = λ at. refl;
   another_aggregate_stays = λ at. refl;
 }

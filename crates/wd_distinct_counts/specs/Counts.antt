@@ -6,11 +6,11 @@ use Rattle.wd_lex.specs.declared.token.TokenKind.TheVariants as t
 use Rattle.wd_lex.specs.declared.token.Token.{Token}
 use Rattle.wd_clauses.specs.Reach.{closes, opens}
 use Rattle.wd_distinct_on.specs.Keys.{strip}
-use Rattle.wd_distinct_on.specs.Kinds.{begins, is_distinct}
+use Rattle.wd_distinct_on.specs.Kinds.{begins, is_distinct, is_dot}
 use Rattle.wd_distinct_on.specs.Respelled.{◌>>=◌}
 use Rattle.wd_grouping.specs.Keys.{is_column}
 use Rattle.wd_grouping.specs.Kinds.{is_over}
-use Rattle.wd_grouping.specs.Replaced.{or_else}
+use Rattle.wd_grouping.specs.Replaced.{its_table, or_else}
 
 abbrev pub is_count : TokenKind → Bool
 is_count (t.Word text) = bytes_eq text (codes "count")
@@ -76,7 +76,17 @@ column_in so_far before (token ∷ tokens) =
     if begins_call before token tokens then (joined so_far (counted_at before tokens) >>= λ column. column_in (Some column) token.kind tokens)
     else column_in so_far token.kind tokens
 
--- tokens without DISTINCT in such calls
-abbrev pub counted : TokenKind → List Token → List Token
-counted before [] = []
-counted before (token ∷ tokens) = if opens before && is_distinct token.kind then counted token.kind tokens else token ∷ counted token.kind tokens
+-- tokens without DISTINCT in such calls; the name of a table becomes that of the one which stands for several
+abbrev pub counted : Option Token → TokenKind → List Token → List Token
+counted table before [] = []
+counted table before (token ∷ tokens) = if opens before && is_distinct token.kind then counted table token.kind tokens else its_table table token tokens ∷ counted table token.kind tokens
+
+-- it is one of the columns
+abbrev pub is_among : List Token → List (List Token) → Bool
+is_among column [] = false
+is_among column (other ∷ others) = if is_same_column other column then true else is_among column others
+
+-- each column that stands with its table is one of those
+abbrev pub are_theirs : List (List Token) → List Token → Bool
+are_theirs columns [] = true
+are_theirs columns (token ∷ tokens) = if begins is_dot tokens && not (is_among (take 3 (token ∷ tokens)) columns) then false else are_theirs columns tokens

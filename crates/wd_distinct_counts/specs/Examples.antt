@@ -4,7 +4,7 @@ use Rattle.wd_lex.specs.declared.token.Terminal.TheVariants as m
 use Rattle.wd_lex.specs.declared.token.Span.{Span}
 use Rattle.wd_lex.specs.declared.token.TokenKind.{TokenKind}
 use Rattle.wd_lex.specs.declared.token.TokenKind.TheVariants as t
-use Rattle.wd_using.specs.Examples.{a, all_at, its, k, mark, n}
+use Rattle.wd_using.specs.Examples.{a, all_at, b, its, k, mark, n}
 use Rattle.wd_distinct_counts.specs.Respelled.{respelled}
 
 -- tokens that say the first are written as tokens that say the second
@@ -37,6 +37,13 @@ grouped =
 abbrev pub with_call : List TokenKind → List TokenKind
 with_call call = select (count_distinct (n ∷ [])) ++ mark m.Comma ∷ call ++ mark m.From ∷ a ∷ []
 
+abbrev pub both : TokenKind
+both = t.Quoted (codes "grouped")
+
+-- SELECT a.k , COUNT ( DISTINCT a.n ) FROM a, b GROUP BY b.k
+abbrev pub other_table : List TokenKind
+other_table = mark m.Select ∷ its a k ++ mark m.Comma ∷ count_distinct (its a n) ++ mark m.From ∷ a ∷ mark m.Comma ∷ b ∷ by_keys (its b k)
+
 pub record CountsComeOut : Type 0 where
   -- SELECT k , COUNT ( DISTINCT a.n ) FROM a WHERE k GROUP BY k HAVING COUNT ( DISTINCT a.n ) becomes
   -- SELECT k , COUNT ( a.n ) FROM ( SELECT k , a.n FROM a WHERE k GROUP BY k , a.n ) AS a GROUP BY k HAVING COUNT ( a.n )
@@ -45,5 +52,12 @@ pub record CountsComeOut : Type 0 where
   -- SELECT COUNT ( DISTINCT n ) FROM a becomes SELECT COUNT ( n ) FROM ( SELECT n FROM a GROUP BY n ) AS a
   pub of_all : Becomes (mark m.Select ∷ count_distinct (n ∷ []) ++ mark m.From ∷ a ∷ [])
       (mark m.Select ∷ count (n ∷ []) ++ mark m.From ∷ mark m.LeftBracket ∷ mark m.Select ∷ n ∷ mark m.From ∷ a ∷ by_keys (n ∷ mark m.RightBracket ∷ mark m.As ∷ a ∷ []))
+  -- SELECT b.k , COUNT ( DISTINCT a.n ) FROM a, b GROUP BY b.k becomes
+  -- SELECT "grouped".k , COUNT ( "grouped".n ) FROM ( SELECT b.k , a.n FROM a, b GROUP BY b.k , a.n ) AS "grouped" GROUP BY "grouped".k
+  pub of_two_tables : Becomes (mark m.Select ∷ its b k ++ mark m.Comma ∷ count_distinct (its a n) ++ mark m.From ∷ a ∷ mark m.Comma ∷ b ∷ by_keys (its b k))
+      (mark m.Select ∷ its both k ++ mark m.Comma ∷ count (its both n) ++ mark m.From ∷ mark m.LeftBracket ∷ mark m.Select ∷ its b k ++ mark m.Comma ∷ its a n
+      ++ mark m.From ∷ a ∷ mark m.Comma ∷ b ∷ by_keys (its b k) ++ mark m.Comma ∷ its a n ++ mark m.RightBracket ∷ mark m.As ∷ both ∷ by_keys (its both k))
+  -- SELECT a.k , COUNT ( DISTINCT a.n ) FROM a, b GROUP BY b.k stays
+  pub another_table_stays : Becomes other_table other_table
   pub another_column_stays : Becomes (with_call (count_distinct (k ∷ []))) (with_call (count_distinct (k ∷ [])))
   pub another_aggregate_stays : Becomes (with_call (count (n ∷ []))) (with_call (count (n ∷ [])))

@@ -1,5 +1,5 @@
 -- The pieces of SELECT [DISTINCT] items FROM tables [WHERE ..] [GROUP BY keys] [HAVING ..] ..
-use Rattle.std.specs.Prelude.{ℕ, ◌+◌, ◌&&◌, if◌then◌else◌, List, [], ◌∷◌, take, drop}
+use Rattle.std.specs.Prelude.{◌&&◌, if◌then◌else◌, List, [], ◌∷◌, take, drop}
 use Rattle.wd_lex.specs.declared.token.Token.{Token}
 use Rattle.wd_clauses.specs.declared.level.Stop.TheVariants.{Later}
 use Rattle.wd_clauses.specs.Reach.{reach}

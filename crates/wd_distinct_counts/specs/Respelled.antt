@@ -1,7 +1,7 @@
 -- A query without COUNT( DISTINCT c ). A select is left as it is where it has another aggregate, where two such calls have not the
--- same column, where a key is no column, and where its FROM clause has more than one table. Where c is a key too, or two keys have one
--- name, the profile refuses what is written.
-use Rattle.std.specs.Prelude.{ℕ, if◌then◌else◌, Bool, true, false, List, [], ◌∷◌, ◌++◌, take, drop, Option, Some, None, Result}
+-- same column, where a key is no column, and where a column with its table is neither a key nor c over several tables. Where c is a key
+-- too, or two keys have one name, the profile refuses what is written.
+use Rattle.std.specs.Prelude.{ℕ, ◌&&◌, if◌then◌else◌, Bool, true, false, List, [], ◌∷◌, ◌++◌, take, drop, Option, Some, None, Result}
 use Rattle.wd_lex.specs.declared.token.Token.{Token}
 use Rattle.wd_clauses.specs.declared.error.RespellError.{RespellError}
 use Rattle.wd_distinct_on.specs.Kinds.{begins, is_select}
@@ -9,8 +9,8 @@ use Rattle.wd_distinct_on.specs.Respelled.{◌>>=◌, parts_in}
 use Rattle.wd_distinct_on.specs.Selects.{respelled_backwards}
 use Rattle.wd_using.specs.Pieces.{Pieces, select_at}
 use Rattle.wd_grouping.specs.Keys.{is_column}
-use Rattle.wd_grouping.specs.Pieces.{OneTable, one_table}
-use Rattle.wd_distinct_counts.specs.Counts.{column_in}
+use Rattle.wd_grouping.specs.Pieces.{OneTable, grouped_tables, one_table}
+use Rattle.wd_distinct_counts.specs.Counts.{are_theirs, column_in}
 use Rattle.wd_distinct_counts.specs.Pieces.{Grouping, grouping_of}
 use Rattle.wd_distinct_counts.specs.Written.{written}
 
@@ -18,15 +18,26 @@ abbrev pub are_columns : List (List Token) → Bool
 are_columns [] = true
 are_columns (key ∷ keys) = if is_column key then are_columns keys else false
 
--- what stands for a select behind these tokens, if its keys are columns
-abbrev pub if_columns : List Token → Pieces → Grouping → List Token → OneTable → List (List Token) → Option (List Token)
-if_columns front select grouping column one keys = if are_columns keys then Some (front ++ written select grouping one column) else None
+-- each column that stands with its table is one of those
+abbrev pub are_known : Pieces → Grouping → List (List Token) → Bool
+are_known select grouping columns = are_theirs columns select.items && are_theirs columns grouping.later
 
-abbrev pub with_table : List Token → Pieces → Grouping → List Token → OneTable → Option (List Token)
-with_table front select grouping column one = parts_in grouping.keys >>= if_columns front select grouping column one
+-- what is written over several tables, if each column that stands with its table is a key or the one that is counted
+abbrev pub over_tables : List Token → Pieces → Grouping → List Token → List (List Token) → List Token → Option (List Token)
+over_tables front select grouping column keys [] = None
+over_tables front select grouping column keys (from ∷ tables) =
+    if are_known select grouping (column ∷ keys) then Some (front ++ written select grouping (grouped_tables from) column) else None
+
+abbrev pub over_table : List Token → Pieces → Grouping → List Token → List (List Token) → Option OneTable → Option (List Token)
+over_table front select grouping column keys None = over_tables front select grouping column keys select.tables
+over_table front select grouping column keys (Some one) = Some (front ++ written select grouping one column)
+
+-- what stands for a select behind these tokens, if its keys are columns
+abbrev pub if_columns : List Token → Pieces → Grouping → List Token → List (List Token) → Option (List Token)
+if_columns front select grouping column keys = if are_columns keys then over_table front select grouping column keys (one_table select.tables) else None
 
 abbrev pub with_column : List Token → Pieces → Grouping → List Token → Option (List Token)
-with_column front select grouping column = one_table select.tables >>= with_table front select grouping column
+with_column front select grouping column = parts_in grouping.keys >>= if_columns front select grouping column
 
 -- the one column that is counted in the items and in the clauses behind GROUP BY, if any
 abbrev pub column_of : Pieces → Grouping → Option (Option (List Token))

@@ -1,12 +1,13 @@
 -- The select that stands for one with COUNT( DISTINCT c ): it counts c over
 -- FROM ( SELECT keys, c FROM .. WHERE .. GROUP BY keys, c ) AS a, in which each value of c stands once in each group.
-use Rattle.std.specs.Prelude.{List, [], ◌∷◌, ◌++◌}
+use Rattle.std.specs.Prelude.{List, [], ◌∷◌, ◌++◌, Option}
 use Rattle.wd_lex.specs.declared.token.Terminal.TheVariants as m
 use Rattle.wd_lex.specs.declared.token.Token.{Token}
 use Rattle.wd_clauses.specs.Added.{added}
 use Rattle.wd_distinct_on.specs.Written.{all_added, all_placed}
 use Rattle.wd_using.specs.Pieces.{Pieces}
 use Rattle.wd_grouping.specs.Pieces.{OneTable}
+use Rattle.wd_grouping.specs.Replaced.{qualified}
 use Rattle.wd_grouping.specs.Written.{closing}
 use Rattle.wd_distinct_counts.specs.Counts.{counted}
 use Rattle.wd_distinct_counts.specs.Pieces.{Grouping, condition_of}
@@ -33,13 +34,13 @@ abbrev pub by_columns : OneTable → List Token → List Token → List Token
 by_columns one keys column = all_added (m.Group ∷ m.By ∷ []) one.from ++ columns keys column one.from ++ closing one.alias one.from
 
 -- SELECT [DISTINCT] items
-abbrev pub head : Pieces → List Token
-head select = select.select ∷ (select.distinct ++ counted select.select.kind select.items)
+abbrev pub head : Pieces → Option Token → List Token
+head select table = select.select ∷ (select.distinct ++ counted table select.select.kind select.items)
 
 -- [GROUP BY keys] and the clauses behind them
-abbrev pub tail : Pieces → Grouping → List Token
-tail select grouping = grouping.words ++ grouping.keys ++ counted select.select.kind grouping.later ++ select.after
+abbrev pub tail : Pieces → Grouping → Option Token → List Token
+tail select grouping table = grouping.words ++ qualified table grouping.keys ++ counted table select.select.kind grouping.later ++ select.after
 
 -- the whole select, and what follows it
 abbrev pub written : Pieces → Grouping → OneTable → List Token → List Token
-written select grouping one column = head select ++ inner select one grouping.keys column ++ by_columns one grouping.keys column ++ tail select grouping
+written select grouping one column = head select one.qualifier ++ inner select one grouping.keys column ++ by_columns one grouping.keys column ++ tail select grouping one.qualifier

@@ -1,14 +1,14 @@
 //! The calls COUNT( DISTINCT c ) among tokens.
 
-ghost use Rattle.std.specs.Prelude.{◌≡◌, option_map};
+ghost use Rattle.std.specs.Prelude.{◌≡◌, ◌∷◌, map, option_map};
 ghost use Rattle.wd_clauses.specs.Given.{Finds, Writes};
 ghost use Rattle.wd_clauses.specs.Reach as reach;
 ghost use Rattle.wd_distinct_counts.specs.Counts as spec;
 ghost use Rattle.wd_distinct_on.specs.Kinds as kinds;
 
-use wd_clauses::{RespellError, add, copy_token};
+use wd_clauses::RespellError;
 use wd_distinct_on::{cut, strip};
-use wd_grouping::{is_column, is_over};
+use wd_grouping::{add_its_table, begins_dot, is_column, is_over};
 use wd_lex::{Terminal, Token, TokenKind};
 use wd_using::{begins_distinct, opens};
 
@@ -163,22 +163,58 @@ pub fn column_in<'t>(
     Some(column)
 }
 
-/// Adds tokens without DISTINCT in such calls.
+/// Adds tokens without DISTINCT in such calls; the name of a table becomes that of the one which stands for several.
 pub fn add_counted(
     written: &mut Vec<Token>,
+    table: Option<&Token>,
     before: &TokenKind,
     tokens: &[Token],
 ) -> Result<(), RespellError>
-    ensures { Writes written.old.items written.new.items result (spec.counted before.now tokens.now) }
+    ensures { Writes written.old.items written.new.items result (spec.counted (option_map (λ table. table.now) table.entry) before.now tokens.now) }
 {
     let mut last = before;
     let mut rest = tokens;
     while let [first, after @ ..] = rest {
         if !(opens(last) && is_distinct(&first.kind)) {
-            add(written, copy_token(first)?)?;
+            add_its_table(written, table, first, after)?;
         }
         last = &first.kind;
         rest = after;
     }
     Ok(())
+}
+
+/// Whether it is one of the columns.
+fn is_among(column: &[Token], mut columns: &[&[Token]]) -> bool
+    ensures { result ≡ spec.is_among column.now (map (λ other. other.now) columns.entry.now) }
+{
+    while let [other, rest @ ..] = columns {
+        if is_same_column(other, column) {
+            return true;
+        }
+        columns = rest;
+    }
+    false
+}
+
+/// Whether it is the column, or one of those.
+fn is_one_of(found: &[Token], column: &[Token], columns: &[&[Token]]) -> bool
+    ensures { result ≡ spec.is_among found.now (column.now ∷ map (λ other. other.now) columns.now) }
+{
+    is_same_column(column, found) || is_among(found, columns)
+}
+
+/// Whether each column that stands with its table is the column, or one of those.
+pub fn are_theirs(column: &[Token], columns: &[&[Token]], tokens: &[Token]) -> bool
+    ensures { result ≡ spec.are_theirs (column.now ∷ map (λ other. other.now) columns.now) tokens.now }
+{
+    let mut rest = tokens;
+    while let [_first, after @ ..] = rest {
+        let (found, _behind) = cut(3, rest);
+        if begins_dot(after) && !is_one_of(found, column, columns) {
+            return false;
+        }
+        rest = after;
+    }
+    true
 }

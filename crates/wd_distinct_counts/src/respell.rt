@@ -1,20 +1,20 @@
 //! A query without COUNT( DISTINCT c ).
 
-ghost use Rattle.std.specs.Prelude.{◌≡◌, map, option_map, IfOk};
+ghost use Rattle.std.specs.Prelude.{◌≡◌, ◌∷◌, map, option_map, IfOk};
 ghost use Rattle.wd_clauses.specs.Given.{Finds};
 ghost use Rattle.wd_distinct_counts.specs.Named.{grouping_pieces};
 ghost use Rattle.wd_distinct_counts.specs.Respelled as spec;
 ghost use Rattle.wd_distinct_on.specs.Respelled.{Gives, MayWrite, parts_in};
-ghost use Rattle.wd_grouping.specs.Named.{one_table};
+ghost use Rattle.wd_grouping.specs.Pieces as tables;
 ghost use Rattle.wd_using.specs.Named.{pieces};
 
-use crate::count::column_in;
+use crate::count::{are_theirs, column_in};
 use crate::select::{Grouping, grouping_of};
 use crate::write::written;
 use std::alloc::{AllocError, Global};
 use wd_clauses::{RespellError, parts};
-use wd_distinct_on::{Selects, cut, respelled_backwards};
-use wd_grouping::{OneTable, begins_select, is_column, one_table};
+use wd_distinct_on::{Selects, added_name, cut, respelled_backwards};
+use wd_grouping::{begins_select, is_column, one_table, tables_called};
 use wd_lex::Token;
 use wd_using::{Select, select_at};
 
@@ -45,27 +45,59 @@ fn keys_in(alloc: Global, tokens: &[Token]) -> Result<Option<Vec<&[Token]>>, All
     Ok(keys)
 }
 
-/// What stands for a select over its one table, if its keys are columns.
-fn with_table(
+/// Whether each column that stands with its table is a key or the one that is counted.
+fn are_known(select: &Select, grouping: &Grouping, column: &[Token], keys: &[&[Token]]) -> bool
+    ensures { result ≡ spec.are_known (pieces select.now) (grouping_pieces grouping.now) (column.now ∷ map (λ key. key.now) keys.now) }
+{
+    are_theirs(column, keys, select.items) && are_theirs(column, keys, grouping.later)
+}
+
+/// What stands for a select over its several tables.
+fn over_tables(
     alloc: Global,
     front: &[Token],
     select: &Select,
     grouping: &Grouping,
     column: &[Token],
-    one: &OneTable,
+    keys: &[&[Token]],
 ) -> Result<Option<Vec<Token>>, RespellError>
-    ensures { MayWrite (λ x. x.items) result (spec.with_table front.now (pieces select.now) (grouping_pieces grouping.now) column.now (one_table one.now)) }
+    ensures { MayWrite (λ x. x.items) result (spec.over_tables front.now (pieces select.now) (grouping_pieces grouping.now) column.now (map (λ key. key.now) keys.now) select.now.tables.now) }
 {
-    match keys_in(alloc, grouping.keys)? {
-        Some(keys) if are_columns(&keys) => {
-            let tokens = written(alloc, front, select, grouping, one, column)?;
+    match select.tables {
+        [from, ..] if are_known(select, grouping, column, keys) => {
+            let alias = added_name(alloc, "grouped", from)?;
+            let one = tables_called(from, &alias);
+            let tokens = written(alloc, front, select, grouping, &one, column)?;
             Ok(Some(tokens))
         }
         _ => Ok(None),
     }
 }
 
-/// What stands for a select that counts a column.
+/// What stands for a select over its tables.
+fn over_table(
+    alloc: Global,
+    front: &[Token],
+    select: &Select,
+    grouping: &Grouping,
+    column: &[Token],
+    keys: &[&[Token]],
+) -> Result<Option<Vec<Token>>, RespellError>
+    ensures { MayWrite (λ x. x.items) result (spec.over_table front.now (pieces select.now) (grouping_pieces grouping.now) column.now (map (λ key. key.now) keys.now) (tables.one_table select.now.tables.now)) }
+{
+    match one_table(select.tables) {
+        Some(one) => {
+            let tokens = written(alloc, front, select, grouping, &one, column)?;
+            Ok(Some(tokens))
+        }
+        None => {
+            let tokens = over_tables(alloc, front, select, grouping, column, keys)?;
+            Ok(tokens)
+        }
+    }
+}
+
+/// What stands for a select that counts a column, if its keys are columns.
 fn with_column(
     alloc: Global,
     front: &[Token],
@@ -75,12 +107,12 @@ fn with_column(
 ) -> Result<Option<Vec<Token>>, RespellError>
     ensures { MayWrite (λ x. x.items) result (spec.with_column front.now (pieces select.now) (grouping_pieces grouping.now) column.now) }
 {
-    match one_table(select.tables) {
-        Some(one) => {
-            let tokens = with_table(alloc, front, select, grouping, column, &one)?;
+    match keys_in(alloc, grouping.keys)? {
+        Some(keys) if are_columns(&keys) => {
+            let tokens = over_table(alloc, front, select, grouping, column, &keys)?;
             Ok(tokens)
         }
-        None => Ok(None),
+        _ => Ok(None),
     }
 }
 

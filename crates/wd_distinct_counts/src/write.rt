@@ -1,6 +1,6 @@
 //! The select that stands for one with COUNT( DISTINCT c ).
 
-ghost use Rattle.std.specs.Prelude.{◌≡◌, ◌++◌};
+ghost use Rattle.std.specs.Prelude.{◌≡◌, ◌++◌, option_map};
 ghost use Rattle.wd_clauses.specs.Given.{Makes, Writes};
 ghost use Rattle.wd_distinct_counts.specs.Named.{grouping_pieces};
 ghost use Rattle.wd_distinct_counts.specs.Written as spec;
@@ -12,7 +12,7 @@ use crate::select::{Grouping, condition_of};
 use std::alloc::Global;
 use wd_clauses::{RespellError, add, add_all, added, copied, copy_token};
 use wd_distinct_on::{add_all_placed, add_terminals};
-use wd_grouping::{OneTable, add_closing};
+use wd_grouping::{OneTable, add_closing, add_qualified};
 use wd_lex::{Terminal, Token};
 use wd_using::Select;
 
@@ -88,12 +88,16 @@ fn add_by_columns(
 }
 
 /// Adds `SELECT [DISTINCT] items`.
-fn add_head(written: &mut Vec<Token>, select: &Select) -> Result<(), RespellError>
-    ensures { Writes written.old.items written.new.items result (spec.head (pieces select.now)) }
+fn add_head(
+    written: &mut Vec<Token>,
+    select: &Select,
+    table: Option<&Token>,
+) -> Result<(), RespellError>
+    ensures { Writes written.old.items written.new.items result (spec.head (pieces select.now) (option_map (λ table. table.now) table.entry)) }
 {
     add(written, copy_token(select.select)?)?;
     add_all(written, select.distinct)?;
-    add_counted(written, &select.select.kind, select.items)?;
+    add_counted(written, table, &select.select.kind, select.items)?;
     Ok(())
 }
 
@@ -102,12 +106,13 @@ fn add_tail(
     written: &mut Vec<Token>,
     select: &Select,
     grouping: &Grouping,
+    table: Option<&Token>,
 ) -> Result<(), RespellError>
-    ensures { Writes written.old.items written.new.items result (spec.tail (pieces select.now) (grouping_pieces grouping.now)) }
+    ensures { Writes written.old.items written.new.items result (spec.tail (pieces select.now) (grouping_pieces grouping.now) (option_map (λ table. table.now) table.entry)) }
 {
     add_all(written, grouping.words)?;
-    add_all(written, grouping.keys)?;
-    add_counted(written, &select.select.kind, grouping.later)?;
+    add_qualified(written, table, grouping.keys)?;
+    add_counted(written, table, &select.select.kind, grouping.later)?;
     add_all(written, select.after)?;
     Ok(())
 }
@@ -124,9 +129,9 @@ pub fn written(
     ensures { Makes (λ x. x.items) (λ x. x) result (front.now ++ spec.written (pieces select.now) (grouping_pieces grouping.now) (one_table one.now) column.now) }
 {
     let mut written = copied(alloc, front)?;
-    add_head(&mut written, select)?;
+    add_head(&mut written, select, one.qualifier)?;
     add_inner(&mut written, select, one, grouping.keys, column)?;
     add_by_columns(&mut written, one, grouping.keys, column)?;
-    add_tail(&mut written, select, grouping)?;
+    add_tail(&mut written, select, grouping, one.qualifier)?;
     Ok(written)
 }

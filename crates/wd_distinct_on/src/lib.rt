@@ -14,7 +14,7 @@ mod write;
 
 pub use item::{Item, column_of, item_of};
 pub use key::strip;
-pub use kind::{is_by, is_direction, starts_with_select};
+pub use kind::{is_by, is_direction, is_dot, starts_with_select};
 pub use respell::without_distinct_on;
 pub use selects::{Selects, cut, respelled_backwards};
 pub use write::{add_all_placed, add_placed, add_terminals, added_name};

@@ -17,5 +17,5 @@ expressions_come_out = record {
   number_of_an_expression = λ at. refl;
   without_a_name = λ at. refl;
   number_of_no_item_stays = λ at. refl;
-  two_tables_stay = λ at. refl;
+  two_tables = λ at. refl;
 }

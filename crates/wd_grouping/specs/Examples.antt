@@ -43,6 +43,15 @@ derived =
 abbrev pub of_two : List TokenKind
 of_two = mark m.Select ∷ its b k ++ mark m.As ∷ n ∷ mark m.From ∷ a ∷ mark m.Comma ∷ b ∷ []
 
+abbrev pub grouped : TokenKind
+grouped = t.Quoted (codes "grouped")
+
+-- SELECT "grouped".k AS n FROM ( SELECT * , k + n AS "group 1" FROM a, b ) AS "grouped"
+abbrev pub over_two : List TokenKind
+over_two =
+    mark m.Select ∷ its grouped k ++ mark m.As ∷ n ∷ mark m.From ∷ mark m.LeftBracket ∷ mark m.Select ∷ mark m.Star ∷ mark m.Comma ∷ sum ++ mark m.As ∷ group_1
+    ∷ mark m.From ∷ a ∷ mark m.Comma ∷ b ∷ mark m.RightBracket ∷ mark m.As ∷ grouped ∷ []
+
 pub record ExpressionsComeOut : Type 0 where
   -- SELECT b.k AS n FROM a, b GROUP BY 1 becomes SELECT b.k AS n FROM a, b GROUP BY b.k
   pub number_of_a_column : Becomes (of_two ++ by_key (number 1 ∷ [])) (of_two ++ by_key (its b k))
@@ -55,4 +64,6 @@ pub record ExpressionsComeOut : Type 0 where
   pub without_a_name : Becomes (mark m.Select ∷ sum ++ mark m.From ∷ a ∷ mark m.Where ∷ k ∷ by_key sum)
       (mark m.Select ∷ group_1 ∷ mark m.As ∷ t.Quoted (codes "?column?") ∷ derived ++ by_key (group_1 ∷ []))
   pub number_of_no_item_stays : Becomes (of_two ++ by_key (number 0 ∷ [])) (of_two ++ by_key (number 0 ∷ []))
-  pub two_tables_stay : Becomes (of_two ++ by_key sum) (of_two ++ by_key sum)
+  -- SELECT b.k AS n FROM a, b GROUP BY k + n, b.k becomes
+  -- SELECT "grouped".k AS n FROM ( SELECT * , k + n AS "group 1" FROM a, b ) AS "grouped" GROUP BY "group 1", "grouped".k
+  pub two_tables : Becomes (of_two ++ by_key (sum ++ mark m.Comma ∷ its b k)) (over_two ++ by_key (group_1 ∷ mark m.Comma ∷ its grouped k))

@@ -1,5 +1,5 @@
 -- Parts of a select as they are read, without where they lie in memory.
-use Rattle.std.specs.Prelude.{Option, option_map}
+use Rattle.std.specs.Prelude.{option_map}
 use Rattle.wd_using.specs.Named as using
 use Rattle.wd_grouping.specs.declared.key.Key.{Key}
 use Rattle.wd_grouping.specs.declared.replace.Operand.{Operand}
@@ -16,7 +16,7 @@ abbrev pub operand : Operand → replaced.Operand
 operand found = record { name = found.name.now; count = found.count }
 
 abbrev pub one_table : OneTable → pieces.OneTable
-one_table one = record { from = one.from.now; alias = one.alias.now }
+one_table one = record { from = one.from.now; alias = one.alias.now; qualifier = option_map (λ table. table.now) one.qualifier }
 
 abbrev pub grouped_pieces : Grouped → pieces.GroupedPieces
 grouped_pieces grouped = record {

@@ -1,10 +1,11 @@
 -- The pieces of SELECT [DISTINCT] items FROM tables [WHERE ..] GROUP BY keys [HAVING ..] .., and the one table of a FROM clause.
-use Rattle.std.specs.Prelude.{ℕ, ◌+◌, ◌==◌, ◌&&◌, if◌then◌else◌, List, [], ◌∷◌, length, take, drop, Option, Some, None}
+use Rattle.std.specs.Prelude.{ℕ, codes, ◌+◌, ◌==◌, ◌&&◌, if◌then◌else◌, List, [], ◌∷◌, length, take, drop, Option, Some, None}
 use Rattle.wd_lex.specs.declared.token.Token.{Token}
 use Rattle.wd_clauses.specs.declared.level.Stop.TheVariants.{Later}
 use Rattle.wd_clauses.specs.Names.{is_name}
 use Rattle.wd_clauses.specs.Reach.{closing, opens, reach}
 use Rattle.wd_distinct_on.specs.Kinds.{is_by}
+use Rattle.wd_distinct_on.specs.Written.{added_name}
 use Rattle.wd_using.specs.Joins.{Alias, alias_at}
 use Rattle.wd_using.specs.Pieces.{Pieces}
 use Rattle.wd_grouping.specs.Kinds.{is_group}
@@ -29,14 +30,15 @@ with_keys select condition tokens = None
 abbrev pub grouped_of : Pieces → Option GroupedPieces
 grouped_of select = with_keys select (take (reach Later select.clauses) select.clauses) (drop (reach Later select.clauses) select.clauses)
 
--- FROM, and the name by which the columns of its one table are called
+-- FROM, the name by which the columns of its one table are called, and that name again where it stands for the names of several tables
 pub record OneTable : Type 0 where
   pub from : Token
   pub alias : Token
+  pub qualifier : Option Token
 
 -- a table and its alias are all there is
 abbrev pub if_all : Token → ℕ → Alias → Option OneTable
-if_all from count alias = if alias.count == count then Some (record { from = from; alias = alias.name }) else None
+if_all from count alias = if alias.count == count then Some (record { from = from; alias = alias.name; qualifier = None }) else None
 
 -- [AS] alias behind a query in brackets
 abbrev pub behind_query : Token → Token → List Token → Option OneTable
@@ -53,3 +55,11 @@ one_table (from ∷ first ∷ tokens) =
     if opens first.kind then derived_table from first tokens (closing tokens)
     else (if is_name first.kind then if_all from (length tokens + 1) (alias_at first tokens) else None)
 one_table tokens = None
+
+-- a table of such a name, which stands for the several ones behind FROM
+abbrev pub tables_called : Token → Token → OneTable
+tables_called from alias = record { from = from; alias = alias; qualifier = Some alias }
+
+-- the table that stands for them is called "grouped"
+abbrev pub grouped_tables : Token → OneTable
+grouped_tables from = tables_called from (added_name (codes "grouped") from)

@@ -8,7 +8,8 @@ use Rattle.wd_lex.specs.declared.token.Token.{Token}
 use Rattle.wd_clauses.specs.Added.{added}
 use Rattle.wd_clauses.specs.Names.{is_name}
 use Rattle.wd_distinct_on.specs.Keys.{strip}
-use Rattle.wd_distinct_on.specs.Written.{added_name, comma_before}
+use Rattle.wd_distinct_on.specs.Kinds.{begins, is_dot}
+use Rattle.wd_distinct_on.specs.Written.{added_name, comma_before, placed}
 use Rattle.wd_using.specs.Kinds.{is_star}
 use Rattle.wd_grouping.specs.Keys.{GroupKey, begins_set, is_expression}
 use Rattle.wd_grouping.specs.Kinds.{begins_operand, ends_operand}
@@ -42,21 +43,31 @@ operand_of (key ∷ keys) tokens = or_else (operand_by key.name key.value tokens
 abbrev pub operand_at : List GroupKey → TokenKind → List Token → Option Operand
 operand_at keys before tokens = if begins_operand before then operand_of keys tokens else None
 
+-- a token before those; the name of a table becomes that of the one which stands for several
+abbrev pub its_table : Option Token → Token → List Token → Token
+its_table None token after = token
+its_table (Some table) token after = if begins is_dot after then placed table token else token
+
+abbrev pub qualified : Option Token → List Token → List Token
+qualified table [] = []
+qualified table (token ∷ tokens) = its_table table token tokens ∷ qualified table tokens
+
 -- what is written at a token, and how many further ones it stands for
-abbrev pub written_at : Token → Option Operand → List Token
-written_at token None = token ∷ []
-written_at token (Some operand) = added_name operand.name token ∷ []
+abbrev pub written_at : Option Token → Token → List Token → Option Operand → List Token
+written_at table token after None = its_table table token after ∷ []
+written_at table token after (Some operand) = added_name operand.name token ∷ []
 
 abbrev pub passed_by : Option Operand → ℕ
 passed_by None = 0
 passed_by (Some operand) = operand.count - 1
 
 -- tokens behind such a one, of which so many are passed over
-unfoldable pub replaced : List GroupKey → ℕ → TokenKind → List Token → List Token
-replaced keys passed before [] = []
-replaced keys passed before (token ∷ tokens) =
-    if passed == 0 then written_at token (operand_at keys before (token ∷ tokens)) ++ replaced keys (passed_by (operand_at keys before (token ∷ tokens))) token.kind tokens
-    else replaced keys (passed - 1) token.kind tokens
+unfoldable pub replaced : List GroupKey → Option Token → ℕ → TokenKind → List Token → List Token
+replaced keys table passed before [] = []
+replaced keys table passed before (token ∷ tokens) =
+    if passed == 0
+    then written_at table token tokens (operand_at keys before (token ∷ tokens)) ++ replaced keys table (passed_by (operand_at keys before (token ∷ tokens))) token.kind tokens
+    else replaced keys table (passed - 1) token.kind tokens
 
 -- an item is nothing but an expression
 abbrev pub if_whole : List Token → Option Operand → Option (List ℕ)
@@ -70,13 +81,13 @@ whole keys item = if_whole item (operand_of keys item)
 abbrev pub unnamed : List ℕ → Token → List Token
 unnamed name select = added_name name select ∷ added m.As select ∷ added_name (codes "?column?") select ∷ []
 
-abbrev pub item_by : List GroupKey → Token → List Token → Option (List ℕ) → List Token
-item_by keys select item None = replaced keys 0 select.kind item
-item_by keys select item (Some name) = unnamed name select
+abbrev pub item_by : List GroupKey → Option Token → Token → List Token → Option (List ℕ) → List Token
+item_by keys table select item None = replaced keys table 0 select.kind item
+item_by keys table select item (Some name) = unnamed name select
 
-abbrev pub replaced_items : List GroupKey → Token → List (List Token) → List Token
-replaced_items keys select [] = []
-replaced_items keys select (item ∷ items) = item_by keys select item (whole keys item) ++ comma_before items select ++ replaced_items keys select items
+abbrev pub replaced_items : List GroupKey → Option Token → Token → List (List Token) → List Token
+replaced_items keys table select [] = []
+replaced_items keys table select (item ∷ items) = item_by keys table select item (whole keys item) ++ comma_before items select ++ replaced_items keys table select items
 
 abbrev pub ends_with_star : List Token → Bool
 ends_with_star [] = false

@@ -1,7 +1,6 @@
 -- A query whose keys of GROUP BY are columns. A select is left as it is where its keys are columns already or lists of keys, where an
--- item stands for all columns, where a number is that of no item, where there are too many expressions, and where the FROM clause of
--- a select with an expression has more than one table.
-use Rattle.std.specs.Prelude.{ℕ, ◌||◌, if◌then◌else◌, Bool, List, ◌++◌, take, drop, Option, Some, None, Result}
+-- item stands for all columns, where a number is that of no item, and where there are too many expressions.
+use Rattle.std.specs.Prelude.{ℕ, ◌||◌, if◌then◌else◌, List, [], ◌∷◌, ◌++◌, take, drop, Option, Some, None, Result}
 use Rattle.wd_lex.specs.declared.token.Token.{Token}
 use Rattle.wd_clauses.specs.declared.error.RespellError.{RespellError}
 use Rattle.wd_clauses.specs.Parts.{parts}
@@ -10,7 +9,7 @@ use Rattle.wd_distinct_on.specs.Respelled.{◌>>=◌}
 use Rattle.wd_distinct_on.specs.Selects.{respelled_backwards}
 use Rattle.wd_using.specs.Pieces.{select_at}
 use Rattle.wd_grouping.specs.Keys.{GroupKey, all_stay, have_names, keys_of}
-use Rattle.wd_grouping.specs.Pieces.{GroupedPieces, OneTable, grouped_of, one_table}
+use Rattle.wd_grouping.specs.Pieces.{GroupedPieces, OneTable, grouped_of, grouped_tables, one_table}
 use Rattle.wd_grouping.specs.Replaced.{are_clear, have_star}
 use Rattle.wd_grouping.specs.Written.{written, written_over}
 
@@ -18,9 +17,18 @@ use Rattle.wd_grouping.specs.Written.{written, written_over}
 abbrev pub if_clear : List Token → GroupedPieces → List (List Token) → List GroupKey → OneTable → Option (List Token)
 if_clear front select items keys one = if are_clear keys items then Some (front ++ written select one items keys) else None
 
+abbrev pub over_tables : List Token → GroupedPieces → List (List Token) → List GroupKey → List Token → Option (List Token)
+over_tables front select items keys [] = None
+over_tables front select items keys (from ∷ tables) = if_clear front select items keys (grouped_tables from)
+
+-- over its one table, or one that stands for its several
+abbrev pub over_table : List Token → GroupedPieces → List (List Token) → List GroupKey → Option OneTable → Option (List Token)
+over_table front select items keys None = over_tables front select items keys select.select.tables
+over_table front select items keys (Some one) = if_clear front select items keys one
+
 abbrev pub with_keys : List Token → GroupedPieces → List (List Token) → List GroupKey → Option (List Token)
 with_keys front select items keys =
-    if have_names keys then one_table select.select.tables >>= if_clear front select items keys else Some (front ++ written_over select keys)
+    if have_names keys then over_table front select items keys (one_table select.select.tables) else Some (front ++ written_over select keys)
 
 abbrev pub with_parts : List Token → GroupedPieces → List (List Token) → List (List Token) → Option (List Token)
 with_parts front select items found = if all_stay found || have_star items then None else keys_of 0 items found >>= with_keys front select items

@@ -7,20 +7,20 @@ use Rattle.wd_clauses.specs.Added.{added}
 use Rattle.wd_distinct_on.specs.Written.{added_name, all_added, all_placed, comma_before, placed}
 use Rattle.wd_grouping.specs.Keys.{GroupKey}
 use Rattle.wd_grouping.specs.Pieces.{GroupedPieces, OneTable}
-use Rattle.wd_grouping.specs.Replaced.{replaced, replaced_items}
+use Rattle.wd_grouping.specs.Replaced.{qualified, replaced, replaced_items}
 
-abbrev pub key_by : Token → List Token → Option (List ℕ) → List Token
-key_by word value None = value
-key_by word value (Some name) = added_name name word ∷ []
+abbrev pub key_by : Option Token → Token → List Token → Option (List ℕ) → List Token
+key_by table word value None = qualified table value
+key_by table word value (Some name) = added_name name word ∷ []
 
 -- columns, one after another
-abbrev pub listed : List GroupKey → Token → List Token
-listed [] word = []
-listed (key ∷ keys) word = key_by word key.value key.name ++ comma_before keys word ++ listed keys word
+abbrev pub listed : List GroupKey → Option Token → Token → List Token
+listed [] table word = []
+listed (key ∷ keys) table word = key_by table word key.value key.name ++ comma_before keys word ++ listed keys table word
 
 -- GROUP BY columns
-abbrev pub grouped : GroupedPieces → List GroupKey → List Token
-grouped select keys = select.group ∷ select.by ∷ listed keys select.group
+abbrev pub grouped : GroupedPieces → Option Token → List GroupKey → List Token
+grouped select table keys = select.group ∷ select.by ∷ listed keys table select.group
 
 -- , e AS "group 1"
 abbrev pub column_by : Token → List Token → Option (List ℕ) → List Token
@@ -53,16 +53,16 @@ before_keys select = select_words select ++ select.select.items ++ select.select
 
 -- the select whose keys are columns of its tables, and what follows it
 abbrev pub written_over : GroupedPieces → List GroupKey → List Token
-written_over select keys = before_keys select ++ grouped select keys ++ select.later ++ select.select.after
+written_over select keys = before_keys select ++ grouped select None keys ++ select.later ++ select.select.after
 
 -- SELECT [DISTINCT] items FROM ( SELECT * , e AS "group 1" FROM .. ) AS a
 abbrev pub head : GroupedPieces → OneTable → List (List Token) → List GroupKey → List Token
-head select one items keys = select_words select ++ replaced_items keys select.select.select items ++ table select one keys
+head select one items keys = select_words select ++ replaced_items keys one.qualifier select.select.select items ++ table select one keys
 
 -- GROUP BY columns and the clauses behind them
-abbrev pub tail : GroupedPieces → List GroupKey → List Token
-tail select keys = grouped select keys ++ replaced keys 0 select.select.select.kind select.later ++ select.select.after
+abbrev pub tail : GroupedPieces → OneTable → List GroupKey → List Token
+tail select one keys = grouped select one.qualifier keys ++ replaced keys one.qualifier 0 select.select.select.kind select.later ++ select.select.after
 
 -- the select over the table that has its keys, and what follows it
 abbrev pub written : GroupedPieces → OneTable → List (List Token) → List GroupKey → List Token
-written select one items keys = head select one items keys ++ tail select keys
+written select one items keys = head select one items keys ++ tail select one keys

@@ -2,6 +2,7 @@
 
 ghost use Rattle.std.specs.Prelude.{◌≡◌, ◌∷◌, [], map, option_map};
 ghost use Rattle.wd_clauses.specs.Given.{Finds, Writes};
+ghost use Rattle.wd_distinct_on.specs.Kinds as kinds;
 ghost use Rattle.wd_distinct_on.specs.Written.{added_name};
 ghost use Rattle.wd_grouping.specs.Named as named;
 ghost use Rattle.wd_grouping.specs.Replaced as spec;
@@ -10,7 +11,7 @@ use crate::key::{Key, begins_set};
 use crate::kind::{begins_operand, ends_operand};
 use std::alloc::Global;
 use wd_clauses::{RespellError, add, added, copy_token, is_name};
-use wd_distinct_on::{added_name, strip};
+use wd_distinct_on::{add_placed, added_name, is_dot, strip};
 use wd_lex::{Terminal, Token, TokenKind};
 use wd_using::is_star;
 
@@ -83,14 +84,63 @@ pub fn add_name(
     Ok(())
 }
 
+/// Whether a dot stands first.
+pub fn begins_dot(tokens: &[Token]) -> bool
+    ensures { result ≡ kinds.begins kinds.is_dot tokens.now }
+{
+    match tokens {
+        [first, ..] => is_dot(&first.kind),
+        [] => false,
+    }
+}
+
+/// Adds a token before those; the name of a table becomes that of the one which stands for several.
+pub fn add_its_table(
+    written: &mut Vec<Token>,
+    table: Option<&Token>,
+    token: &Token,
+    after: &[Token],
+) -> Result<(), RespellError>
+    ensures { Writes written.old.items written.new.items result (spec.its_table (option_map (λ table. table.now) table.entry) token.now after.now ∷ []) }
+{
+    match table {
+        Some(table) if begins_dot(after) => {
+            add_placed(written, table, token)?;
+            Ok(())
+        }
+        _ => {
+            add(written, copy_token(token)?)?;
+            Ok(())
+        }
+    }
+}
+
+/// Adds tokens in which the name of each table is that of the one which stands for several.
+pub fn add_qualified(
+    written: &mut Vec<Token>,
+    table: Option<&Token>,
+    tokens: &[Token],
+) -> Result<(), RespellError>
+    ensures { Writes written.old.items written.new.items result (spec.qualified (option_map (λ table. table.now) table.entry) tokens.now) }
+{
+    let mut rest = tokens;
+    while let [first, after @ ..] = rest {
+        add_its_table(written, table, first, after)?;
+        rest = after;
+    }
+    Ok(())
+}
+
 /// Adds what is written at a token.
 fn add_at(
     alloc: Global,
     written: &mut Vec<Token>,
+    table: Option<&Token>,
     token: &Token,
+    after: &[Token],
     operand: Option<Operand>,
 ) -> Result<(), RespellError>
-    ensures { Writes written.old.items written.new.items result (spec.written_at token.now (option_map named.operand operand)) }
+    ensures { Writes written.old.items written.new.items result (spec.written_at (option_map (λ table. table.now) table.entry) token.now after.now (option_map named.operand operand)) }
 {
     match operand {
         Some(operand) => {
@@ -98,7 +148,7 @@ fn add_at(
             Ok(())
         }
         None => {
-            add(written, copy_token(token)?)?;
+            add_its_table(written, table, token, after)?;
             Ok(())
         }
     }
@@ -120,10 +170,11 @@ pub fn add_replaced(
     alloc: Global,
     written: &mut Vec<Token>,
     keys: &[Key],
+    table: Option<&Token>,
     before: &TokenKind,
     tokens: &[Token],
 ) -> Result<(), RespellError>
-    ensures { Writes written.old.items written.new.items result (spec.replaced (map named.group_key keys.now) 0 before.now tokens.now) }
+    ensures { Writes written.old.items written.new.items result (spec.replaced (map named.group_key keys.now) (option_map (λ table. table.now) table.entry) 0 before.now tokens.now) }
 {
     let mut passed: usize = 0;
     let mut last = before;
@@ -131,7 +182,7 @@ pub fn add_replaced(
     while let [first, after @ ..] = rest {
         if passed == 0 {
             let operand = operand_at(keys, last, rest);
-            add_at(alloc, written, first, operand)?;
+            add_at(alloc, written, table, first, after, operand)?;
             passed = passed_by(operand);
         } else {
             passed -= 1;
@@ -172,14 +223,15 @@ fn add_item(
     alloc: Global,
     written: &mut Vec<Token>,
     keys: &[Key],
+    table: Option<&Token>,
     select: &Token,
     item: &[Token],
 ) -> Result<(), RespellError>
-    ensures { Writes written.old.items written.new.items result (spec.item_by (map named.group_key keys.now) select.now item.now (spec.whole (map named.group_key keys.now) item.now)) }
+    ensures { Writes written.old.items written.new.items result (spec.item_by (map named.group_key keys.now) (option_map (λ table. table.now) table.entry) select.now item.now (spec.whole (map named.group_key keys.now) item.now)) }
 {
     match whole(keys, item) {
         Some(name) => add_unnamed(alloc, written, name, select),
-        None => add_replaced(alloc, written, keys, &select.kind, item),
+        None => add_replaced(alloc, written, keys, table, &select.kind, item),
     }
 }
 
@@ -188,14 +240,15 @@ pub fn add_items(
     alloc: Global,
     written: &mut Vec<Token>,
     keys: &[Key],
+    table: Option<&Token>,
     select: &Token,
     items: &[&[Token]],
 ) -> Result<(), RespellError>
-    ensures { Writes written.old.items written.new.items result (spec.replaced_items (map named.group_key keys.now) select.now (map (λ item. item.now) items.now)) }
+    ensures { Writes written.old.items written.new.items result (spec.replaced_items (map named.group_key keys.now) (option_map (λ table. table.now) table.entry) select.now (map (λ item. item.now) items.now)) }
 {
     let mut rest = items;
     while let [item, after @ ..] = rest {
-        add_item(alloc, written, keys, select, item)?;
+        add_item(alloc, written, keys, table, select, item)?;
         if !after.is_empty() {
             add(written, added(Terminal::Comma, select))?;
         }

@@ -10,11 +10,11 @@ use crate::key::{Key, all_stay, have_names, keys_of};
 use crate::kind::begins_select;
 use crate::replace::{are_clear, have_star};
 use crate::select::{Grouped, grouped_of};
-use crate::source::{OneTable, one_table};
+use crate::source::{OneTable, one_table, tables_called};
 use crate::write::{written, written_over};
 use std::alloc::Global;
 use wd_clauses::{RespellError, parts};
-use wd_distinct_on::{Selects, cut, respelled_backwards};
+use wd_distinct_on::{Selects, added_name, cut, respelled_backwards};
 use wd_lex::Token;
 use wd_using::select_at;
 
@@ -39,6 +39,27 @@ fn if_clear(
     Ok(None)
 }
 
+/// What stands for a select over its several tables.
+fn over_tables(
+    alloc: Global,
+    front: &[Token],
+    select: &Grouped,
+    items: &[&[Token]],
+    keys: &[Key],
+) -> Result<Option<Vec<Token>>, RespellError>
+    ensures { MayWrite (λ x. x.items) result (spec.over_tables front.now (grouped_pieces select.now) (map (λ item. item.now) items.now) (map group_key keys.now) select.now.select.tables.now) }
+{
+    match select.select.tables {
+        [from, ..] => {
+            let alias = added_name(alloc, "grouped", from)?;
+            let one = tables_called(from, &alias);
+            let tokens = if_clear(alloc, front, select, items, keys, &one)?;
+            Ok(tokens)
+        }
+        [] => Ok(None),
+    }
+}
+
 /// What stands for a select, by its keys.
 fn with_keys(
     alloc: Global,
@@ -58,7 +79,10 @@ fn with_keys(
             let tokens = if_clear(alloc, front, select, items, keys, &one)?;
             Ok(tokens)
         }
-        None => Ok(None),
+        None => {
+            let tokens = over_tables(alloc, front, select, items, keys)?;
+            Ok(tokens)
+        }
     }
 }
 
@@ -175,10 +199,7 @@ impl Selects for ExpressionKeys {
 }
 
 /// The query with columns for the keys of GROUP BY, as far as its selects are read.
-pub fn without_expression_keys(
-    alloc: Global,
-    tokens: &[Token],
-) -> Result<Vec<Token>, RespellError>
+pub fn without_expression_keys(alloc: Global, tokens: &[Token]) -> Result<Vec<Token>, RespellError>
     ensures { Gives (λ x. x.items) result (spec.respelled tokens.now) }
 {
     respelled_backwards(alloc, &ExpressionKeys, MOST_SELECTS, tokens)

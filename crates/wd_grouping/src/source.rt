@@ -11,11 +11,23 @@ use wd_clauses::{closing, is_name};
 use wd_lex::Token;
 use wd_using::{Alias, alias_at, opens};
 
-/// FROM, and the name by which the columns of its one table are called.
+/// FROM, the name by which the columns of its one table are called, and that name again where it stands for the names of several tables.
 #[derive(Clone, Copy)]
 pub struct OneTable<'t> {
     pub from: &'t Token,
     pub alias: &'t Token,
+    pub qualifier: Option<&'t Token>,
+}
+
+/// A table of such a name, which stands for the several ones behind FROM.
+pub fn tables_called<'t>(from: &'t Token, alias: &'t Token) -> OneTable<'t>
+    ensures { named.one_table result ≡ spec.tables_called from.now alias.now }
+{
+    OneTable {
+        from,
+        alias,
+        qualifier: Some(alias),
+    }
 }
 
 /// A table, if it and its alias are all there is.
@@ -26,6 +38,7 @@ fn if_all<'t>(from: &'t Token, count: usize, alias: Alias<'t>) -> Option<OneTabl
         return Some(OneTable {
             from,
             alias: alias.name,
+            qualifier: None,
         });
     }
     None

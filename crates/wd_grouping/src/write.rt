@@ -1,12 +1,12 @@
 //! The select that stands for one with GROUP BY.
 
-ghost use Rattle.std.specs.Prelude.{◌≡◌, ◌∷◌, ◌++◌, [], map};
+ghost use Rattle.std.specs.Prelude.{◌≡◌, ◌∷◌, ◌++◌, [], map, option_map};
 ghost use Rattle.wd_clauses.specs.Given.{Makes, Writes};
 ghost use Rattle.wd_grouping.specs.Named.{group_key, grouped_pieces, one_table};
 ghost use Rattle.wd_grouping.specs.Written as spec;
 
 use crate::key::Key;
-use crate::replace::{add_items, add_name, add_replaced};
+use crate::replace::{add_items, add_name, add_qualified, add_replaced};
 use crate::select::Grouped;
 use crate::source::OneTable;
 use std::alloc::Global;
@@ -19,9 +19,10 @@ fn add_key(
     alloc: Global,
     written: &mut Vec<Token>,
     key: &Key,
+    table: Option<&Token>,
     word: &Token,
 ) -> Result<(), RespellError>
-    ensures { Writes written.old.items written.new.items result (spec.key_by word.now (group_key key.now).value (group_key key.now).name) }
+    ensures { Writes written.old.items written.new.items result (spec.key_by (option_map (λ table. table.now) table.entry) word.now (group_key key.now).value (group_key key.now).name) }
 {
     match key.name {
         Some(name) => {
@@ -29,7 +30,7 @@ fn add_key(
             Ok(())
         }
         None => {
-            add_all(written, key.value)?;
+            add_qualified(written, table, key.value)?;
             Ok(())
         }
     }
@@ -40,13 +41,14 @@ fn add_listed(
     alloc: Global,
     written: &mut Vec<Token>,
     keys: &[Key],
+    table: Option<&Token>,
     word: &Token,
 ) -> Result<(), RespellError>
-    ensures { Writes written.old.items written.new.items result (spec.listed (map group_key keys.now) word.now) }
+    ensures { Writes written.old.items written.new.items result (spec.listed (map group_key keys.now) (option_map (λ table. table.now) table.entry) word.now) }
 {
     let mut rest = keys;
     while let [key, after @ ..] = rest {
-        add_key(alloc, written, key, word)?;
+        add_key(alloc, written, key, table, word)?;
         if !after.is_empty() {
             add(written, added(Terminal::Comma, word))?;
         }
@@ -60,13 +62,14 @@ fn add_grouped(
     alloc: Global,
     written: &mut Vec<Token>,
     select: &Grouped,
+    table: Option<&Token>,
     keys: &[Key],
 ) -> Result<(), RespellError>
-    ensures { Writes written.old.items written.new.items result (spec.grouped (grouped_pieces select.now) (map group_key keys.now)) }
+    ensures { Writes written.old.items written.new.items result (spec.grouped (grouped_pieces select.now) (option_map (λ table. table.now) table.entry) (map group_key keys.now)) }
 {
     add(written, copy_token(select.group)?)?;
     add(written, copy_token(select.by)?)?;
-    add_listed(alloc, written, keys, select.group)?;
+    add_listed(alloc, written, keys, table, select.group)?;
     Ok(())
 }
 
@@ -199,7 +202,7 @@ pub fn written_over(
 {
     let mut written = copied(alloc, front)?;
     add_before_keys(&mut written, select)?;
-    add_grouped(alloc, &mut written, select, keys)?;
+    add_grouped(alloc, &mut written, select, None, keys)?;
     add_all(&mut written, select.later)?;
     add_all(&mut written, select.select.after)?;
     Ok(written)
@@ -217,7 +220,14 @@ fn add_head(
     ensures { Writes written.old.items written.new.items result (spec.head (grouped_pieces select.now) (one_table one.now) (map (λ item. item.now) items.now) (map group_key keys.now)) }
 {
     add_select(written, select)?;
-    add_items(alloc, written, keys, select.select.select, items)?;
+    add_items(
+        alloc,
+        written,
+        keys,
+        one.qualifier,
+        select.select.select,
+        items,
+    )?;
     add_table(alloc, written, select, one, keys)?;
     Ok(())
 }
@@ -227,12 +237,20 @@ fn add_tail(
     alloc: Global,
     written: &mut Vec<Token>,
     select: &Grouped,
+    one: &OneTable,
     keys: &[Key],
 ) -> Result<(), RespellError>
-    ensures { Writes written.old.items written.new.items result (spec.tail (grouped_pieces select.now) (map group_key keys.now)) }
+    ensures { Writes written.old.items written.new.items result (spec.tail (grouped_pieces select.now) (one_table one.now) (map group_key keys.now)) }
 {
-    add_grouped(alloc, written, select, keys)?;
-    add_replaced(alloc, written, keys, &select.select.select.kind, select.later)?;
+    add_grouped(alloc, written, select, one.qualifier, keys)?;
+    add_replaced(
+        alloc,
+        written,
+        keys,
+        one.qualifier,
+        &select.select.select.kind,
+        select.later,
+    )?;
     add_all(written, select.select.after)?;
     Ok(())
 }
@@ -250,6 +268,6 @@ pub fn written(
 {
     let mut written = copied(alloc, front)?;
     add_head(alloc, &mut written, select, one, items, keys)?;
-    add_tail(alloc, &mut written, select, keys)?;
+    add_tail(alloc, &mut written, select, one, keys)?;
     Ok(written)
 }
