@@ -4,4 +4,4 @@
 mod characters;
 mod mask;
 
-pub use mask::{State, masked};
+pub use mask::{State, Step, masked, step};

@@ -40,7 +40,7 @@ pub enum State {
 }
 
 /// A byte in place of another, and the state after it.
-type Step = (u8, State);
+pub type Step = (u8, State);
 
 /// Whether the byte is an `e` before a text.
 fn is_prefix(byte: u8, next: u8) -> bool
@@ -111,7 +111,7 @@ fn in_block(depth: u64, byte: u8, next: u8) -> Step
 
 /// A byte in a state, the next byte or 0 after it.
 #[tactic(auto, unfolding(crate::specs::Masked::step))]
-fn step(state: State, byte: u8, next: u8) -> Step
+pub fn step(state: State, byte: u8, next: u8) -> Step
     ensures { result ≡ spec.step state byte next }
 {
     match state {

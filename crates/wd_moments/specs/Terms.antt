@@ -1,6 +1,7 @@
 -- What an operand counts.
-use Rattle.std.specs.Prelude.{ℕ, zero, suc, ◌==◌, ◌&&◌, ◌||◌, not, codes, Bool, true, false, if◌then◌else◌, List, [], ◌∷◌, length, take, drop, Option, Some, None}
+use Rattle.std.specs.Prelude.{ℕ, zero, suc, ◌-◌, ◌==◌, ◌&&◌, ◌||◌, not, codes, Bool, true, false, if◌then◌else◌, List, [], ◌∷◌, length, take, drop, Option, Some, None}
 use Rattle.std.specs.Str.{bytes_eq}
+use Rattle.wd_lex.specs.declared.token.Terminal.TheVariants as m
 use Rattle.wd_lex.specs.declared.token.Token.{Token}
 use Rattle.wd_lex.specs.declared.token.TokenKind.{TokenKind}
 use Rattle.wd_lex.specs.declared.token.TokenKind.TheVariants as t
@@ -8,7 +9,7 @@ use Rattle.wd_operands.specs.Nests.{nest_length}
 use Rattle.wd_operands.specs.Operands.{is_name, is_over}
 use Rattle.wd_moments.specs.declared.token.Stop.TheVariants.{Sign, Comma}
 use Rattle.wd_moments.specs.declared.unit.Unit.{Unit as Counts}
-use Rattle.wd_moments.specs.declared.unit.Unit.TheVariants.{Plain}
+use Rattle.wd_moments.specs.declared.unit.Unit.TheVariants.{Days, Microseconds, Plain}
 use Rattle.wd_moments.specs.Units.{joined}
 use Rattle.wd_moments.specs.Names.{Use, unit_named}
 use Rattle.wd_moments.specs.declared.literal.Amount.{Amount}
@@ -80,6 +81,49 @@ unfoldable pub picked_argument : List Token → Option (List Token)
 picked_argument [] = None
 picked_argument (token ∷ tokens) = if is_picked token.kind then first_argument tokens else None
 
+-- ---- casts
+
+-- the microseconds of a day
+abbrev pub is_day : TokenKind → Bool
+is_day (t.Number number) = number == 86400000000
+is_day _ = false
+
+abbrev pub is_case : TokenKind → Bool
+is_case (t.Terminal m.Case) = true
+is_case _ = false
+
+abbrev pub is_end : TokenKind → Bool
+is_end (t.Terminal m.End) = true
+is_end _ = false
+
+abbrev pub is_slash : TokenKind → Bool
+is_slash (t.Terminal m.Slash) = true
+is_slash _ = false
+
+abbrev pub is_star : TokenKind → Bool
+is_star (t.Terminal m.Star) = true
+is_star _ = false
+
+unfoldable pub begins_case : List Token → Bool
+begins_case [] = false
+begins_case (token ∷ tokens) = is_case token.kind
+
+-- `/ 86400000000 END`, the end of a moment's day; `x * 86400000000`, the end of a day's first moment
+unfoldable pub ended_unit : List Token → Option Counts
+ended_unit (first ∷ second ∷ third ∷ []) =
+    if is_slash first.kind && is_day second.kind && is_end third.kind then Some Days
+    else (if is_star second.kind && is_day third.kind then Some Microseconds else None)
+ended_unit _ = None
+
+abbrev pub by_end : Bool → Option Counts → Option Counts
+by_end true (Some Days) = Some Days
+by_end false (Some Microseconds) = Some Microseconds
+by_end _ _ = None
+
+-- the day of a moment and the first moment of a day, as casts are written
+unfoldable pub cast_unit : List Token → Option Counts
+cast_unit tokens = by_end (begins_case tokens) (ended_unit (drop (length tokens - 3) tokens))
+
 -- ---- sums
 
 -- what stands in brackets, and nothing after them
@@ -91,7 +135,7 @@ unfoldable pub inner_operand : List Token → Option (List Token)
 inner_operand tokens = or_else (bracketed tokens) (picked_argument tokens)
 
 unfoldable pub plain_unit : List Use → List Token → Option Counts
-plain_unit known tokens = or_else (or_else (column_unit known tokens) (literal_unit tokens)) (count_unit tokens)
+plain_unit known tokens = or_else (or_else (column_unit known tokens) (literal_unit tokens)) (or_else (count_unit tokens) (cast_unit tokens))
 
 abbrev pub term_by : (List Token → Option Counts) → List Use → List Token → Option (List Token) → Option Counts
 term_by inner known tokens (Some inside) = inner inside

@@ -7,7 +7,7 @@ use Rattle.wd_lex.specs.declared.token.TokenKind.TheVariants as t
 use Rattle.wd_operands.specs.Nests.{nest_length}
 use Rattle.wd_operands.specs.Operands.{is_left_bracket, is_sign, operand_length}
 use Rattle.wd_moments.specs.declared.token.Stop.{Stop}
-use Rattle.wd_moments.specs.declared.token.Stop.TheVariants.{Sign, Comma}
+use Rattle.wd_moments.specs.declared.token.Stop.TheVariants.{Sign, Comma, As}
 
 infixl 10 ◌>>=◌
 abbrev pub ◌>>=◌ : {A B : Type 0} → Option A → (A → Option B) → Option B
@@ -55,11 +55,12 @@ begins_bracket (token ∷ tokens) = is_left_bracket token.kind
 
 -- ---- lengths
 
--- a sign or a comma that no bracket encloses ends a part
+-- a sign, a comma or AS that no bracket encloses ends a part
 abbrev pub stops : Stop → TokenKind → Bool
 stops Sign kind = is_sign kind
 stops Comma (t.Terminal m.Comma) = true
 stops Comma _ = false
+stops As kind = is_as kind
 
 -- how many brackets are open after a token
 abbrev pub depth_after : ℕ → TokenKind → ℕ

@@ -16,4 +16,8 @@ mod unit;
 mod write;
 
 pub use error::MomentError;
+pub use names::{NameUse, given_names, has_lists};
 pub use numbered::with_numbers;
+pub use term::{bracketed, is_picked};
+pub use token::{Stop, begins_bracket, brackets_at, is_dot, is_name, is_test_word, part_length};
+pub use unit::Unit;

@@ -124,6 +124,15 @@ fn push_all_given<'t>(uses: &mut Vec<NameUse<'t>>, tokens: &'t [Token]) -> Resul
     Ok(())
 }
 
+/// The names that a query gives, as their uses.
+pub fn given_names(alloc: Global, tokens: &[Token]) -> Result<Vec<NameUse<'_>>, OutOfMemory>
+    ensures { IfOk result (λ found. map use_seen found.items ≡ given_uses false tokens.now) }
+{
+    let mut found = Vec::new(alloc);
+    push_all_given(&mut found, tokens)?;
+    Ok(found)
+}
+
 /// Whether AS and no name stand first.
 #[tactic(auto, unfolding(crate::specs::Names::begins_as))]
 fn begins_as(tokens: &[Token]) -> bool
@@ -145,7 +154,7 @@ fn lists_names(is_alias: bool, kind: &TokenKind, tokens: &[Token]) -> bool
 
 /// Whether a query gives a list of names.
 #[tactic(auto, unfolding(crate::specs::Names::has_lists))]
-fn has_lists(tokens: &[Token]) -> bool
+pub fn has_lists(tokens: &[Token]) -> bool
     ensures { result ≡ spec.has_lists false tokens.now }
 {
     let mut is_alias = false;

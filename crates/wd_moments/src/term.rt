@@ -9,7 +9,7 @@ use crate::literal::{Amount, amount_at};
 use crate::names::{NameUse, unit_named};
 use crate::token::{Stop, brackets_at, holds_text, is_dot, is_name, is_over, part_length};
 use crate::unit::Unit;
-use wd_lex::{Token, TokenKind};
+use wd_lex::{Terminal, Token, TokenKind};
 use wd_operands::nest_length;
 
 fn token_unit(known: &[NameUse], kind: &TokenKind) -> Option<Unit>
@@ -62,7 +62,7 @@ fn literal_unit(tokens: &[Token]) -> Option<Unit>
 }
 
 /// Whether a call gives one of the values of its first argument.
-fn is_picked(kind: &TokenKind) -> bool
+pub fn is_picked(kind: &TokenKind) -> bool
     ensures { result ≡ spec.is_picked kind.now }
 {
     match kind {
@@ -189,7 +189,7 @@ fn picked_argument(tokens: &[Token]) -> Option<&[Token]>
 
 /// What stands in brackets, where nothing stands after them.
 #[tactic(auto, unfolding(crate::specs::Terms::bracketed))]
-fn bracketed(tokens: &[Token]) -> Option<&[Token]>
+pub fn bracketed(tokens: &[Token]) -> Option<&[Token]>
     ensures { Finds (λ r. r.now) result (spec.bracketed tokens.now) }
 {
     let Some((inside, rest)) = brackets_at(tokens) else {
@@ -209,7 +209,88 @@ pub fn inner_operand(tokens: &[Token]) -> Option<&[Token]>
     }
 }
 
-/// What a name, a number, a literal or a call counts that has no smaller operand.
+/// Whether it is the number of the microseconds of a day.
+fn is_day(kind: &TokenKind) -> bool
+    ensures { result ≡ spec.is_day kind.now }
+{
+    match kind {
+        TokenKind::Number(number) => *number == 86_400_000_000,
+        _ => false,
+    }
+}
+
+fn is_case(kind: &TokenKind) -> bool
+    ensures { result ≡ spec.is_case kind.now }
+{
+    matches!(kind, TokenKind::Terminal(Terminal::Case))
+}
+
+fn is_end(kind: &TokenKind) -> bool
+    ensures { result ≡ spec.is_end kind.now }
+{
+    matches!(kind, TokenKind::Terminal(Terminal::End))
+}
+
+fn is_slash(kind: &TokenKind) -> bool
+    ensures { result ≡ spec.is_slash kind.now }
+{
+    matches!(kind, TokenKind::Terminal(Terminal::Slash))
+}
+
+fn is_star(kind: &TokenKind) -> bool
+    ensures { result ≡ spec.is_star kind.now }
+{
+    matches!(kind, TokenKind::Terminal(Terminal::Star))
+}
+
+#[tactic(auto, unfolding(crate::specs::Terms::begins_case))]
+fn begins_case(tokens: &[Token]) -> bool
+    ensures { result ≡ spec.begins_case tokens.now }
+{
+    match tokens {
+        [first, ..] => is_case(&first.kind),
+        [] => false,
+    }
+}
+
+/// What an operand counts by its last three tokens, where it is written as a cast.
+#[tactic(auto, unfolding(crate::specs::Terms::ended_unit))]
+fn ended_unit(tokens: &[Token]) -> Option<Unit>
+    ensures { result ≡ spec.ended_unit tokens.now }
+{
+    match tokens {
+        [first, second, third] => {
+            if is_slash(&first.kind) && is_day(&second.kind) && is_end(&third.kind) {
+                Some(Unit::Days)
+            } else if is_star(&second.kind) && is_day(&third.kind) {
+                Some(Unit::Microseconds)
+            } else {
+                None
+            }
+        }
+        _ => None,
+    }
+}
+
+fn by_end(begins_case: bool, unit: Option<Unit>) -> Option<Unit>
+    ensures { result ≡ spec.by_end begins_case unit }
+{
+    match (begins_case, unit) {
+        (true, Some(Unit::Days)) | (false, Some(Unit::Microseconds)) => unit,
+        _ => None,
+    }
+}
+
+/// The day of a moment and the first moment of a day, as casts are written.
+#[tactic(auto, unfolding(crate::specs::Terms::cast_unit))]
+fn cast_unit(tokens: &[Token]) -> Option<Unit>
+    ensures { result ≡ spec.cast_unit tokens.now }
+{
+    let (_, last) = tokens.split_at(tokens.len().saturating_sub(3));
+    by_end(begins_case(tokens), ended_unit(last))
+}
+
+/// What a name, a number, a literal, a call or a cast counts that has no smaller operand.
 #[tactic(auto, unfolding(crate::specs::Terms::plain_unit))]
 pub fn plain_unit(known: &[NameUse], tokens: &[Token]) -> Option<Unit>
     ensures { result ≡ spec.plain_unit (map use_seen known.now) tokens.now }
@@ -219,6 +300,9 @@ pub fn plain_unit(known: &[NameUse], tokens: &[Token]) -> Option<Unit>
     }
     match literal_unit(tokens) {
         Some(unit) => Some(unit),
-        None => count_unit(tokens),
+        None => match count_unit(tokens) {
+            Some(unit) => Some(unit),
+            None => cast_unit(tokens),
+        },
     }
 }

@@ -15,6 +15,8 @@ pub enum Stop {
     /// `+` or `-`
     Sign,
     Comma,
+    /// AS
+    As,
 }
 
 /// Whether a word begins what stands between an operand and the next, so that it is no name.
@@ -139,6 +141,7 @@ fn stops(stop: Stop, kind: &TokenKind) -> bool
     match stop {
         Stop::Sign => matches!(kind, TokenKind::Terminal(Terminal::Plus | Terminal::Minus)),
         Stop::Comma => matches!(kind, TokenKind::Terminal(Terminal::Comma)),
+        Stop::As => is_as(kind),
     }
 }
 

@@ -10,3 +10,4 @@ mod primary;
 
 pub use nest::nest_length;
 pub use operand::operand_length;
+pub use primary::primary_length;

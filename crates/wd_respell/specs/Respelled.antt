@@ -1,10 +1,13 @@
 -- Queries of PostgreSQL's usual SQL, respelled in the profile's by the standard's own equations.
-use Rattle.std.specs.Prelude.{◌≡◌, ℕ, List, [], ◌∷◌, Ok}
+use Rattle.std.specs.Prelude.{◌≡◌, ℕ, false, List, [], ◌∷◌, Ok, Some}
 use Rattle.wd_lex.specs.declared.token.Token.{Token}
 use Rattle.wd_lex.specs.Lexed.{IsLexed, kinds_of}
 use Rattle.wd_with.specs.Expanded.{Said}
 use Rattle.wd_with.specs.Expanded as members
 use Rattle.wd_distinct_on.specs.Respelled as selects
+use Rattle.wd_casts.specs.Masked.{masked}
+use Rattle.wd_casts.specs.Terms.{has_casts}
+use Rattle.wd_casts.specs.Walked.{without_casts}
 use Rattle.wd_schema.specs.Tables.{TableRule}
 use Rattle.wd_using.specs.Respelled as joins
 use Rattle.wd_equations.specs.Expanded as expressions
@@ -28,12 +31,26 @@ pub record IsEquated (tables : List TableRule) (statements : List Statement) (to
   pub expressions : said.tokens ≡ with_numbers statements (expressions.expanded plain)
   pub members : said.read_twice ≡ (members.expanded tokens).read_twice
 
--- the other text has the tokens that the equations give for those of the query, which reads these members of WITH more than once
+-- the tokens without casts, of which none is left
+pub record AreUncast (statements : List Statement) (tokens uncast : List Token) : Type 0 where
+  pub uncast : uncast ≡ without_casts statements tokens
+  pub none : has_casts uncast ≡ false
+
+-- the tokens of a query by the equations: first without casts, then as above
+pub record AreEquated (tables : List TableRule) (statements : List Statement) (tokens : List Token) (said : Said) : Type 0 where
+  pub uncast : List Token
+  pub are_uncast : AreUncast statements tokens uncast
+  pub equated : IsEquated tables statements uncast said
+
+-- the other text has the tokens that the equations give for those of the query, in which each `::` is masked, and the query reads these
+-- members of WITH more than once
 pub record IsRespelled (tables : List TableRule) (statements : List Statement) (query other : List ℕ) (twice : List Token) : Type 0 where
+  pub text : List ℕ
+  pub masked : masked query ≡ Some text
   pub tokens : List Token
-  pub lexed : IsLexed query tokens
+  pub lexed : IsLexed text tokens
   pub said : Said
-  pub equated : IsEquated tables statements tokens said
+  pub equated : AreEquated tables statements tokens said
   pub own : List Token
   pub read : IsLexed other own
   pub are : kinds_of own ≡ kinds_of said.tokens

@@ -1,11 +1,12 @@
 //! A query through the equations.
 
-ghost use Rattle.std.specs.Prelude.{◌≡◌, Ok, IfOk, IfSome};
+ghost use Rattle.std.specs.Prelude.{◌≡◌, Ok, Some, IfOk, IfSome};
 ghost use Rattle.std.specs.String.{string_bytes};
 ghost use Rattle.wd_lex.specs.Lexed.{IsLexed};
 ghost use Rattle.wd_equations.specs.Expanded as expressions;
 ghost use Rattle.wd_moments.specs.Numbered as numbers;
-ghost use Rattle.wd_respell.specs.Respelled.{IsEquated, IsPlain, IsRespelled};
+ghost use Rattle.wd_casts.specs.Masked.{masked};
+ghost use Rattle.wd_respell.specs.Respelled.{AreEquated, AreUncast, IsEquated, IsPlain, IsRespelled};
 ghost use Rattle.wd_schema.specs.Schemas.{schema_of};
 ghost use Rattle.wd_using.specs.Respelled.{respelled};
 ghost use Rattle.wd_with.specs.Expanded.{said};
@@ -13,6 +14,7 @@ ghost use Rattle.wd_with.specs.Expanded.{said};
 use crate::kinds::say_the_same;
 use crate::layout::laid_out;
 use std::alloc::Global;
+use wd_casts::{has_casts, masked, without_casts};
 use wd_clauses::RespellError;
 use wd_dialect_read::Statement;
 use wd_distinct_on::without_distinct_on;
@@ -44,16 +46,70 @@ pub fn respell(
 ) -> Result<Option<Respelled>, OutOfMemory>
     ensures { IfOk result (λ o. IfSome o (λ r. IsRespelled (schema_of schema.now) statements.now query.now (string_bytes r.text) r.read_twice.items)) }
 {
-    let tokens = match lex(alloc, query) {
+    match masked(alloc, query)? {
+        Some(text) => respell_masked(alloc, schema, statements, query, &text),
+        None => Ok(None),
+    }
+}
+
+/// The same of a query of which this is the masked text.
+fn respell_masked(
+    alloc: Global,
+    schema: &Schema,
+    statements: &[Statement],
+    query: &[u8],
+    text: &[u8],
+) -> Result<Option<Respelled>, OutOfMemory>
+    requires { masked query.now ≡ Some text.now }
+    ensures { IfOk result (λ o. IfSome o (λ r. IsRespelled (schema_of schema.now) statements.now query.now (string_bytes r.text) r.read_twice.items)) }
+{
+    let tokens = match lex(alloc, text) {
         Ok(tokens) => tokens,
         Err(LexError::OutOfMemory) => return Err(OutOfMemory),
         Err(_) => return Ok(None),
     };
-    match equated(alloc, schema, statements, &tokens)? {
+    match without_any_casts(alloc, schema, statements, &tokens)? {
         Some(equated) if !say_the_same(&tokens, &equated.tokens) => {
-            written(alloc, schema, statements, query, &tokens, equated)
+            written(alloc, schema, statements, query, text, &tokens, equated)
         }
         _ => Ok(None),
+    }
+}
+
+/// The tokens without casts, where none is left.
+fn uncast(
+    alloc: Global,
+    statements: &[Statement],
+    tokens: &[Token],
+) -> Result<Option<Vec<Token>>, OutOfMemory>
+    ensures { IfOk result (λ o. IfSome o (λ uncast. AreUncast statements.now tokens.now uncast.items)) }
+{
+    match without_casts(alloc, statements, tokens) {
+        Ok(uncast) => if has_casts(&uncast) {
+            Ok(None)
+        } else {
+            Ok(Some(uncast))
+        },
+        Err(RespellError::OutOfMemory) => Err(OutOfMemory),
+        Err(RespellError::TooLong) => Ok(None),
+    }
+}
+
+/// What the tokens are by the equations, without casts first, unless one is left or they would be too many.
+fn without_any_casts(
+    alloc: Global,
+    schema: &Schema,
+    statements: &[Statement],
+    tokens: &[Token],
+) -> Result<Option<Expanded>, OutOfMemory>
+    ensures { IfOk result (λ o. IfSome o (λ e. AreEquated (schema_of schema.now) statements.now tokens.now (said e))) }
+{
+    match uncast(alloc, statements, tokens)? {
+        Some(uncast) => {
+            let found = equated(alloc, schema, statements, &uncast)?;
+            Ok(found)
+        }
+        None => Ok(None),
     }
 }
 
@@ -140,11 +196,13 @@ fn written(
     schema: &Schema,
     statements: &[Statement],
     query: &[u8],
+    masked_text: &[u8],
     tokens: &[Token],
     equated: Expanded,
 ) -> Result<Option<Respelled>, OutOfMemory>
-    requires lexed { IsLexed query.now tokens.now }
-    requires equated { IsEquated (schema_of schema.now) statements.now tokens.now (said equated) }
+    requires masked { masked query.now ≡ Some masked_text.now }
+    requires lexed { IsLexed masked_text.now tokens.now }
+    requires equated { AreEquated (schema_of schema.now) statements.now tokens.now (said equated) }
     ensures { IfOk result (λ o. IfSome o (λ r. IsRespelled (schema_of schema.now) statements.now query.now (string_bytes r.text) r.read_twice.items)) }
 {
     let start = match tokens.first() {

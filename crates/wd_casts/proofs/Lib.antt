@@ -1,0 +1,5 @@
+pub mod CastFacts
+pub mod GrowFacts
+pub mod KnownFacts
+pub mod WalkFacts
+pub mod WriteFacts

@@ -1,0 +1,110 @@
+-- What is known of an operand.
+use Rattle.std.specs.Prelude.{ℕ, zero, suc, ◌==◌, ◌&&◌, ◌||◌, nat_lt, codes, Bool, false, if◌then◌else◌, List, [], ◌∷◌, length, take, drop, Option, Some, None}
+use Rattle.std.specs.Str.{bytes_eq}
+use Rattle.wd_lex.specs.declared.token.Token.{Token}
+use Rattle.wd_lex.specs.declared.token.TokenKind.{TokenKind}
+use Rattle.wd_lex.specs.declared.token.TokenKind.TheVariants as t
+use Rattle.wd_operands.specs.Operands.{is_name}
+use Rattle.wd_moments.specs.declared.token.Stop.TheVariants.{Comma}
+use Rattle.wd_moments.specs.Terms.{bracketed, is_picked}
+use Rattle.wd_moments.specs.Tokens.{◌>>=◌, begins_bracket, brackets_at, is_dot, or_else, part_length}
+use Rattle.wd_casts.specs.declared.kind.Kind.{Kind}
+use Rattle.wd_casts.specs.declared.kind.Kind.TheVariants as k
+use Rattle.wd_casts.specs.declared.known.Known.{Known}
+use Rattle.wd_casts.specs.declared.known.Known.TheVariants.{Nothing, Literal, Number, Value}
+use Rattle.wd_casts.specs.declared.term.Cast.{Cast}
+use Rattle.wd_casts.specs.declared.equation.Form.{Form}
+use Rattle.wd_casts.specs.Equations.{equation}
+use Rattle.wd_casts.specs.Names.{Use, kind_named}
+use Rattle.wd_casts.specs.Terms.{Term, term_at}
+
+-- ---- names and constants
+
+abbrev pub value_of : Option Kind → Known
+value_of None = Nothing
+value_of (Some kind) = Value kind
+
+abbrev pub token_known : List Use → TokenKind → Known
+token_known names (t.Word name) = value_of (kind_named names name)
+token_known names (t.Quoted name) = value_of (kind_named names name)
+token_known names (t.Number number) = Number number
+token_known names (t.Literal text) = Literal
+token_known names _ = Nothing
+
+-- a name, of a table or not, a number or a text
+unfoldable pub column_known : List Use → List Token → Known
+column_known names (only ∷ []) = token_known names only.kind
+column_known names (table ∷ dot ∷ column ∷ []) = if is_name table.kind && is_dot dot.kind && is_name column.kind then token_known names column.kind else Nothing
+column_known names _ = Nothing
+
+-- ---- calls
+
+-- the names of calls that count rows, in whole numbers of 64 bits
+abbrev pub is_counted : TokenKind → Bool
+is_counted (t.Word name) = bytes_eq name (codes "count") || bytes_eq name (codes "row_number") || bytes_eq name (codes "rank") || bytes_eq name (codes "dense_rank")
+is_counted _ = false
+
+unfoldable pub counts_rows : List Token → Bool
+counts_rows [] = false
+counts_rows (token ∷ tokens) = is_counted token.kind && begins_bracket tokens
+
+unfoldable pub plain_known : List Use → List Token → Known
+plain_known names tokens = if counts_rows tokens then Value k.Big else column_known names tokens
+
+-- the first argument, where a comma and one token stand after it at most: the distance of LAG, and no default
+unfoldable pub first_argument : List Token → Option (List Token)
+first_argument tokens = if nat_lt 2 (length (drop (part_length Comma tokens) tokens)) then None else Some (take (part_length Comma tokens) tokens)
+
+-- the argument that a call gives a value of
+unfoldable pub picked : List Token → Option (List Token)
+picked [] = None
+picked (token ∷ tokens) = if is_picked token.kind then (brackets_at tokens >>= λ call. first_argument call.0) else None
+
+-- the smaller operand whose values are those of this one
+unfoldable pub inner_operand : List Token → Option (List Token)
+inner_operand tokens = or_else (bracketed tokens) (picked tokens)
+
+-- values alone: a constant in brackets is no constant
+abbrev pub as_value : Known → Known
+as_value (Value kind) = Value kind
+as_value _ = Nothing
+
+abbrev pub primary_by : (List Token → Known) → List Use → List Token → Option (List Token) → Known
+primary_by inner names tokens (Some inside) = as_value (inner inside)
+primary_by inner names tokens None = plain_known names tokens
+
+-- what is known of an operand without casts
+unfoldable pub primary_known : (List Token → Known) → List Use → List Token → Known
+primary_known inner names tokens = primary_by inner names tokens (inner_operand tokens)
+
+-- ---- casts
+
+abbrev pub value_by : Kind → Option Form → Known
+value_by kind None = Nothing
+value_by kind (Some form) = Value kind
+
+-- what is known of a cast of an operand, where an equation gives it
+abbrev pub known_as : Known → Kind → Known
+known_as known kind = value_by kind (equation known kind)
+
+unfoldable pub known_after : Known → List Cast → Known
+known_after known [] = known
+known_after known (cast ∷ casts) = known_after (known_as known cast.kind) casts
+
+abbrev pub term_by : (List Token → Known) → List Use → List Token → List Cast → Known
+term_by inner names operand [] = primary_known inner names operand
+term_by inner names operand (cast ∷ casts) = known_after (inner operand) (cast ∷ casts)
+
+-- a term that is all of the tokens
+abbrev pub whole_known : (List Token → Known) → List Use → Option Term → Known
+whole_known inner names None = Nothing
+whole_known inner names (Some term) = if length term.rest == 0 then term_by inner names term.operand term.casts else Nothing
+
+-- what is known of tokens that are one operand with its casts, looked for in so many brackets and casts
+unfoldable pub known_within : List Use → ℕ → List Token → Known
+known_within names zero tokens = Nothing
+known_within names (suc depth) tokens = whole_known (known_within names depth) names (term_at tokens)
+
+-- brackets and casts are followed to 130 levels
+abbrev pub known_of : List Use → List Token → Known
+known_of names tokens = known_within names 130 tokens

@@ -1,0 +1,10 @@
+pub mod Masked
+pub mod Kinds
+pub mod Types
+pub mod Terms
+pub mod Names
+pub mod Known
+pub mod Equations
+pub mod Walked
+pub mod Seen
+pub mod Placed

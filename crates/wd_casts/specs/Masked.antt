@@ -1,0 +1,50 @@
+-- A query in the characters of the profile's lexer: each `::` outside of quotes and comments stands as `%%`. All other bytes stay, each
+-- at its place. A text in which a `%%` could say something else is left: there is none for it. Nor is there one for a text with E'..', in
+-- which the profile's lexer reads another end than PostgreSQL.
+use Rattle.std.specs.Prelude.{ℕ, ◌==◌, ◌||◌, ◌&&◌, not, Bool, true, false, if◌then◌else◌, List, [], ◌∷◌, slice_index, Option, Some, None}
+use Rattle.wd_dialect_text.specs.declared.mask.State.{State}
+use Rattle.wd_dialect_text.specs.declared.mask.State.TheVariants as s
+use Rattle.wd_dialect_text.specs.Masked.{step}
+
+-- the codes of `:` and `%`
+abbrev pub colon : ℕ
+colon = 58
+
+abbrev pub percent : ℕ
+percent = 37
+
+-- a sign in that state stands outside of quotes and comments
+abbrev pub is_outside : State → Bool
+is_outside s.Between = true
+is_outside s.Word = true
+is_outside s.Number = true
+is_outside _ = false
+
+-- the quote of a text E'..'
+abbrev pub is_prefix : State → Bool
+is_prefix s.Prefix = true
+is_prefix _ = false
+
+-- two percent signs side by side, or one beside a colon
+abbrev pub is_doubtful : ℕ → ℕ → Bool
+is_doubtful b next = (b == percent && (next == percent || next == colon)) || (b == colon && next == percent)
+
+-- none of these stands in the bytes, of which the first stands in that state
+unfoldable pub is_plain : State → List ℕ → Bool
+is_plain state [] = true
+is_plain state (b ∷ bytes) =
+    not (is_prefix state) && not (is_outside state && is_doubtful b (slice_index bytes 0)) && is_plain (step state b (slice_index bytes 0)).1 bytes
+
+-- what stands for a byte, and whether the next is the second of `::`
+abbrev pub byte_for : Bool → State → ℕ → ℕ → ℕ × Bool
+byte_for true state b next = (percent, false)
+byte_for false state b next = if is_outside state && b == colon && next == colon then (percent, true) else (b, false)
+
+-- bytes, of which the first stands in that state
+unfoldable pub masked_from : Bool → State → List ℕ → List ℕ
+masked_from is_second state [] = []
+masked_from is_second state (b ∷ bytes) =
+    let found = byte_for is_second state b (slice_index bytes 0) in found.0 ∷ masked_from found.1 (step state b (slice_index bytes 0)).1 bytes
+
+unfoldable pub masked : List ℕ → Option (List ℕ)
+masked text = if is_plain s.Between text then Some (masked_from false s.Between text) else None

@@ -1,0 +1,258 @@
+//! What is known of an operand: that it is a text or a number, or what its values are by the columns of a schema.
+
+ghost use Rattle.std.specs.Prelude.{◌≡◌, map, Some, IfOk};
+ghost use Rattle.wd_clauses.specs.Given.{Finds};
+ghost use Rattle.wd_casts.specs.Known as spec;
+ghost use Rattle.wd_casts.specs.Known.{known_within};
+ghost use Rattle.wd_casts.specs.Seen.{term_seen, use_seen};
+
+use crate::equation::equation;
+use crate::kind::Kind;
+use crate::names::{NameUse, kind_named};
+use crate::term::{Cast, Term, term_at};
+use std::alloc::{AllocError, Global};
+use wd_lex::{Token, TokenKind};
+use wd_moments::{
+    Stop, begins_bracket, bracketed, brackets_at, is_dot, is_name, is_picked, part_length,
+};
+
+/// How many brackets and casts are followed.
+const MOST_DEEP: usize = 130;
+
+/// What is known of an operand.
+#[derive(Clone, Copy)]
+pub enum Known {
+    Nothing,
+    /// It is a text in quotes.
+    Literal,
+    /// It is that number.
+    Number(u64),
+    /// Its values are of that kind.
+    Value(Kind),
+}
+
+fn value_of(kind: Option<Kind>) -> Known
+    ensures { result ≡ spec.value_of kind }
+{
+    match kind {
+        Some(kind) => Known::Value(kind),
+        None => Known::Nothing,
+    }
+}
+
+fn token_known(names: &[NameUse], kind: &TokenKind) -> Known
+    ensures { result ≡ spec.token_known (map use_seen names.now) kind.now }
+{
+    match kind {
+        TokenKind::Word(name) | TokenKind::Quoted(name) => {
+            value_of(kind_named(names, name.as_str()))
+        }
+        TokenKind::Number(number) => Known::Number(*number),
+        TokenKind::Literal(_) => Known::Literal,
+        TokenKind::Terminal(_) => Known::Nothing,
+    }
+}
+
+/// A name, of a table or not, a number or a text.
+#[tactic(auto, unfolding(crate::specs::Known::column_known))]
+fn column_known(names: &[NameUse], tokens: &[Token]) -> Known
+    ensures { result ≡ spec.column_known (map use_seen names.now) tokens.now }
+{
+    match tokens {
+        [only] => token_known(names, &only.kind),
+        [table, dot, column] => {
+            if is_name(&table.kind) && is_dot(&dot.kind) && is_name(&column.kind) {
+                token_known(names, &column.kind)
+            } else {
+                Known::Nothing
+            }
+        }
+        _ => Known::Nothing,
+    }
+}
+
+/// Whether a call of that name counts rows, in whole numbers of 64 bits.
+fn is_counted(kind: &TokenKind) -> bool
+    ensures { result ≡ spec.is_counted kind.now }
+{
+    match kind {
+        TokenKind::Word(name) => {
+            let name = name.as_str();
+            name == "count" || name == "row_number" || name == "rank" || name == "dense_rank"
+        }
+        _ => false,
+    }
+}
+
+/// Whether a call that counts rows stands first.
+#[tactic(auto, unfolding(crate::specs::Known::counts_rows))]
+fn counts_rows(tokens: &[Token]) -> bool
+    ensures { result ≡ spec.counts_rows tokens.now }
+{
+    match tokens {
+        [first, rest @ ..] => is_counted(&first.kind) && begins_bracket(rest),
+        [] => false,
+    }
+}
+
+#[tactic(auto, unfolding(crate::specs::Known::plain_known))]
+fn plain_known(names: &[NameUse], tokens: &[Token]) -> Known
+    ensures { result ≡ spec.plain_known (map use_seen names.now) tokens.now }
+{
+    if counts_rows(tokens) {
+        Known::Value(Kind::Big)
+    } else {
+        column_known(names, tokens)
+    }
+}
+
+/// The first argument, where a comma and one token stand after it at most.
+#[tactic(auto, unfolding(crate::specs::Known::first_argument))]
+fn first_argument(tokens: &[Token]) -> Option<&[Token]>
+    ensures { Finds (λ r. r.now) result (spec.first_argument tokens.now) }
+{
+    let (first, others) = tokens.split_at(part_length(Stop::Comma, tokens));
+    if others.len() > 2 { None } else { Some(first) }
+}
+
+/// The argument that a call gives a value of.
+#[tactic(auto, unfolding(crate::specs::Known::picked))]
+fn picked(tokens: &[Token]) -> Option<&[Token]>
+    ensures { Finds (λ r. r.now) result (spec.picked tokens.now) }
+{
+    let [first, rest @ ..] = tokens else {
+        return None;
+    };
+    if !is_picked(&first.kind) {
+        return None;
+    }
+    let Some((arguments, _)) = brackets_at(rest) else {
+        return None;
+    };
+    first_argument(arguments)
+}
+
+/// The smaller operand whose values are those of this one.
+#[tactic(auto, unfolding(crate::specs::Known::inner_operand))]
+fn inner_operand(tokens: &[Token]) -> Option<&[Token]>
+    ensures { Finds (λ r. r.now) result (spec.inner_operand tokens.now) }
+{
+    match bracketed(tokens) {
+        Some(inside) => Some(inside),
+        None => picked(tokens),
+    }
+}
+
+fn as_value(known: Known) -> Known
+    ensures { result ≡ spec.as_value known }
+{
+    match known {
+        Known::Value(_) => known,
+        _ => Known::Nothing,
+    }
+}
+
+/// What is known of a cast of an operand.
+pub fn known_as(known: Known, kind: Kind) -> Known
+    ensures { result ≡ spec.known_as known kind }
+{
+    match equation(known, kind) {
+        Some(_) => Known::Value(kind),
+        None => Known::Nothing,
+    }
+}
+
+/// What is known of an operand after its casts.
+#[tactic(auto, unfolding(crate::specs::Known::known_after))]
+pub fn known_after(first: Known, casts: &[Cast]) -> Known
+    ensures { result ≡ spec.known_after first casts.now }
+{
+    let mut known = first;
+    let mut rest = casts;
+    while let [cast, after @ ..] = rest {
+        known = known_as(known, cast.kind);
+        rest = after;
+    }
+    known
+}
+
+/// What is known of an operand without casts.
+#[tactic(auto, unfolding(crate::specs::Known::primary_known))]
+#[cycle(known_within)]
+fn primary_known(
+    alloc: Global,
+    names: &[NameUse],
+    depth: usize,
+    tokens: &[Token],
+) -> Result<Known, AllocError>
+    ensures { IfOk result (λ known. known ≡ spec.primary_known (known_within (map use_seen names.now) depth) (map use_seen names.now) tokens.now) }
+{
+    match inner_operand(tokens) {
+        Some(inside) => {
+            let known = known_within(alloc, names, depth, inside)?;
+            Ok(as_value(known))
+        }
+        None => Ok(plain_known(names, tokens)),
+    }
+}
+
+/// What is known of an operand with its casts.
+#[cycle(known_within)]
+fn term_known(
+    alloc: Global,
+    names: &[NameUse],
+    depth: usize,
+    term: &Term,
+) -> Result<Known, AllocError>
+    ensures { IfOk result (λ known. known ≡ spec.term_by (known_within (map use_seen names.now) depth) (map use_seen names.now) term.now.operand.now term.now.casts.items) }
+{
+    if term.casts.is_empty() {
+        primary_known(alloc, names, depth, term.operand)
+    } else {
+        let known = known_within(alloc, names, depth, term.operand)?;
+        Ok(known_after(known, &term.casts))
+    }
+}
+
+/// What is known of an operand with its casts, where no tokens stand after them.
+#[cycle(known_within)]
+fn whole_known(
+    alloc: Global,
+    names: &[NameUse],
+    depth: usize,
+    term: &Term,
+) -> Result<Known, AllocError>
+    ensures { IfOk result (λ known. known ≡ spec.whole_known (known_within (map use_seen names.now) depth) (map use_seen names.now) (Some (term_seen term.now))) }
+{
+    if term.rest.is_empty() {
+        term_known(alloc, names, depth, term)
+    } else {
+        Ok(Known::Nothing)
+    }
+}
+
+/// What is known of tokens that are one operand with its casts, looked for in so many brackets and casts.
+#[cycle(known_within)]
+fn known_within(
+    alloc: Global,
+    names: &[NameUse],
+    depth: usize,
+    tokens: &[Token],
+) -> Result<Known, AllocError>
+    ensures { IfOk result (λ known. known ≡ known_within (map use_seen names.now) depth tokens.now) }
+{
+    if depth == 0 {
+        return Ok(Known::Nothing);
+    }
+    match term_at(alloc, tokens)? {
+        Some(term) => whole_known(alloc, names, depth - 1, &term),
+        None => Ok(Known::Nothing),
+    }
+}
+
+/// What is known of an operand.
+pub fn known_of(alloc: Global, names: &[NameUse], tokens: &[Token]) -> Result<Known, AllocError>
+    ensures { IfOk result (λ known. known ≡ spec.known_of (map use_seen names.now) tokens.now) }
+{
+    known_within(alloc, names, MOST_DEEP, tokens)
+}

@@ -1,0 +1,21 @@
+//! Casts: PostgreSQL's `x::type` and the standard's `CAST ( x AS type )`, where the value stays or an equation in whole numbers
+//! gives it.
+//!
+//! `mask` gives a query in the characters of the profile's lexer: `::` stands as `%%`. `term` reads an operand with its casts, `known`
+//! says what is known of the operand by the columns of a schema (`names`), and `equation` what a cast of it is. `walk` goes over the
+//! tokens from left to right and writes the equations.
+#![tactic(auto)]
+
+mod equation;
+mod kind;
+mod known;
+mod mask;
+mod names;
+mod term;
+mod token;
+mod type_name;
+mod walk;
+
+pub use mask::masked;
+pub use term::has_casts;
+pub use walk::without_casts;

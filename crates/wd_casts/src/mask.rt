@@ -1,0 +1,100 @@
+//! The masked text: `::` as `%%`.
+
+ghost use Rattle.std.specs.Prelude.{◌≡◌, false, length, IfOk, IfSome};
+ghost use Rattle.std.specs.Option.{option_map};
+ghost use Rattle.wd_casts.specs.Masked as spec;
+
+use std::alloc::{AllocError, Global};
+use wd_dialect_text::{State, step};
+
+/// Whether a sign stands outside of quotes and comments.
+fn is_outside(state: State) -> bool
+    ensures { result ≡ spec.is_outside state }
+{
+    matches!(state, State::Between | State::Word | State::Number)
+}
+
+/// Whether it is the quote of a text E'..'.
+fn is_prefix(state: State) -> bool
+    ensures { result ≡ spec.is_prefix state }
+{
+    matches!(state, State::Prefix)
+}
+
+/// Whether a byte and the next could be mistaken for a `::` that is masked.
+fn is_doubtful(byte: u8, next: u8) -> bool
+    ensures { result ≡ spec.is_doubtful byte next }
+{
+    (byte == b'%' && (next == b'%' || next == b':')) || (byte == b':' && next == b'%')
+}
+
+/// Whether no bytes stand in the text that could be mistaken, and no text E'..'.
+#[tactic(auto, unfolding(crate::specs::Masked::is_plain))]
+fn is_plain(text: &[u8]) -> bool
+    ensures { result ≡ spec.is_plain State.Between text.now }
+{
+    let mut state = State::Between;
+    let mut rest = text;
+    while let [byte, after @ ..] = rest {
+        let next = after.first().copied().unwrap_or(0);
+        if is_prefix(state) || (is_outside(state) && is_doubtful(*byte, next)) {
+            return false;
+        }
+        let (_, following) = step(state, *byte, next);
+        state = following;
+        rest = after;
+    }
+    true
+}
+
+/// What stands for a byte, and whether the next is the second of `::`.
+fn byte_for(is_second: bool, state: State, byte: u8, next: u8) -> (u8, bool)
+    ensures { result ≡ spec.byte_for is_second state byte next }
+{
+    if is_second {
+        (b'%', false)
+    } else if is_outside(state) && byte == b':' && next == b':' {
+        (b'%', true)
+    } else {
+        (byte, false)
+    }
+}
+
+/// The bytes with `%%` for each `::`.
+#[tactic(auto, unfolding(crate::specs::Masked::masked_from))]
+fn with_percents(alloc: Global, text: &[u8]) -> Result<Vec<u8>, AllocError>
+    ensures masked { IfOk result (λ found. found.items ≡ spec.masked_from false State.Between text.now) }
+    ensures places { IfOk result (λ found. length found.items ≡ length text.now) }
+{
+    let mut found = Vec::with_capacity(alloc, text.len())?;
+    let mut state = State::Between;
+    let mut is_second = false;
+    let mut rest = text;
+    while let [byte, after @ ..] = rest {
+        let next = after.first().copied().unwrap_or(0);
+        let (other, is_next_second) = byte_for(is_second, state, *byte, next);
+        found.push(other)?;
+        let (_, following) = step(state, *byte, next);
+        state = following;
+        is_second = is_next_second;
+        rest = after;
+    }
+    Ok(found)
+}
+
+/// The query as the profile's lexer can read it: each `::` outside of quotes and comments stands as `%%`, and all else as it is. None
+/// where two percent signs stand side by side outside of quotes and comments, or one beside a colon, or a text E'..' stands in it.
+#[tactic(auto, unfolding(crate::specs::Masked::masked))]
+pub fn masked(alloc: Global, text: &[u8]) -> Result<Option<Vec<u8>>, AllocError>
+    ensures masked { IfOk result (λ found. option_map (λ v. v.items) found ≡ spec.masked text.now) }
+
+    // Each byte stays at its place.
+    ensures places { IfOk result (λ found. IfSome found (λ v. length v.items ≡ length text.now)) }
+{
+    if is_plain(text) {
+        let found = with_percents(alloc, text)?;
+        Ok(Some(found))
+    } else {
+        Ok(None)
+    }
+}
