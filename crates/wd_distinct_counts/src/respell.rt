@@ -13,8 +13,8 @@ use crate::select::{Grouping, grouping_of};
 use crate::write::written;
 use std::alloc::{AllocError, Global};
 use wd_clauses::{RespellError, parts};
-use wd_distinct_on::{Selects, added_name, cut, respelled_backwards};
-use wd_grouping::{begins_select, is_column, one_table, tables_called};
+use wd_distinct_on::{Selects, added_name, cut, respelled_backwards, starts_with_select};
+use wd_grouping::{is_column, one_table, tables_called};
 use wd_lex::Token;
 use wd_using::{Select, select_at};
 
@@ -176,7 +176,7 @@ impl Selects for DistinctCounts {
     ghost respelled = { λ _. spec.respelled_at };
 
     fn begins(&self, tokens: &[Token]) -> bool {
-        begins_select(tokens)
+        starts_with_select(tokens)
     }
 
     fn respelled_at(

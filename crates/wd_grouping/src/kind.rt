@@ -106,13 +106,3 @@ pub fn ends_operand(kind: &TokenKind) -> bool
 {
     stops_operand(kind) || is_direction(kind)
 }
-
-/// Whether SELECT stands first.
-pub fn begins_select(tokens: &[Token]) -> bool
-    ensures { result ≡ kinds.begins kinds.is_select tokens.now }
-{
-    match tokens {
-        [first, ..] => matches!(first.kind, TokenKind::Terminal(Terminal::Select)),
-        [] => false,
-    }
-}

@@ -15,7 +15,7 @@ mod source;
 mod write;
 
 pub use key::is_column;
-pub use kind::{begins_select, is_group, is_over};
+pub use kind::{is_group, is_over};
 pub use replace::{add_its_table, add_qualified, begins_dot};
 pub use respell::without_expression_keys;
 pub use source::{OneTable, one_table, tables_called};

@@ -7,14 +7,13 @@ ghost use Rattle.wd_grouping.specs.Named.{group_key, grouped_pieces, one_table};
 ghost use Rattle.wd_grouping.specs.Respelled as spec;
 
 use crate::key::{Key, all_stay, have_names, keys_of};
-use crate::kind::begins_select;
 use crate::replace::{are_clear, have_star};
 use crate::select::{Grouped, grouped_of};
 use crate::source::{OneTable, one_table, tables_called};
 use crate::write::{written, written_over};
 use std::alloc::Global;
 use wd_clauses::{RespellError, parts};
-use wd_distinct_on::{Selects, added_name, cut, respelled_backwards};
+use wd_distinct_on::{Selects, added_name, cut, respelled_backwards, starts_with_select};
 use wd_lex::Token;
 use wd_using::select_at;
 
@@ -185,7 +184,7 @@ impl Selects for ExpressionKeys {
     ghost respelled = { λ _. spec.respelled_at };
 
     fn begins(&self, tokens: &[Token]) -> bool {
-        begins_select(tokens)
+        starts_with_select(tokens)
     }
 
     fn respelled_at(

@@ -12,9 +12,9 @@ use crate::membership::{Membership, Pair, Test};
 use crate::query::query_in;
 use std::alloc::{AllocError, Global};
 use wd_clauses::{Stop, is_name, is_same_name, split};
-use wd_distinct_on::cut;
+use wd_distinct_on::{cut, is_dot};
 use wd_lex::Token;
-use wd_using::{Extent, Select, alias_at, is_dot};
+use wd_using::{Extent, Select, alias_at};
 
 /// `FROM u [[AS] a]`, and nothing else: the name by which the columns of u are called.
 fn name_of_table(tokens: &[Token]) -> Option<&Token>

@@ -7,8 +7,9 @@ ghost use Rattle.wd_membership.specs.Kinds as spec;
 ghost use Rattle.wd_using.specs.Joins.{is_end};
 ghost use Rattle.wd_using.specs.Kinds as single;
 
+use wd_distinct_on::is_dot;
 use wd_lex::{Terminal, Token, TokenKind};
-use wd_using::{begins_columns, is_dot, is_star, opens};
+use wd_using::{begins_columns, is_star, opens};
 
 pub fn is_in(kind: &TokenKind) -> bool
     ensures { result ≡ spec.is_in kind.now }

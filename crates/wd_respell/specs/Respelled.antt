@@ -10,21 +10,30 @@ use Rattle.wd_casts.specs.Terms.{has_casts}
 use Rattle.wd_casts.specs.Walked.{without_casts}
 use Rattle.wd_schema.specs.Tables.{TableRule}
 use Rattle.wd_using.specs.Respelled as joins
+use Rattle.wd_membership.specs.Respelled as memberships
+use Rattle.wd_grouping.specs.Respelled as keys
+use Rattle.wd_distinct_counts.specs.Respelled as counts
 use Rattle.wd_equations.specs.Expanded as expressions
 use Rattle.wd_moments.specs.Numbered.{with_numbers}
 use Rattle.wd_qualified.specs.Unqualified.{unqualified}
 use Rattle.wd_with.specs.declared.place.Place.TheVariants.{Elsewhere}
 use Rattle.wd_dialect_read.specs.declared.said.Statement.{Statement}
 
--- tokens without the schemas of tables, then without DISTINCT ON, and then without USING over these tables
+-- tokens without the schemas of tables, then without DISTINCT ON, then without USING over these tables, then without memberships, then
+-- with columns for the keys of GROUP BY, and then without distinct counts
 pub record IsPlain (tables : List TableRule) (tokens plain : List Token) : Type 0 where
-  pub distinct : List Token
-  pub selects : selects.respelled (unqualified (Elsewhere ∷ []) tokens) ≡ Ok distinct
-  pub using : joins.respelled tables distinct ≡ Ok plain
+  pub first : List Token
+  pub selects : selects.respelled (unqualified (Elsewhere ∷ []) tokens) ≡ Ok first
+  pub joined : List Token
+  pub using : joins.respelled tables first ≡ Ok joined
+  pub among : List Token
+  pub memberships : memberships.respelled joined ≡ Ok among
+  pub grouped : List Token
+  pub keys : keys.respelled among ≡ Ok grouped
+  pub counts : counts.respelled grouped ≡ Ok plain
 
--- what the tokens of a query are by the equations, over these tables, which the statements make: WITH is taken out, then come the schemas of
--- tables, DISTINCT ON and USING, then the equations of expressions, and moments become numbers. And the members of WITH that are read
--- twice
+-- what the tokens of a query are by the equations, over these tables, which the statements make: WITH is taken out, then come the
+-- equations of selects as above, then those of expressions, and moments become numbers. And the members of WITH that are read twice
 pub record IsEquated (tables : List TableRule) (statements : List Statement) (tokens : List Token) (said : Said) : Type 0 where
   pub plain : List Token
   pub is_plain : IsPlain tables (members.expanded tokens).tokens plain

@@ -1,6 +1,6 @@
 //! A query through the equations.
 
-ghost use Rattle.std.specs.Prelude.{◌≡◌, Ok, Some, IfOk, IfSome};
+ghost use Rattle.std.specs.Prelude.{◌≡◌, Some, IfOk, IfSome};
 ghost use Rattle.std.specs.String.{string_bytes};
 ghost use Rattle.wd_lex.specs.Lexed.{IsLexed};
 ghost use Rattle.wd_equations.specs.Expanded as expressions;
@@ -8,7 +8,6 @@ ghost use Rattle.wd_moments.specs.Numbered as numbers;
 ghost use Rattle.wd_casts.specs.Masked.{masked};
 ghost use Rattle.wd_respell.specs.Respelled.{AreEquated, AreUncast, IsEquated, IsPlain, IsRespelled};
 ghost use Rattle.wd_schema.specs.Schemas.{schema_of};
-ghost use Rattle.wd_using.specs.Respelled.{respelled};
 ghost use Rattle.wd_with.specs.Expanded.{said};
 
 use crate::kinds::say_the_same;
@@ -17,9 +16,12 @@ use std::alloc::Global;
 use wd_casts::{has_casts, masked, without_casts};
 use wd_clauses::RespellError;
 use wd_dialect_read::Statement;
+use wd_distinct_counts::without_distinct_counts;
 use wd_distinct_on::without_distinct_on;
 use wd_equations::{ExpandError, expand};
+use wd_grouping::without_expression_keys;
 use wd_lex::{LexError, Token, lex};
+use wd_membership::without_membership;
 use wd_moments::{MomentError, with_numbers};
 use wd_qualified::unqualified_query;
 use wd_schema::Schema;
@@ -125,9 +127,10 @@ fn equated(
     match without_with(alloc, tokens) {
         Ok(expanded) => {
             let Expanded { tokens, read_twice } = expanded;
-            match plain(alloc, schema, &tokens)? {
-                Some(plain) => numbered(alloc, statements, &plain, read_twice),
-                None => Ok(None),
+            match plain(alloc, schema, &tokens) {
+                Ok(plain) => numbered(alloc, statements, &plain, read_twice),
+                Err(RespellError::OutOfMemory) => Err(OutOfMemory),
+                Err(RespellError::TooLong) => Ok(None),
             }
         }
         Err(RespellError::OutOfMemory) => Err(OutOfMemory),
@@ -135,38 +138,17 @@ fn equated(
     }
 }
 
-/// The tokens without schemas of tables, without DISTINCT ON and without USING.
-fn plain(
-    alloc: Global,
-    schema: &Schema,
-    tokens: &[Token],
-) -> Result<Option<Vec<Token>>, OutOfMemory>
-    ensures { IfOk result (λ o. IfSome o (λ plain. IsPlain (schema_of schema.now) tokens.now plain.items)) }
+/// The tokens without schemas of tables, DISTINCT ON, USING and memberships, with columns for the keys of GROUP BY, and without distinct
+/// counts.
+fn plain(alloc: Global, schema: &Schema, tokens: &[Token]) -> Result<Vec<Token>, RespellError>
+    ensures { IfOk result (λ plain. IsPlain (schema_of schema.now) tokens.now plain.items) }
 {
-    match unqualified_query(alloc, tokens) {
-        Ok(tables) => match without_distinct_on(alloc, &tables) {
-            Ok(distinct) => joined(alloc, schema, &distinct),
-            Err(RespellError::OutOfMemory) => Err(OutOfMemory),
-            Err(RespellError::TooLong) => Ok(None),
-        },
-        Err(RespellError::OutOfMemory) => Err(OutOfMemory),
-        Err(RespellError::TooLong) => Ok(None),
-    }
-}
-
-/// The tokens without USING.
-fn joined(
-    alloc: Global,
-    schema: &Schema,
-    tokens: &[Token],
-) -> Result<Option<Vec<Token>>, OutOfMemory>
-    ensures { IfOk result (λ o. IfSome o (λ plain. respelled (schema_of schema.now) tokens.now ≡ Ok plain.items)) }
-{
-    match without_using(alloc, schema, tokens) {
-        Ok(plain) => Ok(Some(plain)),
-        Err(RespellError::OutOfMemory) => Err(OutOfMemory),
-        Err(RespellError::TooLong) => Ok(None),
-    }
+    let tables = unqualified_query(alloc, tokens)?;
+    let first = without_distinct_on(alloc, &tables)?;
+    let joined = without_using(alloc, schema, &first)?;
+    let among = without_membership(alloc, &joined)?;
+    let grouped = without_expression_keys(alloc, &among)?;
+    without_distinct_counts(alloc, &grouped)
 }
 
 /// The tokens with the equations of expressions, and with numbers for moments, beside these names.

@@ -15,8 +15,6 @@ pub fn is_as(kind: &TokenKind) -> bool
     matches!(kind, TokenKind::Terminal(Terminal::As))
 }
 
-pub fn is_dot(kind: &TokenKind) -> bool
-    ensures { result ≡ kinds.is_dot kind.now }
 {
     matches!(kind, TokenKind::Terminal(Terminal::Dot))
 }

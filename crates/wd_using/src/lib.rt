@@ -14,7 +14,7 @@ mod select;
 mod source;
 mod write;
 
-pub use kind::{begins_columns, begins_distinct, ends_value, is_dot, is_star, opens};
+pub use kind::{begins_columns, begins_distinct, ends_value, is_star, opens};
 pub use level::{Extent, split_at};
 pub use respell::without_using;
 pub use select::{Select, pieces_at, select_at};

@@ -9,10 +9,10 @@ ghost use Rattle.wd_schema.specs.Tables as rules;
 ghost use Rattle.wd_using.specs.Joins as spec;
 ghost use Rattle.wd_using.specs.Named as named;
 
-use crate::kind::{begins_distinct, is_as, is_dot, is_select, opens};
+use crate::kind::{begins_distinct, is_as, is_select, opens};
 use std::alloc::{AllocError, Global};
 use wd_clauses::{Stop, closing, is_name, parts, split};
-use wd_distinct_on::cut;
+use wd_distinct_on::{cut, is_dot};
 use wd_lex::{Token, TokenKind};
 use wd_schema::{Column, Schema, Table};
 
