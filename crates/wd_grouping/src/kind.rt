@@ -5,7 +5,7 @@ ghost use Rattle.wd_distinct_on.specs.Kinds as kinds;
 ghost use Rattle.wd_grouping.specs.Kinds as spec;
 
 use wd_distinct_on::is_direction;
-use wd_lex::{Terminal, Token, TokenKind};
+use wd_lex::{Terminal, TokenKind};
 
 pub fn is_group(kind: &TokenKind) -> bool
     ensures { result ≡ spec.is_group kind.now }

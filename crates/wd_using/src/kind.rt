@@ -15,10 +15,6 @@ pub fn is_as(kind: &TokenKind) -> bool
     matches!(kind, TokenKind::Terminal(Terminal::As))
 }
 
-{
-    matches!(kind, TokenKind::Terminal(Terminal::Dot))
-}
-
 pub fn is_on(kind: &TokenKind) -> bool
     ensures { result ≡ kinds.is_on kind.now }
 {
