@@ -42,7 +42,7 @@ pub record IsEquated (tables : List TableRule) (statements : List Statement) (to
 
 -- the tokens without casts, of which none is left
 pub record AreUncast (statements : List Statement) (tokens uncast : List Token) : Type 0 where
-  pub uncast : uncast ≡ without_casts statements tokens
+  pub are : uncast ≡ without_casts statements tokens
   pub none : has_casts uncast ≡ false
 
 -- the tokens of a query by the equations: first without casts, then as above
