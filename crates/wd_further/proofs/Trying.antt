@@ -19,8 +19,7 @@ use Rattle.wd_varied.specs.Literals.{compared, literals}
 use Rattle.wd_varied.specs.Suggested.{all_near, around, most_literals}
 use Rattle.wd_varied.specs.Varied.{fillings, filled_row, rows_in, varied}
 use Rattle.wd_further.specs.Rounds.{of_size, tries}
-use Rattle.wd_further.specs.Finds.{EndsWith, IsSoughtBy, IsSoughtIn, to_try, turnings}
-use Rattle.wd_further.specs.declared.search.Turning.{Turning}
+use Rattle.wd_further.specs.Finds.{EndsWith, IsSoughtBy, IsSoughtIn, Turning, to_try, turnings}
 
 -- ---- one after another
 
@@ -38,6 +37,11 @@ module _ (tables : List TableRule) (plan : PlanTree) where
   pub then_others : (o : Option Witness) (t : Turning) (ts : List Turning) → EndsWith None tables plan t → IsSoughtBy o tables plan ts → IsSoughtBy o tables plan (t ∷ ts)
   then_others None t ts h g = (h, g)
   then_others (Some w) t ts h g = inr (h, g)
+
+  -- the last search
+  pub then_none : (o : Option Witness) (t : Turning) → EndsWith o tables plan t → IsSoughtBy o tables plan (t ∷ [])
+  then_none None t h = (h, refl)
+  then_none (Some w) t h = inl h
 
   pub shown_of : (o : Option Witness) → IsSoughtIn o tables plan → IfSome o (λ w. IsShown tables plan (witness_of w))
   shown_of None h = tt

@@ -3,12 +3,12 @@ use Rattle.std.specs.Prelude.{◌≡◌, ◌⊎◌, ℕ, List, [], ◌∷◌, fi
 use Rattle.wd_value.specs.Rows.{Instance}
 use Rattle.wd_schema.specs.Tables.{TableRule}
 use Rattle.wd_plan.specs.Plans.{PlanTree}
+use Rattle.wd_partition.specs.declared.turn.Turn.{Turn}
 use Rattle.wd_partition.specs.declared.turn.Turn.TheVariants.{Reversed, Rotated, Exchanged}
 use Rattle.wd_query.specs.Causes.{HasTextCause, text_number}
 use Rattle.wd_query.specs.Readings.{ForReading}
 use Rattle.wd_query.specs.declared.error.TextError.{TextError}
 use Rattle.wd_further.specs.declared.judge.Found.{Found}
-use Rattle.wd_further.specs.declared.search.Turning.{Turning}
 use Rattle.wd_refute.specs.Refutation.{IsRefuted}
 use Rattle.wd_witness_text.specs.Json.{Spells}
 use Rattle.wd_witness_text.specs.Witnesses.{witness_of}
@@ -27,8 +27,12 @@ pub record IsFound (schema query : List ℕ) (found : Found) : Type 0 where
 abbrev pub to_try : List TableRule → PlanTree → List Instance
 to_try tables plan = filter (is_meeting tables) (candidates tables plan)
 
--- searches among them, each with a turn in which one ordering takes rows that tie, and the number from which its evaluations count to
--- the most: 1,000 evaluations with rows that tie turned round, then 500 with the first of them last, and 500 with neighbours exchanged
+-- a search among them: the turn in which one ordering takes rows that tie, and the number from which its evaluations count to the most
+pub record Turning : Type 0 where
+  pub turn : Turn
+  pub start : ℕ
+
+-- 1,000 evaluations with rows that tie turned round, then 500 with the first of them last, and 500 with neighbours exchanged
 abbrev pub turnings : List Turning
 turnings = record { turn = Reversed; start = 1000 } ∷ record { turn = Rotated; start = 1500 } ∷ record { turn = Exchanged; start = 1500 } ∷ []
 

@@ -1,9 +1,8 @@
 //! The candidates, one after another.
 
-ghost use Rattle.std.specs.Prelude.{◌≡◌, ◌≤◌, ◌+◌, ◌*◌, ◌/◌, ◌^◌, ◌∷◌, [], ℕ, true, filter, length, max, min, All, IfOk, IfSome};
-ghost use Rattle.std.specs.List.{AllByRecursion};
+ghost use Rattle.std.specs.Prelude.{◌≡◌, ◌≤◌, ◌+◌, ◌*◌, ◌/◌, ◌^◌, ◌∷◌, [], ℕ, true, drop, filter, length, max, min, All, IfOk, IfSome};
 ghost use Rattle.wd_candidates.specs.Outlines.{IsOutline};
-ghost use Rattle.wd_further.specs.Finds.{IsSoughtBy, IsSoughtIn};
+ghost use Rattle.wd_further.specs.Finds.{IsSoughtBy, IsSoughtIn, turnings};
 ghost use Rattle.wd_further.specs.Rounds.{most_tries, most_work};
 ghost use Rattle.wd_further.specs.Rounds as spec;
 ghost use Rattle.wd_plan.specs.Fits.{fits};
@@ -39,29 +38,6 @@ const MOST_WORK: u128 = 100_000_000;
 /// The least that an evaluation does for each row.
 const LEAST_WORK: u64 = 250;
 
-/// A search among the candidates: the turn in which one ordering takes rows that tie, and the number from which its evaluations count.
-#[derive(Clone, Copy)]
-pub(crate) struct Turning {
-    pub turn: Turn,
-    pub start: u32,
-}
-
-/// With rows that tie turned round, with the first of them last, and with neighbours exchanged.
-const TURNINGS: [Turning; 3] = [
-    Turning {
-        turn: Turn::Reversed,
-        start: 1000,
-    },
-    Turning {
-        turn: Turn::Rotated,
-        start: 1500,
-    },
-    Turning {
-        turn: Turn::Exchanged,
-        start: 1500,
-    },
-];
-
 /// A witness over the first candidate that shows two answers of a plan.
 pub(crate) fn search(
     alloc: Global,
@@ -75,12 +51,10 @@ pub(crate) fn search(
     let outline = outline_of(alloc, schema, plan)?;
     let suggested = suggested_by(alloc, plan)?;
     let sizes = sizes(alloc, plan)?;
-    search_turned(
-        alloc, schema, plan, &outline, &suggested, &sizes, &TURNINGS,
-    )
+    search_turned(alloc, schema, plan, &outline, &suggested, &sizes)
 }
 
-/// The searches one after another, until one gives a witness.
+/// The searches one after another: with rows that tie turned round, and then with neighbours in other orders.
 fn search_turned(
     alloc: Global,
     schema: &Schema,
@@ -88,7 +62,6 @@ fn search_turned(
     outline: &Outline,
     suggested: &Suggested,
     sizes: &[u32],
-    turnings: &[Turning],
 ) -> Result<Option<Witness>, OutOfMemory>
     requires fitting { fits (schema_of schema.now) (plan_of plan.now) ≡ true }
     requires outline { IsOutline (schema_of schema.now) (plan_of plan.now) outline.now }
@@ -97,26 +70,67 @@ fn search_turned(
     requires count { length sizes.now ≤ 63 }
     requires large { All (λ rows. 2 ≤ rows) sizes.now }
     requires small { All (λ rows. rows ≤ 64) sizes.now }
-    requires few { AllByRecursion (λ t. t.start ≤ most_evaluations) turnings.now }
-    ensures { IfOk result (λ o. IsSoughtBy o (schema_of schema.now) (plan_of plan.now) turnings.now) }
+    ensures { IfOk result (λ o. IsSoughtIn o (schema_of schema.now) (plan_of plan.now)) }
 {
-    let [turning, others @ ..] = turnings else {
-        return Ok(None);
-    };
-    let found = search_rounds(
+    let turned = search_rounds(
         alloc,
         schema,
         plan,
         outline,
         suggested,
         sizes,
-        turning.turn,
-        turning.start,
+        Turn::Reversed,
+        1000,
         MOST_TRIES,
     )?;
-    match found {
+    match turned {
         Some(witness) => Ok(Some(witness)),
-        None => search_turned(alloc, schema, plan, outline, suggested, sizes, others),
+        None => search_neighbours(alloc, schema, plan, outline, suggested, sizes),
+    }
+}
+
+/// The searches with the first of the rows that tie as the last, and with neighbours exchanged.
+fn search_neighbours(
+    alloc: Global,
+    schema: &Schema,
+    plan: &Plan,
+    outline: &Outline,
+    suggested: &Suggested,
+    sizes: &[u32],
+) -> Result<Option<Witness>, OutOfMemory>
+    requires fitting { fits (schema_of schema.now) (plan_of plan.now) ≡ true }
+    requires outline { IsOutline (schema_of schema.now) (plan_of plan.now) outline.now }
+    requires suggested { IsSuggested (plan_of plan.now) suggested.now }
+    requires sizes { sizes.now ≡ sizes_of (plan_of plan.now) }
+    requires count { length sizes.now ≤ 63 }
+    requires large { All (λ rows. 2 ≤ rows) sizes.now }
+    requires small { All (λ rows. rows ≤ 64) sizes.now }
+    ensures { IfOk result (λ o. IsSoughtBy o (schema_of schema.now) (plan_of plan.now) (drop 1 turnings)) }
+{
+    let rotated = search_rounds(
+        alloc,
+        schema,
+        plan,
+        outline,
+        suggested,
+        sizes,
+        Turn::Rotated,
+        1500,
+        MOST_TRIES,
+    )?;
+    match rotated {
+        Some(witness) => Ok(Some(witness)),
+        None => search_rounds(
+            alloc,
+            schema,
+            plan,
+            outline,
+            suggested,
+            sizes,
+            Turn::Exchanged,
+            1500,
+            MOST_TRIES,
+        ),
     }
 }
 
@@ -259,11 +273,15 @@ fn tries(plan: &Plan, rows: u32, sizes: usize) -> u32
     requires few { sizes ≤ 63 }
     ensures { result ≡ spec.tries (plan_of plan.now) rows }
 {
-    share(paired(plan, rows), plan.orderings(), row_work(plan), sizes as u32)
+    share(
+        paired(plan, rows),
+        plan.orderings(),
+        row_work(plan),
+        sizes as u32,
+    )
 }
 
-/// How many tries are the share of one of so many sizes, if the tables pair to so many rows, for each of which so much is done: each try
-/// is evaluated once, and once more for each of so many orderings.
+/// How many tries are the share of one of so many sizes, if the tables pair to so many rows, for each of which so much is done.
 fn share(paired: u64, orderings: u32, work: u64, sizes: u32) -> u32
     requires some { 1 ≤ paired }
     requires small { paired ≤ 2 ^ 28 }
@@ -272,7 +290,18 @@ fn share(paired: u64, orderings: u32, work: u64, sizes: u32) -> u32
     requires few { sizes ≤ 63 }
     ensures { result ≡ min (most_tries / sizes) (most_work / (((paired * (orderings + 1)) * max 250 work) * sizes)) }
 {
-    let rows = u128::from(paired) * (u128::from(orderings) + 1);
-    let cost = rows * u128::from(work.max(LEAST_WORK)) * u128::from(sizes);
+    let cost = cost(paired, orderings, work) * u128::from(sizes);
     u128::from(MOST_TRIES / sizes).min(MOST_WORK / cost) as u32
+}
+
+/// What the evaluations of a try do: one, and one more for each of so many orderings.
+fn cost(paired: u64, orderings: u32, work: u64) -> u128
+    requires some { 1 ≤ paired }
+    requires small { paired ≤ 2 ^ 28 }
+    requires little { work ≤ 2 ^ 28 }
+    ensures is { result ≡ (paired * (orderings + 1)) * max 250 work }
+    ensures some { 1 ≤ result }
+    ensures large { result ≤ 2 ^ 88 }
+{
+    u128::from(paired) * (u128::from(orderings) + 1) * u128::from(work.max(LEAST_WORK))
 }

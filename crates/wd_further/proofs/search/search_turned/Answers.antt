@@ -1,17 +1,21 @@
-use Rattle.std.proofs.Common.{inl, subst}
+use Rattle.std.proofs.Common.{drop, inl, subst}
 use Rattle.std.proofs.lemmas.Result.{IfOk-weaker}
+use Rattle.wd_partition.specs.declared.turn.Turn.TheVariants.{Reversed}
 use Rattle.wd_plan.specs.Plans.{plan_of}
 use Rattle.wd_schema.specs.Schemas.{schema_of}
-use Rattle.wd_further.specs.Finds.{EndsWith}
+use Rattle.wd_further.specs.Finds.{EndsWith, Turning, turnings}
 use Rattle.wd_further.proofs.Trying.{then_others}
 use Rattle.wd_further.proofs.search.search_turned.Goals as goal
 
+abbrev reversed : Turning
+reversed = record { turn = Reversed; start = 1000 }
+
 pub returns-in-Some : goal.returns-in-Some
-returns-in-Some c = inl (subst (λ o. EndsWith o (schema_of c.args.schema.now) (plan_of c.args.plan.now) c.turning.now) c.in-Some.is c.in_ok-found.ensures)
+returns-in-Some c = inl (subst (λ o. EndsWith o (schema_of c.args.schema.now) (plan_of c.args.plan.now) reversed) c.in-Some.is c.in_ok-turned.ensures)
 
 pub returns-in-None : goal.returns-in-None
 returns-in-None c =
     let tables = schema_of c.args.schema.now in
     let plan = plan_of c.args.plan.now in
-    let none = subst (λ o. EndsWith o tables plan c.turning.now) c.in-None.is c.in_ok-found.ensures in
-    IfOk-weaker c.search_turned.result _ _ (λ o h. then_others tables plan o c.turning.now c.others.now none h) c.search_turned.ensures
+    let none = subst (λ o. EndsWith o tables plan reversed) c.in-None.is c.in_ok-turned.ensures in
+    IfOk-weaker c.search_neighbours.result _ _ (λ o h. then_others tables plan o reversed (drop 1 turnings) none h) c.search_neighbours.ensures
