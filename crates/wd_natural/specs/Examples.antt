@@ -4,7 +4,8 @@ use Rattle.wd_lex.specs.declared.token.Terminal.TheVariants as m
 use Rattle.wd_lex.specs.declared.token.Span.{Span}
 use Rattle.wd_lex.specs.declared.token.TokenKind.{TokenKind}
 use Rattle.wd_lex.specs.declared.token.TokenKind.TheVariants as t
-use Rattle.wd_using.specs.Examples.{a, all_at, b, c, k, mark, n, of_a, query_of_b, schema, using}
+use Rattle.wd_using.specs.Examples.{a, all_at, b, c, equal, its, k, mark, n, of_a, query_of_b, schema, using}
+use Rattle.wd_using.specs.Respelled as joins
 use Rattle.wd_natural.specs.Respelled.{respelled}
 
 -- tokens that say the first are written as tokens that say the second; a and b have a column k, c has one and n, b has n
@@ -51,6 +52,8 @@ pub record NaturalComesOut : Type 0 where
   pub derived : Becomes (of_a ++ mark m.Natural ∷ mark m.Join ∷ query_of_b ++ mark m.As ∷ n ∷ []) (of_a ++ mark m.Join ∷ query_of_b ++ mark m.As ∷ n ∷ using the_k)
   -- SELECT n FROM ( SELECT n FROM c ) AS c NATURAL JOIN a becomes SELECT n FROM ( SELECT n FROM c ) AS c JOIN a ON TRUE
   pub none : Becomes (none_common ++ natural a) (none_common ++ mark m.Join ∷ a ∷ mark m.On ∷ mark m.True ∷ [])
+  -- SELECT k FROM a JOIN b USING ( "k" ) is SELECT a.k FROM a JOIN b ON a."k" = b."k"
+  pub then_by_on : (at : Span) → joins.respelled schema (all_at at (of_a ++ mark m.Join ∷ b ∷ using the_k)) ≡ Ok (all_at at (mark m.Select ∷ its a k ++ mark m.From ∷ a ∷ mark m.Join ∷ b ∷ mark m.On ∷ equal a b the_k))
   pub outer_stays : Becomes outer outer
   pub comma_stays : Becomes comma comma
   pub unknown_stays : Becomes unknown unknown
