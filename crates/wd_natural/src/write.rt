@@ -28,11 +28,7 @@ fn has_column(name: &str, mut columns: &[&str]) -> bool
 }
 
 /// The columns that are among others.
-fn common<'t>(
-    alloc: Global,
-    left: &[&str],
-    columns: &[&'t str],
-) -> Result<Vec<&'t str>, AllocError>
+fn common<'t>(alloc: Global, left: &[&str], columns: &[&'t str]) -> Result<Vec<&'t str>, AllocError>
     ensures { IfOk result (λ x. map (λ name. name.now) x.items ≡ spec.common (map (λ column. column.now) left.now) (map (λ column. column.now) columns.now)) }
 {
     let mut names = Vec::new(alloc);
