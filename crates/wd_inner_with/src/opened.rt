@@ -1,0 +1,84 @@
+//! One WITH clause within brackets.
+
+ghost use Rattle.std.specs.Prelude.{◌≡◌};
+ghost use Rattle.wd_clauses.specs.Given.{Makes};
+ghost use Rattle.wd_clauses.specs.Reach as reach;
+ghost use Rattle.wd_inner_with.specs.Inner as spec;
+ghost use Rattle.wd_with.specs.Expanded as members;
+
+use std::alloc::Global;
+use wd_clauses::{RespellError, add, add_all, closing, copied, copy_token};
+use wd_distinct_on::cut;
+use wd_lex::{Terminal, Token, TokenKind};
+use wd_with::{Expanded, without_with};
+
+/// Whether a bracket and WITH stand first.
+pub fn begins_inner(tokens: &[Token]) -> bool
+    ensures { result ≡ spec.begins_inner tokens.now }
+{
+    match tokens {
+        [bracket, with, ..] => {
+            matches!(bracket.kind, TokenKind::Terminal(Terminal::LeftBracket))
+                && matches!(with.kind, TokenKind::Terminal(Terminal::With))
+        }
+        _ => false,
+    }
+}
+
+/// A query in brackets without its WITH clause, between tokens.
+fn between(
+    alloc: Global,
+    front: &[Token],
+    bracket: &Token,
+    query: &[Token],
+    after: &[Token],
+) -> Result<Expanded, RespellError>
+    ensures { Makes members.said (λ s. s.tokens) result (spec.between front.now bracket.now (members.expanded query.now) after.now) }
+{
+    let Expanded { tokens, read_twice } = without_with(alloc, query)?;
+    let mut written = copied(alloc, front)?;
+    add(&mut written, copy_token(bracket)?)?;
+    add_all(&mut written, &tokens)?;
+    add_all(&mut written, after)?;
+    Ok(Expanded {
+        tokens: written,
+        read_twice,
+    })
+}
+
+/// The query up to the bracket that closes, between these tokens.
+fn up_to(
+    alloc: Global,
+    front: &[Token],
+    bracket: &Token,
+    tokens: &[Token],
+) -> Result<Option<Expanded>, RespellError>
+    ensures { spec.MaySay members.said result (spec.up_to front.now bracket.now tokens.now (reach.closing tokens.now)) }
+{
+    match closing(tokens) {
+        Some(place) => {
+            let query = between(alloc, front, bracket, &tokens[..place], &tokens[place..])?;
+            Ok(Some(query))
+        }
+        None => Ok(None),
+    }
+}
+
+/// The query in which the WITH clause in the bracket at a place is taken out.
+#[tactic(auto, unfolding(crate::specs::Inner::opened_at))]
+pub fn opened_at(
+    alloc: Global,
+    place: usize,
+    tokens: &[Token],
+) -> Result<Option<Expanded>, RespellError>
+    ensures { spec.MaySay members.said result (spec.opened_at place tokens.now) }
+{
+    let (front, rest) = cut(place, tokens);
+    match rest {
+        [bracket, inner @ ..] if begins_inner(rest) => {
+            let query = up_to(alloc, front, bracket, inner)?;
+            Ok(query)
+        }
+        _ => Ok(None),
+    }
+}

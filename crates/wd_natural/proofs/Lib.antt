@@ -1,0 +1,2 @@
+pub mod JoinFacts
+pub mod Worked

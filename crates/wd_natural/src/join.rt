@@ -1,0 +1,187 @@
+//! The tables of a FROM clause, over a schema.
+
+ghost use Rattle.std.specs.Prelude.{◌≡◌, map, option_map, IfOk};
+ghost use Rattle.wd_clauses.specs.Given.{Finds};
+ghost use Rattle.wd_natural.specs.Named as named;
+ghost use Rattle.wd_natural.specs.Naturals as spec;
+ghost use Rattle.wd_schema.specs.Schemas.{schema_of};
+ghost use Rattle.wd_using.specs.Joins as joins;
+
+use crate::kind::{begins_condition, begins_table, is_inner, is_join, is_natural};
+use crate::source::{Source, source_at};
+use std::alloc::{AllocError, Global};
+use wd_distinct_on::cut;
+use wd_lex::Token;
+use wd_schema::Schema;
+use wd_using::{Extent, split_at};
+
+/// NATURAL, if it stands there, FROM or JOIN, and what follows.
+#[derive(Drop)]
+pub struct Head<'t> {
+    pub natural: Option<&'t Token>,
+    pub join: &'t Token,
+    pub behind: &'t [Token],
+}
+
+/// A table as it is joined: NATURAL, if it is joined so, FROM or JOIN, the table with its alias, its columns, and what stands behind it.
+#[derive(Drop)]
+pub struct Joined<'t> {
+    pub natural: Option<&'t Token>,
+    pub join: &'t Token,
+    pub table: &'t [Token],
+    pub columns: Vec<&'t str>,
+    pub rest: &'t [Token],
+}
+
+/// What stands behind INNER, which may be left out.
+fn behind_inner(tokens: &[Token]) -> &[Token]
+    ensures { result.now ≡ spec.behind_inner tokens.now }
+{
+    match tokens {
+        [word, rest @ ..] if is_inner(&word.kind) => rest,
+        _ => tokens,
+    }
+}
+
+/// JOIN behind NATURAL.
+fn natural_head<'t>(word: &'t Token, tokens: &'t [Token]) -> Option<Head<'t>>
+    ensures { Finds named.join_head result (spec.natural_head word.now tokens.now) }
+{
+    match tokens {
+        [join, behind @ ..] if is_join(&join.kind) => Some(Head {
+            natural: Some(word),
+            join,
+            behind,
+        }),
+        _ => None,
+    }
+}
+
+/// `NATURAL [INNER] JOIN`, or FROM, or JOIN.
+fn head_at(tokens: &[Token]) -> Option<Head<'_>>
+    ensures { Finds named.join_head result (spec.head_at tokens.now) }
+{
+    let [word, behind @ ..] = tokens else {
+        return None;
+    };
+    if is_natural(&word.kind) {
+        return natural_head(word, behind_inner(behind));
+    }
+    if begins_table(&word.kind) {
+        return Some(Head {
+            natural: None,
+            join: word,
+            behind,
+        });
+    }
+    None
+}
+
+/// Whether nothing stands there, or INNER before the next JOIN.
+fn ends(tokens: &[Token]) -> bool
+    ensures { result ≡ joins.ends tokens.now }
+{
+    match tokens {
+        [] => true,
+        [word] => is_inner(&word.kind),
+        _ => false,
+    }
+}
+
+/// Whether that may stand behind a table.
+fn fits(natural: Option<&Token>, rest: &[Token]) -> bool
+    ensures { result ≡ spec.fits (option_map (λ word. word.now) natural.entry) rest.now }
+{
+    if ends(rest) {
+        return true;
+    }
+    match (natural, rest) {
+        (None, [first, ..]) => begins_condition(&first.kind),
+        _ => false,
+    }
+}
+
+// The most columns of a table.
+const MOST_COLUMNS: usize = 128;
+
+/// A table, its alias, and what stands behind it.
+fn joined_at<'t>(
+    alloc: Global,
+    schema: &'t Schema,
+    head: &Head<'t>,
+    tokens: &'t [Token],
+) -> Result<Option<Joined<'t>>, AllocError>
+    ensures { IfOk result (λ found. Finds named.natural_table found (spec.joined_at (schema_of schema.now) (named.join_head head.now) tokens.now)) }
+{
+    let Some(Source { columns, alias }) = source_at(alloc, schema, tokens)? else {
+        return Ok(None);
+    };
+    let (table, rest) = cut(alias.count, tokens);
+    if fits(head.natural, rest) && columns.len() <= MOST_COLUMNS {
+        return Ok(Some(Joined {
+            natural: head.natural,
+            join: head.join,
+            table,
+            columns,
+            rest,
+        }));
+    }
+    Ok(None)
+}
+
+/// A table with the words that join it, and what follows.
+#[tactic(auto, unfolding(crate::specs::Naturals::table_at))]
+fn table_at<'t>(
+    alloc: Global,
+    schema: &'t Schema,
+    tokens: &'t [Token],
+) -> Result<Option<(Joined<'t>, &'t [Token])>, AllocError>
+    ensures { IfOk result (λ found. Finds (λ x. (named.natural_table x.0, x.1.now)) found (spec.table_at (schema_of schema.now) tokens.now)) }
+{
+    let Some(head) = head_at(tokens) else {
+        return Ok(None);
+    };
+    let (part, behind) = split_at(Extent::Table, head.behind);
+    match joined_at(alloc, schema, &head, part)? {
+        Some(table) => Ok(Some((table, behind))),
+        None => Ok(None),
+    }
+}
+
+/// Whether nothing follows.
+fn is_end(tokens: &[Token]) -> bool
+    ensures { result ≡ joins.is_end tokens.now }
+{
+    match tokens {
+        [] => true,
+        [_, ..] => false,
+    }
+}
+
+// The most tables of a FROM clause.
+const MOST_TABLES: usize = 32;
+
+/// The tables of a FROM clause, if there are at most 32 and each is read.
+pub fn joined_tables<'t>(
+    alloc: Global,
+    schema: &'t Schema,
+    tokens: &'t [Token],
+) -> Result<Option<Vec<Joined<'t>>>, AllocError>
+    ensures { IfOk result (λ found. Finds (λ x. map named.natural_table x.items) found (spec.joined_tables (schema_of schema.now) spec.most_tables tokens.now)) }
+{
+    let mut tables = Vec::new(alloc);
+    let mut rest = tokens;
+    for _ in 0..MOST_TABLES {
+        match table_at(alloc, schema, rest)? {
+            Some((table, behind)) => {
+                tables.push(table)?;
+                if is_end(behind) {
+                    return Ok(Some(tables));
+                }
+                rest = behind;
+            }
+            None => return Ok(None),
+        }
+    }
+    Ok(None)
+}

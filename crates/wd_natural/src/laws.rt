@@ -1,0 +1,8 @@
+//! Laws of queries without NATURAL JOIN, over the definitions alone.
+
+ghost use Rattle.wd_natural.specs.Examples.{NaturalComesOut};
+
+/// Worked joins: what is written in their place, and which are left as they are.
+pub fn natural_comes_out()
+    ensures { NaturalComesOut }
+{}
