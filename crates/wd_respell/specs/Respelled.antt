@@ -1,14 +1,16 @@
 -- Queries of PostgreSQL's usual SQL, respelled in the profile's by the standard's own equations.
-use Rattle.std.specs.Prelude.{◌≡◌, ℕ, false, List, [], ◌∷◌, Ok, Some}
+use Rattle.std.specs.Prelude.{◌≡◌, ℕ, false, List, [], ◌∷◌, ◌++◌, Ok, Some}
 use Rattle.wd_lex.specs.declared.token.Token.{Token}
 use Rattle.wd_lex.specs.Lexed.{IsLexed, kinds_of}
 use Rattle.wd_with.specs.Expanded.{Said}
 use Rattle.wd_with.specs.Expanded as members
+use Rattle.wd_inner_with.specs.Inner.{without_inner}
 use Rattle.wd_distinct_on.specs.Respelled as selects
 use Rattle.wd_casts.specs.Masked.{masked}
 use Rattle.wd_casts.specs.Terms.{has_casts}
 use Rattle.wd_casts.specs.Walked.{without_casts}
 use Rattle.wd_schema.specs.Tables.{TableRule}
+use Rattle.wd_natural.specs.Respelled as naturals
 use Rattle.wd_using.specs.Respelled as joins
 use Rattle.wd_membership.specs.Respelled as memberships
 use Rattle.wd_grouping.specs.Respelled as keys
@@ -19,26 +21,35 @@ use Rattle.wd_qualified.specs.Unqualified.{unqualified}
 use Rattle.wd_with.specs.declared.place.Place.TheVariants.{Elsewhere}
 use Rattle.wd_dialect_read.specs.declared.said.Statement.{Statement}
 
--- tokens without the schemas of tables, then without DISTINCT ON, then without USING over these tables, then without memberships, then
--- with columns for the keys of GROUP BY, and then without distinct counts
+-- tokens without the schemas of tables, then without DISTINCT ON, then without NATURAL JOIN and USING over these tables, then without
+-- memberships, then with columns for the keys of GROUP BY, and then without distinct counts
 pub record IsPlain (tables : List TableRule) (tokens plain : List Token) : Type 0 where
   pub first : List Token
   pub selects : selects.respelled (unqualified (Elsewhere ∷ []) tokens) ≡ Ok first
+  pub named : List Token
+  pub natural : naturals.respelled tables first ≡ Ok named
   pub joined : List Token
-  pub using : joins.respelled tables first ≡ Ok joined
+  pub using : joins.respelled tables named ≡ Ok joined
   pub among : List Token
   pub memberships : memberships.respelled joined ≡ Ok among
   pub grouped : List Token
   pub keys : keys.respelled among ≡ Ok grouped
   pub counts : counts.respelled grouped ≡ Ok plain
 
+-- a query without its WITH clauses, those within brackets first, and plain then; and the members that are read more than once
+pub record IsTakenOut (tables : List TableRule) (tokens : List Token) (said : Said) : Type 0 where
+  pub inner : Said
+  pub is_inner : without_inner tokens ≡ Ok inner
+  pub plain : IsPlain tables (members.expanded inner.tokens).tokens said.tokens
+  pub members : said.read_twice ≡ inner.read_twice ++ (members.expanded inner.tokens).read_twice
+
 -- what the tokens of a query are by the equations, over these tables, which the statements make: WITH is taken out, then come the
 -- equations of selects as above, then those of expressions, and moments become numbers. And the members of WITH that are read twice
 pub record IsEquated (tables : List TableRule) (statements : List Statement) (tokens : List Token) (said : Said) : Type 0 where
-  pub plain : List Token
-  pub is_plain : IsPlain tables (members.expanded tokens).tokens plain
-  pub expressions : said.tokens ≡ with_numbers statements (expressions.expanded plain)
-  pub members : said.read_twice ≡ (members.expanded tokens).read_twice
+  pub taken : Said
+  pub is_taken : IsTakenOut tables tokens taken
+  pub expressions : said.tokens ≡ with_numbers statements (expressions.expanded taken.tokens)
+  pub members : said.read_twice ≡ taken.read_twice
 
 -- the tokens without casts, of which none is left
 pub record AreUncast (statements : List Statement) (tokens uncast : List Token) : Type 0 where

@@ -6,7 +6,7 @@ ghost use Rattle.wd_lex.specs.Lexed.{IsLexed};
 ghost use Rattle.wd_equations.specs.Expanded as expressions;
 ghost use Rattle.wd_moments.specs.Numbered as numbers;
 ghost use Rattle.wd_casts.specs.Masked.{masked};
-ghost use Rattle.wd_respell.specs.Respelled.{AreEquated, AreUncast, IsEquated, IsPlain, IsRespelled};
+ghost use Rattle.wd_respell.specs.Respelled.{AreEquated, AreUncast, IsEquated, IsPlain, IsRespelled, IsTakenOut};
 ghost use Rattle.wd_schema.specs.Schemas.{schema_of};
 ghost use Rattle.wd_with.specs.Expanded.{said};
 
@@ -20,9 +20,11 @@ use wd_distinct_counts::without_distinct_counts;
 use wd_distinct_on::without_distinct_on;
 use wd_equations::{ExpandError, expand};
 use wd_grouping::without_expression_keys;
+use wd_inner_with::without_inner_with;
 use wd_lex::{LexError, Token, lex};
 use wd_membership::without_membership;
 use wd_moments::{MomentError, with_numbers};
+use wd_natural::without_natural;
 use wd_qualified::unqualified_query;
 use wd_schema::Schema;
 use wd_using::without_using;
@@ -87,11 +89,8 @@ fn uncast(
     ensures { IfOk result (λ o. IfSome o (λ uncast. AreUncast statements.now tokens.now uncast.items)) }
 {
     match without_casts(alloc, statements, tokens) {
-        Ok(uncast) => if has_casts(&uncast) {
-            Ok(None)
-        } else {
-            Ok(Some(uncast))
-        },
+        Ok(uncast) if has_casts(&uncast) => Ok(None),
+        Ok(uncast) => Ok(Some(uncast)),
         Err(RespellError::OutOfMemory) => Err(OutOfMemory),
         Err(RespellError::TooLong) => Ok(None),
     }
@@ -124,28 +123,47 @@ fn equated(
 ) -> Result<Option<Expanded>, OutOfMemory>
     ensures { IfOk result (λ o. IfSome o (λ e. IsEquated (schema_of schema.now) statements.now tokens.now (said e))) }
 {
-    match without_with(alloc, tokens) {
-        Ok(expanded) => {
-            let Expanded { tokens, read_twice } = expanded;
-            match plain(alloc, schema, &tokens) {
-                Ok(plain) => numbered(alloc, statements, &plain, read_twice),
-                Err(RespellError::OutOfMemory) => Err(OutOfMemory),
-                Err(RespellError::TooLong) => Ok(None),
-            }
+    match taken_out(alloc, schema, tokens) {
+        Ok(taken) => {
+            let Expanded { tokens, read_twice } = taken;
+            numbered(alloc, statements, &tokens, read_twice)
         }
         Err(RespellError::OutOfMemory) => Err(OutOfMemory),
         Err(RespellError::TooLong) => Ok(None),
     }
 }
 
-/// The tokens without schemas of tables, DISTINCT ON, USING and memberships, with columns for the keys of GROUP BY, and without distinct
-/// counts.
+/// The tokens without WITH clauses, those within brackets first, and plain then.
+fn taken_out(alloc: Global, schema: &Schema, tokens: &[Token]) -> Result<Expanded, RespellError>
+    ensures { IfOk result (λ e. IsTakenOut (schema_of schema.now) tokens.now (said e)) }
+{
+    let inner = without_inner_with(alloc, tokens)?;
+    let Expanded {
+        tokens: within,
+        read_twice: mut names,
+    } = inner;
+    let outer = without_with(alloc, &within)?;
+    let Expanded {
+        tokens: first,
+        read_twice: mut others,
+    } = outer;
+    names.append(&mut others)?;
+    let tokens = plain(alloc, schema, &first)?;
+    Ok(Expanded {
+        tokens,
+        read_twice: names,
+    })
+}
+
+/// The tokens without schemas of tables, DISTINCT ON, NATURAL JOIN, USING and memberships, with columns for the keys of GROUP BY, and
+/// without distinct counts.
 fn plain(alloc: Global, schema: &Schema, tokens: &[Token]) -> Result<Vec<Token>, RespellError>
     ensures { IfOk result (λ plain. IsPlain (schema_of schema.now) tokens.now plain.items) }
 {
     let tables = unqualified_query(alloc, tokens)?;
     let first = without_distinct_on(alloc, &tables)?;
-    let joined = without_using(alloc, schema, &first)?;
+    let named = without_natural(alloc, schema, &first)?;
+    let joined = without_using(alloc, schema, &named)?;
     let among = without_membership(alloc, &joined)?;
     let grouped = without_expression_keys(alloc, &among)?;
     without_distinct_counts(alloc, &grouped)
