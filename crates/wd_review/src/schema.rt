@@ -2,7 +2,7 @@
 
 use std::alloc::Global;
 use std::mem;
-use wd_dialect_schema::{DialectSchema, Statement};
+use wd_dialect_schema::{DialectError, DialectSchema, Statement, read_dialect};
 use wd_formats::Level;
 use wd_front::{Front, Refused, front_of, note_lines};
 use wd_judged::File;
@@ -40,7 +40,7 @@ pub(crate) struct SchemaFile {
     /// The text over which queries are judged: that of the file, or the one that spells its tables.
     pub(crate) text: Vec<u8>,
     pub(crate) reading: Reading,
-    /// The statements of PostgreSQL's that make it; none where the profile reads it.
+    /// The statements of PostgreSQL's that make it; none where PostgreSQL does not read it.
     pub(crate) statements: Vec<Statement>,
     untold: Untold,
 }
@@ -50,13 +50,16 @@ impl SchemaFile {
     pub(crate) fn new(alloc: Global, path: &str, text: Vec<u8>) -> Result<SchemaFile, OutOfMemory> {
         let path = String::from_str(alloc, path)?;
         match front_of(alloc, &text)? {
-            Front::Own => Ok(SchemaFile {
-                path,
-                text,
-                reading: Reading::Read,
-                statements: Vec::new(alloc),
-                untold: Untold::Nothing,
-            }),
+            Front::Own => {
+                let statements = statements_of(alloc, &text)?;
+                Ok(SchemaFile {
+                    path,
+                    text,
+                    reading: Reading::Read,
+                    statements,
+                    untold: Untold::Nothing,
+                })
+            }
             Front::Unread(Refused::Profile) => Ok(SchemaFile {
                 path,
                 text,
@@ -107,6 +110,21 @@ impl SchemaFile {
             Untold::Refused(span) => report.add_schema(alloc, path, &self.text, span),
             Untold::Tables(words) => report.add_remark(alloc, path, words.as_str()),
         }
+    }
+}
+
+/// The statements that a text of the profile has for PostgreSQL, by which it is known what its columns are.
+fn statements_of(alloc: Global, text: &[u8]) -> Result<Vec<Statement>, OutOfMemory> {
+    match read_dialect(alloc, text) {
+        Ok(schema) => {
+            let DialectSchema {
+                statements,
+                text: _spelled,
+            } = schema;
+            Ok(statements)
+        }
+        Err(DialectError::OutOfMemory) => Err(OutOfMemory),
+        Err(_) => Ok(Vec::new(alloc)),
     }
 }
 
