@@ -46,7 +46,7 @@ def tables(found):
                 if not depth:
                     end = at + 1
                     break
-            if end:
+            if end and not re.match(r"\s*inherits", it[end:], re.I):
                 made[match[1].lower()] = it[:end] + ";\n"
     return made
 
@@ -89,18 +89,18 @@ def check_said(said):
 
 
 def report_said(said):
-    if "not read" in said:
-        lines = said.split("\n")
-        at = next(i for i, it in enumerate(lines) if "not read" in it)
-        shown = next((it for it in lines[at + 1 :] if "|" in it), "")
-        marks = next((it for it in lines[at + 1 :] if "^" in it), "")
-        word = shown[marks.find("^") : marks.rfind("^") + 1] if "^" in marks else ""
-        number = re.search(r"\[(\d+)\]", lines[at])
-        return None, f"{number[1] if number else '?'} {word.strip()[:30]}"
-    for verdict in ("depends", "may tie"):
-        if verdict in said:
-            return verdict, None
-    return "deterministic", None
+    counts = re.search(r"(\d+) deterministic, (\d+) depends?, (\d+) may tie, (\d+) not read", said)
+    if counts and counts[4] == "0":
+        return next((verdict for verdict, count in zip(("deterministic", "depends", "may tie"), counts.groups()) if count != "0"), None), "nothing"
+    lines = said.split("\n")
+    at = next((i for i, it in enumerate(lines) if re.search(r"not read: .*\[\d+\]", it)), None)
+    if at is None:
+        return None, "no place"
+    shown = next((it for it in lines[at + 1 :] if "|" in it), "")
+    marks = next((it for it in lines[at + 1 :] if "^" in it), "")
+    word = shown[marks.find("^") : marks.rfind("^") + 1] if "^" in marks else ""
+    number = re.findall(r"\[(\w+)\]", lines[at])
+    return None, f"{number[-1]} {word.strip()[:24]}"
 
 
 def main():
