@@ -555,6 +555,17 @@ EXTREME = {
     "members read twice": "WITH a0 AS (SELECT id FROM t), " + ", ".join(f"a{i} AS (SELECT x.id FROM a{i - 1} x JOIN a{i - 1} y ON x.id = y.id)" for i in range(1, 40)) + " SELECT id FROM a39",
     "tests": "SELECT id FROM t WHERE " + " OR ".join(f"v IN ({i})" for i in range(4000)),
     "moments": "SELECT id FROM t WHERE d >= DATE '2026-01-01'" + " AND d < DATE '2026-01-02'" * 2000,
+    "casts": f"SELECT id FROM t WHERE {'(' * 6300}id{'::bigint)' * 6300} = 1",
+    "calls of CAST": f"SELECT id FROM t WHERE {'CAST(' * 4000}id{' AS int8)' * 4000} = 1",
+    "memberships": "SELECT id FROM t WHERE " + " AND ".join(["id IN (SELECT v FROM t)"] * 2000),
+    "memberships within one another": "SELECT id FROM t WHERE id IN (" + "SELECT v FROM t WHERE v IN (" * 2000 + "SELECT v FROM t" + "))" * 2000,
+    "keys": "SELECT " + ", ".join(f"v + {i} AS a{i}" for i in range(2000)) + " FROM t GROUP BY " + ", ".join(f"{i + 1}" for i in range(2000)),
+    "long keys": "SELECT " + ", ".join("+".join(["v"] * 120) + f"+{i} AS a{i}" for i in range(8)) + f", MAX({'+'.join(['v'] * 30000)}) AS z FROM t GROUP BY 1, 2, 3, 4, 5, 6, 7, 8",
+    "keys within one another": "SELECT v + 1 AS v FROM (" * 1500 + "SELECT v FROM t" + ") x GROUP BY 1" * 1500,
+    "distinct counts": "SELECT COUNT(DISTINCT v) AS v FROM (" * 1500 + "SELECT v FROM t" + ") x" * 1500,
+    "natural joins": "SELECT a0.id FROM t a0 " + " ".join(f"NATURAL JOIN t a{i}" for i in range(1, 2500)),
+    "natural joins within one another": "SELECT id FROM " + "(SELECT id FROM t NATURAL JOIN " * 1700 + "t" + ") x" * 1700,
+    "WITH within one another": "SELECT id FROM " + "(WITH a AS (SELECT id FROM t) SELECT id FROM a JOIN " * 1100 + "t" + ") x" * 1100,
 }
 
 
