@@ -35,7 +35,7 @@ some a b h g = let more = le-mul_of_pos_right a g in omega (arith, h, more)
 -- ---- all of them
 
 abbrev most : ℕ
-most = 100000000
+most = 60000000
 
 module _ (a b c s : ℕ) (has_a : 1 ≤ a) (has_b : 1 ≤ b) (has_c : 1 ≤ c) (has_s : 1 ≤ s) where
   in_first : (cap : ℕ) → most < cap → most / (((min a cap * b) * c) * s) ≡ most / (((a * b) * c) * s)

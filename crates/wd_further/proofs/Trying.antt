@@ -1,7 +1,7 @@
--- The tries of a round, and the rounds, one after another.
-use Rattle.std.proofs.Common.{◌≡◌, ℕ, ◌<◌, ◌≤◌, Bool, true, false, List, [], ◌∷◌, flat_map, length, get_or, take, sym, subst, ◌∙◌, refl, arith, inl, inr, IfSome, Option, None, Some}
-use Rattle.std.proofs.lemmas.List.{length-map}
-use Rattle.std.proofs.lemmas.Bool.{le-ltb, lt-ltb}
+-- The tries of a size, and the searches of all sizes, one after another.
+use Rattle.std.proofs.Common.{◌≡◌, ℕ, ◌+◌, ◌-◌, ◌<◌, ◌≤◌, Bool, true, false, List, [], ◌∷◌, ◌++◌, drop, flat_map, map, length, get_or, take, ap, sym, subst, ◌∙◌, refl, arith, inl, inr, IfSome, Option, None, Some}
+use Rattle.std.proofs.lemmas.Grind.{flat_map-append}
+use Rattle.std.proofs.lemmas.List.{append-nil, length-map, take_all, take_more, take-append-drop}
 use Rattle.std.proofs.lemmas.List.FromFn.{get_or-map-range_with_len, get_or-range_with_len, length-range_with_len}
 use Rattle.wd_value.specs.Bags.{positions}
 use Rattle.wd_value.specs.Rows.{Row, table_at}
@@ -13,47 +13,76 @@ use Rattle.wd_candidates.specs.Origins.{is_scanned}
 use Rattle.wd_witness_text.specs.Witnesses.{witness_of}
 use Rattle.wd_witness_text.specs.declared.witness.Witness.{Witness}
 use Rattle.wd_refute.specs.Laws.{IsShown}
+use Rattle.wd_seek.specs.Evaluations.{most_evaluations}
 use Rattle.wd_seek.specs.Witnesses.{HasFewRows}
 use Rattle.wd_seek.proofs.Shown.{found_is_shown}
 use Rattle.wd_varied.specs.Literals.{compared, literals}
 use Rattle.wd_varied.specs.Suggested.{all_near, around, most_literals}
 use Rattle.wd_varied.specs.Varied.{fillings, filled_row, rows_in, varied}
-use Rattle.wd_further.specs.Rounds.{of_size, tries}
-use Rattle.wd_further.specs.Finds.{EndsWith, IsSoughtBy, IsSoughtIn, Turning, to_try, turnings}
+use Rattle.wd_further.specs.Finds.{EndsWith, IsSoughtBy, IsSoughtIn, Search, searches, to_try}
 
 -- ---- one after another
 
 pub position_at : (n i d : ℕ) → i < n → get_or (positions n) i d ≡ i
 position_at n i d within = get_or-range_with_len 0 n i d within ∙ omega arith
 
--- a witness that is found shows two answers
+-- elements one by one
+pub one_by_one : {X Y : Type 0} (f : X → Y) (xs : List X) → flat_map (λ x. f x ∷ []) xs ≡ map f xs
+one_by_one f [] = refl
+one_by_one f (x ∷ xs) = ap (λ ys. f x ∷ ys) (one_by_one f xs)
+
 module _ (tables : List TableRule) (plan : PlanTree) where
-  shown_by : (w : Witness) (ts : List Turning) → IsSoughtBy (Some w) tables plan ts → IsShown tables plan (witness_of w)
+  -- a witness that is found shows two answers
+  shown_by : (w : Witness) (ss : List Search) → IsSoughtBy (Some w) tables plan ss → IsShown tables plan (witness_of w)
   shown_by w [] e = absurd cc
-  shown_by w (t ∷ ts) (inl h) = found_is_shown t.turn tables plan (to_try tables plan) t.start h.0 (witness_of w) h.1
-  shown_by w (t ∷ ts) (inr h) = shown_by w ts h.1
+  shown_by w (s ∷ ss) (inl h) = found_is_shown s.turn tables plan (to_try tables plan s.rows) (most_evaluations - s.most) h.0 (witness_of w) h.1
+  shown_by w (s ∷ ss) (inr h) = shown_by w ss h.1
 
   -- a search that gives none, and then others
-  pub then_others : (o : Option Witness) (t : Turning) (ts : List Turning) → EndsWith None tables plan t → IsSoughtBy o tables plan ts → IsSoughtBy o tables plan (t ∷ ts)
-  then_others None t ts h g = (h, g)
-  then_others (Some w) t ts h g = inr (h, g)
+  pub then_others : (o : Option Witness) (s : Search) (ss : List Search) → EndsWith None tables plan s → IsSoughtBy o tables plan ss → IsSoughtBy o tables plan (s ∷ ss)
+  then_others None s ss h g = (h, g)
+  then_others (Some w) s ss h g = inr (h, g)
 
   -- the last search
-  pub then_none : (o : Option Witness) (t : Turning) → EndsWith o tables plan t → IsSoughtBy o tables plan (t ∷ [])
-  then_none None t h = (h, refl)
-  then_none (Some w) t h = inl h
+  pub then_none : (o : Option Witness) (s : Search) → EndsWith o tables plan s → IsSoughtBy o tables plan (s ∷ [])
+  then_none None s h = (h, refl)
+  then_none (Some w) s h = inl h
 
   pub shown_of : (o : Option Witness) → IsSoughtIn o tables plan → IfSome o (λ w. IsShown tables plan (witness_of w))
   shown_of None h = tt
-  shown_of (Some w) h = shown_by w turnings h
+  shown_of (Some w) h = shown_by w (searches plan) h
 
--- a size that is tried in a round, and one that is not
-module _ (tables : List TableRule) (plan : PlanTree) (number rows : ℕ) where
-  pub size_tried : number < tries plan rows → of_size tables plan number rows ≡ varied tables plan rows number ∷ []
-  size_tried h = rw (lt-ltb number (tries plan rows) h) refl
+  -- searches that give none, and then others
+  after_none : (o : Option Witness) (xs ys : List Search) → IsSoughtBy None tables plan xs → IsSoughtBy o tables plan ys → IsSoughtBy o tables plan (xs ++ ys)
+  after_none o [] ys h g = g
+  after_none o (x ∷ xs) ys h g = then_others o x (xs ++ ys) h.0 (after_none o xs ys h.1 g)
 
-  pub size_done : tries plan rows ≤ number → of_size tables plan number rows ≡ []
-  size_done h = rw (le-ltb number (tries plan rows) h) refl
+  -- what is found is found whatever searches come after
+  found_before : (w : Witness) (xs ys : List Search) → IsSoughtBy (Some w) tables plan xs → IsSoughtBy (Some w) tables plan (xs ++ ys)
+  found_before w [] ys h = absurd cc
+  found_before w (x ∷ xs) ys (inl h) = inl h
+  found_before w (x ∷ xs) ys (inr h) = inr (h.0, found_before w xs ys h.1)
+
+-- the searches of a list's sizes, those of the first of which give none
+module _ (tables : List TableRule) (plan : PlanTree) (f : ℕ → List Search) (xs : List ℕ) (i : ℕ) (none : IsSoughtBy None tables plan (flat_map f (take i xs))) where
+  module _ (within : i < length xs) where
+    one_more : flat_map f (take (i + 1) xs) ≡ flat_map f (take i xs) ++ f (get_or xs i 0)
+    one_more = ap (flat_map f) (take_more xs i 0 within) ∙ flat_map-append f (take i xs) (get_or xs i 0 ∷ []) ∙ ap (λ ys. flat_map f (take i xs) ++ ys) (append-nil (f (get_or xs i 0)))
+
+    rest : flat_map f xs ≡ flat_map f (take (i + 1) xs) ++ flat_map f (drop (i + 1) xs)
+    rest = ap (flat_map f) (sym (take-append-drop (i + 1) xs)) ∙ flat_map-append f (take (i + 1) xs) (drop (i + 1) xs)
+
+    with_one_more : (o : Option Witness) → IsSoughtBy o tables plan (f (get_or xs i 0)) → IsSoughtBy o tables plan (flat_map f (take (i + 1) xs))
+    with_one_more o h = subst (IsSoughtBy o tables plan) (sym one_more) (after_none tables plan o (flat_map f (take i xs)) (f (get_or xs i 0)) none h)
+
+    pub none_in_one_more : IsSoughtBy None tables plan (f (get_or xs i 0)) → IsSoughtBy None tables plan (flat_map f (take (i + 1) xs))
+    none_in_one_more h = with_one_more None h
+
+    pub found_in_one_more : (w : Witness) → IsSoughtBy (Some w) tables plan (f (get_or xs i 0)) → IsSoughtBy (Some w) tables plan (flat_map f xs)
+    found_in_one_more w h = subst (IsSoughtBy (Some w) tables plan) (sym rest) (found_before tables plan w (flat_map f (take (i + 1) xs)) (flat_map f (drop (i + 1) xs)) (with_one_more (Some w) h))
+
+  pub none_in_all : length xs ≤ i → IsSoughtBy None tables plan (flat_map f xs)
+  none_in_all all = subst (λ ys. IsSoughtBy None tables plan (flat_map f ys)) (take_all xs i all) none
 
 -- ---- few rows
 

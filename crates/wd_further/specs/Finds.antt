@@ -1,5 +1,5 @@
 -- What a further search answers.
-use Rattle.std.specs.Prelude.{◌≡◌, ◌⊎◌, ℕ, List, [], ◌∷◌, filter, Option, Some, None, IsSome}
+use Rattle.std.specs.Prelude.{◌≡◌, ◌⊎◌, ℕ, ◌-◌, ◌/◌, List, [], ◌∷◌, filter, flat_map, length, Option, Some, None, IsSome}
 use Rattle.wd_value.specs.Rows.{Instance}
 use Rattle.wd_schema.specs.Tables.{TableRule}
 use Rattle.wd_plan.specs.Plans.{PlanTree}
@@ -13,8 +13,10 @@ use Rattle.wd_refute.specs.Refutation.{IsRefuted}
 use Rattle.wd_witness_text.specs.Json.{Spells}
 use Rattle.wd_witness_text.specs.Witnesses.{witness_of}
 use Rattle.wd_witness_text.specs.declared.witness.Witness.{Witness}
+use Rattle.wd_seek.specs.Evaluations.{most_evaluations}
 use Rattle.wd_seek.specs.Sought.{IsSought, is_meeting}
-use Rattle.wd_further.specs.Rounds.{candidates}
+use Rattle.wd_varied.specs.Sizes.{sizes}
+use Rattle.wd_further.specs.Tries.{candidates}
 
 -- a witness and its text, which is that of a true witness of the plan that reads the texts of the schema and the query
 pub record IsFound (schema query : List ℕ) (found : Found) : Type 0 where
@@ -23,31 +25,41 @@ pub record IsFound (schema query : List ℕ) (found : Found) : Type 0 where
 
 -- ---- the search
 
--- the candidates in order, those that meet the schema
-abbrev pub to_try : List TableRule → PlanTree → List Instance
-to_try tables plan = filter (is_meeting tables) (candidates tables plan)
+-- the candidates of a size, those that meet the schema
+abbrev pub to_try : List TableRule → PlanTree → ℕ → List Instance
+to_try tables plan rows = filter (is_meeting tables) (candidates tables plan rows)
 
--- a search among them: the turn in which one ordering takes rows that tie, and the number from which its evaluations count to the most
-pub record Turning : Type 0 where
+-- a search among them: of so many rows in each table, the turn in which one ordering takes rows that tie, and the most evaluations
+pub record Search : Type 0 where
+  pub rows : ℕ
   pub turn : Turn
-  pub start : ℕ
+  pub most : ℕ
 
--- 1,000 evaluations with rows that tie turned round, then 500 with the first of them last, and 500 with neighbours exchanged
-abbrev pub turnings : List Turning
-turnings = record { turn = Reversed; start = 1000 } ∷ record { turn = Rotated; start = 1500 } ∷ record { turn = Exchanged; start = 1500 } ∷ []
+-- those of one size of so many: its share of 1,000 evaluations with rows that tie turned round, of 500 with the first of them last, and
+-- of 500 with neighbours exchanged
+abbrev pub of_size : ℕ → ℕ → List Search
+of_size count rows =
+    record { rows = rows; turn = Reversed; most = 1000 / count }
+    ∷ record { rows = rows; turn = Rotated; most = 500 / count }
+    ∷ record { rows = rows; turn = Exchanged; most = 500 / count }
+    ∷ []
+
+-- those of all sizes, the smallest first
+abbrev pub searches : PlanTree → List Search
+searches plan = flat_map (of_size (length (sizes plan))) (sizes plan)
 
 -- a search gives a witness over the first candidate that shows two answers, or none where none does
-abbrev pub EndsWith : Option Witness → List TableRule → PlanTree → Turning → Type 0
-EndsWith found tables plan t = (end : ℕ) × IsSought t.turn tables plan (to_try tables plan) t.start found end
+abbrev pub EndsWith : Option Witness → List TableRule → PlanTree → Search → Type 0
+EndsWith found tables plan s = (end : ℕ) × IsSought s.turn tables plan (to_try tables plan s.rows) (most_evaluations - s.most) found end
 
 -- a witness is that of the first search that gives one
-abbrev pub IsSoughtBy : Option Witness → List TableRule → PlanTree → List Turning → Type 0
+abbrev pub IsSoughtBy : Option Witness → List TableRule → PlanTree → List Search → Type 0
 IsSoughtBy found tables plan [] = found ≡ None
-IsSoughtBy None tables plan (t ∷ ts) = EndsWith None tables plan t × IsSoughtBy None tables plan ts
-IsSoughtBy (Some w) tables plan (t ∷ ts) = EndsWith (Some w) tables plan t ⊎ (EndsWith None tables plan t × IsSoughtBy (Some w) tables plan ts)
+IsSoughtBy None tables plan (s ∷ ss) = EndsWith None tables plan s × IsSoughtBy None tables plan ss
+IsSoughtBy (Some w) tables plan (s ∷ ss) = EndsWith (Some w) tables plan s ⊎ (EndsWith None tables plan s × IsSoughtBy (Some w) tables plan ss)
 
 abbrev pub IsSoughtIn : Option Witness → List TableRule → PlanTree → Type 0
-IsSoughtIn found tables plan = IsSoughtBy found tables plan turnings
+IsSoughtIn found tables plan = IsSoughtBy found tables plan (searches plan)
 
 -- a text is refused by a number
 pub record AreRefused (schema query : List ℕ) : Type 0 where

@@ -2,9 +2,9 @@
 
 ghost use Rattle.std.specs.Prelude.{◌≡◌, ◌≤◌, ◌+◌, ◌*◌, ◌/◌, ◌^◌, ◌∷◌, [], ℕ, true, drop, filter, length, max, min, All, IfOk, IfSome};
 ghost use Rattle.wd_candidates.specs.Outlines.{IsOutline};
-ghost use Rattle.wd_further.specs.Finds.{IsSoughtBy, IsSoughtIn, turnings};
-ghost use Rattle.wd_further.specs.Rounds.{most_tries, most_work};
-ghost use Rattle.wd_further.specs.Rounds as spec;
+ghost use Rattle.wd_further.specs.Finds.{EndsWith, IsSoughtBy, IsSoughtIn, of_size};
+ghost use Rattle.wd_further.specs.Tries.{most_tries, most_work};
+ghost use Rattle.wd_further.specs.Tries as spec;
 ghost use Rattle.wd_plan.specs.Fits.{fits};
 ghost use Rattle.wd_plan.specs.Plans.{plan_of};
 ghost use Rattle.wd_refute.specs.Laws.{IsShown};
@@ -26,14 +26,20 @@ use wd_value::OutOfMemory;
 use wd_varied::{Suggested, paired, row_work, sizes, suggested_by, varied};
 use wd_witness_text::Witness;
 
-/// The most tries of a search.
+/// The most tries of all sizes in one turn.
 const MOST_TRIES: u32 = 600;
 
 /// The number to which the evaluations of a search count.
 const MOST_EVALUATIONS: u32 = 2000;
 
-/// The most that the evaluations of a search do, in parts of about five nanoseconds.
-const MOST_WORK: u128 = 100_000_000;
+/// The most evaluations of all sizes with rows that tie turned round.
+const MOST_TURNED: u32 = 1000;
+
+/// The most evaluations of all sizes with rows that tie in each of the two other orders.
+const MOST_OTHERWISE: u32 = 500;
+
+/// The most that the evaluations of all sizes in one turn do, in parts of about five nanoseconds.
+const MOST_WORK: u128 = 60_000_000;
 
 /// The least that an evaluation does for each row.
 const LEAST_WORK: u64 = 250;
@@ -51,11 +57,11 @@ pub(crate) fn search(
     let outline = outline_of(alloc, schema, plan)?;
     let suggested = suggested_by(alloc, plan)?;
     let sizes = sizes(alloc, plan)?;
-    search_turned(alloc, schema, plan, &outline, &suggested, &sizes)
+    search_sizes(alloc, schema, plan, &outline, &suggested, &sizes)
 }
 
-/// The searches one after another: with rows that tie turned round, and then with neighbours in other orders.
-fn search_turned(
+/// The searches of all sizes, the smallest first.
+fn search_sizes(
     alloc: Global,
     schema: &Schema,
     plan: &Plan,
@@ -72,142 +78,111 @@ fn search_turned(
     requires small { All (λ rows. rows ≤ 64) sizes.now }
     ensures { IfOk result (λ o. IsSoughtIn o (schema_of schema.now) (plan_of plan.now)) }
 {
-    let turned = search_rounds(
+    for rows in sizes {
+        let tries = tries(plan, *rows, sizes.len());
+        let found = search_turned(
+            alloc,
+            schema,
+            plan,
+            outline,
+            suggested,
+            *rows,
+            tries,
+            sizes.len() as u32,
+        )?;
+        if let Some(smallest) = found {
+            return Ok(Some(smallest));
+        }
+    }
+    Ok(None)
+}
+
+/// The searches of one size of so many: with rows that tie turned round, and then with them in other orders.
+fn search_turned(
+    alloc: Global,
+    schema: &Schema,
+    plan: &Plan,
+    outline: &Outline,
+    suggested: &Suggested,
+    rows: u32,
+    tries: u32,
+    count: u32,
+) -> Result<Option<Witness>, OutOfMemory>
+    requires fitting { fits (schema_of schema.now) (plan_of plan.now) ≡ true }
+    requires outline { IsOutline (schema_of schema.now) (plan_of plan.now) outline.now }
+    requires suggested { IsSuggested (plan_of plan.now) suggested.now }
+    requires small { rows ≤ 64 }
+    requires tries { tries ≡ spec.tries (plan_of plan.now) rows }
+    requires some { 1 ≤ count }
+    ensures { IfOk result (λ o. IsSoughtBy o (schema_of schema.now) (plan_of plan.now) (of_size count rows)) }
+{
+    let turned = search_tries(
         alloc,
         schema,
         plan,
         outline,
         suggested,
-        sizes,
+        rows,
+        tries,
         Turn::Reversed,
-        1000,
-        MOST_TRIES,
+        MOST_TURNED / count,
     )?;
     match turned {
         Some(witness) => Ok(Some(witness)),
-        None => search_neighbours(alloc, schema, plan, outline, suggested, sizes),
+        None => search_neighbours(
+            alloc, schema, plan, outline, suggested, rows, tries, count,
+        ),
     }
 }
 
-/// The searches with the first of the rows that tie as the last, and with neighbours exchanged.
+/// The searches of one size of so many with the first of the rows that tie as the last, and with neighbours exchanged.
 fn search_neighbours(
     alloc: Global,
     schema: &Schema,
     plan: &Plan,
     outline: &Outline,
     suggested: &Suggested,
-    sizes: &[u32],
+    rows: u32,
+    tries: u32,
+    count: u32,
 ) -> Result<Option<Witness>, OutOfMemory>
     requires fitting { fits (schema_of schema.now) (plan_of plan.now) ≡ true }
     requires outline { IsOutline (schema_of schema.now) (plan_of plan.now) outline.now }
     requires suggested { IsSuggested (plan_of plan.now) suggested.now }
-    requires sizes { sizes.now ≡ sizes_of (plan_of plan.now) }
-    requires count { length sizes.now ≤ 63 }
-    requires large { All (λ rows. 2 ≤ rows) sizes.now }
-    requires small { All (λ rows. rows ≤ 64) sizes.now }
-    ensures { IfOk result (λ o. IsSoughtBy o (schema_of schema.now) (plan_of plan.now) (drop 1 turnings)) }
+    requires small { rows ≤ 64 }
+    requires tries { tries ≡ spec.tries (plan_of plan.now) rows }
+    requires some { 1 ≤ count }
+    ensures { IfOk result (λ o. IsSoughtBy o (schema_of schema.now) (plan_of plan.now) (drop 1 (of_size count rows))) }
 {
-    let rotated = search_rounds(
+    let rotated = search_tries(
         alloc,
         schema,
         plan,
         outline,
         suggested,
-        sizes,
+        rows,
+        tries,
         Turn::Rotated,
-        1500,
-        MOST_TRIES,
+        MOST_OTHERWISE / count,
     )?;
     match rotated {
         Some(witness) => Ok(Some(witness)),
-        None => search_rounds(
+        None => search_tries(
             alloc,
             schema,
             plan,
             outline,
             suggested,
-            sizes,
+            rows,
+            tries,
             Turn::Exchanged,
-            1500,
-            MOST_TRIES,
+            MOST_OTHERWISE / count,
         ),
     }
 }
 
-/// So many rounds, one after another, with evaluations that count from a number on.
-fn search_rounds(
-    alloc: Global,
-    schema: &Schema,
-    plan: &Plan,
-    outline: &Outline,
-    suggested: &Suggested,
-    sizes: &[u32],
-    turn: Turn,
-    start: u32,
-    rounds: u32,
-) -> Result<Option<Witness>, OutOfMemory>
-    requires fitting { fits (schema_of schema.now) (plan_of plan.now) ≡ true }
-    requires outline { IsOutline (schema_of schema.now) (plan_of plan.now) outline.now }
-    requires suggested { IsSuggested (plan_of plan.now) suggested.now }
-    requires sizes { sizes.now ≡ sizes_of (plan_of plan.now) }
-    requires count { length sizes.now ≤ 63 }
-    requires large { All (λ rows. 2 ≤ rows) sizes.now }
-    requires small { All (λ rows. rows ≤ 64) sizes.now }
-    requires few { start ≤ most_evaluations }
-    ensures { IfOk result (λ o. (end : ℕ) × IsSought turn (schema_of schema.now) (plan_of plan.now) (filter (is_meeting (schema_of schema.now)) (spec.of_rounds (schema_of schema.now) (plan_of plan.now) rounds)) start o end) }
-{
-    let mut spent = start;
-    for number in 0..rounds {
-        let (found, made) = search_round(
-            alloc, schema, plan, outline, suggested, sizes, turn, number, spent,
-        )?;
-        if let Some(witness) = found {
-            return Ok(Some(witness));
-        }
-        spent = made;
-    }
-    Ok(None)
-}
-
-/// The round with a number: a try of each size; the number of evaluations, that of the rounds before included.
-fn search_round(
-    alloc: Global,
-    schema: &Schema,
-    plan: &Plan,
-    outline: &Outline,
-    suggested: &Suggested,
-    sizes: &[u32],
-    turn: Turn,
-    number: u32,
-    spent: u32,
-) -> Result<(Option<Witness>, u32), OutOfMemory>
-    requires fitting { fits (schema_of schema.now) (plan_of plan.now) ≡ true }
-    requires outline { IsOutline (schema_of schema.now) (plan_of plan.now) outline.now }
-    requires suggested { IsSuggested (plan_of plan.now) suggested.now }
-    requires sizes { sizes.now ≡ sizes_of (plan_of plan.now) }
-    requires count { length sizes.now ≤ 63 }
-    requires large { All (λ rows. 2 ≤ rows) sizes.now }
-    requires small { All (λ rows. rows ≤ 64) sizes.now }
-    requires few { spent ≤ most_evaluations }
-    ensures few { IfOk result (λ r. r.1 ≤ most_evaluations) }
-    ensures sought { IfOk result (λ r. IsSought turn (schema_of schema.now) (plan_of plan.now) (filter (is_meeting (schema_of schema.now)) (spec.of_round (schema_of schema.now) (plan_of plan.now) number)) spent r.0 r.1) }
-{
-    let mut total = spent;
-    for rows in sizes {
-        let tries = tries(plan, *rows, sizes.len());
-        let (found, made) = search_size(
-            alloc, schema, plan, outline, suggested, *rows, tries, turn, number, total,
-        )?;
-        if let Some(witness) = found {
-            return Ok((Some(witness), made));
-        }
-        total = made;
-    }
-    Ok((None, total))
-}
-
-/// The try of a size in a round, if there are so many tries of it; the number of evaluations, that of the ones before included.
-fn search_size(
+/// The tries of a size, one after another, with at most so many evaluations.
+fn search_tries(
     alloc: Global,
     schema: &Schema,
     plan: &Plan,
@@ -216,25 +191,27 @@ fn search_size(
     rows: u32,
     tries: u32,
     turn: Turn,
-    number: u32,
-    spent: u32,
-) -> Result<(Option<Witness>, u32), OutOfMemory>
+    most: u32,
+) -> Result<Option<Witness>, OutOfMemory>
     requires fitting { fits (schema_of schema.now) (plan_of plan.now) ≡ true }
     requires outline { IsOutline (schema_of schema.now) (plan_of plan.now) outline.now }
     requires suggested { IsSuggested (plan_of plan.now) suggested.now }
     requires small { rows ≤ 64 }
     requires tries { tries ≡ spec.tries (plan_of plan.now) rows }
-    requires few { spent ≤ most_evaluations }
-    ensures few { IfOk result (λ r. r.1 ≤ most_evaluations) }
-    ensures sought { IfOk result (λ r. IsSought turn (schema_of schema.now) (plan_of plan.now) (filter (is_meeting (schema_of schema.now)) (spec.of_size (schema_of schema.now) (plan_of plan.now) number rows)) spent r.0 r.1) }
+    requires few { most ≤ most_evaluations }
+    ensures { IfOk result (λ o. EndsWith o (schema_of schema.now) (plan_of plan.now) (record { rows = rows; turn = turn; most = most })) }
 {
-    if number < tries {
-        try_varied(
+    let mut spent = MOST_EVALUATIONS - most;
+    for number in 0..tries {
+        let (found, made) = try_varied(
             alloc, schema, plan, outline, suggested, rows, turn, number, spent,
-        )
-    } else {
-        Ok((None, spent))
+        )?;
+        if let Some(witness) = found {
+            return Ok(Some(witness));
+        }
+        spent = made;
     }
+    Ok(None)
 }
 
 /// A try, while there are evaluations left.
