@@ -129,9 +129,7 @@ fn search_turned(
     )?;
     match turned {
         Some(witness) => Ok(Some(witness)),
-        None => search_neighbours(
-            alloc, schema, plan, outline, suggested, rows, tries, count,
-        ),
+        None => search_neighbours(alloc, schema, plan, outline, suggested, rows, tries, count),
     }
 }
 

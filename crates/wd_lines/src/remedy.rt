@@ -18,7 +18,10 @@ pub(crate) fn remedy_at(number: u32, text: &[u8], span: Span) -> Option<&'static
         307 => found(&OF_TYPE, word),
         309 => found(&IN_SCHEMA, word).or_else(|| found(&OF_TYPE, last_word(before))),
         402 => found(&OF_NAME, word),
-        405 => found(&OF_FUNCTION, first_word(word)),
+        405 => found(&OF_FUNCTION, first_word(word)).or_else(|| found(
+            &OF_ARGUMENT,
+            called(before),
+        )),
         _ => None,
     }
 }
@@ -50,6 +53,14 @@ fn first_word(text: &[u8]) -> &[u8] {
         None => text.len(),
     };
     &text[..end]
+}
+
+/// The function in whose brackets a text ends.
+fn called(text: &[u8]) -> &[u8] {
+    match text.trim_ascii_end().split_last() {
+        Some((b'(', before)) => last_word(before),
+        _ => &[],
+    }
 }
 
 /// Whether a byte is of a word.
@@ -256,6 +267,12 @@ const OF_NAME: [(&str, &str); 8] = [
     ("rowid", NO_NUMBER),
     ("rownum", NO_NUMBER),
 ];
+
+/// By the function whose argument is not read.
+const OF_ARGUMENT: [(&str, &str); 1] = [(
+    "sum",
+    "SUM adds whole numbers; a sum of real or double precision goes by the order in which they are added",
+)];
 
 const OF_DATE: &str = "keep that part of the date as a column of the table";
 

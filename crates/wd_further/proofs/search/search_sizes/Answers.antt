@@ -17,7 +17,7 @@ loop-rows-preserved c =
     let within = subst (λ s. i < length s) c.requires.sizes c.loop-rows-test.true in
     let here = subst (λ s. IsSoughtBy c.in_ok-found.found tables plan (of_size (length s) (get_or s i 0))) c.requires.sizes c.in_ok-found.ensures in
     none_in_one_more tables plan (of_size (length (sizes plan))) (sizes plan) i c.loop-rows.invariant within
-        (subst (λ found. IsSoughtBy found tables plan (of_size (length (sizes plan)) (get_or (sizes plan) i 0))) c.in_default.is here)
+    (subst (λ found. IsSoughtBy found tables plan (of_size (length (sizes plan)) (get_or (sizes plan) i 0))) c.in_default.is here)
 
 pub returns-in-Some : goal.returns-in-Some
 returns-in-Some c =
@@ -27,7 +27,7 @@ returns-in-Some c =
     let within = subst (λ s. i < length s) c.requires.sizes c.loop-rows-test.true in
     let here = subst (λ s. IsSoughtBy c.in_ok-found.found tables plan (of_size (length s) (get_or s i 0))) c.requires.sizes c.in_ok-found.ensures in
     found_in_one_more tables plan (of_size (length (sizes plan))) (sizes plan) i c.loop-rows.invariant within c.in-Some.smallest
-        (subst (λ found. IsSoughtBy found tables plan (of_size (length (sizes plan)) (get_or (sizes plan) i 0))) c.in-Some.is here)
+    (subst (λ found. IsSoughtBy found tables plan (of_size (length (sizes plan)) (get_or (sizes plan) i 0))) c.in-Some.is here)
 
 pub returns : goal.returns
 returns c =
