@@ -19,6 +19,7 @@ import sys
 import tempfile
 import threading
 
+from gate import sum_once
 from rt_module import TOP, rt, sum_of
 
 PROGRAM = sys.argv[1] if len(sys.argv) > 1 else "wdcheck"
@@ -153,6 +154,7 @@ def prove(crate, given, jobs, made, progress):
 
 def main():
     os.chdir(TOP)
+    sum_once()
     rt.Crate.allowed = rt.handles_of(TOP)
     rt.Crate.cuts_libraries = True
     rt.rtlib.Crate = rt.Crate
