@@ -82,7 +82,7 @@ module _ (tables : List TableRule) (plan : PlanTree) (f : ℕ → List Search) (
     found_in_one_more w h = subst (IsSoughtBy (Some w) tables plan) (sym rest) (found_before tables plan w (flat_map f (take (i + 1) xs)) (flat_map f (drop (i + 1) xs)) (with_one_more (Some w) h))
 
   pub none_in_all : length xs ≤ i → IsSoughtBy None tables plan (flat_map f xs)
-  none_in_all all = subst (λ ys. IsSoughtBy None tables plan (flat_map f ys)) (take_all xs i all) none
+  none_in_all all = subst (λ ys. IsSoughtBy None tables plan (flat_map f ys)) (take_all i xs all) none
 
 -- ---- few rows
 

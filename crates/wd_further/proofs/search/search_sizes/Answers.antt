@@ -1,4 +1,4 @@
-use Rattle.std.proofs.Common.{◌<◌, ◌≤◌, None, Some, get_or, length, subst}
+use Rattle.std.proofs.Common.{◌<◌, ◌≤◌, get_or, length, subst}
 use Rattle.wd_plan.specs.Plans.{plan_of}
 use Rattle.wd_schema.specs.Schemas.{schema_of}
 use Rattle.wd_varied.specs.Sizes.{sizes}
