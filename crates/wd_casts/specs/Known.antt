@@ -5,9 +5,9 @@ use Rattle.wd_lex.specs.declared.token.Token.{Token}
 use Rattle.wd_lex.specs.declared.token.TokenKind.{TokenKind}
 use Rattle.wd_lex.specs.declared.token.TokenKind.TheVariants as t
 use Rattle.wd_operands.specs.Operands.{is_name}
-use Rattle.wd_moments.specs.declared.token.Stop.TheVariants.{Comma}
-use Rattle.wd_moments.specs.Terms.{bracketed, is_picked}
-use Rattle.wd_moments.specs.Tokens.{◌>>=◌, begins_bracket, brackets_at, is_dot, or_else, part_length}
+use Rattle.wd_amounts.specs.declared.token.Stop.TheVariants.{Comma}
+use Rattle.wd_amounts.specs.Terms.{bracketed, is_picked}
+use Rattle.wd_amounts.specs.Tokens.{◌>>=◌, begins_bracket, brackets_at, is_dot, or_else, part_length}
 use Rattle.wd_casts.specs.declared.kind.Kind.{Kind}
 use Rattle.wd_casts.specs.declared.kind.Kind.TheVariants as k
 use Rattle.wd_casts.specs.declared.known.Known.{Known}

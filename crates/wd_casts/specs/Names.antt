@@ -6,8 +6,8 @@ use Rattle.wd_dialect_read.specs.declared.said.Item.{Item}
 use Rattle.wd_dialect_read.specs.declared.said.Item.TheVariants as i
 use Rattle.wd_dialect_read.specs.declared.said.Statement.{Statement}
 use Rattle.wd_dialect_read.specs.declared.said.Statement.TheVariants as s
-use Rattle.wd_moments.specs.Names.{given_uses, has_lists}
-use Rattle.wd_moments.specs.Names as moments
+use Rattle.wd_amounts.specs.Names.{given_uses, has_lists}
+use Rattle.wd_amounts.specs.Names as amounts
 use Rattle.wd_casts.specs.declared.kind.Kind.{Kind}
 use Rattle.wd_casts.specs.declared.kind.Kind.TheVariants as k
 use Rattle.wd_casts.specs.declared.names.Agreed.{Agreed}
@@ -38,7 +38,7 @@ column_uses [] = []
 column_uses (statement ∷ statements) = statement_uses statement ++ column_uses statements
 
 -- it is not known what a name is that the query gives
-unfoldable pub unknown_uses : List moments.Use → List Use
+unfoldable pub unknown_uses : List amounts.Use → List Use
 unknown_uses [] = []
 unknown_uses (x ∷ xs) = (x.0, None) ∷ unknown_uses xs
 

@@ -11,10 +11,10 @@ use crate::kind::Kind;
 use crate::names::{NameUse, kind_named};
 use crate::term::{Cast, Term, term_at};
 use std::alloc::{AllocError, Global};
-use wd_lex::{Token, TokenKind};
-use wd_moments::{
+use wd_amounts::{
     Stop, begins_bracket, bracketed, brackets_at, is_dot, is_name, is_picked, part_length,
 };
+use wd_lex::{Token, TokenKind};
 
 /// How many brackets and casts are followed.
 const MOST_DEEP: usize = 130;

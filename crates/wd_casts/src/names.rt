@@ -4,13 +4,13 @@ ghost use Rattle.std.specs.Prelude.{◌≡◌, ◌++◌, map, IfOk};
 ghost use Rattle.wd_casts.specs.Names as spec;
 ghost use Rattle.wd_casts.specs.Names.{column_uses, items_uses, unknown_uses};
 ghost use Rattle.wd_casts.specs.Seen.{use_seen};
-ghost use Rattle.wd_moments.specs.Seen as moments;
+ghost use Rattle.wd_amounts.specs.Seen as amounts;
 
 use crate::kind::{Kind, kind_of_column};
 use std::alloc::Global;
+use wd_amounts::{NameUse as GivenUse, given_names, has_lists};
 use wd_dialect_read::{Item, Statement};
 use wd_lex::Token;
-use wd_moments::{NameUse as GivenUse, given_names, has_lists};
 use wd_value::OutOfMemory;
 
 /// What the uses of a name are.
@@ -69,7 +69,7 @@ fn push_all_columns<'t>(
 /// Adds names of which it is not known what they are.
 #[tactic(auto, unfolding(crate::specs::Names::unknown_uses))]
 fn push_unknown<'t>(uses: &mut Vec<NameUse<'t>>, given: &[GivenUse<'t>]) -> Result<(), OutOfMemory>
-    ensures { IfOk result (λ _. map use_seen uses.new.items ≡ map use_seen uses.old.items ++ unknown_uses (map moments.use_seen given.now)) }
+    ensures { IfOk result (λ _. map use_seen uses.new.items ≡ map use_seen uses.old.items ++ unknown_uses (map amounts.use_seen given.now)) }
 {
     let mut rest = given;
     while let [first, after @ ..] = rest {

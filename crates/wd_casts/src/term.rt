@@ -9,8 +9,8 @@ use crate::kind::Kind;
 use crate::token::{is_percent, is_word};
 use crate::type_name::type_at;
 use std::alloc::{AllocError, Global};
+use wd_amounts::{Stop, begins_bracket, brackets_at, part_length};
 use wd_lex::{Span, Token};
-use wd_moments::{Stop, begins_bracket, brackets_at, part_length};
 use wd_operands::primary_length;
 
 /// A cast: to what, and where its `::` or its CAST stands.

@@ -16,10 +16,10 @@ use crate::known::{Known, known_after, known_as, known_of};
 use crate::names::{NameUse, uses};
 use crate::term::{Cast, Term, term_at};
 use std::alloc::{AllocError, Global};
+use wd_amounts::is_test_word;
 use wd_clauses::{RespellError, add, add_all, copy_token};
 use wd_dialect_read::Statement;
 use wd_lex::{Terminal, Token, TokenKind};
-use wd_moments::is_test_word;
 
 /// An operand whose casts have equations, and what is known of it.
 #[derive(Drop)]

@@ -78,6 +78,15 @@ const DATES: &str =
 const CLAUSES: &str =
     "the clauses stand in the order FROM, WHERE, GROUP BY, HAVING, WINDOW, ORDER BY, OFFSET, FETCH FIRST; a list ends without a comma";
 
+const PRODUCT: &str =
+    "a product of two decimals has the places of both: multiply by whole numbers, or compute it in the report";
+
+const QUOTIENT: &str =
+    "a quotient of decimals has further places: show both numbers, and divide them in the report";
+
+const UNLIKE: &str =
+    "the sides count different units, as decimals of two scales or a decimal and a whole number do: keep both in one unit";
+
 /// By the character with which no token begins.
 const AT_CHARACTER: [(&str, &str); 8] = [
     ("|", "`||` is not read: keep the joined text as a column"),
@@ -97,7 +106,7 @@ const AT_CHARACTER: [(&str, &str); 8] = [
 ];
 
 /// By the word with which no query goes on.
-const AT_WORD: [(&str, &str); 37] = [
+const AT_WORD: [(&str, &str); 40] = [
     (
         "in",
         "write x = 1 OR x = 2; for a subquery join (SELECT DISTINCT y ..) AS s",
@@ -168,10 +177,13 @@ const AT_WORD: [(&str, &str); 37] = [
         "::",
         "leave it out: keep the value as a column of that type",
     ),
+    ("decimal_product", PRODUCT),
+    ("decimal_quotient", QUOTIENT),
+    ("unlike_units", UNLIKE),
 ];
 
 /// By the word before the one with which no query goes on.
-const AFTER_WORD: [(&str, &str); 9] = [
+const AFTER_WORD: [(&str, &str); 12] = [
     (
         "filter",
         "for SUM(x) FILTER (WHERE p) write SUM(CASE WHEN p THEN x END)",
@@ -193,6 +205,9 @@ const AFTER_WORD: [(&str, &str); 9] = [
         "name a column: the number of an output, and an expression to group by, are not read",
     ),
     ("exists", "join (SELECT DISTINCT y ..) AS s"),
+    ("decimal_product", PRODUCT),
+    ("decimal_quotient", QUOTIENT),
+    ("unlike_units", UNLIKE),
 ];
 
 const WHOLE: &str = "write BIGINT";

@@ -3,7 +3,7 @@ use Rattle.std.proofs.Common.{◌≡◌, ◌∙◌, ◌<◌, ◌≤◌, ◌-◌,
 use Rattle.std.proofs.lemmas.Grind.{common_steps}
 use Rattle.wd_lex.specs.declared.token.Token.{Token}
 use Rattle.wd_moments.specs.declared.error.MomentError.{MomentError}
-use Rattle.wd_moments.specs.declared.unit.Unit.{Unit as Counts}
+use Rattle.wd_amounts.specs.declared.unit.Unit.{Unit as Counts}
 use Rattle.wd_moments.specs.Given.{Fails}
 use Rattle.wd_moments.specs.Literals.{first_written, numbers_in}
 use Rattle.wd_moments.proofs.AddFacts.{adds_fail, adds_more}

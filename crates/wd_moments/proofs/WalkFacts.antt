@@ -5,7 +5,7 @@ use Rattle.std.proofs.lemmas.List.{append-nil}
 use Rattle.wd_lex.specs.declared.token.Token.{Token}
 use Rattle.wd_moments.specs.declared.error.MomentError.{MomentError}
 use Rattle.wd_moments.specs.Given.{Fails}
-use Rattle.wd_moments.specs.Names.{Use}
+use Rattle.wd_amounts.specs.Names.{Use}
 use Rattle.wd_moments.specs.Numbered.{step, walked}
 use Rattle.wd_moments.proofs.AddFacts.{adds_fail, adds_more}
 

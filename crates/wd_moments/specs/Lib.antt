@@ -1,9 +1,7 @@
 pub mod Comparisons
+pub mod Decimals
 pub mod Given
 pub mod Literals
-pub mod Names
 pub mod Numbered
 pub mod Seen
-pub mod Terms
-pub mod Tokens
-pub mod Units
+pub mod Unlike

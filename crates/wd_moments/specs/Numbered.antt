@@ -1,36 +1,42 @@
--- Tokens with numbers in place of the literals of moments, in comparisons whose sides count one unit.
+-- Tokens with numbers in place of the literals of moments, and of numbers beside decimals, in comparisons whose sides count one unit.
 use Rattle.std.specs.Prelude.{ℕ, zero, suc, ◌++◌, Bool, true, false, if◌then◌else◌, List, [], ◌∷◌, length, Option, Some, None}
 use Rattle.wd_lex.specs.declared.token.Terminal.TheVariants as m
+use Rattle.wd_lex.specs.declared.token.Span.{Span as Place}
 use Rattle.wd_lex.specs.declared.token.Token.{Token}
-use Rattle.wd_lex.specs.declared.token.TokenKind.{TokenKind}
-use Rattle.wd_lex.specs.declared.token.TokenKind.TheVariants as t
 use Rattle.wd_dialect_read.specs.declared.said.Statement.{Statement}
-use Rattle.wd_moments.specs.Names.{Use, uses}
-use Rattle.wd_moments.specs.Literals.{numbers_in}
-use Rattle.wd_moments.specs.Comparisons.{Comparison, comparison_at}
+use Rattle.wd_amounts.specs.Names.{Use, uses}
+use Rattle.wd_moments.specs.declared.decimal.Stand.TheVariants.{Term}
+use Rattle.wd_amounts.specs.declared.unit.Unit.{Unit as Counts}
+use Rattle.wd_amounts.specs.declared.unit.Unit.TheVariants.{Days, Microseconds, Decimal}
+use Rattle.wd_moments.specs.Decimals.{units_in}
+use Rattle.wd_moments.specs.Literals.{made, number_token, numbers_in}
+use Rattle.wd_moments.specs.Unlike.{unlike_from, with_word}
+use Rattle.wd_moments.specs.Comparisons.{Comparison, begins_side, comparison_at}
 
--- An operand is the whole left side of a comparison after an opening bracket, a comma, a word that begins a condition or a value,
--- and AND, OR and NOT.
-abbrev pub begins_side : TokenKind → Bool
-begins_side (t.Terminal m.LeftBracket) = true
-begins_side (t.Terminal m.Comma) = true
-begins_side (t.Terminal m.And) = true
-begins_side (t.Terminal m.Or) = true
-begins_side (t.Terminal m.Not) = true
-begins_side (t.Terminal m.When) = true
-begins_side (t.Terminal m.Then) = true
-begins_side (t.Terminal m.Else) = true
-begins_side (t.Terminal m.Where) = true
-begins_side (t.Terminal m.On) = true
-begins_side (t.Terminal m.Having) = true
-begins_side (t.Terminal m.Select) = true
-begins_side (t.Terminal m.Distinct) = true
-begins_side (t.Terminal m.By) = true
-begins_side _ = false
+-- an operand that counts a unit, with numbers of that unit
+abbrev pub side : Counts → List Token → List Token
+side (Decimal scale) tokens = units_in scale Term tokens
+side unit tokens = numbers_in unit false tokens
 
--- a comparison with numbers in place of its literals
+-- what opens and what closes the midnight of a day
+abbrev pub midnight_front : Place → List Token
+midnight_front at = made m.LeftBracket at ∷ made m.LeftBracket at ∷ []
+
+abbrev pub midnight_back : Place → List Token
+midnight_back at = made m.RightBracket at ∷ made m.Star at ∷ number_token 86400000000 at ∷ made m.RightBracket at ∷ []
+
+-- the midnight of a day: `( ( d ) * 86400000000 )`
+abbrev pub midnight : Place → List Token → List Token
+midnight at tokens = (midnight_front at ++ side Days tokens) ++ midnight_back at
+
+-- a side of a comparison beside one that counts another unit or the same
+abbrev pub side_beside : Place → Counts → Counts → List Token → List Token
+side_beside at Days Microseconds tokens = midnight at tokens
+side_beside at unit other tokens = side unit tokens
+
+-- a comparison with numbers of the units of its sides
 abbrev pub compared : Comparison → List Token
-compared c = numbers_in c.unit false c.left ++ c.sign ∷ numbers_in c.unit false c.right
+compared c = side_beside c.sign.span c.first c.second c.left ++ c.sign ∷ side_beside c.sign.span c.second c.first c.right
 
 -- what is written, whether a side may begin after it, and the tokens from there on
 abbrev pub Step : Type 0
@@ -56,6 +62,10 @@ walked known zero begins tokens = []
 walked known (suc turns) begins [] = []
 walked known (suc turns) begins (token ∷ tokens) = and_then (step known begins (token ∷ tokens)) (walked known turns)
 
--- the tokens of a query with numbers for its moments
+abbrev pub numbers_for : List Use → List Token → List Token
+numbers_for known tokens = walked known (length tokens) true tokens
+
+-- the tokens of a query with numbers for its moments and beside its decimals, and with a word in place of the first operator that has no
+-- equation
 unfoldable pub with_numbers : List Statement → List Token → List Token
-with_numbers statements tokens = walked (uses statements tokens) (length tokens) true tokens
+with_numbers statements tokens = let known = uses statements tokens in numbers_for known (with_word (unlike_from known 0 true tokens) tokens)

@@ -2,24 +2,50 @@
 
 ghost use Rattle.std.specs.Prelude.{◌≡◌, map};
 ghost use Rattle.wd_moments.specs.Comparisons as spec;
-ghost use Rattle.wd_moments.specs.Given.{Finds};
-ghost use Rattle.wd_moments.specs.Seen.{comparison_seen, use_seen};
+ghost use Rattle.wd_amounts.specs.Given.{Finds};
+ghost use Rattle.wd_amounts.specs.Seen.{use_seen};
+ghost use Rattle.wd_moments.specs.Seen.{comparison_seen};
 
-use crate::literal::number_said;
-use crate::names::NameUse;
-use crate::operand::unit_of;
-use crate::token::{is_comparison, is_left_bracket, is_name, is_right_bracket, operand_at};
-use crate::unit::{Unit, is_same};
-use wd_lex::Token;
+use wd_amounts::{
+    NameUse, Unit, is_comparison, is_left_bracket, is_name, is_right_bracket, number_said,
+    operand_at, shared, unit_of,
+};
+use wd_lex::{Terminal, Token, TokenKind};
 
-/// A comparison, what both sides count, and the tokens after it.
+/// A comparison, what its sides count, and the tokens after it.
 #[derive(Clone, Copy)]
 pub struct Comparison<'t> {
     pub left: &'t [Token],
     pub sign: &'t Token,
     pub right: &'t [Token],
-    pub unit: Unit,
+    pub first: Unit,
+    pub second: Unit,
     pub rest: &'t [Token],
+}
+
+/// Whether an operand after a token is the whole left side of a comparison.
+pub fn begins_side(kind: &TokenKind) -> bool
+    ensures { result ≡ spec.begins_side kind.now }
+{
+    matches!(
+        kind,
+        TokenKind::Terminal(
+            Terminal::LeftBracket
+                | Terminal::Comma
+                | Terminal::And
+                | Terminal::Or
+                | Terminal::Not
+                | Terminal::When
+                | Terminal::Then
+                | Terminal::Else
+                | Terminal::Where
+                | Terminal::On
+                | Terminal::Having
+                | Terminal::Select
+                | Terminal::Distinct
+                | Terminal::By,
+        )
+    )
 }
 
 /// Whether all tokens close brackets.
@@ -52,27 +78,49 @@ fn says(unit: Unit, tokens: &[Token]) -> bool
     false
 }
 
-/// The unit of both sides, by what each counts.
+/// One unit for both sides.
+fn both(unit: Option<Unit>) -> Option<(Unit, Unit)>
+    ensures { result ≡ spec.both unit }
+{
+    match unit {
+        Some(unit) => Some((unit, unit)),
+        None => None,
+    }
+}
+
+/// The units of sides that count these, where they can be compared.
+pub fn sides_of(first: Unit, second: Unit) -> Option<(Unit, Unit)>
+    ensures { result ≡ spec.sides_of first second }
+{
+    match (first, second) {
+        (Unit::Days, Unit::Microseconds) | (Unit::Microseconds, Unit::Days) => {
+            Some((first, second))
+        }
+        _ => both(shared(first, second)),
+    }
+}
+
+/// The units of both sides, by what each counts.
 fn common(
     first: Option<Unit>,
     second: Option<Unit>,
     left: &[Token],
     right: &[Token],
-) -> Option<Unit>
+) -> Option<(Unit, Unit)>
     ensures { result ≡ spec.common first second left.now right.now }
 {
-    let (unit, is_common) = match (first, second) {
-        (Some(first), Some(second)) => (first, is_same(first, second)),
+    let (unit, is_said) = match (first, second) {
+        (Some(first), Some(second)) => return sides_of(first, second),
         (Some(first), None) => (first, says(first, right)),
         (None, Some(second)) => (second, says(second, left)),
         (None, None) => return None,
     };
-    if is_common { Some(unit) } else { None }
+    if is_said { both(Some(unit)) } else { None }
 }
 
 /// The sign of a comparison, and the tokens after it.
 #[tactic(auto, unfolding(crate::specs::Comparisons::sign_at))]
-fn sign_at(tokens: &[Token]) -> Option<(&Token, &[Token])>
+pub fn sign_at(tokens: &[Token]) -> Option<(&Token, &[Token])>
     ensures { Finds (λ x. (x.0.now, x.1.now)) result (spec.sign_at tokens.now) }
 {
     match tokens {
@@ -113,12 +161,13 @@ pub fn comparison_at<'t>(known: &[NameUse], tokens: &'t [Token]) -> Option<Compa
     if !is_done(rest) {
         return None;
     }
-    let unit = common(unit_of(known, left), unit_of(known, right), left, right)?;
+    let (first, second) = common(unit_of(known, left), unit_of(known, right), left, right)?;
     Some(Comparison {
         left,
         sign,
         right,
-        unit,
+        first,
+        second,
         rest,
     })
 }

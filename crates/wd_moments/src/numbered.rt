@@ -1,54 +1,102 @@
-//! Goes over tokens from left to right, and writes numbers in place of the literals of moments.
+//! Goes over tokens from left to right, and writes numbers in place of the literals of moments and of numbers beside decimals.
 
 ghost use Rattle.std.specs.Prelude.{◌≡◌, ◌≤◌, ◌<◌, length, map, true, IfOk, IfErr};
 ghost use Rattle.wd_moments.specs.declared.error.MomentError.{MomentError};
-ghost use Rattle.wd_moments.specs.Given.{Adds, Finds, most_tokens};
+ghost use Rattle.wd_amounts.specs.Given.{Finds};
+ghost use Rattle.wd_moments.specs.Given.{Adds, most_tokens};
 ghost use Rattle.wd_moments.specs.Numbered as spec;
-ghost use Rattle.wd_moments.specs.Numbered.{compared, step};
-ghost use Rattle.wd_moments.specs.Seen.{comparison_seen, use_seen};
+ghost use Rattle.wd_moments.specs.Numbered.{compared, midnight, midnight_back, midnight_front, numbers_for, side, side_beside, step};
+ghost use Rattle.wd_amounts.specs.Seen.{use_seen};
+ghost use Rattle.wd_moments.specs.Seen.{comparison_seen};
 
-use crate::comparison::{Comparison, comparison_at};
+use crate::comparison::{Comparison, begins_side, comparison_at};
+use crate::decimal::push_units;
 use crate::error::MomentError;
 use crate::literal::push_numbers;
-use crate::names::{NameUse, uses};
-use crate::write::push_copy;
+use crate::unlike::{first_unlike, worded};
+use crate::write::{push_copy, push_mark, push_number};
 use std::alloc::Global;
+use wd_amounts::{NameUse, Unit, uses};
 use wd_dialect_read::Statement;
-use wd_lex::{Terminal, Token, TokenKind};
+use wd_lex::{Span, Terminal, Token};
 
-/// Whether an operand after a token is the whole left side of a comparison.
-fn begins_side(kind: &TokenKind) -> bool
-    ensures { result ≡ spec.begins_side kind.now }
+/// The microseconds of a day.
+const DAY: u64 = 86_400_000_000;
+
+/// Writes an operand that counts a unit, with numbers of that unit.
+fn push_side(out: &mut Vec<Token>, unit: Unit, tokens: &[Token]) -> Result<(), MomentError>
+    requires { length out.old.items ≤ most_tokens }
+    ensures { Adds result out.old.items out.new.items (side unit tokens.now) }
 {
-    matches!(
-        kind,
-        TokenKind::Terminal(
-            Terminal::LeftBracket
-                | Terminal::Comma
-                | Terminal::And
-                | Terminal::Or
-                | Terminal::Not
-                | Terminal::When
-                | Terminal::Then
-                | Terminal::Else
-                | Terminal::Where
-                | Terminal::On
-                | Terminal::Having
-                | Terminal::Select
-                | Terminal::Distinct
-                | Terminal::By,
-        )
-    )
+    match unit {
+        Unit::Decimal(scale) => push_units(out, scale, tokens),
+        _ => push_numbers(out, unit, tokens),
+    }
 }
 
-/// Writes a comparison with numbers in place of its literals.
+/// Writes what opens the midnight of a day.
+fn push_midnight_front(out: &mut Vec<Token>, at: Span) -> Result<(), MomentError>
+    requires { length out.old.items ≤ most_tokens }
+    ensures { Adds result out.old.items out.new.items (midnight_front at) }
+{
+    push_mark(out, at, Terminal::LeftBracket)?;
+    push_mark(out, at, Terminal::LeftBracket)
+}
+
+/// Writes what closes the midnight of a day.
+fn push_midnight_back(out: &mut Vec<Token>, at: Span) -> Result<(), MomentError>
+    requires { length out.old.items ≤ most_tokens }
+    ensures { Adds result out.old.items out.new.items (midnight_back at) }
+{
+    push_mark(out, at, Terminal::RightBracket)?;
+    push_mark(out, at, Terminal::Star)?;
+    push_number(out, at, DAY)?;
+    push_mark(out, at, Terminal::RightBracket)
+}
+
+/// Writes the midnight of a day.
+fn push_midnight(out: &mut Vec<Token>, at: Span, tokens: &[Token]) -> Result<(), MomentError>
+    requires { length out.old.items ≤ most_tokens }
+    ensures { Adds result out.old.items out.new.items (midnight at tokens.now) }
+{
+    push_midnight_front(out, at)?;
+    push_side(out, Unit::Days, tokens)?;
+    push_midnight_back(out, at)
+}
+
+/// Writes a side of a comparison, beside one that counts another unit or the same.
+fn push_beside(
+    out: &mut Vec<Token>,
+    at: Span,
+    unit: Unit,
+    other: Unit,
+    tokens: &[Token],
+) -> Result<(), MomentError>
+    requires { length out.old.items ≤ most_tokens }
+    ensures { Adds result out.old.items out.new.items (side_beside at unit other tokens.now) }
+{
+    match (unit, other) {
+        (Unit::Days, Unit::Microseconds) => push_midnight(out, at, tokens),
+        _ => push_side(out, unit, tokens),
+    }
+}
+
+/// Writes a comparison with numbers of the units of its sides.
 fn push_compared(out: &mut Vec<Token>, comparison: &Comparison) -> Result<(), MomentError>
     requires { length out.old.items ≤ most_tokens }
     ensures { Adds result out.old.items out.new.items (compared (comparison_seen comparison.now)) }
 {
-    push_numbers(out, comparison.unit, comparison.left)?;
-    push_copy(out, comparison.sign)?;
-    push_numbers(out, comparison.unit, comparison.right)
+    let Comparison {
+        left,
+        sign,
+        right,
+        first,
+        second,
+        ..
+    } = *comparison;
+    push_beside(out, sign.span, first, second, left)?;
+    push_copy(out, sign)?;
+    push_beside(out, sign.span, second, first, right)
 }
 
 /// The comparison that begins here, where one may.
@@ -106,9 +154,22 @@ fn walk(out: &mut Vec<Token>, known: &[NameUse], tokens: &[Token]) -> Result<(),
     Ok(())
 }
 
+/// The tokens with numbers beside what counts their unit.
+fn numbered(alloc: Global, known: &[NameUse], tokens: &[Token]) -> Result<Vec<Token>, MomentError>
+    ensures numbered { IfOk result (λ out. out.items ≡ numbers_for (map use_seen known.now) tokens.now) }
+    ensures within { IfOk result (λ out. length out.items ≤ most_tokens) }
+    ensures long { IfErr result (λ e. e ≡ MomentError.TooLong → most_tokens < length (numbers_for (map use_seen known.now) tokens.now)) }
+{
+    let mut out = Vec::new(alloc);
+    walk(&mut out, known, tokens)?;
+    Ok(out)
+}
+
 /// The tokens of a query with numbers in place of the literals of moments, where they are compared with what is known to count the
 /// same unit: days, microseconds of a moment, or microseconds between two moments. A number has the place of the literal's first
-/// word. It refuses with `TooLong` where the result has more than 65,536 tokens.
+/// word. A number that is compared with a decimal, or a term of what is, becomes so many units of the decimal's last place. In place
+/// of the first operator that has no equation in whole numbers, as a product of decimals, stands a word that the profile refuses. It
+/// refuses with `TooLong` where the result has more than 65,536 tokens.
 #[tactic(auto, unfolding(crate::specs::Numbered::with_numbers))]
 pub fn with_numbers(
     alloc: Global,
@@ -123,7 +184,11 @@ pub fn with_numbers(
     ensures long { IfErr result (λ e. e ≡ MomentError.TooLong → most_tokens < length (spec.with_numbers statements.now tokens.now)) }
 {
     let known = uses(alloc, statements, tokens)?;
-    let mut out = Vec::new(alloc);
-    walk(&mut out, &known, tokens)?;
-    Ok(out)
+    match first_unlike(&known, tokens) {
+        Some(unlike) => {
+            let said = worded(alloc, unlike, tokens)?;
+            numbered(alloc, &known, &said)
+        }
+        None => numbered(alloc, &known, tokens),
+    }
 }

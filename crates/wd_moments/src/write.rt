@@ -54,12 +54,20 @@ fn copied_kind(kind: &TokenKind) -> Result<TokenKind, AllocError>
     }
 }
 
+/// An equal token of its own.
+pub fn copied(token: &Token) -> Result<Token, AllocError>
+    ensures { IfOk result (λ copied. copied ≡ token.now) }
+{
+    let kind = copied_kind(&token.kind)?;
+    let span = token.span;
+    Ok(Token { kind, span })
+}
+
 /// Adds an equal token.
 pub fn push_copy(out: &mut Vec<Token>, token: &Token) -> Result<(), MomentError>
     requires { length out.old.items ≤ most_tokens }
     ensures { Adds result out.old.items out.new.items (token.now ∷ []) }
 {
-    let kind = copied_kind(&token.kind)?;
-    let span = token.span;
-    push(out, Token { kind, span })
+    let own = copied(token)?;
+    push(out, own)
 }

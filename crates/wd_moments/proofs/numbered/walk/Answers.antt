@@ -1,7 +1,7 @@
 use Rattle.std.proofs.Common.{◌∙◌, ◌-◌, true, length, map, sym}
 use Rattle.std.proofs.lemmas.Result.{err_from_is_err_and}
 use Rattle.wd_moments.specs.Numbered.{walked}
-use Rattle.wd_moments.specs.Seen.{use_seen}
+use Rattle.wd_amounts.specs.Seen.{use_seen}
 use Rattle.wd_moments.proofs.WalkFacts.{walk_end, walk_fail, walk_more, walked_none, walked_over}
 use Rattle.wd_moments.proofs.numbered.walk.Goals as goal
 

@@ -1,7 +1,7 @@
 use Rattle.std.proofs.Common.{◌≡◌, ◌≤◌, ◌-◌, ◌++◌, true, length, map}
 use Rattle.wd_moments.specs.Given.{most_tokens}
 use Rattle.wd_moments.specs.Numbered.{walked}
-use Rattle.wd_moments.specs.Seen.{use_seen}
+use Rattle.wd_amounts.specs.Seen.{use_seen}
 use Rattle.wd_moments.proofs.numbered.walk.Given as goal
 
 abbrev pub invariant-loop : goal.invariant-loop

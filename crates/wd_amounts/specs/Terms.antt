@@ -1,0 +1,218 @@
+-- What an operand counts.
+use Rattle.std.specs.Prelude.{ℕ, zero, suc, ◌-◌, ◌==◌, ◌&&◌, ◌||◌, not, codes, Bool, true, false, if◌then◌else◌, List, [], ◌∷◌, length, take, drop, Option, Some, None}
+use Rattle.std.specs.Str.{bytes_eq}
+use Rattle.wd_lex.specs.declared.token.Terminal.TheVariants as m
+use Rattle.wd_lex.specs.declared.token.Token.{Token}
+use Rattle.wd_lex.specs.declared.token.TokenKind.{TokenKind}
+use Rattle.wd_lex.specs.declared.token.TokenKind.TheVariants as t
+use Rattle.wd_operands.specs.Nests.{nest_length}
+use Rattle.wd_operands.specs.Operands.{is_name, is_over, is_sign}
+use Rattle.wd_amounts.specs.declared.token.Stop.{Stop}
+use Rattle.wd_amounts.specs.declared.token.Stop.TheVariants.{Sign, Factor, Comma}
+use Rattle.wd_amounts.specs.declared.unit.Unit.{Unit as Counts}
+use Rattle.wd_amounts.specs.declared.unit.Unit.TheVariants.{Days, Microseconds, Plain, Number}
+use Rattle.wd_amounts.specs.Units.{decimal_alone, joined, with_default}
+use Rattle.wd_amounts.specs.Names.{Use, unit_named}
+use Rattle.wd_amounts.specs.declared.amount.Amount.{Amount}
+use Rattle.wd_amounts.specs.Amounts.{amount_at}
+use Rattle.wd_amounts.specs.Tokens.{◌>>=◌, brackets_at, holds_text, is_dot, or_else, part_length}
+
+-- ---- names, numbers and literals
+
+abbrev pub token_unit : List Use → TokenKind → Option Counts
+token_unit known (t.Word name) = unit_named known name
+token_unit known (t.Quoted name) = unit_named known name
+token_unit known (t.Number number) = Some Number
+token_unit known _ = None
+
+-- a name, of a table or not, or a number; nothing, before a sign, is as 0
+unfoldable pub column_unit : List Use → List Token → Option Counts
+column_unit known [] = Some Number
+column_unit known (only ∷ []) = token_unit known only.kind
+column_unit known (table ∷ dot ∷ column ∷ []) = if is_name table.kind && is_dot dot.kind && is_name column.kind then token_unit known column.kind else None
+column_unit known _ = None
+
+abbrev pub unit_in : Option Amount → Option Counts
+unit_in None = None
+unit_in (Some x) = Some x.unit
+
+-- a literal
+unfoldable pub literal_unit : List Token → Option Counts
+literal_unit tokens = if length tokens == 2 then unit_in (amount_at tokens) else None
+
+-- ---- calls
+
+-- calls of one of the values of their first argument
+abbrev pub is_picked : TokenKind → Bool
+is_picked (t.Word name) =
+    bytes_eq name (codes "lag") || bytes_eq name (codes "lead") || bytes_eq name (codes "first_value") || bytes_eq name (codes "last_value") || bytes_eq name (codes "nth_value")
+    || bytes_eq name (codes "min") || bytes_eq name (codes "max")
+is_picked _ = false
+
+-- calls that count rows
+abbrev pub is_counted : TokenKind → Bool
+is_counted (t.Word name) =
+    bytes_eq name (codes "count") || bytes_eq name (codes "row_number") || bytes_eq name (codes "rank") || bytes_eq name (codes "dense_rank") || bytes_eq name (codes "ntile")
+is_counted _ = false
+
+-- a window's name, or what stands in brackets
+unfoldable pub is_window : List Token → Bool
+is_window [] = false
+is_window (first ∷ []) = is_name first.kind
+is_window (first ∷ second ∷ tokens) = nest_length (first ∷ second ∷ tokens) == length (first ∷ second ∷ tokens)
+
+-- nothing, or OVER and a window in which no text stands
+unfoldable pub ends_call : List Token → Bool
+ends_call [] = true
+ends_call (token ∷ tokens) = is_over token.kind && is_window tokens && not (holds_text tokens)
+
+-- the arguments of a call, after its name
+unfoldable pub arguments_of : List Token → Option (List Token)
+arguments_of tokens = brackets_at tokens >>= λ call. if ends_call call.1 then Some call.0 else None
+
+-- the first argument, where no text stands in the others
+unfoldable pub first_argument : List Token → Option (List Token)
+first_argument tokens = arguments_of tokens >>= λ arguments. if holds_text (drop (part_length Comma arguments) arguments) then None else Some (take (part_length Comma arguments) arguments)
+
+unfoldable pub count_unit : List Token → Option Counts
+count_unit [] = None
+count_unit (token ∷ tokens) =
+    if is_counted token.kind then (arguments_of tokens >>= λ arguments. if holds_text arguments then None else Some Plain) else None
+
+unfoldable pub picked_argument : List Token → Option (List Token)
+picked_argument [] = None
+picked_argument (token ∷ tokens) = if is_picked token.kind then first_argument tokens else None
+
+-- the argument of SUM
+abbrev pub is_sum : TokenKind → Bool
+is_sum (t.Word name) = bytes_eq name (codes "sum")
+is_sum _ = false
+
+unfoldable pub summed_argument : List Token → Option (List Token)
+summed_argument [] = None
+summed_argument (token ∷ tokens) = if is_sum token.kind then first_argument tokens else None
+
+-- nothing, or a comma and 0
+abbrev pub is_zero : TokenKind → Bool
+is_zero (t.Number number) = number == 0
+is_zero _ = false
+
+unfoldable pub ends_with_zero : List Token → Bool
+ends_with_zero [] = true
+ends_with_zero (comma ∷ only ∷ []) = is_zero only.kind
+ends_with_zero _ = false
+
+-- the further arguments of a call: after a first comma and a number of rows, nothing but perhaps 0
+unfoldable pub is_default_zero : List Token → Bool
+is_default_zero arguments =
+    let others = drop 1 (drop (part_length Comma arguments) arguments) in ends_with_zero (drop (part_length Comma others) others)
+
+abbrev pub zero_in : Option (List Token) → Bool
+zero_in None = true
+zero_in (Some arguments) = is_default_zero arguments
+
+-- a call has no default but 0
+unfoldable pub defaults_to_zero : List Token → Bool
+defaults_to_zero [] = true
+defaults_to_zero (token ∷ tokens) = zero_in (arguments_of tokens)
+
+-- ---- casts
+
+-- the microseconds of a day
+abbrev pub is_day : TokenKind → Bool
+is_day (t.Number number) = number == 86400000000
+is_day _ = false
+
+abbrev pub is_case : TokenKind → Bool
+is_case (t.Terminal m.Case) = true
+is_case _ = false
+
+abbrev pub is_end : TokenKind → Bool
+is_end (t.Terminal m.End) = true
+is_end _ = false
+
+abbrev pub is_slash : TokenKind → Bool
+is_slash (t.Terminal m.Slash) = true
+is_slash _ = false
+
+abbrev pub is_star : TokenKind → Bool
+is_star (t.Terminal m.Star) = true
+is_star _ = false
+
+unfoldable pub begins_case : List Token → Bool
+begins_case [] = false
+begins_case (token ∷ tokens) = is_case token.kind
+
+-- `/ 86400000000 END`, the end of a moment's day; `x * 86400000000`, the end of a day's first moment
+unfoldable pub ended_unit : List Token → Option Counts
+ended_unit (first ∷ second ∷ third ∷ []) =
+    if is_slash first.kind && is_day second.kind && is_end third.kind then Some Days
+    else (if is_star second.kind && is_day third.kind then Some Microseconds else None)
+ended_unit _ = None
+
+abbrev pub by_end : Bool → Option Counts → Option Counts
+by_end true (Some Days) = Some Days
+by_end false (Some Microseconds) = Some Microseconds
+by_end _ _ = None
+
+-- the day of a moment and the first moment of a day, as casts are written
+unfoldable pub cast_unit : List Token → Option Counts
+cast_unit tokens = by_end (begins_case tokens) (ended_unit (drop (length tokens - 3) tokens))
+
+-- ---- chains
+
+-- parts of which so much is known, with an operator before each that is still to come; the number bounds the turns
+unfoldable pub chain_from : Stop → (List Token → Option Counts) → ℕ → Option Counts → List Token → Option Counts
+chain_from stop part zero unit tokens = unit
+chain_from stop part (suc turns) unit [] = unit
+chain_from stop part (suc turns) unit (operator ∷ tokens) =
+    chain_from stop part turns (joined operator.kind unit (part (take (part_length stop tokens) tokens))) (drop (part_length stop tokens) tokens)
+
+-- parts with such operators between them: the count of the tokens is always enough
+abbrev pub chain_of : Stop → (List Token → Option Counts) → List Token → Option Counts
+chain_of stop part tokens = chain_from stop part (length tokens) (part (take (part_length stop tokens) tokens)) (drop (part_length stop tokens) tokens)
+
+-- what stands in brackets, and nothing after them
+unfoldable pub bracketed : List Token → Option (List Token)
+bracketed tokens = brackets_at tokens >>= λ nest. if length nest.1 == 0 then Some nest.0 else None
+
+-- the smaller operand that counts what this one does
+unfoldable pub inner_operand : List Token → Option (List Token)
+inner_operand tokens = or_else (bracketed tokens) (picked_argument tokens)
+
+unfoldable pub plain_unit : List Use → List Token → Option Counts
+plain_unit known tokens = or_else (or_else (column_unit known tokens) (literal_unit tokens)) (or_else (count_unit tokens) (cast_unit tokens))
+
+-- a factor without its sign
+unfoldable pub unsigned : List Token → List Token
+unsigned [] = []
+unsigned (token ∷ tokens) = if is_sign token.kind then tokens else token ∷ tokens
+
+-- a name or a number, or else what counts a decimal
+unfoldable pub factor_unit : (List Token → Option Counts) → List Use → List Token → Option Counts
+factor_unit inner known tokens = if length (unsigned tokens) == 0 then None else or_else (column_unit known (unsigned tokens)) (decimal_alone (inner tokens))
+
+-- factors with stars between them, two at least
+unfoldable pub multiple_unit : (List Token → Option Counts) → List Use → List Token → Option Counts
+multiple_unit inner known tokens = if part_length Factor tokens == length tokens then None else chain_of Factor (factor_unit inner known) tokens
+
+-- the sum of decimals, or a product
+unfoldable pub scaled_unit : (List Token → Option Counts) → List Use → List Token → Option Counts
+scaled_unit inner known tokens = or_else (decimal_alone (summed_argument tokens >>= inner)) (multiple_unit inner known tokens)
+
+abbrev pub term_by : (List Token → Option Counts) → List Use → List Token → Option (List Token) → Option Counts
+term_by inner known tokens (Some inside) = with_default (defaults_to_zero tokens) (inner inside)
+term_by inner known tokens None = or_else (plain_unit known tokens) (scaled_unit inner known tokens)
+
+-- what no sum is
+unfoldable pub term_unit : (List Token → Option Counts) → List Use → List Token → Option Counts
+term_unit inner known tokens = term_by inner known tokens (inner_operand tokens)
+
+-- what an operand counts, looked for in so many brackets
+unfoldable pub unit_within : List Use → ℕ → List Token → Option Counts
+unit_within known zero tokens = None
+unit_within known (suc depth) tokens = chain_of Sign (term_unit (unit_within known depth) known) tokens
+
+-- brackets are followed to 64 levels
+abbrev pub unit_of : List Use → List Token → Option Counts
+unit_of known tokens = unit_within known 65 tokens

@@ -1,0 +1,103 @@
+-- What a number counts.
+use Rattle.std.specs.Prelude.{ℕ, ◌==◌, ◌&&◌, nat_lt, Bool, true, false, if◌then◌else◌, Option, Some, None}
+use Rattle.wd_lex.specs.declared.token.Terminal.TheVariants as m
+use Rattle.wd_lex.specs.declared.token.TokenKind.{TokenKind}
+use Rattle.wd_lex.specs.declared.token.TokenKind.TheVariants as t
+use Rattle.wd_dialect_read.specs.declared.kind.ColumnKind.{ColumnKind}
+use Rattle.wd_dialect_read.specs.declared.kind.ColumnKind.TheVariants as kind
+use Rattle.wd_amounts.specs.declared.unit.Unit.{Unit as Counts}
+use Rattle.wd_amounts.specs.declared.unit.Unit.TheVariants.{Days, Microseconds, Span, Plain, Number, Decimal}
+
+abbrev pub is_same : Counts → Counts → Bool
+is_same Days Days = true
+is_same Microseconds Microseconds = true
+is_same Span Span = true
+is_same Plain Plain = true
+is_same Number Number = true
+is_same (Decimal first) (Decimal second) = first == second
+is_same _ _ = false
+
+-- what the values of a decimal count, of which 64 bits hold at least one whole one
+abbrev pub decimal_unit : Option ℕ → Option Counts
+decimal_unit (Some scale) = if nat_lt scale 19 then Some (Decimal scale) else None
+decimal_unit None = None
+
+-- what the values of a column count
+abbrev pub unit_of_kind : ColumnKind → Option Counts
+unit_of_kind kind.Small = Some Plain
+unit_of_kind kind.Whole = Some Plain
+unit_of_kind kind.Big = Some Plain
+unit_of_kind kind.Date = Some Days
+unit_of_kind kind.Timestamp = Some Microseconds
+unit_of_kind (kind.Decimal scale) = decimal_unit scale
+unit_of_kind _ = None
+
+abbrev pub is_number : Counts → Bool
+is_number Number = true
+is_number _ = false
+
+-- what is written as a number alone can say so many of these
+abbrev pub takes_numbers : Counts → Bool
+takes_numbers Plain = true
+takes_numbers (Decimal scale) = true
+takes_numbers _ = false
+
+-- what two count that are compared, or added where neither is a moment: a number that is written counts what the other does
+abbrev pub shared : Counts → Counts → Option Counts
+shared first second =
+    if is_same first second then Some first
+    else (if is_number second && takes_numbers first then Some first
+    else (if is_number first && takes_numbers second then Some second else None))
+
+-- a moment and a span, a day and a number of days, in either order
+abbrev pub sum_unit : Counts → Counts → Option Counts
+sum_unit Microseconds Span = Some Microseconds
+sum_unit Microseconds _ = None
+sum_unit Days Plain = Some Days
+sum_unit Days Number = Some Days
+sum_unit Days _ = None
+sum_unit Span Microseconds = Some Microseconds
+sum_unit Plain Days = Some Days
+sum_unit Number Days = Some Days
+sum_unit first second = shared first second
+
+-- the microseconds between two moments, or the days between two days
+abbrev pub difference_unit : Counts → Counts → Option Counts
+difference_unit Microseconds Microseconds = Some Span
+difference_unit Microseconds Span = Some Microseconds
+difference_unit Microseconds _ = None
+difference_unit Days Days = Some Plain
+difference_unit Days Plain = Some Days
+difference_unit Days Number = Some Days
+difference_unit Days _ = None
+difference_unit first second = shared first second
+
+-- a number that is written, and whatever counts no unit of its own, say how many of something there are
+abbrev pub counts_ones : Counts → Bool
+counts_ones Plain = true
+counts_ones Number = true
+counts_ones _ = false
+
+-- so many of what the other factor counts
+abbrev pub product_unit : Counts → Counts → Option Counts
+product_unit first second =
+    if counts_ones second && takes_numbers first then Some first
+    else (if counts_ones first && takes_numbers second then Some second else None)
+
+-- what two operands come to with an operator between them; of a quotient that is not known
+abbrev pub joined : TokenKind → Option Counts → Option Counts → Option Counts
+joined (t.Terminal m.Plus) (Some first) (Some second) = sum_unit first second
+joined (t.Terminal m.Minus) (Some first) (Some second) = difference_unit first second
+joined (t.Terminal m.Star) (Some first) (Some second) = product_unit first second
+joined _ _ _ = None
+
+-- a decimal, and nothing else
+abbrev pub decimal_alone : Option Counts → Option Counts
+decimal_alone (Some (Decimal scale)) = Some (Decimal scale)
+decimal_alone _ = None
+
+-- what a call of one of several values counts, where its default is 0 or not given, or else may be one that counts otherwise
+abbrev pub with_default : Bool → Option Counts → Option Counts
+with_default false (Some (Decimal scale)) = None
+with_default false (Some Number) = None
+with_default _ unit = unit

@@ -1,0 +1,398 @@
+//! Calls and what stands in brackets, and what is left of an operand without them.
+
+ghost use Rattle.std.specs.Prelude.{◌≡◌, drop, map};
+ghost use Rattle.wd_amounts.specs.Given.{Finds};
+ghost use Rattle.wd_amounts.specs.Seen.{use_seen};
+ghost use Rattle.wd_amounts.specs.Terms as spec;
+
+use crate::amount::{Amount, amount_at};
+use crate::names::{NameUse, unit_named};
+use crate::token::{Stop, brackets_at, holds_text, is_dot, is_name, is_over, is_sign, part_length};
+use crate::unit::Unit;
+use wd_lex::{Terminal, Token, TokenKind};
+use wd_operands::nest_length;
+
+fn token_unit(known: &[NameUse], kind: &TokenKind) -> Option<Unit>
+    ensures { result ≡ spec.token_unit (map use_seen known.now) kind.now }
+{
+    match kind {
+        TokenKind::Word(name) | TokenKind::Quoted(name) => unit_named(known, name.as_str()),
+        TokenKind::Number(_) => Some(Unit::Number),
+        _ => None,
+    }
+}
+
+/// A name, of a table or not, or a number. Nothing, before a sign, is as 0.
+#[tactic(auto, unfolding(crate::specs::Terms::column_unit))]
+pub fn column_unit(known: &[NameUse], tokens: &[Token]) -> Option<Unit>
+    ensures { result ≡ spec.column_unit (map use_seen known.now) tokens.now }
+{
+    match tokens {
+        [] => Some(Unit::Number),
+        [only] => token_unit(known, &only.kind),
+        [table, dot, column] => {
+            if is_name(&table.kind) && is_dot(&dot.kind) && is_name(&column.kind) {
+                token_unit(known, &column.kind)
+            } else {
+                None
+            }
+        }
+        _ => None,
+    }
+}
+
+fn unit_in(amount: Option<Amount>) -> Option<Unit>
+    ensures { result ≡ spec.unit_in amount }
+{
+    match amount {
+        Some(amount) => Some(amount.unit),
+        None => None,
+    }
+}
+
+/// A literal.
+#[tactic(auto, unfolding(crate::specs::Terms::literal_unit))]
+fn literal_unit(tokens: &[Token]) -> Option<Unit>
+    ensures { result ≡ spec.literal_unit tokens.now }
+{
+    if tokens.len() == 2 {
+        unit_in(amount_at(tokens))
+    } else {
+        None
+    }
+}
+
+/// Whether a call gives one of the values of its first argument.
+pub fn is_picked(kind: &TokenKind) -> bool
+    ensures { result ≡ spec.is_picked kind.now }
+{
+    match kind {
+        TokenKind::Word(name) => {
+            let name = name.as_str();
+            name == "lag"
+                || name == "lead"
+                || name == "first_value"
+                || name == "last_value"
+                || name == "nth_value"
+                || name == "min"
+                || name == "max"
+        }
+        _ => false,
+    }
+}
+
+/// Whether a call counts rows.
+fn is_counted(kind: &TokenKind) -> bool
+    ensures { result ≡ spec.is_counted kind.now }
+{
+    match kind {
+        TokenKind::Word(name) => {
+            let name = name.as_str();
+            name == "count"
+                || name == "row_number"
+                || name == "rank"
+                || name == "dense_rank"
+                || name == "ntile"
+        }
+        _ => false,
+    }
+}
+
+/// Whether it is a window's name, or what stands in brackets.
+#[tactic(auto, unfolding(crate::specs::Terms::is_window))]
+fn is_window(tokens: &[Token]) -> bool
+    ensures { result ≡ spec.is_window tokens.now }
+{
+    match tokens {
+        [] => false,
+        [only] => is_name(&only.kind),
+        _ => nest_length(tokens) == tokens.len(),
+    }
+}
+
+/// Whether it is nothing, or OVER and a window in which no text stands.
+#[tactic(auto, unfolding(crate::specs::Terms::ends_call))]
+fn ends_call(tokens: &[Token]) -> bool
+    ensures { result ≡ spec.ends_call tokens.now }
+{
+    match tokens {
+        [] => true,
+        [first, rest @ ..] => is_over(&first.kind) && is_window(rest) && !holds_text(rest),
+    }
+}
+
+/// The arguments of a call, after its name.
+#[tactic(auto, unfolding(crate::specs::Terms::arguments_of))]
+fn arguments_of(tokens: &[Token]) -> Option<&[Token]>
+    ensures { Finds (λ r. r.now) result (spec.arguments_of tokens.now) }
+{
+    let Some((arguments, rest)) = brackets_at(tokens) else {
+        return None;
+    };
+    if ends_call(rest) {
+        Some(arguments)
+    } else {
+        None
+    }
+}
+
+/// The first argument, where no text stands in the others.
+#[tactic(auto, unfolding(crate::specs::Terms::first_argument))]
+fn first_argument(tokens: &[Token]) -> Option<&[Token]>
+    ensures { Finds (λ r. r.now) result (spec.first_argument tokens.now) }
+{
+    let Some(arguments) = arguments_of(tokens) else {
+        return None;
+    };
+    let (first, others) = arguments.split_at(part_length(Stop::Comma, arguments));
+    if holds_text(others) {
+        None
+    } else {
+        Some(first)
+    }
+}
+
+/// A call that counts rows.
+#[tactic(auto, unfolding(crate::specs::Terms::count_unit))]
+fn count_unit(tokens: &[Token]) -> Option<Unit>
+    ensures { result ≡ spec.count_unit tokens.now }
+{
+    let [first, rest @ ..] = tokens else {
+        return None;
+    };
+    if !is_counted(&first.kind) {
+        return None;
+    }
+    match arguments_of(rest) {
+        Some(arguments) => if holds_text(arguments) {
+            None
+        } else {
+            Some(Unit::Plain)
+        },
+        None => None,
+    }
+}
+
+/// The argument of which a call gives one of the values.
+#[tactic(auto, unfolding(crate::specs::Terms::picked_argument))]
+fn picked_argument(tokens: &[Token]) -> Option<&[Token]>
+    ensures { Finds (λ r. r.now) result (spec.picked_argument tokens.now) }
+{
+    match tokens {
+        [first, rest @ ..] => if is_picked(&first.kind) {
+            first_argument(rest)
+        } else {
+            None
+        },
+        [] => None,
+    }
+}
+
+fn is_sum(kind: &TokenKind) -> bool
+    ensures { result ≡ spec.is_sum kind.now }
+{
+    match kind {
+        TokenKind::Word(name) => name.as_str() == "sum",
+        _ => false,
+    }
+}
+
+/// The argument of SUM.
+#[tactic(auto, unfolding(crate::specs::Terms::summed_argument))]
+pub fn summed_argument(tokens: &[Token]) -> Option<&[Token]>
+    ensures { Finds (λ r. r.now) result (spec.summed_argument tokens.now) }
+{
+    match tokens {
+        [first, rest @ ..] => if is_sum(&first.kind) {
+            first_argument(rest)
+        } else {
+            None
+        },
+        [] => None,
+    }
+}
+
+fn is_zero(kind: &TokenKind) -> bool
+    ensures { result ≡ spec.is_zero kind.now }
+{
+    match kind {
+        TokenKind::Number(number) => *number == 0,
+        _ => false,
+    }
+}
+
+/// Whether it is nothing, or a comma and 0.
+#[tactic(auto, unfolding(crate::specs::Terms::ends_with_zero))]
+fn ends_with_zero(tokens: &[Token]) -> bool
+    ensures { result ≡ spec.ends_with_zero tokens.now }
+{
+    match tokens {
+        [] => true,
+        [_, only] => is_zero(&only.kind),
+        _ => false,
+    }
+}
+
+/// The tokens without the first.
+fn behind_first(tokens: &[Token]) -> &[Token]
+    ensures { result.now ≡ drop 1 tokens.now }
+{
+    let (_, rest) = tokens.split_at(tokens.len().min(1));
+    rest
+}
+
+/// Whether there are at most two arguments, or a third that is 0.
+#[tactic(auto, unfolding(crate::specs::Terms::is_default_zero))]
+fn is_default_zero(arguments: &[Token]) -> bool
+    ensures { result ≡ spec.is_default_zero arguments.now }
+{
+    let (_, following) = arguments.split_at(part_length(Stop::Comma, arguments));
+    let others = behind_first(following);
+    let (_, last) = others.split_at(part_length(Stop::Comma, others));
+    ends_with_zero(last)
+}
+
+/// Whether a call has no default but 0.
+#[tactic(auto, unfolding(crate::specs::Terms::defaults_to_zero))]
+pub fn defaults_to_zero(tokens: &[Token]) -> bool
+    ensures { result ≡ spec.defaults_to_zero tokens.now }
+{
+    let [_, rest @ ..] = tokens else {
+        return true;
+    };
+    match arguments_of(rest) {
+        Some(arguments) => is_default_zero(arguments),
+        None => true,
+    }
+}
+
+/// What stands in brackets, where nothing stands after them.
+#[tactic(auto, unfolding(crate::specs::Terms::bracketed))]
+pub fn bracketed(tokens: &[Token]) -> Option<&[Token]>
+    ensures { Finds (λ r. r.now) result (spec.bracketed tokens.now) }
+{
+    let Some((inside, rest)) = brackets_at(tokens) else {
+        return None;
+    };
+    if rest.is_empty() { Some(inside) } else { None }
+}
+
+/// The smaller operand that counts what this one does.
+#[tactic(auto, unfolding(crate::specs::Terms::inner_operand))]
+pub fn inner_operand(tokens: &[Token]) -> Option<&[Token]>
+    ensures { Finds (λ r. r.now) result (spec.inner_operand tokens.now) }
+{
+    match bracketed(tokens) {
+        Some(inside) => Some(inside),
+        None => picked_argument(tokens),
+    }
+}
+
+/// Whether it is the number of the microseconds of a day.
+fn is_day(kind: &TokenKind) -> bool
+    ensures { result ≡ spec.is_day kind.now }
+{
+    match kind {
+        TokenKind::Number(number) => *number == 86_400_000_000,
+        _ => false,
+    }
+}
+
+fn is_case(kind: &TokenKind) -> bool
+    ensures { result ≡ spec.is_case kind.now }
+{
+    matches!(kind, TokenKind::Terminal(Terminal::Case))
+}
+
+fn is_end(kind: &TokenKind) -> bool
+    ensures { result ≡ spec.is_end kind.now }
+{
+    matches!(kind, TokenKind::Terminal(Terminal::End))
+}
+
+fn is_slash(kind: &TokenKind) -> bool
+    ensures { result ≡ spec.is_slash kind.now }
+{
+    matches!(kind, TokenKind::Terminal(Terminal::Slash))
+}
+
+pub fn is_star(kind: &TokenKind) -> bool
+    ensures { result ≡ spec.is_star kind.now }
+{
+    matches!(kind, TokenKind::Terminal(Terminal::Star))
+}
+
+#[tactic(auto, unfolding(crate::specs::Terms::begins_case))]
+fn begins_case(tokens: &[Token]) -> bool
+    ensures { result ≡ spec.begins_case tokens.now }
+{
+    match tokens {
+        [first, ..] => is_case(&first.kind),
+        [] => false,
+    }
+}
+
+/// What an operand counts by its last three tokens, where it is written as a cast.
+#[tactic(auto, unfolding(crate::specs::Terms::ended_unit))]
+fn ended_unit(tokens: &[Token]) -> Option<Unit>
+    ensures { result ≡ spec.ended_unit tokens.now }
+{
+    match tokens {
+        [first, second, third] => {
+            if is_slash(&first.kind) && is_day(&second.kind) && is_end(&third.kind) {
+                Some(Unit::Days)
+            } else if is_star(&second.kind) && is_day(&third.kind) {
+                Some(Unit::Microseconds)
+            } else {
+                None
+            }
+        }
+        _ => None,
+    }
+}
+
+fn by_end(begins_case: bool, unit: Option<Unit>) -> Option<Unit>
+    ensures { result ≡ spec.by_end begins_case unit }
+{
+    match (begins_case, unit) {
+        (true, Some(Unit::Days)) | (false, Some(Unit::Microseconds)) => unit,
+        _ => None,
+    }
+}
+
+/// The day of a moment and the first moment of a day, as casts are written.
+#[tactic(auto, unfolding(crate::specs::Terms::cast_unit))]
+fn cast_unit(tokens: &[Token]) -> Option<Unit>
+    ensures { result ≡ spec.cast_unit tokens.now }
+{
+    let (_, last) = tokens.split_at(tokens.len().saturating_sub(3));
+    by_end(begins_case(tokens), ended_unit(last))
+}
+
+/// What a name, a number, a literal, a call or a cast counts that has no smaller operand.
+#[tactic(auto, unfolding(crate::specs::Terms::plain_unit))]
+pub fn plain_unit(known: &[NameUse], tokens: &[Token]) -> Option<Unit>
+    ensures { result ≡ spec.plain_unit (map use_seen known.now) tokens.now }
+{
+    if let Some(unit) = column_unit(known, tokens) {
+        return Some(unit);
+    }
+    match literal_unit(tokens) {
+        Some(unit) => Some(unit),
+        None => match count_unit(tokens) {
+            Some(unit) => Some(unit),
+            None => cast_unit(tokens),
+        },
+    }
+}
+
+/// A factor without its sign.
+#[tactic(auto, unfolding(crate::specs::Terms::unsigned))]
+pub fn unsigned(tokens: &[Token]) -> &[Token]
+    ensures { result.now ≡ spec.unsigned tokens.now }
+{
+    match tokens {
+        [first, rest @ ..] if is_sign(&first.kind) => rest,
+        _ => tokens,
+    }
+}

@@ -1,0 +1,177 @@
+//! What a number counts.
+
+ghost use Rattle.std.specs.Prelude.{◌≡◌};
+ghost use Rattle.wd_amounts.specs.Units as spec;
+
+use wd_dialect_read::ColumnKind;
+use wd_lex::{Terminal, TokenKind};
+
+/// What a number counts.
+#[derive(Clone, Copy)]
+pub enum Unit {
+    /// Days from 1970-01-01 on.
+    Days,
+    /// Microseconds from the first of that day on.
+    Microseconds,
+    /// Microseconds between two moments.
+    Span,
+    /// Whatever else a whole number says.
+    Plain,
+    /// A number that is written: so many of what stands beside it.
+    Number,
+    /// Units of the last of so many places after the point.
+    Decimal(u64),
+}
+
+pub fn is_same(first: Unit, second: Unit) -> bool
+    ensures { result ≡ spec.is_same first second }
+{
+    match (first, second) {
+        (Unit::Days, Unit::Days)
+        | (Unit::Microseconds, Unit::Microseconds)
+        | (Unit::Span, Unit::Span)
+        | (Unit::Plain, Unit::Plain)
+        | (Unit::Number, Unit::Number) => true,
+        (Unit::Decimal(first), Unit::Decimal(second)) => first == second,
+        _ => false,
+    }
+}
+
+/// What the values of a decimal count, of which 64 bits hold at least one whole one.
+fn decimal_unit(scale: Option<u64>) -> Option<Unit>
+    ensures { result ≡ spec.decimal_unit scale }
+{
+    match scale {
+        Some(scale) => if scale < 19 {
+            Some(Unit::Decimal(scale))
+        } else {
+            None
+        },
+        None => None,
+    }
+}
+
+/// What the values of a column count.
+pub fn unit_of_kind(kind: ColumnKind) -> Option<Unit>
+    ensures { result ≡ spec.unit_of_kind kind }
+{
+    match kind {
+        ColumnKind::Small | ColumnKind::Whole | ColumnKind::Big => Some(Unit::Plain),
+        ColumnKind::Date => Some(Unit::Days),
+        ColumnKind::Timestamp => Some(Unit::Microseconds),
+        ColumnKind::Decimal(scale) => decimal_unit(scale),
+        _ => None,
+    }
+}
+
+pub fn is_number(unit: Unit) -> bool
+    ensures { result ≡ spec.is_number unit }
+{
+    matches!(unit, Unit::Number)
+}
+
+/// Whether what is written as a number alone can say so many of these.
+fn takes_numbers(unit: Unit) -> bool
+    ensures { result ≡ spec.takes_numbers unit }
+{
+    matches!(unit, Unit::Plain | Unit::Decimal(_))
+}
+
+/// What two count that are compared, or added where neither is a moment.
+pub fn shared(first: Unit, second: Unit) -> Option<Unit>
+    ensures { result ≡ spec.shared first second }
+{
+    if is_same(first, second) {
+        Some(first)
+    } else if is_number(second) && takes_numbers(first) {
+        Some(first)
+    } else if is_number(first) && takes_numbers(second) {
+        Some(second)
+    } else {
+        None
+    }
+}
+
+fn sum_unit(first: Unit, second: Unit) -> Option<Unit>
+    ensures { result ≡ spec.sum_unit first second }
+{
+    match (first, second) {
+        (Unit::Microseconds, Unit::Span) | (Unit::Span, Unit::Microseconds) => {
+            Some(Unit::Microseconds)
+        }
+        (Unit::Days, Unit::Plain | Unit::Number) | (Unit::Plain | Unit::Number, Unit::Days) => {
+            Some(Unit::Days)
+        }
+        (Unit::Microseconds | Unit::Days, _) => None,
+        (first, second) => shared(first, second),
+    }
+}
+
+fn difference_unit(first: Unit, second: Unit) -> Option<Unit>
+    ensures { result ≡ spec.difference_unit first second }
+{
+    match (first, second) {
+        (Unit::Microseconds, Unit::Microseconds) => Some(Unit::Span),
+        (Unit::Microseconds, Unit::Span) => Some(Unit::Microseconds),
+        (Unit::Days, Unit::Days) => Some(Unit::Plain),
+        (Unit::Days, Unit::Plain | Unit::Number) => Some(Unit::Days),
+        (Unit::Microseconds | Unit::Days, _) => None,
+        (first, second) => shared(first, second),
+    }
+}
+
+/// Whether it says how many of something there are.
+fn counts_ones(unit: Unit) -> bool
+    ensures { result ≡ spec.counts_ones unit }
+{
+    matches!(unit, Unit::Plain | Unit::Number)
+}
+
+/// So many of what the other factor counts.
+fn product_unit(first: Unit, second: Unit) -> Option<Unit>
+    ensures { result ≡ spec.product_unit first second }
+{
+    if counts_ones(second) && takes_numbers(first) {
+        Some(first)
+    } else if counts_ones(first) && takes_numbers(second) {
+        Some(second)
+    } else {
+        None
+    }
+}
+
+/// What two operands come to with an operator between them.
+pub fn joined(sign: &TokenKind, first: Option<Unit>, second: Option<Unit>) -> Option<Unit>
+    ensures { result ≡ spec.joined sign.now first second }
+{
+    match (sign, first, second) {
+        (TokenKind::Terminal(Terminal::Plus), Some(first), Some(second)) => sum_unit(first, second),
+        (TokenKind::Terminal(Terminal::Minus), Some(first), Some(second)) => {
+            difference_unit(first, second)
+        }
+        (TokenKind::Terminal(Terminal::Star), Some(first), Some(second)) => {
+            product_unit(first, second)
+        }
+        _ => None,
+    }
+}
+
+/// A decimal, and nothing else.
+pub fn decimal_alone(unit: Option<Unit>) -> Option<Unit>
+    ensures { result ≡ spec.decimal_alone unit }
+{
+    match unit {
+        Some(Unit::Decimal(_)) => unit,
+        _ => None,
+    }
+}
+
+/// What a call of one of several values counts, where its default is 0 or not given, or else may be one that counts otherwise.
+pub fn with_default(is_zero: bool, unit: Option<Unit>) -> Option<Unit>
+    ensures { result ≡ spec.with_default is_zero unit }
+{
+    match (is_zero, unit) {
+        (false, Some(Unit::Decimal(_) | Unit::Number)) => None,
+        _ => unit,
+    }
+}
