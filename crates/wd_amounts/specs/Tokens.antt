@@ -7,7 +7,7 @@ use Rattle.wd_lex.specs.declared.token.TokenKind.TheVariants as t
 use Rattle.wd_operands.specs.Nests.{nest_length}
 use Rattle.wd_operands.specs.Operands.{is_left_bracket, is_sign, operand_length}
 use Rattle.wd_amounts.specs.declared.token.Stop.{Stop}
-use Rattle.wd_amounts.specs.declared.token.Stop.TheVariants.{Sign, Factor, Comma, As}
+use Rattle.wd_amounts.specs.declared.token.Stop.TheVariants.{Sign, Factor, Operator, Comma, As}
 
 infixl 10 ◌>>=◌
 abbrev pub ◌>>=◌ : {A B : Type 0} → Option A → (A → Option B) → Option B
@@ -62,11 +62,12 @@ is_between_factors (t.Terminal m.Slash) = true
 is_between_factors (t.Terminal m.Percent) = true
 is_between_factors _ = false
 
--- A sign, what stands between factors, a comma or AS that no bracket encloses ends a part; but a sign right after what stands between
--- factors is that of a factor.
+-- A sign, what stands between factors, either of these, a comma or AS that no bracket encloses ends a part; but a sign right after what
+-- stands between factors is that of a factor.
 abbrev pub stops : Stop → Bool → TokenKind → Bool
 stops Sign is_factor kind = is_sign kind && not is_factor
 stops Factor is_factor kind = is_between_factors kind
+stops Operator is_factor kind = is_between_factors kind || (is_sign kind && not is_factor)
 stops Comma is_factor (t.Terminal m.Comma) = true
 stops Comma is_factor _ = false
 stops As is_factor kind = is_as kind

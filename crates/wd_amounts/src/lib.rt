@@ -15,7 +15,7 @@ mod unit;
 pub use amount::{Amount, amount_at, number_said};
 pub use names::{NameUse, given_names, has_lists, uses};
 pub use operand::unit_of;
-pub use term::{bracketed, is_picked, is_star};
+pub use term::{bracketed, is_picked, is_star, unsigned};
 pub use token::{
     Stop, begins_bracket, brackets_at, depth_after, is_between_factors, is_comparison, is_dot,
     is_left_bracket, is_name, is_right_bracket, is_sign, is_test_word, operand_at, part_length,

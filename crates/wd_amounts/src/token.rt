@@ -16,6 +16,8 @@ pub enum Stop {
     Sign,
     /// `*`, `/` or `%`
     Factor,
+    /// a sign, or what stands between factors
+    Operator,
     Comma,
     /// AS
     As,
@@ -159,6 +161,7 @@ fn stops(stop: Stop, is_factor: bool, kind: &TokenKind) -> bool
     match stop {
         Stop::Sign => is_sign(kind) && !is_factor,
         Stop::Factor => is_between_factors(kind),
+        Stop::Operator => is_between_factors(kind) || is_sign(kind) && !is_factor,
         Stop::Comma => matches!(kind, TokenKind::Terminal(Terminal::Comma)),
         Stop::As => is_as(kind),
     }

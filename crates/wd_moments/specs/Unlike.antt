@@ -6,12 +6,12 @@ use Rattle.wd_lex.specs.declared.token.Token.{Token}
 use Rattle.wd_lex.specs.declared.token.TokenKind.{TokenKind}
 use Rattle.wd_lex.specs.declared.token.TokenKind.TheVariants as t
 use Rattle.wd_operands.specs.Operands.{is_sign}
-use Rattle.wd_amounts.specs.declared.token.Stop.TheVariants.{Sign, Factor}
+use Rattle.wd_amounts.specs.declared.token.Stop.TheVariants.{Sign, Operator}
 use Rattle.wd_amounts.specs.declared.unit.Unit.{Unit as Counts}
 use Rattle.wd_amounts.specs.declared.unit.Unit.TheVariants.{Decimal}
 use Rattle.wd_amounts.specs.Units.{is_number, joined}
 use Rattle.wd_amounts.specs.Names.{Use}
-use Rattle.wd_amounts.specs.Terms.{unit_of}
+use Rattle.wd_amounts.specs.Terms.{unit_of, unsigned}
 use Rattle.wd_amounts.specs.Tokens.{◌>>=◌, depth_after, is_between_factors, is_comparison, operand_at, or_else, part_length}
 use Rattle.wd_moments.specs.declared.unlike.Clash.{Clash}
 use Rattle.wd_moments.specs.declared.unlike.Clash.TheVariants.{Product, Quotient, Units}
@@ -56,14 +56,14 @@ clash_between _ before next = clash_if (before || next) Quotient
 unfoldable pub term_ahead : List Use → List Token → Option Counts
 term_ahead known tokens = unit_of known (take (part_length Sign tokens) tokens)
 
--- the first factor of the term at the start is a decimal
+-- the factor at the start, perhaps with a sign of its own, is a decimal
 unfoldable pub factor_ahead : List Use → List Token → Bool
-factor_ahead known tokens = let term = take (part_length Sign tokens) tokens in is_decimal (unit_of known (take (part_length Factor term) term))
+factor_ahead known tokens = is_decimal (unit_of known (take (part_length Operator (unsigned tokens)) (unsigned tokens)))
 
--- an operator outside brackets, and the tokens after it
+-- an operator outside brackets, and the tokens after it; a sign right after what stands between factors is that of a factor
 abbrev pub clash_at_operator : List Use → Standing → TokenKind → List Token → Option Clash
 clash_at_operator known here kind tokens =
-    if is_sign kind then clash_if (are_apart here.sum (term_ahead known tokens) (joined kind here.sum (term_ahead known tokens))) Units
+    if is_sign kind && not here.is_factor then clash_if (are_apart here.sum (term_ahead known tokens) (joined kind here.sum (term_ahead known tokens))) Units
     else (if is_between_factors kind then clash_between kind here.has_decimal (factor_ahead known tokens) else None)
 
 abbrev pub clash_here : List Use → Standing → TokenKind → List Token → Option Clash
@@ -72,9 +72,9 @@ clash_here known here kind tokens = if here.depth == 0 then clash_at_operator kn
 -- after a sign a term begins, and after what stands between factors a factor
 abbrev pub stands_after : List Use → Standing → TokenKind → List Token → Standing
 stands_after known here kind tokens =
-    if here.depth == 0 && is_sign kind then record { place = here.place + 1; depth = 0; sum = joined kind here.sum (term_ahead known tokens); has_decimal = factor_ahead known tokens }
-    else (if here.depth == 0 && is_between_factors kind then record { place = here.place + 1; depth = 0; sum = here.sum; has_decimal = here.has_decimal || factor_ahead known tokens }
-    else record { place = here.place + 1; depth = depth_after here.depth kind; sum = here.sum; has_decimal = here.has_decimal })
+    if here.depth == 0 && (is_sign kind && not here.is_factor) then record { place = here.place + 1; depth = 0; sum = joined kind here.sum (term_ahead known tokens); has_decimal = factor_ahead known tokens; is_factor = false }
+    else (if here.depth == 0 && is_between_factors kind then record { place = here.place + 1; depth = 0; sum = here.sum; has_decimal = here.has_decimal || factor_ahead known tokens; is_factor = true }
+    else record { place = here.place + 1; depth = depth_after here.depth kind; sum = here.sum; has_decimal = here.has_decimal; is_factor = false })
 
 abbrev pub unlike_at : ℕ → Option Clash → Option Unlike
 unlike_at place None = None
@@ -86,7 +86,7 @@ clash_from known here [] = None
 clash_from known here (token ∷ tokens) = or_else (unlike_at here.place (clash_here known here token.kind tokens)) (clash_from known (stands_after known here token.kind tokens) tokens)
 
 abbrev pub start : List Use → ℕ → List Token → Standing
-start known count tokens = record { place = count; depth = 0; sum = term_ahead known tokens; has_decimal = factor_ahead known tokens }
+start known count tokens = record { place = count; depth = 0; sum = term_ahead known tokens; has_decimal = factor_ahead known tokens; is_factor = false }
 
 -- the first such operator of an operand, before which so many tokens stand
 unfoldable pub operand_clash : List Use → ℕ → List Token → Option Unlike

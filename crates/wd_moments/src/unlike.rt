@@ -11,7 +11,7 @@ use crate::write::copied;
 use std::alloc::{AllocError, Global};
 use wd_amounts::{
     NameUse, Stop, Unit, depth_after, is_between_factors, is_comparison, is_number, is_sign,
-    joined, operand_at, part_length, unit_of,
+    joined, operand_at, part_length, unit_of, unsigned,
 };
 use wd_lex::{Terminal, Token, TokenKind};
 use wd_value::Text;
@@ -45,6 +45,8 @@ pub struct Standing {
     pub sum: Option<Unit>,
     /// Whether a decimal stands in the product so far.
     pub has_decimal: bool,
+    /// Whether a factor begins here, perhaps with a sign of its own.
+    pub is_factor: bool,
 }
 
 fn is_decimal(unit: Option<Unit>) -> bool
@@ -110,13 +112,13 @@ fn term_ahead(known: &[NameUse], tokens: &[Token]) -> Option<Unit>
     unit_of(known, term)
 }
 
-/// Whether the first factor of the term at the start is a decimal.
+/// Whether the factor at the start, perhaps with a sign of its own, is a decimal.
 #[tactic(auto, unfolding(crate::specs::Unlike::factor_ahead))]
 fn factor_ahead(known: &[NameUse], tokens: &[Token]) -> bool
     ensures { result ≡ spec.factor_ahead (map use_seen known.now) tokens.now }
 {
-    let (term, _) = tokens.split_at(part_length(Stop::Sign, tokens));
-    let (factor, _) = term.split_at(part_length(Stop::Factor, term));
+    let tokens = unsigned(tokens);
+    let (factor, _) = tokens.split_at(part_length(Stop::Operator, tokens));
     is_decimal(unit_of(known, factor))
 }
 
@@ -129,7 +131,7 @@ fn clash_at_operator(
 ) -> Option<Clash>
     ensures { result ≡ spec.clash_at_operator (map use_seen known.now) here kind.now tokens.now }
 {
-    if is_sign(kind) {
+    if is_sign(kind) && !here.is_factor {
         let next = term_ahead(known, tokens);
         clash_if(
             are_apart(here.sum, next, joined(kind, here.sum, next)),
@@ -166,12 +168,13 @@ fn stands_after(known: &[NameUse], here: Standing, kind: &TokenKind, tokens: &[T
     ensures within { result.depth ≤ here.depth + 1 }
 {
     let place = here.place + 1;
-    if here.depth == 0 && is_sign(kind) {
+    if here.depth == 0 && (is_sign(kind) && !here.is_factor) {
         Standing {
             place,
             depth: 0,
             sum: joined(kind, here.sum, term_ahead(known, tokens)),
             has_decimal: factor_ahead(known, tokens),
+            is_factor: false,
         }
     } else if here.depth == 0 && is_between_factors(kind) {
         Standing {
@@ -179,6 +182,7 @@ fn stands_after(known: &[NameUse], here: Standing, kind: &TokenKind, tokens: &[T
             depth: 0,
             sum: here.sum,
             has_decimal: here.has_decimal || factor_ahead(known, tokens),
+            is_factor: true,
         }
     } else {
         Standing {
@@ -186,6 +190,7 @@ fn stands_after(known: &[NameUse], here: Standing, kind: &TokenKind, tokens: &[T
             depth: depth_after(here.depth, kind),
             sum: here.sum,
             has_decimal: here.has_decimal,
+            is_factor: false,
         }
     }
 }
@@ -201,6 +206,7 @@ fn operand_clash(known: &[NameUse], count: usize, tokens: &[Token]) -> Option<Un
         depth: 0,
         sum: term_ahead(known, tokens),
         has_decimal: factor_ahead(known, tokens),
+        is_factor: false,
     };
     let mut rest = tokens;
     while let [first, after @ ..] = rest {
