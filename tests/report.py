@@ -530,7 +530,7 @@ def the_marks():
 
 
 def the_respelled():
-    """Queries that the profile refuses, as the standard's equations respell them, and what is found of them."""
+    """Queries that the profile refuses, or whose numbers count units, as the standard's equations respell them, and what is found of them."""
     for text, wanted, kind in lines_of("respelled.txt"):
         with tempfile.TemporaryDirectory() as folder:
             put(folder, {"schema.sql": schema_of(text), "q.sql": text})

@@ -1,12 +1,13 @@
--- Texts of queries, in which what the profile refuses is respelled.
-use Rattle.std.specs.Prelude.{ℕ, ◌<◌, List, length, slice_range, All}
+-- Texts of queries, in which what the profile refuses is respelled, and numbers that count units.
+use Rattle.std.specs.Prelude.{ℕ, ◌<◌, ◌⊎◌, IsSome, List, length, slice_range, All}
 use Rattle.wd_dialect_read.specs.declared.said.Statement.{Statement}
 use Rattle.wd_fix.specs.Fixes.{IsFixed}
 use Rattle.wd_fix.specs.declared.fix.Fix.{Fix}
-use Rattle.wd_query.specs.Causes.{HasTextCause}
+use Rattle.wd_query.specs.Causes.{HasTextCause, text_number}
 use Rattle.wd_query.specs.declared.error.TextError.{TextError}
 use Rattle.wd_lex.specs.declared.token.Span.{Span}
-use Rattle.wd_respell.specs.Respelled.{IsRespelledAs}
+use Rattle.wd_lex.specs.Lexed.{most_bytes}
+use Rattle.wd_respell.specs.Respelled.{CountsUnits, IsRespelledAs}
 use Rattle.wd_schema.specs.Tables.{TableRule}
 use Rattle.wd_schema.specs.Texts.{Declares}
 
@@ -14,13 +15,34 @@ use Rattle.wd_schema.specs.Texts.{Declares}
 abbrev pub statement_of : List ℕ → Span → List ℕ
 statement_of text span = slice_range text span.start span.end
 
--- what takes the place of a statement that the profile refuses over this schema is its respelling
-pub record IsRespelledAt (statements : List Statement) (schema text : List ℕ) (fix : Fix) : Type 0 where
+-- the profile refuses the query over this schema, for a cause that has a number
+pub record IsRefused (schema query : List ℕ) : Type 0 where
   pub refusal : TextError
-  pub refused : HasTextCause schema (statement_of text fix.span) refusal
+  pub numbered : IsSome (text_number refusal)
+  pub refused : HasTextCause schema query refusal
+
+-- a query is respelled where the profile refuses it, or its numbers count units
+abbrev pub IsDue : List Statement → List ℕ → List ℕ → Type 0
+IsDue statements schema query = IsRefused schema query ⊎ CountsUnits statements query
+
+-- a text that the profile refuses as too long, whatever it says
+abbrev pub IsTooLong : List ℕ → Type 0
+IsTooLong text = most_bytes < length text
+
+-- the query over these tables is respelled so, or else nothing that is read takes its place
+abbrev pub IsPut : List TableRule → List Statement → List ℕ → List ℕ → Type 0
+IsPut tables statements query other = IsRespelledAs tables statements query other ⊎ IsTooLong other
+
+-- what takes the place of a statement that is respelled over this schema
+pub record IsRespelledAt (statements : List Statement) (schema text : List ℕ) (fix : Fix) : Type 0 where
+  pub due : IsDue statements schema (statement_of text fix.span)
   pub tables : List TableRule
   pub declared : Declares schema tables
-  pub respelled : IsRespelledAs tables statements (statement_of text fix.span) fix.text.items
+  pub put : IsPut tables statements (statement_of text fix.span) fix.text.items
+
+-- a query is left as it is only where the profile refuses it, or none of its numbers counts units
+abbrev pub IsLeft : List Statement → List ℕ → List ℕ → Type 0
+IsLeft statements schema query = CountsUnits statements query → IsRefused schema query
 
 -- this is the text with at least one of its statements respelled, and all else as it was, byte for byte
 pub record IsRespelledText (statements : List Statement) (schema text after : List ℕ) : Type 0 where

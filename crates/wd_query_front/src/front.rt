@@ -1,10 +1,10 @@
 //! The text over which the queries of a file are judged.
 
-ghost use Rattle.std.specs.Prelude.{◌≡◌, ◌≤◌, All, IfOk, IfSome, length, map};
+ghost use Rattle.std.specs.Prelude.{◌≡◌, ◌≤◌, All, IfOk, IfSome, IsNone, length, map};
 ghost use Rattle.wd_fix.specs.Fixes.{span_of};
 ghost use Rattle.wd_query.specs.Causes.{HasTextCause};
-ghost use Rattle.wd_query_front.specs.Fronts.{IsRespelledAt, IsRespelledText};
-ghost use Rattle.wd_respell.specs.Respelled.{IsRespelledAs};
+ghost use Rattle.wd_query_front.specs.Fronts.{IsLeft, IsPut, IsRespelledAt, IsRespelledText, IsTooLong, statement_of};
+ghost use Rattle.wd_respell.specs.Respelled.{CountsUnits, IsRespelledAs};
 ghost use Rattle.wd_schema.specs.Schemas.{schema_of};
 ghost use Rattle.wd_schema.specs.Texts.{Declares};
 ghost use Rattle.wd_source.specs.Statements.{StandInOrder};
@@ -14,10 +14,13 @@ use wd_dialect_read::Statement;
 use wd_fix::{Fix, fixed_text};
 use wd_lex::{Span, Token, TokenKind};
 use wd_query::{TextError, read_texts};
-use wd_respell::{Respelled, respell};
+use wd_respell::{Respelled, counts_units, respell};
 use wd_schema::{Schema, SchemaError, read_schema};
 use wd_source::statements;
 use wd_value::OutOfMemory;
+
+/// More bytes than a text may have.
+const UNREAD: usize = 65537;
 
 /// A file of queries, some of them respelled.
 #[derive(Drop)]
@@ -27,8 +30,8 @@ pub struct RespelledText {
     pub notes: Vec<String>,
 }
 
-/// The text of a file in which each statement that the profile refuses over a schema stands as the equations respell it, where there
-/// is such a statement. What its columns count is known by what statements of PostgreSQL's declare.
+/// The text of a file in which each statement that the profile refuses over a schema, or whose numbers count units, stands as the
+/// equations respell it, where there is such a statement. What its columns count is known by what statements of PostgreSQL's declare.
 pub fn respelled_text(
     alloc: Global,
     declared: &[Statement],
@@ -91,7 +94,7 @@ fn respelled_statements(
     Ok(fixes)
 }
 
-/// The statement that stands there, respelled, where the profile refuses it.
+/// The statement that stands there, respelled, where the profile refuses it or its numbers count units.
 fn respelled_statement(
     alloc: Global,
     declared: &[Statement],
@@ -106,15 +109,52 @@ fn respelled_statement(
     requires within { span.end ≤ length text.now }
     ensures stands { IfOk result (λ o. IfSome o (λ fix. fix.span ≡ span)) }
     ensures respelled { IfOk result (λ o. IfSome o (IsRespelledAt declared.now schema.now text.now)) }
+    ensures left { IfOk result (λ o. IsNone o → IsLeft declared.now schema.now (statement_of text.now span)) }
 {
     let query = &text[span.start as usize..span.end as usize];
     match refusal(alloc, schema, query) {
-        None | Some(TextError::Schema(_)) => Ok(None),
+        None => in_units(alloc, declared, tables, query, span, notes),
         Some(error) => match error.number() {
             Some(_) => respelling(alloc, declared, tables, query, span, notes),
             None => Err(OutOfMemory),
         },
     }
+}
+
+/// A query that the profile reads, as it stands there with its numbers in the units that they count, where they count some.
+fn in_units(
+    alloc: Global,
+    declared: &[Statement],
+    tables: &Schema,
+    query: &[u8],
+    span: Span,
+    notes: &mut Vec<String>,
+) -> Result<Option<Fix>, OutOfMemory>
+    ensures stands { IfOk result (λ o. IfSome o (λ fix. fix.span ≡ span)) }
+    ensures counts { IfOk result (λ o. IfSome o (λ fix. CountsUnits declared.now query.now)) }
+    ensures put { IfOk result (λ o. IfSome o (λ fix. IsPut (schema_of tables.now) declared.now query.now fix.text.items)) }
+    ensures left { IfOk result (λ o. IsNone o → CountsUnits declared.now query.now → ⊥) }
+{
+    if !counts_units(alloc, declared, query)? {
+        return Ok(None);
+    }
+    match respelling(alloc, declared, tables, query, span, notes)? {
+        Some(fix) => Ok(Some(fix)),
+        None => {
+            let text = unread(alloc)?;
+            Ok(Some(Fix { span, text }))
+        }
+    }
+}
+
+/// A text that is refused as too long. It stands in the place of a query that would be read amiss as it is, and would have too many
+/// tokens or bytes with its numbers in units.
+fn unread(alloc: Global) -> Result<Vec<u8>, OutOfMemory>
+    ensures { IfOk result (λ text. IsTooLong text.items) }
+{
+    let mut text = Vec::new(alloc);
+    text.resize(UNREAD, b'x')?;
+    Ok(text)
 }
 
 /// Why the profile refuses a query over a schema, if it does.

@@ -76,6 +76,16 @@ pub record IsRespelled (tables : List TableRule) (statements : List Statement) (
   pub are : kinds_of own ≡ kinds_of said.tokens
   pub members : twice ≡ said.read_twice
 
+-- with numbers of the units that they count, the tokens of a query over the tables of these statements say something else
+abbrev pub AreCounted : List Statement → List Token → Type 0
+AreCounted statements tokens = ¬ (kinds_of (with_numbers statements tokens) ≡ kinds_of tokens)
+
+-- numbers of the query count units: read as they are written, they would be taken for other amounts
+pub record CountsUnits (statements : List Statement) (query : List ℕ) : Type 0 where
+  pub tokens : List Token
+  pub lexed : IsLexed query tokens
+  pub counted : AreCounted statements tokens
+
 -- whichever these members are
 abbrev pub IsRespelledAs : List TableRule → List Statement → List ℕ → List ℕ → Type 0
 IsRespelledAs tables statements query other = (twice : List Token) × IsRespelled tables statements query other twice

@@ -7,7 +7,8 @@ use wd_lex::{Token, TokenKind};
 
 /// Whether tokens say the same, one by one, wherever they stand.
 pub(crate) fn say_the_same(tokens: &[Token], others: &[Token]) -> bool
-    ensures { result ≡ true → kinds_of tokens.now ≡ kinds_of others.now }
+    ensures same { result ≡ true → kinds_of tokens.now ≡ kinds_of others.now }
+    ensures other { kinds_of tokens.now ≡ kinds_of others.now → result ≡ true }
 {
     if tokens.len() != others.len() {
         return false;
@@ -22,7 +23,8 @@ pub(crate) fn say_the_same(tokens: &[Token], others: &[Token]) -> bool
 
 /// Whether two tokens say the same.
 fn is_same(kind: &TokenKind, other: &TokenKind) -> bool
-    ensures { result ≡ true → kind.now ≡ other.now }
+    ensures same { result ≡ true → kind.now ≡ other.now }
+    ensures other { kind.now ≡ other.now → result ≡ true }
 {
     match (kind, other) {
         (TokenKind::Terminal(a), TokenKind::Terminal(b)) => a == b,
