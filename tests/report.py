@@ -536,7 +536,7 @@ def the_respelled():
             put(folder, {"schema.sql": schema_of(text), "q.sql": text})
             shown, told, ended = run("--show-respelled", "q.sql", cwd=folder)
             there = shown.split("-- q.sql")[1] if "-- q.sql" in shown else ""
-            told = [line for line in told.splitlines() if not line.startswith("schema.sql: note: ")]
+            told = [line for line in told.splitlines() if line and not line.startswith("schema.sql: note: ")]
             check(f"respelled: {text}", (told, ended) == ([], 0) and " ".join(there.split()) == wanted, (ended, shown, told))
             out, _, status = run("q.sql", cwd=folder)
             check(f"respelled: {text}: {kind}", status == {"deterministic": 0, "depend": 1, "not read": 2}[kind] and f" 1 {kind}" in out, (status, out))
