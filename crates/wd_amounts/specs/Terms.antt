@@ -15,6 +15,8 @@ use Rattle.wd_amounts.specs.Units.{decimal_alone, joined, with_default}
 use Rattle.wd_amounts.specs.Names.{Use, unit_named}
 use Rattle.wd_amounts.specs.declared.amount.Amount.{Amount}
 use Rattle.wd_amounts.specs.Amounts.{amount_at}
+use Rattle.wd_amounts.specs.declared.numeral.Numeral.{Numeral}
+use Rattle.wd_amounts.specs.Numerals.{numeral_at}
 use Rattle.wd_amounts.specs.Tokens.{◌>>=◌, brackets_at, holds_text, is_dot, or_else, part_length}
 
 -- ---- names, numbers and literals
@@ -22,12 +24,12 @@ use Rattle.wd_amounts.specs.Tokens.{◌>>=◌, brackets_at, holds_text, is_dot, 
 abbrev pub token_unit : List Use → TokenKind → Option Counts
 token_unit known (t.Word name) = unit_named known name
 token_unit known (t.Quoted name) = unit_named known name
-token_unit known (t.Number number) = Some Number
+token_unit known (t.Number number) = Some (Number 0)
 token_unit known _ = None
 
 -- a name, of a table or not, or a number; nothing, before a sign, is as 0
 unfoldable pub column_unit : List Use → List Token → Option Counts
-column_unit known [] = Some Number
+column_unit known [] = Some (Number 0)
 column_unit known (only ∷ []) = token_unit known only.kind
 column_unit known (table ∷ dot ∷ column ∷ []) = if is_name table.kind && is_dot dot.kind && is_name column.kind then token_unit known column.kind else None
 column_unit known _ = None
@@ -36,9 +38,13 @@ abbrev pub unit_in : Option Amount → Option Counts
 unit_in None = None
 unit_in (Some x) = Some x.unit
 
--- a literal
+abbrev pub places_in : Option Numeral → Option Counts
+places_in None = None
+places_in (Some x) = Some (Number x.places)
+
+-- a literal of a moment, or a number with a point
 unfoldable pub literal_unit : List Token → Option Counts
-literal_unit tokens = if length tokens == 2 then unit_in (amount_at tokens) else None
+literal_unit tokens = if length tokens == 2 then or_else (unit_in (amount_at tokens)) (places_in (numeral_at tokens)) else None
 
 -- ---- calls
 

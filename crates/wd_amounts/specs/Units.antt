@@ -1,5 +1,5 @@
 -- What a number counts.
-use Rattle.std.specs.Prelude.{ℕ, ◌==◌, ◌&&◌, nat_lt, Bool, true, false, if◌then◌else◌, Option, Some, None}
+use Rattle.std.specs.Prelude.{ℕ, ◌==◌, ◌&&◌, nat_le, nat_lt, Bool, true, false, if◌then◌else◌, Option, Some, None}
 use Rattle.wd_lex.specs.declared.token.Terminal.TheVariants as m
 use Rattle.wd_lex.specs.declared.token.TokenKind.{TokenKind}
 use Rattle.wd_lex.specs.declared.token.TokenKind.TheVariants as t
@@ -13,7 +13,7 @@ is_same Days Days = true
 is_same Microseconds Microseconds = true
 is_same Span Span = true
 is_same Plain Plain = true
-is_same Number Number = true
+is_same (Number first) (Number second) = first == second
 is_same (Decimal first) (Decimal second) = first == second
 is_same _ _ = false
 
@@ -33,32 +33,52 @@ unit_of_kind (kind.Decimal scale) = decimal_unit scale
 unit_of_kind _ = None
 
 abbrev pub is_number : Counts → Bool
-is_number Number = true
+is_number (Number places) = true
 is_number _ = false
 
--- what is written as a number alone can say so many of these
+-- what is written as a whole number alone can say so many of these
 abbrev pub takes_numbers : Counts → Bool
 takes_numbers Plain = true
 takes_numbers (Decimal scale) = true
 takes_numbers _ = false
 
+-- a number that is written with so many places can say how much of these there is: none are whole, and units of a decimal's last place
+-- have at most the places of the decimal
+abbrev pub takes_places : Counts → ℕ → Bool
+takes_places Plain places = places == 0
+takes_places (Number others) places = nat_le places others
+takes_places (Decimal scale) places = nat_le places scale
+takes_places _ places = false
+
+-- the second is a number that is written, which counts what the first does
+abbrev pub goes_with : Counts → Counts → Bool
+goes_with first (Number places) = takes_places first places
+goes_with first _ = false
+
 -- what two count that are compared, or added where neither is a moment: a number that is written counts what the other does
 abbrev pub shared : Counts → Counts → Option Counts
 shared first second =
     if is_same first second then Some first
-    else (if is_number second && takes_numbers first then Some first
-    else (if is_number first && takes_numbers second then Some second else None))
+    else (if goes_with first second then Some first
+    else (if goes_with second first then Some second else None))
+
+-- a whole number that is written, and whatever counts no unit of its own, say how many of something there are
+abbrev pub counts_ones : Counts → Bool
+counts_ones Plain = true
+counts_ones (Number places) = places == 0
+counts_ones _ = false
+
+-- a day, so many days later or earlier
+abbrev pub days_by : Counts → Option Counts
+days_by count = if counts_ones count then Some Days else None
 
 -- a moment and a span, a day and a number of days, in either order
 abbrev pub sum_unit : Counts → Counts → Option Counts
 sum_unit Microseconds Span = Some Microseconds
 sum_unit Microseconds _ = None
-sum_unit Days Plain = Some Days
-sum_unit Days Number = Some Days
-sum_unit Days _ = None
 sum_unit Span Microseconds = Some Microseconds
-sum_unit Plain Days = Some Days
-sum_unit Number Days = Some Days
+sum_unit Days count = days_by count
+sum_unit count Days = days_by count
 sum_unit first second = shared first second
 
 -- the microseconds between two moments, or the days between two days
@@ -67,16 +87,8 @@ difference_unit Microseconds Microseconds = Some Span
 difference_unit Microseconds Span = Some Microseconds
 difference_unit Microseconds _ = None
 difference_unit Days Days = Some Plain
-difference_unit Days Plain = Some Days
-difference_unit Days Number = Some Days
-difference_unit Days _ = None
+difference_unit Days count = days_by count
 difference_unit first second = shared first second
-
--- a number that is written, and whatever counts no unit of its own, say how many of something there are
-abbrev pub counts_ones : Counts → Bool
-counts_ones Plain = true
-counts_ones Number = true
-counts_ones _ = false
 
 -- so many of what the other factor counts
 abbrev pub product_unit : Counts → Counts → Option Counts
@@ -99,5 +111,5 @@ decimal_alone _ = None
 -- what a call of one of several values counts, where its default is 0 or not given, or else may be one that counts otherwise
 abbrev pub with_default : Bool → Option Counts → Option Counts
 with_default false (Some (Decimal scale)) = None
-with_default false (Some Number) = None
+with_default false (Some (Number places)) = None
 with_default _ unit = unit

@@ -7,6 +7,7 @@ ghost use Rattle.wd_amounts.specs.Terms as spec;
 
 use crate::amount::{Amount, amount_at};
 use crate::names::{NameUse, unit_named};
+use crate::numeral::{Numeral, numeral_at};
 use crate::token::{Stop, brackets_at, holds_text, is_dot, is_name, is_over, is_sign, part_length};
 use crate::unit::Unit;
 use wd_lex::{Terminal, Token, TokenKind};
@@ -17,7 +18,7 @@ fn token_unit(known: &[NameUse], kind: &TokenKind) -> Option<Unit>
 {
     match kind {
         TokenKind::Word(name) | TokenKind::Quoted(name) => unit_named(known, name.as_str()),
-        TokenKind::Number(_) => Some(Unit::Number),
+        TokenKind::Number(_) => Some(Unit::Number(0)),
         _ => None,
     }
 }
@@ -28,7 +29,7 @@ pub fn column_unit(known: &[NameUse], tokens: &[Token]) -> Option<Unit>
     ensures { result ≡ spec.column_unit (map use_seen known.now) tokens.now }
 {
     match tokens {
-        [] => Some(Unit::Number),
+        [] => Some(Unit::Number(0)),
         [only] => token_unit(known, &only.kind),
         [table, dot, column] => {
             if is_name(&table.kind) && is_dot(&dot.kind) && is_name(&column.kind) {
@@ -50,15 +51,26 @@ fn unit_in(amount: Option<Amount>) -> Option<Unit>
     }
 }
 
-/// A literal.
+fn places_in(numeral: Option<Numeral>) -> Option<Unit>
+    ensures { result ≡ spec.places_in numeral }
+{
+    match numeral {
+        Some(numeral) => Some(Unit::Number(numeral.places)),
+        None => None,
+    }
+}
+
+/// A literal of a moment, or a number with a point.
 #[tactic(auto, unfolding(crate::specs::Terms::literal_unit))]
 fn literal_unit(tokens: &[Token]) -> Option<Unit>
     ensures { result ≡ spec.literal_unit tokens.now }
 {
-    if tokens.len() == 2 {
-        unit_in(amount_at(tokens))
-    } else {
-        None
+    if tokens.len() != 2 {
+        return None;
+    }
+    match unit_in(amount_at(tokens)) {
+        Some(unit) => Some(unit),
+        None => places_in(numeral_at(tokens)),
     }
 }
 

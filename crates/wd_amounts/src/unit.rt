@@ -17,8 +17,8 @@ pub enum Unit {
     Span,
     /// Whatever else a whole number says.
     Plain,
-    /// A number that is written: so many of what stands beside it.
-    Number,
+    /// A number that is written, with so many places after the point: so many of what stands beside it.
+    Number(u64),
     /// Units of the last of so many places after the point.
     Decimal(u64),
 }
@@ -30,8 +30,8 @@ pub fn is_same(first: Unit, second: Unit) -> bool
         (Unit::Days, Unit::Days)
         | (Unit::Microseconds, Unit::Microseconds)
         | (Unit::Span, Unit::Span)
-        | (Unit::Plain, Unit::Plain)
-        | (Unit::Number, Unit::Number) => true,
+        | (Unit::Plain, Unit::Plain) => true,
+        (Unit::Number(first), Unit::Number(second)) => first == second,
         (Unit::Decimal(first), Unit::Decimal(second)) => first == second,
         _ => false,
     }
@@ -67,14 +67,36 @@ pub fn unit_of_kind(kind: ColumnKind) -> Option<Unit>
 pub fn is_number(unit: Unit) -> bool
     ensures { result ≡ spec.is_number unit }
 {
-    matches!(unit, Unit::Number)
+    matches!(unit, Unit::Number(_))
 }
 
-/// Whether what is written as a number alone can say so many of these.
+/// Whether what is written as a whole number alone can say so many of these.
 fn takes_numbers(unit: Unit) -> bool
     ensures { result ≡ spec.takes_numbers unit }
 {
     matches!(unit, Unit::Plain | Unit::Decimal(_))
+}
+
+/// Whether a number that is written with so many places can say how much of these there is.
+fn takes_places(unit: Unit, places: u64) -> bool
+    ensures { result ≡ spec.takes_places unit places }
+{
+    match unit {
+        Unit::Plain => places == 0,
+        Unit::Number(others) => places <= others,
+        Unit::Decimal(scale) => places <= scale,
+        _ => false,
+    }
+}
+
+/// Whether the second is a number that is written, which counts what the first does.
+fn goes_with(first: Unit, second: Unit) -> bool
+    ensures { result ≡ spec.goes_with first second }
+{
+    match second {
+        Unit::Number(places) => takes_places(first, places),
+        _ => false,
+    }
 }
 
 /// What two count that are compared, or added where neither is a moment.
@@ -83,10 +105,32 @@ pub fn shared(first: Unit, second: Unit) -> Option<Unit>
 {
     if is_same(first, second) {
         Some(first)
-    } else if is_number(second) && takes_numbers(first) {
+    } else if goes_with(first, second) {
         Some(first)
-    } else if is_number(first) && takes_numbers(second) {
+    } else if goes_with(second, first) {
         Some(second)
+    } else {
+        None
+    }
+}
+
+/// Whether it says how many of something there are.
+fn counts_ones(unit: Unit) -> bool
+    ensures { result ≡ spec.counts_ones unit }
+{
+    match unit {
+        Unit::Plain => true,
+        Unit::Number(places) => places == 0,
+        _ => false,
+    }
+}
+
+/// A day, so many days later or earlier.
+fn days_by(count: Unit) -> Option<Unit>
+    ensures { result ≡ spec.days_by count }
+{
+    if counts_ones(count) {
+        Some(Unit::Days)
     } else {
         None
     }
@@ -99,10 +143,8 @@ fn sum_unit(first: Unit, second: Unit) -> Option<Unit>
         (Unit::Microseconds, Unit::Span) | (Unit::Span, Unit::Microseconds) => {
             Some(Unit::Microseconds)
         }
-        (Unit::Days, Unit::Plain | Unit::Number) | (Unit::Plain | Unit::Number, Unit::Days) => {
-            Some(Unit::Days)
-        }
-        (Unit::Microseconds | Unit::Days, _) => None,
+        (Unit::Microseconds, _) => None,
+        (Unit::Days, count) | (count, Unit::Days) => days_by(count),
         (first, second) => shared(first, second),
     }
 }
@@ -114,17 +156,10 @@ fn difference_unit(first: Unit, second: Unit) -> Option<Unit>
         (Unit::Microseconds, Unit::Microseconds) => Some(Unit::Span),
         (Unit::Microseconds, Unit::Span) => Some(Unit::Microseconds),
         (Unit::Days, Unit::Days) => Some(Unit::Plain),
-        (Unit::Days, Unit::Plain | Unit::Number) => Some(Unit::Days),
-        (Unit::Microseconds | Unit::Days, _) => None,
+        (Unit::Microseconds, _) => None,
+        (Unit::Days, count) => days_by(count),
         (first, second) => shared(first, second),
     }
-}
-
-/// Whether it says how many of something there are.
-fn counts_ones(unit: Unit) -> bool
-    ensures { result ≡ spec.counts_ones unit }
-{
-    matches!(unit, Unit::Plain | Unit::Number)
 }
 
 /// So many of what the other factor counts.
@@ -171,7 +206,7 @@ pub fn with_default(is_zero: bool, unit: Option<Unit>) -> Option<Unit>
     ensures { result ≡ spec.with_default is_zero unit }
 {
     match (is_zero, unit) {
-        (false, Some(Unit::Decimal(_) | Unit::Number)) => None,
+        (false, Some(Unit::Decimal(_) | Unit::Number(_))) => None,
         _ => unit,
     }
 }

@@ -1,4 +1,5 @@
 pub mod Masked
+pub mod Decimals
 pub mod Kinds
 pub mod Types
 pub mod Terms

@@ -1,11 +1,13 @@
 //! Casts: PostgreSQL's `x::type` and the standard's `CAST ( x AS type )`, where the value stays or an equation in whole numbers
 //! gives it.
 //!
-//! `mask` gives a query in the characters of the profile's lexer: `::` stands as `%%`. `term` reads an operand with its casts, `known`
-//! says what is known of the operand by the columns of a schema (`names`), and `equation` what a cast of it is. `walk` goes over the
-//! tokens from left to right and writes the equations.
+//! `mask` gives a query in the characters of the profile's lexer: `::` stands as `%%`, and the point in a number as a blank. `decimal`
+//! makes literals of numbers with a point. `term` reads an operand with its casts, `known` says what is known of the operand by the
+//! columns of a schema (`names`), and `equation` what a cast of it is. `walk` goes over the tokens from left to right and writes the
+//! equations.
 #![tactic(auto)]
 
+mod decimal;
 mod equation;
 mod kind;
 mod known;
@@ -16,6 +18,7 @@ mod token;
 mod type_name;
 mod walk;
 
+pub use decimal::with_literals;
 pub use mask::masked;
 pub use term::has_casts;
 pub use walk::without_casts;

@@ -1,4 +1,4 @@
-//! The masked text: `::` as `%%`.
+//! The masked text: `::` as `%%`, and the point in a number as a blank.
 
 ghost use Rattle.std.specs.Prelude.{◌≡◌, false, length, IfOk, IfSome};
 ghost use Rattle.std.specs.Option.{option_map};
@@ -21,11 +21,34 @@ fn is_prefix(state: State) -> bool
     matches!(state, State::Prefix)
 }
 
+/// Whether a byte stands right after a digit of a number, or after a point behind its digits.
+fn is_numeric(state: State) -> bool
+    ensures { result ≡ spec.is_numeric state }
+{
+    matches!(state, State::Number)
+}
+
 /// Whether a byte and the next could be mistaken for a `::` that is masked.
 fn is_doubtful(byte: u8, next: u8) -> bool
     ensures { result ≡ spec.is_doubtful byte next }
 {
     (byte == b'%' && (next == b'%' || next == b':')) || (byte == b':' && next == b'%')
+}
+
+/// Whether it is white space between a number and a digit, which could be mistaken for a point that is masked.
+fn splits_number(state: State, byte: u8, next: u8) -> bool
+    ensures { result ≡ spec.splits_number state byte next }
+{
+    is_numeric(state)
+        && matches!(byte, b'\t' | b'\n' | 0x0c | b'\r' | b' ')
+        && next.is_ascii_digit()
+}
+
+/// Whether it is a point between a number and a digit.
+fn is_point(state: State, byte: u8, next: u8) -> bool
+    ensures { result ≡ spec.is_point state byte next }
+{
+    is_numeric(state) && byte == b'.' && next.is_ascii_digit()
 }
 
 /// Whether no bytes stand in the text that could be mistaken, and no text E'..'.
@@ -37,7 +60,10 @@ fn is_plain(text: &[u8]) -> bool
     let mut rest = text;
     while let [byte, after @ ..] = rest {
         let next = after.first().copied().unwrap_or(0);
-        if is_prefix(state) || (is_outside(state) && is_doubtful(*byte, next)) {
+        if is_prefix(state)
+            || (is_outside(state) && is_doubtful(*byte, next))
+            || splits_number(state, *byte, next)
+        {
             return false;
         }
         let (_, following) = step(state, *byte, next);
@@ -55,12 +81,14 @@ fn byte_for(is_second: bool, state: State, byte: u8, next: u8) -> (u8, bool)
         (b'%', false)
     } else if is_outside(state) && byte == b':' && next == b':' {
         (b'%', true)
+    } else if is_point(state, byte, next) {
+        (b' ', false)
     } else {
         (byte, false)
     }
 }
 
-/// The bytes with `%%` for each `::`.
+/// The bytes with `%%` for each `::`, and a blank for the point in a number.
 #[tactic(auto, unfolding(crate::specs::Masked::masked_from))]
 fn with_percents(alloc: Global, text: &[u8]) -> Result<Vec<u8>, AllocError>
     ensures masked { IfOk result (λ found. found.items ≡ spec.masked_from false State.Between text.now) }
@@ -82,8 +110,9 @@ fn with_percents(alloc: Global, text: &[u8]) -> Result<Vec<u8>, AllocError>
     Ok(found)
 }
 
-/// The query as the profile's lexer can read it: each `::` outside of quotes and comments stands as `%%`, and all else as it is. None
-/// where two percent signs stand side by side outside of quotes and comments, or one beside a colon, or a text E'..' stands in it.
+/// The query as the profile's lexer can read it: outside of quotes and comments each `::` stands as `%%` and the point in a number as a
+/// blank, and all else as it is. None where two percent signs stand side by side outside of quotes and comments, or one beside a colon, or
+/// two numbers with white space alone between them, or a text E'..' stands in it.
 #[tactic(auto, unfolding(crate::specs::Masked::masked))]
 pub fn masked(alloc: Global, text: &[u8]) -> Result<Option<Vec<u8>>, AllocError>
     ensures masked { IfOk result (λ found. option_map (λ v. v.items) found ≡ spec.masked text.now) }

@@ -87,6 +87,9 @@ const QUOTIENT: &str =
 const UNLIKE: &str =
     "the sides count different units, as decimals of two scales or a decimal and a whole number do: keep both in one unit";
 
+const PLACES: &str =
+    "a number with a point is read where it is compared with a column numeric(p, s) of as many places, or added to it; else keep cents or tenths as whole numbers";
+
 /// By the character with which no token begins.
 const AT_CHARACTER: [(&str, &str); 8] = [
     ("|", "`||` is not read: keep the joined text as a column"),
@@ -183,7 +186,7 @@ const AT_WORD: [(&str, &str); 40] = [
 ];
 
 /// By the word before the one with which no query goes on.
-const AFTER_WORD: [(&str, &str); 12] = [
+const AFTER_WORD: [(&str, &str); 13] = [
     (
         "filter",
         "for SUM(x) FILTER (WHERE p) write SUM(CASE WHEN p THEN x END)",
@@ -196,6 +199,7 @@ const AFTER_WORD: [(&str, &str); 12] = [
         "interval",
         "keep days or seconds as whole numbers, and add these",
     ),
+    ("numeric", PLACES),
     (
         "distinct",
         "for DISTINCT ON number the rows by ROW_NUMBER in a derived table, and keep the first",

@@ -1,5 +1,5 @@
 -- Numbers beside decimals, put as units of their last place.
-use Rattle.std.specs.Prelude.{ℕ, zero, suc, ◌*◌, ◌==◌, not, nat_lt, Bool, true, false, if◌then◌else◌, List, [], ◌∷◌, Option, Some, None}
+use Rattle.std.specs.Prelude.{ℕ, zero, suc, ◌-◌, ◌*◌, ◌==◌, ◌++◌, not, nat_le, nat_lt, Bool, true, false, if◌then◌else◌, List, [], ◌∷◌, Option, Some, None}
 use Rattle.wd_lex.specs.declared.token.Terminal.TheVariants as m
 use Rattle.wd_lex.specs.declared.token.Token.{Token}
 use Rattle.wd_lex.specs.declared.token.TokenKind.{TokenKind}
@@ -7,8 +7,11 @@ use Rattle.wd_lex.specs.declared.token.TokenKind.TheVariants as t
 use Rattle.wd_operands.specs.Operands.{is_left_bracket, is_sign}
 use Rattle.wd_moments.specs.declared.decimal.Stand.{Stand}
 use Rattle.wd_moments.specs.declared.decimal.Stand.TheVariants.{Term, Factor, Behind, Window, Within}
-use Rattle.wd_amounts.specs.Tokens.{depth_after}
+use Rattle.wd_amounts.specs.declared.numeral.Numeral.{Numeral}
+use Rattle.wd_amounts.specs.Numerals.{numeral_at}
+use Rattle.wd_amounts.specs.Tokens.{◌>>=◌, depth_after}
 use Rattle.wd_amounts.specs.Terms.{is_star}
+use Rattle.wd_moments.specs.Literals.{Written, number_token}
 
 -- so many whole ones in units of their last place: ten times as many for each place, while 64 bits with a sign hold them
 unfoldable pub units_of : ℕ → ℕ → Option ℕ
@@ -67,7 +70,28 @@ abbrev pub token_in_units : ℕ → Bool → Token → Token
 token_in_units scale true token = record { kind = kind_in_units scale token.kind; span = token.span }
 token_in_units scale false token = token
 
--- tokens that count a decimal, from such a place on, with its units in place of the numbers that are terms
-unfoldable pub units_in : ℕ → Stand → List Token → List Token
-units_in scale stand [] = []
-units_in scale stand (token ∷ tokens) = token_in_units scale (is_term stand tokens) token ∷ units_in scale (stand_after stand token.kind) tokens
+-- a number with a point in units of the last of so many places, where it has no more of them
+unfoldable pub numeral_units : ℕ → Numeral → Option ℕ
+numeral_units scale x = if nat_le x.places scale then Some (or_past (units_of (scale - x.places) x.number)) else None
+
+-- the number with a point at the start in units, where it is a term
+unfoldable pub term_units : ℕ → Stand → List Token → Option ℕ
+term_units scale stand (word ∷ text ∷ tokens) = numeral_at (word ∷ text ∷ tokens) >>= λ x. if is_term stand tokens then numeral_units scale x else None
+term_units scale stand _ = None
+
+abbrev pub by_units : ℕ → Stand → Token → List Token → Option ℕ → Written
+by_units scale stand token tokens (Some units) = (number_token units token.span ∷ [], true)
+by_units scale stand token tokens None = (token_in_units scale (is_term stand tokens) token ∷ [], false)
+
+-- what is written for the first of tokens that count a decimal, from such a place on: units in place of a number that is a term. And
+-- whether it stands for the next one, too
+unfoldable pub first_in_units : ℕ → Stand → List Token → Written
+first_in_units scale stand [] = ([], false)
+first_in_units scale stand (token ∷ tokens) = by_units scale stand token tokens (term_units scale stand (token ∷ tokens))
+
+-- all of them; the first is left out where what is written before stands for it
+unfoldable pub units_in : ℕ → Bool → Stand → List Token → List Token
+units_in scale leaves stand [] = []
+units_in scale true stand (token ∷ tokens) = units_in scale false (stand_after stand token.kind) tokens
+units_in scale false stand (token ∷ tokens) =
+    (first_in_units scale stand (token ∷ tokens)).0 ++ units_in scale (first_in_units scale stand (token ∷ tokens)).1 (stand_after stand token.kind) tokens

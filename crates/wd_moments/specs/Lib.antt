@@ -1,6 +1,7 @@
 pub mod Comparisons
 pub mod Decimals
 pub mod Given
+pub mod Items
 pub mod Literals
 pub mod Numbered
 pub mod Seen

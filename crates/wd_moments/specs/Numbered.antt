@@ -1,5 +1,6 @@
--- Tokens with numbers in place of the literals of moments, and of numbers beside decimals, in comparisons whose sides count one unit.
-use Rattle.std.specs.Prelude.{ℕ, zero, suc, ◌++◌, Bool, true, false, if◌then◌else◌, List, [], ◌∷◌, length, Option, Some, None}
+-- Tokens with numbers in place of the literals of moments, and of numbers beside decimals, in comparisons whose sides count one unit; and
+-- in place of the literals of moments in the items of a list.
+use Rattle.std.specs.Prelude.{ℕ, zero, suc, ◌++◌, true, false, if◌then◌else◌, List, [], ◌∷◌, length, Option, Some, None}
 use Rattle.wd_lex.specs.declared.token.Terminal.TheVariants as m
 use Rattle.wd_lex.specs.declared.token.Span.{Span as Place}
 use Rattle.wd_lex.specs.declared.token.Token.{Token}
@@ -11,11 +12,14 @@ use Rattle.wd_amounts.specs.declared.unit.Unit.TheVariants.{Days, Microseconds, 
 use Rattle.wd_moments.specs.Decimals.{units_in}
 use Rattle.wd_moments.specs.Literals.{made, number_token, numbers_in}
 use Rattle.wd_moments.specs.Unlike.{unlike_from, with_word}
-use Rattle.wd_moments.specs.Comparisons.{Comparison, begins_side, comparison_at}
+use Rattle.wd_moments.specs.declared.item.Start.{Start}
+use Rattle.wd_moments.specs.declared.item.Start.TheVariants.{Elsewhere, AtSide}
+use Rattle.wd_moments.specs.Comparisons.{Comparison, comparison_at}
+use Rattle.wd_moments.specs.Items.{Item, is_item, is_side, item_at, start_after}
 
 -- an operand that counts a unit, with numbers of that unit
 abbrev pub side : Counts → List Token → List Token
-side (Decimal scale) tokens = units_in scale Term tokens
+side (Decimal scale) tokens = units_in scale false Term tokens
 side unit tokens = numbers_in unit false tokens
 
 -- what opens and what closes the midnight of a day
@@ -38,32 +42,37 @@ side_beside at unit other tokens = side unit tokens
 abbrev pub compared : Comparison → List Token
 compared c = side_beside c.sign.span c.first c.second c.left ++ c.sign ∷ side_beside c.sign.span c.second c.first c.right
 
--- what is written, whether a side may begin after it, and the tokens from there on
+-- what is written, what may begin after it, and the tokens from there on
 abbrev pub Step : Type 0
-Step = List Token × Bool × List Token
+Step = List Token × Start × List Token
 
-abbrev pub step_by : List Token → Option Comparison → Step
-step_by tokens (Some c) = (compared c, false, c.rest)
-step_by [] None = ([], false, [])
-step_by (token ∷ tokens) None = (token ∷ [], begins_side token.kind, tokens)
+-- a comparison, an item, or else the token at the start
+abbrev pub step_by : List Token → Option Comparison → Option Item → Step
+step_by tokens (Some c) item = (compared c, Elsewhere, c.rest)
+step_by tokens None (Some item) = (side item.unit item.operand, Elsewhere, item.rest)
+step_by [] None None = ([], Elsewhere, [])
+step_by (token ∷ tokens) None None = (token ∷ [], start_after token.kind, tokens)
 
-abbrev pub compared_at : List Use → Bool → List Token → Option Comparison
-compared_at known begins tokens = if begins then comparison_at known tokens else None
+abbrev pub compared_at : List Use → Start → List Token → Option Comparison
+compared_at known start tokens = if is_side start then comparison_at known tokens else None
 
-unfoldable pub step : List Use → Bool → List Token → Step
-step known begins tokens = step_by tokens (compared_at known begins tokens)
+abbrev pub item_begun : List Use → Start → List Token → Option Item
+item_begun known start tokens = if is_item start then item_at known tokens else None
 
-abbrev pub and_then : Step → (Bool → List Token → List Token) → List Token
+unfoldable pub step : List Use → Start → List Token → Step
+step known start tokens = step_by tokens (compared_at known start tokens) (item_begun known start tokens)
+
+abbrev pub and_then : Step → (Start → List Token → List Token) → List Token
 and_then first more = first.0 ++ more first.1 first.2
 
 -- step by step to the end; the number bounds the turns, and the count of the tokens is always enough
-unfoldable pub walked : List Use → ℕ → Bool → List Token → List Token
-walked known zero begins tokens = []
-walked known (suc turns) begins [] = []
-walked known (suc turns) begins (token ∷ tokens) = and_then (step known begins (token ∷ tokens)) (walked known turns)
+unfoldable pub walked : List Use → ℕ → Start → List Token → List Token
+walked known zero start tokens = []
+walked known (suc turns) start [] = []
+walked known (suc turns) start (token ∷ tokens) = and_then (step known start (token ∷ tokens)) (walked known turns)
 
 abbrev pub numbers_for : List Use → List Token → List Token
-numbers_for known tokens = walked known (length tokens) true tokens
+numbers_for known tokens = walked known (length tokens) AtSide tokens
 
 -- the tokens of a query with numbers for its moments and beside its decimals, and with a word in place of the first operator that has no
 -- equation

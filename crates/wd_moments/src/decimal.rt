@@ -1,14 +1,14 @@
 //! Numbers beside decimals, put as units of their last place.
 
-ghost use Rattle.std.specs.Prelude.{◌≡◌, ◌∷◌, [], ◌≤◌, ◌+◌, length, true};
+ghost use Rattle.std.specs.Prelude.{◌≡◌, ◌∷◌, [], ◌≤◌, ◌+◌, length, false, true, IfOk};
 ghost use Rattle.wd_moments.specs.Given.{Adds, most_tokens};
 ghost use Rattle.wd_moments.specs.Decimals as spec;
-ghost use Rattle.wd_moments.specs.Decimals.{depth_of, kind_in_units, token_in_units, units_in};
+ghost use Rattle.wd_moments.specs.Decimals.{depth_of, first_in_units, token_in_units, units_in};
 ghost use Rattle.wd_moments.specs.declared.decimal.Stand.TheVariants.{Term};
 
 use crate::error::MomentError;
 use crate::write::{push_copy, push_number};
-use wd_amounts::{depth_after, is_left_bracket, is_sign, is_star};
+use wd_amounts::{Numeral, depth_after, is_left_bracket, is_sign, is_star, numeral_at};
 use wd_lex::{Terminal, Token, TokenKind};
 
 /// Where a token of what counts a decimal stands.
@@ -143,16 +143,77 @@ fn push_token(
     }
 }
 
+/// A number with a point in units of the last of so many places, where it has no more of them.
+#[tactic(auto, unfolding(crate::specs::Decimals::numeral_units))]
+fn numeral_units(scale: u64, numeral: Numeral) -> Option<u64>
+    ensures { result ≡ spec.numeral_units scale numeral }
+{
+    if numeral.places <= scale {
+        Some(or_past(units_of(scale - numeral.places, numeral.number)))
+    } else {
+        None
+    }
+}
+
+/// The number with a point at the start in units, where it is a term.
+#[tactic(auto, unfolding(crate::specs::Decimals::term_units))]
+fn term_units(scale: u64, stand: Stand, tokens: &[Token]) -> Option<u64>
+    ensures { result ≡ spec.term_units scale stand tokens.now }
+{
+    let [_, _, rest @ ..] = tokens else {
+        return None;
+    };
+    let numeral = numeral_at(tokens)?;
+    if is_term(stand, rest) {
+        numeral_units(scale, numeral)
+    } else {
+        None
+    }
+}
+
+/// Writes what stands for the first token, or for it and the next, and says whether it stands for the next.
+#[tactic(auto, unfolding(crate::specs::Decimals::first_in_units))]
+fn push_first(
+    out: &mut Vec<Token>,
+    scale: u64,
+    stand: Stand,
+    tokens: &[Token],
+) -> Result<bool, MomentError>
+    requires { length out.old.items ≤ most_tokens }
+    ensures added { Adds result out.old.items out.new.items (first_in_units scale stand tokens.now).0 }
+    ensures leaves { IfOk result (λ leaves. leaves ≡ (first_in_units scale stand tokens.now).1) }
+{
+    let [first, rest @ ..] = tokens else {
+        return Ok(false);
+    };
+    match term_units(scale, stand, tokens) {
+        Some(units) => {
+            push_number(out, first.span, units)?;
+            Ok(true)
+        }
+        None => {
+            push_token(out, scale, is_term(stand, rest), first)?;
+            Ok(false)
+        }
+    }
+}
+
 /// Writes tokens that count a decimal, with its units in place of the numbers that are terms.
 pub fn push_units(out: &mut Vec<Token>, scale: u64, tokens: &[Token]) -> Result<(), MomentError>
     requires { length out.old.items ≤ most_tokens }
-    ensures { Adds result out.old.items out.new.items (units_in scale Term tokens.now) }
+    ensures { Adds result out.old.items out.new.items (units_in scale false Term tokens.now) }
 {
+    let mut leaves = false;
     let mut stand = Stand::Term;
     let mut rest = tokens;
     while let [first, after @ ..] = rest {
-        push_token(out, scale, is_term(stand, after), first)?;
-        stand = stand_after(stand, &first.kind);
+        let here = stand;
+        stand = stand_after(here, &first.kind);
+        leaves = if leaves {
+            false
+        } else {
+            push_first(out, scale, here, rest)?
+        };
         rest = after;
     }
     Ok(())

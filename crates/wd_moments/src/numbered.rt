@@ -1,17 +1,18 @@
 //! Goes over tokens from left to right, and writes numbers in place of the literals of moments and of numbers beside decimals.
 
-ghost use Rattle.std.specs.Prelude.{◌≡◌, ◌≤◌, ◌<◌, length, map, true, IfOk, IfErr};
+ghost use Rattle.std.specs.Prelude.{◌≡◌, ◌≤◌, ◌<◌, length, map, IfOk, IfErr};
 ghost use Rattle.wd_moments.specs.declared.error.MomentError.{MomentError};
 ghost use Rattle.wd_amounts.specs.Given.{Finds};
 ghost use Rattle.wd_moments.specs.Given.{Adds, most_tokens};
 ghost use Rattle.wd_moments.specs.Numbered as spec;
 ghost use Rattle.wd_moments.specs.Numbered.{compared, midnight, midnight_back, midnight_front, numbers_for, side, side_beside, step};
 ghost use Rattle.wd_amounts.specs.Seen.{use_seen};
-ghost use Rattle.wd_moments.specs.Seen.{comparison_seen};
+ghost use Rattle.wd_moments.specs.Seen.{comparison_seen, item_seen};
 
-use crate::comparison::{Comparison, begins_side, comparison_at};
+use crate::comparison::{Comparison, comparison_at};
 use crate::decimal::push_units;
 use crate::error::MomentError;
+use crate::item::{Item, Start, is_item, is_side, item_at, start_after};
 use crate::literal::push_numbers;
 use crate::unlike::{first_unlike, worded};
 use crate::write::{push_copy, push_mark, push_number};
@@ -100,55 +101,70 @@ fn push_compared(out: &mut Vec<Token>, comparison: &Comparison) -> Result<(), Mo
 }
 
 /// The comparison that begins here, where one may.
-fn compared_at<'t>(known: &[NameUse], begins: bool, tokens: &'t [Token]) -> Option<Comparison<'t>>
-    ensures { Finds comparison_seen result (spec.compared_at (map use_seen known.now) begins tokens.now) }
+fn compared_at<'t>(known: &[NameUse], start: Start, tokens: &'t [Token]) -> Option<Comparison<'t>>
+    ensures { Finds comparison_seen result (spec.compared_at (map use_seen known.now) start tokens.now) }
 {
-    if begins {
+    if is_side(start) {
         comparison_at(known, tokens)
     } else {
         None
     }
 }
 
-/// Writes what stands for what begins here, and says whether a side may begin after it, and where that is.
+/// The item that begins here, where one may.
+fn item_begun<'t>(known: &[NameUse], start: Start, tokens: &'t [Token]) -> Option<Item<'t>>
+    ensures { Finds item_seen result (spec.item_begun (map use_seen known.now) start tokens.now) }
+{
+    if is_item(start) {
+        item_at(known, tokens)
+    } else {
+        None
+    }
+}
+
+/// Writes what stands for what begins here, and says what may begin after it, and where that is.
 #[tactic(auto, unfolding(crate::specs::Numbered::step))]
 fn push_step<'t>(
     out: &mut Vec<Token>,
     known: &[NameUse],
-    begins: bool,
+    start: Start,
     tokens: &'t [Token],
-) -> Result<(bool, &'t [Token]), MomentError>
+) -> Result<(Start, &'t [Token]), MomentError>
     requires { length out.old.items ≤ most_tokens }
-    ensures added { Adds result out.old.items out.new.items (step (map use_seen known.now) begins tokens.now).0 }
-    ensures next { IfOk result (λ x. x.0 ≡ (step (map use_seen known.now) begins tokens.now).1) }
-    ensures rest { IfOk result (λ x. x.1.now ≡ (step (map use_seen known.now) begins tokens.now).2) }
+    ensures added { Adds result out.old.items out.new.items (step (map use_seen known.now) start tokens.now).0 }
+    ensures next { IfOk result (λ x. x.0 ≡ (step (map use_seen known.now) start tokens.now).1) }
+    ensures rest { IfOk result (λ x. x.1.now ≡ (step (map use_seen known.now) start tokens.now).2) }
 {
-    if let Some(comparison) = compared_at(known, begins, tokens) {
+    if let Some(comparison) = compared_at(known, start, tokens) {
         push_compared(out, &comparison)?;
-        return Ok((false, comparison.rest));
+        return Ok((Start::Elsewhere, comparison.rest));
+    }
+    if let Some(item) = item_begun(known, start, tokens) {
+        push_side(out, item.unit, item.operand)?;
+        return Ok((Start::Elsewhere, item.rest));
     }
     match tokens {
         [first, rest @ ..] => {
             push_copy(out, first)?;
-            Ok((begins_side(&first.kind), rest))
+            Ok((start_after(&first.kind), rest))
         }
-        [] => Ok((false, tokens)),
+        [] => Ok((Start::Elsewhere, tokens)),
     }
 }
 
 /// Writes tokens with numbers in place of the literals of moments.
 fn walk(out: &mut Vec<Token>, known: &[NameUse], tokens: &[Token]) -> Result<(), MomentError>
     requires { length out.old.items ≤ most_tokens }
-    ensures { Adds result out.old.items out.new.items (spec.walked (map use_seen known.now) (length tokens.now) true tokens.now) }
+    ensures { Adds result out.old.items out.new.items (spec.walked (map use_seen known.now) (length tokens.now) Start.AtSide tokens.now) }
 {
-    let mut begins = true;
+    let mut start = Start::AtSide;
     let mut rest = tokens;
     for _ in 0..tokens.len() {
         if rest.is_empty() {
             return Ok(());
         }
-        let (next, following) = push_step(out, known, begins, rest)?;
-        begins = next;
+        let (next, following) = push_step(out, known, start, rest)?;
+        start = next;
         rest = following;
     }
     Ok(())
@@ -166,8 +182,8 @@ fn numbered(alloc: Global, known: &[NameUse], tokens: &[Token]) -> Result<Vec<To
 }
 
 /// The tokens of a query with numbers in place of the literals of moments, where they are compared with what is known to count the
-/// same unit: days, microseconds of a moment, or microseconds between two moments. A number has the place of the literal's first
-/// word. A number that is compared with a decimal, or a term of what is, becomes so many units of the decimal's last place. In place
+/// same unit: days, microseconds of a moment, or microseconds between two moments; and where an operand that counts a moment stands by
+/// itself after SELECT, DISTINCT, BY or a comma. A number has the place of the literal's first word. A number that is compared with a decimal, or a term of what is, becomes so many units of the decimal's last place. In place
 /// of the first operator that has no equation in whole numbers, as a product of decimals, stands a word that the profile refuses. It
 /// refuses with `TooLong` where the result has more than 65,536 tokens.
 #[tactic(auto, unfolding(crate::specs::Numbered::with_numbers))]

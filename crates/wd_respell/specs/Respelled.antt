@@ -6,6 +6,7 @@ use Rattle.wd_with.specs.Expanded.{Said}
 use Rattle.wd_with.specs.Expanded as members
 use Rattle.wd_inner_with.specs.Inner.{without_inner}
 use Rattle.wd_distinct_on.specs.Respelled as selects
+use Rattle.wd_casts.specs.Decimals.{with_literals}
 use Rattle.wd_casts.specs.Masked.{masked}
 use Rattle.wd_casts.specs.Terms.{has_casts}
 use Rattle.wd_casts.specs.Walked.{without_casts}
@@ -62,15 +63,15 @@ pub record AreEquated (tables : List TableRule) (statements : List Statement) (t
   pub are_uncast : AreUncast statements tokens uncast
   pub equated : IsEquated tables statements uncast said
 
--- the other text has the tokens that the equations give for those of the query, in which each `::` is masked, and the query reads these
--- members of WITH more than once
+-- the other text has the tokens that the equations give for those of the query, in which each `::` and the point in a number are masked
+-- and numbers with a point are literals, and the query reads these members of WITH more than once
 pub record IsRespelled (tables : List TableRule) (statements : List Statement) (query other : List ℕ) (twice : List Token) : Type 0 where
   pub text : List ℕ
   pub masked : masked query ≡ Some text
   pub tokens : List Token
   pub lexed : IsLexed text tokens
   pub said : Said
-  pub equated : AreEquated tables statements tokens said
+  pub equated : AreEquated tables statements (with_literals query tokens) said
   pub own : List Token
   pub read : IsLexed other own
   pub are : kinds_of own ≡ kinds_of said.tokens

@@ -5,6 +5,7 @@ ghost use Rattle.std.specs.String.{string_bytes};
 ghost use Rattle.wd_lex.specs.Lexed.{IsLexed};
 ghost use Rattle.wd_equations.specs.Expanded as expressions;
 ghost use Rattle.wd_moments.specs.Numbered as numbers;
+ghost use Rattle.wd_casts.specs.Decimals.{with_literals};
 ghost use Rattle.wd_casts.specs.Masked.{masked};
 ghost use Rattle.wd_respell.specs.Respelled.{AreEquated, AreUncast, IsEquated, IsPlain, IsRespelled, IsTakenOut};
 ghost use Rattle.wd_schema.specs.Schemas.{schema_of};
@@ -13,7 +14,7 @@ ghost use Rattle.wd_with.specs.Expanded.{said};
 use crate::kinds::say_the_same;
 use crate::layout::laid_out;
 use std::alloc::Global;
-use wd_casts::{has_casts, masked, without_casts};
+use wd_casts::{has_casts, masked, with_literals, without_casts};
 use wd_clauses::RespellError;
 use wd_dialect_read::Statement;
 use wd_distinct_counts::without_distinct_counts;
@@ -72,7 +73,8 @@ fn respell_masked(
         Err(LexError::OutOfMemory) => return Err(OutOfMemory),
         Err(_) => return Ok(None),
     };
-    match without_any_casts(alloc, schema, statements, &tokens)? {
+    let literals = with_literals(alloc, query, &tokens)?;
+    match without_any_casts(alloc, schema, statements, &literals)? {
         Some(equated) if !say_the_same(&tokens, &equated.tokens) => {
             written(alloc, schema, statements, query, text, &tokens, equated)
         }
@@ -202,7 +204,7 @@ fn written(
 ) -> Result<Option<Respelled>, OutOfMemory>
     requires masked { masked query.now ≡ Some masked_text.now }
     requires lexed { IsLexed masked_text.now tokens.now }
-    requires equated { AreEquated (schema_of schema.now) statements.now tokens.now (said equated) }
+    requires equated { AreEquated (schema_of schema.now) statements.now (with_literals query.now tokens.now) (said equated) }
     ensures { IfOk result (λ o. IfSome o (λ r. IsRespelled (schema_of schema.now) statements.now query.now (string_bytes r.text) r.read_twice.items)) }
 {
     let start = match tokens.first() {
