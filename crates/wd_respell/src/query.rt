@@ -73,13 +73,26 @@ fn respell_masked(
         Err(LexError::OutOfMemory) => return Err(OutOfMemory),
         Err(_) => return Ok(None),
     };
-    let literals = with_literals(alloc, query, &tokens)?;
-    match without_any_casts(alloc, schema, statements, &literals)? {
+    match equated_literals(alloc, schema, statements, query, &tokens)? {
         Some(equated) if !say_the_same(&tokens, &equated.tokens) => {
             written(alloc, schema, statements, query, text, &tokens, equated)
         }
         _ => Ok(None),
     }
+}
+
+/// What the tokens of a masked query are by the equations, with a literal for each number with a point.
+fn equated_literals(
+    alloc: Global,
+    schema: &Schema,
+    statements: &[Statement],
+    query: &[u8],
+    tokens: &[Token],
+) -> Result<Option<Expanded>, OutOfMemory>
+    ensures { IfOk result (λ o. IfSome o (λ e. AreEquated (schema_of schema.now) statements.now (with_literals query.now tokens.now) (said e))) }
+{
+    let literals = with_literals(alloc, query, tokens)?;
+    without_any_casts(alloc, schema, statements, &literals)
 }
 
 /// The tokens without casts, where none is left.
