@@ -1,11 +1,11 @@
 //! Plans under choices of orderings.
 
-ghost use Rattle.std.specs.Prelude.{◌≡◌, ◌≤◌, true, None, IfOk};
-ghost use Rattle.wd_eval.specs.Judged.{IsAllowedOrRefused, IsOutcomeOrRefused, IsOutcomeWithinOrRefused};
+ghost use Rattle.std.specs.Prelude.{◌≡◌, ◌≤◌, true, None, IfErr, IfOk};
+ghost use Rattle.wd_eval.specs.Judged.{IsAllowedOrRefused, IsOutcome, IsOutcomeOrRefused, IsOutcomeWithin, IsOutcomeWithinOrRefused, IsRefused, IsRefusedWithin};
 ghost use Rattle.wd_eval.specs.Windows.{orderings_of};
 ghost use Rattle.wd_eval.specs.Runs.{IsRunOrRefused, IsTiedOutcomeOrRefused, IsTurnedOutcomeOrRefused};
 ghost use Rattle.wd_eval.specs.Tied.{IsTiedOrRefused, IsTurnedOrRefused};
-ghost use Rattle.wd_nodes.specs.Produced.{most_rows};
+ghost use Rattle.wd_nodes.specs.Produced.{most_rows, produced_of};
 ghost use Rattle.wd_plan.specs.Fits.{fits};
 ghost use Rattle.wd_plan.specs.Outcomes.{outcome_of};
 ghost use Rattle.wd_plan.specs.Plans.{plan_of};
@@ -14,12 +14,12 @@ ghost use Rattle.wd_value.specs.Rows.{instance_of};
 
 use crate::answer::{Answer, answer_of};
 use crate::error::EvalError;
-use crate::node::evaluate;
+use crate::node::{Evaluated, evaluate};
 use crate::orderings::{MOST_ROWS, Orderings};
 use crate::turned::{Turned, reversed_at};
 use std::alloc::Global;
 use wd_columns::Columns;
-use wd_nodes::{handed_over, outcome_from};
+use wd_nodes::{Produced, handed_over, outcome_from};
 use wd_plan::{Choice, Outcome, Plan};
 use wd_schema::Schema;
 use wd_value::{Instance, OutOfMemory};
@@ -55,13 +55,49 @@ pub fn eval_within(
     requires bounded { most ≤ most_rows }
     ensures { IsOutcomeWithinOrRefused most (plan_of plan.now) (instance_of instance.now.items) (orderings_of choice.now.orderings.items) result }
 {
+    let produced = produced_within(alloc, plan, schema, instance, choice, most)?;
+    let outcome = outcome_from(alloc, instance, produced, 0)?;
+    Ok(outcome)
+}
+
+/// What [`eval_with`] answers, kept as the plan's last step made it: rows that are in columns stay so.
+pub fn answer_with(
+    alloc: Global,
+    plan: &Plan,
+    schema: &Schema,
+    instance: &Instance,
+    choice: &Choice,
+) -> Result<Answer, EvalError>
+    requires { fits (schema_of schema.now) (plan_of plan.now) ≡ true }
+    ensures outcome { IfOk result (λ a. IsOutcome (plan_of plan.now) (instance_of instance.now.items) (orderings_of choice.now.orderings.items) a) }
+    ensures refused { IfErr result (λ e. IsRefused (plan_of plan.now) (instance_of instance.now.items) (orderings_of choice.now.orderings.items) e) }
+{
+    let produced = produced_within(alloc, plan, schema, instance, choice, MOST_ROWS)?;
+    let answer = answer_of(alloc, instance, produced)?;
+    Ok(answer)
+}
+
+/// What the plan's last step gives under a choice, where a step may have at most `most` rows.
+fn produced_within(
+    alloc: Global,
+    plan: &Plan,
+    schema: &Schema,
+    instance: &Instance,
+    choice: &Choice,
+    most: usize,
+) -> Result<Produced, EvalError>
+    requires fits { fits (schema_of schema.now) (plan_of plan.now) ≡ true }
+    requires bounded { most ≤ most_rows }
+    ensures outcome { IfOk result (λ p. IsOutcomeWithin most (plan_of plan.now) (instance_of instance.now.items) (orderings_of choice.now.orderings.items) (produced_of (instance_of instance.now.items) p)) }
+    ensures refused { IfErr result (λ e. IsRefusedWithin most (plan_of plan.now) (instance_of instance.now.items) (orderings_of choice.now.orderings.items) e) }
+{
     let mut made = Vec::new(alloc);
     let chosen = Orderings::Chosen(&choice.orderings, most as u64);
     let evaluated = evaluate(alloc, plan, instance, None, chosen, 0, &mut made, 0)?;
     if evaluated.next < choice.orderings.len() {
         return Err(EvalError::NotValid(evaluated.next as u64));
     }
-    let outcome = outcome_from(alloc, instance, evaluated.outcome, 0)?;
+    let Evaluated { outcome, .. } = evaluated;
     Ok(outcome)
 }
 

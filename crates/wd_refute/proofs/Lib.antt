@@ -2,3 +2,4 @@ pub mod RowOrder
 pub mod RowsAt
 pub mod Agreeing
 pub mod Verdicts
+pub mod Numbering

@@ -5,16 +5,19 @@ ghost use Rattle.wd_plan.specs.Fits.{fits};
 ghost use Rattle.wd_plan.specs.Plans.{plan_of};
 ghost use Rattle.wd_refute.specs.Refutation.{IsTrue, RefusesChoices, RefusesText, RefusesWitness, SpellsTrue};
 ghost use Rattle.wd_refute.specs.Judged.{Differ, IsOutcomeUnder, RefusesChoice};
+ghost use Rattle.wd_refute.specs.Kept.{IsKeptUnder};
 ghost use Rattle.wd_schema.specs.Schemas.{schema_of};
 ghost use Rattle.wd_value.specs.Rows.{instance_of};
 ghost use Rattle.wd_witness_text.specs.Witnesses.{positions_of, witness_of};
 
 use crate::error::Refusal;
-use crate::outcome::SortedOutcome;
+use crate::kept::Kept;
 use std::alloc::Global;
-use wd_eval::{EvalError, eval_with};
+use std::hash::{DefaultHasher, Hasher};
+use wd_eval::{Answer, EvalError, answer_with};
 use wd_plan::{Choice, Plan};
 use wd_schema::{Schema, meets};
+use wd_sort::Seeded;
 use wd_value::Instance;
 use wd_witness_text::{Witness, read_witness};
 
@@ -29,12 +32,26 @@ pub(crate) fn refute_plan(
     ensures refuted { OnOk result (SpellsTrue witness.now (schema_of schema.now) (plan_of plan.now)) }
     ensures refused { IfErr result (λ r. RefusesText r witness.now (schema_of schema.now) (plan_of plan.now)) }
 {
+    let seeded = seeded_by(witness);
     let witness = read_witness(alloc, schema, witness)?;
-    check(alloc, schema, plan, &witness)
+    check(alloc, schema, plan, &witness, seeded)
+}
+
+/// A seed for the hashes of the values that the plan makes of a witness's, made of its text.
+fn seeded_by(witness: &[u8]) -> Seeded {
+    let mut all = DefaultHasher::new();
+    all.write(witness);
+    Seeded::by(&all)
 }
 
 /// Whether a witness is true of a plan.
-fn check(alloc: Global, schema: &Schema, plan: &Plan, witness: &Witness) -> Result<(), Refusal>
+fn check(
+    alloc: Global,
+    schema: &Schema,
+    plan: &Plan,
+    witness: &Witness,
+    seeded: Seeded,
+) -> Result<(), Refusal>
     requires { fits (schema_of schema.now) (plan_of plan.now) ≡ true }
     ensures is_true { OnOk result (IsTrue (schema_of schema.now) (plan_of plan.now) (witness_of witness.now)) }
     ensures refused { IfErr result (λ r. RefusesWitness r (schema_of schema.now) (plan_of plan.now) (witness_of witness.now)) }
@@ -43,43 +60,63 @@ fn check(alloc: Global, schema: &Schema, plan: &Plan, witness: &Witness) -> Resu
     if meets(schema, &instance).is_err() {
         return Err(Refusal::NotMet);
     }
-    differ(alloc, schema, plan, &instance, witness)
+    differ(alloc, schema, plan, &instance, witness, seeded)
 }
 
-/// Whether a plan's outcomes over an instance differ under the two choices of a witness.
+/// Whether a plan's outcomes over an instance differ under the two choices of a witness. The rows of the
+/// first are let go before the second is evaluated, where they have numbers.
 fn differ(
     alloc: Global,
     schema: &Schema,
     plan: &Plan,
     instance: &Instance,
     witness: &Witness,
+    seeded: Seeded,
 ) -> Result<(), Refusal>
     requires fits { fits (schema_of schema.now) (plan_of plan.now) ≡ true }
     ensures differ { OnOk result (Differ (plan_of plan.now) (instance_of instance.now.items) (positions_of witness.now.first.orderings.items) (positions_of witness.now.second.orderings.items)) }
     ensures refused { IfErr result (λ r. RefusesChoices r (plan_of plan.now) (instance_of instance.now.items) (positions_of witness.now.first.orderings.items) (positions_of witness.now.second.orderings.items)) }
 {
-    let first = outcome_under(alloc, schema, plan, instance, &witness.first)?;
-    let second = outcome_under(alloc, schema, plan, instance, &witness.second)?;
-    if first.agrees(&second) {
+    let first = kept_under(alloc, schema, plan, instance, &witness.first, seeded)?;
+    let second = answer_under(alloc, schema, plan, instance, &witness.second)?;
+    if first.agrees(alloc, second)? {
         return Err(Refusal::OneAnswer);
     }
     Ok(())
 }
 
-/// A plan's outcome over an instance under a choice, ready to be compared.
-fn outcome_under(
+/// What is kept of a plan's outcome over an instance under a choice.
+fn kept_under(
     alloc: Global,
     schema: &Schema,
     plan: &Plan,
     instance: &Instance,
     choice: &Choice,
-) -> Result<SortedOutcome, Refusal>
+    seeded: Seeded,
+) -> Result<Kept, Refusal>
+    requires { fits (schema_of schema.now) (plan_of plan.now) ≡ true }
+    ensures kept { IfOk result (λ k. IsKeptUnder (plan_of plan.now) (instance_of instance.now.items) (positions_of choice.now.orderings.items) k) }
+    ensures refused { IfErr result (λ r. RefusesChoice r (plan_of plan.now) (instance_of instance.now.items) (positions_of choice.now.orderings.items)) }
+{
+    let answer = answer_under(alloc, schema, plan, instance, choice)?;
+    let kept = Kept::new(alloc, answer, seeded)?;
+    Ok(kept)
+}
+
+/// A plan's outcome over an instance under a choice.
+fn answer_under(
+    alloc: Global,
+    schema: &Schema,
+    plan: &Plan,
+    instance: &Instance,
+    choice: &Choice,
+) -> Result<Answer, Refusal>
     requires { fits (schema_of schema.now) (plan_of plan.now) ≡ true }
     ensures outcome { IfOk result (λ o. IsOutcomeUnder (plan_of plan.now) (instance_of instance.now.items) (positions_of choice.now.orderings.items) o) }
     ensures refused { IfErr result (λ r. RefusesChoice r (plan_of plan.now) (instance_of instance.now.items) (positions_of choice.now.orderings.items)) }
 {
-    match eval_with(alloc, plan, schema, instance, choice) {
-        Ok(outcome) => Ok(SortedOutcome::new(alloc, outcome)?),
+    match answer_with(alloc, plan, schema, instance, choice) {
+        Ok(answer) => Ok(answer),
         Err(EvalError::NotValid(_)) => Err(Refusal::NotValid),
         Err(EvalError::TooManyRows) => Err(Refusal::TooManyRows),
         Err(EvalError::OutOfMemory) => Err(Refusal::OutOfMemory),

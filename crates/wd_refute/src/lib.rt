@@ -4,8 +4,11 @@
 
 mod error;
 mod judge;
+mod kept;
 pub mod laws;
+mod numbers;
 mod outcome;
+mod places;
 mod rows;
 mod texts;
 

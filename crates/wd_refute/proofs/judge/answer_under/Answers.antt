@@ -5,7 +5,7 @@ use Rattle.wd_eval.specs.declared.error.EvalError.TheVariants.{NotValid}
 use Rattle.wd_plan.specs.Plans.{plan_of}
 use Rattle.wd_value.specs.Rows.{instance_of}
 use Rattle.wd_witness_text.specs.Witnesses.{positions_of}
-use Rattle.wd_refute.proofs.judge.outcome_under.Goals as goal
+use Rattle.wd_refute.proofs.judge.answer_under.Goals as goal
 
 pub returns-in-Err-NotValid-clause-refused : goal.returns-in-Err-NotValid-clause-refused
 returns-in-Err-NotValid-clause-refused c =

@@ -6,13 +6,11 @@ use Rattle.wd_eval.specs.Windows.{orderings_of}
 use Rattle.wd_plan.specs.Plans.{plan_of, ordering_count}
 use Rattle.wd_plan.proofs.Ranges.{names_classes}
 use Rattle.wd_schema.specs.Schemas.{schema_of}
-use Rattle.wd_plan.specs.Outcomes.{outcome_of}
 use Rattle.wd_eval.specs.Nodes.{IsEvaluated, IsStopped}
-use Rattle.wd_nodes.specs.Produced.{produced_of}
 use Rattle.wd_nodes.proofs.Held.{same_for_some, same_held}
 use Rattle.wd_eval.proofs.Walks.{to_stopped}
 use Rattle.wd_eval.proofs.Wrong.{stopped_refused, surplus_refused}
-use Rattle.wd_eval.proofs.eval.eval_within.Goals as goal
+use Rattle.wd_eval.proofs.eval.produced_within.Goals as goal
 
 pub evaluate-requires-clause-named : goal.evaluate-requires-clause-named
 evaluate-requires-clause-named c = names_classes (schema_of c.args.schema.now) (plan_of c.args.plan.now) c.requires.fits
@@ -20,18 +18,18 @@ evaluate-requires-clause-named c = names_classes (schema_of c.args.schema.now) (
 pub evaluate-requires-clause-held : goal.evaluate-requires-clause-held
 evaluate-requires-clause-held c = same_for_some (plan_of c.args.plan.now) (instance_of c.deref-2.result.now)
 
-pub returns-in_err-evaluated : goal.returns-in_err-evaluated
-returns-in_err-evaluated c =
+pub returns-in_err-evaluated-clause-refused : goal.returns-in_err-evaluated-clause-refused
+returns-in_err-evaluated-clause-refused c =
     let p = err_from_is_err_and c.from_residual.result c.from_residual.ensures.1 in
     let e = c.in_err-evaluated.field-0.0 in
     let plan = plan_of c.args.plan.now in
     let stopped = to_stopped plan (instance_of c.deref-2.result.now) 0 c.deref.result c.args.most e (c.in_err-evaluated.ensures (instance_of c.deref-2.result.now) (same_held plan (instance_of c.deref-2.result.now))).refused in
     let h = subst (λ os. IsStopped c.args.most plan (instance_of c.args.instance.now.items) (orderings_of os) 0 e) c.deref.ensures.value
     (subst (λ is. IsStopped c.args.most plan (instance_of is) (orderings_of c.deref.result.now) 0 e) c.deref-2.ensures.value stopped) in
-    rw (p.1, p.2) (record { ok = tt; refused = stopped_refused plan (instance_of c.args.instance.now.items) (orderings_of c.args.choice.now.orderings.items) c.args.most e h })
+    rw (p.1, p.2) (stopped_refused plan (instance_of c.args.instance.now.items) (orderings_of c.args.choice.now.orderings.items) c.args.most e h)
 
-pub returns-then-evaluated-len : goal.returns-then-evaluated-len
-returns-then-evaluated-len c =
+pub returns-then-evaluated-len-clause-refused : goal.returns-then-evaluated-len-clause-refused
+returns-then-evaluated-len-clause-refused c =
     let plan = plan_of c.args.plan.now in
     let instance = instance_of c.args.instance.now.items in
     let choice = orderings_of c.args.choice.now.orderings.items in
@@ -42,15 +40,14 @@ returns-then-evaluated-len c =
     let next = x.next in
     let at : evaluated.next ≡ ordering_count plan = omega arith in
     let behind : evaluated.next < length choice = omega arith in
-    record { ok = tt; refused = surplus_refused plan instance choice evaluated.next x.served at behind }
+    surplus_refused plan instance choice evaluated.next x.served at behind
 
-pub returns : goal.returns
-returns c =
+pub returns-clause-outcome : goal.returns-clause-outcome
+returns-clause-outcome c =
     let plan = plan_of c.args.plan.now in
     let instance = instance_of c.args.instance.now.items in
     let choice = orderings_of c.args.choice.now.orderings.items in
     let evaluated = c.in_ok-evaluated.evaluated in
-    let o = c.in_ok-outcome.outcome in
     let own = instance_of c.deref-2.result.now in
     let x = subst (λ os. IsEvaluated c.args.most plan instance instance (orderings_of os) 0 evaluated) c.deref.ensures.value
     (subst (λ is. IsEvaluated c.args.most plan (instance_of is) (instance_of is) (orderings_of c.deref.result.now) 0 evaluated) c.deref-2.ensures.value (c.in_ok-evaluated.ensures own (same_held plan own)).ok) in
@@ -58,5 +55,4 @@ returns c =
     let next = x.next in
     let there = x.served.present in
     let number : length choice ≡ ordering_count plan = omega arith in
-    let is = subst (λ is. outcome_of o ≡ produced_of (instance_of is) evaluated.outcome) c.deref-3.ensures.value c.in_ok-outcome.ensures in
-    record { ok = record { valid = record { number = number; lawful = x.served.lawful }; small = x.each; is = is ∙ x.is }; refused = tt }
+    record { valid = record { number = number; lawful = x.served.lawful }; small = x.each; is = x.is }

@@ -1,0 +1,86 @@
+//! Rows as numbers that tell them apart.
+
+ghost use Rattle.std.specs.Ordering.{nat_cmp};
+ghost use Rattle.std.specs.Prelude.{◌≡◌, IfNone, IfOk, IfSome, IsPermutation, IsSorted};
+ghost use Rattle.wd_refute.specs.Numbers as spec;
+ghost use Rattle.wd_refute.specs.Numbers.{AreNumbers, AreSortedNumbers, HaveNumbers, place_in};
+ghost use Rattle.wd_value.specs.Rows.{column_of, row_at};
+
+use crate::places::Places;
+use std::alloc::Global;
+use wd_columns::RowSource;
+use wd_value::{OutOfMemory, Value};
+
+/// The numbers of the rows, sorted. None exactly where some row has no number.
+pub(crate) fn sorted_numbers(
+    alloc: Global,
+    places: &[Places],
+    rows: &RowSource,
+) -> Result<Option<Vec<u128>>, OutOfMemory>
+    ensures numbers { IfOk result (λ o. IfSome o (λ v. AreSortedNumbers places.now rows.now v.items)) }
+    ensures none { IfOk result (λ o. IfNone o (HaveNumbers places.now rows.now → ⊥)) }
+{
+    match numbers_of(alloc, places, rows)? {
+        Some(numbers) => Ok(Some(sorted(numbers))),
+        None => Ok(None),
+    }
+}
+
+fn sorted(numbers: Vec<u128>) -> Vec<u128>
+    ensures each_once { IsPermutation numbers.items result.items }
+    ensures ordered { IsSorted nat_cmp result.items }
+{
+    let mut order = numbers;
+    order.sort_unstable();
+    order
+}
+
+/// The number of each row. None exactly where some row has none.
+fn numbers_of(
+    alloc: Global,
+    places: &[Places],
+    rows: &RowSource,
+) -> Result<Option<Vec<u128>>, OutOfMemory>
+    ensures numbers { IfOk result (λ o. IfSome o (λ v. AreNumbers places.now rows.now v.items)) }
+    ensures none { IfOk result (λ o. IfNone o (HaveNumbers places.now rows.now → ⊥)) }
+{
+    let mut numbers = Vec::with_capacity(alloc, rows.len())?;
+    for i in 0..rows.len() {
+        match number_of(places, rows, i as u64) {
+            Some(number) => numbers.push(number)?,
+            None => return Ok(None),
+        }
+    }
+    Ok(Some(numbers))
+}
+
+/// The places of the values of the row at a position in one number, each as a digit, the first value's the highest. None where a
+/// value has no place, where there are more or fewer values than columns, and where 128 bits don't hold the number.
+fn number_of(places: &[Places], rows: &RowSource, position: u64) -> Option<u128>
+    ensures { result ≡ spec.number_of places.now (row_at rows.now position) }
+{
+    if places.len() != rows.width(position) {
+        return None;
+    }
+    let mut number = 0;
+    for i in 0..places.len() {
+        let place = place_at(&places[i], rows, position, i)?;
+        number = with_digit(number, places[i].count(), place)?;
+    }
+    Some(number)
+}
+
+/// The place of the value in a column of the row at a position.
+fn place_at(places: &Places, rows: &RowSource, position: u64, column: usize) -> Option<u64>
+    ensures { result ≡ place_in places.now (column_of (row_at rows.now position) column) }
+{
+    let null = Value::Null;
+    places.place_of(rows.value_at(position, column, &null))
+}
+
+/// A number with a further digit below a count. None where 128 bits don't hold it.
+fn with_digit(number: u128, count: usize, digit: u64) -> Option<u128>
+    ensures { result ≡ spec.with_digit number count digit }
+{
+    number.checked_mul(count as u128)?.checked_add(digit as u128)
+}

@@ -1,0 +1,147 @@
+//! The places of the values of a column among those that were met in it.
+
+ghost use Rattle.std.specs.Prelude.{◌≡◌, length};
+ghost use Rattle.wd_refute.specs.Numbers as spec;
+
+use std::alloc::Global;
+use std::collections::HashMap;
+use wd_columns::RowSource;
+use wd_sort::Seeded;
+use wd_value::{OutOfMemory, Text, Value, same};
+
+/// The values that were met in a column, each at its place: NULL and the truth values, then the texts and whole numbers in the order
+/// in which they were met first.
+#[derive(Drop)]
+pub(crate) struct Places {
+    values: Vec<Value>,
+    wholes: HashMap<i64, u64, Seeded>,
+    texts: HashMap<String, u64, Seeded>,
+}
+
+impl Places {
+    /// No text and no whole number so far.
+    pub fn new(alloc: Global, seeded: Seeded) -> Result<Places, OutOfMemory> {
+        let mut values = Vec::with_capacity(alloc, 3)?;
+        values.push(Value::Null)?;
+        values.push(Value::Bool(false))?;
+        values.push(Value::Bool(true))?;
+        Ok(Places {
+            values,
+            wholes: HashMap::with_hasher(alloc, seeded),
+            texts: HashMap::with_hasher(alloc, seeded),
+        })
+    }
+
+    /// How many values there are. Each place is below this.
+    pub fn count(&self) -> usize
+        ensures { result ≡ length self.now.values.items }
+    {
+        self.values.len()
+    }
+
+    /// The place at which a value stands, and none where it was not met.
+    pub fn place_of(&self, value: &Value) -> Option<u64>
+        ensures { result ≡ spec.place_in self.now value.now }
+    {
+        let place = self.kept_place(value)?;
+        if self.stands_at(place, value) {
+            Some(place)
+        } else {
+            None
+        }
+    }
+
+    /// The place that is kept of a value.
+    fn kept_place(&self, value: &Value) -> Option<u64>
+        ensures { result ≡ spec.kept_place self.now value.now }
+    {
+        match value {
+            Value::Null => Some(0),
+            Value::Bool(false) => Some(1),
+            Value::Bool(true) => Some(2),
+            Value::Int(whole) => self.wholes.get(whole).copied(),
+            Value::Text(text) => self.texts.get(text.as_str()).copied(),
+        }
+    }
+
+    /// Whether a value stands at a place.
+    fn stands_at(&self, place: u64, value: &Value) -> bool
+        ensures { result ≡ spec.stands_at self.now.values.items place value.now }
+    {
+        match self.values.get(place as usize) {
+            Some(found) => same(found, value),
+            None => false,
+        }
+    }
+
+    /// A value is met: where it has no place, it is put after those that were met before.
+    fn meet(&mut self, alloc: Global, value: &Value) -> Result<(), OutOfMemory> {
+        if self.kept_place(value).is_some() {
+            return Ok(());
+        }
+        let place = self.values.len() as u64;
+        self.values.push(value.copy(alloc)?)?;
+        match value {
+            Value::Int(whole) => self.keep_whole(*whole, place),
+            Value::Text(text) => self.keep_text(alloc, text, place),
+            Value::Null | Value::Bool(_) => Ok(()),
+        }
+    }
+
+    fn keep_whole(&mut self, whole: i64, place: u64) -> Result<(), OutOfMemory> {
+        self.wholes.insert(whole, place)?;
+        Ok(())
+    }
+
+    fn keep_text(&mut self, alloc: Global, text: &Text, place: u64) -> Result<(), OutOfMemory> {
+        let key = String::from_str(alloc, text.as_str())?;
+        self.texts.insert(key, place)?;
+        Ok(())
+    }
+}
+
+/// For each column of the first row the values that the rows have there.
+pub(crate) fn places_of(
+    alloc: Global,
+    rows: &RowSource,
+    seeded: Seeded,
+) -> Result<Vec<Places>, OutOfMemory> {
+    let mut places = no_places(alloc, rows.width(0), seeded)?;
+    for i in 0..rows.len() {
+        meet_row(alloc, &mut places, rows, i as u64)?;
+    }
+    Ok(places)
+}
+
+/// So many columns, in which nothing was met.
+fn no_places(alloc: Global, width: usize, seeded: Seeded) -> Result<Vec<Places>, OutOfMemory> {
+    let mut places = Vec::with_capacity(alloc, width)?;
+    for _ in 0..width {
+        places.push(Places::new(alloc, seeded)?)?;
+    }
+    Ok(places)
+}
+
+/// The values of the row at a position are met.
+fn meet_row(
+    alloc: Global,
+    places: &mut Vec<Places>,
+    rows: &RowSource,
+    position: u64,
+) -> Result<(), OutOfMemory> {
+    for column in 0..places.len() {
+        meet_value(alloc, &mut places[column], rows, position, column)?;
+    }
+    Ok(())
+}
+
+fn meet_value(
+    alloc: Global,
+    places: &mut Places,
+    rows: &RowSource,
+    position: u64,
+    column: usize,
+) -> Result<(), OutOfMemory> {
+    let null = Value::Null;
+    places.meet(alloc, rows.value_at(position, column, &null))
+}
