@@ -18,8 +18,8 @@ mod window;
 pub use answer::Answer;
 pub use error::EvalError;
 pub use eval::{
-    TiedOutcome, answer_with, check_choice, eval_tied, eval_turned, eval_with, eval_within, first_choice,
-    run_columns, run_plan, tied_choice,
+    TiedOutcome, answer_with, check_choice, eval_tied, eval_turned, eval_with, eval_within,
+    first_choice, run_columns, run_plan, tied_choice,
 };
 pub use turned::Turned;
 pub use wd_partition::Turn;

@@ -112,11 +112,7 @@ fn sorted_answer(alloc: Global, answer: Answer) -> Result<Kept, OutOfMemory>
 }
 
 /// Whether an outcome agrees with an answer, by the order of both ones' rows.
-fn sorted_agrees(
-    alloc: Global,
-    first: &SortedOutcome,
-    answer: Answer,
-) -> Result<bool, OutOfMemory>
+fn sorted_agrees(alloc: Global, first: &SortedOutcome, answer: Answer) -> Result<bool, OutOfMemory>
     ensures { IfOk result (λ b. IsTrue b ↔ Agree first.now answer) }
 {
     let outcome = answer.into_outcome(alloc)?;

@@ -82,5 +82,7 @@ fn place_at(places: &Places, rows: &RowSource, position: u64, column: usize) -> 
 fn with_digit(number: u128, count: usize, digit: u64) -> Option<u128>
     ensures { result ≡ spec.with_digit number count digit }
 {
-    number.checked_mul(count as u128)?.checked_add(digit as u128)
+    number
+        .checked_mul(count as u128)?
+        .checked_add(digit as u128)
 }
