@@ -1,6 +1,6 @@
 -- Rows that have numbers are told apart by them.
-use Rattle.std.proofs.Common.{◌≡◌, ◌∙◌, ℕ, zero, suc, ◌+◌, ◌*◌, ◌/◌, ◌%◌, ◌^◌, ◌<◌, ◌≤◌, ◌↔◌, Bool, true, false, cond, List, [], ◌∷◌, map, get_or, length, nat_eq, refl, sym, ap, subst, arith, Option, Some, None, IsPermutation}
-use Rattle.std.specs.Prelude.{IsSome, All, option_and_then, slice_get, nat_lt, if◌then◌else◌, unwrap_or}
+use Rattle.std.proofs.Common.{◌≡◌, ◌∙◌, ℕ, zero, suc, ◌+◌, ◌*◌, ◌/◌, ◌%◌, ◌^◌, ◌<◌, ◌≤◌, ◌↔◌, Bool, true, false, cond, List, [], ◌∷◌, map, get_or, length, nat_eq, refl, sym, ap, subst, arith, Option, Some, None}
+use Rattle.std.specs.Prelude.{IsSome, option_and_then, slice_get, nat_lt, if◌then◌else◌, unwrap_or}
 use Rattle.std.specs.List.{AllByRecursion}
 use Rattle.std.specs.List.Sorted.{IsNonDecreasingBy}
 use Rattle.std.specs.Option.{option_map_or}
