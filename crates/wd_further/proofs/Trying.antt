@@ -16,8 +16,7 @@ use Rattle.wd_refute.specs.Laws.{IsShown}
 use Rattle.wd_seek.specs.Evaluations.{most_evaluations}
 use Rattle.wd_seek.specs.Witnesses.{HasFewRows}
 use Rattle.wd_seek.proofs.Shown.{found_is_shown}
-use Rattle.wd_varied.specs.Literals.{compared, literals}
-use Rattle.wd_varied.specs.Suggested.{all_near, around, most_literals}
+use Rattle.wd_varied.specs.Suggested.{hints}
 use Rattle.wd_varied.specs.Varied.{fillings, filled_row, rows_in, varied}
 use Rattle.wd_further.specs.Finds.{EndsWith, IsSoughtBy, IsSoughtIn, Search, searches, to_try}
 
@@ -89,14 +88,14 @@ module _ (tables : List TableRule) (plan : PlanTree) (f : ℕ → List Search) (
 module _ (tables : List TableRule) (plan : PlanTree) (rows number : ℕ) (small : rows ≤ 64) where
   abbrev rows_of_table : ℕ → List Row
   rows_of_table t = rows_in (is_scanned plan t) (fixed_value (table_rule tables t).columns plan t)
-      (fillings (flat_map around (take most_literals (compared plan))) (all_near (take most_literals (literals plan))) (table_rule tables t) t rows number) rows
+      (fillings (hints plan) (table_rule tables t) t rows number) rows
 
   rows_are : (t : ℕ) → t < length tables → table_at (varied tables plan rows number) t ≡ rows_of_table t
   rows_are t within = get_or-map-range_with_len rows_of_table 0 (length tables) t t [] within (omega arith)
 
-  few_of : (b : Bool) (t : ℕ) → length (rows_in b (fixed_value (table_rule tables t).columns plan t) (fillings (flat_map around (take most_literals (compared plan))) (all_near (take most_literals (literals plan))) (table_rule tables t) t rows number) rows) ≤ 64
+  few_of : (b : Bool) (t : ℕ) → length (rows_in b (fixed_value (table_rule tables t).columns plan t) (fillings (hints plan) (table_rule tables t) t rows number) rows) ≤ 64
   few_of true t =
-      let f = filled_row (fixed_value (table_rule tables t).columns plan t) (fillings (flat_map around (take most_literals (compared plan))) (all_near (take most_literals (literals plan))) (table_rule tables t) t rows number) rows in
+      let f = filled_row (fixed_value (table_rule tables t).columns plan t) (fillings (hints plan) (table_rule tables t) t rows number) rows in
       let n = length-map (positions rows) f in
       let m = length-range_with_len 0 rows in
       omega (arith, n, m, small)

@@ -1,4 +1,4 @@
-mod Comparing
+mod Found
 mod Places
 pub mod Products
 mod Ranges

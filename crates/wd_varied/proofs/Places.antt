@@ -13,6 +13,7 @@ use Rattle.wd_candidates.specs.Fixed.{fixed_value}
 use Rattle.wd_candidates.specs.Origins.{is_scanned}
 use Rattle.wd_candidates.specs.Outlines.{fixed_in, scanned_in}
 use Rattle.wd_varied.specs.Patterns.{FillingRule, filled}
+use Rattle.wd_varied.specs.Suggested.{hints_of}
 use Rattle.wd_varied.specs.Varied.{IsVaried, by_place, filled_row, fillings, rows_in, varied_by}
 use Rattle.wd_varied.specs.declared.pools.Suggested.{Suggested}
 
@@ -66,11 +67,11 @@ rows_same scanned also fixed other fs rows s f =
     λ j. cond (s j) (same j) []
 
 pub varied_found : (tables : List TableRule) (outline : Outline) (suggested : Suggested) (rows number : ℕ) (instance : Instance)
-    → instance ≡ map (λ t. rows_in (scanned_in outline t) (fixed_in outline t) (fillings suggested.compared.items suggested.all.items (table_rule tables t) t rows number) rows) (positions (length tables)) → IsVaried tables outline suggested rows number instance
+    → instance ≡ map (λ t. rows_in (scanned_in outline t) (fixed_in outline t) (fillings (hints_of suggested) (table_rule tables t) t rows number) rows) (positions (length tables)) → IsVaried tables outline suggested rows number instance
 varied_found tables outline suggested rows number instance is plan of_plan of_literals =
     is
     ∙ range_same _ _ 0 (length tables) (λ t h.
-    let fs = fillings suggested.compared.items suggested.all.items (table_rule tables t) t rows number in
+    let fs = fillings (hints_of suggested) (table_rule tables t) t rows number in
     let long : length fs ≡ length (table_rule tables t).columns = place_long _ 0 (table_rule tables t).columns in
     rows_same (scanned_in outline t) (is_scanned plan t) (fixed_in outline t) (fixed_value (table_rule tables t).columns plan t) fs rows (of_plan.scanned t (omega arith)) (λ c k. of_plan.fixed t c (omega arith) (omega (arith, k, long))))
-    ∙ (λ i. varied_by (of_literals.compared i) (of_literals.all i) tables plan rows number)
+    ∙ ap (λ h. varied_by h tables plan rows number) of_literals

@@ -1,4 +1,4 @@
--- The literals of a plan, and those with which its conditions compare columns of tables.
+-- The literals of a plan, those with which its conditions compare columns of tables, and the columns that they equate.
 use Rattle.std.specs.Prelude.{ℕ, List, [], ◌∷◌, ◌++◌, flat_map, Option, Some, None, option_map, option_to_list}
 use Rattle.wd_value.specs.declared.value.Value.{Value}
 use Rattle.wd_plan.specs.Expressions.{Expression, Column, Literal, Negate, Arithmetic, Compare, Not, And, Or, IsNull, IsNotNull, Case}
@@ -6,7 +6,10 @@ use Rattle.wd_plan.specs.Plans.{PlanTree, Scan, Join, Filter, Map, Group, Window
 use Rattle.wd_step_facts.specs.Steps.{Side, Plain, Fixed, Other, side_of}
 use Rattle.wd_candidates.specs.declared.origins.TableColumn.{TableColumn}
 use Rattle.wd_candidates.specs.Origins.{origin}
-use Rattle.wd_varied.specs.declared.compared.Compared.{Compared}
+use Rattle.wd_plan.specs.declared.expression.ComparisonOp.{ComparisonOp}
+use Rattle.wd_plan.specs.declared.expression.ComparisonOp.TheVariants.{Equal, NotEqual, Less, LessOrEqual, Greater, GreaterOrEqual}
+use Rattle.wd_varied.specs.declared.conditions.Compared.{Compared}
+use Rattle.wd_varied.specs.declared.conditions.Equated.{Equated}
 
 -- ---- literals
 
@@ -68,17 +71,65 @@ compared_in origins (IsNull a) = compared_in origins a
 compared_in origins (IsNotNull a) = compared_in origins a
 compared_in origins (Case k a b c) = (compared_in origins a ++ compared_in origins b) ++ compared_in origins c
 
-abbrev pub compared_in_join : (ℕ → Option TableColumn) → Option Expression → List Compared
-compared_in_join origins None = []
-compared_in_join origins (Some condition) = compared_in origins condition
+-- ---- equations of columns
 
--- those of all Filters and Joins, the nodes in postorder
+abbrev pub with_left : TableColumn → TableColumn → Equated
+with_left left right = record { left = left; right = right }
+
+abbrev pub equated_origins : Option TableColumn → Option TableColumn → List Equated
+equated_origins None right = []
+equated_origins (Some left) right = option_to_list (option_map (with_left left) right)
+
+-- `column = column`: the tables' columns that both copy
+abbrev pub equated_sides : (ℕ → Option TableColumn) → Side → Side → List Equated
+equated_sides origins (Plain c) (Plain d) = equated_origins (origins c) (origins d)
+equated_sides origins (Plain c) (Fixed v) = []
+equated_sides origins (Plain c) Other = []
+equated_sides origins (Fixed v) b = []
+equated_sides origins Other b = []
+
+abbrev pub equated_by : ComparisonOp → (ℕ → Option TableColumn) → Side → Side → List Equated
+equated_by Equal origins a b = equated_sides origins a b
+equated_by NotEqual origins a b = []
+equated_by Less origins a b = []
+equated_by LessOrEqual origins a b = []
+equated_by Greater origins a b = []
+equated_by GreaterOrEqual origins a b = []
+
+-- those that hold where a condition does, of a right operand before those of the left
+abbrev pub equated_in : (ℕ → Option TableColumn) → Expression → List Equated
+equated_in origins (Column c) = []
+equated_in origins (Literal v kind) = []
+equated_in origins (Negate a) = []
+equated_in origins (Arithmetic o a b) = []
+equated_in origins (Compare o a b) = equated_by o origins (side_of a) (side_of b)
+equated_in origins (Not a) = []
+equated_in origins (And a b) = equated_in origins b ++ equated_in origins a
+equated_in origins (Or a b) = []
+equated_in origins (IsNull a) = []
+equated_in origins (IsNotNull a) = []
+equated_in origins (Case k a b c) = []
+
+-- ---- in a plan
+
+-- what is found in a Join's condition, if it has one
+abbrev pub in_join : {X : Type 0} → ((ℕ → Option TableColumn) → Expression → List X) → (ℕ → Option TableColumn) → Option Expression → List X
+in_join f origins None = []
+in_join f origins (Some condition) = f origins condition
+
+-- what is found in the conditions of all Filters and Joins by the origins of their columns, the nodes in postorder
+abbrev pub in_conditions : {X : Type 0} → ((ℕ → Option TableColumn) → Expression → List X) → PlanTree → List X
+in_conditions f (Scan table columns) = []
+in_conditions f (Join condition left right) = (in_conditions f left ++ in_conditions f right) ++ in_join f (origin (Join condition left right)) condition
+in_conditions f (Filter condition input) = in_conditions f input ++ f (origin input) condition
+in_conditions f (Map outputs input) = in_conditions f input
+in_conditions f (Group g input) = in_conditions f input
+in_conditions f (Window w input) = in_conditions f input
+in_conditions f (Distinct input) = in_conditions f input
+in_conditions f (Limit limit input) = in_conditions f input
+
 abbrev pub compared : PlanTree → List Compared
-compared (Scan table columns) = []
-compared (Join condition left right) = (compared left ++ compared right) ++ compared_in_join (origin (Join condition left right)) condition
-compared (Filter condition input) = compared input ++ compared_in (origin input) condition
-compared (Map outputs input) = compared input
-compared (Group g input) = compared input
-compared (Window w input) = compared input
-compared (Distinct input) = compared input
-compared (Limit limit input) = compared input
+compared plan = in_conditions compared_in plan
+
+abbrev pub equated : PlanTree → List Equated
+equated plan = in_conditions equated_in plan

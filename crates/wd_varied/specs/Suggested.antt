@@ -4,12 +4,13 @@ use Rattle.wd_value.specs.declared.value.Value.{Value}
 use Rattle.wd_value.specs.declared.value.ColumnType.{ColumnType}
 use Rattle.wd_schema.specs.Meets.{is_of_type}
 use Rattle.wd_plan.specs.Plans.{PlanTree}
-use Rattle.wd_varied.specs.Literals.{compared, literals}
+use Rattle.wd_varied.specs.Literals.{compared, equated, literals}
 use Rattle.wd_varied.specs.Values.{near, or_else, small}
-use Rattle.wd_varied.specs.declared.compared.Compared.{Compared}
+use Rattle.wd_varied.specs.declared.conditions.Compared.{Compared}
+use Rattle.wd_varied.specs.declared.conditions.Equated.{Equated}
 use Rattle.wd_varied.specs.declared.pools.Suggested.{Suggested}
 
--- so many literals of a plan are looked at
+-- so many literals, comparisons and equations of a plan are looked at
 abbrev pub most_literals : ℕ
 most_literals = 64
 
@@ -35,10 +36,27 @@ values_for table c kind ones = map (λ (one : Compared). one.value) (filter (is_
 abbrev pub pool_in : List Compared → List Value → ℕ → ℕ → ColumnType → List Value
 pool_in ones all table c kind = or_else (values_for table c kind ones) (filter (is_of_type kind) all)
 
-abbrev pub pool : PlanTree → ℕ → ℕ → ColumnType → List Value
-pool plan = pool_in (flat_map around (take most_literals (compared plan))) (all_near (take most_literals (literals plan)))
+-- ---- of a plan
 
--- found once for all columns
-pub record IsSuggested (plan : PlanTree) (s : Suggested) : Type 0 where
-  pub compared : s.compared.items ≡ flat_map around (take most_literals (compared plan))
-  pub all : s.all.items ≡ all_near (take most_literals (literals plan))
+-- what a plan suggests: the columns that are compared with literals, with these and with the values near them; columns that are equated;
+-- and all values
+pub record Hints : Type 0 where
+  pub exact : List Compared
+  pub near : List Compared
+  pub equated : List Equated
+  pub all : List Value
+
+abbrev pub hints : PlanTree → Hints
+hints plan = record {
+  exact = take most_literals (compared plan);
+  near = flat_map around (take most_literals (compared plan));
+  equated = take most_literals (equated plan);
+  all = all_near (take most_literals (literals plan));
+}
+
+-- what is found of a plan once for all its columns
+abbrev pub hints_of : Suggested → Hints
+hints_of s = record { exact = s.exact.items; near = s.near.items; equated = s.equated.items; all = s.all.items }
+
+abbrev pub IsSuggested : PlanTree → Suggested → Type 0
+IsSuggested plan s = hints_of s ≡ hints plan

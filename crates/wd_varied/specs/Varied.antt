@@ -1,10 +1,10 @@
 -- The candidates of a further search: tables of so many rows, filled as a number says.
-use Rattle.std.specs.Prelude.{◌≡◌, ℕ, ◌+◌, Bool, List, [], ◌∷◌, flat_map, map, length, take, if◌then◌else◌, Option}
+use Rattle.std.specs.Prelude.{◌≡◌, ℕ, ◌+◌, Bool, List, [], ◌∷◌, map, length, if◌then◌else◌, Option}
 use Rattle.wd_value.specs.declared.value.Value.{Value}
 use Rattle.wd_value.specs.Bags.{positions}
 use Rattle.wd_value.specs.Rows.{Instance, Row}
 use Rattle.wd_schema.specs.declared.table.Column.{Column}
-use Rattle.wd_schema.specs.Tables.{TableRule}
+use Rattle.wd_schema.specs.Tables.{KeyRule, TableRule}
 use Rattle.wd_plan.specs.Plans.{PlanTree}
 use Rattle.wd_facts.specs.Given.{table_rule}
 use Rattle.wd_candidates.specs.Candidates.{cell}
@@ -12,10 +12,11 @@ use Rattle.wd_candidates.specs.Fixed.{fixed_value}
 use Rattle.wd_candidates.specs.Origins.{is_scanned}
 use Rattle.wd_candidates.specs.Outlines.{IsOutline}
 use Rattle.wd_candidates.specs.declared.outline.Outline.{Outline}
-use Rattle.wd_varied.specs.Literals.{compared, literals}
-use Rattle.wd_varied.specs.Patterns.{FillingRule, drawn, filled, is_telling, pattern_by}
-use Rattle.wd_varied.specs.Suggested.{IsSuggested, all_near, around, most_literals, pool_in}
-use Rattle.wd_varied.specs.declared.compared.Compared.{Compared}
+use Rattle.wd_varied.specs.Patterns.{FillingRule, drawn, filled, pattern_by}
+use Rattle.wd_varied.specs.Places.{differs, source, suggestions}
+use Rattle.wd_varied.specs.Suggested.{Hints, IsSuggested, hints, pool_in}
+use Rattle.wd_varied.specs.declared.conditions.Compared.{Compared}
+use Rattle.wd_varied.specs.declared.place.Place.{Place}
 use Rattle.wd_varied.specs.declared.pools.Suggested.{Suggested}
 
 -- what a function of a place and an element gives for each element, the first of which has this place
@@ -23,21 +24,21 @@ abbrev pub by_place : {X Y : Type 0} → (ℕ → X → Y) → ℕ → List X �
 by_place f c [] = []
 by_place f c (x ∷ xs) = f c x ∷ by_place f (c + 1) xs
 
--- how a column of a table is filled, by what is drawn for it
-abbrev pub filling_by : List Compared → List Value → ℕ → Bool → ℕ → Column → ℕ → FillingRule
-filling_by ones all table telling c column d = record {
-  pattern = pattern_by telling column d;
+-- how a column is filled as one at a place: by what is drawn for that one, and with the values that are suggested for it
+abbrev pub filled_as : List Compared → List Value → ℕ → ℕ → Bool → Column → Place → FillingRule
+filled_as ones all rows number differ column p = record {
+  pattern = pattern_by differ column (drawn rows number p.table p.column);
   kind = column.kind;
-  pool = pool_in ones all table c column.kind;
+  pool = pool_in ones all p.table p.column column.kind;
 }
 
--- how it is in the try with a number, where the table has so many rows
-abbrev pub filling : List Compared → List Value → ℕ → ℕ → ℕ → Bool → ℕ → Column → FillingRule
-filling ones all table rows number telling c column = filling_by ones all table telling c column (drawn rows number table c)
+-- how a column of a table of so many rows is filled in the try with a number
+abbrev pub filling : Hints → List KeyRule → ℕ → ℕ → Column → Place → FillingRule
+filling h keys rows number column p = filled_as (suggestions h number) h.all rows number (differs h keys number p) column (source h number p)
 
 -- how all its columns are
-abbrev pub fillings : List Compared → List Value → TableRule → ℕ → ℕ → ℕ → List FillingRule
-fillings ones all rule table rows number = by_place (λ c column. filling ones all table rows number (is_telling number c rule.keys) c column) 0 rule.columns
+abbrev pub fillings : Hints → TableRule → ℕ → ℕ → ℕ → List FillingRule
+fillings h rule table rows number = by_place (λ c column. filling h rule.keys rows number column (record { table = table; column = c })) 0 rule.columns
 
 -- the row with a number, of so many; a column that is fixed has that value in every row
 abbrev pub filled_row : (ℕ → Option Value) → List FillingRule → ℕ → ℕ → Row
@@ -48,12 +49,12 @@ abbrev pub rows_in : Bool → (ℕ → Option Value) → List FillingRule → �
 rows_in scanned fixed fs rows = if scanned then map (filled_row fixed fs rows) (positions rows) else []
 
 -- the rows of each table, in order of declaration, by the values that are suggested
-abbrev pub varied_by : List Compared → List Value → List TableRule → PlanTree → ℕ → ℕ → Instance
-varied_by ones all tables plan rows number = map (λ t. rows_in (is_scanned plan t) (fixed_value (table_rule tables t).columns plan t) (fillings ones all (table_rule tables t) t rows number) rows) (positions (length tables))
+abbrev pub varied_by : Hints → List TableRule → PlanTree → ℕ → ℕ → Instance
+varied_by h tables plan rows number = map (λ t. rows_in (is_scanned plan t) (fixed_value (table_rule tables t).columns plan t) (fillings h (table_rule tables t) t rows number) rows) (positions (length tables))
 
--- tables of so many rows in the try with a number, by what the literals of the plan suggest
+-- tables of so many rows in the try with a number, by what the plan suggests
 abbrev pub varied : List TableRule → PlanTree → ℕ → ℕ → Instance
-varied tables plan = varied_by (flat_map around (take most_literals (compared plan))) (all_near (take most_literals (literals plan))) tables plan
+varied tables plan = varied_by (hints plan) tables plan
 
 -- the instance is this one, of each plan to which the two findings belong
 abbrev pub IsVaried : List TableRule → Outline → Suggested → ℕ → ℕ → Instance → Type 0

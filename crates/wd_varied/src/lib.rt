@@ -1,18 +1,20 @@
 //! The candidates of a further search for a witness: tables of two rows and more, whose columns hold the same value in all rows,
-//! differ from row to row or tie in part, with values that the query's own literals suggest.
+//! differ from row to row or tie in part, with values that the query's own literals suggest. Half of them are made to meet the query's
+//! conditions: columns that it equates hold the same values, and a column that it compares with literals holds these.
 #![tactic(auto)]
 
-mod compared;
+mod conditions;
 mod literals;
 mod near;
 mod patterns;
+mod place;
 mod pools;
 mod size;
 mod suggested;
 mod tables;
 mod work;
 
-pub use compared::Compared;
+pub use conditions::{Compared, Equated};
 pub use pools::Suggested;
 pub use size::{paired, sizes};
 pub use suggested::suggested_by;

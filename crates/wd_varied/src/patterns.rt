@@ -1,7 +1,6 @@
 //! How the rows of a column stand to one another.
 
-ghost use Rattle.std.specs.Prelude.{◌≡◌, ◌++◌, IfOk};
-ghost use Rattle.std.specs.List.{list_any};
+ghost use Rattle.std.specs.Prelude.{◌≡◌, ◌++◌, map, IfOk};
 ghost use Rattle.std.specs.String.{string_bytes};
 ghost use Rattle.wd_schema.specs.Tables.{key_of};
 ghost use Rattle.wd_varied.specs.Patterns.{filling_of};
@@ -45,7 +44,7 @@ pub(crate) struct Filling {
 
 /// Whether a key of a table is to tell rows apart by a column, in the try with a number.
 pub(crate) fn is_telling(keys: &[Key], column: usize, number: u32) -> bool
-    ensures { result ≡ list_any (λ key. spec.tells number column (key_of key)) keys.now }
+    ensures { result ≡ spec.is_telling number column (map key_of keys.now) }
 {
     for key in keys {
         if tells(key, column, number) {

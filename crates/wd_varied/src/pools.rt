@@ -5,16 +5,19 @@ ghost use Rattle.wd_schema.specs.Meets.{is_of_type as is_of};
 ghost use Rattle.wd_value.specs.declared.value.ColumnType.TheVariants.{SmallInt, Integer, BigInt, Text as TextType, Boolean as BooleanType};
 ghost use Rattle.wd_varied.specs.Patterns.{filling_of};
 
-use crate::compared::Compared;
+use crate::conditions::{Compared, Equated};
 use crate::patterns::Filling;
 use std::alloc::Global;
 use wd_schema::is_of_type;
 use wd_value::{ColumnType, OutOfMemory, Value};
 
-/// The values that the literals of a plan suggest: for the columns that its conditions compare with them, and for all others.
+/// What a plan suggests for the columns of tables: the literals with which its conditions compare a column, values near these, the
+/// columns that it equates, and values for all others.
 #[derive(Drop)]
 pub struct Suggested {
-    pub compared: Vec<Compared>,
+    pub exact: Vec<Compared>,
+    pub near: Vec<Compared>,
+    pub equated: Vec<Equated>,
     pub all: Vec<Value>,
     // Those of all that are of each type.
     small: Vec<Value>,
@@ -30,13 +33,17 @@ pub struct Suggested {
 }
 
 impl Suggested {
-    /// The values that comparisons with columns suggest, and those of all literals, parted by types.
+    /// What conditions suggest, and the values of all literals, parted by types.
     pub(crate) fn new(
         alloc: Global,
-        compared: Vec<Compared>,
+        exact: Vec<Compared>,
+        near: Vec<Compared>,
+        equated: Vec<Equated>,
         all: Vec<Value>,
     ) -> Result<Suggested, OutOfMemory>
-        ensures compared { IfOk result (λ s. s.compared.items ≡ compared.items) }
+        ensures exact { IfOk result (λ s. s.exact.items ≡ exact.items) }
+        ensures near { IfOk result (λ s. s.near.items ≡ near.items) }
+        ensures equated { IfOk result (λ s. s.equated.items ≡ equated.items) }
         ensures all { IfOk result (λ s. s.all.items ≡ all.items) }
     {
         let small = values_of(alloc, &all, ColumnType::SmallInt)?;
@@ -45,7 +52,9 @@ impl Suggested {
         let texts = values_of(alloc, &all, ColumnType::Text)?;
         let truths = values_of(alloc, &all, ColumnType::Boolean)?;
         Ok(Suggested {
-            compared,
+            exact,
+            near,
+            equated,
             all,
             small,
             whole,

@@ -7,7 +7,7 @@ ghost use Rattle.wd_varied.specs.Literals as literals;
 ghost use Rattle.wd_varied.specs.Suggested.{IsSuggested};
 ghost use Rattle.wd_varied.specs.Suggested as spec;
 
-use crate::compared::{Compared, add_compared};
+use crate::conditions::{Compared, Conditions, add_conditions};
 use crate::literals::add_literals;
 use crate::near::{near, small};
 use crate::pools::Suggested;
@@ -16,22 +16,30 @@ use wd_plan::Plan;
 use wd_schema::is_of_type;
 use wd_value::{ColumnType, OutOfMemory, Value};
 
-/// No more than so many literals of a plan are looked at.
+/// No more than so many literals, comparisons and equations of a plan are looked at.
 const MOST_LITERALS: usize = 64;
 
-/// What the literals of a plan suggest: themselves, and values near them.
+/// What a plan suggests for the columns of tables, by its literals and by the columns that it equates.
 pub fn suggested_by(alloc: Global, plan: &Plan) -> Result<Suggested, OutOfMemory>
     ensures { IfOk result (IsSuggested (plan_of plan.now)) }
 {
-    let mut found = Vec::new(alloc);
-    add_compared(alloc, plan, &mut found)?;
-    found.truncate(MOST_LITERALS);
+    let mut found = Conditions {
+        compared: Vec::new(alloc),
+        equated: Vec::new(alloc),
+    };
+    add_conditions(alloc, plan, &mut found)?;
+    let Conditions {
+        compared: mut exact,
+        mut equated,
+    } = found;
+    exact.truncate(MOST_LITERALS);
+    equated.truncate(MOST_LITERALS);
+    let near = all_around(alloc, &exact)?;
     let mut literals = Vec::new(alloc);
     add_literals(alloc, plan, &mut literals)?;
     literals.truncate(MOST_LITERALS);
-    let compared = all_around(alloc, &found)?;
     let all = all_near(alloc, &literals)?;
-    Suggested::new(alloc, compared, all)
+    Suggested::new(alloc, exact, near, equated, all)
 }
 
 /// A few small values, and those near some literals.

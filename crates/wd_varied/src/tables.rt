@@ -5,19 +5,21 @@ ghost use Rattle.wd_candidates.specs.Candidates.{cell as cell_of};
 ghost use Rattle.wd_candidates.specs.Outlines.{fixed_in, scanned_in};
 ghost use Rattle.wd_facts.specs.Given.{table_rule};
 ghost use Rattle.wd_schema.specs.Schemas.{schema_of};
-ghost use Rattle.wd_schema.specs.Tables.{table_of};
+ghost use Rattle.wd_schema.specs.Tables.{key_of, table_of};
 ghost use Rattle.wd_value.specs.Bags.{positions};
 ghost use Rattle.wd_value.specs.Rows.{instance_of, rows_of};
 ghost use Rattle.wd_varied.specs.Patterns.{filled as filled_by, filling_of};
+ghost use Rattle.wd_varied.specs.Suggested.{hints_of};
 ghost use Rattle.wd_varied.specs.Varied.{IsVaried};
 ghost use Rattle.wd_varied.specs.Varied as spec;
 
-use crate::patterns::{Filling, drawn, filled, is_telling, pattern_of};
+use crate::patterns::{Filling, drawn, filled, pattern_of};
+use crate::place::{Place, differs, source, suggestions};
 use crate::pools::Suggested;
 use crate::suggested::values_for;
 use std::alloc::Global;
 use wd_candidates::{Outline, fixed_at, fixed_columns, is_marked};
-use wd_schema::{Column, Schema, Table};
+use wd_schema::{Column, Key, Schema, Table};
 use wd_value::{Instance, OutOfMemory, Row, Value};
 
 /// The instance in which each table that the plan scans has so many rows, its columns filled as the number says, and the others have
@@ -51,7 +53,7 @@ fn rows_of_table(
     number: u32,
 ) -> Result<Vec<Row>, OutOfMemory>
     requires { at < length schema.now.tables.entries }
-    ensures { IfOk result (λ v. rows_of v.items ≡ spec.rows_in (scanned_in outline.now at) (fixed_in outline.now at) (spec.fillings suggested.now.compared.items suggested.now.all.items (table_rule (schema_of schema.now) at) at rows number) rows) }
+    ensures { IfOk result (λ v. rows_of v.items ≡ spec.rows_in (scanned_in outline.now at) (fixed_in outline.now at) (spec.fillings (hints_of suggested.now) (table_rule (schema_of schema.now) at) at rows number) rows) }
 {
     match schema.tables.get_index(at) {
         Some((_, table)) if is_marked(&outline.scanned, at) => {
@@ -77,13 +79,16 @@ fn fillings(
     rows: u32,
     number: u32,
 ) -> Result<Vec<Filling>, OutOfMemory>
-    ensures { IfOk result (λ v. map (filling_of suggested.now.all.items) v.items ≡ spec.fillings suggested.now.compared.items suggested.now.all.items (table_of table.now) at rows number) }
+    ensures { IfOk result (λ v. map (filling_of suggested.now.all.items) v.items ≡ spec.fillings (hints_of suggested.now) (table_of table.now) at rows number) }
 {
     let mut fillings = Vec::with_capacity(alloc, table.columns.len())?;
     for c in 0..table.columns.len() {
-        let telling = is_telling(&table.keys, c, number);
-        let drawn = drawn(rows, number, at, c);
-        let filling = filling(alloc, suggested, at, c, &table.columns[c], telling, drawn)?;
+        let place = Place {
+            table: at,
+            column: c,
+        };
+        let column = &table.columns[c];
+        let filling = filling(alloc, suggested, &table.keys, rows, number, column, place)?;
         fillings.push(filling)?;
     }
     Ok(fillings)
@@ -93,18 +98,21 @@ fn fillings(
 fn filling(
     alloc: Global,
     suggested: &Suggested,
-    table: usize,
-    at: usize,
+    keys: &[Key],
+    rows: u32,
+    number: u32,
     column: &Column,
-    telling: bool,
-    drawn: u64,
+    place: Place,
 ) -> Result<Filling, OutOfMemory>
-    ensures { IfOk result (λ f. filling_of suggested.now.all.items f ≡ spec.filling_by suggested.now.compared.items suggested.now.all.items table telling at column.now drawn) }
+    ensures { IfOk result (λ f. filling_of suggested.now.all.items f ≡ spec.filling (hints_of suggested.now) (map key_of keys.now) rows number column.now place) }
 {
-    let pattern = pattern_of(drawn, column, telling);
-    let own = values_for(alloc, &suggested.compared, table, at, column.kind)?;
+    let differs = differs(suggested, keys, number, place);
+    let source = source(suggested, number, place);
+    let drawn = drawn(rows, number, source.table, source.column);
+    let suggestions = suggestions(suggested, number);
+    let own = values_for(alloc, suggestions, source.table, source.column, column.kind)?;
     Ok(Filling {
-        pattern,
+        pattern: pattern_of(drawn, column, differs),
         kind: column.kind,
         own,
     })

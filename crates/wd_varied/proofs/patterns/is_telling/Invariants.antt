@@ -1,8 +1,7 @@
-use Rattle.std.proofs.Common.{◌≡◌, drop}
-use Rattle.std.specs.List.{list_any}
+use Rattle.std.proofs.Common.{◌≡◌, drop, map}
 use Rattle.wd_schema.specs.Tables.{key_of}
-use Rattle.wd_varied.specs.Patterns.{tells}
+use Rattle.wd_varied.specs.Patterns.{is_telling}
 use Rattle.wd_varied.proofs.patterns.is_telling.Given as goal
 
 abbrev pub invariant-loop-key : goal.invariant-loop-key
-invariant-loop-key l = list_any (λ key. tells l.number l.column (key_of key)) (drop l.key-index l.keys) ≡ list_any (λ key. tells l.number l.column (key_of key)) l.keys
+invariant-loop-key l = is_telling l.number l.column (map key_of (drop l.key-index l.keys)) ≡ is_telling l.number l.column (map key_of l.keys)

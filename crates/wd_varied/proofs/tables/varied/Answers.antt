@@ -6,6 +6,7 @@ use Rattle.wd_schema.specs.Schemas.{schema_of}
 use Rattle.wd_value.specs.Rows.{Row, instance_of, rows_of}
 use Rattle.wd_facts.specs.Given.{table_rule}
 use Rattle.wd_candidates.specs.Outlines.{fixed_in, scanned_in}
+use Rattle.wd_varied.specs.Suggested.{hints_of}
 use Rattle.wd_varied.specs.Varied.{fillings, rows_in}
 use Rattle.wd_varied.proofs.Places.{varied_found}
 use Rattle.wd_varied.proofs.tables.varied.Goals as goal
@@ -13,7 +14,7 @@ use Rattle.wd_varied.proofs.tables.varied.Goals as goal
 pub loop-table-preserved : goal.loop-table-preserved
 loop-table-preserved c =
     let s = c.args.suggested.now in
-    let f : ℕ → List Row = λ t. rows_in (scanned_in c.args.outline.now t) (fixed_in c.args.outline.now t) (fillings s.compared.items s.all.items (table_rule (schema_of c.args.schema.now) t) t c.args.rows c.args.number) c.args.rows in
+    let f : ℕ → List Row = λ t. rows_in (scanned_in c.args.outline.now t) (fixed_in c.args.outline.now t) (fillings (hints_of s) (table_rule (schema_of c.args.schema.now) t) t c.args.rows c.args.number) c.args.rows in
     let i = c.loop-table.table in
     let rows : rows_of c.in_ok-made.made.items ≡ f i = search rules in
     let pushed = c.in_ok-push.ensures.items in
@@ -24,5 +25,5 @@ returns c =
     let tables = schema_of c.args.schema.now in
     let s = c.args.suggested.now in
     let all : c.loop-table.table ≡ length tables = rw length-map (search rules) in
-    let f : ℕ → List Row = λ t. rows_in (scanned_in c.args.outline.now t) (fixed_in c.args.outline.now t) (fillings s.compared.items s.all.items (table_rule tables t) t c.args.rows c.args.number) c.args.rows in
+    let f : ℕ → List Row = λ t. rows_in (scanned_in c.args.outline.now t) (fixed_in c.args.outline.now t) (fillings (hints_of s) (table_rule tables t) t c.args.rows c.args.number) c.args.rows in
     varied_found tables c.args.outline.now s c.args.rows c.args.number (instance_of c.loop-table.instance.items) (c.loop-table.invariant ∙ ap (λ n. map f (range_with_len 0 n)) all)
