@@ -10,6 +10,7 @@ use Rattle.wd_lex.specs.Lexed.{most_bytes}
 use Rattle.wd_respell.specs.Respelled.{CountsUnits, IsRespelledAs}
 use Rattle.wd_schema.specs.Tables.{TableRule}
 use Rattle.wd_schema.specs.Texts.{Declares}
+use Rattle.wd_source.specs.Statements.{AreStatements}
 
 -- the text of the statement that stands there
 abbrev pub statement_of : List ℕ → Span → List ℕ
@@ -43,6 +44,12 @@ pub record IsRespelledAt (statements : List Statement) (schema text : List ℕ) 
 -- a query is left as it is only where the profile refuses it, or none of its numbers counts units
 abbrev pub IsLeft : List Statement → List ℕ → List ℕ → Type 0
 IsLeft statements schema query = CountsUnits statements query → IsRefused schema query
+
+-- each statement of a text is left so
+pub record AreLeft (statements : List Statement) (schema text : List ℕ) : Type 0 where
+  pub spans : List Span
+  pub are : AreStatements text spans
+  pub each : All (λ span. IsLeft statements schema (statement_of text span)) spans
 
 -- this is the text with at least one of its statements respelled, and all else as it was, byte for byte
 pub record IsRespelledText (statements : List Statement) (schema text after : List ℕ) : Type 0 where

@@ -1,11 +1,12 @@
 //! The text over which the queries of a file are judged.
 
-ghost use Rattle.std.specs.Prelude.{◌≡◌, ◌≤◌, All, IfOk, IfSome, IsNone, length, map};
+ghost use Rattle.std.specs.Prelude.{◌≡◌, ◌≤◌, [], All, IfNone, IfOk, IfSome, IsNone, List, length, map};
 ghost use Rattle.wd_fix.specs.Fixes.{span_of};
 ghost use Rattle.wd_query.specs.Causes.{HasTextCause};
-ghost use Rattle.wd_query_front.specs.Fronts.{IsLeft, IsPut, IsRespelledAt, IsRespelledText, IsTooLong, statement_of};
+ghost use Rattle.wd_query_front.specs.Fronts.{AreLeft, IsLeft, IsPut, IsRespelledAt, IsRespelledText, IsTooLong, statement_of};
 ghost use Rattle.wd_respell.specs.Respelled.{CountsUnits, IsRespelledAs};
 ghost use Rattle.wd_schema.specs.Schemas.{schema_of};
+ghost use Rattle.wd_schema.specs.Tables.{TableRule};
 ghost use Rattle.wd_schema.specs.Texts.{Declares};
 ghost use Rattle.wd_source.specs.Statements.{StandInOrder};
 
@@ -15,7 +16,7 @@ use wd_fix::{Fix, fixed_text};
 use wd_lex::{Span, Token, TokenKind};
 use wd_query::{TextError, read_texts};
 use wd_respell::{Respelled, counts_units, respell};
-use wd_schema::{Schema, SchemaError, read_schema};
+use wd_schema::{Schema, read_schema};
 use wd_source::statements;
 use wd_value::OutOfMemory;
 
@@ -32,18 +33,22 @@ pub struct RespelledText {
 
 /// The text of a file in which each statement that the profile refuses over a schema, or whose numbers count units, stands as the
 /// equations respell it, where there is such a statement. What its columns count is known by what statements of PostgreSQL's declare.
+/// None where there is none, or the schema's text is refused; a query that would be read amiss as it stands is never left.
 pub fn respelled_text(
     alloc: Global,
     declared: &[Statement],
     schema: &[u8],
     text: &[u8],
 ) -> Result<Option<RespelledText>, OutOfMemory>
-    ensures { IfOk result (λ o. IfSome o (λ r. IsRespelledText declared.now schema.now text.now r.text.items)) }
+    ensures respelled { IfOk result (λ o. IfSome o (λ r. IsRespelledText declared.now schema.now text.now r.text.items)) }
+    ensures left { IfOk result (λ o. IfNone o ((tables : List TableRule) → Declares schema.now tables → AreLeft declared.now schema.now text.now)) }
 {
     match read_schema(alloc, schema) {
         Ok(tables) => respelled_over(alloc, declared, schema, &tables, text),
-        Err(SchemaError::OutOfMemory) => Err(OutOfMemory),
-        Err(_) => Ok(None),
+        Err(error) => match error.number() {
+            Some(_) => Ok(None),
+            None => Err(OutOfMemory),
+        },
     }
 }
 
@@ -56,7 +61,8 @@ fn respelled_over(
     text: &[u8],
 ) -> Result<Option<RespelledText>, OutOfMemory>
     requires { Declares schema.now (schema_of tables.now) }
-    ensures { IfOk result (λ o. IfSome o (λ r. IsRespelledText declared.now schema.now text.now r.text.items)) }
+    ensures respelled { IfOk result (λ o. IfSome o (λ r. IsRespelledText declared.now schema.now text.now r.text.items)) }
+    ensures left { IfOk result (λ o. IfNone o (AreLeft declared.now schema.now text.now)) }
 {
     let mut notes = Vec::new(alloc);
     let spans = statements(alloc, text)?;
@@ -82,6 +88,7 @@ fn respelled_statements(
     requires order { StandInOrder 0 spans.now (length text.now) }
     ensures order { IfOk result (λ fixes. StandInOrder 0 (map span_of fixes.items) (length text.now)) }
     ensures each { IfOk result (λ fixes. All (IsRespelledAt declared.now schema.now text.now) fixes.items) }
+    ensures left { IfOk result (λ fixes. fixes.items ≡ [] → All (λ span. IsLeft declared.now schema.now (statement_of text.now span)) spans.now) }
 {
     let mut fixes = Vec::new(alloc);
     for span in spans {
