@@ -8,7 +8,8 @@ First come the searches, by `check`: eight tables joined to all their pairs of r
 takes nothing stands on top, so that no two outcomes differ and the search goes on to its end. In the first the limit alone is
 open, which is 18 evaluations; in the second there are calls enough for 2,000, a third of them over four rows in each table. Then
 come the witnesses, by `refute`: three tables of 64 rows, joined to 262,144 rows, in which two rows differ, and four, the fourth
-of 38 rows, joined to 9,961,472, near the most that a step may have. Prints the seconds and the most memory of one run each.
+of 38 rows, joined to 9,961,472, near the most that a step may have. Of these the last choices are 170 MB of text; in the others, of
+3 and 4 KB, the rows of one table are numbered before they are joined, and the answer has 5 and 17 columns. Prints the seconds and the most memory of one run each.
 PROGRAM is the built program (default: crates/wdcheck/out/wdcheck, which ./wdcheck builds). With --write the texts are written to
 a folder in place of that.
 """
@@ -45,12 +46,29 @@ def witness_texts(sizes):
     return {"schema.sql": schema, "query.sql": query, "witness.json": json.dumps({"first": [first], "second": [second], "tables": tables}, separators=(",", ":"))}
 
 
+def numbered_texts(sizes, columns):
+    """The same over tables with so many columns, where the rows of the first are numbered before they are joined: few bytes of choices."""
+    names = ["t%d" % n for n in range(len(sizes))]
+    own = ["id"] + ["v%d" % n for n in range(1, columns)]
+    whole = ", ".join(["id BIGINT PRIMARY KEY"] + ["%s BIGINT" % it for it in own[1:]])
+    schema = "".join("CREATE TABLE %s (%s);\n" % (name, whole) for name in names)
+    items = ["a.n"] + ["%s.%s" % (table, it) for table in ["a"] + names[1:] for it in own]
+    numbered = "(SELECT %s, ROW_NUMBER() OVER (ORDER BY 0 * id) AS n FROM t0) AS a" % ", ".join(own)
+    query = "SELECT %s FROM %s\n" % (", ".join(items), ", ".join([numbered] + names[1:]))
+    first = list(range(sizes[0]))
+    second = [1, 0] + first[2:]
+    tables = {name: [[n] + [n % 3] * (columns - 1) for n in range(size)] for name, size in zip(names, sizes)}
+    return {"schema.sql": schema, "query.sql": query, "witness.json": json.dumps({"first": [first], "second": [second], "tables": tables}, separators=(",", ":"))}
+
+
 def all_texts():
     """What is run: a title, the command, the statuses allowed, and the texts."""
     yield "18 evaluations", "check", (2,), search_texts(0)
     yield "2,000 evaluations", "check", (2,), search_texts(CALLS)
     yield "262,144 rows", "refute", (1,), witness_texts([ROWS] * 3)
     yield "9,961,472 rows", "refute", (1,), witness_texts([ROWS] * 3 + [LAST_ROWS])
+    yield "9,961,472 rows of 5 columns", "refute", (1,), numbered_texts([ROWS] * 3 + [LAST_ROWS], 1)
+    yield "9,961,472 rows of 17 columns", "refute", (1,), numbered_texts([ROWS] * 3 + [LAST_ROWS], 4)
 
 
 def write(folder, texts):
