@@ -121,16 +121,15 @@ pub fn item_at<'t>(known: &[NameUse], tokens: &'t [Token]) -> Option<Item<'t>>
     let Some((operand, rest)) = operand_at(tokens) else {
         return None;
     };
-    let Some(unit) = unit_of(known, operand) else {
+    if !ends_item(rest) || !holds_amount(operand) {
         return None;
-    };
-    if is_moment(unit) && ends_item(rest) && holds_amount(operand) {
-        Some(Item {
+    }
+    match unit_of(known, operand) {
+        Some(unit) if is_moment(unit) => Some(Item {
             operand,
             unit,
             rest,
-        })
-    } else {
-        None
+        }),
+        _ => None,
     }
 }

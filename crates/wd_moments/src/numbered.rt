@@ -183,9 +183,10 @@ fn numbered(alloc: Global, known: &[NameUse], tokens: &[Token]) -> Result<Vec<To
 
 /// The tokens of a query with numbers in place of the literals of moments, where they are compared with what is known to count the
 /// same unit: days, microseconds of a moment, or microseconds between two moments; and where an operand that counts a moment stands by
-/// itself after SELECT, DISTINCT, BY or a comma. A number has the place of the literal's first word. A number that is compared with a decimal, or a term of what is, becomes so many units of the decimal's last place. In place
-/// of the first operator that has no equation in whole numbers, as a product of decimals, stands a word that the profile refuses. It
-/// refuses with `TooLong` where the result has more than 65,536 tokens.
+/// itself after SELECT, DISTINCT, BY or a comma. A number has the place of the literal's first word. A number that is compared with a
+/// decimal, or a term of what is, becomes so many units of the decimal's last place. In place of the first operator that has no equation
+/// in whole numbers, as a product of decimals, stands a word that the profile refuses. It refuses with `TooLong` where the result has
+/// more than 65,536 tokens.
 #[tactic(auto, unfolding(crate::specs::Numbered::with_numbers))]
 pub fn with_numbers(
     alloc: Global,
