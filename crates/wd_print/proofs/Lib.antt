@@ -1,3 +1,4 @@
 pub mod TerminalFacts
 pub mod DoubledFacts
+pub mod NumberFacts
 pub mod PrintedFacts

@@ -1,5 +1,5 @@
 -- Printed tokens are read as just these.
-use Rattle.std.proofs.Common.{◌≡◌, ℕ, ◌+◌, ◌<◌, true, false, nat_eq, ◌&&◌, List, [], ◌∷◌, ◌++◌, length, drop, take, Some, All, refl, sym, ap, ◌∙◌, subst, arith, lit<, append_assoc, append-nil}
+use Rattle.std.proofs.Common.{◌≡◌, ℕ, ◌+◌, ◌<◌, ◌≤◌, true, false, nat_eq, ◌&&◌, List, [], ◌∷◌, ◌++◌, length, drop, take, decimal, Some, All, refl, sym, ap, ◌∙◌, subst, arith, lit<, append_assoc, append-nil}
 use Rattle.std.proofs.lemmas.Bool.{cond-false}
 use Rattle.std.proofs.lemmas.Bool.Decides.{nat_tests}
 use Rattle.std.proofs.lemmas.List.Elements.{All-head, All-tail}
@@ -11,12 +11,13 @@ use Rattle.wd_lex.specs.declared.token.TokenKind.{TokenKind}
 use Rattle.wd_lex.specs.declared.token.TokenKind.TheVariants as k
 use Rattle.wd_lex.specs.Characters.{is_blank, begins_word, goes_on_word}
 use Rattle.wd_lex.specs.Lexed.{byte_order_mark, kinds_of, start_of, token_before, tokens_from}
-use Rattle.wd_lex.specs.Pieces.{Piece, Blanks, ArePieces, IsRunOf, Stands, kind_of, spelling, spellings, word_kind}
+use Rattle.wd_lex.specs.Pieces.{Piece, Blanks, ArePieces, IsRunOf, Stands, greatest_number, kind_of, spelling, spellings, word_kind}
 use Rattle.wd_lex.specs.Terminals.{lookup, reserved_words}
 use Rattle.wd_lex.proofs.KindFacts.{kind_blanks, kind_name, kind_text}
 use Rattle.wd_lex.proofs.Longest.{blanks_longest, name_longest, text_longest}
 use Rattle.wd_lex.proofs.RunFacts.{Stops}
 use Rattle.wd_print.specs.Printed.{IsPrintable, PrintedIsRead, gap, gap_after, piece_of, printed}
+use Rattle.wd_print.proofs.NumberFacts.{digits_first, digits_stand, digits_stop, number_is, number_run}
 use Rattle.wd_print.proofs.TerminalFacts.{BeginsInAscii, terminal_good, word_stands}
 
 -- a token's piece, which its white space ends, and which is no white space
@@ -57,7 +58,11 @@ piece_good (k.Literal text) rest printable = record {
   kind_is = refl;
   stops = λ more. refl;
 }
-piece_good (k.Number number) rest printable = absurd printable
+piece_good (k.Number number) rest printable = let run = number_run number printable in record {
+  stands = digits_stand (decimal number) rest run (subst (λ n. n ≤ greatest_number) (sym (number_is number printable)) printable);
+  kind_is = ap (λ n. Some (k.Number n)) (number_is number printable);
+  stops = λ more. digits_stop (decimal number) more run;
+}
 
 -- the white space after a terminal
 terminal_gap : (terminal : Terminal) → is_blank (gap_after terminal) ≡ true
@@ -184,7 +189,7 @@ first_of (k.Word (b ∷ word)) more printable = word_byte b printable.run.0
 first_of (k.Word []) more printable = absurd printable.run
 first_of (k.Quoted name) more printable = lit< tt
 first_of (k.Literal text) more printable = lit< tt
-first_of (k.Number number) more printable = absurd printable
+first_of (k.Number number) more printable = digits_first (decimal number) more (number_run number printable)
 
 no_mark_first : (text : List ℕ) → BeginsInAscii text → start_of text ≡ 0
 no_mark_first [] first = refl

@@ -1,5 +1,5 @@
 -- Tokens as this project prints them: each in its own spelling, and white space after it.
-use Rattle.std.specs.Prelude.{◌≡◌, ℕ, ◌<◌, codes, List, [], ◌∷◌, ◌++◌, map, length, None, All, ⊤}
+use Rattle.std.specs.Prelude.{◌≡◌, ℕ, ◌<◌, ◌≤◌, codes, decimal, List, [], ◌∷◌, ◌++◌, map, length, None, All, ⊤}
 use Rattle.std.specs.Char.{to_ascii_lowercase}
 use Rattle.std.specs.List.{flat_map}
 use Rattle.wd_lex.specs.declared.token.Terminal.{Terminal}
@@ -9,7 +9,7 @@ use Rattle.wd_lex.specs.declared.token.TokenKind.{TokenKind}
 use Rattle.wd_lex.specs.declared.token.TokenKind.TheVariants as k
 use Rattle.wd_lex.specs.Characters.{begins_word, goes_on_word}
 use Rattle.wd_lex.specs.Lexed.{IsLexed, IsReadable, kinds_of}
-use Rattle.wd_lex.specs.Pieces.{Piece, Word, Number, QuotedName, QuotedText, Symbol, IsRunOf, spelling}
+use Rattle.wd_lex.specs.Pieces.{Piece, Word, Number, QuotedName, QuotedText, Symbol, IsRunOf, greatest_number, spelling}
 use Rattle.wd_lex.specs.Terminals.{lookup, reserved_words}
 
 -- a reserved word in capitals, or a symbol
@@ -89,7 +89,7 @@ piece_of (k.Terminal terminal) = terminal_piece terminal
 piece_of (k.Word word) = Word word
 piece_of (k.Quoted name) = QuotedName name
 piece_of (k.Literal text) = QuotedText text
-piece_of (k.Number number) = Number []
+piece_of (k.Number number) = Number (decimal number)
 
 -- what stands after a terminal: the line ends after a comma or a semicolon; after others a blank stands
 unfoldable pub gap_after : Terminal → ℕ
@@ -114,13 +114,13 @@ pub record IsPlainWord (word : List ℕ) : Type 0 where
   pub lower : map to_ascii_lowercase word ≡ word
   pub free : lookup reserved_words word ≡ None
 
--- a token that has a spelling of its own: numbers are not printed
+-- a token that has a spelling: a word in lower case that is not reserved, a name that is not empty, a number that the lexer reads
 abbrev pub IsPrintable : TokenKind → Type 0
 IsPrintable (k.Terminal terminal) = ⊤
 IsPrintable (k.Word word) = IsPlainWord word
 IsPrintable (k.Quoted name) = 0 < length name
 IsPrintable (k.Literal text) = ⊤
-IsPrintable (k.Number number) = ⊥
+IsPrintable (k.Number number) = number ≤ greatest_number
 
 -- these are the tokens that the text has
 pub record HasTokens (text : List ℕ) (kinds : List TokenKind) : Type 0 where

@@ -5,4 +5,4 @@ pub mod laws;
 mod print;
 mod terminals;
 
-pub use print::{push_literal, push_name, push_terminal, push_word};
+pub use print::{push_literal, push_name, push_number, push_terminal, push_word};

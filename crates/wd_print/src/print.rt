@@ -8,6 +8,7 @@ ghost use Rattle.wd_print.specs.Printed.{printed_token};
 
 use crate::terminals::{gap, letters};
 use std::alloc::AllocError;
+use std::fmt::Write;
 use wd_lex::Terminal;
 
 /// Prints a reserved word or a symbol.
@@ -85,6 +86,25 @@ fn add_literal(text: &mut String, literal: &str) -> Result<(), AllocError>
     text.push('\'')?;
     push_doubled(text, '\'', literal)?;
     text.push_str("' ")?;
+    Ok(())
+}
+
+/// Prints a number, in decimal digits.
+pub fn push_number(text: &mut String, number: u64) -> Result<(), AllocError>
+    ensures printed { OnOk result (string_bytes text.new ≡ string_bytes text.old ++ printed_token (TokenKind.Number number)) }
+    ensures kept { OnErr result (string_bytes text.new ≡ string_bytes text.old) }
+{
+    let mut token = String::new(*text.allocator());
+    add_number(&mut token, number)?;
+    text.push_str(token.as_str())
+}
+
+/// Adds it to the text of a token.
+fn add_number(text: &mut String, number: u64) -> Result<(), AllocError>
+    ensures { OnOk result (string_bytes text.new ≡ string_bytes text.old ++ printed_token (TokenKind.Number number)) }
+{
+    write!(text, "{number}")?;
+    text.push(' ')?;
     Ok(())
 }
 

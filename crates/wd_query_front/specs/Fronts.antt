@@ -4,9 +4,11 @@ use Rattle.wd_dialect_read.specs.declared.said.Statement.{Statement}
 use Rattle.wd_fix.specs.Fixes.{IsFixed}
 use Rattle.wd_fix.specs.declared.fix.Fix.{Fix}
 use Rattle.wd_query.specs.Causes.{HasTextCause, text_number}
+use Rattle.wd_query.specs.Laws.{HaveMeaning}
 use Rattle.wd_query.specs.declared.error.TextError.{TextError}
 use Rattle.wd_lex.specs.declared.token.Span.{Span}
 use Rattle.wd_lex.specs.Lexed.{most_bytes}
+use Rattle.wd_respell.specs.Respelled as respelled
 use Rattle.wd_respell.specs.Respelled.{CountsUnits, IsRespelledAs}
 use Rattle.wd_schema.specs.Tables.{TableRule}
 use Rattle.wd_schema.specs.Texts.{Declares}
@@ -41,15 +43,27 @@ pub record IsRespelledAt (statements : List Statement) (schema text : List ℕ) 
   pub declared : Declares schema tables
   pub put : IsPut tables statements (statement_of text fix.span) fix.text.items
 
--- a query is left as it is only where the profile refuses it, or none of its numbers counts units
-abbrev pub IsLeft : List Statement → List ℕ → List ℕ → Type 0
-IsLeft statements schema query = CountsUnits statements query → IsRefused schema query
+-- the profile reads the query over this schema, and none of its numbers counts units
+pub record IsReadAsItStands (statements : List Statement) (schema query : List ℕ) : Type 0 where
+  pub read : HaveMeaning schema query
+  pub units : ¬ (CountsUnits statements query)
 
--- each statement of a text is left so
+-- the profile refuses the query over this schema, and it cannot be respelled over these tables
+pub record IsRefusedForGood (tables : List TableRule) (statements : List Statement) (schema query : List ℕ) : Type 0 where
+  pub refused : IsRefused schema query
+  pub left : respelled.IsLeft tables statements query
+
+-- a query is left as it is only where the profile reads it as it stands, or nothing else is to be read
+abbrev pub IsLeft : List TableRule → List Statement → List ℕ → List ℕ → Type 0
+IsLeft tables statements schema query = IsReadAsItStands statements schema query ⊎ IsRefusedForGood tables statements schema query
+
+-- each statement of a text is left so, over the tables that the schema declares
 pub record AreLeft (statements : List Statement) (schema text : List ℕ) : Type 0 where
+  pub tables : List TableRule
+  pub declared : Declares schema tables
   pub spans : List Span
   pub are : AreStatements text spans
-  pub each : All (λ span. IsLeft statements schema (statement_of text span)) spans
+  pub each : All (λ span. IsLeft tables statements schema (statement_of text span)) spans
 
 -- this is the text with at least one of its statements respelled, and all else as it was, byte for byte
 pub record IsRespelledText (statements : List Statement) (schema text after : List ℕ) : Type 0 where

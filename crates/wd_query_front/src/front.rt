@@ -4,6 +4,8 @@ ghost use Rattle.std.specs.Prelude.{◌≡◌, ◌≤◌, [], All, IfNone, IfOk,
 ghost use Rattle.wd_fix.specs.Fixes.{span_of};
 ghost use Rattle.wd_query.specs.Causes.{HasTextCause};
 ghost use Rattle.wd_query_front.specs.Fronts.{AreLeft, IsLeft, IsPut, IsRespelledAt, IsRespelledText, IsTooLong, statement_of};
+ghost use Rattle.wd_query.specs.Laws.{HaveMeaning};
+ghost use Rattle.wd_respell.specs.Respelled as respelled;
 ghost use Rattle.wd_respell.specs.Respelled.{CountsUnits, IsRespelledAs};
 ghost use Rattle.wd_schema.specs.Schemas.{schema_of};
 ghost use Rattle.wd_schema.specs.Tables.{TableRule};
@@ -33,7 +35,8 @@ pub struct RespelledText {
 
 /// The text of a file in which each statement that the profile refuses over a schema, or whose numbers count units, stands as the
 /// equations respell it, where there is such a statement. What its columns count is known by what statements of PostgreSQL's declare.
-/// None where there is none, or the schema's text is refused; a query that would be read amiss as it stands is never left.
+/// None where there is none, or the schema's text is refused; a query that would be read amiss as it stands is never left, nor is one
+/// that is refused and can be respelled.
 pub fn respelled_text(
     alloc: Global,
     declared: &[Statement],
@@ -88,7 +91,7 @@ fn respelled_statements(
     requires order { StandInOrder 0 spans.now (length text.now) }
     ensures order { IfOk result (λ fixes. StandInOrder 0 (map span_of fixes.items) (length text.now)) }
     ensures each { IfOk result (λ fixes. All (IsRespelledAt declared.now schema.now text.now) fixes.items) }
-    ensures left { IfOk result (λ fixes. fixes.items ≡ [] → All (λ span. IsLeft declared.now schema.now (statement_of text.now span)) spans.now) }
+    ensures left { IfOk result (λ fixes. fixes.items ≡ [] → All (λ span. IsLeft (schema_of tables.now) declared.now schema.now (statement_of text.now span)) spans.now) }
 {
     let mut fixes = Vec::new(alloc);
     for span in spans {
@@ -116,7 +119,7 @@ fn respelled_statement(
     requires within { span.end ≤ length text.now }
     ensures stands { IfOk result (λ o. IfSome o (λ fix. fix.span ≡ span)) }
     ensures respelled { IfOk result (λ o. IfSome o (IsRespelledAt declared.now schema.now text.now)) }
-    ensures left { IfOk result (λ o. IsNone o → IsLeft declared.now schema.now (statement_of text.now span)) }
+    ensures left { IfOk result (λ o. IsNone o → IsLeft (schema_of tables.now) declared.now schema.now (statement_of text.now span)) }
 {
     let query = &text[span.start as usize..span.end as usize];
     match refusal(alloc, schema, query) {
@@ -166,7 +169,8 @@ fn unread(alloc: Global) -> Result<Vec<u8>, OutOfMemory>
 
 /// Why the profile refuses a query over a schema, if it does.
 fn refusal(alloc: Global, schema: &[u8], query: &[u8]) -> Option<TextError>
-    ensures { IfSome result (HasTextCause schema.now query.now) }
+    ensures refused { IfSome result (HasTextCause schema.now query.now) }
+    ensures read { IfNone result (HaveMeaning schema.now query.now) }
 {
     match read_texts(alloc, schema, query) {
         Ok(_) => None,
@@ -185,6 +189,7 @@ fn respelling(
 ) -> Result<Option<Fix>, OutOfMemory>
     ensures stands { IfOk result (λ o. IfSome o (λ fix. fix.span ≡ span)) }
     ensures respelled { IfOk result (λ o. IfSome o (λ fix. IsRespelledAs (schema_of tables.now) declared.now query.now fix.text.items)) }
+    ensures left { IfOk result (λ o. IsNone o → respelled.IsLeft (schema_of tables.now) declared.now query.now) }
 {
     match respell(alloc, tables, declared, query)? {
         Some(respelled) => {

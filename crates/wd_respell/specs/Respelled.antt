@@ -1,7 +1,10 @@
 -- Queries of PostgreSQL's usual SQL, respelled in the profile's by the standard's own equations.
-use Rattle.std.specs.Prelude.{◌≡◌, ℕ, false, List, [], ◌∷◌, ◌++◌, Ok, Some}
+use Rattle.std.specs.Prelude.{◌≡◌, ℕ, ◌≤◌, false, List, [], ◌∷◌, ◌++◌, length, Result, Ok, Err, Some}
 use Rattle.wd_lex.specs.declared.token.Token.{Token}
 use Rattle.wd_lex.specs.Lexed.{IsLexed, kinds_of}
+use Rattle.wd_clauses.specs.declared.error.RespellError.{RespellError}
+use Rattle.wd_clauses.specs.Given.{most_tokens}
+use Rattle.wd_token_text.specs.Texts.{AreWritable}
 use Rattle.wd_with.specs.Expanded.{Said}
 use Rattle.wd_with.specs.Expanded as members
 use Rattle.wd_inner_with.specs.Inner.{without_inner}
@@ -22,26 +25,23 @@ use Rattle.wd_qualified.specs.Unqualified.{unqualified}
 use Rattle.wd_with.specs.declared.place.Place.TheVariants.{Elsewhere}
 use Rattle.wd_dialect_read.specs.declared.said.Statement.{Statement}
 
+infixl 10 ◌▹◌
+-- what is written of tokens next, unless these were too many
+abbrev pub ◌▹◌ : Result (List Token) RespellError → (List Token → Result (List Token) RespellError) → Result (List Token) RespellError
+(Err e) ▹ next = Err e
+(Ok tokens) ▹ next = next tokens
+
 -- tokens without the schemas of tables, then without DISTINCT ON, then without NATURAL JOIN and USING over these tables, then without
 -- memberships, then with columns for the keys of GROUP BY, and then without distinct counts
-pub record IsPlain (tables : List TableRule) (tokens plain : List Token) : Type 0 where
-  pub first : List Token
-  pub selects : selects.respelled (unqualified (Elsewhere ∷ []) tokens) ≡ Ok first
-  pub named : List Token
-  pub natural : naturals.respelled tables first ≡ Ok named
-  pub joined : List Token
-  pub using : joins.respelled tables named ≡ Ok joined
-  pub among : List Token
-  pub memberships : memberships.respelled joined ≡ Ok among
-  pub grouped : List Token
-  pub keys : keys.respelled among ≡ Ok grouped
-  pub counts : counts.respelled grouped ≡ Ok plain
+abbrev pub plain : List TableRule → List Token → Result (List Token) RespellError
+plain tables tokens =
+    selects.respelled (unqualified (Elsewhere ∷ []) tokens) ▹ naturals.respelled tables ▹ joins.respelled tables ▹ memberships.respelled ▹ keys.respelled ▹ counts.respelled
 
 -- a query without its WITH clauses, those within brackets first, and plain then; and the members that are read more than once
 pub record IsTakenOut (tables : List TableRule) (tokens : List Token) (said : Said) : Type 0 where
   pub inner : Said
   pub is_inner : without_inner tokens ≡ Ok inner
-  pub plain : IsPlain tables (members.expanded inner.tokens).tokens said.tokens
+  pub is_plain : plain tables (members.expanded inner.tokens).tokens ≡ Ok said.tokens
   pub members : said.read_twice ≡ inner.read_twice ++ (members.expanded inner.tokens).read_twice
 
 -- what the tokens of a query are by the equations, over these tables, which the statements make: WITH is taken out, then come the
@@ -76,6 +76,39 @@ pub record IsRespelled (tables : List TableRule) (statements : List Statement) (
   pub read : IsLexed other own
   pub are : kinds_of own ≡ kinds_of said.tokens
   pub members : twice ≡ said.read_twice
+
+-- no more tokens than a step may write
+abbrev pub AreFew : List Token → Type 0
+AreFew tokens = length tokens ≤ most_tokens
+
+-- a query without casts has few tokens on the way through the equations: without WITH, with the equations of expressions, and with
+-- numbers. The other steps give an error where they would write too many
+pub record IsShortWay (tables : List TableRule) (statements : List Statement) (tokens : List Token) : Type 0 where
+  pub outer : (inner : Said) → without_inner tokens ≡ Ok inner → AreFew (members.expanded inner.tokens).tokens
+  pub expanded : (taken : Said) → IsTakenOut tables tokens taken → AreFew (expressions.expanded taken.tokens)
+  pub numbered : (taken : Said) → IsTakenOut tables tokens taken → AreFew (with_numbers statements (expressions.expanded taken.tokens))
+
+-- the equations give these for the tokens of a query, which are few without casts and all the way
+pub record AreGiven (tables : List TableRule) (statements : List Statement) (tokens : List Token) (said : Said) : Type 0 where
+  pub uncast : AreFew (without_casts statements tokens)
+  pub way : IsShortWay tables statements (without_casts statements tokens)
+  pub equated : AreEquated tables statements tokens said
+
+-- the query can be respelled: the equations give others for its tokens, and these can be written
+pub record CanBeRespelled (tables : List TableRule) (statements : List Statement) (query : List ℕ) : Type 0 where
+  pub text : List ℕ
+  pub masked : masked query ≡ Some text
+  pub tokens : List Token
+  pub lexed : IsLexed text tokens
+  pub said : Said
+  pub given : AreGiven tables statements (with_literals query tokens) said
+  pub others : ¬ (kinds_of said.tokens ≡ kinds_of tokens)
+  pub writable : AreWritable said.tokens
+
+-- the query is left as it is: it has no masked text or no tokens, a cast is left, the tokens would be too many, the equations change
+-- nothing, or what they give cannot be written
+abbrev pub IsLeft : List TableRule → List Statement → List ℕ → Type 0
+IsLeft tables statements query = ¬ (CanBeRespelled tables statements query)
 
 -- with numbers of the units that they count, the tokens of a query over the tables of these statements say something else
 abbrev pub AreCounted : List Statement → List Token → Type 0

@@ -5,11 +5,11 @@ ghost use Rattle.wd_lex.specs.Lexed.{AreInOrder};
 ghost use Rattle.wd_moments.specs.Given.{most_tokens};
 ghost use Rattle.wd_respell.specs.Respelled.{AreCounted, CountsUnits};
 
-use crate::kinds::say_the_same;
 use std::alloc::Global;
 use wd_dialect_read::Statement;
 use wd_lex::{LexError, Token, lex};
 use wd_moments::{MomentError, with_numbers};
+use wd_token_text::say_the_same;
 use wd_value::OutOfMemory;
 
 /// Whether the numbers of a query count units, so that it says something else with numbers for these. What its columns count is known
@@ -30,7 +30,7 @@ pub fn counts_units(
     }
 }
 
-/// The same of a query with these tokens.
+/// Whether the numbers of a query with these tokens count units.
 fn are_counted(
     alloc: Global,
     statements: &[Statement],

@@ -1,9 +1,8 @@
 //! Tokens as a text, each as near as can be to where it stood in the source.
 
 use std::alloc::Global;
-use std::fmt::Write;
-use wd_lex::{Token, TokenKind};
-use wd_print::{push_literal, push_name, push_terminal, push_word};
+use wd_lex::Token;
+use wd_token_text::push_token;
 use wd_value::OutOfMemory;
 
 /// A text that grows, and how far it is.
@@ -107,13 +106,7 @@ impl Layout {
     /// Adds a token.
     fn add(&mut self, token: &Token) -> Result<(), OutOfMemory> {
         let mut piece = String::new(*self.text.allocator());
-        match &token.kind {
-            TokenKind::Terminal(terminal) => push_terminal(&mut piece, *terminal)?,
-            TokenKind::Word(word) => push_word(&mut piece, word.as_str())?,
-            TokenKind::Quoted(name) => push_name(&mut piece, name.as_str())?,
-            TokenKind::Literal(text) => push_literal(&mut piece, text.as_str())?,
-            TokenKind::Number(number) => write!(piece, "{number}")?,
-        }
+        push_token(&mut piece, token)?;
         for letter in piece.as_str().trim_end().chars() {
             self.text.push(letter)?;
             if letter == '\n' {

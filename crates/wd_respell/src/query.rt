@@ -1,17 +1,25 @@
 //! A query through the equations.
 
-ghost use Rattle.std.specs.Prelude.{◌≡◌, Some, IfOk, IfSome};
+ghost use Rattle.std.specs.Prelude.{◌≡◌, ◌<◌, ◌⊎◌, length, Some, Err, IfOk, IfSome, IfNone, IsTrue};
 ghost use Rattle.std.specs.String.{string_bytes};
-ghost use Rattle.wd_lex.specs.Lexed.{IsLexed};
-ghost use Rattle.wd_equations.specs.Expanded as expressions;
-ghost use Rattle.wd_moments.specs.Numbered as numbers;
+ghost use Rattle.wd_lex.specs.Lexed.{IsLexed, kinds_of};
+ghost use Rattle.wd_print.specs.Printed.{HasTokens};
+ghost use Rattle.wd_token_text.specs.Texts.{AreWritable};
+ghost use Rattle.wd_schema.specs.Schemas.{schema_of};
+ghost use Rattle.wd_clauses.specs.Given.{most_tokens};
 ghost use Rattle.wd_casts.specs.Decimals.{with_literals};
 ghost use Rattle.wd_casts.specs.Masked.{masked};
-ghost use Rattle.wd_respell.specs.Respelled.{AreEquated, AreUncast, IsEquated, IsPlain, IsRespelled, IsTakenOut};
-ghost use Rattle.wd_schema.specs.Schemas.{schema_of};
-ghost use Rattle.wd_with.specs.Expanded.{said};
+ghost use Rattle.wd_casts.specs.Terms as casts;
+ghost use Rattle.wd_casts.specs.Walked as uncasts;
+ghost use Rattle.wd_with.specs.Expanded as members;
+ghost use Rattle.wd_with.specs.Expanded.{Said, said};
+ghost use Rattle.wd_inner_with.specs.Inner.{without_inner};
+ghost use Rattle.wd_distinct_on.specs.Respelled.{Gives};
+ghost use Rattle.wd_equations.specs.Expanded as expressions;
+ghost use Rattle.wd_moments.specs.Numbered as numbers;
+ghost use Rattle.wd_respell.specs.Respelled as spec;
+ghost use Rattle.wd_respell.specs.Respelled.{AreEquated, AreFew, AreGiven, AreUncast, IsEquated, IsLeft, IsRespelled, IsShortWay, IsTakenOut};
 
-use crate::kinds::say_the_same;
 use crate::layout::laid_out;
 use std::alloc::Global;
 use wd_casts::{has_casts, masked, with_literals, without_casts};
@@ -28,6 +36,7 @@ use wd_moments::{MomentError, with_numbers};
 use wd_natural::without_natural;
 use wd_qualified::unqualified_query;
 use wd_schema::Schema;
+use wd_token_text::{say_the_same, token_text};
 use wd_using::without_using;
 use wd_value::OutOfMemory;
 use wd_with::{Expanded, without_with};
@@ -41,15 +50,19 @@ pub struct Respelled {
     pub read_twice: Vec<Token>,
 }
 
-/// The text of a query with the equations put in, where these change it. None also where its own text has no tokens, or the other
-/// would have too many. What its columns count is known by the statements of PostgreSQL's that make its schema.
+/// The text of a query with the equations put in, where these change it. None also where its own text has no tokens, or the others
+/// would be too many or cannot be written. What its columns count is known by the statements of PostgreSQL's that make its schema.
 pub fn respell(
     alloc: Global,
     schema: &Schema,
     statements: &[Statement],
     query: &[u8],
 ) -> Result<Option<Respelled>, OutOfMemory>
-    ensures { IfOk result (λ o. IfSome o (λ r. IsRespelled (schema_of schema.now) statements.now query.now (string_bytes r.text) r.read_twice.items)) }
+    // The text has the tokens that the equations give.
+    ensures respelled { IfOk result (λ o. IfSome o (λ r. IsRespelled (schema_of schema.now) statements.now query.now (string_bytes r.text) r.read_twice.items)) }
+
+    // A query is left only where it cannot be respelled.
+    ensures left { IfOk result (λ o. IfNone o (IsLeft (schema_of schema.now) statements.now query.now)) }
 {
     match masked(alloc, query)? {
         Some(text) => respell_masked(alloc, schema, statements, query, &text),
@@ -57,7 +70,7 @@ pub fn respell(
     }
 }
 
-/// The same of a query of which this is the masked text.
+/// The text of a query of which this is the masked text, with the equations put in.
 fn respell_masked(
     alloc: Global,
     schema: &Schema,
@@ -66,18 +79,35 @@ fn respell_masked(
     text: &[u8],
 ) -> Result<Option<Respelled>, OutOfMemory>
     requires { masked query.now ≡ Some text.now }
-    ensures { IfOk result (λ o. IfSome o (λ r. IsRespelled (schema_of schema.now) statements.now query.now (string_bytes r.text) r.read_twice.items)) }
+    ensures respelled { IfOk result (λ o. IfSome o (λ r. IsRespelled (schema_of schema.now) statements.now query.now (string_bytes r.text) r.read_twice.items)) }
+    ensures left { IfOk result (λ o. IfNone o (IsLeft (schema_of schema.now) statements.now query.now)) }
 {
-    let tokens = match lex(alloc, text) {
-        Ok(tokens) => tokens,
-        Err(LexError::OutOfMemory) => return Err(OutOfMemory),
-        Err(_) => return Ok(None),
-    };
-    match equated_literals(alloc, schema, statements, query, &tokens)? {
-        Some(equated) if !say_the_same(&tokens, &equated.tokens) => {
-            written(alloc, schema, statements, query, text, &tokens, equated)
-        }
-        _ => Ok(None),
+    match lex(alloc, text) {
+        Ok(tokens) => respell_tokens(alloc, schema, statements, query, text, &tokens),
+        Err(error) => match error {
+            LexError::OutOfMemory => Err(OutOfMemory),
+            _ => Ok(None),
+        },
+    }
+}
+
+/// The text of a query of which these are the masked text and its tokens, with the equations put in.
+fn respell_tokens(
+    alloc: Global,
+    schema: &Schema,
+    statements: &[Statement],
+    query: &[u8],
+    text: &[u8],
+    tokens: &[Token],
+) -> Result<Option<Respelled>, OutOfMemory>
+    requires masked { masked query.now ≡ Some text.now }
+    requires lexed { IsLexed text.now tokens.now }
+    ensures respelled { IfOk result (λ o. IfSome o (λ r. IsRespelled (schema_of schema.now) statements.now query.now (string_bytes r.text) r.read_twice.items)) }
+    ensures left { IfOk result (λ o. IfNone o (IsLeft (schema_of schema.now) statements.now query.now)) }
+{
+    match equated_literals(alloc, schema, statements, query, tokens)? {
+        Some(equated) => written(alloc, schema, statements, query, text, tokens, equated),
+        None => Ok(None),
     }
 }
 
@@ -89,7 +119,8 @@ fn equated_literals(
     query: &[u8],
     tokens: &[Token],
 ) -> Result<Option<Expanded>, OutOfMemory>
-    ensures { IfOk result (λ o. IfSome o (λ e. AreEquated (schema_of schema.now) statements.now (with_literals query.now tokens.now) (said e))) }
+    ensures equated { IfOk result (λ o. IfSome o (λ e. AreEquated (schema_of schema.now) statements.now (with_literals query.now tokens.now) (said e))) }
+    ensures none { IfOk result (λ o. IfNone o ((e : Said) → AreGiven (schema_of schema.now) statements.now (with_literals query.now tokens.now) e → ⊥)) }
 {
     let literals = with_literals(alloc, query, tokens)?;
     without_any_casts(alloc, schema, statements, &literals)
@@ -101,11 +132,11 @@ fn uncast(
     statements: &[Statement],
     tokens: &[Token],
 ) -> Result<Option<Vec<Token>>, OutOfMemory>
-    ensures { IfOk result (λ o. IfSome o (λ uncast. AreUncast statements.now tokens.now uncast.items)) }
+    ensures uncast { IfOk result (λ o. IfSome o (λ uncast. AreUncast statements.now tokens.now uncast.items)) }
+    ensures none { IfOk result (λ o. IfNone o (IsTrue (casts.has_casts (uncasts.without_casts statements.now tokens.now)) ⊎ (most_tokens < length (uncasts.without_casts statements.now tokens.now)))) }
 {
     match without_casts(alloc, statements, tokens) {
-        Ok(uncast) if has_casts(&uncast) => Ok(None),
-        Ok(uncast) => Ok(Some(uncast)),
+        Ok(uncast) => Ok((!has_casts(&uncast)).then_some(uncast)),
         Err(RespellError::OutOfMemory) => Err(OutOfMemory),
         Err(RespellError::TooLong) => Ok(None),
     }
@@ -118,7 +149,8 @@ fn without_any_casts(
     statements: &[Statement],
     tokens: &[Token],
 ) -> Result<Option<Expanded>, OutOfMemory>
-    ensures { IfOk result (λ o. IfSome o (λ e. AreEquated (schema_of schema.now) statements.now tokens.now (said e))) }
+    ensures equated { IfOk result (λ o. IfSome o (λ e. AreEquated (schema_of schema.now) statements.now tokens.now (said e))) }
+    ensures none { IfOk result (λ o. IfNone o ((e : Said) → AreGiven (schema_of schema.now) statements.now tokens.now e → ⊥)) }
 {
     match uncast(alloc, statements, tokens)? {
         Some(uncast) => {
@@ -136,7 +168,8 @@ fn equated(
     statements: &[Statement],
     tokens: &[Token],
 ) -> Result<Option<Expanded>, OutOfMemory>
-    ensures { IfOk result (λ o. IfSome o (λ e. IsEquated (schema_of schema.now) statements.now tokens.now (said e))) }
+    ensures equated { IfOk result (λ o. IfSome o (λ e. IsEquated (schema_of schema.now) statements.now tokens.now (said e))) }
+    ensures none { IfOk result (λ o. IfNone o ((e : Said) → IsShortWay (schema_of schema.now) statements.now tokens.now → IsEquated (schema_of schema.now) statements.now tokens.now e → ⊥)) }
 {
     match taken_out(alloc, schema, tokens) {
         Ok(taken) => {
@@ -150,7 +183,8 @@ fn equated(
 
 /// The tokens without WITH clauses, those within brackets first, and plain then.
 fn taken_out(alloc: Global, schema: &Schema, tokens: &[Token]) -> Result<Expanded, RespellError>
-    ensures { IfOk result (λ e. IsTakenOut (schema_of schema.now) tokens.now (said e)) }
+    ensures taken { IfOk result (λ e. IsTakenOut (schema_of schema.now) tokens.now (said e)) }
+    ensures long { result ≡ Err RespellError.TooLong → (taken : Said) → IsTakenOut (schema_of schema.now) tokens.now taken → ((inner : Said) → without_inner tokens.now ≡ Ok inner → AreFew (members.expanded inner.tokens).tokens) → ⊥ }
 {
     let inner = without_inner_with(alloc, tokens)?;
     let Expanded {
@@ -173,7 +207,7 @@ fn taken_out(alloc: Global, schema: &Schema, tokens: &[Token]) -> Result<Expande
 /// The tokens without schemas of tables, DISTINCT ON, NATURAL JOIN, USING and memberships, with columns for the keys of GROUP BY, and
 /// without distinct counts.
 fn plain(alloc: Global, schema: &Schema, tokens: &[Token]) -> Result<Vec<Token>, RespellError>
-    ensures { IfOk result (λ plain. IsPlain (schema_of schema.now) tokens.now plain.items) }
+    ensures { Gives (λ x. x.items) result (spec.plain (schema_of schema.now) tokens.now) }
 {
     let tables = unqualified_query(alloc, tokens)?;
     let first = without_distinct_on(alloc, &tables)?;
@@ -193,6 +227,7 @@ fn numbered(
 ) -> Result<Option<Expanded>, OutOfMemory>
     ensures numbered { IfOk result (λ o. IfSome o (λ e. e.tokens.items ≡ numbers.with_numbers statements.now (expressions.expanded tokens.now))) }
     ensures names { IfOk result (λ o. IfSome o (λ e. e.read_twice.items ≡ read_twice.items)) }
+    ensures none { IfOk result (λ o. IfNone o ((most_tokens < length (expressions.expanded tokens.now)) ⊎ (most_tokens < length (numbers.with_numbers statements.now (expressions.expanded tokens.now))))) }
 {
     match expand(alloc, tokens) {
         Ok(expanded) => match with_numbers(alloc, statements, &expanded) {
@@ -205,7 +240,7 @@ fn numbered(
     }
 }
 
-/// The text of the other tokens, where the lexer reads just these in it.
+/// The text of the other tokens, where they say something else and can be written.
 fn written(
     alloc: Global,
     schema: &Schema,
@@ -218,17 +253,66 @@ fn written(
     requires masked { masked query.now ≡ Some masked_text.now }
     requires lexed { IsLexed masked_text.now tokens.now }
     requires equated { AreEquated (schema_of schema.now) statements.now (with_literals query.now tokens.now) (said equated) }
-    ensures { IfOk result (λ o. IfSome o (λ r. IsRespelled (schema_of schema.now) statements.now query.now (string_bytes r.text) r.read_twice.items)) }
+    ensures respelled { IfOk result (λ o. IfSome o (λ r. IsRespelled (schema_of schema.now) statements.now query.now (string_bytes r.text) r.read_twice.items)) }
+    ensures left { IfOk result (λ o. IfNone o (IsLeft (schema_of schema.now) statements.now query.now)) }
+{
+    let Expanded {
+        tokens: others,
+        read_twice,
+    } = equated;
+    match other_text(alloc, query, tokens, &others)? {
+        Some(text) => Ok(Some(Respelled { text, read_twice })),
+        None => Ok(None),
+    }
+}
+
+/// The text of the other tokens, where they say something else than those of the query and can be written.
+fn other_text(
+    alloc: Global,
+    query: &[u8],
+    tokens: &[Token],
+    others: &[Token],
+) -> Result<Option<String>, OutOfMemory>
+    ensures read { IfOk result (λ o. IfSome o (λ text. HasTokens (string_bytes text) (kinds_of others.now))) }
+    ensures none { IfOk result (λ o. IfNone o ((kinds_of others.now ≡ kinds_of tokens.now) ⊎ (AreWritable others.now → ⊥))) }
+{
+    if say_the_same(others, tokens) {
+        Ok(None)
+    } else {
+        text_of(alloc, query, tokens, others)
+    }
+}
+
+/// The text of the other tokens: laid out as those of the query are, where the lexer reads just these in it, or else one after the
+/// other.
+fn text_of(
+    alloc: Global,
+    query: &[u8],
+    tokens: &[Token],
+    others: &[Token],
+) -> Result<Option<String>, OutOfMemory>
+    ensures read { IfOk result (λ o. IfSome o (λ text. HasTokens (string_bytes text) (kinds_of others.now))) }
+    ensures none { IfOk result (λ o. IfNone o (AreWritable others.now → ⊥)) }
 {
     let start = match tokens.first() {
         Some(first) => first.span.start as usize,
         None => 0,
     };
-    let Expanded { tokens, read_twice } = equated;
-    let text = laid_out(alloc, query, start, &tokens)?;
+    let text = laid_out(alloc, query, start, others)?;
+    if is_read_as(alloc, text.as_str(), others)? {
+        Ok(Some(text))
+    } else {
+        token_text(alloc, others)
+    }
+}
+
+/// Whether the lexer reads just these tokens in a text.
+fn is_read_as(alloc: Global, text: &str, tokens: &[Token]) -> Result<bool, OutOfMemory>
+    ensures { IfOk result (λ read. IsTrue read → HasTokens text.now (kinds_of tokens.now)) }
+{
     match lex(alloc, text.as_bytes()) {
-        Ok(own) if say_the_same(&own, &tokens) => Ok(Some(Respelled { text, read_twice })),
+        Ok(own) => Ok(say_the_same(&own, tokens)),
         Err(LexError::OutOfMemory) => Err(OutOfMemory),
-        _ => Ok(None),
+        Err(_) => Ok(false),
     }
 }

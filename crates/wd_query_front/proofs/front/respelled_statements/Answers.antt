@@ -1,7 +1,8 @@
-use Rattle.std.proofs.Common.{◌≡◌, ◌++◌, ◌<◌, ◌≤◌, ◌+◌, ℕ, List, [], ◌∷◌, All, ap, get_or, length, length-append, refl, subst, sym, take, arith}
+use Rattle.std.proofs.Common.{◌≡◌, ◌++◌, ◌<◌, ◌+◌, ℕ, List, [], ◌∷◌, All, ap, get_or, length, length-append, refl, subst, sym, take, arith}
 use Rattle.std.proofs.lemmas.List.{take_all, take_more}
 use Rattle.std.proofs.lemmas.List.Elements.{All-push}
 use Rattle.wd_fix.proofs.Choosing.{choose, next_of, next_within, pass}
+use Rattle.wd_schema.specs.Schemas.{schema_of}
 use Rattle.wd_query_front.specs.Fronts.{IsLeft, IsRespelledAt, statement_of}
 use Rattle.wd_query_front.proofs.front.respelled_statements.Goals as goal
 use Rattle.wd_query_front.proofs.front.respelled_statements.Goals.{in-Some+in_ok-push, in_default}
@@ -44,9 +45,9 @@ loop-span-preserved c =
           rw w.fixes-is (record {
             ordered = pass l.fixes.items _ _ (length c.args.text.now) next;
             each = l.invariant.each;
-            left = λ none. one_more (λ span. IsLeft c.args.declared.now c.args.schema.now (statement_of c.args.text.now span)) c.args.spans.now l.span-index (record { start = 0; end = 0 }) c.loop-span-test.true (l.invariant.left none) (here refl);
+            left = λ none. one_more (λ span. IsLeft (schema_of c.args.tables.now) c.args.declared.now c.args.schema.now (statement_of c.args.text.now span)) c.args.spans.now l.span-index (record { start = 0; end = 0 }) c.loop-span-test.true (l.invariant.left none) (here refl);
           })
     ]
 
 pub returns-clause-left : goal.returns-clause-left
-returns-clause-left c = λ none. subst (All (λ span. IsLeft c.args.declared.now c.args.schema.now (statement_of c.args.text.now span))) (take_all c.loop-span.span-index c.args.spans.now c.loop-span-test.false) (c.loop-span.invariant.left none)
+returns-clause-left c = λ none. subst (All (λ span. IsLeft (schema_of c.args.tables.now) c.args.declared.now c.args.schema.now (statement_of c.args.text.now span))) (take_all c.loop-span.span-index c.args.spans.now c.loop-span-test.false) (c.loop-span.invariant.left none)

@@ -3,7 +3,7 @@ use denote.Enum.Bare.{sameb, same_false, same_true}
 use Rattle.wd_lex.specs.contracts.token.Terminal.{the_type}
 use Rattle.wd_lex.specs.declared.token.Terminal.{Terminal}
 use Rattle.wd_lex.specs.declared.token.TokenKind.TheVariants as t
-use Rattle.wd_respell.proofs.kinds.is_same.Goals as goal
+use Rattle.wd_token_text.proofs.kinds.is_same.Goals as goal
 
 -- terminals that are one compare as the same
 same_so : (x y : Terminal) (b : Bool) → b ≡ sameb the_type x y → x ≡ y → b ≡ true

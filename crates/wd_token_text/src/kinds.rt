@@ -6,7 +6,7 @@ ghost use Rattle.wd_lex.specs.Lexed.{kinds_of};
 use wd_lex::{Token, TokenKind};
 
 /// Whether tokens say the same, one by one, wherever they stand.
-pub(crate) fn say_the_same(tokens: &[Token], others: &[Token]) -> bool
+pub fn say_the_same(tokens: &[Token], others: &[Token]) -> bool
     ensures same { result ≡ true → kinds_of tokens.now ≡ kinds_of others.now }
     ensures other { kinds_of tokens.now ≡ kinds_of others.now → result ≡ true }
 {

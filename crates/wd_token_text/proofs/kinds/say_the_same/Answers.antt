@@ -2,7 +2,7 @@ use Rattle.std.proofs.Common.{◌≡◌, ◌<◌, ℕ, List, ap, length, get_or,
 use Rattle.std.proofs.lemmas.List.{get_or-map}
 use Rattle.wd_lex.specs.declared.token.Token.{Token}
 use Rattle.wd_lex.specs.Lexed.{kinds_of}
-use Rattle.wd_respell.proofs.kinds.say_the_same.Goals as goal
+use Rattle.wd_token_text.proofs.kinds.say_the_same.Goals as goal
 
 -- tokens that say the same say so at each place
 same_at : (xs ys : List Token) (i : ℕ) (x y : Token) → i < length xs → i < length ys → kinds_of xs ≡ kinds_of ys → (get_or xs i x).kind ≡ (get_or ys i y).kind

@@ -1,0 +1,2 @@
+pub mod SpellableFacts
+pub mod WrittenFacts
